@@ -1,0 +1,38 @@
+-- Clauses that lie one after the other in a list.
+use Rattle.std.proofs.Common.{◌≡◌, ℕ, suc, ◌+◌, ◌-◌, ◌≤◌, List, [], ◌∷◌, length, take, drop, arith, length-take, length-drop}
+use Rattle.dimacs.specs.Literal.{Literal, IsWithin}
+use Rattle.dimacs.specs.Cnf.{literal_count, IsFormula}
+use Rattle.std.specs.List.{All, AllByRecursion}
+use Rattle.std.proofs.lemmas.List.Elements.{All-take, All-drop, recursion_from_All}
+use Rattle.dimacs.specs.Flat.{parts, ArePlaces}
+use Rattle.dimacs.proofs.FlatLemmas.{length_parts}
+
+-- behind the first place
+pub places_tail : (a b : ℕ) (places : List ℕ) (len : ℕ) → ArePlaces (a ∷ b ∷ places) len → ArePlaces (b ∷ places) len
+places_tail a b places len h = record {
+  some = omega arith;
+  rise = λ i lt. let e : suc i + 1 ≡ suc (i + 1) = omega arith in rw e at (h.rise (suc i) (omega arith));
+  inside = λ i lt. h.inside (suc i) (omega arith);
+}
+
+parts_count : (xs : List Literal) (a : ℕ) (places : List ℕ) → ArePlaces (a ∷ places) (length xs) → literal_count (parts xs (a ∷ places)) + a ≤ length xs
+parts_count xs a [] h = omega (arith, h.inside 0 (omega arith))
+parts_count xs a (b ∷ places) h =
+    let low : a ≤ b = h.rise 0 (omega arith) in
+    let high : b ≤ length xs = h.inside 1 (omega arith) in
+    omega (arith, parts_count xs b places (places_tail a b places (length xs) h), length-take (b - a) (drop a xs), length-drop a xs)
+
+pub parts_within : (P : Literal → Type 0) (xs : List Literal) (places : List ℕ) → All P xs → AllByRecursion (AllByRecursion P) (parts xs places)
+parts_within P xs [] h = tt
+parts_within P xs (a ∷ []) h = tt
+parts_within P xs (a ∷ b ∷ places) h = (recursion_from_All P (take (b - a) (drop a xs)) (All-take P (b - a) (drop a xs) (All-drop P a xs h)), parts_within P xs (b ∷ places) h)
+
+count_le : (xs : List Literal) (places : List ℕ) → ArePlaces places (length xs) → literal_count (parts xs places) ≤ length xs
+count_le xs [] h = omega arith
+count_le xs (a ∷ places) h = omega (arith, parts_count xs a places h)
+
+-- a formula that lies in two lists is within the limits
+pub is_formula : (vars n : ℕ) (xs : List Literal) (places : List ℕ) → n ≡ length xs → vars ≤ 1000000 → ArePlaces places n → length places ≤ 4000001 → n ≤ 50000000 → All (IsWithin vars) xs → IsFormula (record { vars = vars; clauses = parts xs places })
+is_formula vars n xs places e v h count total w =
+    let at : ArePlaces places (length xs) = rw e at h in
+    record { vars = v; clauses = omega (arith, length_parts xs places); literals = omega (arith, count_le xs places at); within = parts_within (IsWithin vars) xs places w }

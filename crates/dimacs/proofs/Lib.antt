@@ -1,0 +1,15 @@
+pub mod AnswerLemmas
+pub mod BaseLemmas
+pub mod BodyLemmas
+pub mod BuilderLemmas
+pub mod ExampleLemmas
+pub mod FlatLemmas
+pub mod FlatPush
+pub mod FormulaLemmas
+pub mod LineLemmas
+pub mod LiteralLemmas
+pub mod NumberLemmas
+pub mod SpellingLemmas
+pub mod TokenLemmas
+pub mod WordLemmas
+pub mod WritingLemmas

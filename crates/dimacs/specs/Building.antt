@@ -1,0 +1,30 @@
+-- Formulas in the making.
+use Rattle.std.specs.Prelude.{◌≡◌, ℕ, ◌<◌, ◌≤◌, ◌^◌, max, List, [], ◌∷◌, length, slice_index, All}
+use Rattle.dimacs.specs.Flat.{ArePlaces}
+use Rattle.dimacs.specs.Literal.{Clause, var_of, IsWithin}
+
+-- the clauses that have ended, the literals of the one that has not, and how many literals there are in all
+pub record Building : Type 0 where
+  pub done : List Clause
+  pub open_clause : Clause
+  pub total : ℕ
+
+-- the greatest variable of a clause, 0 where it has no literal
+abbrev pub greatest_of : Clause → ℕ
+greatest_of [] = 0
+greatest_of (l ∷ c) = max (var_of l) (greatest_of c)
+
+-- the greatest variable of clauses, 0 where they have no literal
+abbrev pub greatest_in : List Clause → ℕ
+greatest_in [] = 0
+greatest_in (c ∷ cs) = max (greatest_of c) (greatest_in cs)
+
+-- how the lists of a builder lie: the places begin at the first literal, and no literal is of a greater variable than the greatest
+pub record IsLaid (literals : Clause) (places : List ℕ) (greatest : ℕ) : Type 0 where
+  pub total : length literals ≤ 50000000
+  pub count : length places ≤ 4000001
+  pub rise : ArePlaces places (length literals)
+  pub first : slice_index places 0 ≡ 0
+  pub within : All (IsWithin greatest) literals
+  pub top : greatest ≡ greatest_of literals
+  pub limit : greatest < 2 ^ 31

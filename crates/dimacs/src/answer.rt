@@ -1,0 +1,170 @@
+//! The answer lines of the SAT competitions.
+
+ghost use Rattle.std.specs.Prelude.{◌≡◌, ◌<◌, ◌≤◌, ◌^◌, ◌∷◌, ◌++◌, [], List, ℕ, length, codes, OnOk, OnErr, IfOk, if◌then◌else◌};
+ghost use Rattle.std.specs.Fmt.{signed_decimal};
+ghost use Rattle.dimacs.specs.Literal.{Pos, Neg, number_of};
+ghost use Rattle.dimacs.specs.Spelling.{Begins};
+ghost use Rattle.dimacs.specs.Answer.{filled, witness_lines, Lines};
+
+use crate::assignment::Assignment;
+use crate::writing::put;
+use itoa::Buffer;
+use std::alloc::AllocError;
+
+/// What is known of a formula.
+#[derive(Clone, Copy)]
+pub enum Answer<'a> {
+    /// This assignment satisfies it.
+    Satisfiable(&'a Assignment),
+    /// No assignment satisfies it.
+    Unsatisfiable,
+    /// Neither is known.
+    Unknown,
+}
+
+// The most bytes of a `v` line, its end not counted.
+const WIDTH: usize = 78;
+
+// Puts an item on the line, or on a new one, and answers how many bytes that line has then.
+fn put_item(out: &mut Vec<u8>, used: usize, item: &[u8]) -> Result<usize, AllocError>
+    requires used { used ≤ 78 }
+    requires item { length item.now ≤ 40 }
+    ensures ok { IfOk result (λ n. (more : List (List ℕ)) → out.new.items ++ filled n more ≡ out.old.items ++ filled used (item.now ∷ more)) }
+    ensures used { IfOk result (λ n. n ≤ 78) }
+    ensures begins { Begins out.old.items out.new.items }
+{
+    let wide = used + 1 + item.len();
+    if wide <= WIDTH {
+        put(out, b" ")?;
+        put(out, item)?;
+        Ok(wide)
+    } else {
+        put(out, b"\nv ")?;
+        put(out, item)?;
+        Ok(2 + item.len())
+    }
+}
+
+fn put_value(
+    out: &mut Vec<u8>,
+    used: usize,
+    variable: usize,
+    value: bool,
+) -> Result<usize, AllocError>
+    requires used { used ≤ 78 }
+    requires variable { variable < 2 ^ 63 }
+    ensures ok { IfOk result (λ n. (more : List (List ℕ)) → out.new.items ++ filled n more ≡ out.old.items ++ filled used (signed_decimal (number_of (if value then Pos variable else Neg variable)) ∷ more)) }
+    ensures used { IfOk result (λ n. n ≤ 78) }
+    ensures begins { Begins out.old.items out.new.items }
+{
+    let number = variable as i64;
+    let mut buffer = Buffer::new();
+    let text = buffer.format(if value { number } else { -number });
+    put_item(out, used, text.as_bytes())
+}
+
+fn put_witness(out: &mut Vec<u8>, values: &[bool]) -> Result<(), AllocError>
+    ensures ok { OnOk result (out.new.items ≡ out.old.items ++ witness_lines values.now) }
+    ensures begins { Begins out.old.items out.new.items }
+{
+    put(out, b"v")?;
+    let mut used = 1;
+    for (i, value) in values.iter().enumerate() {
+        used = put_value(out, used, i + 1, *value)?;
+    }
+    let _ = put_item(out, used, b"0")?;
+    put(out, b"\n")
+}
+
+fn put_satisfiable(out: &mut Vec<u8>, values: &[bool], witness: bool) -> Result<(), AllocError>
+    ensures ok { OnOk result (out.new.items ≡ out.old.items ++ (codes "s SATISFIABLE\n" ++ (if witness then witness_lines values.now else []))) }
+    ensures begins { Begins out.old.items out.new.items }
+{
+    put(out, b"s SATISFIABLE\n")?;
+    if witness {
+        put_witness(out, values)?;
+    }
+    Ok(())
+}
+
+fn put_answer(out: &mut Vec<u8>, answer: Answer, witness: bool) -> Result<(), AllocError>
+    ensures ok { OnOk result (out.new.items ≡ out.old.items ++ Lines answer.entry witness) }
+    ensures begins { Begins out.old.items out.new.items }
+{
+    match answer {
+        Answer::Satisfiable(assignment) => put_satisfiable(out, assignment.values(), witness),
+        Answer::Unsatisfiable => put(out, b"s UNSATISFIABLE\n"),
+        Answer::Unknown => put(out, b"s UNKNOWN\n"),
+    }
+}
+
+/// Appends the answer line, and for a satisfying assignment with `witness` its `v` lines of at most 78 bytes.
+///
+/// Where memory is refused, `out` is as before.
+pub fn answer_lines(answer: Answer, witness: bool, out: &mut Vec<u8>) -> Result<(), AllocError>
+    ensures ok { OnOk result (out.new.items ≡ out.old.items ++ Lines answer.entry witness) }
+    ensures err { OnErr result (out.new.items ≡ out.old.items) }
+{
+    let len = out.len();
+    let written = put_answer(out, answer, witness);
+    if written.is_err() {
+        out.truncate(len);
+    }
+    written
+}
+
+#[cfg(test)]
+mod tests {
+    use super::*;
+    use std::test::Fail;
+
+    #[test]
+    fn no_variable_gives_the_end_alone(rt: HostRuntime) -> Result<(), Fail> {
+        let assignment = Assignment::new(Vec::new(rt.alloc()));
+        let mut out = Vec::from_slice(rt.alloc(), b"c\n")?;
+        answer_lines(Answer::Satisfiable(&assignment), true, &mut out)?;
+        assert_eq!(rt; out.as_slice(), b"c\ns SATISFIABLE\nv 0\n".as_slice());
+        Ok(())
+    }
+
+    #[test]
+    fn a_false_variable_has_a_minus(rt: HostRuntime) -> Result<(), Fail> {
+        let assignment = Assignment::new(Vec::from_slice(rt.alloc(), [true, false].as_slice())?);
+        let mut out = Vec::new(rt.alloc());
+        answer_lines(Answer::Satisfiable(&assignment), true, &mut out)?;
+        assert_eq!(rt; out.as_slice(), b"s SATISFIABLE\nv 1 -2 0\n".as_slice());
+        Ok(())
+    }
+
+    #[test]
+    fn a_full_line_has_78_bytes(rt: HostRuntime) -> Result<(), Fail> {
+        let mut values = [true; 30];
+        values[0] = false;
+        values[1] = false;
+        let assignment = Assignment::new(Vec::from_slice(rt.alloc(), values.as_slice())?);
+        let mut out = Vec::new(rt.alloc());
+        answer_lines(Answer::Satisfiable(&assignment), true, &mut out)?;
+        let first =
+            b"v -1 -2 3 4 5 6 7 8 9 10 11 12 13 14 15 16 17 18 19 20 21 22 23 24 25 26 27 28";
+        assert_eq!(rt; first.len(), 78);
+        let mut expected = Vec::from_slice(rt.alloc(), b"s SATISFIABLE\n")?;
+        expected.extend_from_slice(first)?;
+        expected.extend_from_slice(b"\nv 29 30 0\n")?;
+        assert_eq!(rt; out.as_slice(), expected.as_slice());
+        Ok(())
+    }
+
+    #[test]
+    fn other_answers_have_no_witness(rt: HostRuntime) -> Result<(), Fail> {
+        let assignment = Assignment::new(Vec::from_slice(rt.alloc(), [true].as_slice())?);
+        let mut out = Vec::new(rt.alloc());
+        answer_lines(Answer::Satisfiable(&assignment), false, &mut out)?;
+        answer_lines(Answer::Unsatisfiable, true, &mut out)?;
+        answer_lines(Answer::Unknown, true, &mut out)?;
+        assert_eq!(rt;
+            out.as_slice(),
+            b"s SATISFIABLE\ns UNSATISFIABLE\ns UNKNOWN\n".as_slice()
+        );
+        Ok(())
+    }
+}

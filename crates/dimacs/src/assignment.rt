@@ -1,0 +1,86 @@
+//! Truth values, and what they satisfy.
+
+ghost use Rattle.std.specs.Prelude.{◌≡◌, ℕ, ◌-◌, ◌<◌, ◌≤◌, ◌↔◌, IsTrue, List, Bool, length, true, All};
+ghost use Rattle.dimacs.specs.Cnf.{Sat, member_of};
+ghost use Rattle.dimacs.specs.Literal.{literal_true, IsTrueIn, IsWithin};
+
+use crate::formula::Formula;
+use crate::literal::Lit;
+use std::marker::Model;
+
+/// A truth value for each variable, that of variable 1 first.
+#[derive(Drop)]
+pub struct Assignment {
+    values: Vec<bool>,
+}
+
+impl Model for Assignment {
+    ghost Value = { List Bool };
+
+    ghost view = { λ a. a.values.items };
+}
+
+impl Assignment {
+    /// The assignment of these values.
+    pub fn new(values: Vec<bool>) -> Assignment
+        ensures { result ≡ values.items }
+    {
+        Assignment { values }
+    }
+
+    /// How many variables have a value.
+    pub fn len(&self) -> usize
+        ensures { result ≡ length self.now }
+    {
+        self.values.len()
+    }
+
+    /// The values, that of variable 1 first.
+    pub fn values(&self) -> &[bool]
+        ensures { result.now ≡ self.now }
+    {
+        &self.values
+    }
+
+    /// The values themselves.
+    pub fn into_values(self) -> Vec<bool>
+        ensures { result.items ≡ self }
+    {
+        let Assignment { values } = self;
+        values
+    }
+
+    /// Whether a literal is true.
+    pub fn holds(&self, literal: Lit) -> bool
+        requires { IsWithin (length self.now) literal }
+        ensures { result ≡ literal_true (member_of self.now) literal }
+    {
+        let value = self.values[literal.var().number() as usize - 1];
+        value != literal.is_negative()
+    }
+}
+
+fn clause_holds(assignment: &Assignment, clause: &[Lit]) -> bool
+    requires { All (IsWithin (length assignment.now)) clause.now }
+    ensures { IsTrue result ↔ IsTrueIn (member_of assignment.now) clause.now }
+{
+    for literal in clause {
+        if assignment.holds(*literal) {
+            return true;
+        }
+    }
+    false
+}
+
+/// Whether the assignment makes each clause true. It asks for one truth value for each variable, and takes no memory.
+pub fn satisfies(assignment: &Assignment, formula: &Formula) -> bool
+    requires { length assignment.now ≡ formula.now.vars }
+    ensures { IsTrue result ↔ Sat (member_of assignment.now) formula.now }
+{
+    for i in 0..formula.len() {
+        if !clause_holds(assignment, formula.clause(i)) {
+            return false;
+        }
+    }
+    true
+}

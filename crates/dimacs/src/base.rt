@@ -1,0 +1,141 @@
+//! A formula with further clauses numbered on after it.
+
+ghost use Rattle.std.specs.Prelude.{◌≡◌, ◌+◌, ◌<◌, ◌≤◌, [], ◌∷◌, ◌++◌, length, slice_index_or, All, IfOk, OnOk, OnErr};
+ghost use Rattle.dimacs.specs.Cnf.{IsBase, literal_count};
+ghost use Rattle.dimacs.specs.Literal.{IsWithin};
+
+use crate::flat;
+use crate::formula::Formula;
+use crate::literal::Lit;
+use std::alloc::{AllocError, Global};
+use std::marker::Model;
+
+/// A formula and the clauses that were added to it: units of pure literals, and definitions over new variables.
+///
+/// It has at most 2,000,000 variables, 5,000,192 clauses and 51,000,448 literals.
+#[derive(Drop)]
+pub struct Base {
+    vars: u32,
+    literals: Vec<Lit>,
+    places: Vec<u32>,
+}
+
+impl Model for Base {
+    ghost use Rattle.dimacs.specs.Cnf.{Cnf, IsBase};
+    ghost use Rattle.dimacs.specs.Flat.{parts, Fills};
+
+    ghost Value = { Cnf };
+
+    ghost view = { λ b. record { vars = b.vars; clauses = parts b.literals.items b.places.items } };
+
+    ghost invariant = { λ b. Fills b.literals.items b.places.items × IsBase (record { vars = b.vars; clauses = parts b.literals.items b.places.items }) };
+}
+
+impl Base {
+    /// The formula alone.
+    pub fn of(alloc: Global, formula: &Formula) -> Result<Base, AllocError>
+        ensures { IfOk result (λ b. b ≡ formula.now) }
+    {
+        let mut base = Base::with_room(
+            alloc,
+            formula.vars(),
+            formula.literal_count(),
+            formula.len() + 1,
+        )?;
+        for i in 0..formula.len() {
+            base.push_clause(formula.clause(i))?;
+        }
+        Ok(base)
+    }
+
+    // No clause, with room for so many literals and places.
+    fn with_room(
+        alloc: Global,
+        vars: u32,
+        literals: usize,
+        places: usize,
+    ) -> Result<Base, AllocError>
+        requires { vars ≤ 2000000 }
+        ensures { IfOk result (λ b. b ≡ record { vars = vars; clauses = [] }) }
+    {
+        let literals = Vec::with_capacity(alloc, literals)?;
+        let mut places = Vec::with_capacity(alloc, places)?;
+        places.push(0)?;
+        Ok(Base {
+            vars,
+            literals,
+            places,
+        })
+    }
+
+    /// How many variables it has, the highest variable that a clause may name.
+    pub fn vars(&self) -> u32
+        ensures value { result ≡ self.now.vars }
+        ensures limit { result ≤ 2000000 }
+        ensures valid { IsBase self.now }
+    {
+        self.vars
+    }
+
+    /// How many clauses it has.
+    #[tactic(auto, using(crate::proofs::FlatLemmas::length_parts))]
+    pub fn len(&self) -> usize
+        ensures { result ≡ length self.now.clauses }
+    {
+        self.places.len() - 1
+    }
+
+    /// The clause of this number, from 0.
+    pub fn clause(&self, i: usize) -> &[Lit]
+        requires { i < length self.now.clauses }
+        ensures clause { result.now ≡ slice_index_or self.now.clauses i [] }
+        ensures within { All (IsWithin self.now.vars) result.now }
+        ensures valid { IsBase self.now }
+    {
+        flat::clause_at(&self.literals, &self.places, i)
+    }
+
+    /// Appends a clause; where memory is refused, the base is as before.
+    pub fn push_clause(&mut self, clause: &[Lit]) -> Result<(), AllocError>
+        requires room { length self.old.clauses < 5000192 }
+        requires literals { literal_count self.old.clauses + length clause.now ≤ 51000448 }
+        requires within { All (IsWithin self.old.vars) clause.now }
+        ensures ok { OnOk result (self.new ≡ record self.old { clauses = self.old.clauses ++ clause.now ∷ [] }) }
+        ensures err { OnErr result (self.new ≡ self.old) }
+    {
+        flat::push_clause(&mut self.literals, &mut self.places, clause)?;
+        Ok(())
+    }
+
+    /// Adds variables behind the highest.
+    pub fn add_vars(&mut self, more: u32)
+        requires { self.old.vars + more ≤ 2000000 }
+        ensures { self.new ≡ record self.old { vars = self.old.vars + more } }
+    {
+        self.vars += more;
+    }
+}
+
+#[cfg(test)]
+mod tests {
+    use super::*;
+    use crate::reading::read;
+    use std::test::Fail;
+
+    #[test]
+    fn pushed_clauses_and_variables_follow_the_formula(rt: HostRuntime) -> Result<(), Fail> {
+        let formula = read(rt.alloc(), b"p cnf 2 2\n1 2 0\n1 -2 0\n")?;
+        assert_eq!(rt; formula.vars(), 2);
+        assert_eq!(rt; formula.len(), 2);
+        let mut base = Base::of(rt.alloc(), &formula)?;
+        let last = formula.clause(1);
+        assert_eq!(rt; last.len(), 2);
+        base.push_clause(last)?;
+        base.add_vars(1);
+        assert_eq!(rt; base.vars(), 3);
+        assert_eq!(rt; base.len(), 3);
+        assert_eq!(rt; base.clause(0).len(), 2);
+        assert_eq!(rt; base.clause(2), base.clause(1));
+        Ok(())
+    }
+}

@@ -1,0 +1,142 @@
+//! The part of a DIMACS text behind its header: numbers, each clause ended by 0.
+
+ghost use Rattle.std.specs.Prelude.{◌≡◌, ℕ, List, ◌+◌, ◌<◌, ◌≤◌, [], ◌∷◌, ◌++◌, length, OnOk, IfOk, nat_le};
+ghost use Rattle.std.specs.Option.{option_map};
+ghost use Rattle.dimacs.specs.Capped.{capped};
+ghost use Rattle.dimacs.specs.Literal.{IsWithin};
+ghost use Rattle.dimacs.specs.Numbers.{number};
+ghost use Rattle.dimacs.specs.Words.{words_of, words};
+ghost use Rattle.dimacs.specs.Reading.{read_token, read_words, Gives, finish};
+
+use crate::builder::Builder;
+use crate::fault::{DimacsFault, Kind};
+use crate::formula::Formula;
+use crate::literal::Lit;
+use crate::number::{Number, next_number};
+use crate::words::is_comment;
+use std::alloc::{AllocError, Global};
+use std::marker::Model;
+
+/// The header's numbers, and the clauses that were read so far.
+#[derive(Drop)]
+pub(crate) struct Body {
+    vars: u32,
+    count: u32,
+    clauses: Builder,
+}
+
+impl Model for Body {
+    ghost use Rattle.std.specs.Prelude.{◌≤◌, length};
+    ghost use Rattle.std.specs.List.{AllByRecursion};
+    ghost use Rattle.dimacs.specs.BodyState.{BodyState};
+    ghost use Rattle.dimacs.specs.Cnf.{AreWithin};
+    ghost use Rattle.dimacs.specs.Literal.{IsWithin};
+
+    ghost Value = { BodyState };
+
+    ghost view = { λ b. record { vars = b.vars; count = b.count; done = b.clauses.done; open_clause = b.clauses.open_clause; total = b.clauses.total } };
+
+    ghost invariant = { λ b. (b.vars ≤ 1000000) × (b.count ≤ 4000000) × (length b.clauses.done ≤ b.count) × AreWithin b.vars b.clauses.done × AllByRecursion (IsWithin b.vars) b.clauses.open_clause };
+}
+
+impl Body {
+    /// Nothing read yet.
+    pub(crate) fn new(alloc: Global, vars: u32, count: u32) -> Result<Body, AllocError>
+        requires vars { vars ≤ 1000000 }
+        requires count { count ≤ 4000000 }
+        ensures { IfOk result (λ b. b ≡ record { vars = vars; count = count; done = []; open_clause = []; total = 0 }) }
+    {
+        Ok(Body {
+            vars,
+            count,
+            clauses: Builder::new(alloc)?,
+        })
+    }
+
+    fn push(&mut self, literal: Lit) -> Result<(), AllocError>
+        requires room { self.old.total < 50000000 }
+        requires within { IsWithin self.old.vars literal }
+        ensures { OnOk result (self.new ≡ record self.old { open_clause = self.old.open_clause ++ literal ∷ []; total = self.old.total + 1 }) }
+    {
+        self.clauses.push(literal)?;
+        Ok(())
+    }
+
+    fn end_clause(&mut self) -> Result<(), AllocError>
+        requires { length self.old.done < self.old.count }
+        ensures { OnOk result (self.new ≡ record self.old { done = self.old.done ++ self.old.open_clause ∷ []; open_clause = [] }) }
+    {
+        self.clauses.end_clause()?;
+        Ok(())
+    }
+
+    fn is_full(&self) -> bool
+        ensures { result ≡ nat_le self.now.count (length self.now.done) }
+    {
+        self.clauses.len() >= self.count as usize
+    }
+
+    /// Reads a token that was found to be this number, or none.
+    fn read_token(&mut self, line: u64, found: Option<Number>) -> Result<(), DimacsFault>
+        ensures { (word : List ℕ) → found ≡ option_map capped (number word) → Gives self.new result (read_token line word self.old) }
+    {
+        let Some(number) = found else {
+            return Err(DimacsFault::at(Kind::BadToken, line));
+        };
+        if self.is_full() {
+            return Err(DimacsFault::at(Kind::TooManyClauses, line));
+        }
+        if number.size == 0 {
+            self.end_clause()?;
+            return Ok(());
+        }
+        if number.size > self.vars {
+            return Err(DimacsFault::at(Kind::VariableAboveHeader, line));
+        }
+        if self.clauses.literals() >= 50_000_000 {
+            return Err(DimacsFault::at(Kind::AboveLimit, line));
+        }
+        self.push(number.literal())?;
+        Ok(())
+    }
+
+    /// Reads the tokens of a line.
+    #[tactic(auto, unfolding(crate::specs::Reading::read_words))]
+    pub(crate) fn read_line(&mut self, line: u64, text: &[u8]) -> Result<(), DimacsFault>
+        ensures { Gives self.new result (read_words line (words_of text.now) self.old) }
+    {
+        if is_comment(text) {
+            return Ok(());
+        }
+        self.read_words(line, text)
+    }
+
+    fn read_words(&mut self, line: u64, text: &[u8]) -> Result<(), DimacsFault>
+        ensures { Gives self.new result (read_words line (words text.now) self.old) }
+    {
+        let mut rest = text;
+        while let Some((number, after)) = next_number(rest) {
+            self.read_token(line, number)?;
+            rest = after;
+        }
+        Ok(())
+    }
+
+    /// The formula, at the end of a text of that many lines.
+    pub(crate) fn finish(self, lines: u64) -> Result<Formula, DimacsFault>
+        ensures { result ≡ finish lines self }
+    {
+        let Body {
+            vars,
+            count,
+            clauses,
+        } = self;
+        if clauses.is_open() {
+            return Err(DimacsFault::at(Kind::ClauseNotEnded, lines));
+        }
+        if clauses.len() < count as usize {
+            return Err(DimacsFault::at(Kind::TooFewClauses, lines));
+        }
+        Ok(clauses.finish(vars))
+    }
+}

@@ -1,0 +1,89 @@
+//! Why a text is no formula.
+
+ghost use Rattle.std.specs.Prelude.{◌≡◌};
+ghost use Rattle.dimacs.specs.Faults.{number_of_kind};
+ghost use Rattle.dimacs.specs.Reading.{no_memory};
+
+use std::alloc::{AllocError, AllocFailed};
+
+/// What is wrong. The first token that is wrong decides, and of several faults of one token the one that is tested first:
+/// in the header from left to right, behind it `BadToken`, `TooManyClauses`, `VariableAboveHeader`, `AboveLimit`.
+#[derive(Clone, Copy, Debug, PartialEq, Eq)]
+pub enum Kind {
+    /// There is no token, or the first one is not `p`.
+    NoHeader,
+    /// A token of the header's line is not the one that must stand there, is missing, or is a fifth.
+    BadHeader,
+    /// A token behind the header is no number.
+    BadToken,
+    /// A literal's variable is above the header's number of variables.
+    VariableAboveHeader,
+    /// The text ends within a clause.
+    ClauseNotEnded,
+    /// The text ends before the header's number of clauses.
+    TooFewClauses,
+    /// A number stands behind the last of the header's number of clauses.
+    TooManyClauses,
+    /// More than 1,000,000 variables, 4,000,000 clauses or 50,000,000 literals.
+    AboveLimit,
+    /// Memory was refused.
+    NoMemory,
+}
+
+impl Kind {
+    /// The number that stands for it where it is printed, from 1 to 9.
+    pub fn number(self) -> u8
+        ensures { result ≡ number_of_kind self }
+    {
+        match self {
+            Kind::NoHeader => 1,
+            Kind::BadHeader => 2,
+            Kind::BadToken => 3,
+            Kind::VariableAboveHeader => 4,
+            Kind::ClauseNotEnded => 5,
+            Kind::TooFewClauses => 6,
+            Kind::TooManyClauses => 7,
+            Kind::AboveLimit => 8,
+            Kind::NoMemory => 9,
+        }
+    }
+}
+
+/// The first fault of a text, and its line, from 1: the line of the token; of a missing token of the header, the header's
+/// line; at the end of the text, the number of line ends plus 1. Want of memory has line 0.
+#[derive(Clone, Copy, Debug, PartialEq, Eq)]
+pub struct DimacsFault {
+    pub kind: Kind,
+    pub line: u64,
+}
+
+impl DimacsFault {
+    pub(crate) fn at(kind: Kind, line: u64) -> DimacsFault
+        ensures { result ≡ record { kind = kind; line = line } }
+    {
+        DimacsFault { kind, line }
+    }
+
+    /// The number of its kind.
+    pub fn number(self) -> u8
+        ensures { result ≡ number_of_kind self.kind }
+    {
+        self.kind.number()
+    }
+}
+
+impl From<AllocError> for DimacsFault {
+    ghost from_gives = { λ _ e. e ≡ no_memory };
+
+    fn from(_e: AllocError) -> DimacsFault {
+        DimacsFault::at(Kind::NoMemory, 0)
+    }
+}
+
+impl<T: Drop> From<AllocFailed<T>> for DimacsFault {
+    ghost from_gives = { λ _ e. e ≡ no_memory };
+
+    fn from(_e: AllocFailed<T>) -> DimacsFault {
+        DimacsFault::at(Kind::NoMemory, 0)
+    }
+}

@@ -1,0 +1,38 @@
+//! Clauses that lie one after the other in a vector of literals, each between a place and the next.
+
+ghost use Rattle.std.specs.Prelude.{◌≡◌, ℕ, ◌+◌, ◌<◌, ◌^◌, [], ◌∷◌, ◌++◌, length, slice_index_or, vec_len, All, OnOk, OnErr};
+ghost use Rattle.dimacs.specs.Literal.{IsWithin};
+ghost use Rattle.dimacs.specs.Flat.{parts, ArePlaces, Fills};
+
+use crate::literal::Lit;
+use std::alloc::AllocError;
+
+/// The clause of this number, from 0.
+#[tactic(auto, using(crate::proofs::FlatLemmas::flat))]
+pub(crate) fn clause_at<'a>(literals: &'a [Lit], places: &[u32], i: usize) -> &'a [Lit]
+    requires places { ArePlaces places.now (length literals.now) }
+    requires below { i + 1 < length places.now }
+    ensures clause { result.now ≡ slice_index_or (parts literals.now places.now) i [] }
+    ensures within { (vars : ℕ) → All (IsWithin vars) literals.now → All (IsWithin vars) result.now }
+{
+    &literals[places[i] as usize..places[i + 1] as usize]
+}
+
+/// Appends a clause; the clauses are as before where memory is refused.
+#[tactic(auto, using(crate::proofs::FlatPush::pushes))]
+pub(crate) fn push_clause(
+    literals: &mut Vec<Lit>,
+    places: &mut Vec<u32>,
+    clause: &[Lit],
+) -> Result<(), AllocError>
+    requires fills { Fills literals.old.items places.old.items }
+    requires room { vec_len literals.old + length clause.now < 2 ^ 32 }
+    ensures fills { Fills literals.new.items places.new.items }
+    ensures ok { OnOk result (parts literals.new.items places.new.items ≡ parts literals.old.items places.old.items ++ clause.now ∷ []) }
+    ensures err { OnErr result (parts literals.new.items places.new.items ≡ parts literals.old.items places.old.items) }
+{
+    let end = (literals.len() + clause.len()) as u32;
+    literals.reserve(clause.len())?;
+    places.push(end)?;
+    literals.extend_from_slice(clause)
+}

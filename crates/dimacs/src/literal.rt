@@ -1,0 +1,136 @@
+//! Variables and literals.
+
+ghost use Rattle.std.specs.Prelude.{◌≡◌, ℕ, ◌+◌, ◌*◌, ◌^◌, ◌<◌, ◌≤◌, IsTrue};
+ghost use Rattle.dimacs.specs.Literal.{Literal, Pos, Neg, negation, var_of, index_of, number_of, is_negative};
+
+use std::marker::Model;
+
+/// A variable, numbered from 1.
+#[derive(Clone, Copy, Debug, PartialEq, Eq)]
+pub struct Var {
+    number: u32,
+}
+
+impl Model for Var {
+    ghost use Rattle.std.specs.Prelude.{ℕ, ◌≤◌, ◌<◌, ◌^◌};
+
+    ghost Value = { ℕ };
+
+    ghost view = { λ v. v.number };
+
+    ghost invariant = { λ v. (1 ≤ v.number) × (v.number < 2 ^ 31) };
+
+    ghost inverse = { λ n. record { number = n } };
+}
+
+impl Var {
+    /// The variable of this number.
+    pub fn new(number: u32) -> Var
+        requires above { 1 ≤ number }
+        requires below { number < 2 ^ 31 }
+        ensures { result ≡ number }
+    {
+        Var { number }
+    }
+
+    /// Its number, from 1.
+    pub fn number(self) -> u32
+        ensures value { result ≡ self }
+        ensures above { 1 ≤ result }
+        ensures below { result < 2 ^ 31 }
+    {
+        self.number
+    }
+}
+
+/// A variable, or its negation. Its code is twice the variable's number, and one more where it is negated.
+#[derive(Clone, Copy, Debug, PartialEq, Eq)]
+pub struct Lit {
+    code: u32,
+}
+
+impl Model for Lit {
+    ghost use Rattle.std.specs.Prelude.{◌≤◌};
+    ghost use Rattle.dimacs.specs.Literal.{Literal, literal_of, index_of};
+    ghost use Rattle.dimacs.specs.Codes.{index_of-literal_of};
+
+    ghost Value = { Literal };
+
+    ghost view = { λ l. literal_of l.code };
+
+    ghost invariant = { λ l. 2 ≤ l.code };
+
+    ghost inverse = { λ l. record { code = index_of l } };
+
+    ghost inverse_ok = { λ s h i. record { code = index_of-literal_of s.code i } };
+}
+
+impl Lit {
+    /// The variable itself.
+    pub fn positive(var: Var) -> Lit
+        ensures { result ≡ Pos var }
+    {
+        Lit {
+            code: 2 * var.number(),
+        }
+    }
+
+    /// The variable's negation.
+    pub fn negative(var: Var) -> Lit
+        ensures { result ≡ Neg var }
+    {
+        Lit {
+            code: 2 * var.number() + 1,
+        }
+    }
+
+    /// The literal that is true exactly where this one is false.
+    #[inline]
+    pub fn negate(self) -> Lit
+        ensures { result ≡ negation self }
+    {
+        Lit {
+            code: self.code ^ 1,
+        }
+    }
+
+    /// Its variable.
+    #[inline]
+    pub fn var(self) -> Var
+        ensures { result ≡ var_of self }
+    {
+        Var {
+            number: self.code / 2,
+        }
+    }
+
+    /// Whether it is the negation of its variable.
+    #[inline]
+    pub fn is_negative(self) -> bool
+        ensures { result ≡ is_negative self }
+    {
+        self.code % 2 == 1
+    }
+
+    /// Its place in a table of all literals, from 2.
+    #[inline]
+    pub fn index(self) -> usize
+        ensures value { result ≡ index_of self }
+        ensures above { 2 ≤ result }
+        ensures below { result < 2 ^ 32 }
+    {
+        self.code as usize
+    }
+
+    /// The number that stands for it in a text: the variable's, with a minus where it is negated.
+    pub fn number(self) -> i32
+        ensures { result ≡ number_of self }
+    {
+        let variable = (self.code / 2) as i32;
+        if self.code % 2 == 0 {
+            variable
+        } else {
+            -variable
+        }
+    }
+}

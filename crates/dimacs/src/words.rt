@@ -1,0 +1,77 @@
+//! The lines of a text, and the tokens of a line.
+
+ghost use Rattle.std.specs.Prelude.{◌≡◌, ◌<◌, ◌≤◌, [], ◌∷◌, length, MatchOption, MatchBool, IfSome};
+ghost use Rattle.std.specs.List.{prefix_len, position_or_len};
+ghost use Rattle.dimacs.specs.Words.{is_white, words, words_of, is_comment, lines, lines_left};
+
+use memchr::memchr;
+
+/// The first line of a text, and what follows its end: None where the text ends with the line.
+pub fn next_line(text: &[u8]) -> (&[u8], Option<&[u8]>)
+    ensures line { lines text.now ≡ result.0.now ∷ lines_left result.1 }
+    ensures shorter { IfSome result.1 (λ rest. length rest.now < length text.now) }
+{
+    match memchr(b'\n', text) {
+        Some(end) => (&text[..end], Some(&text[end + 1..])),
+        None => (text, None),
+    }
+}
+
+#[inline]
+pub(crate) fn is_white(byte: u8) -> bool
+    ensures { result ≡ is_white byte }
+{
+    byte == b' ' || byte == b'\t' || byte == b'\r' || byte == b'\n'
+}
+
+/// How many bytes of white space a text begins with.
+pub(crate) fn white_len(text: &[u8]) -> usize
+    ensures value { result ≡ prefix_len is_white text.now }
+    ensures bound { result ≤ length text.now }
+{
+    for (i, byte) in text.iter().enumerate() {
+        if !is_white(*byte) {
+            return i;
+        }
+    }
+    text.len()
+}
+
+/// How many bytes stand before the first white space.
+pub(crate) fn word_len(text: &[u8]) -> usize
+    ensures value { result ≡ position_or_len is_white text.now }
+    ensures bound { result ≤ length text.now }
+{
+    for (i, byte) in text.iter().enumerate() {
+        if is_white(*byte) {
+            return i;
+        }
+    }
+    text.len()
+}
+
+/// The first token of a line, and what follows it: None where only white space is left.
+pub fn next_word(line: &[u8]) -> Option<(&[u8], &[u8])>
+    ensures word { MatchOption result (words line.now ≡ []) (λ p. words line.now ≡ p.0.now ∷ words p.1.now) }
+    ensures shorter { IfSome result (λ p. length p.1.now < length line.now) }
+{
+    let text = &line[white_len(line)..];
+    if text.is_empty() {
+        return None;
+    }
+    Some(text.split_at(word_len(text)))
+}
+
+/// Whether a line is a comment: its first byte is `c`.
+pub fn is_comment(line: &[u8]) -> bool
+    ensures { result ≡ is_comment line.now }
+{
+    !line.is_empty() && line[0] == b'c'
+}
+
+/// Whether a line has no token: it is a comment, or white space alone.
+pub fn is_blank(line: &[u8]) -> bool
+    ensures { MatchBool result (words_of line.now ≡ []) ((0 < length (words_of line.now)) × (words_of line.now ≡ words line.now)) }
+{
+    is_comment(line) || next_word(line).is_none()
+}
