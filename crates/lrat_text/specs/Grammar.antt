@@ -1,0 +1,61 @@
+-- The grammar of LRAT lines (Cruz-Filipe, Heule, Hunt, Kaufmann and Schneider-Kamp 2017), in the profile of docs/LRAT.md.
+use Rattle.std.specs.Prelude.{◌≡◌, ℕ, ◌-◌, ◌≤◌, ◌<◌, ◌^◌, ◌==◌, List, [], ◌∷◌, ◌++◌, length, slice_index, map, codes, decimal, Contains, All}
+use Rattle.std.specs.List.{slice_split, filter, flat_map}
+use Rattle.std.specs.Fmt.{signed_decimal}
+use Rattle.dimacs.specs.Literal.{Literal, IsWithin, number_of}
+use Rattle.dimacs.specs.Words.{is_some_byte}
+use Rattle.dimacs.specs.Rat.{Group}
+use Rattle.lrat_text.specs.declared.step.Step.{Step}
+use Rattle.lrat_text.specs.declared.step.Step.TheVariants.{Add, Delete}
+
+-- the tokens of a line: the longest runs of bytes that are no space
+abbrev pub tokens : List ℕ → List (List ℕ)
+tokens line = filter is_some_byte (slice_split (λ b. b == 32) line)
+
+-- a line that is not empty, and has no space at its beginning or end
+pub record IsTrimmed (line : List ℕ) : Type 0 where
+  pub some : 0 < length line
+  pub first : slice_index line 0 ≡ 32 → ⊥
+  pub last : slice_index line (length line - 1) ≡ 32 → ⊥
+
+-- a clause number: from 1 to 2^48 - 1
+abbrev pub IsClauseNumber : ℕ → Type 0
+IsClauseNumber n = (1 ≤ n) × (n < 2 ^ 48)
+
+-- a group within the limits
+abbrev pub IsGroup : Group → Type 0
+IsGroup g = IsClauseNumber g.0 × All IsClauseNumber g.1
+
+-- a step within the limits: clause numbers, and variables up to 2,000,000
+abbrev pub IsStep : Step → Type 0
+IsStep (Add id lits hints groups) = IsClauseNumber id × All (IsWithin 2000000) lits × All IsClauseNumber hints × All IsGroup groups
+IsStep (Delete ids) = All IsClauseNumber ids
+
+-- a literal as its variable's number, with a minus where it is negated
+abbrev pub literal_token : Literal → List ℕ
+literal_token l = signed_decimal (number_of l)
+
+-- a candidate's number behind a minus, and its hints
+abbrev pub group_tokens : Group → List (List ℕ)
+group_tokens g = (45 ∷ decimal g.0) ∷ map decimal g.1
+
+-- an addition is its number, the literals, 0, the hints, the groups, 0;
+-- a deletion is a number, which is not used, the letter d, the numbers of the clauses, 0
+abbrev pub step_tokens : ℕ → Step → List (List ℕ)
+step_tokens top (Add id lits hints groups) =
+    decimal id ∷ (map literal_token lits ++ codes "0" ∷ (map decimal hints ++ flat_map group_tokens groups ++ codes "0" ∷ []))
+step_tokens top (Delete ids) = decimal top ∷ codes "d" ∷ (map decimal ids ++ codes "0" ∷ [])
+
+-- a line, without its LF, spells a step
+pub record SpellsStep (line : List ℕ) (step : Step) : Type 0 where
+  pub top : ℕ
+  pub trimmed : IsTrimmed line
+  pub limits : IsStep step
+  pub numbered : IsClauseNumber top
+  pub spelled : tokens line ≡ step_tokens top step
+
+-- a text is the lines of the steps, each ended by LF
+abbrev pub LineSpells : List ℕ → List Step → Type 0
+LineSpells text [] = text ≡ []
+LineSpells text (step ∷ steps) =
+    (line : List ℕ) × (rest : List ℕ) × (text ≡ line ++ 10 ∷ rest) × ¬ (Contains line 10) × SpellsStep line step × LineSpells rest steps

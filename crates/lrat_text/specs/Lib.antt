@@ -1,0 +1,11 @@
+pub mod Faults
+pub mod Grammar
+pub mod GroupLists
+pub mod Groups
+pub mod Lines
+pub mod Parts
+pub mod Proof
+pub mod Reading
+pub mod Steps
+pub mod Tokens
+pub mod Writing

@@ -1,0 +1,41 @@
+-- Steps of a proof over live clauses, and the proofs that are accepted.
+use Rattle.std.specs.Prelude.{◌≡◌, ℕ, ◌<◌, not, List, [], ◌∷◌, ◌⊎◌, IsSome, nat_eq, All, length}
+use Rattle.std.specs.List.{list_any, IsDistinct}
+use Rattle.std.specs.FinMap.{get, insert, retain_keys}
+use Rattle.dimacs.specs.Cnf.{Cnf}
+use Rattle.dimacs.specs.ClauseMap.{ClauseMap, map_of, live_in}
+use Rattle.dimacs.specs.Propagation.{Rup}
+use Rattle.dimacs.specs.Rat.{Rat}
+use Rattle.lrat_text.specs.Grammar.{LineSpells}
+use Rattle.lrat_text.specs.declared.step.Step.{Step}
+use Rattle.lrat_text.specs.declared.step.Step.TheVariants.{Add, Delete}
+
+-- the live clauses but those of these numbers
+abbrev pub without : ClauseMap → List ℕ → ClauseMap
+without M ids = retain_keys M (λ id. not (list_any (nat_eq id) ids))
+
+-- a step takes the live clauses M, and the greatest number added so far, to M' and top':
+-- an addition under a greater number, by reverse unit propagation or by groups; or a deletion of distinct live clauses
+abbrev pub TakesStep : ClauseMap → ℕ → Step → ClauseMap → ℕ → Type 0
+TakesStep M top (Add id lits hints groups) M' top' =
+    (top < id)
+    × ((Rup (live_in M) lits hints × (groups ≡ [])) ⊎ Rat (live_in M) lits hints groups)
+    × (M' ≡ insert M id lits)
+    × (top' ≡ id)
+TakesStep M top (Delete ids) M' top' =
+    All (λ id. IsSome (get M id)) ids × IsDistinct nat_eq ids × (M' ≡ without M ids) × (top' ≡ top)
+
+-- the step adds the empty clause
+abbrev pub AddsEmpty : Step → Type 0
+AddsEmpty (Add id lits hints groups) = lits ≡ []
+AddsEmpty (Delete ids) = ⊥
+
+-- a front of the steps can be taken, and its last adds the empty clause
+abbrev pub Refutation : ClauseMap → ℕ → List Step → Type 0
+Refutation M top [] = ⊥
+Refutation M top (step ∷ steps) =
+    (M' : ClauseMap) × (top' : ℕ) × TakesStep M top step M' top' × (AddsEmpty step ⊎ Refutation M' top' steps)
+
+-- the text spells steps, of which a front refutes the formula; those behind it are free
+abbrev pub Accepts : Cnf → List ℕ → Type 0
+Accepts F text = (steps : List Step) × LineSpells text steps × Refutation (map_of F) (length F.clauses) steps

@@ -1,0 +1,34 @@
+-- Bytes of tokens.
+use Rattle.std.specs.Prelude.{ℕ, length, ◌+◌, ◌-◌, ◌*◌, ◌^◌, ◌≤◌, ◌<◌, min, Bool, ◌==◌, List, [], ◌∷◌, Option, Some, None, if◌then◌else◌}
+use Rattle.std.specs.Char.{is_ascii_digit}
+use Rattle.std.specs.Borrow.{Bor}
+use Rattle.lrat_text.specs.Reading.{line_tokens}
+use Rattle.lrat_text.specs.declared.token.Token.{Token}
+use Rattle.lrat_text.specs.declared.token.Token.TheVariants.{Letter, Zero, Plus, Minus, LargePlus, LargeMinus, Other}
+
+abbrev pub is_space : ℕ → Bool
+is_space b = b == 32
+
+-- the number of digits that make n and one more, up to 2^48
+abbrev pub with_digit : ℕ → ℕ → Option ℕ
+with_digit b n = if is_ascii_digit b then Some (min (2 ^ 48) (10 * n + (b - 48))) else None
+
+-- a number that is not large is from 1 to 2^48 - 1
+abbrev pub IsCounted : Token → Type 0
+IsCounted (Plus n) = (1 ≤ n) × (n < 2 ^ 48)
+IsCounted (Minus n) = (1 ≤ n) × (n < 2 ^ 48)
+IsCounted Letter = Unit {0}
+IsCounted Zero = Unit {0}
+IsCounted LargePlus = Unit {0}
+IsCounted LargeMinus = Unit {0}
+IsCounted Other = Unit {0}
+
+-- a token and those behind it, if there is one
+abbrev pub tokens_from : Option (Token × Bor (List ℕ)) → List Token
+tokens_from None = []
+tokens_from (Some next) = next.0 ∷ line_tokens next.1.now
+
+-- how many bytes stand behind a token, and one more
+abbrev pub left_len : Option (Token × Bor (List ℕ)) → ℕ
+left_len None = 0
+left_len (Some next) = length next.1.now + 1

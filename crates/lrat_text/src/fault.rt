@@ -1,0 +1,53 @@
+//! Why a line spells no step.
+
+ghost use Rattle.std.specs.Prelude.{◌≡◌};
+ghost use Rattle.lrat_text.specs.Faults.{fault_number};
+ghost use Rattle.lrat_text.specs.declared.fault.TextFault.TheVariants.{NoMemory};
+
+use std::alloc::{AllocError, AllocFailed};
+
+/// The first fault of a line.
+#[derive(Clone, Copy, Debug, PartialEq, Eq)]
+pub enum TextFault {
+    /// The line is empty, a space stands at its beginning or end, or a token cannot stand where it does.
+    BadToken,
+    /// No LF follows the line.
+    LineNotEnded,
+    /// The line ends before its last `0`.
+    MissingZero,
+    /// A clause number above 2^48 - 1, or a variable above 2,000,000.
+    NumberTooLarge,
+    /// A growth was refused.
+    NoMemory,
+}
+
+impl TextFault {
+    /// The fault's number, 1 to 5.
+    pub fn number(self) -> u8
+        ensures { result ≡ fault_number self }
+    {
+        match self {
+            TextFault::BadToken => 1,
+            TextFault::LineNotEnded => 2,
+            TextFault::MissingZero => 3,
+            TextFault::NumberTooLarge => 4,
+            TextFault::NoMemory => 5,
+        }
+    }
+}
+
+impl From<AllocError> for TextFault {
+    ghost from_gives = { λ _ e. e ≡ NoMemory };
+
+    fn from(_e: AllocError) -> TextFault {
+        TextFault::NoMemory
+    }
+}
+
+impl<T: Drop> From<AllocFailed<T>> for TextFault {
+    ghost from_gives = { λ _ e. e ≡ NoMemory };
+
+    fn from(_e: AllocFailed<T>) -> TextFault {
+        TextFault::NoMemory
+    }
+}

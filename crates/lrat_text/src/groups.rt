@@ -1,0 +1,115 @@
+//! Groups of hints: each names a candidate, and the hints that refute it.
+
+ghost use Rattle.std.specs.Prelude.{◌≡◌, ◌^◌, ◌<◌, [], ◌∷◌, ◌++◌, length, ◌==◌, slice_get, Some, OnOk, OnErr};
+ghost use Rattle.lrat_text.specs.Groups.{start_at};
+ghost use Rattle.lrat_text.specs.GroupLists.{with_hint};
+
+use std::alloc::{AllocError, Global};
+use std::marker::Model;
+
+/// Where a group's hints end among the hints of all groups.
+#[derive(Clone, Copy)]
+struct Head {
+    candidate: u64,
+    end: usize,
+}
+
+/// Groups, in their written order; their hints lie one after the other in one vector.
+#[derive(Drop)]
+pub struct Groups {
+    heads: Vec<Head>,
+    hints: Vec<u64>,
+}
+
+/// Where the hints of the group at `i` begin.
+fn start_of(heads: &[Head], i: usize) -> usize
+    requires { i < length heads.now }
+    ensures { result ≡ start_at 0 heads.now i }
+{
+    if i == 0 { 0 } else { heads[i - 1].end }
+}
+
+impl Model for Groups {
+    ghost use Rattle.std.specs.Prelude.{◌≡◌, List, vec_len};
+    ghost use Rattle.dimacs.specs.Rat.{Group};
+
+    ghost Value = { List Group };
+
+    ghost use Rattle.lrat_text.specs.Groups.{groups_from, AreHeads};
+
+    ghost view = { λ g. groups_from 0 g.heads.items g.hints.items };
+
+    ghost invariant = { λ g. AreHeads 0 g.heads.items (vec_len g.hints) };
+}
+
+impl Groups {
+    /// No group.
+    pub fn new(alloc: Global) -> Groups
+        ensures { result ≡ [] }
+    {
+        Groups {
+            heads: Vec::new(alloc),
+            hints: Vec::new(alloc),
+        }
+    }
+
+    #[tactic(auto, using(crate::proofs::GroupLemmas::length_groups))]
+    /// How many groups there are.
+    pub fn len(&self) -> usize
+        ensures value { result ≡ length self.now }
+        ensures below { result < 2 ^ 63 }
+    {
+        self.heads.len()
+    }
+
+    #[tactic(auto, using(crate::proofs::GroupLemmas::length_groups))]
+    /// Whether there is no group.
+    pub fn is_empty(&self) -> bool
+        ensures { result ≡ (length self.now == 0) }
+    {
+        self.heads.is_empty()
+    }
+
+    /// The candidate of the group at `i`, from 0, and its hints.
+    pub fn get(&self, i: usize) -> (u64, &[u64])
+        requires { i < length self.now }
+        ensures { slice_get self.now i ≡ Some (result.0, result.1.now) }
+    {
+        let start = start_of(&self.heads, i);
+        let head = self.heads[i];
+        (head.candidate, &self.hints[start..head.end])
+    }
+
+    /// Takes all groups out, and keeps the room.
+    pub fn clear(&mut self)
+        ensures { self.new ≡ [] }
+    {
+        self.heads.clear();
+        self.hints.clear();
+    }
+
+    /// One group more, with these hints.
+    pub fn push(&mut self, candidate: u64, hints: &[u64]) -> Result<(), AllocError>
+        ensures ok { OnOk result (self.new ≡ self.old ++ (candidate, hints.now) ∷ []) }
+        ensures err { OnErr result (self.new ≡ self.old) }
+    {
+        self.heads.reserve(1)?;
+        self.hints.extend_from_slice(hints)?;
+        let end = self.hints.len();
+        self.heads.push(Head { candidate, end })?;
+        Ok(())
+    }
+
+    /// One hint more in the last group.
+    pub fn push_hint(&mut self, hint: u64) -> Result<(), AllocError>
+        requires { 0 < length self.old }
+        ensures ok { OnOk result (self.new ≡ with_hint hint self.old) }
+        ensures err { OnErr result (self.new ≡ self.old) }
+    {
+        self.hints.push(hint)?;
+        let end = self.hints.len();
+        let last = self.heads.len() - 1;
+        self.heads[last].end = end;
+        Ok(())
+    }
+}

@@ -1,0 +1,28 @@
+//! Laws of lines, as contracts of calls that do nothing.
+
+ghost use Rattle.std.specs.Prelude.{◌≡◌, ℕ, List, Ok, Contains};
+ghost use Rattle.dimacs.specs.Words.{lines};
+ghost use Rattle.lrat_text.specs.Grammar.{SpellsStep, LineSpells, IsStep, IsClauseNumber};
+ghost use Rattle.lrat_text.specs.Lines.{AllRead};
+ghost use Rattle.lrat_text.specs.Reading.{step_in};
+ghost use Rattle.lrat_text.specs.Writing.{line_text};
+ghost use Rattle.lrat_text.specs.declared.step.Step.{Step};
+
+/// A line is read as a step exactly where it spells that step.
+pub fn reading_is_spelling()
+    ensures found { (line : List ℕ) (step : Step) → step_in line ≡ Ok step → SpellsStep line step }
+    ensures only { (line : List ℕ) (step : Step) → SpellsStep line step → step_in line ≡ Ok step }
+{}
+
+/// What is written for a step is one line that spells it, so it is read back.
+pub fn putting_is_spelling()
+    ensures spells { (top : ℕ) (step : Step) → IsClauseNumber top → IsStep step → SpellsStep (line_text top step) step }
+    ensures one_line { (top : ℕ) (step : Step) → IsClauseNumber top → IsStep step → ¬ (Contains (line_text top step) 10) }
+    ensures read_back { (top : ℕ) (step : Step) → IsClauseNumber top → IsStep step → step_in (line_text top step) ≡ Ok step }
+{}
+
+/// A text spells steps exactly where it is read piece by piece between the LFs.
+pub fn text_is_lines()
+    ensures read { (text : List ℕ) (steps : List Step) → LineSpells text steps → AllRead (lines text) steps }
+    ensures spelled { (text : List ℕ) (steps : List Step) → AllRead (lines text) steps → LineSpells text steps }
+{}

@@ -1,0 +1,145 @@
+//! Steps of a proof.
+
+ghost use Rattle.std.specs.Prelude.{◌≡◌};
+ghost use Rattle.lrat_text.specs.Steps.{step_of};
+
+use crate::groups::Groups;
+use dimacs::Lit;
+use std::marker::Model;
+
+/// The literals of a lemma, in their written order.
+#[derive(Drop)]
+pub struct Literals {
+    literals: Vec<Lit>,
+}
+
+impl Model for Literals {
+    ghost use Rattle.std.specs.Prelude.{List};
+    ghost use Rattle.std.specs.Coded.{coded_list};
+    ghost use Rattle.dimacs.specs.Literal.{Literal};
+    ghost use Rattle.dimacs.specs.Codes.{literal_code};
+
+    ghost Value = { List Literal };
+
+    ghost coded = { coded_list literal_code };
+
+    ghost view = { λ s. s.literals.items };
+}
+
+impl Literals {
+    /// These literals.
+    pub fn from_vec(literals: Vec<Lit>) -> Literals
+        ensures { result ≡ literals.items }
+    {
+        Literals { literals }
+    }
+
+    /// The literals.
+    pub fn as_slice(&self) -> &[Lit]
+        ensures { result.now ≡ self.now }
+    {
+        &self.literals
+    }
+
+    /// The vector that holds them.
+    pub fn into_vec(self) -> Vec<Lit>
+        ensures { result.items ≡ self }
+    {
+        let Literals { literals } = self;
+        literals
+    }
+}
+
+/// Clause numbers, in their written order.
+#[derive(Drop)]
+pub struct ClauseNumbers {
+    numbers: Vec<u64>,
+}
+
+impl Model for ClauseNumbers {
+    ghost use Rattle.std.specs.Prelude.{List, ℕ};
+
+    ghost Value = { List ℕ };
+
+    ghost view = { λ s. s.numbers.items };
+}
+
+impl ClauseNumbers {
+    /// These numbers.
+    pub fn from_vec(numbers: Vec<u64>) -> ClauseNumbers
+        ensures { result ≡ numbers.items }
+    {
+        ClauseNumbers { numbers }
+    }
+
+    /// The numbers.
+    pub fn as_slice(&self) -> &[u64]
+        ensures { result.now ≡ self.now }
+    {
+        &self.numbers
+    }
+
+    /// The vector that holds them.
+    pub fn into_vec(self) -> Vec<u64>
+        ensures { result.items ≡ self }
+    {
+        let ClauseNumbers { numbers } = self;
+        numbers
+    }
+}
+
+/// One step of a proof.
+#[derive(Drop)]
+pub enum Step {
+    /// A lemma joins the live clauses under a number, by hints and, where these reach no conflict, by groups.
+    Add {
+        id: u64,
+        lits: Literals,
+        hints: ClauseNumbers,
+        groups: Groups,
+    },
+    /// Live clauses are taken out.
+    Delete {
+        ids: ClauseNumbers,
+    },
+}
+
+/// One step of a proof, in lent parts.
+#[derive(Clone, Copy)]
+pub enum StepRef<'a> {
+    /// A lemma, its hints and its groups.
+    Add {
+        id: u64,
+        lits: &'a [Lit],
+        hints: &'a [u64],
+        groups: &'a Groups,
+    },
+    /// The numbers of the clauses that are taken out.
+    Delete {
+        ids: &'a [u64],
+    },
+}
+
+impl Step {
+    /// The step, lent part by part.
+    pub fn as_ref(&self) -> StepRef<'_>
+        ensures { step_of result ≡ self.now }
+    {
+        match self {
+            Step::Add {
+                id,
+                lits,
+                hints,
+                groups,
+            } => StepRef::Add {
+                id: *id,
+                lits: lits.as_slice(),
+                hints: hints.as_slice(),
+                groups,
+            },
+            Step::Delete { ids } => StepRef::Delete {
+                ids: ids.as_slice(),
+            },
+        }
+    }
+}

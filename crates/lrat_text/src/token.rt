@@ -1,0 +1,177 @@
+//! The tokens of a line.
+
+ghost use Rattle.std.specs.Prelude.{◌≡◌, ℕ, ◌<◌, ◌≤◌, ◌^◌, ◌==◌, length, min, take, Option, IfSome};
+ghost use Rattle.std.specs.List.{prefix_len, position_or_len};
+ghost use Rattle.std.specs.Option.{option_map, option_and_then};
+ghost use Rattle.dimacs.specs.Numbers.{digits_from, natural as natural_of, positive, negated};
+ghost use Rattle.lrat_text.specs.Reading.{number_token, token_of, line_tokens};
+ghost use Rattle.lrat_text.specs.Tokens.{is_space, with_digit, IsCounted, tokens_from};
+
+/// What a token is.
+#[derive(Clone, Copy)]
+pub(crate) enum Token {
+    /// The letter `d`.
+    Letter,
+    /// The number `0`.
+    Zero,
+    /// A number from 1 to 2^48 - 1.
+    Plus(u64),
+    /// Such a number with a minus.
+    Minus(u64),
+    /// A number from 2^48 on.
+    LargePlus,
+    /// Such a number with a minus.
+    LargeMinus,
+    /// None of these.
+    Other,
+}
+
+/// The size that stands for every size from there on.
+const CAP: u64 = 281_474_976_710_656;
+
+/// Only the space stands between tokens.
+#[inline]
+fn is_space(byte: u8) -> bool
+    ensures { result ≡ is_space byte }
+{
+    byte == b' '
+}
+
+/// How many spaces a text begins with.
+fn space_len(text: &[u8]) -> usize
+    ensures value { result ≡ prefix_len is_space text.now }
+    ensures bound { result ≤ length text.now }
+{
+    for (i, byte) in text.iter().enumerate() {
+        if !is_space(*byte) {
+            return i;
+        }
+    }
+    text.len()
+}
+
+/// The value of digits, with one more behind them.
+#[inline]
+fn push_digit(value: Option<u64>, byte: u8) -> Option<u64>
+    requires { IfSome value (λ n. n ≤ 2 ^ 48) }
+    ensures value { result ≡ option_and_then (with_digit byte) value }
+    ensures small { IfSome result (λ n. n ≤ 2 ^ 48) }
+{
+    match value {
+        Some(n) => {
+            if byte.is_ascii_digit() {
+                Some((10 * n + u64::from(byte - b'0')).min(CAP))
+            } else {
+                None
+            }
+        }
+        None => None,
+    }
+}
+
+/// The bytes before the first space: the value of their digits, if they are digits, and how many bytes they are.
+fn digits(text: &[u8]) -> (Option<u64>, usize)
+    ensures len { result.1 ≡ position_or_len is_space text.now }
+    ensures bound { result.1 ≤ length text.now }
+    ensures value { result.0 ≡ option_map (min (2 ^ 48)) (digits_from 0 (take result.1 text.now)) }
+    ensures small { IfSome result.0 (λ n. n ≤ 2 ^ 48) }
+{
+    let mut value = Some(0);
+    for (i, byte) in text.iter().enumerate() {
+        if is_space(*byte) {
+            return (value, i);
+        }
+        value = push_digit(value, *byte);
+    }
+    (value, text.len())
+}
+
+/// The number without a sign before the first space, and how many bytes it has.
+fn natural(text: &[u8]) -> (Option<u64>, usize)
+    ensures len { result.1 ≡ position_or_len is_space text.now }
+    ensures bound { result.1 ≤ length text.now }
+    ensures value { result.0 ≡ option_map (min (2 ^ 48)) (natural_of (take result.1 text.now)) }
+    ensures small { IfSome result.0 (λ n. n ≤ 2 ^ 48) }
+{
+    let (value, len) = digits(text);
+    if len == 0 {
+        return (None, len);
+    }
+    if len > 1 && text[0] == b'0' {
+        return (None, len);
+    }
+    (value, len)
+}
+
+/// The token of a number without a sign.
+#[inline]
+fn plus_token(size: Option<u64>) -> Token
+    ensures token { (n : Option ℕ) → size ≡ option_map (min (2 ^ 48)) n → result ≡ number_token (option_and_then positive n) }
+    ensures counted { IsCounted result }
+{
+    match size {
+        None => Token::Other,
+        Some(n) => {
+            if n == 0 {
+                Token::Zero
+            } else if n < CAP {
+                Token::Plus(n)
+            } else {
+                Token::LargePlus
+            }
+        }
+    }
+}
+
+/// The token of a number behind a minus.
+#[inline]
+fn minus_token(size: Option<u64>) -> Token
+    ensures token { (n : Option ℕ) → size ≡ option_map (min (2 ^ 48)) n → result ≡ number_token (option_and_then negated n) }
+    ensures counted { IsCounted result }
+{
+    match size {
+        None => Token::Other,
+        Some(n) => {
+            if n == 0 {
+                Token::Other
+            } else if n < CAP {
+                Token::Minus(n)
+            } else {
+                Token::LargeMinus
+            }
+        }
+    }
+}
+
+/// The first token of a text that begins with one, and how many bytes it has.
+fn first_token(text: &[u8]) -> (Token, usize)
+    requires some { 0 < length text.now }
+    ensures len { result.1 ≡ position_or_len is_space text.now }
+    ensures bound { result.1 ≤ length text.now }
+    ensures token { result.0 ≡ token_of (take result.1 text.now) }
+    ensures counted { IsCounted result.0 }
+{
+    if text[0] == b'-' {
+        let (size, len) = natural(&text[1..]);
+        return (minus_token(size), len + 1);
+    }
+    let (size, len) = natural(text);
+    if len == 1 && text[0] == b'd' {
+        return (Token::Letter, len);
+    }
+    (plus_token(size), len)
+}
+
+/// The next token of a line, and what follows it.
+pub(crate) fn next_token(line: &[u8]) -> Option<(Token, &[u8])>
+    ensures token { line_tokens line.now ≡ tokens_from result }
+    ensures counted { IfSome result (λ p. IsCounted p.0) }
+    ensures shorter { IfSome result (λ p. length p.1.now < length line.now) }
+{
+    let text = &line[space_len(line)..];
+    if text.is_empty() {
+        return None;
+    }
+    let (token, len) = first_token(text);
+    Some((token, &text[len..]))
+}
