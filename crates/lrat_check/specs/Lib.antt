@@ -1,0 +1,9 @@
+pub mod Checking
+pub mod Faults
+pub mod Holding
+pub mod Marks
+pub mod Numbers
+pub mod Soundness
+pub mod State
+pub mod Table
+pub mod Verdicts

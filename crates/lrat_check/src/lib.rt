@@ -1,0 +1,24 @@
+//! The checker of LRAT proofs (Cruz-Filipe, Heule, Hunt, Kaufmann and Schneider-Kamp 2017), in the profile of docs/LRAT.md.
+//!
+//! A proof that `check` takes is one that the definition `Accepts` of `lrat_text` accepts, and no assignment satisfies a
+//! formula with an accepted proof: `soundness`. So nothing of the code here has to be believed, nor of what finds proofs.
+#![tactic(auto)]
+
+mod checker;
+mod checking;
+mod counts;
+mod fault;
+mod groups;
+mod laws;
+mod lemma;
+mod live;
+mod marks;
+mod propagation;
+mod table;
+mod verdict;
+
+pub use checker::Checker;
+pub use checking::{CheckFault, check};
+pub use fault::StepFault;
+pub use laws::{right_verdicts_agree, soundness, step_fault_is_exact};
+pub use verdict::{ProofText, Reaction, Verdict};
