@@ -1,0 +1,4 @@
+pub mod AgreementLemmas
+pub mod Judging
+pub mod ScheduleLemmas
+pub mod Truths

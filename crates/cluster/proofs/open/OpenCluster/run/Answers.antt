@@ -1,0 +1,14 @@
+use Rattle.std.proofs.Common.{◌<◌, take, length, ◌∙◌, arith}
+use Rattle.std.proofs.lemmas.List.{take_more}
+use Rattle.cluster.proofs.ScheduleLemmas.{runs_more}
+use Rattle.cluster.proofs.open.OpenCluster.run.Goals as goal
+
+pub loop-event-preserved : goal.loop-event-preserved
+loop-event-preserved c =
+    let here : c.loop-event.event-index < length c.args.events.now = omega arith in (
+      rw (take_more c.args.events.now c.loop-event.event-index c.event-item.result here, ← c.event-item.is)
+          (runs_more c.args.self.now (take c.loop-event.event-index c.args.events.now) c.loop-event.self-inside.nodes.items c.event-item.result c.happen.result
+          c.happen.new.nodes.items c.loop-event.invariant.0 c.happen.ensures.happens),
+      c.happen.ensures.formulas ∙ c.loop-event.invariant.1,
+      c.happen.ensures.right c.loop-event.invariant.2,
+    )

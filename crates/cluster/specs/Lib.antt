@@ -1,0 +1,4 @@
+pub mod Nodes
+pub mod Candidates
+pub mod OpenSchedule
+pub mod Agreement
