@@ -1,0 +1,26 @@
+-- What `check` prints, and its exit status.
+use Rattle.std.specs.Prelude.{◌≡◌, ℕ, List, ◌++◌, Result, Ok, Err, codes, decimal}
+use Rattle.dimacs.specs.Cnf.{Cnf}
+use Rattle.dimacs.specs.Faults.{number_of_kind}
+use Rattle.dimacs.specs.Reading.{parse}
+use Rattle.dimacs.specs.declared.fault.DimacsFault.{DimacsFault}
+use Rattle.lrat_check.specs.Checking.{check_of}
+use Rattle.lrat_check.specs.declared.checking.CheckFault.{CheckFault}
+
+-- a fault's line and number
+abbrev pub fault_text : ℕ → ℕ → List ℕ
+fault_text line number = codes "line " ++ decimal line ++ codes " fault " ++ decimal number ++ codes "\n"
+
+-- what is printed of a faulty input
+abbrev pub input_fault_text : DimacsFault → List ℕ
+input_fault_text f = codes "c input " ++ fault_text f.line (number_of_kind f.kind)
+
+-- what is printed of a proof, by the answer of its check
+abbrev pub answer_text : Result (Unit {0}) CheckFault → List ℕ
+answer_text (Ok x) = codes "s VERIFIED\n"
+answer_text (Err f) = codes "s NOT VERIFIED\nc " ++ fault_text f.line f.number
+
+-- what `check` prints of an input that was read, or not, and of a proof
+abbrev pub check_text : Result Cnf DimacsFault → List ℕ → List ℕ
+check_text (Ok F) proof = answer_text (check_of F proof)
+check_text (Err f) proof = input_fault_text f

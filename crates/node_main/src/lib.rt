@@ -1,0 +1,15 @@
+//! What the program does: command lines, runs over bytes, and their reports.
+//!
+//! Files are read and written by the program crate above; here a run is a function of bytes, so that its contract can
+//! say what is printed.
+#![tactic(auto)]
+
+mod checking;
+mod command_line;
+mod report;
+mod request;
+
+pub use checking::run_check;
+pub use command_line::command;
+pub use report::Report;
+pub use request::{Request, UsageFault};

@@ -1,0 +1,32 @@
+//! What a command line asks for.
+
+ghost use Rattle.std.specs.Prelude.{◌≡◌};
+ghost use Rattle.node_main.specs.declared.request.UsageFault.TheVariants.{NoMemory};
+
+use std::alloc::AllocError;
+
+/// What is to be done, and with which files.
+#[derive(Clone, Copy, Debug, PartialEq, Eq)]
+pub enum Request<'a> {
+    /// Check a proof of a formula.
+    Check { input: &'a str, proof: &'a str },
+}
+
+/// Why a command line gives no request.
+#[derive(Debug, Drop)]
+pub enum UsageFault {
+    /// Help was asked for: the text to print.
+    Help(String),
+    /// The words are refused.
+    Usage,
+    /// A growth was refused.
+    NoMemory,
+}
+
+impl From<AllocError> for UsageFault {
+    ghost from_gives = { λ _ e. e ≡ NoMemory };
+
+    fn from(_e: AllocError) -> UsageFault {
+        UsageFault::NoMemory
+    }
+}

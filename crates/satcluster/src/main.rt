@@ -1,0 +1,79 @@
+//! Reads the files that a command line names, runs the library over their bytes, and prints its report.
+#![tactic(auto)]
+
+use node_main::{Report, Request, UsageFault, command, run_check};
+use std::alloc::AllocError;
+use std::io::Write;
+use std::process::ExitCode;
+use std::rt::Runtime;
+use std::{env, fs, io};
+
+/// The line that stands for a run without a report; its status is 1.
+type Refusal = &'static str;
+
+const NO_MEMORY: &str = "c no memory\n";
+
+const USAGE: &str = "c usage\n";
+
+fn no_memory<E: Drop>(_error: E) -> Refusal {
+    NO_MEMORY
+}
+
+/// The file's bytes, or the line that says that it cannot be read.
+fn read<R: Runtime + AllocGlobal>(
+    rt: &R,
+    path: &str,
+    refusal: Refusal,
+) -> Result<Vec<u8>, Refusal> {
+    match fs::read(rt, path) {
+        Ok(bytes) => Ok(bytes),
+        Err(error) if error.kind() == io::ErrorKind::OutOfMemory => Err(NO_MEMORY),
+        Err(_) => Err(refusal),
+    }
+}
+
+fn check<R: Runtime + AllocGlobal>(rt: &R, input: &str, proof: &str) -> Result<Report, Refusal> {
+    let input = read(rt, input, "c cannot read input\n")?;
+    let proof = read(rt, proof, "c cannot read proof\n")?;
+    run_check(rt.alloc(), input.as_slice(), proof.as_slice()).map_err(no_memory)
+}
+
+fn answer<R: Runtime + AllocGlobal>(rt: &R, words: &[&str]) -> Result<Report, Refusal> {
+    match command(rt.alloc(), words) {
+        Ok(Request::Check { input, proof }) => check(rt, input, proof),
+        Err(UsageFault::Help(text)) => {
+            Report::of(rt.alloc(), text.as_str().as_bytes(), 0).map_err(no_memory)
+        }
+        Err(UsageFault::Usage) => Err(USAGE),
+        Err(UsageFault::NoMemory) => Err(NO_MEMORY),
+    }
+}
+
+/// The program's words; a word that is no text is refused as the others are.
+fn words<R: Runtime + AllocGlobal>(rt: &R) -> Result<Vec<String>, Refusal> {
+    let words = env::args(rt).map_err(|_| USAGE)?;
+    words.collect(rt.alloc()).map_err(no_memory)
+}
+
+fn run<R: Runtime + AllocGlobal>(rt: &R) -> Result<Report, Refusal> {
+    let owned = words(rt)?;
+    let lent: Result<Vec<&str>, AllocError> = owned.iter().map(|w| w.as_str()).collect(rt.alloc());
+    answer(rt, lent.map_err(no_memory)?.as_slice())
+}
+
+fn print<R: Runtime + AllocGlobal>(rt: &R, text: &[u8]) -> io::Result<()> {
+    let mut out = io::writer(rt);
+    out.write_all(text)?;
+    out.flush()
+}
+
+fn main(rt: HostRuntime) -> ExitCode {
+    let (printed, status) = match run(&rt) {
+        Ok(report) => (print(&rt, report.stdout.as_slice()), report.status),
+        Err(line) => (print(&rt, line.as_bytes()), 1),
+    };
+    match printed {
+        Ok(()) => ExitCode::from(status),
+        Err(_) => ExitCode::from(1),
+    }
+}
