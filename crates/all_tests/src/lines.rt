@@ -1,0 +1,94 @@
+//! Lines of proofs.
+
+use lrat_text::{next, put};
+use std::alloc::Global;
+use std::process::Abort;
+use std::test::Fail;
+
+/// The number of the text fault of a line, 0 where it spells a step.
+fn fault_of(alloc: Global, line: &[u8]) -> u8 {
+    match next(alloc, line, 0) {
+        Ok(_) => 0,
+        Err(fault) => fault.number(),
+    }
+}
+
+fn all_fault(rt: &impl Abort, alloc: Global, rows: &[(&'static [u8], u8)]) {
+    for (line, number) in rows {
+        assert_eq!(rt; fault_of(alloc, *line), *number);
+    }
+}
+
+#[test]
+fn a_line_ends_where_it_should(rt: HostRuntime) {
+    let rows: [(&'static [u8], u8); 6] = [
+        (b"5 2 0 1 2 0\n", 0),
+        (b"5 2 0 1 2 0", 2),
+        (b"5 2 0 1 2\n", 3),
+        (b"5 2\n", 3),
+        (b"5 d 1\n", 3),
+        (b"5 2 0 1 2 0 0\n", 1),
+    ];
+    all_fault(&rt, rt.alloc(), &rows);
+}
+
+#[test]
+fn a_number_is_within_its_limit(rt: HostRuntime) {
+    let rows: [(&'static [u8], u8); 8] = [
+        (b"5 2000001 0 0\n", 4),
+        (b"5 2000000 0 0\n", 0),
+        (b"281474976710655 0 0\n", 0),
+        (b"281474976710656 0 0\n", 4),
+        (b"281474976710656 d 1 0\n", 4),
+        (b"5 1 0 -281474976710656 0\n", 4),
+        (b"-281474976710656 1 0 0\n", 1),
+        (b"99999999999999999999999999999999999999999 1 0 0\n", 4),
+    ];
+    all_fault(&rt, rt.alloc(), &rows);
+}
+
+#[test]
+fn a_token_stands_where_it_may(rt: HostRuntime) {
+    let rows: [(&'static [u8], u8); 12] = [
+        (b"\n", 1),
+        (b" 5 2 0 0\n", 1),
+        (b"5 2 0 0 \n", 1),
+        (b"5  2 0   0\n", 0),
+        (b"5\t2 0 0\n", 1),
+        (b"5 2 0 0\r\n", 1),
+        (b"05 2 0 0\n", 1),
+        (b"5 +2 0 0\n", 1),
+        (b"5 -0 0 0\n", 1),
+        (b"0 d 1 0\n", 1),
+        (b"-5 d 1 0\n", 1),
+        (b"5 d -1 0\n", 1),
+    ];
+    all_fault(&rt, rt.alloc(), &rows);
+}
+
+#[test]
+fn what_was_put_is_read_back(rt: HostRuntime) -> Result<(), Fail> {
+    let lines: [&'static [u8]; 4] = [
+        b"5 2 -1 0 1 2 0\n",
+        b"6 -3 1 0 4 -5 -7 1 2 0\n",
+        b"6 d 1 2 0\n",
+        b"6 0 5 3 4 0\n",
+    ];
+    for line in lines.iter() {
+        let read = next(rt.alloc(), *line, 0).ok().ok_or("a step")?;
+        let (step, end) = read.ok_or("a line")?;
+        assert_eq!(rt; end, line.len());
+        let mut out = Vec::new(rt.alloc());
+        put(&step, 6, &mut out)?;
+        assert_eq!(rt; out.as_slice(), *line);
+    }
+    Ok(())
+}
+
+#[test]
+fn at_the_end_is_no_line(rt: HostRuntime) -> Result<(), Fail> {
+    let text = b"5 2 0 0\n";
+    assert!(rt; next(rt.alloc(), text, 8).ok().ok_or("no fault")?.is_none());
+    assert!(rt; next(rt.alloc(), text, 9).ok().ok_or("no fault")?.is_none());
+    Ok(())
+}
