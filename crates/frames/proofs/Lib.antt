@@ -1,0 +1,11 @@
+pub mod CubeLemmas
+pub mod CubeReading
+pub mod FieldLemmas
+pub mod SameFields
+pub mod Payloads
+pub mod WritingLemmas
+pub mod NoFrames
+pub mod Heads
+pub mod Streams
+pub mod FillingLemmas
+pub mod ReaderLemmas

@@ -1,0 +1,38 @@
+use Rattle.std.proofs.Common.{◌≡◌, ◌+◌, ◌≤◌, sym, ap, ◌∙◌, subst, arith, length, take, drop}
+use Rattle.frames.specs.declared.frame.Frame.{Frame}
+use Rattle.frames.specs.declared.head.Head.TheVariants.{Whole}
+use Rattle.frames.specs.Spelling.{may_have}
+use Rattle.frames.specs.Stream.{head_of, Begins, Ends, Fault}
+use Rattle.frames.specs.Reading.{Carries}
+use Rattle.frames.proofs.Heads.{head_limit}
+use Rattle.frames.proofs.Streams.{first_whole, first_bad}
+use Rattle.frames.proofs.reader.first.Goals as goal
+
+pub frame_of-requires : goal.frame_of-requires
+frame_of-requires c =
+    let head : head_of c.args.bytes.now ≡ Whole c.in-Whole.kind c.in-Whole.len = sym c.read_head.ensures ∙ c.in-Whole.is in
+    ap (may_have c.in-Whole.kind) c.split_at-in-Whole.ensures.front_len ∙ (head_limit c.args.bytes.now c.in-Whole.kind c.in-Whole.len head).0
+
+pub returns-in-Err : goal.returns-in-Err
+returns-in-Err c = λ other.
+    let b = c.args.bytes.now in
+    let k = c.in-Whole.kind in
+    let n = c.in-Whole.len in
+    let head : head_of b ≡ Whole k n = sym c.read_head.ensures ∙ c.in-Whole.is in
+    let front = c.split_at-in-Whole.ensures.front ∙ ap (take n) c.split_at.ensures.back in
+    let back = c.split_at-in-Whole.ensures.back ∙ ap (drop n) c.split_at.ensures.back in
+    let long : 5 + n ≤ length b = omega (arith, c.if-bytes-len.false, (head_limit b k n head).1) in
+    let d = c.in-Err.ensures other in
+    subst (λ f. Ends b (Fault f)) (sym d.0) (first_bad b k n head long (subst (λ p. (f : Frame) → Carries k p f → ⊥) front d.1))
+
+pub returns-in-Ok : goal.returns-in-Ok
+returns-in-Ok c =
+    let b = c.args.bytes.now in
+    let k = c.in-Whole.kind in
+    let n = c.in-Whole.len in
+    let f = c.in-Ok.frame in
+    let head : head_of b ≡ Whole k n = sym c.read_head.ensures ∙ c.in-Whole.is in
+    let front = c.split_at-in-Whole.ensures.front ∙ ap (take n) c.split_at.ensures.back in
+    let back = c.split_at-in-Whole.ensures.back ∙ ap (drop n) c.split_at.ensures.back in
+    let long : 5 + n ≤ length b = omega (arith, c.if-bytes-len.false, (head_limit b k n head).1) in
+    subst (Begins b f) (sym back) (first_whole b k n f (λ i. omega (arith, c.type_inv.bytes i)) head long (subst (λ p. Carries k p f) front c.in-Ok.ensures))

@@ -1,0 +1,21 @@
+-- What a worker found, and what a verdict says.
+use Rattle.std.specs.Prelude.{ℕ}
+use Rattle.frames.specs.declared.answer.Answer.{Answer}
+use Rattle.frames.specs.declared.answer.Answer.TheVariants as answers
+use Rattle.frames.specs.declared.answer.Finding.{Finding}
+use Rattle.frames.specs.declared.answer.Finding.TheVariants.{Refuted, Assignment}
+
+-- the number of an answer in a frame
+abbrev pub answer_number : Answer → ℕ
+answer_number answers.Refuted = 1
+answer_number answers.Assignment = 2
+
+-- which answer a finding has
+abbrev pub answer_of : Finding → Answer
+answer_of (Refuted length) = answers.Refuted
+answer_of (Assignment length) = answers.Assignment
+
+-- how many bytes bear it out
+abbrev pub length_of : Finding → ℕ
+length_of (Refuted length) = length
+length_of (Assignment length) = length

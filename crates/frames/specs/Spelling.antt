@@ -1,0 +1,139 @@
+-- The one spelling of each frame.
+use Rattle.std.specs.Prelude.{ℕ, ◌^◌, ◌<◌, ◌≤◌, ◌%◌, Bool, ◌&&◌, ◌==◌, nat_le, List, [], ◌∷◌, ◌++◌, length, Option, Some, None, if◌then◌else◌}
+use Rattle.std.specs.List.{flat_map}
+use Rattle.std.specs.Int.{w16, w32, w64, to_be_bytes, cast_unsigned}
+use Rattle.dimacs.specs.Literal.{Literal, number_of}
+use Rattle.frames.specs.declared.answer.Answer.{Answer}
+use Rattle.frames.specs.declared.answer.Finding.{Finding}
+use Rattle.frames.specs.declared.answer.Finding.TheVariants.{Refuted, Assignment}
+use Rattle.frames.specs.declared.answer.Outcome.{Outcome}
+use Rattle.frames.specs.declared.answer.Outcome.TheVariants.{Decided, Limit}
+use Rattle.frames.specs.declared.frame.Attempt.{Attempt}
+use Rattle.frames.specs.declared.frame.Frame.{Frame}
+use Rattle.frames.specs.declared.frame.Frame.TheVariants.{Task, Done, Fetch, Piece, Verdict, Want, Part, Idle, Rest}
+use Rattle.frames.specs.declared.frame.Kind.{Kind}
+use Rattle.frames.specs.declared.frame.Kind.TheVariants as kinds
+use Rattle.frames.specs.Answers.{answer_number, answer_of, length_of}
+use Rattle.frames.specs.Cubes.{IsCube}
+
+-- the byte that a frame's first two are
+abbrev pub mark : ℕ
+mark = 67
+
+abbrev pub kind_number : Kind → ℕ
+kind_number kinds.Task = 1
+kind_number kinds.Done = 2
+kind_number kinds.Fetch = 3
+kind_number kinds.Piece = 4
+kind_number kinds.Verdict = 5
+kind_number kinds.Want = 6
+kind_number kinds.Part = 7
+kind_number kinds.Idle = 8
+kind_number kinds.Rest = 9
+
+-- the kind of a number
+abbrev pub kind_at : ℕ → Option Kind
+kind_at n =
+    if n == 1 then Some kinds.Task else
+    if n == 2 then Some kinds.Done else
+    if n == 3 then Some kinds.Fetch else
+    if n == 4 then Some kinds.Piece else
+    if n == 5 then Some kinds.Verdict else
+    if n == 6 then Some kinds.Want else
+    if n == 7 then Some kinds.Part else
+    if n == 8 then Some kinds.Idle else
+    if n == 9 then Some kinds.Rest else None
+
+abbrev pub kind_of : Frame → Kind
+kind_of (Task session job limit cube) = kinds.Task
+kind_of (Done attempt outcome) = kinds.Done
+kind_of (Fetch attempt offset) = kinds.Fetch
+kind_of (Piece attempt offset bytes) = kinds.Piece
+kind_of (Verdict session finding) = kinds.Verdict
+kind_of (Want session worker offset) = kinds.Want
+kind_of (Part session answer offset bytes) = kinds.Part
+kind_of (Idle worker incarnation) = kinds.Idle
+kind_of Rest = kinds.Rest
+
+-- whether a payload of this kind may have this length
+abbrev pub may_have : Kind → ℕ → Bool
+may_have kinds.Task n = nat_le 24 n && (nat_le n 280 && n % 4 == 0)
+may_have kinds.Done n = n == 33
+may_have kinds.Fetch n = n == 32
+may_have kinds.Piece n = nat_le 33 n && nat_le n 4032
+may_have kinds.Verdict n = n == 13
+may_have kinds.Want n = n == 16
+may_have kinds.Part n = nat_le 14 n && nat_le n 4013
+may_have kinds.Idle n = n == 12
+may_have kinds.Rest n = n == 0
+
+-- a literal's number in 32 bits, in two's complement
+abbrev pub literal_bytes : Literal → List ℕ
+literal_bytes l = to_be_bytes w32 (cast_unsigned w32 (number_of l))
+
+abbrev pub attempt_bytes : Attempt → List ℕ
+attempt_bytes a = to_be_bytes w64 a.session ++ to_be_bytes w64 a.job ++ to_be_bytes w32 a.worker ++ to_be_bytes w64 a.incarnation
+
+abbrev pub answer_bytes : Answer → List ℕ
+answer_bytes a = answer_number a ∷ []
+
+-- the answer's number, and the length
+abbrev pub finding_bytes : Finding → List ℕ
+finding_bytes f = answer_number (answer_of f) ∷ to_be_bytes w32 (length_of f)
+
+abbrev pub outcome_bytes : Outcome → List ℕ
+outcome_bytes (Decided f) = finding_bytes f
+outcome_bytes Limit = 3 ∷ to_be_bytes w32 0
+
+-- the fields of a frame, in order
+abbrev pub payload : Frame → List ℕ
+payload (Task session job limit cube) = to_be_bytes w64 session ++ to_be_bytes w64 job ++ to_be_bytes w64 limit ++ flat_map literal_bytes cube
+payload (Done attempt outcome) = attempt_bytes attempt ++ outcome_bytes outcome
+payload (Fetch attempt offset) = attempt_bytes attempt ++ to_be_bytes w32 offset
+payload (Piece attempt offset bytes) = attempt_bytes attempt ++ to_be_bytes w32 offset ++ bytes
+payload (Verdict session finding) = to_be_bytes w64 session ++ finding_bytes finding
+payload (Want session worker offset) = to_be_bytes w64 session ++ to_be_bytes w32 worker ++ to_be_bytes w32 offset
+payload (Part session answer offset bytes) = to_be_bytes w64 session ++ answer_number answer ∷ to_be_bytes w32 offset ++ bytes
+payload (Idle worker incarnation) = to_be_bytes w32 worker ++ to_be_bytes w64 incarnation
+payload Rest = []
+
+-- the spelling of a frame: two marks, the kind, the payload's length in two bytes, the payload; numbers are big-endian
+abbrev pub FrameBytes : Frame → List ℕ
+FrameBytes f = mark ∷ mark ∷ kind_number (kind_of f) ∷ to_be_bytes w16 (length (payload f)) ++ payload f
+
+abbrev pub IsWorker : ℕ → Type 0
+IsWorker n = (1 ≤ n) × (n ≤ 64)
+
+pub record IsAttempt (a : Attempt) : Type 0 where
+  pub session : a.session < 2 ^ 64
+  pub job : a.job < 2 ^ 64
+  pub worker : IsWorker a.worker
+  pub incarnation : a.incarnation < 2 ^ 64
+
+-- either answer is right
+abbrev pub IsAnswer : Answer → Type 0
+IsAnswer a = Unit {0}
+
+-- a proof has a byte at least
+abbrev pub IsFinding : Finding → Type 0
+IsFinding (Refuted length) = (1 ≤ length) × (length < 2 ^ 32)
+IsFinding (Assignment length) = length < 2 ^ 32
+
+abbrev pub IsOutcome : Outcome → Type 0
+IsOutcome (Decided f) = IsFinding f
+IsOutcome Limit = Unit {0}
+
+abbrev pub IsChunk : List ℕ → Type 0
+IsChunk bytes = (1 ≤ length bytes) × (length bytes ≤ 4000)
+
+-- what each field may be; each value of the code's type is such a frame
+abbrev pub IsRight : Frame → Type 0
+IsRight (Task session job limit cube) = (session < 2 ^ 64) × (job < 2 ^ 64) × (limit < 2 ^ 64) × IsCube cube
+IsRight (Done attempt outcome) = IsAttempt attempt × IsOutcome outcome
+IsRight (Fetch attempt offset) = IsAttempt attempt × (offset < 2 ^ 32)
+IsRight (Piece attempt offset bytes) = IsAttempt attempt × (offset < 2 ^ 32) × IsChunk bytes
+IsRight (Verdict session finding) = (session < 2 ^ 64) × IsFinding finding
+IsRight (Want session worker offset) = (session < 2 ^ 64) × IsWorker worker × (offset < 2 ^ 32)
+IsRight (Part session answer offset bytes) = (session < 2 ^ 64) × (offset < 2 ^ 32) × IsChunk bytes
+IsRight (Idle worker incarnation) = IsWorker worker × (incarnation < 2 ^ 64)
+IsRight Rest = Unit {0}

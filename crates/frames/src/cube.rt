@@ -1,0 +1,105 @@
+//! Cubes: what a task takes as given.
+
+ghost use Rattle.std.specs.Prelude.{◌≡◌, ◌≤◌, ◌<◌, [], ◌∷◌, ◌++◌, length, IfOk, OnOk, OnErr, IsTrue, ◌↔◌};
+ghost use Rattle.std.specs.List.{list_any};
+ghost use Rattle.frames.specs.Cubes.{IsCube, names, takes};
+
+use dimacs::Lit;
+use std::alloc::{AllocError, Global};
+use std::marker::Model;
+
+/// Literals that are taken as true together, in their order: at most 64, of variables up to 2,000,000, no variable twice.
+#[derive(Debug, Drop)]
+pub struct Cube {
+    literals: Vec<Lit>,
+}
+
+impl Model for Cube {
+    ghost use Rattle.std.specs.Prelude.{List};
+    ghost use Rattle.dimacs.specs.Literal.{Literal};
+    ghost use Rattle.frames.specs.Cubes.{IsCube};
+
+    ghost Value = { List Literal };
+
+    ghost view = { λ c. c.literals.items };
+
+    ghost invariant = { λ c. IsCube c.literals.items };
+}
+
+impl Cube {
+    /// The most literals.
+    pub const LONGEST: usize = 64;
+
+    /// The greatest variable that a cube may name.
+    pub const VARIABLES: u32 = 2000000;
+
+    /// The cube of no literal.
+    pub fn new(alloc: Global) -> Cube
+        ensures { result ≡ [] }
+    {
+        Cube {
+            literals: Vec::new(alloc),
+        }
+    }
+
+    /// Whether the literal may be put at the end: there is room, its variable is at most 2,000,000 and is not named yet.
+    pub fn takes(&self, literal: Lit) -> bool
+        ensures { result ≡ takes self.now literal }
+    {
+        self.literals.len() < Cube::LONGEST
+            && literal.var().number() <= Cube::VARIABLES
+            && !has_variable(&self.literals, literal.var().number())
+    }
+
+    /// Puts a literal at the end. Want of memory leaves the cube as it was.
+    pub fn push(&mut self, literal: Lit) -> Result<(), AllocError>
+        requires { IsTrue (takes self.old literal) }
+        ensures ok { OnOk result (self.new ≡ self.old ++ literal ∷ []) }
+        ensures err { OnErr result (self.new ≡ self.old) }
+    {
+        // That a variable is at least 1, which the cube keeps.
+        let _ = literal.var().number();
+        self.literals.push(literal)?;
+        Ok(())
+    }
+
+    /// An equal cube.
+    pub fn copy(&self, alloc: Global) -> Result<Cube, AllocError>
+        ensures { IfOk result (λ c. c ≡ self.now) }
+    {
+        let literals = Vec::from_slice(alloc, &self.literals)?;
+        Ok(Cube { literals })
+    }
+
+    /// How many literals, at most 64.
+    #[inline]
+    pub fn len(&self) -> usize
+        ensures value { result ≡ length self.now }
+        ensures below { result ≤ 64 }
+    {
+        self.literals.len()
+    }
+
+    /// Whether it has no literal.
+    #[inline]
+    pub fn is_empty(&self) -> bool
+        ensures { IsTrue result ↔ (length self.now ≡ 0) }
+    {
+        self.literals.is_empty()
+    }
+
+    /// Its literals, in their order.
+    #[inline]
+    pub fn as_slice(&self) -> &[Lit]
+        ensures value { result.now ≡ self.now }
+        ensures cube { IsCube self.now }
+    {
+        self.literals.as_slice()
+    }
+}
+
+fn has_variable(literals: &[Lit], variable: u32) -> bool
+    ensures { result ≡ list_any (names variable) literals.now }
+{
+    literals.iter().any(|l| l.var().number() == variable)
+}

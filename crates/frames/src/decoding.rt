@@ -1,0 +1,163 @@
+//! Frames from their payloads.
+
+ghost use Rattle.std.specs.Prelude.{◌≡◌, ◌≤◌, ◌%◌, length, true};
+ghost use Rattle.frames.specs.Spelling.{may_have};
+ghost use Rattle.frames.specs.Reading.{Decodes};
+
+use crate::chunk::Chunk;
+use crate::fault::FrameFault;
+use crate::fields::{
+    answer_at, attempt_at, cube_of, finding_of, outcome_of, u32_at, u64_at, worker_at,
+};
+use crate::frame::{Frame, Kind};
+use std::alloc::Global;
+
+fn task_of(alloc: Global, payload: &[u8]) -> Result<Frame, FrameFault>
+    requires long { 24 ≤ length payload.now }
+    requires fours { length payload.now % 4 ≡ 0 }
+    ensures { Decodes Kind.Task payload.now result }
+{
+    let (session, rest) = u64_at(payload);
+    let (job, rest) = u64_at(rest);
+    let (limit, rest) = u64_at(rest);
+    match cube_of(alloc, rest) {
+        Err(fault) => Err(fault),
+        Ok(cube) => Ok(Frame::Task {
+            session,
+            job,
+            limit,
+            cube,
+        }),
+    }
+}
+
+fn done_of(payload: &[u8]) -> Result<Frame, FrameFault>
+    requires { length payload.now ≡ 33 }
+    ensures { Decodes Kind.Done payload.now result }
+{
+    let Some((attempt, rest)) = attempt_at(payload) else {
+        return Err(FrameFault::BadField);
+    };
+    let Some(outcome) = outcome_of(rest) else {
+        return Err(FrameFault::BadField);
+    };
+    Ok(Frame::Done { attempt, outcome })
+}
+
+fn fetch_of(payload: &[u8]) -> Result<Frame, FrameFault>
+    requires { length payload.now ≡ 32 }
+    ensures { Decodes Kind.Fetch payload.now result }
+{
+    let Some((attempt, rest)) = attempt_at(payload) else {
+        return Err(FrameFault::BadField);
+    };
+    let (offset, _) = u32_at(rest);
+    Ok(Frame::Fetch { attempt, offset })
+}
+
+fn piece_of(alloc: Global, payload: &[u8]) -> Result<Frame, FrameFault>
+    requires above { 33 ≤ length payload.now }
+    requires below { length payload.now ≤ 4032 }
+    ensures { Decodes Kind.Piece payload.now result }
+{
+    let Some((attempt, rest)) = attempt_at(payload) else {
+        return Err(FrameFault::BadField);
+    };
+    let (offset, rest) = u32_at(rest);
+    match Chunk::from_slice(alloc, rest) {
+        Err(_) => Err(FrameFault::NoMemory),
+        Ok(bytes) => Ok(Frame::Piece {
+            attempt,
+            offset,
+            bytes,
+        }),
+    }
+}
+
+fn verdict_of(payload: &[u8]) -> Result<Frame, FrameFault>
+    requires { length payload.now ≡ 13 }
+    ensures { Decodes Kind.Verdict payload.now result }
+{
+    let (session, rest) = u64_at(payload);
+    let Some(finding) = finding_of(rest) else {
+        return Err(FrameFault::BadField);
+    };
+    Ok(Frame::Verdict { session, finding })
+}
+
+fn want_of(payload: &[u8]) -> Result<Frame, FrameFault>
+    requires { length payload.now ≡ 16 }
+    ensures { Decodes Kind.Want payload.now result }
+{
+    let (session, rest) = u64_at(payload);
+    let Some((worker, rest)) = worker_at(rest) else {
+        return Err(FrameFault::BadField);
+    };
+    let (offset, _) = u32_at(rest);
+    Ok(Frame::Want {
+        session,
+        worker,
+        offset,
+    })
+}
+
+fn part_of(alloc: Global, payload: &[u8]) -> Result<Frame, FrameFault>
+    requires above { 14 ≤ length payload.now }
+    requires below { length payload.now ≤ 4013 }
+    ensures { Decodes Kind.Part payload.now result }
+{
+    let (session, rest) = u64_at(payload);
+    let Some((answer, rest)) = answer_at(rest) else {
+        return Err(FrameFault::BadField);
+    };
+    let (offset, rest) = u32_at(rest);
+    match Chunk::from_slice(alloc, rest) {
+        Err(_) => Err(FrameFault::NoMemory),
+        Ok(bytes) => Ok(Frame::Part {
+            session,
+            answer,
+            offset,
+            bytes,
+        }),
+    }
+}
+
+fn idle_of(payload: &[u8]) -> Result<Frame, FrameFault>
+    requires { length payload.now ≡ 12 }
+    ensures { Decodes Kind.Idle payload.now result }
+{
+    let Some((worker, rest)) = worker_at(payload) else {
+        return Err(FrameFault::BadField);
+    };
+    let (incarnation, _) = u64_at(rest);
+    Ok(Frame::Idle {
+        worker,
+        incarnation,
+    })
+}
+
+fn rest_of(payload: &[u8]) -> Result<Frame, FrameFault>
+    requires { length payload.now ≡ 0 }
+    ensures { Decodes Kind.Rest payload.now result }
+{
+    let _ = payload;
+    Ok(Frame::Rest)
+}
+
+/// The frame of this kind with this payload. A payload with a field that is not right is `BadField`.
+pub(crate) fn frame_of(alloc: Global, kind: Kind, payload: &[u8]) -> Result<Frame, FrameFault>
+    requires { may_have kind (length payload.now) ≡ true }
+    ensures { Decodes kind payload.now result }
+{
+    match kind {
+        Kind::Task => task_of(alloc, payload),
+        Kind::Done => done_of(payload),
+        Kind::Fetch => fetch_of(payload),
+        Kind::Piece => piece_of(alloc, payload),
+        Kind::Verdict => verdict_of(payload),
+        Kind::Want => want_of(payload),
+        Kind::Part => part_of(alloc, payload),
+        Kind::Idle => idle_of(payload),
+        Kind::Rest => rest_of(payload),
+    }
+}

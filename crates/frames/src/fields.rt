@@ -1,0 +1,158 @@
+//! Fields, as they are read from the front of a payload.
+
+ghost use Rattle.std.specs.Prelude.{◌≡◌, ◌≢◌, ◌+◌, ◌*◌, ◌%◌, ◌≤◌, ◌<◌, ◌^◌, ◌++◌, length, take, drop, MatchOption, MatchResult};
+ghost use Rattle.std.specs.Int.{w32, w64, to_be_bytes, from_be_bytes};
+ghost use Rattle.std.specs.List.{flat_map};
+ghost use Rattle.dimacs.specs.Literal.{Literal};
+ghost use Rattle.frames.specs.Cubes.{IsCube};
+ghost use Rattle.frames.specs.Spelling.{attempt_bytes, answer_bytes, finding_bytes, outcome_bytes, literal_bytes, IsWorker, IsAttempt, IsAnswer, IsFinding, IsOutcome};
+ghost use Rattle.frames.specs.Reading.{StandsAt, NoneStandsAt, IsSpelled, SpellsNone, IsWord, NotRead};
+
+use crate::answer::{Answer, Finding, Outcome, ProofLength};
+use crate::cube::Cube;
+use crate::fault::FrameFault;
+use crate::frame::Attempt;
+use crate::worker::Worker;
+use dimacs::{Lit, Var};
+use std::alloc::Global;
+
+/// The number in the first four bytes, and the rest.
+pub(crate) fn u32_at(bytes: &[u8]) -> (u32, &[u8])
+    requires { 4 ≤ length bytes.now }
+    ensures parts { bytes.now ≡ to_be_bytes w32 result.0 ++ result.1.now }
+    ensures fits { result.0 < 2 ^ 32 }
+    ensures rest { result.1.now ≡ drop 4 bytes.now }
+{
+    let (front, rest) = bytes.split_at(4);
+    let number = u32::from_be_bytes([front[0], front[1], front[2], front[3]]);
+    (number, rest)
+}
+
+/// The number in the first eight bytes, and the rest.
+pub(crate) fn u64_at(bytes: &[u8]) -> (u64, &[u8])
+    requires { 8 ≤ length bytes.now }
+    ensures parts { bytes.now ≡ to_be_bytes w64 result.0 ++ result.1.now }
+    ensures fits { result.0 < 2 ^ 64 }
+    ensures rest { result.1.now ≡ drop 8 bytes.now }
+{
+    let (front, rest) = bytes.split_at(8);
+    let number = u64::from_be_bytes([
+        front[0], front[1], front[2], front[3], front[4], front[5], front[6], front[7],
+    ]);
+    (number, rest)
+}
+
+/// The number of a worker, and the rest.
+pub(crate) fn worker_at(bytes: &[u8]) -> Option<(Worker, &[u8])>
+    requires { 4 ≤ length bytes.now }
+    ensures { MatchOption result (NoneStandsAt (to_be_bytes w32) IsWorker bytes.now) (λ r. StandsAt (to_be_bytes w32) IsWorker bytes.now r.0 r.1.now) }
+{
+    let (number, rest) = u32_at(bytes);
+    if 1 <= number && number <= 64 {
+        Some((Worker::new(number), rest))
+    } else {
+        None
+    }
+}
+
+/// An attempt, and the rest.
+pub(crate) fn attempt_at(bytes: &[u8]) -> Option<(Attempt, &[u8])>
+    requires { 28 ≤ length bytes.now }
+    ensures { MatchOption result (NoneStandsAt attempt_bytes IsAttempt bytes.now) (λ r. StandsAt attempt_bytes IsAttempt bytes.now r.0 r.1.now) }
+{
+    let (session, rest) = u64_at(bytes);
+    let (job, rest) = u64_at(rest);
+    match worker_at(rest) {
+        None => None,
+        Some((worker, rest)) => {
+            let (incarnation, rest) = u64_at(rest);
+            let attempt = Attempt {
+                session,
+                job,
+                worker,
+                incarnation,
+            };
+            Some((attempt, rest))
+        }
+    }
+}
+
+/// An answer, and the rest.
+pub(crate) fn answer_at(bytes: &[u8]) -> Option<(Answer, &[u8])>
+    requires { 1 ≤ length bytes.now }
+    ensures { MatchOption result (NoneStandsAt answer_bytes IsAnswer bytes.now) (λ r. StandsAt answer_bytes IsAnswer bytes.now r.0 r.1.now) }
+{
+    match bytes {
+        [1, rest @ ..] => Some((Answer::Refuted, rest)),
+        [2, rest @ ..] => Some((Answer::Assignment, rest)),
+        _ => None,
+    }
+}
+
+/// The finding that five bytes spell.
+pub(crate) fn finding_of(bytes: &[u8]) -> Option<Finding>
+    requires { length bytes.now ≡ 5 }
+    ensures { MatchOption result (SpellsNone finding_bytes IsFinding bytes.now) (λ f. IsSpelled finding_bytes IsFinding bytes.now f) }
+{
+    let number = bytes[0];
+    let (length, _) = u32_at(&bytes[1..]);
+    if number == 1 && 1 <= length {
+        let length = ProofLength::new(length);
+        return Some(Finding::Refuted { length });
+    }
+    if number == 2 {
+        return Some(Finding::Assignment { length });
+    }
+    None
+}
+
+/// The outcome that five bytes spell.
+pub(crate) fn outcome_of(bytes: &[u8]) -> Option<Outcome>
+    requires { length bytes.now ≡ 5 }
+    ensures { MatchOption result (SpellsNone outcome_bytes IsOutcome bytes.now) (λ o. IsSpelled outcome_bytes IsOutcome bytes.now o) }
+{
+    let number = bytes[0];
+    let (length, _) = u32_at(&bytes[1..]);
+    if number == 3 && length == 0 {
+        return Some(Outcome::Limit);
+    }
+    match finding_of(bytes) {
+        None => None,
+        Some(finding) => Some(Outcome::Decided(finding)),
+    }
+}
+
+/// The literal that a number in two's complement stands for, where a cube may name its variable.
+fn literal_from(word: u32) -> Option<Lit>
+    ensures { MatchOption result ((l : Literal) → IsWord word l → ⊥) (λ l. IsWord word l) }
+{
+    if 1 <= word && word <= Cube::VARIABLES {
+        return Some(Lit::positive(Var::new(word)));
+    }
+    let negated = u32::MAX - word;
+    if negated < Cube::VARIABLES {
+        return Some(Lit::negative(Var::new(negated + 1)));
+    }
+    None
+}
+
+/// The cube that the bytes spell.
+pub(crate) fn cube_of(alloc: Global, bytes: &[u8]) -> Result<Cube, FrameFault>
+    requires { length bytes.now % 4 ≡ 0 }
+    ensures { MatchResult result (λ c. IsSpelled (flat_map literal_bytes) IsCube bytes.now c) (λ e. NotRead e (SpellsNone (flat_map literal_bytes) IsCube bytes.now)) }
+{
+    let mut cube = Cube::new(alloc);
+    let mut rest = bytes;
+    while !rest.is_empty() {
+        let (word, after) = u32_at(rest);
+        let Some(literal) = literal_from(word) else {
+            return Err(FrameFault::BadField);
+        };
+        if !cube.takes(literal) {
+            return Err(FrameFault::BadField);
+        }
+        cube.push(literal)?;
+        rest = after;
+    }
+    Ok(cube)
+}

@@ -1,0 +1,159 @@
+//! Frames: the messages between a coordinator and its workers.
+
+ghost use Rattle.std.specs.Prelude.{◌≡◌};
+ghost use Rattle.frames.specs.Spelling.{kind_number, kind_at, kind_of, may_have};
+
+use crate::answer::{Answer, Finding, Outcome};
+use crate::chunk::Chunk;
+use crate::cube::Cube;
+use crate::worker::Worker;
+
+/// One worker at one job: a number of a job is never given twice in a session, and a worker that starts anew has
+/// another incarnation.
+#[derive(Clone, Copy, Debug, PartialEq, Eq)]
+pub struct Attempt {
+    pub session: u64,
+    pub job: u64,
+    pub worker: Worker,
+    pub incarnation: u64,
+}
+
+/// A message. Each value has right fields, so each has one spelling, and each spelling is of one frame.
+#[derive(Debug, Drop)]
+pub enum Frame {
+    /// To a worker: search below this cube, with this limit.
+    Task {
+        session: u64,
+        job: u64,
+        limit: u64,
+        cube: Cube,
+    },
+    /// To the coordinator: how the search ended.
+    Done {
+        attempt: Attempt,
+        outcome: Outcome,
+    },
+    /// To a worker: send what bears out your answer, from this byte on.
+    Fetch {
+        attempt: Attempt,
+        offset: u32,
+    },
+    /// To the coordinator: bytes of an answer, from this one on.
+    Piece {
+        attempt: Attempt,
+        offset: u32,
+        bytes: Chunk,
+    },
+    /// To a worker: the formula is decided.
+    Verdict {
+        session: u64,
+        finding: Finding,
+    },
+    /// To the coordinator: send the verdict's bytes, from this one on.
+    Want {
+        session: u64,
+        worker: Worker,
+        offset: u32,
+    },
+    /// To a worker: bytes of a verdict, from this one on.
+    Part {
+        session: u64,
+        answer: Answer,
+        offset: u32,
+        bytes: Chunk,
+    },
+    /// To the coordinator: this worker has nothing to do.
+    Idle {
+        worker: Worker,
+        incarnation: u64,
+    },
+    /// To a worker: there is nothing to do.
+    Rest,
+}
+
+/// The kind of a frame.
+#[derive(Clone, Copy, Debug, PartialEq, Eq)]
+pub enum Kind {
+    Task,
+    Done,
+    Fetch,
+    Piece,
+    Verdict,
+    Want,
+    Part,
+    Idle,
+    Rest,
+}
+
+impl Kind {
+    /// Its number in a frame, 1 to 9.
+    pub fn number(self) -> u8
+        ensures { result ≡ kind_number self }
+    {
+        match self {
+            Kind::Task => 1,
+            Kind::Done => 2,
+            Kind::Fetch => 3,
+            Kind::Piece => 4,
+            Kind::Verdict => 5,
+            Kind::Want => 6,
+            Kind::Part => 7,
+            Kind::Idle => 8,
+            Kind::Rest => 9,
+        }
+    }
+
+    /// Whether a payload of this kind may have this length.
+    pub fn may_have(self, len: u16) -> bool
+        ensures { result ≡ may_have self len }
+    {
+        match self {
+            Kind::Task => (24..=280).contains(&len) && len % 4 == 0,
+            Kind::Done => len == 33,
+            Kind::Fetch => len == 32,
+            Kind::Piece => (33..=4032).contains(&len),
+            Kind::Verdict => len == 13,
+            Kind::Want => len == 16,
+            Kind::Part => (14..=4013).contains(&len),
+            Kind::Idle => len == 12,
+            Kind::Rest => len == 0,
+        }
+    }
+
+    /// The kind of this number.
+    pub fn from_number(number: u8) -> Option<Kind>
+        ensures { result ≡ kind_at number }
+    {
+        match number {
+            1 => Some(Kind::Task),
+            2 => Some(Kind::Done),
+            3 => Some(Kind::Fetch),
+            4 => Some(Kind::Piece),
+            5 => Some(Kind::Verdict),
+            6 => Some(Kind::Want),
+            7 => Some(Kind::Part),
+            8 => Some(Kind::Idle),
+            9 => Some(Kind::Rest),
+            _ => None,
+        }
+    }
+}
+
+impl Frame {
+    /// Its kind.
+    pub fn kind(&self) -> Kind
+        ensures { result ≡ kind_of self.now }
+    {
+        match self {
+            Frame::Task { .. } => Kind::Task,
+            Frame::Done { .. } => Kind::Done,
+            Frame::Fetch { .. } => Kind::Fetch,
+            Frame::Piece { .. } => Kind::Piece,
+            Frame::Verdict { .. } => Kind::Verdict,
+            Frame::Want { .. } => Kind::Want,
+            Frame::Part { .. } => Kind::Part,
+            Frame::Idle { .. } => Kind::Idle,
+            Frame::Rest => Kind::Rest,
+        }
+    }
+}

@@ -1,0 +1,129 @@
+//! What holds of all frames and streams.
+
+ghost use Rattle.std.specs.Prelude.{◌≡◌, List, ℕ, ◌++◌, ◌<◌, ◌^◌};
+ghost use Rattle.frames.specs.declared.frame.Frame.{Frame};
+ghost use Rattle.frames.specs.Spelling.{FrameBytes, IsRight, IsAttempt, IsFinding, IsOutcome};
+ghost use Rattle.frames.specs.Stream.{End, Stream};
+
+use crate::answer::{Finding, Outcome};
+use crate::frame::{Attempt, Frame};
+
+/// No spelling begins another: each frame has one spelling, and each spelling is of one frame.
+pub fn no_spelling_begins_another()
+    ensures same { (f g : Frame) (a b : List ℕ) → IsRight f → IsRight g → FrameBytes f ++ a ≡ FrameBytes g ++ b → (f ≡ g) × (a ≡ b) }
+{}
+
+/// The bytes of a stream settle its frames and its end.
+pub fn one_reading()
+    ensures same { (bytes : List ℕ) (fs gs : List Frame) (d e : End) → Stream bytes fs d → Stream bytes gs e → (fs ≡ gs) × (d ≡ e) }
+{}
+
+/// Each value of the type has right fields.
+pub fn right_fields(frame: &Frame)
+    ensures { IsRight frame.now }
+{
+    match frame {
+        Frame::Task {
+            session,
+            job,
+            limit,
+            cube,
+        } => {
+            fits_64(*session);
+            fits_64(*job);
+            fits_64(*limit);
+            let _ = cube.as_slice();
+        }
+        Frame::Done { attempt, outcome } => {
+            right_attempt(attempt);
+            right_outcome(outcome);
+        }
+        Frame::Fetch { attempt, offset } => {
+            right_attempt(attempt);
+            fits_32(*offset);
+        }
+        Frame::Piece {
+            attempt,
+            offset,
+            bytes,
+        } => {
+            right_attempt(attempt);
+            fits_32(*offset);
+            let _ = bytes.len();
+        }
+        Frame::Verdict { session, finding } => {
+            fits_64(*session);
+            right_finding(finding);
+        }
+        Frame::Want {
+            session,
+            worker,
+            offset,
+        } => {
+            fits_64(*session);
+            fits_32(*offset);
+            let _ = worker.number();
+        }
+        Frame::Part {
+            session,
+            offset,
+            bytes,
+            ..
+        } => {
+            fits_64(*session);
+            fits_32(*offset);
+            let _ = bytes.len();
+        }
+        Frame::Idle {
+            worker,
+            incarnation,
+        } => {
+            fits_64(*incarnation);
+            let _ = worker.number();
+        }
+        Frame::Rest => {}
+    }
+}
+
+fn right_attempt(attempt: &Attempt)
+    ensures { IsAttempt attempt.now }
+{
+    fits_64(attempt.session);
+    fits_64(attempt.job);
+    fits_64(attempt.incarnation);
+    let _ = attempt.worker.number();
+}
+
+fn right_finding(finding: &Finding)
+    ensures { IsFinding finding.now }
+{
+    match finding {
+        Finding::Refuted { length } => {
+            fits_32(length.bytes());
+        }
+        Finding::Assignment { length } => {
+            fits_32(*length);
+        }
+    }
+}
+
+fn right_outcome(outcome: &Outcome)
+    ensures { IsOutcome outcome.now }
+{
+    match outcome {
+        Outcome::Decided(finding) => right_finding(finding),
+        Outcome::Limit => {}
+    }
+}
+
+fn fits_64(number: u64)
+    ensures { number < 2 ^ 64 }
+{
+    let _ = number;
+}
+
+fn fits_32(number: u32)
+    ensures { number < 2 ^ 32 }
+{
+    let _ = number;
+}

@@ -1,0 +1,30 @@
+//! Frames: the messages between the nodes of a cluster, their one spelling in bytes, and the reader that takes a stream
+//! of bytes in any pieces. `docs/FRAMES.md` has the format.
+#![tactic(auto)]
+
+mod answer;
+mod chunk;
+mod cube;
+mod decoding;
+mod encoding;
+mod fault;
+mod fields;
+mod frame;
+mod head;
+mod laws;
+mod reader;
+mod worker;
+
+pub use answer::{Answer, Finding, Outcome, ProofLength};
+pub use chunk::Chunk;
+pub use cube::Cube;
+pub use encoding::{encode, len};
+pub use fault::FrameFault;
+pub use frame::{Attempt, Frame, Kind};
+pub use head::Head;
+pub use laws::{no_spelling_begins_another, one_reading, right_fields};
+pub use reader::{Reader, read_pieces};
+pub use worker::Worker;
+
+#[cfg(test)]
+mod tests;

@@ -1,0 +1,187 @@
+use super::*;
+use dimacs::{Lit, Var};
+use std::alloc::Global;
+use std::process::Abort;
+use std::test::Fail;
+
+const TASK: [u8; 37] = [
+    0x43, 0x43, 0x01, 0x00, 0x20, 0, 0, 0, 0, 0, 0, 0, 1, 0, 0, 0, 0, 0, 0, 0, 2, 0, 0, 0, 0, 0, 0,
+    0, 3, 0, 0, 0, 1, 0xFF, 0xFF, 0xFF, 0xFE,
+];
+
+const DONE: [u8; 38] = [
+    0x43, 0x43, 0x02, 0x00, 0x21, 0, 0, 0, 0, 0, 0, 0, 1, 0, 0, 0, 0, 0, 0, 0, 1, 0, 0, 0, 1, 0, 0,
+    0, 0, 0, 0, 0, 1, 2, 0, 0, 0, 2,
+];
+
+const WANT: [u8; 21] = [
+    0x43, 0x43, 0x06, 0x00, 0x10, 0, 0, 0, 0, 0, 0, 0, 1, 0, 0, 0, 2, 0, 0, 0x0F, 0xA0,
+];
+
+const IDLE: [u8; 17] = [
+    0x43, 0x43, 0x08, 0x00, 0x0C, 0, 0, 0, 64, 0, 0, 0, 0, 0, 0, 0, 7,
+];
+
+const REST: [u8; 5] = [0x43, 0x43, 0x09, 0, 0];
+
+/// Whether a frame is spelled so.
+fn is_spelled(frame: &Frame, bytes: &[u8]) -> bool {
+    let mut out = [0; 4037];
+    let size = len(frame);
+    let written = encode(frame, &mut out);
+    written == size && bytes == &out[..written]
+}
+
+/// Whether the frames' spellings, one after the other, are these bytes.
+fn are_spelled(frames: &[Frame], bytes: &[u8]) -> bool {
+    let mut rest = bytes;
+    for frame in frames {
+        let size = len(frame);
+        if rest.len() < size || !is_spelled(frame, &rest[..size]) {
+            return false;
+        }
+        rest = &rest[size..];
+    }
+    rest.is_empty()
+}
+
+/// Reads a stream whose fault, if it has one, comes with its last byte: cut in two at each place, and byte by byte.
+fn read_in_all_cuttings(
+    rt: &impl Abort,
+    alloc: Global,
+    stream: &[u8],
+    whole: &[u8],
+    wanted: Result<(), FrameFault>,
+) -> Result<(), Fail> {
+    for cut in 0..stream.len() + 1 {
+        let mut reader = Reader::new(alloc)?;
+        let mut frames = Vec::new(alloc);
+        let early = reader.feed(alloc, &stream[..cut], &mut frames);
+        assert_eq!(rt; early, if cut < stream.len() { Ok(()) } else { wanted });
+        assert_eq!(rt; reader.feed(alloc, &stream[cut..], &mut frames), wanted);
+        if wanted.is_err() {
+            assert_eq!(rt; reader.feed(alloc, &REST, &mut frames), wanted);
+        }
+        assert!(rt; are_spelled(&frames, whole), "cut at {cut}");
+    }
+
+    let mut reader = Reader::new(alloc)?;
+    let mut frames = Vec::new(alloc);
+    let mut last = Ok(());
+    for byte in stream {
+        assert_eq!(rt; last, Ok(()));
+        last = reader.feed(alloc, &[*byte], &mut frames);
+    }
+    assert_eq!(rt; last, wanted);
+    assert!(rt; are_spelled(&frames, whole));
+    Ok(())
+}
+
+#[test]
+fn frames_are_read_in_any_cutting(rt: HostRuntime) -> Result<(), Fail> {
+    let alloc = rt.alloc();
+    for spelling in [&TASK[..], &DONE[..], &WANT[..], &IDLE[..], &REST[..]] {
+        read_in_all_cuttings(&rt, alloc, spelling, spelling, Ok(()))?;
+    }
+    let mut all = Vec::new(alloc);
+    for spelling in [&REST[..], &WANT[..], &TASK[..], &DONE[..], &REST[..]] {
+        all.extend_from_slice(spelling)?;
+    }
+    read_in_all_cuttings(&rt, alloc, &all, &all, Ok(()))
+}
+
+#[test]
+fn faults_come_with_their_byte(rt: HostRuntime) -> Result<(), Fail> {
+    let alloc = rt.alloc();
+    let mut no_worker = IDLE;
+    no_worker[8] = 0;
+    let mut worker_65 = IDLE;
+    worker_65[8] = 65;
+    let mut twice = TASK;
+    twice[36] = 0xFF;
+    let mut zero = TASK;
+    zero[32] = 0;
+    let mut limit_with_length = DONE;
+    limit_with_length[33] = 3;
+    let mut fifth_answer = DONE;
+    fifth_answer[33] = 5;
+    for (bytes, fault) in [
+        (&[0x44][..], FrameFault::BadMark),
+        (&[0x43, 0x44][..], FrameFault::BadMark),
+        (&[0x43, 0x43, 0][..], FrameFault::BadKind),
+        (&[0x43, 0x43, 0x0A][..], FrameFault::BadKind),
+        (&[0x43, 0x43, 9, 0, 1][..], FrameFault::BadLength),
+        (&[0x43, 0x43, 1, 0, 26][..], FrameFault::BadLength),
+        (&no_worker[..], FrameFault::BadField),
+        (&worker_65[..], FrameFault::BadField),
+        (&twice[..], FrameFault::BadField),
+        (&zero[..], FrameFault::BadField),
+        (&limit_with_length[..], FrameFault::BadField),
+        (&fifth_answer[..], FrameFault::BadField),
+    ] {
+        read_in_all_cuttings(&rt, alloc, bytes, &[], Err(fault))?;
+        let mut behind = REST.to_vec(alloc)?;
+        behind.extend_from_slice(bytes)?;
+        read_in_all_cuttings(&rt, alloc, &behind, &REST, Err(fault))?;
+    }
+    Ok(())
+}
+
+#[test]
+fn fields_are_written_in_their_places(rt: HostRuntime) -> Result<(), Fail> {
+    let alloc = rt.alloc();
+    let mut cube = Cube::new(alloc);
+    for literal in [Lit::positive(Var::new(1)), Lit::negative(Var::new(2))] {
+        assert!(rt; cube.takes(literal));
+        cube.push(literal)?;
+    }
+    let task = Frame::Task {
+        session: 1,
+        job: 2,
+        limit: 3,
+        cube,
+    };
+    assert!(rt; is_spelled(&task, &TASK));
+    let attempt = Attempt {
+        session: 1,
+        job: 1,
+        worker: Worker::new(1),
+        incarnation: 1,
+    };
+    let outcome = Outcome::Decided(Finding::Assignment { length: 2 });
+    assert!(rt; is_spelled(&Frame::Done { attempt, outcome }, &DONE));
+    let want = Frame::Want {
+        session: 1,
+        worker: Worker::new(2),
+        offset: 4000,
+    };
+    assert!(rt; is_spelled(&want, &WANT));
+    let idle = Frame::Idle {
+        worker: Worker::new(64),
+        incarnation: 7,
+    };
+    assert!(rt; is_spelled(&idle, &IDLE));
+    assert!(rt; is_spelled(&Frame::Rest, &REST));
+    Ok(())
+}
+
+#[test]
+fn the_longest_frames_are_read(rt: HostRuntime) -> Result<(), Fail> {
+    let alloc = rt.alloc();
+    let bytes = Chunk::from_vec(vec![in alloc; 7; 4000]?);
+    let attempt = Attempt {
+        session: u64::MAX,
+        job: 0,
+        worker: Worker::new(3),
+        incarnation: 9,
+    };
+    let piece = Frame::Piece {
+        attempt,
+        offset: u32::MAX,
+        bytes,
+    };
+    let mut stream = vec![in alloc; 0; 4037]?;
+    assert_eq!(rt; len(&piece), 4037);
+    assert_eq!(rt; encode(&piece, &mut stream), 4037);
+    read_in_all_cuttings(&rt, alloc, &stream, &stream, Ok(()))
+}
