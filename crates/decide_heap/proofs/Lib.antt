@@ -1,0 +1,6 @@
+pub mod DecisionLemmas
+pub mod MemberLemmas
+pub mod OrderLemmas
+pub mod PairLemmas
+pub mod RowLemmas
+pub mod ScoreLemmas
