@@ -1,0 +1,7 @@
+pub mod BodyLemmas
+pub mod LeavesLemmas
+pub mod LineLemmas
+pub mod SpanLemmas
+pub mod SpellingLemmas
+pub mod WalkLemmas
+pub mod WritingLemmas

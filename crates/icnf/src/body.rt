@@ -1,0 +1,260 @@
+//! The part of an iCNF text behind its header: clauses, and then cubes.
+
+ghost use Rattle.std.specs.Prelude.{◌≡◌, ◌≢◌, ℤ, ◌+◌, ◌<◌, ◌≤◌, [], ◌∷◌, ◌++◌, length, OnOk, IfOk, bytes_eq, codes};
+ghost use Rattle.dimacs.specs.Capped.{capped};
+ghost use Rattle.dimacs.specs.Literal.{var_of};
+ghost use Rattle.dimacs.specs.Words.{words, words_of};
+ghost use Rattle.icnf.specs.Reading.{Gives, start, begin, read_mark, in_clause, end_cube, literal_in_cube, in_cube, read_number, read_token, read_words, finish};
+
+use crate::fault::{IcnfFault, Kind};
+use crate::tree::Tree;
+use crate::walk::{Stage, Walk};
+use dimacs::number::{Number, signed};
+use dimacs::words::{is_comment, next_word};
+use dimacs::{Builder, Formula, Lit};
+use std::alloc::{AllocError, Global};
+use std::marker::Model;
+
+/// The clauses and the cubes that were read so far.
+#[derive(Drop)]
+pub(crate) struct Body {
+    clauses: Builder,
+    walk: Walk,
+}
+
+impl Model for Body {
+    ghost use Rattle.icnf.specs.ReadState.{ReadState, IsRead};
+
+    ghost Value = { ReadState };
+
+    ghost view = { λ b. record { clauses = b.clauses; walk = b.walk } };
+
+    ghost invariant = { λ b. IsRead (record { clauses = b.clauses; walk = b.walk }) };
+}
+
+fn is_mark(word: &[u8]) -> bool
+    ensures { result ≡ bytes_eq word.now (codes "a") }
+{
+    word == b"a".as_slice()
+}
+
+impl Body {
+    /// Nothing read yet.
+    pub(crate) fn new(alloc: Global) -> Result<Body, AllocError>
+        ensures { IfOk result (λ b. b ≡ start) }
+    {
+        Ok(Body {
+            clauses: Builder::new(alloc)?,
+            walk: Walk::new(alloc),
+        })
+    }
+
+    /// Begins a cube.
+    fn begin(&mut self, line: u64) -> Result<(), IcnfFault>
+        requires missing { self.old.walk.stage ≢ Stage.Complete }
+        requires closed { self.old.clauses.open_clause ≡ [] }
+        ensures { Gives self.new result (begin line self.old) }
+    {
+        if self.walk.cubes() >= 65_536 {
+            return Err(IcnfFault {
+                kind: Kind::AboveLimit,
+                line,
+            });
+        }
+        self.walk.begin();
+        Ok(())
+    }
+
+    /// Reads an `a`.
+    fn read_mark(&mut self, line: u64) -> Result<(), IcnfFault>
+        ensures { Gives self.new result (read_mark line self.old.walk.stage self.old) }
+    {
+        match self.walk.stage() {
+            Stage::Clauses if !self.clauses.is_open() => self.begin(line),
+            Stage::Outside => self.begin(line),
+            Stage::Complete => Err(IcnfFault {
+                kind: Kind::NotATree,
+                line,
+            }),
+            _ => Err(IcnfFault {
+                kind: Kind::BadToken,
+                line,
+            }),
+        }
+    }
+
+    /// Puts a literal at the end of the open clause.
+    fn push(&mut self, literal: Lit) -> Result<(), AllocError>
+        requires clauses { self.old.walk.stage ≡ Stage.Clauses }
+        requires room { self.old.clauses.total < 50000000 }
+        requires within { var_of literal ≤ 1000000 }
+        ensures { OnOk result (self.new ≡ record self.old { clauses = record self.old.clauses { open_clause = self.old.clauses.open_clause ++ literal ∷ []; total = self.old.clauses.total + 1 } }) }
+    {
+        self.clauses.push(literal)?;
+        Ok(())
+    }
+
+    /// Ends the open clause.
+    fn end_clause(&mut self) -> Result<(), AllocError>
+        requires clauses { self.old.walk.stage ≡ Stage.Clauses }
+        requires room { length self.old.clauses.done < 4000000 }
+        ensures { OnOk result (self.new ≡ record self.old { clauses = record self.old.clauses { done = self.old.clauses.done ++ self.old.clauses.open_clause ∷ []; open_clause = [] } }) }
+    {
+        self.clauses.end_clause()?;
+        Ok(())
+    }
+
+    /// Reads a number in a clause.
+    fn in_clause(&mut self, line: u64, number: Number) -> Result<(), IcnfFault>
+        requires { self.old.walk.stage ≡ Stage.Clauses }
+        ensures { (z : ℤ) → number ≡ capped z → Gives self.new result (in_clause line z self.old) }
+    {
+        if self.clauses.len() >= 4_000_000 {
+            return Err(IcnfFault {
+                kind: Kind::AboveLimit,
+                line,
+            });
+        }
+        if number.size == 0 {
+            self.end_clause()?;
+            return Ok(());
+        }
+        if number.size > 1_000_000 || self.clauses.literals() >= 50_000_000 {
+            return Err(IcnfFault {
+                kind: Kind::AboveLimit,
+                line,
+            });
+        }
+        self.push(number.literal())?;
+        Ok(())
+    }
+
+    /// Ends a cube.
+    fn end_cube(&mut self, line: u64) -> Result<(), IcnfFault>
+        requires { self.old.walk.stage ≡ Stage.Inside }
+        ensures { Gives self.new result (end_cube line self.old.walk.forced self.old) }
+    {
+        if !self.walk.may_end() {
+            return Err(IcnfFault {
+                kind: Kind::NotATree,
+                line,
+            });
+        }
+        self.walk.end()?;
+        Ok(())
+    }
+
+    /// Reads a literal in a cube.
+    fn literal_in_cube(&mut self, line: u64, literal: Lit) -> Result<(), IcnfFault>
+        requires { self.old.walk.stage ≡ Stage.Inside }
+        ensures { Gives self.new result (literal_in_cube line literal self.old) }
+    {
+        if self.walk.names(literal) {
+            return Err(IcnfFault {
+                kind: Kind::RepeatedVariable,
+                line,
+            });
+        }
+        if !self.walk.fits(literal) {
+            return Err(IcnfFault {
+                kind: Kind::NotATree,
+                line,
+            });
+        }
+        if self.walk.len() >= 64 {
+            return Err(IcnfFault {
+                kind: Kind::CubeTooLong,
+                line,
+            });
+        }
+        self.walk.push(literal)?;
+        Ok(())
+    }
+
+    /// Reads a number in a cube.
+    fn in_cube(&mut self, line: u64, number: Number) -> Result<(), IcnfFault>
+        requires { self.old.walk.stage ≡ Stage.Inside }
+        ensures { (z : ℤ) → number ≡ capped z → Gives self.new result (in_cube line z self.old) }
+    {
+        if number.size == 0 {
+            return self.end_cube(line);
+        }
+        if number.size > self.clauses.greatest() {
+            return Err(IcnfFault {
+                kind: Kind::VariableAboveClauses,
+                line,
+            });
+        }
+        self.literal_in_cube(line, number.literal())
+    }
+
+    /// Reads a number.
+    fn read_number(&mut self, line: u64, number: Number) -> Result<(), IcnfFault>
+        ensures { (z : ℤ) → number ≡ capped z → Gives self.new result (read_number line z self.old.walk.stage self.old) }
+    {
+        match self.walk.stage() {
+            Stage::Clauses => self.in_clause(line, number),
+            Stage::Inside => self.in_cube(line, number),
+            _ => Err(IcnfFault {
+                kind: Kind::ClauseBehindCube,
+                line,
+            }),
+        }
+    }
+
+    /// Reads a token.
+    fn read_token(&mut self, line: u64, word: &[u8]) -> Result<(), IcnfFault>
+        ensures { Gives self.new result (read_token line word.now self.old) }
+    {
+        if is_mark(word) {
+            return self.read_mark(line);
+        }
+        let Some(number) = signed(word) else {
+            return Err(IcnfFault {
+                kind: Kind::BadToken,
+                line,
+            });
+        };
+        self.read_number(line, number)
+    }
+
+    /// Reads the tokens of a line.
+    #[tactic(auto, unfolding(crate::specs::Reading::read_words))]
+    pub(crate) fn read_line(&mut self, line: u64, text: &[u8]) -> Result<(), IcnfFault>
+        ensures { Gives self.new result (read_words line (words_of text.now) self.old) }
+    {
+        if is_comment(text) {
+            return Ok(());
+        }
+        self.read_words(line, text)
+    }
+
+    fn read_words(&mut self, line: u64, text: &[u8]) -> Result<(), IcnfFault>
+        ensures { Gives self.new result (read_words line (words text.now) self.old) }
+    {
+        let mut rest = text;
+        while let Some((word, after)) = next_word(rest) {
+            self.read_token(line, word)?;
+            rest = after;
+        }
+        Ok(())
+    }
+
+    /// The formula and the tree, at the end of a text of that many lines.
+    #[tactic(auto, unfolding(crate::specs::Reading::finish))]
+    pub(crate) fn finish(self, lines: u64) -> Result<(Formula, Tree), IcnfFault>
+        ensures { result ≡ finish lines self }
+    {
+        let Body { clauses, walk } = self;
+        let kind = match walk.stage() {
+            Stage::Complete => {
+                let vars = clauses.greatest();
+                return Ok((clauses.finish(vars), walk.finish()));
+            }
+            Stage::Clauses if !clauses.is_open() => Kind::NotATree,
+            Stage::Outside => Kind::NotATree,
+            _ => Kind::ClauseNotEnded,
+        };
+        Err(IcnfFault { kind, line: lines })
+    }
+}

@@ -1,0 +1,96 @@
+//! Why a text is no formula with cubes.
+
+ghost use Rattle.std.specs.Prelude.{◌≡◌};
+ghost use Rattle.icnf.specs.Faults.{number_of_kind};
+ghost use Rattle.icnf.specs.Reading.{no_memory};
+
+use std::alloc::{AllocError, AllocFailed};
+
+/// What is wrong. The first token that is wrong decides, and of several faults of one token the one that stands first
+/// here, but that the fault `AboveLimit` of a 65,537th cube comes behind `NotATree`.
+#[derive(Clone, Copy, Debug, PartialEq, Eq)]
+pub enum Kind {
+    /// There is no token, or the first one is not `p`.
+    NoHeader,
+    /// The header's line is not `p inccnf`.
+    BadHeader,
+    /// A token is neither a number nor `a`, or is an `a` within a clause or a cube.
+    BadToken,
+    /// A number stands outside a cube, behind the first cube.
+    ClauseBehindCube,
+    /// A variable above 1,000,000, or more than 4,000,000 clauses, 50,000,000 literals of clauses or 65,536 cubes.
+    AboveLimit,
+    /// A cube has a variable above the greatest of the clauses.
+    VariableAboveClauses,
+    /// A cube has two literals of one variable.
+    RepeatedVariable,
+    /// The cubes are not the leaves of one tree: another literal, an end or a cube that cannot come here, or leaves
+    /// that are missing at the end of the text.
+    NotATree,
+    /// A cube has more than 64 literals.
+    CubeTooLong,
+    /// The text ends within a clause or a cube.
+    ClauseNotEnded,
+    /// Memory was refused.
+    NoMemory,
+}
+
+impl Kind {
+    /// The number that stands for it where it is printed, from 1 to 13.
+    pub fn number(self) -> u8
+        ensures { result ≡ number_of_kind self }
+    {
+        match self {
+            Kind::NoHeader => 1,
+            Kind::BadHeader => 2,
+            Kind::BadToken => 3,
+            Kind::VariableAboveClauses => 4,
+            Kind::ClauseNotEnded => 5,
+            Kind::AboveLimit => 8,
+            Kind::NoMemory => 9,
+            Kind::ClauseBehindCube => 10,
+            Kind::RepeatedVariable => 11,
+            Kind::NotATree => 12,
+            Kind::CubeTooLong => 13,
+        }
+    }
+}
+
+/// The first fault of a text, and its line, from 1: the line of the token; of a missing token of the header, the header's
+/// line; at the end of the text, the number of line ends plus 1. Want of memory has line 0.
+#[derive(Clone, Copy, Debug, PartialEq, Eq)]
+pub struct IcnfFault {
+    pub kind: Kind,
+    pub line: u64,
+}
+
+impl IcnfFault {
+    /// The number of its kind.
+    pub fn number(self) -> u8
+        ensures { result ≡ number_of_kind self.kind }
+    {
+        self.kind.number()
+    }
+}
+
+impl From<AllocError> for IcnfFault {
+    ghost from_gives = { λ _ e. e ≡ no_memory };
+
+    fn from(_e: AllocError) -> IcnfFault {
+        IcnfFault {
+            kind: Kind::NoMemory,
+            line: 0,
+        }
+    }
+}
+
+impl<T: Drop> From<AllocFailed<T>> for IcnfFault {
+    ghost from_gives = { λ _ e. e ≡ no_memory };
+
+    fn from(_e: AllocFailed<T>) -> IcnfFault {
+        IcnfFault {
+            kind: Kind::NoMemory,
+            line: 0,
+        }
+    }
+}

@@ -1,0 +1,66 @@
+//! The header line, one token a function.
+
+ghost use Rattle.std.specs.Prelude.{◌≡◌, bytes_eq};
+ghost use Rattle.dimacs.specs.Words.{words};
+ghost use Rattle.icnf.specs.Reading.{read_header, header_two, header_end};
+
+use crate::fault::{IcnfFault, Kind};
+use dimacs::words::next_word;
+
+fn is_word(word: &[u8], text: &[u8]) -> bool
+    ensures { result ≡ bytes_eq word.now text.now }
+{
+    word == text
+}
+
+/// Reads what stands behind the header's two tokens.
+fn end_of_header(line: u64, text: &[u8]) -> Result<(), IcnfFault>
+    ensures { result ≡ header_end line (words text.now) }
+{
+    match next_word(text) {
+        None => Ok(()),
+        Some(_) => Err(IcnfFault {
+            kind: Kind::BadHeader,
+            line,
+        }),
+    }
+}
+
+/// Reads the word `inccnf`.
+fn format_of_header(line: u64, text: &[u8]) -> Result<(), IcnfFault>
+    ensures { result ≡ header_two line (words text.now) }
+{
+    let Some((word, rest)) = next_word(text) else {
+        return Err(IcnfFault {
+            kind: Kind::BadHeader,
+            line,
+        });
+    };
+    if !is_word(word, b"inccnf") {
+        return Err(IcnfFault {
+            kind: Kind::BadHeader,
+            line,
+        });
+    }
+    end_of_header(line, rest)
+}
+
+/// Reads the header's line.
+#[tactic(auto, unfolding(crate::specs::Reading::read_header))]
+pub(crate) fn read_header(line: u64, text: &[u8]) -> Result<(), IcnfFault>
+    ensures { result ≡ read_header line (words text.now) }
+{
+    let Some((word, rest)) = next_word(text) else {
+        return Err(IcnfFault {
+            kind: Kind::BadHeader,
+            line,
+        });
+    };
+    if !is_word(word, b"p") {
+        return Err(IcnfFault {
+            kind: Kind::NoHeader,
+            line,
+        });
+    }
+    format_of_header(line, rest)
+}

@@ -1,0 +1,22 @@
+//! Formulas with cubes: the iCNF text, and the splitting trees whose leaves the cubes are.
+#![tactic(auto)]
+
+mod body;
+mod fault;
+mod header;
+mod laws;
+mod place;
+mod reading;
+mod span;
+mod tree;
+mod walk;
+mod writing;
+
+pub use fault::{IcnfFault, Kind};
+pub use laws::{reading_is_spelling, writing_is_spelling};
+pub use reading::read;
+pub use tree::Tree;
+pub use writing::write;
+
+#[cfg(test)]
+mod tests;

@@ -1,0 +1,75 @@
+//! A formula and a tree as iCNF text.
+
+ghost use Rattle.std.specs.Prelude.{◌≡◌, ◌++◌, OnOk, OnErr, codes};
+ghost use Rattle.std.specs.List.{flat_map};
+ghost use Rattle.dimacs.specs.Building.{greatest_in};
+ghost use Rattle.dimacs.specs.Cnf.{AreWithin};
+ghost use Rattle.dimacs.specs.Spelling.{Begins, clause_line};
+ghost use Rattle.icnf.specs.Spelling.{Spells, cube_line, formula_of, spelling};
+
+use crate::tree::Tree;
+use dimacs::{Formula, Lit, put_clause};
+use std::alloc::AllocError;
+
+fn put(out: &mut Vec<u8>, text: &[u8]) -> Result<(), AllocError>
+    ensures ok { OnOk result (out.new.items ≡ out.old.items ++ text.now) }
+    ensures begins { Begins out.old.items out.new.items }
+{
+    out.extend_from_slice(text)
+}
+
+fn put_cube(out: &mut Vec<u8>, cube: &[Lit]) -> Result<(), AllocError>
+    ensures ok { OnOk result (out.new.items ≡ out.old.items ++ cube_line cube.now) }
+    ensures begins { Begins out.old.items out.new.items }
+{
+    put(out, b"a ")?;
+    put_clause(out, cube)
+}
+
+fn put_clauses(out: &mut Vec<u8>, formula: &Formula) -> Result<(), AllocError>
+    ensures ok { OnOk result (out.new.items ≡ out.old.items ++ flat_map clause_line formula.now.clauses) }
+    ensures begins { Begins out.old.items out.new.items }
+{
+    for i in 0..formula.len() {
+        put_clause(out, formula.clause(i))?;
+    }
+    Ok(())
+}
+
+fn put_cubes(out: &mut Vec<u8>, tree: &Tree) -> Result<(), AllocError>
+    ensures ok { OnOk result (out.new.items ≡ out.old.items ++ flat_map cube_line tree.now) }
+    ensures begins { Begins out.old.items out.new.items }
+{
+    for i in 0..tree.leaves() {
+        put_cube(out, tree.cube(i))?;
+    }
+    Ok(())
+}
+
+fn put_all(out: &mut Vec<u8>, formula: &Formula, tree: &Tree) -> Result<(), AllocError>
+    ensures ok { OnOk result (out.new.items ≡ out.old.items ++ spelling formula.now.clauses tree.now) }
+    ensures begins { Begins out.old.items out.new.items }
+{
+    put(out, b"p inccnf\n")?;
+    put_clauses(out, formula)?;
+    put_cubes(out, tree)
+}
+
+/// Appends a formula and a tree over its variables as iCNF text. The text tells the clauses alone, so a variable above
+/// the greatest of the clauses is not written. Where memory is refused, the bytes are as before.
+pub fn write(formula: &Formula, tree: &Tree, out: &mut Vec<u8>) -> Result<(), AllocError>
+    requires { AreWithin (greatest_in formula.now.clauses) tree.now }
+    ensures ok { OnOk result (out.new.items ≡ out.old.items ++ spelling formula.now.clauses tree.now) }
+    // What is written spells the clauses and the tree, so it is read as the same clauses and the same tree.
+    ensures spells { Spells (spelling formula.now.clauses tree.now) (formula_of formula.now.clauses) tree.now }
+    ensures err { OnErr result (out.new.items ≡ out.old.items) }
+{
+    let _ = formula.vars();
+    let _ = tree.leaves();
+    let len = out.len();
+    let written = put_all(out, formula, tree);
+    if written.is_err() {
+        out.truncate(len);
+    }
+    written
+}
