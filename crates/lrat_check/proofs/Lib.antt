@@ -18,8 +18,8 @@ pub mod Places
 pub mod RatExact
 pub mod Running
 pub mod Sound
-pub mod Stored
 pub mod Tables
 pub mod Taken
 pub mod Truth
 pub mod Walks
+pub mod Slots

@@ -100,3 +100,13 @@ FitsTable-longer places more C le fits k d below = omega (arith, fits k d below)
 pub fits_grown : (r : Result (Unit {0}) AllocError) (places more : ℕ) (C : Clause) → FitsTable places C → OnOk r (places ≤ more) → OnOk r (FitsTable more C)
 fits_grown (Ok u) places more C fits le = FitsTable-longer places more C le fits
 fits_grown (Err e) places more C fits le = tt
+
+-- longer tables that read as before say the same
+pub counted-grown : (M : ClauseMap) (counts counts' : List ℕ) (seen seen' : List Bool) → IsCounted M counts seen → length counts ≤ length counts' → length counts' ≤ length seen'
+    → ((i : ℕ) → slice_index_or counts' i 0 ≡ slice_index_or counts i 0) → ((i : ℕ) → slice_index_or seen' i false ≡ slice_index_or seen i false) → IsCounted M counts' seen'
+counted-grown M counts counts' seen seen' h longer room same_counts same_seen = record {
+  fits = AllFit-longer (length counts) (length counts') M longer h.fits;
+  counted = λ l. same_counts (index_of l) ∙ h.counted l;
+  unseen = λ l. same_seen (index_of l) ∙ h.unseen l;
+  room = room;
+}

@@ -7,3 +7,4 @@ pub mod Soundness
 pub mod State
 pub mod Table
 pub mod Verdicts
+pub mod Store

@@ -1,12 +1,7 @@
 -- Tables beside the live clauses. Nothing here is to be believed.
-use Rattle.std.specs.Prelude.{◌≡◌, ℕ, ◌+◌, ◌*◌, ◌<◌, ◌≤◌, Bool, false, List, All, slice_index, slice_index_or, length, Some, map, if◌then◌else◌}
+use Rattle.std.specs.Prelude.{◌≡◌, ℕ, ◌+◌, ◌*◌, ◌<◌, ◌≤◌, Bool, false, List, All, slice_index, slice_index_or, length, Some, if◌then◌else◌}
 use Rattle.dimacs.specs.Literal.{Literal, var_of, index_of, Clause, has}
-use Rattle.std.specs.FinMap.{get, from_entries}
-use Rattle.std.specs.HashMap.{HashMap}
-use Rattle.std.specs.declared.hash.FoldHasher.{FoldHasher}
-use Rattle.std.specs.declared.hash.BuildHasherDefault.{BuildHasherDefault}
-use Rattle.std.specs.declared.vec.Vec.{Vec}
-use Rattle.std.specs.declared.alloc.Global.{Global}
+use Rattle.std.specs.FinMap.{get}
 use Rattle.dimacs.specs.ClauseMap.{ClauseMap}
 use Rattle.lrat_check.specs.Holding.{holding}
 
@@ -16,13 +11,6 @@ FitsTable places C = All (λ l. 2 * var_of l + 1 < places) C
 
 abbrev pub AllFit : ℕ → ClauseMap → Type 0
 AllFit places M = (id : ℕ) (C : Clause) → get M id ≡ Some C → FitsTable places C
-
-abbrev pub Stored : Type 0
-Stored = HashMap ℕ (Vec Literal Global) (BuildHasherDefault FoldHasher)
-
--- the live clauses that a table of clauses holds
-abbrev pub live_of : Stored → ClauseMap
-live_of m = from_entries (map (λ e. (e.0, e.1.items)) m.entries)
 
 -- no literal is marked as seen
 abbrev pub NoneSeen : List Bool → Type 0

@@ -1,59 +1,71 @@
-//! The live clauses of a checker.
+//! The live clauses of a checker, and how many of them hold each literal.
 
 ghost use Rattle.std.specs.Prelude.{◌≡◌, length, OnOk, OnErr, option_map, is_some};
 ghost use Rattle.std.specs.FinMap.{get, insert, remove, empty};
 ghost use Rattle.lrat_check.specs.Holding.{holding};
-ghost use Rattle.lrat_check.specs.Table.{FitsTable, live_of, IsCounted};
+ghost use Rattle.lrat_check.specs.Store.{live_of, clause_at, IsPlaced, IsStore};
+ghost use Rattle.lrat_check.specs.Table.{FitsTable, IsCounted};
 
 use crate::counts::{count, uncount};
+use crate::store::{Far, Slot, append, clause_of, find, is_small, put, reserve_place, take};
 use crate::table::{grow, places_for};
 use dimacs::Lit;
 use std::alloc::{AllocError, Global};
 use std::collections::HashMap;
 use std::marker::Model;
 
-/// Takes a clause out of the tables.
+/// Takes a clause out of store and counts.
 fn take_out(
-    clauses: &mut HashMap<u64, Vec<Lit>>,
+    words: &[Lit],
+    near: &mut [Option<Slot>],
+    far: &mut Far,
     counts: &mut [usize],
     seen: &mut [bool],
     id: u64,
 ) -> bool
-    requires counted { IsCounted (live_of clauses.old) counts.old seen.old }
-    ensures live { result ≡ is_some (get (live_of clauses.old) id) }
-    ensures after { live_of clauses.new ≡ remove (live_of clauses.old) id }
-    ensures counted { IsCounted (live_of clauses.new) counts.new seen.new }
+    requires store { IsStore words.now near.old far.old }
+    requires counted { IsCounted (live_of words.now near.old far.old) counts.old seen.old }
+    ensures live { result ≡ is_some (get (live_of words.now near.old far.old) id) }
+    ensures after { live_of words.now near.new far.new ≡ remove (live_of words.now near.old far.old) id }
+    ensures store { IsStore words.now near.new far.new }
+    ensures counted { IsCounted (live_of words.now near.new far.new) counts.new seen.new }
 {
-    match clauses.remove(&id) {
-        Some(clause) => {
-            uncount(counts, seen, &clause);
+    match take(words, near, far, id) {
+        Some(slot) => {
+            let gone = clause_of(words, slot);
+            uncount(counts, seen, gone);
             true
         }
         None => false,
     }
 }
 
-/// Puts a clause into the tables.
+/// Puts a clause into store and counts.
 fn put_in(
-    alloc: Global,
-    clauses: &mut HashMap<u64, Vec<Lit>>,
+    words: &[Lit],
+    near: &mut [Option<Slot>],
+    far: &mut Far,
     counts: &mut [usize],
     seen: &mut [bool],
     id: u64,
-    lits: &[Lit],
+    slot: Slot,
 ) -> Result<(), AllocError>
-    requires counted { IsCounted (live_of clauses.old) counts.old seen.old }
-    requires fits { FitsTable (length counts.old) lits.now }
-    ensures ok { OnOk result (live_of clauses.new ≡ insert (live_of clauses.old) id lits.now) }
-    ensures err { OnErr result (live_of clauses.new ≡ live_of clauses.old) }
-    ensures counted { IsCounted (live_of clauses.new) counts.new seen.new }
+    requires store { IsStore words.now near.old far.old }
+    requires counted { IsCounted (live_of words.now near.old far.old) counts.old seen.old }
+    requires placed { IsPlaced words.now slot }
+    requires fits { FitsTable (length counts.old) (clause_at words.now slot) }
+    ensures ok { OnOk result (live_of words.now near.new far.new ≡ insert (live_of words.now near.old far.old) id (clause_at words.now slot)) }
+    ensures err { OnErr result (live_of words.now near.new far.new ≡ live_of words.now near.old far.old) }
+    ensures store { IsStore words.now near.new far.new }
+    ensures counted { IsCounted (live_of words.now near.new far.new) counts.new seen.new }
 {
-    let stored = Vec::from_slice(alloc, lits)?;
-    let old = clauses.insert(id, stored)?;
-    let _live = clauses.len();
-    if let Some(clause) = old {
-        uncount(counts, seen, &clause);
+    let old = put(words, near, far, id, slot)?;
+    is_small(words, near, far);
+    if let Some(before) = old {
+        let gone = clause_of(words, before);
+        uncount(counts, seen, gone);
     }
+    let lits = clause_of(words, slot);
     count(counts, seen, lits);
     Ok(())
 }
@@ -61,8 +73,11 @@ fn put_in(
 /// The live clauses of a checker, by their numbers.
 #[derive(Drop)]
 pub struct LiveClauses {
-    alloc: Global,
-    clauses: HashMap<u64, Vec<Lit>>,
+    words: Vec<Lit>,
+    near: Vec<Option<Slot>>,
+    far: Far,
+    /// How many clauses were ever put in: it bounds how many places may be free.
+    taken: u64,
     counts: Vec<usize>,
     seen: Vec<bool>,
 }
@@ -71,15 +86,16 @@ impl Model for LiveClauses {
     ghost use Rattle.dimacs.specs.ClauseMap.{ClauseMap};
     ghost use Rattle.dimacs.specs.Codes.{clause_map_code};
     ghost use Rattle.std.specs.Coded.{codes};
-    ghost use Rattle.lrat_check.specs.Table.{live_of, IsCounted};
+    ghost use Rattle.lrat_check.specs.Store.{live_of, IsStore};
+    ghost use Rattle.lrat_check.specs.Table.{IsCounted};
 
     ghost Value = { ClauseMap };
 
     ghost coded = { Prim.hlevel (codes, clause_map_code) };
 
-    ghost view = { λ s. live_of s.clauses };
+    ghost view = { λ s. live_of s.words.items s.near.items s.far };
 
-    ghost invariant = { λ s. IsCounted (live_of s.clauses) s.counts.items s.seen.items };
+    ghost invariant = { λ s. IsStore s.words.items s.near.items s.far × IsCounted (live_of s.words.items s.near.items s.far) s.counts.items s.seen.items };
 }
 
 impl LiveClauses {
@@ -88,8 +104,10 @@ impl LiveClauses {
         ensures { result ≡ empty }
     {
         LiveClauses {
-            alloc,
-            clauses: HashMap::new(alloc),
+            words: Vec::new(alloc),
+            near: Vec::new(alloc),
+            far: HashMap::new(alloc),
+            taken: 0,
             counts: Vec::new(alloc),
             seen: Vec::new(alloc),
         }
@@ -99,10 +117,7 @@ impl LiveClauses {
     pub fn get(&self, id: u64) -> Option<&[Lit]>
         ensures { option_map (λ c. c.now) result ≡ get self.now id }
     {
-        match self.clauses.get(&id) {
-            Some(clause) => Some(clause),
-            None => None,
-        }
+        find(&self.words, &self.near, &self.far, id)
     }
 
     /// How many live clauses hold the literal.
@@ -125,13 +140,17 @@ impl LiveClauses {
         let places = places_for(lits);
         grow(&mut self.seen, places, false)?;
         grow(&mut self.counts, places, 0)?;
+        let slot = append(&mut self.words, lits)?;
+        self.taken = self.taken.saturating_add(1);
+        reserve_place(&self.words, &mut self.near, &self.far, self.taken, id)?;
         put_in(
-            self.alloc,
-            &mut self.clauses,
+            &self.words,
+            &mut self.near,
+            &mut self.far,
             &mut self.counts,
             &mut self.seen,
             id,
-            lits,
+            slot,
         )
     }
 
@@ -140,6 +159,13 @@ impl LiveClauses {
         ensures live { result ≡ is_some (get self.old id) }
         ensures after { self.new ≡ remove self.old id }
     {
-        take_out(&mut self.clauses, &mut self.counts, &mut self.seen, id)
+        take_out(
+            &self.words,
+            &mut self.near,
+            &mut self.far,
+            &mut self.counts,
+            &mut self.seen,
+            id,
+        )
     }
 }
