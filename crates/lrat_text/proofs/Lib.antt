@@ -1,5 +1,6 @@
 pub mod GroupLemmas
 pub mod LineLemmas
+pub mod LogLemmas
 pub mod NextLemmas
 pub mod NumberLemmas
 pub mod ReadingLemmas

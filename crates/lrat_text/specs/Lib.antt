@@ -3,6 +3,7 @@ pub mod Grammar
 pub mod GroupLists
 pub mod Groups
 pub mod Lines
+pub mod Log
 pub mod Parts
 pub mod Proof
 pub mod Reading

@@ -1,9 +1,12 @@
 //! Laws of lines, as contracts of calls that do nothing.
 
-ghost use Rattle.std.specs.Prelude.{◌≡◌, ℕ, List, Ok, Contains};
+ghost use Rattle.std.specs.Prelude.{◌≡◌, ℕ, List, [], Ok, Contains};
+ghost use Rattle.dimacs.specs.Cnf.{Cnf};
 ghost use Rattle.dimacs.specs.Words.{lines};
 ghost use Rattle.lrat_text.specs.Grammar.{SpellsStep, LineSpells, IsStep, IsClauseNumber};
 ghost use Rattle.lrat_text.specs.Lines.{AllRead};
+ghost use Rattle.lrat_text.specs.Log.{Closes};
+ghost use Rattle.lrat_text.specs.Proof.{Accepts};
 ghost use Rattle.lrat_text.specs.Reading.{step_in};
 ghost use Rattle.lrat_text.specs.Writing.{line_text};
 ghost use Rattle.lrat_text.specs.declared.step.Step.{Step};
@@ -25,4 +28,9 @@ pub fn putting_is_spelling()
 pub fn text_is_lines()
     ensures read { (text : List ℕ) (steps : List Step) → LineSpells text steps → AllRead (lines text) steps }
     ensures spelled { (text : List ℕ) (steps : List Step) → AllRead (lines text) steps → LineSpells text steps }
+{}
+
+/// A fragment that closes the empty cube over a formula is an accepted proof.
+pub fn closing_the_empty_cube_is_accepted()
+    ensures { (F : Cnf) (text : List ℕ) → Closes F [] text → Accepts F text }
 {}
