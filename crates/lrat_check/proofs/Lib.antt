@@ -23,3 +23,5 @@ pub mod Taken
 pub mod Truth
 pub mod Walks
 pub mod Slots
+pub mod FarSlots
+pub mod Holders

@@ -1,6 +1,11 @@
 -- What the tables beside the live clauses say after each change.
 use Rattle.std.proofs.Common.{◌≡◌, ℕ, Bool, true, false, List, [], Option, Some, None, cond, refl, sym, ◌∙◌, ap, subst, length, arith, ◌≤◌, ◌<◌, ◌+◌, slice_index, slice_index_or}
 use Rattle.std.specs.Option.{is_some}
+use Rattle.std.specs.Bool.{OnTrue}
+use Rattle.std.proofs.Common.{OnErr}
+use Rattle.lrat_check.specs.declared.store.Slot.{Slot}
+use Rattle.lrat_check.specs.declared.store.Far.{Far}
+use Rattle.lrat_check.specs.Store.{live_of, IsStore}
 use Rattle.std.specs.FinMap.{get, insert, remove, empty, len, get-empty, get-insert, get-remove, same_map, nat_cmp-IsAntisymmetric, len-insert, len-empty}
 use Rattle.std.proofs.Common.{Result, Ok, Err, OnOk}
 use Rattle.std.specs.declared.alloc.AllocError.{AllocError}
@@ -93,7 +98,7 @@ counted-empty M counts seen none no_counts no_seen = record {
     nothing : (l : Literal) → holding M l ≡ 0
     nothing l = let bound : holding M l ≤ len M = holding-bound M l in let zero_len : len M ≡ 0 = ap len none ∙ len-empty nat_cmp Clause in omega arith
 
-FitsTable-longer : (places more : ℕ) (C : Clause) → places ≤ more → FitsTable places C → FitsTable more C
+pub FitsTable-longer : (places more : ℕ) (C : Clause) → places ≤ more → FitsTable places C → FitsTable more C
 FitsTable-longer places more C le fits k d below = omega (arith, fits k d below)
 
 -- a clause fits a table that has grown to its places
@@ -110,3 +115,20 @@ counted-grown M counts counts' seen seen' h longer room same_counts same_seen = 
   unseen = λ l. same_seen (index_of l) ∙ h.unseen l;
   room = room;
 }
+
+-- what was put in fits, and where nothing was, what was there
+pub AllFit-either : (r : Result (Unit {0}) AllocError) (places : ℕ) (M N : ClauseMap) (id : ℕ) (C : Clause) → AllFit places M → FitsTable places C → OnOk r (N ≡ insert M id C) → OnErr r (N ≡ M) → AllFit places N
+AllFit-either (Ok u) places M N id C all fits ok err = subst (λ K. AllFit places K) (sym ok) (AllFit-insert places M id C all fits)
+AllFit-either (Err e) places M N id C all fits ok err = subst (λ K. AllFit places K) (sym err) all
+
+-- lists that are the same say the same
+pub live_with : (words : List Literal) (near near' : List (Option Slot)) (far : Far) (places : ℕ) (counting : Bool) (counts counts' : List ℕ) (seen seen' : List Bool) → near' ≡ near → counts' ≡ counts → seen' ≡ seen
+    → IsStore words near far → AllFit places (live_of words near far) → OnTrue counting (IsCounted (live_of words near far) counts seen)
+    → IsStore words near' far × AllFit places (live_of words near' far) × OnTrue counting (IsCounted (live_of words near' far) counts' seen')
+live_with words near near' far places counting counts counts' seen seen' en ec es store fits counted = (
+  subst (λ xs. IsStore words xs far) (sym en) store,
+  subst (λ xs. AllFit places (live_of words xs far)) (sym en) fits,
+  subst (λ xs. OnTrue counting (IsCounted (live_of words xs far) counts' seen')) (sym en)
+      (subst (λ xs. OnTrue counting (IsCounted (live_of words near far) xs seen')) (sym ec)
+      (subst (λ xs. OnTrue counting (IsCounted (live_of words near far) counts xs)) (sym es) counted)),
+)

@@ -1,9 +1,11 @@
 -- Tables beside the live clauses. Nothing here is to be believed.
-use Rattle.std.specs.Prelude.{◌≡◌, ℕ, ◌+◌, ◌*◌, ◌<◌, ◌≤◌, Bool, false, List, All, slice_index, slice_index_or, length, Some, if◌then◌else◌}
+use Rattle.std.specs.Prelude.{◌≡◌, ℕ, ◌+◌, ◌*◌, ◌<◌, ◌≤◌, Bool, false, List, [], ◌∷◌, All, Option, Some, None, slice_index, slice_index_or, length, if◌then◌else◌}
 use Rattle.dimacs.specs.Literal.{Literal, var_of, index_of, Clause, has}
 use Rattle.std.specs.FinMap.{get}
 use Rattle.dimacs.specs.ClauseMap.{ClauseMap}
 use Rattle.lrat_check.specs.Holding.{holding}
+use Rattle.lrat_check.specs.declared.store.Slot.{Slot}
+use Rattle.lrat_check.specs.Store.{clause_at}
 
 -- a table has a place for each literal of the clause, and for its negation
 abbrev pub FitsTable : ℕ → Clause → Type 0
@@ -23,6 +25,19 @@ CountsAll counts M = (l : Literal) → slice_index counts (index_of l) ≡ holdi
 -- the counts after one more clause
 abbrev pub one_if_has : Clause → Literal → ℕ
 one_if_has C l = if has C l then 1 else 0
+
+-- how many slots of a table have a clause that holds the literal
+abbrev pub one_held : List Literal → Option Slot → Literal → ℕ
+one_held words None l = 0
+one_held words (Some s) l = one_if_has (clause_at words s) l
+
+abbrev pub held : List Literal → List (Option Slot) → Literal → ℕ
+held words [] l = 0
+held words (o ∷ slots) l = one_held words o l + held words slots l
+
+-- the clause of each slot fits a table
+abbrev pub SlotsFit : ℕ → List Literal → List (Option Slot) → Type 0
+SlotsFit places words slots = (p : ℕ) (s : Slot) → slice_index_or slots p None ≡ Some s → FitsTable places (clause_at words s)
 
 -- what the tables beside the live clauses say
 pub record IsCounted (M : ClauseMap) (counts : List ℕ) (seen : List Bool) : Type 0 where

@@ -14,6 +14,7 @@ mod lemma;
 mod live;
 mod marks;
 mod propagation;
+mod room;
 mod store;
 mod table;
 mod verdict;

@@ -1,17 +1,18 @@
 //! The live clauses of a checker, and how many of them hold each literal.
 
-ghost use Rattle.std.specs.Prelude.{◌≡◌, length, OnOk, OnErr, option_map, is_some};
+ghost use Rattle.std.specs.Prelude.{◌≡◌, length, OnOk, OnErr, IfOk, option_map, is_some};
+ghost use Rattle.std.specs.Bool.{OnTrue};
 ghost use Rattle.std.specs.FinMap.{get, insert, remove, empty};
 ghost use Rattle.lrat_check.specs.Holding.{holding};
 ghost use Rattle.lrat_check.specs.Store.{live_of, clause_at, IsPlaced, IsStore};
 ghost use Rattle.lrat_check.specs.Table.{FitsTable, IsCounted};
 
-use crate::counts::{count, uncount};
-use crate::store::{Far, Slot, append, clause_of, find, is_small, put, reserve_place, take};
-use crate::table::{grow, places_for};
+use crate::counts::{count, count_all, make_counts, uncount};
+use crate::room::prepare;
+use crate::store::{Far, Slot, clause_of, find, is_small, put, take};
+use crate::table::places_for;
 use dimacs::Lit;
 use std::alloc::{AllocError, Global};
-use std::collections::HashMap;
 use std::marker::Model;
 
 /// Takes a clause out of store and counts.
@@ -22,10 +23,10 @@ fn take_out(
     counts: &mut [usize],
     seen: &mut [bool],
     id: u64,
-) -> bool
+) -> Option<Slot>
     requires store { IsStore words.now near.old far.old }
     requires counted { IsCounted (live_of words.now near.old far.old) counts.old seen.old }
-    ensures live { result ≡ is_some (get (live_of words.now near.old far.old) id) }
+    ensures live { is_some result ≡ is_some (get (live_of words.now near.old far.old) id) }
     ensures after { live_of words.now near.new far.new ≡ remove (live_of words.now near.old far.old) id }
     ensures store { IsStore words.now near.new far.new }
     ensures counted { IsCounted (live_of words.now near.new far.new) counts.new seen.new }
@@ -34,9 +35,33 @@ fn take_out(
         Some(slot) => {
             let gone = clause_of(words, slot);
             uncount(counts, seen, gone);
-            true
+            Some(slot)
         }
-        None => false,
+        None => None,
+    }
+}
+
+/// Takes a clause out of the store, and of the counts where there are any.
+fn drop_clause(
+    words: &[Lit],
+    near: &mut [Option<Slot>],
+    far: &mut Far,
+    counting: bool,
+    counts: &mut [usize],
+    seen: &mut [bool],
+    id: u64,
+) -> Option<Slot>
+    requires store { IsStore words.now near.old far.old }
+    requires counted { OnTrue counting (IsCounted (live_of words.now near.old far.old) counts.old seen.old) }
+    ensures live { is_some result ≡ is_some (get (live_of words.now near.old far.old) id) }
+    ensures after { live_of words.now near.new far.new ≡ remove (live_of words.now near.old far.old) id }
+    ensures store { IsStore words.now near.new far.new }
+    ensures counted { OnTrue counting (IsCounted (live_of words.now near.new far.new) counts.new seen.new) }
+{
+    if counting {
+        take_out(words, near, far, counts, seen, id)
+    } else {
+        take(words, near, far, id)
     }
 }
 
@@ -70,14 +95,49 @@ fn put_in(
     Ok(())
 }
 
+/// Puts a clause into the store, and into the counts where there are any.
+fn keep_clause(
+    words: &[Lit],
+    near: &mut [Option<Slot>],
+    far: &mut Far,
+    counting: bool,
+    counts: &mut [usize],
+    seen: &mut [bool],
+    id: u64,
+    slot: Slot,
+) -> Result<(), AllocError>
+    requires store { IsStore words.now near.old far.old }
+    requires counted { OnTrue counting (IsCounted (live_of words.now near.old far.old) counts.old seen.old) }
+    requires placed { IsPlaced words.now slot }
+    requires fits { OnTrue counting (FitsTable (length counts.old) (clause_at words.now slot)) }
+    ensures ok { OnOk result (live_of words.now near.new far.new ≡ insert (live_of words.now near.old far.old) id (clause_at words.now slot)) }
+    ensures err { OnErr result (live_of words.now near.new far.new ≡ live_of words.now near.old far.old) }
+    ensures store { IsStore words.now near.new far.new }
+    ensures counted { OnTrue counting (IsCounted (live_of words.now near.new far.new) counts.new seen.new) }
+{
+    if counting {
+        put_in(words, near, far, counts, seen, id, slot)
+    } else {
+        put(words, near, far, id, slot)?;
+        Ok(())
+    }
+}
+
 /// The live clauses of a checker, by their numbers.
 #[derive(Drop)]
 pub struct LiveClauses {
+    alloc: Global,
     words: Vec<Lit>,
+    /// How many of the words are of clauses that went out.
+    dead: usize,
     near: Vec<Option<Slot>>,
     far: Far,
     /// How many clauses were ever put in: it bounds how many places may be free.
     taken: u64,
+    /// How many places a table by literal needs.
+    places: usize,
+    /// Whether the holders of each literal are counted.
+    counting: bool,
     counts: Vec<usize>,
     seen: Vec<bool>,
 }
@@ -86,8 +146,9 @@ impl Model for LiveClauses {
     ghost use Rattle.dimacs.specs.ClauseMap.{ClauseMap};
     ghost use Rattle.dimacs.specs.Codes.{clause_map_code};
     ghost use Rattle.std.specs.Coded.{codes};
+    ghost use Rattle.std.specs.Bool.{OnTrue};
     ghost use Rattle.lrat_check.specs.Store.{live_of, IsStore};
-    ghost use Rattle.lrat_check.specs.Table.{IsCounted};
+    ghost use Rattle.lrat_check.specs.Table.{AllFit, IsCounted};
 
     ghost Value = { ClauseMap };
 
@@ -95,22 +156,32 @@ impl Model for LiveClauses {
 
     ghost view = { λ s. live_of s.words.items s.near.items s.far };
 
-    ghost invariant = { λ s. IsStore s.words.items s.near.items s.far × IsCounted (live_of s.words.items s.near.items s.far) s.counts.items s.seen.items };
+    ghost invariant = { λ s. IsStore s.words.items s.near.items s.far × AllFit s.places (live_of s.words.items s.near.items s.far) × OnTrue s.counting (IsCounted (live_of s.words.items s.near.items s.far) s.counts.items s.seen.items) };
 }
 
 impl LiveClauses {
-    /// No clause.
-    pub fn new(alloc: Global) -> LiveClauses
-        ensures { result ≡ empty }
+    /// No clause, with room for so many clauses with so many literals.
+    pub fn with_room(
+        alloc: Global,
+        clauses: usize,
+        literals: usize,
+    ) -> Result<LiveClauses, AllocError>
+        ensures { IfOk result (λ c. c ≡ empty) }
     {
-        LiveClauses {
-            words: Vec::new(alloc),
-            near: Vec::new(alloc),
-            far: HashMap::new(alloc),
+        let words = Vec::with_capacity(alloc, literals)?;
+        let near = Vec::with_capacity(alloc, clauses)?;
+        Ok(LiveClauses {
+            alloc,
+            words,
+            dead: 0,
+            near,
+            far: Far::new(alloc),
             taken: 0,
+            places: 0,
+            counting: false,
             counts: Vec::new(alloc),
             seen: Vec::new(alloc),
-        }
+        })
     }
 
     /// The clause of this number, as it was put in.
@@ -120,15 +191,25 @@ impl LiveClauses {
         find(&self.words, &self.near, &self.far, id)
     }
 
-    /// How many live clauses hold the literal.
-    pub fn holding(&self, l: Lit) -> usize
-        ensures { result ≡ holding self.now l }
+    /// How many live clauses hold the literal. The first question counts the holders of every literal.
+    pub fn holding(&mut self, l: Lit) -> Result<usize, AllocError>
+        ensures ok { IfOk result (λ n. n ≡ holding self.old l) }
+        ensures same { self.new ≡ self.old }
     {
+        count_all(
+            &self.words,
+            &self.near,
+            &self.far,
+            self.places,
+            &mut self.counting,
+            &mut self.counts,
+            &mut self.seen,
+        )?;
         let place = l.index();
         if place < self.counts.len() {
-            self.counts[place]
+            Ok(self.counts[place])
         } else {
-            0
+            Ok(0)
         }
     }
 
@@ -137,16 +218,24 @@ impl LiveClauses {
         ensures ok { OnOk result (self.new ≡ insert self.old id lits.now) }
         ensures err { OnErr result (self.new ≡ self.old) }
     {
-        let places = places_for(lits);
-        grow(&mut self.seen, places, false)?;
-        grow(&mut self.counts, places, 0)?;
-        let slot = append(&mut self.words, lits)?;
+        self.places = self.places.max(places_for(lits));
+        make_counts(self.counting, self.places, &mut self.counts, &mut self.seen)?;
         self.taken = self.taken.saturating_add(1);
-        reserve_place(&self.words, &mut self.near, &self.far, self.taken, id)?;
-        put_in(
+        let slot = prepare(
+            self.alloc,
+            &mut self.words,
+            &mut self.near,
+            &mut self.far,
+            &mut self.dead,
+            self.taken,
+            id,
+            lits,
+        )?;
+        keep_clause(
             &self.words,
             &mut self.near,
             &mut self.far,
+            self.counting,
             &mut self.counts,
             &mut self.seen,
             id,
@@ -159,13 +248,21 @@ impl LiveClauses {
         ensures live { result ≡ is_some (get self.old id) }
         ensures after { self.new ≡ remove self.old id }
     {
-        take_out(
+        let gone = drop_clause(
             &self.words,
             &mut self.near,
             &mut self.far,
+            self.counting,
             &mut self.counts,
             &mut self.seen,
             id,
-        )
+        );
+        match gone {
+            Some(slot) => {
+                self.dead = self.dead.saturating_add(slot.len);
+                true
+            }
+            None => false,
+        }
     }
 }

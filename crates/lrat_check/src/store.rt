@@ -1,23 +1,47 @@
 //! Clauses by their numbers. Their literals lie one after the other in one vector; a slot says where. Numbers that
 //! follow each other closely, as those of the formula and of most proofs do, are places of a table of slots; the others
-//! are keys of a map, so that a great number takes no more room than any other.
+//! have slots in the order in which they came, which a map finds, so that a great number takes no more room than any
+//! other.
 
-ghost use Rattle.std.specs.Prelude.{◌≡◌, ◌+◌, ◌≤◌, ◌<◌, ◌++◌, ◌^◌, length, OnOk, OnErr, IfOk, IfSome, option_map, [], vec_len};
+ghost use Rattle.std.specs.Prelude.{◌≡◌, ℕ, ◌+◌, ◌≤◌, ◌<◌, ◌++◌, ◌∷◌, ◌^◌, length, OnOk, OnErr, IfOk, IfSome, option_map, Some, cond, nat_eq, slice_index_or, [], vec_len};
 ghost use Rattle.std.specs.FinMap.{get, insert, remove, len};
+ghost use Rattle.std.specs.HashMap.{get_by};
 ghost use Rattle.lrat_check.specs.Store.{live_of, clause_at, IsPlaced, IsStore};
 
 use dimacs::Lit;
-use std::alloc::AllocError;
+use std::alloc::{AllocError, Global};
 use std::collections::HashMap;
 
 /// Where a clause's literals stand.
 #[derive(Clone, Copy)]
 pub(crate) struct Slot {
     place: usize,
-    len: usize,
+    pub(crate) len: usize,
 }
 
-pub(crate) type Far = HashMap<u64, Slot>;
+/// The slots of numbers that are far from the others.
+#[derive(Drop)]
+pub(crate) struct Far {
+    /// Where each number's slot stands.
+    pub(crate) places: HashMap<u64, usize>,
+    pub(crate) numbers: Vec<u64>,
+    pub(crate) slots: Vec<Option<Slot>>,
+}
+
+impl Far {
+    /// No slot.
+    pub(crate) fn new(alloc: Global) -> Far
+        ensures places { result.places.entries ≡ [] }
+        ensures numbers { result.numbers.items ≡ [] }
+        ensures slots { result.slots.items ≡ [] }
+    {
+        Far {
+            places: HashMap::new(alloc),
+            numbers: Vec::new(alloc),
+            slots: Vec::new(alloc),
+        }
+    }
+}
 
 /// The literals at a slot.
 pub(crate) fn clause_of(words: &[Lit], slot: Slot) -> &[Lit]
@@ -25,6 +49,18 @@ pub(crate) fn clause_of(words: &[Lit], slot: Slot) -> &[Lit]
     ensures { result.now ≡ clause_at words.now slot }
 {
     &words[slot.place..slot.place + slot.len]
+}
+
+/// The clause whose slot stands at a place.
+fn clause_in<'a>(words: &'a [Lit], slots: &[Option<Slot>], place: usize) -> Option<&'a [Lit]>
+    requires here { place < length slots.now }
+    requires placed { IfSome (slice_index_or slots.now place None) (IsPlaced words.now) }
+    ensures { option_map (λ c. c.now) result ≡ option_map (clause_at words.now) (slice_index_or slots.now place None) }
+{
+    match slots[place] {
+        Some(slot) => Some(clause_of(words, slot)),
+        None => None,
+    }
 }
 
 /// The clause of a number.
@@ -39,13 +75,10 @@ pub(crate) fn find<'a>(
 {
     let place = id as usize;
     if place < near.len() {
-        match near[place] {
-            Some(slot) => Some(clause_of(words, slot)),
-            None => None,
-        }
+        clause_in(words, near, place)
     } else {
-        match far.get(&id) {
-            Some(slot) => Some(clause_of(words, *slot)),
+        match far.places.get(&id) {
+            Some(place) => clause_in(words, &far.slots, *place),
             None => None,
         }
     }
@@ -72,7 +105,7 @@ fn make_place(
     place: usize,
 ) -> Result<(), AllocError>
     requires store { IsStore words.now near.old.items far.now }
-    requires all_near { far.now.entries ≡ [] }
+    requires all_near { far.now.slots.items ≡ [] }
     ensures place { OnOk result (place < vec_len near.new) }
     ensures same { live_of words.now near.new.items far.now ≡ live_of words.now near.old.items far.now }
     ensures store { IsStore words.now near.new.items far.now }
@@ -106,6 +139,22 @@ fn put_near(
     old
 }
 
+/// Puts a slot under a new number that has no place.
+fn add_far(far: &mut Far, id: u64, slot: Slot) -> Result<(), AllocError>
+    ensures places { OnOk result ((q : ℕ) → get_by (nat_eq q) far.new.places ≡ cond (nat_eq id q) (Some (length far.old.slots.items)) (get_by (nat_eq q) far.old.places)) }
+    ensures numbers { OnOk result (far.new.numbers.items ≡ far.old.numbers.items ++ id ∷ []) }
+    ensures slots { OnOk result (far.new.slots.items ≡ far.old.slots.items ++ Some slot ∷ []) }
+    ensures err { OnErr result ((far.new.places.entries ≡ far.old.places.entries) × (far.new.numbers.items ≡ far.old.numbers.items) × (far.new.slots.items ≡ far.old.slots.items)) }
+{
+    far.numbers.reserve(1)?;
+    far.slots.reserve(1)?;
+    let place = far.slots.len();
+    far.places.insert(id, place)?;
+    far.numbers.push_reserved(id);
+    far.slots.push_reserved(Some(slot));
+    Ok(())
+}
+
 /// Puts a slot under a number that has no place, and gives the one that it had.
 fn put_far(
     words: &[Lit],
@@ -125,8 +174,18 @@ fn put_far(
 {
     let _ = words;
     let _ = near;
-    let old = far.insert(id, slot)?;
-    Ok(old)
+    match far.places.get(&id) {
+        Some(place) => {
+            let place = *place;
+            let old = far.slots[place];
+            far.slots[place] = Some(slot);
+            Ok(old)
+        }
+        None => {
+            add_far(far, id, slot)?;
+            Ok(None)
+        }
+    }
 }
 
 /// Frees a place, and gives the slot that was there.
@@ -155,7 +214,14 @@ fn take_far(words: &[Lit], near: &[Option<Slot>], far: &mut Far, id: u64) -> Opt
 {
     let _ = words;
     let _ = near;
-    far.remove(&id)
+    match far.places.remove(&id) {
+        Some(place) => {
+            let old = far.slots[place];
+            far.slots[place] = None;
+            old
+        }
+        None => None,
+    }
 }
 
 /// Puts a slot under a number, and gives the one that it had.
@@ -210,16 +276,17 @@ pub(crate) fn reserve_place(
     ensures same { live_of words.now near.new.items far.now ≡ live_of words.now near.old.items far.now }
     ensures store { IsStore words.now near.new.items far.now }
 {
-    if far.is_empty() && id < taken.saturating_add(8192).saturating_mul(4) {
+    if far.slots.is_empty() && id < taken.saturating_add(8192).saturating_mul(4) {
         return make_place(words, near, far, id as usize);
     }
     Ok(())
 }
 
-fn whole(near: &[Option<Slot>]) -> &[Option<Slot>]
-    ensures { result.now ≡ near.now }
+/// The slots as they are; that they have room in memory bounds how many there are.
+pub(crate) fn whole(slots: &[Option<Slot>]) -> &[Option<Slot>]
+    ensures { result.now ≡ slots.now }
 {
-    near
+    slots
 }
 
 /// No more clauses are live than a count can tell.
@@ -227,6 +294,6 @@ pub(crate) fn is_small(words: &[Lit], near: &[Option<Slot>], far: &Far)
     ensures { len (live_of words.now near.now far.now) < 2 ^ 64 }
 {
     let _ = words;
-    let _places = whole(near);
-    let _keys = far.len();
+    let _near = whole(near);
+    let _far = whole(&far.slots);
 }

@@ -1,13 +1,56 @@
-use Rattle.std.proofs.Common.{◌∙◌, sym, ap, option_map}
-use Rattle.lrat_check.specs.Store.{clause_at}
-use Rattle.lrat_check.proofs.Slots.{get_far, far-remove, far_store-remove}
+use Rattle.std.proofs.Common.{◌≡◌, ◌∙◌, None, sym, ap, option_map, arith, subst, refl, IfSome, slice_index_or}
+use Rattle.std.proofs.lemmas.List.{get_or_default}
+use Rattle.std.specs.FinMap.{get}
+use Rattle.lrat_check.specs.Store.{clause_at, IsPlaced, live_of}
+use Rattle.lrat_check.proofs.Slots.{get_far, placed_at, none_placed, if_placed}
+use Rattle.lrat_check.proofs.FarSlots.{free_store, free-remove, far_same}
+use Rattle.lrat_check.proofs.Tables.{remove_none}
 use Rattle.lrat_check.proofs.store.take_far.Goals as goal
+use Rattle.lrat_check.proofs.store.take_far.Goals.{After-far-1, In-None}
 
-pub returns-clause-old : goal.returns-clause-old
-returns-clause-old c = ap (option_map (clause_at c.args.words.now)) c.remove.ensures.value ∙ sym (get_far c.args.words.now c.args.near.now c.args.far.now c.args.id c.requires.beyond)
+pub index-old-requires : goal.index-old-requires
+index-old-requires c = omega (arith, (c.requires.store.found c.args.id c.in-Some.place (sym c.in-Some.ensures.value)).1)
 
-pub returns-clause-after : goal.returns-clause-after
-returns-clause-after c = far-remove c.args.words.now c.args.near.now c.args.far.now c.remove.new.self c.args.id c.requires.beyond c.remove.ensures.updates.0
+pub index_mut-requires : goal.index_mut-requires
+index_mut-requires c = omega (arith, (c.requires.store.found c.args.id c.in-Some.place (sym c.in-Some.ensures.value)).1)
 
-pub returns-clause-store : goal.returns-clause-store
-returns-clause-store c = far_store-remove c.args.words.now c.args.near.now c.args.far.now c.remove.new.self c.args.id c.requires.beyond c.remove.ensures.updates.0 c.requires.store
+slot : (c : After-far-1) → c.index-old.result.now ≡ slice_index_or c.args.far.now.slots.items c.in-Some.place None
+slot c = c.index-old.ensures ∙ get_or_default c.args.far.now.slots.items c.in-Some.place c.index-old.result.now None (c.requires.store.found c.args.id c.in-Some.place (sym c.in-Some.ensures.value)).1
+
+pub returns-in-Some-clause-old : goal.returns-in-Some-clause-old
+returns-in-Some-clause-old c =
+    let k = (goal.at.returns-in-Some-clause-old c).After-far-1 in
+    ap (option_map (clause_at c.args.words.now)) (slot k) ∙ ap (placed_at c.args.words.now c.args.far.now.slots.items) c.in-Some.ensures.value
+    ∙ sym (get_far c.args.words.now c.args.near.now c.args.far.now c.args.id c.requires.store c.requires.beyond)
+
+pub returns-in-Some-clause-placed : goal.returns-in-Some-clause-placed
+returns-in-Some-clause-placed c =
+    let k = (goal.at.returns-in-Some-clause-placed c).After-far-1 in
+    subst (λ x. IfSome x (IsPlaced c.args.words.now)) (sym (slot k)) (if_placed c.args.words.now c.args.far.now.slots.items c.requires.store.far_placed c.in-Some.place)
+
+pub returns-in-Some-clause-after : goal.returns-in-Some-clause-after
+returns-in-Some-clause-after c =
+    free-remove c.args.words.now c.args.near.now c.args.far.now (record { places = c.remove.new.self; numbers = c.args.far.now.numbers; slots = Rattle.std.specs.Vec.with_item c.args.far.now.slots c.in-Some.place None })
+    c.args.id c.requires.beyond c.requires.store c.in-Some.place (sym c.in-Some.ensures.value) None (none_placed c.args.words.now) refl refl c.in-Some.ensures.updates.0 refl
+
+pub returns-in-Some-clause-store : goal.returns-in-Some-clause-store
+returns-in-Some-clause-store c =
+    free_store c.args.words.now c.args.near.now c.args.far.now (record { places = c.remove.new.self; numbers = c.args.far.now.numbers; slots = Rattle.std.specs.Vec.with_item c.args.far.now.slots c.in-Some.place None })
+    c.args.id c.requires.beyond c.requires.store c.in-Some.place (sym c.in-Some.ensures.value) None (none_placed c.args.words.now) refl refl c.in-Some.ensures.updates.0 refl
+
+none : (c : In-None) → get (live_of c.args.words.now c.args.near.now c.args.far.now) c.args.id ≡ None
+none c =
+    get_far c.args.words.now c.args.near.now c.args.far.now c.args.id c.requires.store c.requires.beyond
+    ∙ ap (placed_at c.args.words.now c.args.far.now.slots.items) (sym c.in-None.ensures.value)
+
+pub returns-in-None-clause-old : goal.returns-in-None-clause-old
+returns-in-None-clause-old c = sym (none c)
+
+pub returns-in-None-clause-after : goal.returns-in-None-clause-after
+returns-in-None-clause-after c =
+    (far_same c.args.words.now c.args.near.now c.args.far.now (record { places = c.remove.new.self; numbers = c.args.far.now.numbers; slots = c.args.far.now.slots }) c.requires.store c.in-None.ensures.unchanged refl refl).0
+    ∙ sym (remove_none (live_of c.args.words.now c.args.near.now c.args.far.now) c.args.id (none c))
+
+pub returns-in-None-clause-store : goal.returns-in-None-clause-store
+returns-in-None-clause-store c =
+    (far_same c.args.words.now c.args.near.now c.args.far.now (record { places = c.remove.new.self; numbers = c.args.far.now.numbers; slots = c.args.far.now.slots }) c.requires.store c.in-None.ensures.unchanged refl refl).1
