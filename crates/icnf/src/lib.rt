@@ -2,6 +2,7 @@
 #![tactic(auto)]
 
 mod body;
+mod builder;
 mod fault;
 mod header;
 mod laws;
@@ -12,6 +13,7 @@ mod tree;
 mod walk;
 mod writing;
 
+pub use builder::TreeBuilder;
 pub use fault::{IcnfFault, Kind};
 pub use laws::{reading_is_spelling, writing_is_spelling};
 pub use reading::read;

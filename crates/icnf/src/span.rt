@@ -96,6 +96,28 @@ pub(crate) fn push_cube(
     Ok(())
 }
 
+/// Appends a cube. The cubes are as before where memory is refused.
+pub(crate) fn push_literals(
+    literals: &mut Vec<Lit>,
+    spans: &mut Vec<Span>,
+    cube: &[Lit],
+) -> Result<(), AllocError>
+    requires lie { AreSpans literals.old.items spans.old.items }
+    requires room { vec_len spans.old < 65536 }
+    requires short { length cube.now ≤ 64 }
+    ensures lie { AreSpans literals.new.items spans.new.items }
+    ensures ok { OnOk result (cubes_in literals.new.items spans.new.items ≡ cubes_in literals.old.items spans.old.items ++ cube.now ∷ []) }
+    ensures err { OnErr result (cubes_in literals.new.items spans.new.items ≡ cubes_in literals.old.items spans.old.items) }
+{
+    literals.reserve(cube.len())?;
+    spans.reserve(1)?;
+    let from = literals.len() as u32;
+    literals.extend_from_slice(cube).unwrap();
+    let to = literals.len() as u32;
+    spans.push(Span { from, to }).unwrap();
+    Ok(())
+}
+
 /// Appends the literals of a path, for which there is room.
 fn append_literals(literals: &mut Vec<Lit>, path: &[Place])
     requires { vec_len literals.old + length path.now ≤ vec_capacity literals.old }

@@ -104,3 +104,13 @@ fn a_tree_is_written_leaf_by_leaf(rt: HostRuntime) -> Result<(), Fail> {
     assert_eq!(rt; out.as_slice(), b"xp inccnf\n0\na 0\n".as_slice());
     Ok(())
 }
+
+#[test]
+fn a_tree_is_built_leaf_by_leaf(rt: HostRuntime) -> Result<(), Fail> {
+    let mut builder = TreeBuilder::new(rt.alloc());
+    builder.push(&[])?;
+    let tree = builder.finish();
+    assert_eq!(rt; tree.leaves(), 1);
+    assert_eq!(rt; tree.cube(0).len(), 0);
+    Ok(())
+}

@@ -14,7 +14,7 @@ use lrat_check::CheckFault;
 use std::alloc::{AllocError, Global};
 
 /// The report of a fault of the input.
-fn faulty_input(alloc: Global, fault: DimacsFault) -> Result<Report, AllocError>
+pub(crate) fn faulty_input(alloc: Global, fault: DimacsFault) -> Result<Report, AllocError>
     ensures text { IfOk result (λ r. r.stdout.items ≡ input_fault_text fault) }
     ensures status { IfOk result (λ r. r.status ≡ 1) }
 {

@@ -6,10 +6,12 @@
 
 mod checking;
 mod command_line;
+mod cubing;
 mod report;
 mod request;
 
 pub use checking::run_check;
 pub use command_line::command;
+pub use cubing::run_cubes;
 pub use report::Report;
 pub use request::{Request, UsageFault};

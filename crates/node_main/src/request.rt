@@ -10,6 +10,8 @@ use std::alloc::AllocError;
 pub enum Request<'a> {
     /// Check a proof of a formula.
     Check { input: &'a str, proof: &'a str },
+    /// Split a formula into cubes, as deep as this, from 0 to 16.
+    Cubes { input: &'a str, depth: u32 },
 }
 
 /// Why a command line gives no request.

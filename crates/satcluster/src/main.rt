@@ -1,7 +1,9 @@
 //! Reads the files that a command line names, runs the library over their bytes, and prints its report.
 #![tactic(auto)]
 
-use node_main::{Report, Request, UsageFault, command, run_check};
+ghost use Rattle.std.specs.Prelude.{◌≤◌};
+
+use node_main::{Report, Request, UsageFault, command, run_check, run_cubes};
 use std::alloc::AllocError;
 use std::io::Write;
 use std::process::ExitCode;
@@ -38,9 +40,17 @@ fn check<R: Runtime + AllocGlobal>(rt: &R, input: &str, proof: &str) -> Result<R
     run_check(rt.alloc(), input.as_slice(), proof.as_slice()).map_err(no_memory)
 }
 
+fn cubes<R: Runtime + AllocGlobal>(rt: &R, input: &str, depth: u32) -> Result<Report, Refusal>
+    requires { depth ≤ 16 }
+{
+    let input = read(rt, input, "c cannot read input\n")?;
+    run_cubes(rt.alloc(), input.as_slice(), depth).map_err(no_memory)
+}
+
 fn answer<R: Runtime + AllocGlobal>(rt: &R, words: &[&str]) -> Result<Report, Refusal> {
     match command(rt.alloc(), words) {
         Ok(Request::Check { input, proof }) => check(rt, input, proof),
+        Ok(Request::Cubes { input, depth }) => cubes(rt, input, depth),
         Err(UsageFault::Help(text)) => {
             Report::of(rt.alloc(), text.as_str().as_bytes(), 0).map_err(no_memory)
         }

@@ -1,6 +1,6 @@
 use Rattle.std.proofs.Common.{rules, ◌≡◌, ◌∙◌, List, ℕ, Bool, true, sym, ap, ap₂, subst, codes, Some, None, option_map, map}
 use Rattle.clap.specs.Words.{App, Row, Text, app_of, is_simple, subcommand_of, takes, rows_of, found_of, subcommand_rows_of}
-use Rattle.node_main.specs.CommandLine.{AreTaken, AsksForCheck, NamesFiles, program}
+use Rattle.node_main.specs.CommandLine.{AreTaken, AsksForCheck, AsksForCubes, NamesCubes, NamesFiles, program}
 use Rattle.node_main.proofs.command_line.command.Goals as goal
 
 pub returns-in-Err-clause-complete : goal.returns-in-Err-clause-complete
@@ -19,3 +19,17 @@ returns-in-Some-check-default-clause-complete c input proof taken asks =
     let rows_are : rows_of (found_of c.in-Some-check-default.inner.now) ≡ asks.rows =
     same_rows _ _ (sym (ap (option_map (λ p. rows_of (found_of p.1.now))) c.in-Some-check-default.is) ∙ c.subcommand.ensures.rows ∙ ap (option_map (λ p. p.1)) met) in
     absurd (c.in-None.ensures.none input proof (subst (λ (r : List Row). NamesFiles r input proof) (sym rows_are) asks.files))
+
+pub returns-in-Err-clause-cubes_complete : goal.returns-in-Err-clause-cubes_complete
+returns-in-Err-clause-cubes_complete c input depth taken asks =
+    let texts = map (λ w. w.now) c.args.words.now in
+    c.fault_of.ensures (c.in-Err.ensures.passes (ap (λ (a : App). takes a texts) c.in_ok-satcluster.ensures ∙ taken.by_rules))
+
+pub returns-in-Some-cubes-default-clause-cubes_complete : goal.returns-in-Some-cubes-default-clause-cubes_complete
+returns-in-Some-cubes-default-clause-cubes_complete c input depth taken asks =
+    let texts = map (λ w. w.now) c.args.words.now in
+    let met : subcommand_rows_of c.in-Ok.matches ≡ Some (codes "cubes", asks.rows) =
+    (c.in-Ok.ensures.matches (ap is_simple c.in_ok-satcluster.ensures)).1 ∙ ap (λ (a : App). subcommand_of a texts) c.in_ok-satcluster.ensures ∙ asks.command in
+    let rows_are : rows_of (found_of c.in-Some-cubes-default.inner.now) ≡ asks.rows =
+    same_rows _ _ (sym (ap (option_map (λ p. rows_of (found_of p.1.now))) c.in-Some-cubes-default.is) ∙ c.subcommand.ensures.rows ∙ ap (option_map (λ p. p.1)) met) in
+    absurd (c.in-None-cubes_request.ensures.none input depth (subst (λ (r : List Row). NamesCubes r input depth) (sym rows_are) asks.names))

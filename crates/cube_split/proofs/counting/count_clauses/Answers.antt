@@ -1,0 +1,45 @@
+use Rattle.std.proofs.Common.{rules, arith, refl, sym, ap, ◌≡◌, ◌∙◌, ℕ, ◌+◌, ◌<◌, Bool, not, ◌&&◌, List, length, get_or, take, subst, true, false}
+use Rattle.std.specs.List.{list_any, count_by}
+use Rattle.std.proofs.lemmas.List.{take_all}
+use Rattle.std.proofs.lemmas.List.Elements.{All-weaker}
+use Rattle.dimacs.specs.Literal.{Literal, Clause, IsWithin, var_of, index_of}
+use Rattle.cube_split.specs.Choice.{has_variable}
+use Rattle.cube_split.specs.Marks.{AreMarked}
+use Rattle.cube_split.proofs.CountLemmas.{all_none, all_counted, all_passed, index_below}
+use Rattle.cube_split.proofs.counting.count_clauses.Goals as goal
+use Rattle.cube_split.proofs.counting.count_clauses.Goals.{then-is_apart, else-is_apart}
+
+pub loop-i-init : goal.loop-i-init
+loop-i-init c = all_none c.args.marks.now c.args.counts.now c.args.last.now c.args.formula.now.clauses c.requires.size c.requires.counted c.requires.earlier
+
+pub is_apart-requires : goal.is_apart-requires
+is_apart-requires c = All-weaker (IsWithin c.args.formula.now.vars) (λ l. index_of l < length c.args.marks.now)
+    (λ l w. index_below l c.args.formula.now.vars (length c.args.counts.now) (length c.args.marks.now) w c.requires.within c.requires.marks) c.clause-clause.result.now c.clause-clause.ensures.within
+
+pub count_clause-requires-clause-within : goal.count_clause-requires-clause-within
+count_clause-requires-clause-within c = All-weaker (IsWithin c.args.formula.now.vars) (λ l. var_of l < length c.loop-i.counts)
+    (λ l w. omega (arith, w.1)) c.clause-clause.result.now c.clause-clause.ensures.within
+
+pub count_clause-requires-clause-counted : goal.count_clause-requires-clause-counted
+count_clause-requires-clause-counted c = λ w h. omega (arith, c.loop-i.invariant.bound w (omega arith))
+
+pub count_clause-requires-clause-earlier : goal.count_clause-requires-clause-earlier
+count_clause-requires-clause-earlier c = λ w h. omega (arith, c.loop-i.invariant.early w (omega arith))
+
+pub loop-i-preserved : goal.loop-i-preserved
+loop-i-preserved c =
+    let below : c.loop-i.i < length c.args.formula.now.clauses = omega arith in
+    elim c.if-is_apart.branch [
+      | then-is_apart w ↦
+          all_counted c.args.marks.now c.loop-i.counts c.loop-i.last c.if-is_apart.counts c.if-is_apart.last (length c.args.counts.now) c.loop-i.i c.args.formula.now.clauses c.clause-clause.result.now below c.clause-clause.ensures.clause
+          (λ test m. sym w.if-is_apart.true ∙ c.is_apart.ensures test m) c.if-is_apart.auto.counts c.if-is_apart.auto.last
+          (λ v h. rw w.counts-is (w.count_clause.ensures.counts v h)) (λ v h. rw w.last-is (w.count_clause.ensures.last v h)) c.loop-i.invariant
+      | else-is_apart w ↦
+          rw (w.counts-is, w.last-is) (all_passed c.args.marks.now c.loop-i.counts c.loop-i.last (length c.args.counts.now) c.loop-i.i c.args.formula.now.clauses c.clause-clause.result.now below c.clause-clause.ensures.clause
+          (λ test m. sym w.if-is_apart.false ∙ c.is_apart.ensures test m) c.loop-i.invariant)
+    ]
+
+pub returns : goal.returns
+returns c = λ test m w h.
+    let all = take_all c.loop-i.i c.args.formula.now.clauses (omega arith) in
+    subst (λ (cs : List Clause). get_or c.loop-i.counts w 0 ≡ count_by (λ C. not (list_any test C) && has_variable C w) cs) all (c.loop-i.invariant.counted test m w h)

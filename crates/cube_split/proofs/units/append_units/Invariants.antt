@@ -1,0 +1,7 @@
+use Rattle.std.proofs.Common.{◌≡◌, take}
+use Rattle.cube_split.specs.Splitting.{with_units}
+use Rattle.cube_split.proofs.units.append_units.Given as goal
+
+-- the units so far
+abbrev pub invariant-loop-unit : goal.invariant-loop-unit
+invariant-loop-unit l = l.base ≡ with_units l.formula (take l.unit-index l.units)

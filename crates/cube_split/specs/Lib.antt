@@ -1,0 +1,3 @@
+pub mod Choice
+pub mod Marks
+pub mod Splitting

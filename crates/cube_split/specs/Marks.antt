@@ -1,0 +1,21 @@
+-- Tables over literals and variables.
+use Rattle.std.specs.Prelude.{◌≡◌, ℕ, ◌+◌, ◌<◌, ◌≤◌, ◌*◌, Bool, false, List, length, slice_index, slice_index_or}
+use Rattle.dimacs.specs.Literal.{Literal, literal_of}
+
+-- the table says of each literal whether the test holds of it; a literal stands at its place, twice its variable, and one more where it is negated
+pub record AreMarked (marks : List Bool) (test : Literal → Bool) : Type 0 where
+  pub marked : (k : ℕ) → k < length marks → slice_index_or marks k false ≡ test (literal_of k)
+
+-- neither literal of the variable is marked
+pub record IsUnmarked (marks : List Bool) (v : ℕ) : Type 0 where
+  pub positive : slice_index_or marks (2 * v) false ≡ false
+  pub negative : slice_index_or marks (2 * v + 1) false ≡ false
+
+-- of the variables from 1 to last that are not marked, v has the greatest count, above 0, and of several it is the lowest
+pub record IsGreatest (marks : List Bool) (counts : List ℕ) (last v : ℕ) : Type 0 where
+  pub above : 0 < v
+  pub below : v ≤ last
+  pub unmarked : IsUnmarked marks v
+  pub some : 0 < slice_index counts v
+  pub most : (w : ℕ) → 0 < w → w ≤ last → IsUnmarked marks w → slice_index counts w ≤ slice_index counts v
+  pub lowest : (w : ℕ) → 0 < w → w ≤ last → IsUnmarked marks w → slice_index counts w ≡ slice_index counts v → v ≤ w

@@ -1,0 +1,23 @@
+//! Splits a formula into cubes: the units that hold from the start, the variable that a cube is split on, and the trees that
+//! are grown by it.
+//!
+//! What a layer above may rest on: the preamble is the unit of each pure literal, `choose` is the split rule, and `tree`
+//! splits by it as deep as it is told to. Nothing of the tables that count shows.
+#![tactic(auto)]
+
+mod chooser;
+mod counting;
+mod laws;
+mod marks;
+mod pure;
+mod splitting;
+mod units;
+
+pub use chooser::Chooser;
+pub use laws::units_are_rat;
+pub use pure::preamble;
+pub use splitting::{grow, tree};
+pub use units::Preamble;
+
+#[cfg(test)]
+mod tests;

@@ -1,0 +1,33 @@
+//! A table that says of each literal whether it was marked.
+
+ghost use Rattle.std.specs.Prelude.{◌≡◌, ◌<◌, ◌↔◌, ◌||◌, length, IsTrue, Bool, All, not, false};
+ghost use Rattle.std.specs.List.{list_any};
+ghost use Rattle.dimacs.specs.Literal.{Literal, index_of, has};
+ghost use Rattle.cube_split.specs.Marks.{AreMarked};
+
+use dimacs::Lit;
+
+/// Marks literals; those beyond the table are passed over.
+pub(crate) fn mark(marks: &mut [bool], literals: &[Lit])
+    ensures { (test : Literal → Bool) → AreMarked marks.old test → AreMarked marks.new (λ l. test l || has literals.now l) }
+{
+    for literal in literals {
+        let at = literal.index();
+        if at < marks.len() {
+            marks[at] = true;
+        }
+    }
+}
+
+/// Whether no literal of the clause is marked.
+pub(crate) fn is_apart(marks: &[bool], clause: &[Lit]) -> bool
+    requires { All (λ l. index_of l < length marks.now) clause.now }
+    ensures { (test : Literal → Bool) → AreMarked marks.now test → result ≡ not (list_any test clause.now) }
+{
+    for literal in clause {
+        if marks[literal.index()] {
+            return false;
+        }
+    }
+    true
+}

@@ -1,0 +1,68 @@
+//! The preamble of a formula: the units of its pure literals.
+
+ghost use Rattle.std.specs.Prelude.{◌≡◌, ◌+◌, ◌*◌, ◌<◌, ◌≤◌, ◌&&◌, ◌∷◌, [], not, filter, length, vec_len, All, Bool, List, IfOk};
+ghost use Rattle.std.specs.Option.{option_to_list};
+ghost use Rattle.dimacs.specs.Base.{occurs, pure_literals};
+ghost use Rattle.dimacs.specs.Literal.{Literal, Clause, Pos, Neg, negation, IsWithin};
+ghost use Rattle.cube_split.specs.Marks.{AreMarked};
+
+use crate::marks::mark;
+use crate::units::Preamble;
+use dimacs::{Formula, Lit, Var};
+use std::alloc::{AllocError, Global};
+
+/// Marks each literal that occurs in the formula.
+fn mark_occurring(marks: &mut [bool], formula: &Formula)
+    requires { AreMarked marks.old (λ l. occurs [] l) }
+    ensures { AreMarked marks.new (occurs formula.now.clauses) }
+{
+    for i in 0..formula.len() {
+        mark(marks, formula.clause(i));
+    }
+}
+
+/// The literal of a variable that is marked where its negation is not, if there is one.
+fn pure_literal(marks: &[bool], var: Var) -> Option<Lit>
+    requires { 2 * var + 1 < length marks.now }
+    ensures { (test : Literal → Bool) → AreMarked marks.now test →
+        option_to_list result ≡ filter (λ l. test l && not (test (negation l))) (Pos var ∷ Neg var ∷ []) }
+{
+    let positive = Lit::positive(var);
+    let negative = Lit::negative(var);
+    match (marks[positive.index()], marks[negative.index()]) {
+        (true, false) => Some(positive),
+        (false, true) => Some(negative),
+        _ => None,
+    }
+}
+
+/// The literals of the variables from 1 to `vars` that are marked where their negations are not, variables rising.
+fn pure_units(alloc: Global, marks: &[bool], vars: u32) -> Result<Vec<Lit>, AllocError>
+    requires limit { vars ≤ 1000000 }
+    requires size { 2 * vars + 1 < length marks.now }
+    ensures units { (clauses : List Clause) → AreMarked marks.now (occurs clauses) →
+        IfOk result (λ u. u.items ≡ pure_literals (record { vars = vars; clauses = clauses })) }
+    ensures within { (clauses : List Clause) → AreMarked marks.now (occurs clauses) → IfOk result (λ u. All (IsWithin vars) u.items) }
+    ensures count { IfOk result (λ u. vec_len u ≤ vars) }
+{
+    let mut units = Vec::new(alloc);
+    for number in 1..vars + 1 {
+        if let Some(literal) = pure_literal(marks, Var::new(number)) {
+            units.push(literal)?;
+        }
+    }
+    Ok(units)
+}
+
+/// The preamble of a formula: the unit of each pure literal, variables rising. A literal is pure where it occurs in the
+/// formula and its negation does not.
+pub fn preamble(alloc: Global, formula: &Formula) -> Result<Preamble, AllocError>
+    ensures units { IfOk result (λ p. p ≡ pure_literals formula.now) }
+    ensures within { IfOk result (λ p. All (IsWithin formula.now.vars) p) }
+{
+    let vars = formula.vars();
+    let mut marks = vec![in alloc; false; 2 * vars as usize + 2]?;
+    mark_occurring(&mut marks, formula);
+    let units = pure_units(alloc, &marks, vars)?;
+    Ok(Preamble::from_units(units))
+}

@@ -1,0 +1,41 @@
+//! The run of `cubes`.
+
+ghost use Rattle.std.specs.Prelude.{◌≡◌, ◌≤◌, ◌↔◌, ◌⊎◌, IfOk};
+ghost use Rattle.dimacs.specs.Cnf.{Cnf};
+ghost use Rattle.dimacs.specs.Spelling.{Spells};
+ghost use Rattle.dimacs.specs.Reading.{parse};
+ghost use Rattle.node_main.specs.Cubing.{ShowsCubes, PrintsCubes};
+
+use crate::checking::faulty_input;
+use crate::report::Report;
+use cube_split::tree;
+use dimacs::{Formula, Kind};
+use std::alloc::{AllocError, Global};
+
+/// The report of the cubes of a formula.
+fn listed(alloc: Global, formula: &Formula, depth: u32) -> Result<Report, AllocError>
+    requires { depth ≤ 16 }
+    ensures text { IfOk result (λ r. ShowsCubes formula.now depth r.stdout.items) }
+    ensures status { IfOk result (λ r. r.status ≡ 0) }
+{
+    let tree = tree(alloc, formula, depth)?;
+    let mut report = Report::of(alloc, b"", 0)?;
+    icnf::write(formula, &tree, &mut report.stdout)?;
+    Ok(report)
+}
+
+/// Reads a formula and splits it into cubes, as deep as this. The error stands for the report `c no memory`, status 1.
+pub fn run_cubes(alloc: Global, input: &[u8], depth: u32) -> Result<Report, AllocError>
+    requires { depth ≤ 16 }
+    // Exactly where the input spells a formula.
+    ensures spelled { IfOk result (λ r. (r.status ≡ 0) ↔ ((F : Cnf) × Spells input.now F)) }
+    ensures status { IfOk result (λ r. (r.status ≡ 0) ⊎ (r.status ≡ 1)) }
+    // The formula's clauses and the cubes of its tree, or the fault of the input.
+    ensures text { IfOk result (λ r. PrintsCubes (parse input.now) depth r.stdout.items) }
+{
+    match dimacs::read(alloc, input) {
+        Ok(formula) => listed(alloc, &formula, depth),
+        Err(fault) if fault.kind == Kind::NoMemory => Err(AllocError),
+        Err(fault) => faulty_input(alloc, fault),
+    }
+}
