@@ -6,14 +6,14 @@ use std::process::Abort;
 use std::test::Fail;
 
 /// The four clauses over two variables, which nothing satisfies.
-const FOUR: &[u8] = b"p cnf 2 4\n1 2 0\n-1 2 0\n1 -2 0\n-1 -2 0\n";
+pub(crate) const FOUR: &[u8] = b"p cnf 2 4\n1 2 0\n-1 2 0\n1 -2 0\n-1 -2 0\n";
 
-const VERIFIED: &[u8] = b"s VERIFIED\n";
+pub(crate) const VERIFIED: &[u8] = b"s VERIFIED\n";
 
 /// A proof, and what is printed of it.
 type Row = (&'static [u8], &'static [u8]);
 
-fn prints(
+pub(crate) fn prints(
     rt: &impl Abort,
     alloc: Global,
     input: &[u8],
@@ -105,68 +105,39 @@ fn a_faulty_input(rt: HostRuntime) -> Result<(), Fail> {
     )
 }
 
-/// The definition of a variable above those of the formula, line 2 of which is replaced below.
 #[test]
-fn a_definition_has_two_blocked_candidates(rt: HostRuntime) -> Result<(), Fail> {
-    let rows: [Row; 6] = [
-        (
-            b"5 3 -1 -2 0 0\n6 -3 1 0 -5 0\n7 -3 2 0 -5 0\n8 2 0 1 2 0\n9 0 8 3 4 0\n",
-            VERIFIED,
-        ),
-        (
-            b"5 3 -1 -2 0 0\n6 -3 1 0 0\n7 -3 2 0 -5 0\n8 2 0 1 2 0\n9 0 8 3 4 0\n",
-            b"s NOT VERIFIED\nc line 2 fault 9\n",
-        ),
-        (
-            b"5 3 -1 -2 0 0\n6 -3 1 0 -1 0\n",
-            b"s NOT VERIFIED\nc line 2 fault 10\n",
-        ),
-        (
-            b"5 3 -1 -2 0 0\n6 -3 1 0 -5 -5 0\n",
-            b"s NOT VERIFIED\nc line 2 fault 11\n",
-        ),
-        (
-            b"5 3 -1 -2 0 0\n6 -3 1 0 -5 1 0\n",
-            b"s NOT VERIFIED\nc line 2 fault 12\n",
-        ),
-        (
-            b"5 3 -1 -2 0 0\n6 -3 1 0 -9 0\n",
-            b"s NOT VERIFIED\nc line 2 fault 3\n",
-        ),
-    ];
-    all_print(&rt, rt.alloc(), FOUR, &rows)
-}
-
-#[test]
-fn a_candidate_that_is_not_blocked(rt: HostRuntime) -> Result<(), Fail> {
+fn a_hint_that_names_a_deleted_clause(rt: HostRuntime) -> Result<(), Fail> {
     let rows: [Row; 2] = [
-        (b"4 1 0 -2 1 3 0\n", b"s NOT VERIFIED\nc line 2 fault 13\n"),
-        (b"4 1 0 -2 1 0\n", b"s NOT VERIFIED\nc line 1 fault 8\n"),
-    ];
-    all_print(
-        &rt,
-        rt.alloc(),
-        b"p cnf 3 3\n1 2 0\n-1 3 0\n3 -2 0\n",
-        &rows,
-    )
-}
-
-#[test]
-fn a_deleted_clause_is_not_live(rt: HostRuntime) -> Result<(), Fail> {
-    let rows: [Row; 5] = [
         (
             b"5 d 1 0\n5 2 0 1 2 0\n",
             b"s NOT VERIFIED\nc line 2 fault 3\n",
         ),
-        (b"5 d 1 1 0\n", b"s NOT VERIFIED\nc line 1 fault 3\n"),
-        (b"5 d 0\n5 2 0 1 2 0\n6 0 5 3 4 0\n", VERIFIED),
-        (b"5 2 0 1 2 0\n6 d 1 2 0\n6 0 5 3 4 0\n", VERIFIED),
         (
             b"5 2 0 1 2 0\n5 d 5 0\n6 0 5 3 4 0\n",
             b"s NOT VERIFIED\nc line 3 fault 3\n",
         ),
     ];
     all_print(&rt, rt.alloc(), FOUR, &rows)
+}
+
+#[test]
+fn a_clause_is_deleted_once(rt: HostRuntime) -> Result<(), Fail> {
+    let rows: [Row; 2] = [
+        (b"5 d 1 1 0\n", b"s NOT VERIFIED\nc line 1 fault 3\n"),
+        (b"5 2 0 1 2 0\n6 d 1 2 0\n6 0 5 3 4 0\n", VERIFIED),
+    ];
+    all_print(&rt, rt.alloc(), FOUR, &rows)
+}
+
+#[test]
+fn an_empty_deletion(rt: HostRuntime) -> Result<(), Fail> {
+    prints(
+        &rt,
+        rt.alloc(),
+        FOUR,
+        b"5 d 0\n5 2 0 1 2 0\n6 0 5 3 4 0\n",
+        VERIFIED,
+    )
 }
 
 #[test]
@@ -188,21 +159,13 @@ fn numbers_rise_with_gaps(rt: HostRuntime) -> Result<(), Fail> {
     all_print(&rt, rt.alloc(), FOUR, &rows)
 }
 
-/// A candidate with the pivot and its negation is not blocked by that pair; a tautology over another variable is.
 #[test]
-fn candidates_with_both_signs(rt: HostRuntime) -> Result<(), Fail> {
+fn the_greatest_number_in_a_proof_of_one_line(rt: HostRuntime) -> Result<(), Fail> {
     prints(
         &rt,
         rt.alloc(),
-        b"p cnf 2 1\n1 -1 0\n",
-        b"2 1 0 -1 0\n",
-        b"s NOT VERIFIED\nc line 1 fault 8\n",
-    )?;
-    prints(
-        &rt,
-        rt.alloc(),
-        b"p cnf 2 1\n-1 2 -2 0\n",
-        b"2 1 0 -1 0\n",
-        b"s NOT VERIFIED\nc line 2 fault 13\n",
+        b"p cnf 1 2\n1 0\n-1 0\n",
+        b"281474976710655 0 1 2 0\n",
+        VERIFIED,
     )
 }

@@ -2,7 +2,13 @@
 #![tactic(auto)]
 
 #[cfg(test)]
+mod candidates;
+#[cfg(test)]
 mod checks;
+#[cfg(test)]
+mod cubes;
+#[cfg(test)]
+mod deletions;
 #[cfg(test)]
 mod lines;
 #[cfg(test)]
