@@ -1,0 +1,54 @@
+use Rattle.std.proofs.Common.{◌≡◌, ◌∙◌, ap, subst, sym, length, arith, ℕ, ◌<◌, ◌++◌, List, get_or, IsSome}
+use Rattle.std.specs.FinMap.{get}
+use Rattle.clause_arena.specs.declared.reference.Ref.{Ref}
+use Rattle.clause_arena.specs.Clauses.{Clauses}
+use Rattle.clause_arena.specs.Contents.{contents, slot_of, IsPlaced, IsArena}
+use Rattle.clause_arena.specs.Compaction.{IsCompacted}
+use Rattle.clause_arena.specs.Packing.{refs_of, gathered, moves_from, moved_by}
+use Rattle.clause_arena.proofs.CompactionLemmas.{arena-compacted, compacted, refs_placed, moves_live, lent}
+use Rattle.clause_arena.proofs.arena.Arena.compact.Goals as goal
+
+pub gather-requires : goal.gather-requires
+gather-requires c =
+    let refs = c.deref-2.ensures.value ∙ c.in_ok-list.ensures ∙ ap (λ xs. xs ++ refs_of c.self.inside.index) c.new-refs.ensures.items in
+    let P : List Ref → Type 0 = λ xs. (i : ℕ) (d : Ref) → i < length xs → IsPlaced c.deref.result.now (slot_of (get_or xs i d)) in
+    subst P (sym refs)
+    (subst (λ ws. (i : ℕ) (d : Ref) → i < length (refs_of c.self.inside.index) → IsPlaced ws (slot_of (get_or (refs_of c.self.inside.index) i d))) (sym c.deref.ensures.value)
+    (refs_placed c.self.inside.words.items c.self.inside.index c.self.invariant))
+
+pub move_all-requires : goal.move_all-requires
+move_all-requires c =
+    let refs = c.deref-2.ensures.value ∙ c.in_ok-list.ensures ∙ ap (λ xs. xs ++ refs_of c.self.inside.index) c.new-refs.ensures.items in
+    let before : c.len-before.result ≡ length c.args.moved.now.items = omega arith in
+    let is = lent c.deref-in-Ok.result.now c.args.moved.now.items (moves_from 0 (refs_of c.self.inside.index)) c.len-before.result before
+    (c.deref-in-Ok.ensures.value ∙ c.in-Ok.ensures.moves ∙ ap (λ xs. c.args.moved.now.items ++ moves_from 0 xs) refs) in
+    let P : List (Ref × Ref) → Type 0 = λ xs. (i : ℕ) (d : Ref × Ref) → i < length xs → IsSome (get c.self.inside.index (get_or xs i d).1.number) in
+    subst P (sym is) (moves_live c.self.inside.words.items c.self.inside.index c.self.invariant)
+
+pub invariant_of-self : goal.invariant_of-self
+invariant_of-self c =
+    let refs = c.deref-2.ensures.value ∙ c.in_ok-list.ensures ∙ ap (λ xs. xs ++ refs_of c.self.inside.index) c.new-refs.ensures.items in
+    let before : c.len-before.result ≡ length c.args.moved.now.items = omega arith in
+    let is = lent c.deref-in-Ok.result.now c.args.moved.now.items (moves_from 0 (refs_of c.self.inside.index)) c.len-before.result before
+    (c.deref-in-Ok.ensures.value ∙ c.in-Ok.ensures.moves ∙ ap (λ xs. c.args.moved.now.items ++ moves_from 0 xs) refs) in
+    let words = c.in-Ok.ensures.words ∙ ap (λ ws. gathered ws c.deref-2.result.now) c.deref.ensures.value ∙ ap (gathered c.self.inside.words.items) refs in
+    let index = c.move_all.ensures ∙ ap (moved_by c.self.inside.index) is in
+    subst (λ ws. IsArena ws c.move_all.new.self) (sym words)
+    (subst (λ m. IsArena (gathered c.self.inside.words.items (refs_of c.self.inside.index)) m) (sym index)
+    (arena-compacted c.self.inside.words.items c.self.inside.index c.self.invariant))
+
+pub returns-in-Ok-clause-ok : goal.returns-in-Ok-clause-ok
+returns-in-Ok-clause-ok c =
+    let refs = c.deref-2.ensures.value ∙ c.in_ok-list.ensures ∙ ap (λ xs. xs ++ refs_of c.self.inside.index) c.new-refs.ensures.items in
+    let before : c.len-before.result ≡ length c.args.moved.now.items = omega arith in
+    let told = c.in-Ok.ensures.moves ∙ ap (λ xs. c.args.moved.now.items ++ moves_from 0 xs) refs in
+    let is = lent c.deref-in-Ok.result.now c.args.moved.now.items (moves_from 0 (refs_of c.self.inside.index)) c.len-before.result before (c.deref-in-Ok.ensures.value ∙ told) in
+    let words = c.in-Ok.ensures.words ∙ ap (λ ws. gathered ws c.deref-2.result.now) c.deref.ensures.value ∙ ap (gathered c.self.inside.words.items) refs in
+    let index = c.move_all.ensures ∙ ap (moved_by c.self.inside.index) is in
+    let new = ap (λ ws. contents ws c.move_all.new.self) words ∙ ap (contents (gathered c.self.inside.words.items (refs_of c.self.inside.index))) index in (
+      moves_from 0 (refs_of c.self.inside.index),
+      told,
+      subst (λ (m : Clauses). IsCompacted m (contents c.in-Ok.fresh.items c.move_all.new.self) (moves_from 0 (refs_of c.self.inside.index))) c.self.view_is
+          (subst (λ (m : Clauses). IsCompacted (contents c.self.inside.words.items c.self.inside.index) m (moves_from 0 (refs_of c.self.inside.index))) (sym new)
+          (compacted c.self.inside.words.items c.self.inside.index c.self.invariant)),
+    )

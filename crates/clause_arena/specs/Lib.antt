@@ -1,0 +1,5 @@
+pub mod Clauses
+pub mod Compaction
+pub mod Contents
+pub mod Packing
+pub mod Slots

@@ -1,0 +1,139 @@
+//! The arena as its callers see it.
+
+ghost use Rattle.std.specs.Prelude.{◌≡◌, ℕ, ◌<◌, ◌++◌, List, length, swap, IfOk, OnOk, OnErr, IfSome, IfNone, None};
+ghost use Rattle.std.specs.List.{IsDistinct};
+ghost use Rattle.std.specs.FinMap.{get, insert, remove, empty};
+ghost use Rattle.dimacs.specs.Literal.{Clause, same};
+ghost use Rattle.clause_arena.specs.declared.reference.Ref.{Ref};
+ghost use Rattle.clause_arena.specs.Clauses.{Clauses, Stands, IsLive};
+ghost use Rattle.clause_arena.specs.Compaction.{IsCompacted};
+
+use crate::compaction::gather;
+use crate::index::Index;
+use crate::reference::Ref;
+use crate::slots::Slot;
+use crate::words::{exchange, literals_at};
+use dimacs::Lit;
+use std::alloc::{AllocError, Global};
+use std::marker::Model;
+
+/// Clauses by their numbers. Only `add` and `compact` take memory.
+#[derive(Drop)]
+pub struct Arena {
+    words: Vec<Lit>,
+    index: Index,
+}
+
+impl Model for Arena {
+    ghost use Rattle.clause_arena.specs.Clauses.{Clauses, clauses_code};
+    ghost use Rattle.clause_arena.specs.Contents.{contents, IsArena};
+
+    ghost Value = { Clauses };
+
+    ghost coded = { clauses_code };
+
+    ghost view = { λ a. contents a.words.items a.index };
+
+    ghost invariant = { λ a. IsArena a.words.items a.index };
+}
+
+impl Arena {
+    /// No clause.
+    pub fn new(alloc: Global) -> Arena
+        ensures { result ≡ empty }
+    {
+        Arena {
+            words: Vec::new(alloc),
+            index: Index::new(alloc),
+        }
+    }
+
+    /// Takes in a clause under a number that is not live. Want of memory leaves all as it was.
+    pub fn add(&mut self, number: u64, literals: &[Lit]) -> Result<Ref, AllocError>
+        requires distinct { IsDistinct same literals.now }
+        requires fresh { get self.old number ≡ None }
+        ensures ok { IfOk result (λ at. (at.number ≡ number) × (at.len ≡ length literals.now) × (self.new ≡ insert self.old number (at.place, literals.now))) }
+        ensures err { OnErr result (self.new ≡ self.old) }
+    {
+        let place = self.words.len();
+        let len = literals.len();
+        self.words.extend_from_slice(literals)?;
+        match self.index.insert(number, Slot { place, len }) {
+            Ok(()) => Ok(Ref { number, place, len }),
+            Err(error) => {
+                self.words.truncate(place);
+                Err(error)
+            }
+        }
+    }
+
+    /// Lends the literals of a live clause.
+    #[inline]
+    pub fn clause(&self, at: Ref) -> &[Lit]
+        requires live { IsLive self.now at }
+        ensures literals { (C : Clause) → Stands self.now at C → result.now ≡ C }
+        ensures len { length result.now ≡ at.len }
+        ensures distinct { IsDistinct same result.now }
+    {
+        literals_at(&self.words, at)
+    }
+
+    /// Where the live clause of a number stands; None where the number is not live.
+    #[inline]
+    pub fn find(&self, number: u64) -> Option<Ref>
+        ensures some { IfSome result (λ at. (at.number ≡ number) × IsLive self.now at) }
+        ensures none { IfNone result (get self.now number ≡ None) }
+    {
+        match self.index.get(number) {
+            Some(slot) => Some(Ref {
+                number,
+                place: slot.place,
+                len: slot.len,
+            }),
+            None => None,
+        }
+    }
+
+    /// Exchanges two literals of a live clause.
+    #[inline]
+    pub fn swap(&mut self, at: Ref, i: usize, j: usize)
+        requires live { IsLive self.old at }
+        requires i_in { i < at.len }
+        requires j_in { j < at.len }
+        ensures { (C : Clause) → Stands self.old at C → self.new ≡ insert self.old at.number (at.place, swap C i j) }
+    {
+        exchange(&mut self.words, at, i, j);
+    }
+
+    /// Takes out a live clause. The room of its literals stays a gap until the next `compact`.
+    pub fn remove(&mut self, at: Ref)
+        requires { IsLive self.old at }
+        ensures { self.new ≡ remove self.old at.number }
+    {
+        self.index.remove(at.number);
+    }
+
+    /// Closes the gaps, and tells the old and the new place of each clause that moved, by rising numbers. Want of memory leaves
+    /// all as it was, `moved` too.
+    pub fn compact(&mut self, moved: &mut Vec<(Ref, Ref)>) -> Result<(), AllocError>
+        ensures ok { OnOk result ((moves : List (Ref × Ref)) × (moved.new.items ≡ moved.old.items ++ moves) × IsCompacted self.old self.new moves) }
+        ensures err { OnErr result (self.new ≡ self.old) }
+        ensures untold { OnErr result (moved.new.items ≡ moved.old.items) }
+    {
+        let alloc = *self.words.allocator();
+        let mut refs = Vec::new(alloc);
+        self.index.list(&mut refs)?;
+        let before = moved.len();
+        match gather(alloc, &self.words, &refs, moved) {
+            Ok(fresh) => {
+                self.index.move_all(&moved[before..]);
+                self.words = fresh;
+                Ok(())
+            }
+            Err(error) => {
+                moved.truncate(before);
+                Err(error)
+            }
+        }
+    }
+}

@@ -1,0 +1,69 @@
+//! The live clauses one after the other in a fresh vector (the relocation of MiniSat's clause arena).
+
+ghost use Rattle.std.specs.Prelude.{◌≡◌, ℕ, ◌+◌, ◌^◌, ◌<◌, ◌≤◌, ◌++◌, length, take, vec_len, slice_index_or, sum_by, IfOk, OnOk, OnErr};
+ghost use Rattle.clause_arena.specs.declared.reference.Ref.{Ref};
+ghost use Rattle.clause_arena.specs.Contents.{clause_at, slot_of, IsPlaced};
+ghost use Rattle.clause_arena.specs.Packing.{gathered, move_of, moves_from};
+
+use crate::reference::Ref;
+use crate::words::literals_at;
+use dimacs::Lit;
+use std::alloc::{AllocError, Global};
+
+/// How many literals the clauses have together.
+fn room_for(refs: &[Ref]) -> usize
+    ensures { sum_by (λ (at : Ref). at.len) refs.now < 2 ^ 64 → result ≡ sum_by (λ (at : Ref). at.len) refs.now }
+{
+    let mut room = 0usize;
+    for at in refs {
+        room = room.saturating_add(at.len);
+    }
+    room
+}
+
+/// Appends the literals of a clause, and tells the move where its place is another one now.
+fn carry(
+    words: &[Lit],
+    at: Ref,
+    fresh: &mut Vec<Lit>,
+    moved: &mut Vec<(Ref, Ref)>,
+) -> Result<(), AllocError>
+    requires { IsPlaced words.now (slot_of at) }
+    ensures words { OnOk result (fresh.new.items ≡ fresh.old.items ++ clause_at words.now (slot_of at)) }
+    ensures moves { OnOk result (moved.new.items ≡ moved.old.items ++ move_of (vec_len fresh.old) at) }
+    ensures err { OnErr result (moved.new.items ≡ moved.old.items) }
+{
+    let place = fresh.len();
+    fresh.extend_from_slice(literals_at(words, at))?;
+    if place != at.place {
+        moved.push((
+            at,
+            Ref {
+                number: at.number,
+                place,
+                len: at.len,
+            },
+        ))?;
+    }
+    Ok(())
+}
+
+/// The literals of clauses one after the other. Each clause whose place is another one now is told; after an error some may
+/// be told already.
+pub(crate) fn gather(
+    alloc: Global,
+    words: &[Lit],
+    refs: &[Ref],
+    moved: &mut Vec<(Ref, Ref)>,
+) -> Result<Vec<Lit>, AllocError>
+    requires { (i : ℕ) (d : Ref) → i < length refs.now → IsPlaced words.now (slot_of (slice_index_or refs.now i d)) }
+    ensures words { IfOk result (λ fresh. fresh.items ≡ gathered words.now refs.now) }
+    ensures moves { OnOk result (moved.new.items ≡ moved.old.items ++ moves_from 0 refs.now) }
+    ensures err { OnErr result (take (vec_len moved.old) moved.new.items ≡ moved.old.items) }
+{
+    let mut fresh = Vec::with_capacity(alloc, room_for(refs))?;
+    for at in refs {
+        carry(words, *at, &mut fresh, moved)?;
+    }
+    Ok(fresh)
+}

@@ -1,0 +1,103 @@
+//! The index of an arena: the slots of the live clauses by their numbers.
+
+ghost use Rattle.std.specs.Prelude.{◌≡◌, ℕ, ◌<◌, ◌++◌, length, slice_index_or, IsSome, OnOk, OnErr};
+ghost use Rattle.std.specs.FinMap.{get, insert, remove, empty};
+ghost use Rattle.clause_arena.specs.declared.reference.Ref.{Ref};
+ghost use Rattle.clause_arena.specs.Packing.{refs_of, moved_by};
+
+use crate::reference::Ref;
+use crate::slots::{Far, Slot, find, list, put, replace, reserve_place, take};
+use std::alloc::{AllocError, Global};
+use std::collections::BTreeMap;
+use std::marker::Model;
+
+/// The slots of the live clauses, by their numbers.
+#[derive(Drop)]
+pub(crate) struct Index {
+    near: Vec<Option<Slot>>,
+    far: Far,
+    /// How many clauses were ever put in: it bounds how many places may be free.
+    taken: u64,
+}
+
+impl Model for Index {
+    ghost use Rattle.std.specs.Prelude.{◌+◌, ◌*◌, ◌≤◌, vec_len};
+    ghost use Rattle.clause_arena.specs.Slots.{Slots, slots_code, slots_of, IsApart};
+
+    ghost Value = { Slots };
+
+    ghost coded = { slots_code };
+
+    ghost view = { λ i. slots_of i.near.items i.far };
+
+    ghost invariant = { λ i. IsApart i.near.items i.far × (vec_len i.near ≤ 4 * (i.taken + 8192)) };
+}
+
+impl Index {
+    /// No slot.
+    pub(crate) fn new(alloc: Global) -> Index
+        ensures { result ≡ empty }
+    {
+        Index {
+            near: Vec::new(alloc),
+            far: BTreeMap::new(alloc),
+            taken: 0,
+        }
+    }
+
+    /// The slot of a number.
+    #[inline]
+    pub(crate) fn get(&self, number: u64) -> Option<Slot>
+        ensures { result ≡ get self.now number }
+    {
+        find(&self.near, &self.far, number)
+    }
+
+    /// Puts a slot under a number.
+    pub(crate) fn insert(&mut self, number: u64, slot: Slot) -> Result<(), AllocError>
+        ensures ok { OnOk result (self.new ≡ insert self.old number slot) }
+        ensures err { OnErr result (self.new ≡ self.old) }
+    {
+        self.taken = self.taken.saturating_add(1);
+        reserve_place(&mut self.near, &self.far, self.taken, number)?;
+        put(&mut self.near, &mut self.far, number, slot)
+    }
+
+    /// Takes out the slot of a number.
+    pub(crate) fn remove(&mut self, number: u64)
+        ensures { self.new ≡ remove self.old number }
+    {
+        take(&mut self.near, &mut self.far, number);
+    }
+
+    /// Puts another slot under a number that has one.
+    pub(crate) fn replace(&mut self, number: u64, slot: Slot)
+        requires { IsSome (get self.old number) }
+        ensures { self.new ≡ insert self.old number slot }
+    {
+        replace(&mut self.near, &mut self.far, number, slot);
+    }
+
+    /// Puts each clause where it has moved.
+    pub(crate) fn move_all(&mut self, moves: &[(Ref, Ref)])
+        requires { (i : ℕ) (d : Ref × Ref) → i < length moves.now → IsSome (get self.old (slice_index_or moves.now i d).1.number) }
+        ensures { self.new ≡ moved_by self.old moves.now }
+    {
+        for (_, to) in moves {
+            self.replace(
+                to.number,
+                Slot {
+                    place: to.place,
+                    len: to.len,
+                },
+            );
+        }
+    }
+
+    /// Appends where the clauses stand, by rising numbers.
+    pub(crate) fn list(&self, refs: &mut Vec<Ref>) -> Result<(), AllocError>
+        ensures { OnOk result (refs.new.items ≡ refs.old.items ++ refs_of self.now) }
+    {
+        list(&self.near, &self.far, refs)
+    }
+}

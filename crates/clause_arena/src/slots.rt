@@ -1,0 +1,225 @@
+//! Slots by the numbers of clauses. Numbers that follow each other closely, as those of a formula and of the lemmas learnt
+//! from it do, are places of a table; the others are keys of a map, so that a great number takes no more room than any
+//! other.
+
+ghost use Rattle.std.specs.Prelude.{◌≡◌, ℕ, ◌+◌, ◌*◌, ◌≤◌, ◌<◌, max, ◌++◌, length, map, vec_len, OnOk, OnErr, None, Some, IsSome};
+ghost use Rattle.std.specs.FinMap.{get, insert, remove};
+ghost use Rattle.std.specs.Ordering.{nat_cmp};
+ghost use Rattle.std.specs.BTreeMap as tree;
+ghost use Rattle.std.specs.BTreeMap.{IsOrdered};
+ghost use Rattle.clause_arena.specs.Slots.{near_entries, slots_of, IsApart};
+ghost use Rattle.clause_arena.specs.Packing.{ref_of, refs_of};
+
+use crate::reference::Ref;
+use std::alloc::AllocError;
+use std::collections::BTreeMap;
+
+/// Where the literals of a clause stand.
+#[derive(Clone, Copy)]
+pub(crate) struct Slot {
+    pub(crate) place: usize,
+    pub(crate) len: usize,
+}
+
+pub(crate) type Far = BTreeMap<u64, Slot>;
+
+/// The slot of a number.
+#[inline]
+pub(crate) fn find(near: &[Option<Slot>], far: &Far, number: u64) -> Option<Slot>
+    requires { IsApart near.now far.now }
+    ensures { result ≡ get (slots_of near.now far.now) number }
+{
+    let place = number as usize;
+    if place < near.len() {
+        near[place]
+    } else {
+        match far.get(&number) {
+            Some(slot) => Some(*slot),
+            None => None,
+        }
+    }
+}
+
+/// Puts a slot at a place, or frees it.
+pub(crate) fn set_near(near: &mut [Option<Slot>], far: &Far, place: usize, slot: Option<Slot>)
+    requires apart { IsApart near.old far.now }
+    requires here { place < length near.old }
+    ensures some { (s : Slot) → slot ≡ Some s → slots_of near.new far.now ≡ insert (slots_of near.old far.now) place s }
+    ensures none { slot ≡ None → slots_of near.new far.now ≡ remove (slots_of near.old far.now) place }
+    ensures apart { IsApart near.new far.now }
+{
+    let _ = far;
+    near[place] = slot;
+}
+
+/// Puts a slot under a number that has no place.
+fn put_far(near: &[Option<Slot>], far: &mut Far, number: u64, slot: Slot) -> Result<(), AllocError>
+    requires apart { IsApart near.now far.old }
+    requires beyond { length near.now ≤ number }
+    ensures ok { OnOk result (slots_of near.now far.new ≡ insert (slots_of near.now far.old) number slot) }
+    ensures err { OnErr result (slots_of near.now far.new ≡ slots_of near.now far.old) }
+    ensures apart { IsApart near.now far.new }
+{
+    let _ = near;
+    far.insert(number, slot)?;
+    Ok(())
+}
+
+/// Takes out the slot of a number that has no place.
+fn take_far(near: &[Option<Slot>], far: &mut Far, number: u64)
+    requires apart { IsApart near.now far.old }
+    requires beyond { length near.now ≤ number }
+    ensures after { slots_of near.now far.new ≡ remove (slots_of near.now far.old) number }
+    ensures apart { IsApart near.now far.new }
+{
+    let _ = near;
+    far.remove(&number);
+}
+
+/// Puts another slot under a key.
+fn replace_far(near: &[Option<Slot>], far: &mut Far, number: u64, slot: Slot)
+    requires apart { IsApart near.now far.old }
+    requires beyond { length near.now ≤ number }
+    requires live { IsSome (tree.get nat_cmp far.old number) }
+    ensures after { slots_of near.now far.new ≡ insert (slots_of near.now far.old) number slot }
+    ensures apart { IsApart near.now far.new }
+{
+    let _ = near;
+    if let Some(old) = far.get_mut(&number) {
+        *old = slot;
+    }
+}
+
+/// Makes places up to this one, below the keys of the map. The new ones are free.
+fn make_place(near: &mut Vec<Option<Slot>>, far: &Far, place: usize) -> Result<(), AllocError>
+    requires apart { IsApart near.old.items far.now }
+    requires below { (q : ℕ) → IsSome (tree.get nat_cmp far.now q) → place < q }
+    ensures same { slots_of near.new.items far.now ≡ slots_of near.old.items far.now }
+    ensures apart { IsApart near.new.items far.now }
+    ensures here { OnOk result (place < vec_len near.new) }
+    ensures few { vec_len near.new ≤ max (vec_len near.old) (place + 1) }
+{
+    let _ = far;
+    while near.len() <= place {
+        near.push(None)?;
+    }
+    Ok(())
+}
+
+/// Makes a place for a number that follows the others closely, where no key of the map stands in the way. The table has
+/// at most four places for each clause that was ever put in and 32,768 more, however great a number is.
+pub(crate) fn reserve_place(
+    near: &mut Vec<Option<Slot>>,
+    far: &Far,
+    taken: u64,
+    number: u64,
+) -> Result<(), AllocError>
+    requires { IsApart near.old.items far.now }
+    ensures same { slots_of near.new.items far.now ≡ slots_of near.old.items far.now }
+    ensures apart { IsApart near.new.items far.now }
+    ensures few { vec_len near.new ≤ max (vec_len near.old) (4 * (taken + 8192)) }
+{
+    if number >= taken.saturating_add(8192).saturating_mul(4) {
+        return Ok(());
+    }
+    match far.first_key_value() {
+        None => make_place(near, far, number as usize),
+        Some((first, _)) => {
+            if number < *first {
+                make_place(near, far, number as usize)
+            } else {
+                Ok(())
+            }
+        }
+    }
+}
+
+/// Puts a slot under a number.
+pub(crate) fn put(
+    near: &mut [Option<Slot>],
+    far: &mut Far,
+    number: u64,
+    slot: Slot,
+) -> Result<(), AllocError>
+    requires { IsApart near.old far.old }
+    ensures ok { OnOk result (slots_of near.new far.new ≡ insert (slots_of near.old far.old) number slot) }
+    ensures err { OnErr result (slots_of near.new far.new ≡ slots_of near.old far.old) }
+    ensures apart { IsApart near.new far.new }
+{
+    let place = number as usize;
+    if place < near.len() {
+        set_near(near, far, place, Some(slot));
+        Ok(())
+    } else {
+        put_far(near, far, number, slot)
+    }
+}
+
+/// Takes out the slot of a number.
+pub(crate) fn take(near: &mut [Option<Slot>], far: &mut Far, number: u64)
+    requires { IsApart near.old far.old }
+    ensures after { slots_of near.new far.new ≡ remove (slots_of near.old far.old) number }
+    ensures apart { IsApart near.new far.new }
+{
+    let place = number as usize;
+    if place < near.len() {
+        set_near(near, far, place, None);
+    } else {
+        take_far(near, far, number);
+    }
+}
+
+/// Puts another slot under a number that has one.
+pub(crate) fn replace(near: &mut [Option<Slot>], far: &mut Far, number: u64, slot: Slot)
+    requires apart { IsApart near.old far.old }
+    requires live { IsSome (get (slots_of near.old far.old) number) }
+    ensures after { slots_of near.new far.new ≡ insert (slots_of near.old far.old) number slot }
+    ensures apart { IsApart near.new far.new }
+{
+    let place = number as usize;
+    if place < near.len() {
+        set_near(near, far, place, Some(slot));
+    } else {
+        replace_far(near, far, number, slot);
+    }
+}
+
+/// Appends where the clauses of the table stand.
+fn list_near(near: &[Option<Slot>], refs: &mut Vec<Ref>) -> Result<(), AllocError>
+    ensures { OnOk result (refs.new.items ≡ refs.old.items ++ map ref_of (near_entries 0 near.now)) }
+{
+    for (i, slot) in near.iter().enumerate() {
+        if let Some(slot) = slot {
+            refs.push(Ref {
+                number: i as u64,
+                place: slot.place,
+                len: slot.len,
+            })?;
+        }
+    }
+    Ok(())
+}
+
+/// Appends where the clauses of the map stand.
+fn list_far(far: &Far, refs: &mut Vec<Ref>) -> Result<(), AllocError>
+    ensures ok { OnOk result (refs.new.items ≡ refs.old.items ++ map ref_of far.now.entries) }
+    ensures ordered { IsOrdered nat_cmp far.now }
+{
+    for (number, slot) in far.iter() {
+        refs.push(Ref {
+            number: *number,
+            place: slot.place,
+            len: slot.len,
+        })?;
+    }
+    Ok(())
+}
+
+/// Where the clauses stand, by rising numbers.
+pub(crate) fn list(near: &[Option<Slot>], far: &Far, refs: &mut Vec<Ref>) -> Result<(), AllocError>
+    requires { IsApart near.now far.now }
+    ensures { OnOk result (refs.new.items ≡ refs.old.items ++ refs_of (slots_of near.now far.now)) }
+{
+    list_near(near, refs)?;
+    list_far(far, refs)
+}
