@@ -1,0 +1,72 @@
+-- Literals, their negations and their places in a table.
+use Rattle.std.proofs.Common.{◌≡◌, ◌≢◌, ℕ, ◌+◌, ◌*◌, ◌<◌, ◌≤◌, ◌⊎◌, inl, inr, Bool, true, false, refl, sym, ap, subst, arith, List, [], ◌∷◌}
+use Rattle.std.specs.List.{IsDistinct}
+use Rattle.std.proofs.lemmas.Map.Keys.{IsDistinct-cons}
+use Rattle.std.proofs.lemmas.Bool.{true≢false, both_ways, eqb-true, eq-eqb, cases_Bool}
+use Rattle.dimacs.specs.Literal.{Literal, Pos, Neg, negation, same, var_of, index_of, IsWithin}
+
+pub same-true : (k l : Literal) → same k l ≡ true → k ≡ l
+same-true (Pos v) (Pos w) e = ap Pos (eqb-true v w e)
+same-true (Neg v) (Neg w) e = ap Neg (eqb-true v w e)
+same-true (Pos v) (Neg w) e = absurd (true≢false (sym e))
+same-true (Neg v) (Pos w) e = absurd (true≢false (sym e))
+
+pub same-itself : (k : Literal) → same k k ≡ true
+same-itself (Pos v) = eq-eqb v v refl
+same-itself (Neg v) = eq-eqb v v refl
+
+pub same_or_not : (k l : Literal) → (k ≡ l) ⊎ (k ≢ l)
+same_or_not k l = elim (cases_Bool (same k l)) [
+  | inl t ↦ inl (same-true k l t)
+  | inr f ↦ inr (λ e. both_ways (same k l) f (subst (λ x. same k x ≡ true) e (same-itself k)))
+]
+
+pub same-is : (k l : Literal) → k ≡ l → same k l ≡ true
+same-is k l e = subst (λ x. same k x ≡ true) e (same-itself k)
+
+pub same-false : (k l : Literal) → k ≢ l → same k l ≡ false
+same-false k l n = elim (cases_Bool (same k l)) [
+  | inl t ↦ absurd (n (same-true k l t))
+  | inr f ↦ f
+]
+
+pub negation-negation : (l : Literal) → negation (negation l) ≡ l
+negation-negation (Pos v) = refl
+negation-negation (Neg v) = refl
+
+pub var_of-negation : (l : Literal) → var_of (negation l) ≡ var_of l
+var_of-negation (Pos v) = refl
+var_of-negation (Neg v) = refl
+
+pub negation_apart : (l : Literal) → negation l ≢ l
+negation_apart (Pos v) = λ e. cc
+negation_apart (Neg v) = λ e. cc
+
+-- two literals of one variable are the same, or one is the other's negation
+pub twins : (k l : Literal) → var_of k ≡ var_of l → (k ≡ l) ⊎ (k ≡ negation l)
+twins (Pos v) (Pos w) e = inl (ap Pos e)
+twins (Pos v) (Neg w) e = inr (ap Pos e)
+twins (Neg v) (Pos w) e = inr (ap Neg e)
+twins (Neg v) (Neg w) e = inl (ap Neg e)
+
+pub IsWithin-negation : (n : ℕ) (l : Literal) → IsWithin n l → IsWithin n (negation l)
+IsWithin-negation n (Pos v) h = h
+IsWithin-negation n (Neg v) h = h
+
+-- a literal's place in a table of all literals of n variables
+pub index_below : (n : ℕ) (l : Literal) → IsWithin n l → index_of l < 2 * n + 2
+index_below n (Pos v) h = omega (arith, h.1)
+index_below n (Neg v) h = omega (arith, h.1)
+
+pub index_apart : (k l : Literal) → k ≢ l → index_of k ≢ index_of l
+index_apart (Pos v) (Pos w) d = λ e. d (ap Pos (omega arith))
+index_apart (Pos v) (Neg w) d = λ e. omega arith
+index_apart (Neg v) (Pos w) d = λ e. omega arith
+index_apart (Neg v) (Neg w) d = λ e. d (ap Neg (omega arith))
+
+none_distinct : IsDistinct same []
+unfolding IsDistinct
+none_distinct = tt
+
+pub distinct_pair : (k l : Literal) → index_of k ≢ index_of l → IsDistinct same (k ∷ l ∷ [])
+distinct_pair k l d = IsDistinct-cons same k (l ∷ []) (same-false k l (λ e. d (ap index_of e)), tt) (IsDistinct-cons same l [] tt none_distinct)

@@ -1,0 +1,65 @@
+-- What propagation of units may do, and what it owes: over a relation from the numbers of clauses to clauses, so that the
+-- trail, the trail cut to a level, a checker and an arena speak of the same things (Handbook of Satisfiability, chapter 4).
+use Rattle.std.specs.Prelude.{◌≡◌, ◌≢◌, ℕ, List, [], ◌∷◌, ◌++◌, Some, None, Contains, ◌↔◌, length}
+use Rattle.dimacs.specs.Literal.{Literal, Clause, negation}
+use Rattle.dimacs.specs.ClauseMap.{Live}
+use Rattle.dimacs.specs.Propagation.{Assumed, IsFalse, IsUnit}
+use Rattle.std.specs.FinMap.{get}
+use Rattle.clause_arena.specs.Clauses.{Clauses}
+use Rattle.watches.specs.declared.trail.Assigned.{Assigned}
+use Rattle.watches.specs.Trails.{TrailValue, holds, present}
+
+-- a clause that is neither false nor unit
+abbrev pub IsCalm : Assumed → Clause → Type 0
+IsCalm α C = ¬ (IsFalse α C) × ((l : Literal) → ¬ (IsUnit α C l))
+
+-- no live clause is false or unit
+abbrev pub AllCalm : Live → Assumed → Type 0
+AllCalm live α = (n : ℕ) (C : Clause) → live n C → IsCalm α C
+
+-- the live clauses among some numbers
+abbrev pub live_among : List ℕ → Live → Live
+live_among attached live = λ n C. Contains attached n × live n C
+
+-- the entry's reason is a live clause, which was unit with the entry's literal when it came, at the level then present
+pub record IsImplied (live : Live) (entries : List Assigned) (e : Assigned) : Type 0 where
+  pub number : ℕ
+  pub clause : Clause
+  pub reason : e.reason ≡ Some number
+  pub lives : live number clause
+  pub unit : IsUnit (holds entries) clause e.literal
+  pub level : e.level ≡ present entries
+
+-- entries that came behind others, each implied when it came
+abbrev pub AreImplied : Live → List Assigned → List Assigned → Type 0
+AreImplied live entries [] = Unit {0}
+AreImplied live entries (e ∷ more) = IsImplied live entries e × AreImplied live (entries ++ e ∷ []) more
+
+-- a trail that grew at its end, by what live clauses imply
+pub record Grows (live : Live) (old new : TrailValue) : Type 0 where
+  pub vars : new.vars ≡ old.vars
+  pub more : List Assigned
+  pub entries : new.entries ≡ old.entries ++ more
+  pub implied : AreImplied live old.entries more
+
+-- under the trail no live clause is false or unit
+abbrev pub IsQuiet : Live → List Assigned → Type 0
+IsQuiet live entries = AllCalm live (holds entries)
+
+-- under the trail a live clause of this number is false
+abbrev pub IsConflict : Live → List Assigned → ℕ → Type 0
+IsConflict live entries n = (C : Clause) × live n C × IsFalse (holds entries) C
+
+-- the same literals, perhaps in another order
+pub record IsReordered (C D : Clause) : Type 0 where
+  pub len : length D ≡ length C
+  pub literals : (l : Literal) → Contains C l ↔ Contains D l
+
+-- the same numbers, but one
+abbrev pub AreWithout : List ℕ → ℕ → List ℕ → Type 0
+AreWithout old n new = (k : ℕ) → Contains new k ↔ (Contains old k × (k ≢ n))
+
+-- the same clauses at the same places, each perhaps in another order
+pub record AreSame (old new : Clauses) : Type 0 where
+  pub there : (n p : ℕ) (C : Clause) → get old n ≡ Some (p, C) → (D : Clause) × (get new n ≡ Some (p, D)) × IsReordered C D
+  pub none : (n : ℕ) → get old n ≡ None → get new n ≡ None

@@ -1,0 +1,24 @@
+//! Propagation of units: the trail of a search, and the law of whatever puts literals on it.
+//!
+//! The trail has literals in the order in which they became true, each with its level and the clause that implied it. A
+//! `Propagator` finds the units among the clauses of an arena; its law is written once, in the trait. `Scan` tests every clause.
+//! The layer above may rest on the contracts alone: the tables beside the entries do not show.
+#![tactic(auto)]
+
+mod finding;
+mod moving;
+mod propagator;
+mod scan;
+mod trail;
+mod truth;
+
+pub use finding::{Finding, test_clause};
+pub use propagator::{Propagator, learn};
+pub use scan::Scan;
+pub use trail::{Assigned, Trail};
+pub use truth::Truth;
+
+#[cfg(test)]
+mod scan_tests;
+#[cfg(test)]
+mod tests;

@@ -1,0 +1,116 @@
+//! The plain propagator: it tests every clause until nothing changes.
+
+ghost use Rattle.std.specs.Prelude.{◌≡◌, ◌≢◌, ℕ, ◌+◌, ◌<◌, ◌≤◌, List, [], length, All, Contains, IfSome, IfNone};
+ghost use Rattle.clause_arena.specs.Clauses.{Clauses, live_of};
+ghost use Rattle.clause_arena.specs.declared.reference.Ref.{Ref};
+ghost use Rattle.watches.specs.Trails.{TrailValue};
+ghost use Rattle.watches.specs.Law.{Grows, IsQuiet, IsConflict, live_among};
+ghost use Rattle.watches.specs.Scanning.{numbers, IsHere, here_pushed, here_elsewhere};
+
+use crate::finding::{Finding, test_clause};
+use crate::moving::follow_all;
+use crate::propagator::Propagator;
+use crate::trail::{Assigned, Trail};
+use clause_arena::{Arena, Ref};
+use std::alloc::{AllocError, Global};
+use std::marker::Model;
+
+/// Tests each clause once, and stops at one that is false. Where nothing comes to the trail, none is unit.
+fn sweep(clauses: &[Ref], arena: &Arena, trail: &mut Trail) -> Option<u64>
+    requires { All (IsHere arena.now trail.old.vars) clauses.now }
+    ensures trail { Grows (live_among (numbers clauses.now) (live_of arena.now)) trail.old trail.new }
+    ensures conflict { IfSome result (IsConflict (live_among (numbers clauses.now) (live_of arena.now)) trail.new.entries) }
+    ensures quiet { IfNone result (length trail.new.entries ≡ length trail.old.entries → IsQuiet (live_among (numbers clauses.now) (live_of arena.now)) trail.new.entries) }
+{
+    for &at in clauses {
+        match test_clause(arena.clause(at), trail) {
+            Finding::False => return Some(at.number()),
+            Finding::Unit(literal) => trail.push(Assigned {
+                literal,
+                level: trail.level(),
+                reason: Some(at.number()),
+            }),
+            Finding::Other => {}
+        }
+    }
+    None
+}
+
+/// Sweeps until a clause is false, or nothing comes to the trail.
+fn sweep_all(clauses: &[Ref], arena: &Arena, trail: &mut Trail) -> Option<u64>
+    requires { All (IsHere arena.now trail.old.vars) clauses.now }
+    ensures trail { Grows (live_among (numbers clauses.now) (live_of arena.now)) trail.old trail.new }
+    ensures conflict { IfSome result (IsConflict (live_among (numbers clauses.now) (live_of arena.now)) trail.new.entries) }
+    ensures quiet { IfNone result (IsQuiet (live_among (numbers clauses.now) (live_of arena.now)) trail.new.entries) }
+{
+    loop {
+        let before = trail.len();
+        match sweep(clauses, arena, trail) {
+            Some(number) => return Some(number),
+            None => {
+                if trail.len() == before {
+                    return None;
+                }
+            }
+        }
+    }
+}
+
+/// Tests every clause until nothing changes.
+#[derive(Drop)]
+pub struct Scan {
+    clauses: Vec<Ref>,
+}
+
+impl Model for Scan {
+    ghost Value = { List Ref };
+
+    ghost view = { λ s. s.clauses.items };
+}
+
+impl Scan {
+    /// No clause is attached.
+    pub fn new(alloc: Global) -> Scan
+        ensures { result ≡ [] }
+    {
+        Scan {
+            clauses: Vec::new(alloc),
+        }
+    }
+}
+
+impl Propagator for Scan {
+    ghost attached = { λ s. numbers s };
+
+    ghost is_ready = { λ s m t. All (IsHere m t.vars) s };
+
+    ghost pushed = { λ p m t u more h e f. here_pushed m t u p h e };
+
+    ghost elsewhere = { λ p m k t h e. here_elsewhere m k t.vars p h e };
+
+    fn reserve(&mut self, _vars: u32) -> Result<(), AllocError> {
+        Ok(())
+    }
+
+    fn attach(&mut self, _arena: &mut Arena, _trail: &Trail, at: Ref) -> Result<(), AllocError> {
+        self.clauses.push(at)?;
+        Ok(())
+    }
+
+    fn detach(&mut self, _arena: &Arena, at: Ref) {
+        let number = at.number();
+        self.clauses.retain(|a| a.number() != number);
+    }
+
+    fn moved(&mut self, moves: &[(Ref, Ref)]) {
+        follow_all(&mut self.clauses, moves);
+    }
+
+    fn undo(&mut self, trail: &mut Trail, level: u32) {
+        trail.cut(level);
+    }
+
+    fn propagate(&mut self, arena: &mut Arena, trail: &mut Trail) -> Option<u64> {
+        sweep_all(&self.clauses, arena, trail)
+    }
+}

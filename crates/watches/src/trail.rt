@@ -1,0 +1,159 @@
+//! The trail: literals in the order in which they became true.
+
+ghost use Rattle.std.specs.Prelude.{◌≡◌, ℕ, ◌+◌, ◌-◌, ◌<◌, ◌≤◌, true, false, List, [], ◌∷◌, ◌++◌, length, All, Contains, IfOk, slice_index_or};
+ghost use Rattle.dimacs.specs.Literal.{Literal, IsWithin, negation};
+ghost use Rattle.watches.specs.Trails.{TrailValue, IsTrailValue, IsTruth, holds, present};
+ghost use Rattle.watches.specs.declared.trail.Assigned.{Assigned};
+
+use crate::truth::Truth;
+use dimacs::Lit;
+use std::alloc::{AllocError, Global};
+use std::marker::Model;
+
+/// A literal of the trail, with its level, and the number of the clause that implied it: none where it was decided.
+#[derive(Clone, Copy, Debug, PartialEq, Eq)]
+pub struct Assigned {
+    pub literal: Lit,
+    pub level: u32,
+    pub reason: Option<u64>,
+}
+
+/// Literals in the order in which they became true, no two of one variable. Only `new` takes memory.
+///
+/// `values` has the truth of each literal at its index, and `places` the place of a variable's entry.
+#[derive(Drop)]
+pub struct Trail {
+    vars: u32,
+    entries: Vec<Assigned>,
+    values: Vec<Truth>,
+    places: Vec<u32>,
+}
+
+impl Model for Trail {
+    ghost use Rattle.std.specs.Vec.{vec_capacity};
+    ghost use Rattle.watches.specs.Trails.{TrailValue};
+    ghost use Rattle.watches.specs.Tables.{IsTrail};
+
+    ghost Value = { TrailValue };
+
+    ghost view = { λ t. record { vars = t.vars; entries = t.entries.items } };
+
+    ghost invariant = { λ t. IsTrail t.vars t.entries.items t.values.items t.places.items (vec_capacity t.entries) };
+}
+
+impl Trail {
+    /// An empty trail, with room for the variables from 1 to `vars`.
+    pub fn new(alloc: Global, vars: u32) -> Result<Trail, AllocError>
+        ensures { IfOk result (λ t. t ≡ record { vars = vars; entries = [] }) }
+    {
+        let rows = vars as usize;
+        Ok(Trail {
+            vars,
+            entries: Vec::with_capacity(alloc, rows)?,
+            values: vec![in alloc; Truth::Free; 2 * rows + 2]?,
+            places: vec![in alloc; 0; rows + 1]?,
+        })
+    }
+
+    /// How many variables there is room for.
+    #[inline]
+    pub fn vars(&self) -> u32
+        ensures { result ≡ self.now.vars }
+    {
+        self.vars
+    }
+
+    /// How many literals there are, at most one of each variable.
+    #[inline]
+    pub fn len(&self) -> usize
+        ensures value { result ≡ length self.now.entries }
+        ensures within { result ≤ self.now.vars }
+    {
+        self.entries.len()
+    }
+
+    /// The literals in the order in which they came, with levels and reasons.
+    #[inline]
+    pub fn entries(&self) -> &[Assigned]
+        ensures entries { result.now ≡ self.now.entries }
+        ensures valid { IsTrailValue self.now }
+    {
+        &self.entries
+    }
+
+    /// Whether a literal is true or false, or neither.
+    #[inline]
+    pub fn value(&self, literal: Lit) -> Truth
+        requires { IsWithin self.now.vars literal }
+        ensures { IsTruth self.now.entries literal result }
+    {
+        let row = literal.index();
+        self.values[row]
+    }
+
+    /// The entry of a literal of the trail.
+    #[inline]
+    pub fn entry_of(&self, literal: Lit) -> Assigned
+        requires { holds self.now.entries literal ≡ true }
+        ensures member { Contains self.now.entries result }
+        ensures literal { result.literal ≡ literal }
+    {
+        let place = self.places[literal.var().number() as usize];
+        self.entries[place as usize]
+    }
+
+    /// Puts a literal that is neither true nor false at the end, at no lower level than those before it. It takes no memory.
+    #[inline]
+    pub fn push(&mut self, entry: Assigned)
+        requires within { IsWithin self.old.vars entry.literal }
+        requires not_true { holds self.old.entries entry.literal ≡ false }
+        requires not_false { holds self.old.entries (negation entry.literal) ≡ false }
+        requires rising { All (λ e. e.level ≤ entry.level) self.old.entries }
+        ensures vars { self.new.vars ≡ self.old.vars }
+        ensures entries { self.new.entries ≡ self.old.entries ++ entry ∷ [] }
+        ensures room { length self.old.entries < self.old.vars }
+    {
+        let literal = entry.literal;
+        self.places[literal.var().number() as usize] = self.entries.len() as u32;
+        self.entries.push_reserved(entry);
+        self.values[literal.index()] = Truth::True;
+        self.values[literal.negate().index()] = Truth::False;
+    }
+
+    /// The present level: the greatest there is, that of the last literal; 0 where there is none.
+    #[inline]
+    pub fn level(&self) -> u32
+        ensures present { result ≡ present self.now.entries }
+        ensures greatest { All (λ e. e.level ≤ result) self.now.entries }
+        ensures none { length self.now.entries ≡ 0 → result ≡ 0 }
+        ensures last { (d : Assigned) → 0 < length self.now.entries → result ≡ (slice_index_or self.now.entries (length self.now.entries - 1) d).level }
+    {
+        match self.entries.last() {
+            Some(entry) => entry.level,
+            None => 0,
+        }
+    }
+
+    /// Takes out exactly the literals above a level, and takes no memory.
+    pub fn cut(&mut self, level: u32)
+        ensures vars { self.new.vars ≡ self.old.vars }
+        ensures front { (gone : List Assigned) × (self.old.entries ≡ self.new.entries ++ gone) × All (λ e. level < e.level) gone }
+        ensures kept { All (λ e. e.level ≤ level) self.new.entries }
+    {
+        while self.level() > level {
+            self.pop();
+        }
+    }
+
+    /// Takes out the last literal.
+    fn pop(&mut self)
+        requires { 0 < length self.old.entries }
+        ensures vars { self.new.vars ≡ self.old.vars }
+        ensures entries { (e : Assigned) × (self.old.entries ≡ self.new.entries ++ e ∷ []) }
+    {
+        let entry = self.entries.pop().unwrap();
+        let literal = entry.literal;
+        self.values[literal.index()] = Truth::Free;
+        self.values[literal.negate().index()] = Truth::Free;
+    }
+}
