@@ -1,0 +1,15 @@
+pub mod Assuming
+pub mod Building
+pub mod Clauses
+pub mod Closed
+pub mod Concluding
+pub mod Entries
+pub mod Finding
+pub mod HasMet
+pub mod Looking
+pub mod Meeting
+pub mod Settling
+pub mod Small
+pub mod Stamps
+pub mod Tracing
+pub mod Following

@@ -1,0 +1,27 @@
+-- How the trail of a search came to be (Handbook of Satisfiability, chapter 4).
+use Rattle.std.specs.Prelude.{◌≡◌, ℕ, ◌+◌, ◌<◌, Contains, false, List, [], ◌∷◌, ◌++◌, ◌⊎◌, None, All}
+use Rattle.dimacs.specs.ClauseMap.{Live}
+use Rattle.dimacs.specs.Literal.{Literal, Clause, IsWithin, negation, var_of}
+use Rattle.watches.specs.Law.{IsImplied}
+use Rattle.watches.specs.Trails.{holds, present}
+use Rattle.watches.specs.declared.trail.Assigned.{Assigned}
+
+-- a literal that was neither true nor false, without a reason: it opened the next level
+pub record IsDecided (front : List Assigned) (e : Assigned) : Type 0 where
+  pub reason : e.reason ≡ None
+  pub not_true : holds front e.literal ≡ false
+  pub not_false : holds front (negation e.literal) ≡ false
+  pub level : e.level ≡ present front + 1
+
+-- each entry behind the front was decided, or implied by a live clause, when it came
+abbrev pub AreBuilt : Live → List Assigned → List Assigned → Type 0
+AreBuilt live front [] = Unit {0}
+AreBuilt live front (e ∷ more) = (IsImplied live front e ⊎ IsDecided front e) × AreBuilt live (front ++ e ∷ []) more
+
+-- each live clause has literals of these variables alone
+abbrev pub AreInside : Live → ℕ → Type 0
+AreInside live vars = (n : ℕ) (C : Clause) → live n C → All (IsWithin vars) C
+
+-- the variables of live clauses are below this number
+abbrev pub AreSized : Live → ℕ → Type 0
+AreSized live size = (n : ℕ) (C : Clause) → live n C → (k : Literal) → Contains C k → var_of k < size

@@ -1,0 +1,38 @@
+-- What a conflict teaches: a lemma with one literal of the present level, or the negations of assumptions.
+use Rattle.std.specs.Prelude.{◌≡◌, ◌≢◌, ℕ, ◌-◌, ◌<◌, true, false, List, ◌⊎◌, None, Contains}
+use Rattle.dimacs.specs.ClauseMap.{Live}
+use Rattle.dimacs.specs.Literal.{Literal, Clause, negation}
+use Rattle.dimacs.specs.Propagation.{IsFalse}
+use Rattle.watches.specs.Law.{IsConflict}
+use Rattle.watches.specs.Trails.{holds, up_to, present}
+use Rattle.watches.specs.declared.trail.Assigned.{Assigned}
+use Rattle.conflict_analysis.specs.declared.closing.Closing.{Closing}
+use Rattle.conflict_analysis.specs.declared.closing.Closing.TheVariants as closing
+
+-- a false clause of this number is false only since the present level
+abbrev pub IsPresent : Live → List Assigned → ℕ → Type 0
+IsPresent live entries number = (C : Clause) → live number C → ¬ (IsFalse (up_to entries (present entries - 1)) C)
+
+-- the lemma's literals are false; one has the present level, and `level` is the greatest of the others, 0 where there is none
+pub record IsAsserting (entries : List Assigned) (lits : Clause) (level : ℕ) : Type 0 where
+  pub literal : Literal
+  pub member : Contains lits literal
+  pub is_false : holds entries (negation literal) ≡ true
+  pub is_present : up_to entries (present entries - 1) (negation literal) ≡ false
+  pub below : level < present entries
+  pub others : (k : Literal) → Contains lits k → k ≢ literal → up_to entries level (negation k) ≡ true
+  pub reached : (level ≡ 0) ⊎ ((k : Literal) × Contains lits k × (k ≢ literal) × ((j : ℕ) → j < level → up_to entries j (negation k) ≡ false))
+
+-- a literal that was decided
+abbrev pub IsDecision : List Assigned → Literal → Type 0
+IsDecision entries l = (e : Assigned) × Contains entries e × (e.literal ≡ l) × (e.reason ≡ None)
+
+-- what is false: a clause, or an assumption whose negation was implied
+abbrev pub IsClosing : Live → List Assigned → Closing → Type 0
+IsClosing live entries (closing.Clause number) = IsConflict live entries number
+IsClosing live entries (closing.Assumption l) = (holds entries (negation l) ≡ true) × ¬ (IsDecision entries (negation l))
+
+-- each literal is the negation of a decision, or of the assumption that is false
+abbrev pub NegatesAssumptions : List Assigned → Closing → Clause → Type 0
+NegatesAssumptions entries (closing.Clause number) lits = (l : Literal) → Contains lits l → IsDecision entries (negation l)
+NegatesAssumptions entries (closing.Assumption a) lits = (l : Literal) → Contains lits l → IsDecision entries (negation l) ⊎ (negation l ≡ a)

@@ -1,0 +1,4 @@
+pub mod Built
+pub mod Lemmas
+pub mod Traces
+pub mod Walks

@@ -1,0 +1,210 @@
+//! The analysis of a conflict: the first unique implication point (Marques-Silva and Sakallah 1996).
+
+ghost use Rattle.std.specs.Prelude.{◌≡◌, ℕ, ◌+◌, ◌<◌, ◌≤◌, false, [], ◌++◌, ◌∷◌, length, All, take, IfOk, OnOk, vec_len, drop};
+ghost use Rattle.std.specs.List.{filter_map};
+ghost use Rattle.std.specs.List.{IsDistinct};
+ghost use Rattle.clause_arena.specs.Clauses.{live_of};
+ghost use Rattle.dimacs.specs.Literal.{Clause, Literal, IsWithin, negation, same, var_of};
+ghost use Rattle.dimacs.specs.Propagation.{Rup};
+ghost use Rattle.conflict_analysis.specs.Built.{AreBuilt, AreInside};
+ghost use Rattle.conflict_analysis.specs.Lemmas.{IsAsserting, IsPresent};
+ghost use Rattle.conflict_analysis.specs.Walks.{met, IsWalk, IsPoint, AreSettled, HasMet, hint_of};
+ghost use Rattle.watches.specs.Law.{IsConflict};
+ghost use Rattle.watches.specs.Trails.{present, IsTrailValue};
+
+use crate::hints::append_hints;
+use crate::lemma::Lemma;
+use crate::walk::{Walk, descend, meet_number};
+use clause_arena::Arena;
+use dimacs::Lit;
+use std::alloc::{AllocError, Global};
+use std::marker::Model;
+use watches::Trail;
+
+/// Makes the lemma of a walk that has come to its end at place `i`.
+fn conclude(
+    alloc: Global,
+    trail: &Trail,
+    stamps: &[u64],
+    stamp: u64,
+    walk: Walk,
+    point: Lit,
+    i: usize,
+    number: u64,
+) -> Result<Lemma, AllocError>
+    requires trail { IsTrailValue trail.now }
+    requires room { trail.now.vars < length stamps.now }
+    requires within { i ≤ length trail.now.entries }
+    ensures { IfOk result (λ lemma. (lemma.lits.items ≡ walk.lits.items ++ negation point ∷ [])
+        × (lemma.hints.items ≡ filter_map (hint_of (met stamps.now stamp) walk.present point) (drop i trail.now.entries) ++ number ∷ [])
+        × (lemma.level ≡ walk.level)) }
+{
+    let mut hints = Vec::new(alloc);
+    append_hints(
+        &trail.entries()[i..],
+        walk.present,
+        stamps,
+        stamp,
+        point,
+        &mut hints,
+    )?;
+    hints.push(number)?;
+    let level = walk.level;
+    let mut lits = walk.lits;
+    lits.push(point.negate())?;
+    Ok(Lemma { lits, hints, level })
+}
+
+/// Analyses a conflict by stamps of which none is the present one.
+fn analyse_by(
+    alloc: Global,
+    stamps: &mut [u64],
+    stamp: u64,
+    arena: &Arena,
+    trail: &Trail,
+    number: u64,
+) -> Result<Lemma, AllocError>
+    requires fresh { (v : ℕ) → met stamps.old stamp v ≡ false }
+    requires room { trail.now.vars < length stamps.old }
+    requires built { AreBuilt (live_of arena.now) [] trail.now.entries }
+    requires inside { AreInside (live_of arena.now) trail.now.vars }
+    requires conflict { IsConflict (live_of arena.now) trail.now.entries number }
+    requires here { IsPresent (live_of arena.now) trail.now.entries number }
+    requires above { 0 < present trail.now.entries }
+    ensures rup { IfOk result (λ lemma. Rup (live_of arena.now) lemma.lits.items lemma.hints.items) }
+    ensures asserting { IfOk result (λ lemma. IsAsserting trail.now.entries lemma.lits.items lemma.level) }
+    ensures distinct { IfOk result (λ lemma. IsDistinct same lemma.lits.items) }
+    ensures within { IfOk result (λ lemma. All (IsWithin trail.now.vars) lemma.lits.items) }
+    ensures stamps { HasMet trail.now.entries stamp stamps.old stamps.new }
+{
+    let entries = trail.entries();
+    let mut walk = Walk {
+        present: trail.level(),
+        open: 0,
+        root: 0,
+        level: 0,
+        lits: Vec::new(alloc),
+    };
+    meet_number(arena, trail, entries, stamps, stamp, &mut walk, number)?;
+    let mut point = None;
+    let i = descend(arena, trail, stamps, stamp, &mut walk, &mut point)?;
+    let point = point.unwrap();
+    conclude(alloc, trail, stamps, stamp, walk, point, i, number)
+}
+
+/// Makes a stamp that no variable has, in a table with room for these variables.
+fn renew(stamps: &mut Vec<u64>, stamp: &mut u64, vars: u32) -> Result<(), AllocError>
+    requires { All (λ s. s ≤ stamp.old) stamps.old.items }
+    ensures bounded { All (λ s. s ≤ stamp.new) stamps.new.items }
+    ensures fresh { OnOk result ((v : ℕ) → met stamps.new.items stamp.new v ≡ false) }
+    ensures room { OnOk result (vars < length stamps.new.items) }
+{
+    make_room(stamps, vars as usize + 1)?;
+    if *stamp == u64::MAX {
+        clear(stamps);
+        *stamp = 0;
+    }
+    *stamp += 1;
+    Ok(())
+}
+
+/// Makes at least so many places. The new ones have no stamp.
+fn make_room(stamps: &mut Vec<u64>, places: usize) -> Result<(), AllocError>
+    ensures room { OnOk result (places ≤ length stamps.new.items) }
+    ensures bounded { (n : ℕ) → All (λ s. s ≤ n) stamps.old.items → All (λ s. s ≤ n) stamps.new.items }
+{
+    while stamps.len() < places {
+        stamps.push(0)?;
+    }
+    Ok(())
+}
+
+/// Takes each stamp away.
+fn clear(stamps: &mut Vec<u64>)
+    ensures len { length stamps.new.items ≡ length stamps.old.items }
+    ensures cleared { All (λ s. s ≤ 0) stamps.new.items }
+{
+    for i in 0..stamps.len() {
+        stamps[i] = 0;
+    }
+}
+
+/// Analyses conflicts. It keeps its table from one to the next, so that the time of an analysis is linear in what it looks
+/// at.
+#[derive(Drop)]
+pub struct Analyser {
+    alloc: Global,
+    stamps: Vec<u64>,
+    stamp: u64,
+}
+
+impl Model for Analyser {
+    ghost use Rattle.std.specs.Prelude.{◌≤◌, All};
+
+    ghost Value = { Unit {0} };
+
+    ghost view = { λ a. tt };
+
+    ghost invariant = { λ a. All (λ s. s ≤ a.stamp) a.stamps.items };
+}
+
+impl Analyser {
+    /// An analyser that has looked at nothing.
+    pub fn new(alloc: Global) -> Analyser {
+        Analyser {
+            alloc,
+            stamps: Vec::new(alloc),
+            stamp: 0,
+        }
+    }
+
+    /// The lemma of a false clause that has a literal of the present level, which is above 0: by its hints, in trail order
+    /// with the false clause last, it follows by reverse unit propagation; its literals are false, exactly one of them of
+    /// the present level, the first implication point's; and the level to go back to is the greatest of the others.
+    pub fn analyse(
+        &mut self,
+        arena: &Arena,
+        trail: &Trail,
+        number: u64,
+    ) -> Result<Lemma, AllocError>
+        requires built { AreBuilt (live_of arena.now) [] trail.now.entries }
+        requires inside { AreInside (live_of arena.now) trail.now.vars }
+        requires conflict { IsConflict (live_of arena.now) trail.now.entries number }
+        requires here { IsPresent (live_of arena.now) trail.now.entries number }
+        requires above { 0 < present trail.now.entries }
+        ensures rup { IfOk result (λ lemma. Rup (live_of arena.now) lemma.lits.items lemma.hints.items) }
+        ensures asserting { IfOk result (λ lemma. IsAsserting trail.now.entries lemma.lits.items lemma.level) }
+        ensures distinct { IfOk result (λ lemma. IsDistinct same lemma.lits.items) }
+        ensures within { IfOk result (λ lemma. All (IsWithin trail.now.vars) lemma.lits.items) }
+    {
+        renew(&mut self.stamps, &mut self.stamp, trail.vars())?;
+        analyse_by(
+            self.alloc,
+            &mut self.stamps,
+            self.stamp,
+            arena,
+            trail,
+            number,
+        )
+    }
+}
+
+/// The lemma of one conflict. See `Analyser::analyse`.
+pub fn analyse(
+    alloc: Global,
+    arena: &Arena,
+    trail: &Trail,
+    number: u64,
+) -> Result<Lemma, AllocError>
+    requires built { AreBuilt (live_of arena.now) [] trail.now.entries }
+    requires inside { AreInside (live_of arena.now) trail.now.vars }
+    requires conflict { IsConflict (live_of arena.now) trail.now.entries number }
+    requires here { IsPresent (live_of arena.now) trail.now.entries number }
+    requires above { 0 < present trail.now.entries }
+    ensures rup { IfOk result (λ lemma. Rup (live_of arena.now) lemma.lits.items lemma.hints.items) }
+    ensures asserting { IfOk result (λ lemma. IsAsserting trail.now.entries lemma.lits.items lemma.level) }
+    ensures distinct { IfOk result (λ lemma. IsDistinct same lemma.lits.items) }
+    ensures within { IfOk result (λ lemma. All (IsWithin trail.now.vars) lemma.lits.items) }
+{
+    Analyser::new(alloc).analyse(arena, trail, number)
+}

@@ -1,0 +1,261 @@
+//! The closing of a cube: what is false follows from assumptions alone.
+
+ghost use Rattle.std.specs.Prelude.{◌≡◌, nat_eq, ℕ, ◌+◌, ◌<◌, ◌≤◌, true, ◌++◌, [], ◌∷◌, length, take, slice_index_or, Some, All, Contains, IfOk, OnOk};
+ghost use Rattle.std.specs.List.{filter_map, IsDistinct};
+ghost use Rattle.clause_arena.specs.Clauses.{live_of};
+ghost use Rattle.dimacs.specs.Literal.{Literal, Clause, IsWithin, negation, var_of};
+ghost use Rattle.dimacs.specs.Propagation.{Rup};
+ghost use Rattle.conflict_analysis.specs.Built.{AreBuilt, AreInside, AreSized};
+ghost use Rattle.conflict_analysis.specs.Walks.{met, HasMet, IsKnown};
+ghost use Rattle.conflict_analysis.specs.Lemmas.{IsClosing, NegatesAssumptions};
+ghost use Rattle.conflict_analysis.specs.declared.closing.Closing.TheVariants as closing;
+ghost use Rattle.conflict_analysis.specs.Traces.{AreTraced, AreNegated, AreOutside, AreFalseOr, IsTraced, reason_of};
+ghost use Rattle.watches.specs.Trails.{holds, variables};
+ghost use Rattle.watches.specs.declared.trail.Assigned.{Assigned};
+
+use crate::lemma::Lemma;
+use clause_arena::Arena;
+use dimacs::Lit;
+use std::alloc::{AllocError, Global};
+use watches::{Assigned, Trail};
+
+/// What is false where a cube is closed.
+#[derive(Clone, Copy)]
+pub enum Closing {
+    /// The clause of this number.
+    Clause(u64),
+    /// An assumption, of which the negation was implied.
+    Assumption(Lit),
+}
+
+/// Marks the variables of a clause.
+fn mark(front: &[Assigned], stamps: &mut [u64], stamp: u64, clause: &[Lit])
+    requires known { (k : Literal) → Contains clause.now k → IsKnown front.now (met stamps.old stamp) k }
+    requires sized { (k : Literal) → Contains clause.now k → var_of k < length stamps.old }
+    ensures all { (k : Literal) → Contains clause.now k → met stamps.new stamp (var_of k) ≡ true }
+    ensures stamps { HasMet front.now stamp stamps.old stamps.new }
+{
+    let _ = front;
+    for literal in clause {
+        stamps[literal.var().number() as usize] = stamp;
+    }
+}
+
+/// Marks the variables of the clause of a number.
+fn mark_number(arena: &Arena, front: &[Assigned], stamps: &mut [u64], stamp: u64, number: u64)
+    requires sized { (C : Clause) → live_of arena.now number C → (k : Literal) → Contains C k → var_of k < length stamps.old }
+    requires known { (C : Clause) → live_of arena.now number C → (k : Literal) → Contains C k → IsKnown front.now (met stamps.old stamp) k }
+    requires live { (C : Clause) × live_of arena.now number C }
+    ensures all { (C : Clause) → live_of arena.now number C → (k : Literal) → Contains C k → met stamps.new stamp (var_of k) ≡ true }
+    ensures stamps { HasMet front.now stamp stamps.old stamps.new }
+{
+    if let Some(at) = arena.find(number) {
+        mark(front, stamps, stamp, arena.clause(at));
+    }
+}
+
+/// Passes an entry, the last of a front: meets its reason, or keeps its negation where it was decided.
+fn trace_one(
+    arena: &Arena,
+    entries: &[Assigned],
+    i: usize,
+    stamps: &mut [u64],
+    stamp: u64,
+    lits: &mut Vec<Lit>,
+) -> Result<(), AllocError>
+    requires built { AreBuilt (live_of arena.now) [] entries.now }
+    requires apart { IsDistinct nat_eq (variables entries.now) }
+    requires clauses { AreSized (live_of arena.now) (length stamps.old) }
+    requires room { (e : Assigned) → Contains entries.now e → var_of e.literal < length stamps.old }
+    requires within { i < length entries.now }
+    requires traced { AreTraced (live_of arena.now) entries.now (i + 1) (met stamps.old stamp) lits.old.items }
+    ensures traced { OnOk result (AreTraced (live_of arena.now) entries.now i (met stamps.new stamp) lits.new.items) }
+    ensures negated { OnOk result (AreNegated entries.now lits.old.items lits.new.items) }
+    ensures kept { OnOk result ((l : Literal) → Contains lits.old.items l → Contains lits.new.items l) }
+    ensures stamps { HasMet (take i entries.now) stamp stamps.old stamps.new }
+{
+    let entry = entries[i];
+    if stamps[entry.literal.var().number() as usize] != stamp {
+        return Ok(());
+    }
+    match entry.reason {
+        Some(number) => mark_number(arena, &entries[..i], stamps, stamp, number),
+        None => lits.push(entry.literal.negate())?,
+    }
+    Ok(())
+}
+
+/// Walks down from the end of a front to its beginning.
+fn trace(
+    arena: &Arena,
+    entries: &[Assigned],
+    stamps: &mut [u64],
+    stamp: u64,
+    lits: &mut Vec<Lit>,
+) -> Result<(), AllocError>
+    requires built { AreBuilt (live_of arena.now) [] entries.now }
+    requires apart { IsDistinct nat_eq (variables entries.now) }
+    requires clauses { AreSized (live_of arena.now) (length stamps.old) }
+    requires room { (e : Assigned) → Contains entries.now e → var_of e.literal < length stamps.old }
+    ensures traced { OnOk result (AreTraced (live_of arena.now) entries.now 0 (met stamps.new stamp) lits.new.items) }
+    ensures negated { OnOk result (AreNegated entries.now lits.old.items lits.new.items) }
+    ensures kept { OnOk result ((l : Literal) → Contains lits.old.items l → Contains lits.new.items l) }
+    ensures stamps { HasMet entries.now stamp stamps.old stamps.new }
+{
+    let mut i = entries.len();
+    while i > 0 {
+        i -= 1;
+        trace_one(arena, entries, i, stamps, stamp, lits)?;
+    }
+    Ok(())
+}
+
+/// The reason of an entry that was met.
+fn reason_of(entry: Assigned, stamps: &[u64], stamp: u64) -> Option<u64>
+    requires { var_of entry.literal < length stamps.now }
+    ensures { result ≡ reason_of (met stamps.now stamp) entry }
+{
+    if stamps[entry.literal.var().number() as usize] == stamp {
+        entry.reason
+    } else {
+        None
+    }
+}
+
+/// The reasons of the entries that were met, in trail order, and the number of what is false.
+fn reasons(
+    alloc: Global,
+    entries: &[Assigned],
+    stamps: &[u64],
+    stamp: u64,
+    number: u64,
+) -> Result<Vec<u64>, AllocError>
+    requires { (e : Assigned) → Contains entries.now e → var_of e.literal < length stamps.now }
+    ensures { IfOk result (λ hints. hints.items ≡ filter_map (reason_of (met stamps.now stamp)) entries.now ++ number ∷ []) }
+{
+    let mut hints = Vec::new(alloc);
+    for &entry in entries {
+        if let Some(reason) = reason_of(entry, stamps, stamp) {
+            hints.push(reason)?;
+        }
+    }
+    hints.push(number)?;
+    Ok(hints)
+}
+
+/// The lemma of the first literals and of negations of decisions, from a clause that is false but for the first.
+fn close(
+    alloc: Global,
+    arena: &Arena,
+    entries: &[Assigned],
+    stamps: &mut [u64],
+    stamp: u64,
+    first: Vec<Lit>,
+    number: u64,
+) -> Result<Lemma, AllocError>
+    requires built { AreBuilt (live_of arena.now) [] entries.now }
+    requires apart { IsDistinct nat_eq (variables entries.now) }
+    requires clauses { AreSized (live_of arena.now) (length stamps.old) }
+    requires room { (e : Assigned) → Contains entries.now e → var_of e.literal < length stamps.old }
+    requires live { (C : Clause) × live_of arena.now number C × AreFalseOr entries.now first.items C }
+    requires first { AreOutside entries.now first.items }
+    requires known { (l : Literal) → Contains first.items l → met stamps.old stamp (var_of l) ≡ true }
+    ensures rup { IfOk result (λ lemma. Rup (live_of arena.now) lemma.lits.items lemma.hints.items) }
+    ensures negated { IfOk result (λ lemma. AreNegated entries.now first.items lemma.lits.items) }
+    ensures level { IfOk result (λ lemma. lemma.level ≡ 0) }
+{
+    mark_number(arena, entries, stamps, stamp, number);
+    let mut lits = first;
+    trace(arena, entries, stamps, stamp, &mut lits)?;
+    let hints = reasons(alloc, entries, stamps, stamp, number)?;
+    Ok(Lemma {
+        lits,
+        hints,
+        level: 0,
+    })
+}
+
+/// Where the entry of a literal stands.
+fn place_of(entries: &[Assigned], literal: Lit) -> usize
+    requires { holds entries.now literal ≡ true }
+    ensures below { result < length entries.now }
+    ensures here { (d : Assigned) → (slice_index_or entries.now result d).literal ≡ literal }
+{
+    let mut i = 0;
+    while entries[i].literal != literal {
+        i += 1;
+    }
+    i
+}
+
+/// The lemma of an assumption of which the negation was implied.
+fn close_assumption(
+    alloc: Global,
+    arena: &Arena,
+    entries: &[Assigned],
+    stamps: &mut [u64],
+    stamp: u64,
+    literal: Lit,
+) -> Result<Lemma, AllocError>
+    requires built { AreBuilt (live_of arena.now) [] entries.now }
+    requires apart { IsDistinct nat_eq (variables entries.now) }
+    requires clauses { AreSized (live_of arena.now) (length stamps.old) }
+    requires room { (e : Assigned) → Contains entries.now e → var_of e.literal < length stamps.old }
+    requires closing { IsClosing (live_of arena.now) entries.now (closing.Assumption literal) }
+    ensures rup { IfOk result (λ lemma. Rup (live_of arena.now) lemma.lits.items lemma.hints.items) }
+    ensures negates { IfOk result (λ lemma. NegatesAssumptions entries.now (closing.Assumption literal) lemma.lits.items) }
+    ensures level { IfOk result (λ lemma. lemma.level ≡ 0) }
+{
+    let negation = literal.negate();
+    let place = place_of(entries, negation);
+    let entry = entries[place];
+    let number = entry.reason.unwrap();
+    let mut first = Vec::new(alloc);
+    first.push(negation)?;
+    stamps[negation.var().number() as usize] = stamp;
+    close(
+        alloc,
+        arena,
+        &entries[..place],
+        stamps,
+        stamp,
+        first,
+        number,
+    )
+}
+
+/// The lemma that closes the cube where a clause or an assumption is false: it follows by its hints, in trail order, by
+/// reverse unit propagation; its literals are negations of decisions, and of the assumption that is false. Its level is 0.
+pub fn close_cube(
+    alloc: Global,
+    arena: &Arena,
+    trail: &Trail,
+    closing: Closing,
+) -> Result<Lemma, AllocError>
+    requires built { AreBuilt (live_of arena.now) [] trail.now.entries }
+    requires inside { AreInside (live_of arena.now) trail.now.vars }
+    requires closing { IsClosing (live_of arena.now) trail.now.entries closing }
+    ensures rup { IfOk result (λ lemma. Rup (live_of arena.now) lemma.lits.items lemma.hints.items) }
+    ensures negates { IfOk result (λ lemma. NegatesAssumptions trail.now.entries closing lemma.lits.items) }
+    ensures within { IfOk result (λ lemma. All (IsWithin trail.now.vars) lemma.lits.items) }
+    ensures level { IfOk result (λ lemma. lemma.level ≡ 0) }
+{
+    let entries = trail.entries();
+    let mut stamps = vec![in alloc; 0; trail.vars() as usize + 1]?;
+    match closing {
+        Closing::Clause(number) => {
+            close(
+                alloc,
+                arena,
+                entries,
+                &mut stamps,
+                1,
+                Vec::new(alloc),
+                number,
+            )
+        }
+        Closing::Assumption(literal) => {
+            close_assumption(alloc, arena, entries, &mut stamps, 1, literal)
+        }
+    }
+}
