@@ -1,0 +1,9 @@
+pub mod AssumingLemmas
+pub mod BuiltLemmas
+pub mod ClauseLemmas
+pub mod LevelLemmas
+pub mod LogLemmas
+pub mod MapLemmas
+pub mod MarkLemmas
+pub mod SearchLemmas
+pub mod StateLemmas

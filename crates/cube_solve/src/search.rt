@@ -1,0 +1,153 @@
+//! The loop of the search: descend to a conflict, learn a lemma from it, and descend again.
+
+ghost use Rattle.std.specs.Prelude.{◌≡◌, ℕ, ◌+◌, ◌<◌, ◌≤◌, ◌^◌, [], length, map, nat_eq, All, IfOk, OnOk};
+ghost use Rattle.std.specs.List.{IsDistinct};
+ghost use Rattle.dimacs.specs.ClauseMap.{map_of, live_in};
+ghost use Rattle.dimacs.specs.Literal.{Clause, IsWithin, var_of};
+ghost use Rattle.clause_arena.specs.Clauses.{live_of};
+ghost use Rattle.lrat_text.specs.Grammar.{IsClauseNumber};
+ghost use Rattle.lrat_text.specs.Log.{Cube};
+ghost use Rattle.watches.specs.Law.{IsConflict};
+ghost use Rattle.watches.specs.Trails.{present};
+ghost use Rattle.conflict_analysis.specs.Built.{AreBuilt, AreInside};
+ghost use Rattle.conflict_analysis.specs.Lemmas.{IsClosing, NegatesAssumptions};
+ghost use Rattle.cube_solve.specs.Ends.{IsEnd};
+ghost use Rattle.cube_solve.specs.Learning.{AreBelow, IsWritten, Learns};
+ghost use Rattle.cube_solve.specs.Levels.{AreLinked};
+ghost use Rattle.cube_solve.specs.State.{IsState, IsAssuming};
+
+use crate::descent::{Found, descend};
+use crate::writing::write_lemma;
+use clause_arena::Arena;
+use conflict_analysis::{Analyser, Closing, close_cube};
+use dimacs::{Base, Lit};
+use lrat_text::Groups;
+use std::alloc::{AllocError, Global};
+use watches::{Propagator, Trail, learn};
+
+/// How a search ended.
+pub(crate) enum End {
+    /// The trail satisfies the base and the cube.
+    Model,
+    /// The log closes the cube.
+    Refuted,
+    /// The log has as many lemmas as the limit allows.
+    Limit,
+}
+
+/// Writes the lemma that closes the cube.
+fn close(
+    alloc: Global,
+    arena: &Arena,
+    trail: &Trail,
+    closing: Closing,
+    id: u64,
+    groups: &Groups,
+    log: &mut Vec<u8>,
+) -> Result<(), AllocError>
+    requires built { AreBuilt (live_of arena.now) [] trail.now.entries }
+    requires inside { AreInside (live_of arena.now) trail.now.vars }
+    requires closing { IsClosing (live_of arena.now) trail.now.entries closing }
+    requires limit { trail.now.vars ≤ 2000000 }
+    requires id { IsClauseNumber id }
+    requires numbers { AreBelow id (live_of arena.now) }
+    requires groups { groups.now ≡ [] }
+    ensures { OnOk result ((lits : Clause) × IsWritten (live_of arena.now) trail.now.vars id lits log.old.items log.new.items × NegatesAssumptions trail.now.entries closing lits) }
+{
+    let lemma = close_cube(alloc, arena, trail, closing)?;
+    write_lemma(log, id, &lemma, groups)?;
+    Ok(())
+}
+
+/// Learns the lemma of a conflict: it is written, and joins the clauses behind a return to its level.
+fn learn_from<P: Propagator>(
+    propagator: &mut P,
+    analyser: &mut Analyser,
+    arena: &mut Arena,
+    trail: &mut Trail,
+    conflict: u64,
+    id: u64,
+    groups: &Groups,
+    log: &mut Vec<u8>,
+) -> Result<(), AllocError>
+    requires ready { P.is_ready propagator.old arena.old trail.old }
+    requires state { IsState (P.attached propagator.old) arena.old trail.old }
+    requires conflict { IsConflict (live_of arena.old) trail.old.entries conflict }
+    requires above { 0 < present trail.old.entries }
+    requires limit { trail.old.vars ≤ 2000000 }
+    requires id { IsClauseNumber id }
+    requires numbers { AreBelow id (live_of arena.old) }
+    requires groups { groups.now ≡ [] }
+    ensures ready { OnOk result (P.is_ready propagator.new arena.new trail.new) }
+    ensures state { OnOk result (IsState (P.attached propagator.new) arena.new trail.new) }
+    ensures learns { OnOk result (Learns trail.old.vars id (live_of arena.old) (live_of arena.new) log.old.items log.new.items) }
+    ensures vars { OnOk result (trail.new.vars ≡ trail.old.vars) }
+    ensures assuming { OnOk result ((q : Cube) (assumed : ℕ) → IsAssuming q trail.old.entries assumed → IsAssuming q trail.new.entries assumed) }
+{
+    let lemma = analyser.analyse(arena, trail, conflict)?;
+    write_lemma(log, id, &lemma, groups)?;
+    propagator.undo(trail, lemma.level);
+    learn(propagator, arena, trail, id, &lemma.lits)?;
+    Ok(())
+}
+
+/// Searches for an assignment under the cube, with at most `limit` lemmas.
+pub(crate) fn run<P: Propagator>(
+    alloc: Global,
+    propagator: &mut P,
+    arena: &mut Arena,
+    trail: &mut Trail,
+    base: &Base,
+    cube: &[Lit],
+    limit: u64,
+    log: &mut Vec<u8>,
+) -> Result<End, AllocError>
+    requires ready { P.is_ready propagator.old arena.old trail.old }
+    requires state { IsState (P.attached propagator.old) arena.old trail.old }
+    requires empty { trail.old.entries ≡ [] }
+    requires vars { trail.old.vars ≡ base.now.vars }
+    requires linked { AreLinked (live_in (map_of base.now)) (live_of arena.old) }
+    requires distinct { IsDistinct nat_eq (map var_of cube.now) }
+    requires within { All (IsWithin base.now.vars) cube.now }
+    requires limit { limit ≤ 2 ^ 47 }
+    requires log { log.old.items ≡ [] }
+    ensures { IfOk result (IsEnd base.now cube.now limit trail.new log.new.items) }
+{
+    let mut analyser = Analyser::new(alloc);
+    let groups = Groups::new(alloc);
+    let _vars = base.vars();
+    let first = base.len() as u64 + 1;
+    let mut assumed = 0;
+    let mut learnt = 0;
+    'turns: loop {
+        match descend(propagator, arena, trail, cube, &mut assumed) {
+            Found::Model => return Ok(End::Model),
+            Found::Assumption(literal) => {
+                let closing = Closing::Assumption(literal);
+                close(alloc, arena, trail, closing, first + learnt, &groups, log)?;
+                return Ok(End::Refuted);
+            }
+            Found::Clause(number) => {
+                if trail.level() <= assumed {
+                    let closing = Closing::Clause(number);
+                    close(alloc, arena, trail, closing, first + learnt, &groups, log)?;
+                    return Ok(End::Refuted);
+                }
+                if learnt == limit {
+                    return Ok(End::Limit);
+                }
+                learn_from(
+                    propagator,
+                    &mut analyser,
+                    arena,
+                    trail,
+                    number,
+                    first + learnt,
+                    &groups,
+                    log,
+                )?;
+                learnt += 1;
+            }
+        }
+    }
+}
