@@ -7,4 +7,5 @@ pub mod Soundness
 pub mod State
 pub mod Table
 pub mod Verdicts
+pub mod Cell
 pub mod Store

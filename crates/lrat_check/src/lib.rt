@@ -15,6 +15,7 @@ mod live;
 mod marks;
 mod propagation;
 mod room;
+mod slot;
 mod store;
 mod table;
 mod verdict;
