@@ -17,22 +17,21 @@ ghost use Rattle.cube_solve.specs.Levels.{AreLinked};
 ghost use Rattle.cube_solve.specs.State.{IsState, IsAssuming};
 
 use crate::descent::{Found, descend};
-use crate::writing::write_lemma;
+use crate::writing::Log;
 use clause_arena::Arena;
 use conflict_analysis::{Analyser, Closing, close_cube};
 use dimacs::{Base, Lit};
-use lrat_text::Groups;
 use std::alloc::{AllocError, Global};
 use watches::{Propagator, Trail, learn};
 
-/// How a search ended.
+/// How a search ended, with the log of its lemmas.
 pub(crate) enum End {
     /// The trail satisfies the base and the cube.
     Model,
     /// The log closes the cube.
-    Refuted,
+    Refuted(Vec<u8>),
     /// The log has as many lemmas as the limit allows.
-    Limit,
+    Limit(Vec<u8>),
 }
 
 /// Writes the lemma that closes the cube.
@@ -42,8 +41,7 @@ fn close(
     trail: &Trail,
     closing: Closing,
     id: u64,
-    groups: &Groups,
-    log: &mut Vec<u8>,
+    log: &mut Log,
 ) -> Result<(), AllocError>
     requires built { AreBuilt (live_of arena.now) [] trail.now.entries }
     requires inside { AreInside (live_of arena.now) trail.now.vars }
@@ -51,11 +49,10 @@ fn close(
     requires limit { trail.now.vars ≤ 2000000 }
     requires id { IsClauseNumber id }
     requires numbers { AreBelow id (live_of arena.now) }
-    requires groups { groups.now ≡ [] }
-    ensures { OnOk result ((lits : Clause) × IsWritten (live_of arena.now) trail.now.vars id lits log.old.items log.new.items × NegatesAssumptions trail.now.entries closing lits) }
+    ensures { OnOk result ((lits : Clause) × IsWritten (live_of arena.now) trail.now.vars id lits log.old log.new × NegatesAssumptions trail.now.entries closing lits) }
 {
     let lemma = close_cube(alloc, arena, trail, closing)?;
-    write_lemma(log, id, &lemma, groups)?;
+    log.write(id, &lemma)?;
     Ok(())
 }
 
@@ -67,8 +64,7 @@ fn learn_from<P: Propagator>(
     trail: &mut Trail,
     conflict: u64,
     id: u64,
-    groups: &Groups,
-    log: &mut Vec<u8>,
+    log: &mut Log,
 ) -> Result<(), AllocError>
     requires ready { P.is_ready propagator.old arena.old trail.old }
     requires state { IsState (P.attached propagator.old) arena.old trail.old }
@@ -77,15 +73,14 @@ fn learn_from<P: Propagator>(
     requires limit { trail.old.vars ≤ 2000000 }
     requires id { IsClauseNumber id }
     requires numbers { AreBelow id (live_of arena.old) }
-    requires groups { groups.now ≡ [] }
     ensures ready { OnOk result (P.is_ready propagator.new arena.new trail.new) }
     ensures state { OnOk result (IsState (P.attached propagator.new) arena.new trail.new) }
-    ensures learns { OnOk result (Learns trail.old.vars id (live_of arena.old) (live_of arena.new) log.old.items log.new.items) }
+    ensures learns { OnOk result (Learns trail.old.vars id (live_of arena.old) (live_of arena.new) log.old log.new) }
     ensures vars { OnOk result (trail.new.vars ≡ trail.old.vars) }
     ensures assuming { OnOk result ((q : Cube) (assumed : ℕ) → IsAssuming q trail.old.entries assumed → IsAssuming q trail.new.entries assumed) }
 {
     let lemma = analyser.analyse(arena, trail, conflict)?;
-    write_lemma(log, id, &lemma, groups)?;
+    log.write(id, &lemma)?;
     propagator.undo(trail, lemma.level);
     learn(propagator, arena, trail, id, &lemma.lits)?;
     Ok(())
@@ -100,7 +95,6 @@ pub(crate) fn run<P: Propagator>(
     base: &Base,
     cube: &[Lit],
     limit: u64,
-    log: &mut Vec<u8>,
 ) -> Result<End, AllocError>
     requires ready { P.is_ready propagator.old arena.old trail.old }
     requires state { IsState (P.attached propagator.old) arena.old trail.old }
@@ -110,12 +104,11 @@ pub(crate) fn run<P: Propagator>(
     requires distinct { IsDistinct nat_eq (map var_of cube.now) }
     requires within { All (IsWithin base.now.vars) cube.now }
     requires limit { limit ≤ 2 ^ 47 }
-    requires log { log.old.items ≡ [] }
-    ensures { IfOk result (IsEnd base.now cube.now limit trail.new log.new.items) }
+    ensures { IfOk result (IsEnd base.now cube.now limit trail.new) }
 {
     let mut analyser = Analyser::new(alloc);
-    let groups = Groups::new(alloc);
-    let _vars = base.vars();
+    let mut log = Log::new(alloc);
+    let _vars = base.vars(); // with it comes the bound of the number of clauses
     let first = base.len() as u64 + 1;
     let mut assumed = 0;
     let mut learnt = 0;
@@ -124,17 +117,17 @@ pub(crate) fn run<P: Propagator>(
             Found::Model => return Ok(End::Model),
             Found::Assumption(literal) => {
                 let closing = Closing::Assumption(literal);
-                close(alloc, arena, trail, closing, first + learnt, &groups, log)?;
-                return Ok(End::Refuted);
+                close(alloc, arena, trail, closing, first + learnt, &mut log)?;
+                return Ok(End::Refuted(log.into_text()));
             }
             Found::Clause(number) => {
                 if trail.level() <= assumed {
                     let closing = Closing::Clause(number);
-                    close(alloc, arena, trail, closing, first + learnt, &groups, log)?;
-                    return Ok(End::Refuted);
+                    close(alloc, arena, trail, closing, first + learnt, &mut log)?;
+                    return Ok(End::Refuted(log.into_text()));
                 }
                 if learnt == limit {
-                    return Ok(End::Limit);
+                    return Ok(End::Limit(log.into_text()));
                 }
                 learn_from(
                     propagator,
@@ -143,8 +136,7 @@ pub(crate) fn run<P: Propagator>(
                     trail,
                     number,
                     first + learnt,
-                    &groups,
-                    log,
+                    &mut log,
                 )?;
                 learnt += 1;
             }

@@ -36,14 +36,11 @@ fn solve_by<P: Propagator>(
     let mut arena = Arena::new(alloc);
     let mut trail = Trail::new(alloc, base.vars())?;
     load(alloc, base, propagator, &mut arena, &trail)?;
-    let mut log = Vec::new(alloc);
     let limit = limit.min(1 << 47);
-    match run(
-        alloc, propagator, &mut arena, &mut trail, base, cube, limit, &mut log,
-    )? {
+    match run(alloc, propagator, &mut arena, &mut trail, base, cube, limit)? {
         End::Model => Ok(Outcome::Model(read_model(alloc, &trail)?)),
-        End::Refuted => Ok(Outcome::Refuted(log)),
-        End::Limit => Ok(Outcome::Limit(log)),
+        End::Refuted(text) => Ok(Outcome::Refuted(text)),
+        End::Limit(text) => Ok(Outcome::Limit(text)),
     }
 }
 

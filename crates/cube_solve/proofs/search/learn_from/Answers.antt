@@ -26,8 +26,8 @@ same_lemma m k id place lits given e h = subst (λ (C : Clause). AreSame (insert
 pub analyse-requires-clause-here : goal.analyse-requires-clause-here
 analyse-requires-clause-here g c = λ C h f. ((c.requires.state).quiet (present c.args.trail.now.entries - 1) (let a = c.requires.above in omega arith) c.args.conflict C h).0 f
 
-pub write_lemma-requires-clause-limits : goal.write_lemma-requires-clause-limits
-write_lemma-requires-clause-limits g c =
+pub write-requires : goal.write-requires
+write-requires g c =
     lemma_limits (live_of c.args.arena.now) c.args.trail.now.vars c.args.id c.in_ok-lemma.lemma.lits.items c.in_ok-lemma.lemma.hints.items
     c.requires.id c.requires.numbers c.requires.limit c.in_ok-lemma.ensures.within c.in_ok-lemma.ensures.rup
 
@@ -65,7 +65,7 @@ returns-clause-learns g c =
         within = c.in_ok-lemma.ensures.within;
         limits = lemma_limits (live_of m) c.args.trail.now.vars c.args.id lits c.in_ok-lemma.lemma.hints.items
             c.requires.id c.requires.numbers c.requires.limit c.in_ok-lemma.ensures.within c.in_ok-lemma.ensures.rup;
-        text = c.in_ok-write_lemma.ensures;
+        text = c.in_ok-write.ensures;
       };
       is_new = is_fresh (live_of m) es lits c.in_ok-lemma.lemma.level (sound (live_of m) es (c.requires.state).built) (c.requires.state).quiet c.in_ok-lemma.ensures.asserting;
       added = is_added m c.learn.new.arena c.args.id place lits (to_come m c.args.id c.requires.numbers) (same_lemma m c.learn.new.arena c.args.id place lits c.deref.result.now c.deref.ensures.value (c.in_ok-learn.ensures.clauses).1);

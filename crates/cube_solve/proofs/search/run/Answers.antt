@@ -1,6 +1,8 @@
-use Rattle.std.proofs.Common.{◌+◌, arith}
+use Rattle.std.proofs.Common.{◌+◌, sym, subst, arith}
 use Rattle.clause_arena.specs.Clauses.{live_of}
 use Rattle.lrat_text.specs.Grammar.{IsClauseNumber}
+use Rattle.lrat_text.specs.Log.{Closes}
+use Rattle.cube_solve.specs.Outcome.{IsBrief}
 use Rattle.cube_solve.proofs.SearchLemmas.{closed, satisfied, search_begins, search_same, search_learns, below_next, closes_assumption, closes_clause, false_assumption}
 use Rattle.cube_solve.proofs.search.run.Goals as goal
 
@@ -8,16 +10,16 @@ pub turns-init : goal.turns-init
 turns-init g c = record {
   ready = c.requires.ready;
   state = c.requires.state;
-  search = search_begins c.args.base.now c.args.cube.now c.args.arena.now c.args.trail.now c.args.log.now.items c.requires.linked c.requires.vars c.requires.empty c.requires.log;
+  search = search_begins c.args.base.now c.args.cube.now c.args.arena.now c.args.trail.now _ c.requires.linked c.requires.vars c.requires.empty c.new-log.ensures;
   within = omega arith;
 }
 
 pub returns-in-Model : goal.returns-in-Model
 returns-in-Model g c =
     let f = c.in-Model.ensures.found in
-    let s = search_same c.args.base.now c.args.cube.now c.turns.learnt c.turns.arena c.descend.new.arena c.turns.trail c.descend.new.trail c.turns.assumed c.descend.new.assumed c.turns.log.items
+    let s = search_same c.args.base.now c.args.cube.now c.turns.learnt c.turns.arena c.descend.new.arena c.turns.trail c.descend.new.trail c.turns.assumed c.descend.new.assumed c.turns.log
     c.turns.invariant.search c.descend.ensures.clauses c.descend.ensures.vars c.descend.ensures.assumed in
-    satisfied c.args.base.now c.args.cube.now c.turns.learnt _ c.descend.new.arena c.descend.new.trail c.descend.new.assumed c.turns.log.items s c.descend.ensures.state f.0 f.1 f.2
+    satisfied c.args.base.now c.args.cube.now c.turns.learnt _ c.descend.new.arena c.descend.new.trail c.descend.new.assumed c.turns.log s c.descend.ensures.state f.0 f.1 f.2
 
 pub close-requires-clause-closing : goal.close-requires-clause-closing
 close-requires-clause-closing g c =
@@ -28,43 +30,45 @@ close-requires-clause-closing g c =
 
 pub close-requires-clause-numbers : goal.close-requires-clause-numbers
 close-requires-clause-numbers g c =
-    below_next c.args.base.now c.args.cube.now c.turns.learnt (c.len.result + 1 + c.turns.learnt) c.turns.arena c.descend.new.arena c.turns.trail c.turns.assumed c.turns.log.items
+    below_next c.args.base.now c.args.cube.now c.turns.learnt (c.len.result + 1 + c.turns.learnt) c.turns.arena c.descend.new.arena c.turns.trail c.turns.assumed c.turns.log
     (let n = c.len.ensures in omega arith) c.turns.invariant.search c.descend.ensures.clauses
 
 pub returns-in-Assumption : goal.returns-in-Assumption
 returns-in-Assumption g c =
     let f = c.in-Assumption.ensures.found in
-    let s = search_same c.args.base.now c.args.cube.now c.turns.learnt c.turns.arena c.descend.new.arena c.turns.trail c.descend.new.trail c.turns.assumed c.descend.new.assumed c.turns.log.items
+    let s = search_same c.args.base.now c.args.cube.now c.turns.learnt c.turns.arena c.descend.new.arena c.turns.trail c.descend.new.trail c.turns.assumed c.descend.new.assumed c.turns.log
     c.turns.invariant.search c.descend.ensures.clauses c.descend.ensures.vars c.descend.ensures.assumed in
     let e = c.in_ok-close-in-Assumption.ensures in
     let number : IsClauseNumber (c.len.result + 1 + c.turns.learnt) = (omega arith, (let n = c.len.ensures in let b = (c.vars-vars.ensures.valid).clauses in let w = c.turns.invariant.within in let l = c.requires.limit in omega arith)) in
-    closed c.args.base.now c.descend.new.trail.vars c.turns.learnt (c.len.result + 1 + c.turns.learnt) (live_of c.descend.new.arena) e.0 c.turns.log.items c.close.new.log.items
+    subst (λ text. Closes c.args.base.now c.args.cube.now text × IsBrief c.args.base.now (c.args.limit + 1) text) (sym c.into_text.ensures)
+    (closed c.args.base.now c.descend.new.trail.vars c.turns.learnt (c.len.result + 1 + c.turns.learnt) (live_of c.descend.new.arena) e.0 c.turns.log c.close.new.log
     (let n = c.len.ensures in omega arith) number s.learnt e.1 c.args.cube.now c.args.limit c.turns.invariant.within
-    (closes_assumption c.args.cube.now (live_of c.descend.new.arena) c.descend.new.trail.entries c.descend.new.assumed c.in-Assumption.literal e.0 c.descend.ensures.assumed (c.descend.ensures.state).built f.0 f.1 e.2)
+    (closes_assumption c.args.cube.now (live_of c.descend.new.arena) c.descend.new.trail.entries c.descend.new.assumed c.in-Assumption.literal e.0 c.descend.ensures.assumed (c.descend.ensures.state).built f.0 f.1 e.2))
 
 pub close-requires-then-level-assumed-clause-numbers : goal.close-requires-then-level-assumed-clause-numbers
 close-requires-then-level-assumed-clause-numbers g c =
-    below_next c.args.base.now c.args.cube.now c.turns.learnt (c.len.result + 1 + c.turns.learnt) c.turns.arena c.descend.new.arena c.turns.trail c.turns.assumed c.turns.log.items
+    below_next c.args.base.now c.args.cube.now c.turns.learnt (c.len.result + 1 + c.turns.learnt) c.turns.arena c.descend.new.arena c.turns.trail c.turns.assumed c.turns.log
     (let n = c.len.ensures in omega arith) c.turns.invariant.search c.descend.ensures.clauses
 
 pub returns-then-level-assumed : goal.returns-then-level-assumed
 returns-then-level-assumed g c =
-    let s = search_same c.args.base.now c.args.cube.now c.turns.learnt c.turns.arena c.descend.new.arena c.turns.trail c.descend.new.trail c.turns.assumed c.descend.new.assumed c.turns.log.items
+    let s = search_same c.args.base.now c.args.cube.now c.turns.learnt c.turns.arena c.descend.new.arena c.turns.trail c.descend.new.trail c.turns.assumed c.descend.new.assumed c.turns.log
     c.turns.invariant.search c.descend.ensures.clauses c.descend.ensures.vars c.descend.ensures.assumed in
     let e = c.in_ok-close-in-Clause.ensures in
     let number : IsClauseNumber (c.len.result + 1 + c.turns.learnt) = (omega arith, (let n = c.len.ensures in let b = (c.vars-vars.ensures.valid).clauses in let w = c.turns.invariant.within in let l = c.requires.limit in omega arith)) in
-    closed c.args.base.now c.descend.new.trail.vars c.turns.learnt (c.len.result + 1 + c.turns.learnt) (live_of c.descend.new.arena) e.0 c.turns.log.items c.close-then-level-assumed.new.log.items
+    subst (λ text. Closes c.args.base.now c.args.cube.now text × IsBrief c.args.base.now (c.args.limit + 1) text) (sym c.into_text-then-level-assumed.ensures)
+    (closed c.args.base.now c.descend.new.trail.vars c.turns.learnt (c.len.result + 1 + c.turns.learnt) (live_of c.descend.new.arena) e.0 c.turns.log c.close-then-level-assumed.new.log
     (let n = c.len.ensures in omega arith) number s.learnt e.1 c.args.cube.now c.args.limit c.turns.invariant.within
-    (closes_clause c.args.cube.now c.descend.new.trail.entries c.descend.new.assumed c.in-Clause.number e.0 c.descend.ensures.assumed (let p = c.level.ensures.present in let t = c.if-level-assumed.true in omega arith) e.2)
+    (closes_clause c.args.cube.now c.descend.new.trail.entries c.descend.new.assumed c.in-Clause.number e.0 c.descend.ensures.assumed (let p = c.level.ensures.present in let t = c.if-level-assumed.true in omega arith) e.2))
 
 pub learn_from-requires-clause-numbers : goal.learn_from-requires-clause-numbers
 learn_from-requires-clause-numbers g c =
-    below_next c.args.base.now c.args.cube.now c.turns.learnt (c.len.result + 1 + c.turns.learnt) c.turns.arena c.descend.new.arena c.turns.trail c.turns.assumed c.turns.log.items
+    below_next c.args.base.now c.args.cube.now c.turns.learnt (c.len.result + 1 + c.turns.learnt) c.turns.arena c.descend.new.arena c.turns.trail c.turns.assumed c.turns.log
     (let n = c.len.ensures in omega arith) c.turns.invariant.search c.descend.ensures.clauses
 
 pub turns-preserved : goal.turns-preserved
 turns-preserved g c =
-    let s = search_same c.args.base.now c.args.cube.now c.turns.learnt c.turns.arena c.descend.new.arena c.turns.trail c.descend.new.trail c.turns.assumed c.descend.new.assumed c.turns.log.items
+    let s = search_same c.args.base.now c.args.cube.now c.turns.learnt c.turns.arena c.descend.new.arena c.turns.trail c.descend.new.trail c.turns.assumed c.descend.new.assumed c.turns.log
     c.turns.invariant.search c.descend.ensures.clauses c.descend.ensures.vars c.descend.ensures.assumed in
     let e = c.in_ok-learn_from-in-Clause.ensures in
     let number : IsClauseNumber (c.len.result + 1 + c.turns.learnt) = (omega arith, (let n = c.len.ensures in let b = (c.vars-vars.ensures.valid).clauses in let w = c.turns.invariant.within in let l = c.requires.limit in omega arith)) in
@@ -72,6 +76,6 @@ turns-preserved g c =
       ready = e.ready;
       state = e.state;
       search = search_learns c.args.base.now c.args.cube.now c.turns.learnt (c.len.result + 1 + c.turns.learnt) c.descend.new.arena c.learn_from.new.arena c.descend.new.trail c.learn_from.new.trail c.descend.new.assumed
-          c.turns.log.items c.learn_from.new.log.items (let n = c.len.ensures in omega arith) number s e.learns e.vars (e.assuming c.args.cube.now c.descend.new.assumed c.descend.ensures.assumed);
+          c.turns.log c.learn_from.new.log (let n = c.len.ensures in omega arith) number s e.learns e.vars (e.assuming c.args.cube.now c.descend.new.assumed c.descend.ensures.assumed);
       within = (let w = c.turns.invariant.within in let d = c.if-learnt-limit.false in omega arith);
     }

@@ -7,7 +7,7 @@ abbrev pub invariant-turns : goal.invariant-turns
 invariant-turns g l = record {
   ready : g.P.Propagator.is_ready l.propagator l.arena l.trail;
   state : IsState (g.P.Propagator.attached l.propagator) l.arena l.trail;
-  search : IsSearch l.base l.cube l.learnt l.arena l.trail l.assumed l.log.items;
+  search : IsSearch l.base l.cube l.learnt l.arena l.trail l.assumed l.log;
   within : l.learnt ≤ l.limit;
 }
 
