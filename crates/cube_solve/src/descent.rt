@@ -47,7 +47,7 @@ pub(crate) fn descend<P: Propagator>(
             Some(number) => return Found::Clause(number),
             None => {}
         }
-        let _len = trail.len();
+        let _len = trail.len(); // at most the number of variables, and so is the level
         let level = trail.level();
         match pick(trail, cube) {
             Next::Assume(literal) => {
