@@ -1,5 +1,5 @@
 -- A decision, what it implies, and a clause that is false then.
-use Rattle.std.proofs.Common.{zero, suc, ◌≡◌, ◌≢◌, ℕ, ◌+◌, ◌-◌, ◌<◌, ◌≤◌, ◌⊎◌, inl, inr, Bool, true, false, List, [], ◌∷◌, length, refl, ap, sym, ◌∙◌, subst, arith, Option, Some, None}
+use Rattle.std.proofs.Common.{◌≡◌, ℕ, ◌⊎◌, inl, inr, true, false, List, [], ◌∷◌, refl, ap, sym, ◌∙◌, subst, arith, Option, Some, None}
 use Rattle.std.specs.List.{All, Contains, IsDistinct}
 use Rattle.std.specs.FinMap.{get, insert, empty, get-empty}
 use Rattle.std.specs.Ordering.{nat_cmp}
@@ -9,11 +9,11 @@ use Rattle.clause_arena.specs.Clauses.{Clauses, live_of}
 use Rattle.clause_arena.proofs.ClauseLaws.{get-insert_same, get-insert_other, live_once, none_empty}
 use Rattle.dimacs.specs.Literal.{Literal, Pos, Neg, Clause, IsWithin, negation, same}
 use Rattle.watches.specs.Law.{IsConflict}
-use Rattle.watches.specs.Trails.{holds, up_to, present}
+use Rattle.watches.specs.Trails.{holds, up_to}
 use Rattle.watches.specs.declared.trail.Assigned.{Assigned}
 use Rattle.conflict_analysis.specs.Built.{AreBuilt, AreInside}
 use Rattle.conflict_analysis.specs.Lemmas.{IsPresent, IsDecision}
-use Rattle.conflict_analysis.proofs.Clauses.{Contains-head, Contains-cons, Contains-cons_cases, Contains-nil}
+use Rattle.conflict_analysis.proofs.Clauses.{Contains-head, Contains-cons_cases, Contains-nil}
 
 abbrev pub first : Clause
 first = Neg 1 ∷ Pos 2 ∷ []

@@ -1,18 +1,17 @@
 //! The analysis of a conflict: the first unique implication point (Marques-Silva and Sakallah 1996).
 
-ghost use Rattle.std.specs.Prelude.{◌≡◌, ℕ, ◌+◌, ◌<◌, ◌≤◌, false, [], ◌++◌, ◌∷◌, length, All, take, IfOk, OnOk, vec_len, drop};
-ghost use Rattle.std.specs.List.{filter_map};
-ghost use Rattle.std.specs.List.{IsDistinct};
+ghost use Rattle.std.specs.Prelude.{◌≡◌, ℕ, ◌+◌, ◌<◌, ◌≤◌, false, [], ◌++◌, ◌∷◌, length, All, IfOk, OnOk, drop};
+ghost use Rattle.std.specs.List.{IsDistinct, filter_map};
 ghost use Rattle.clause_arena.specs.Clauses.{live_of};
-ghost use Rattle.dimacs.specs.Literal.{Clause, Literal, IsWithin, negation, same, var_of};
+ghost use Rattle.dimacs.specs.Literal.{IsWithin, negation, same};
 ghost use Rattle.dimacs.specs.Propagation.{Rup};
 ghost use Rattle.conflict_analysis.specs.Built.{AreBuilt, AreInside};
 ghost use Rattle.conflict_analysis.specs.Lemmas.{IsAsserting, IsPresent};
-ghost use Rattle.conflict_analysis.specs.Walks.{met, IsWalk, IsPoint, AreSettled, HasMet, hint_of};
+ghost use Rattle.conflict_analysis.specs.Walks.{met, HasMet, hint_of};
 ghost use Rattle.watches.specs.Law.{IsConflict};
 ghost use Rattle.watches.specs.Trails.{present, IsTrailValue};
 
-use crate::hints::append_hints;
+use crate::hints::resolved_reasons;
 use crate::lemma::Lemma;
 use crate::walk::{Walk, descend, meet_number};
 use clause_arena::Arena;
@@ -39,15 +38,8 @@ fn conclude(
         × (lemma.hints.items ≡ filter_map (hint_of (met stamps.now stamp) walk.present point) (drop i trail.now.entries) ++ number ∷ [])
         × (lemma.level ≡ walk.level)) }
 {
-    let mut hints = Vec::new(alloc);
-    append_hints(
-        &trail.entries()[i..],
-        walk.present,
-        stamps,
-        stamp,
-        point,
-        &mut hints,
-    )?;
+    let entries = &trail.entries()[i..];
+    let mut hints = resolved_reasons(alloc, entries, walk.present, stamps, stamp, point)?;
     hints.push(number)?;
     let level = walk.level;
     let mut lits = walk.lits;

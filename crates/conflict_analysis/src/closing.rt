@@ -1,7 +1,7 @@
 //! The closing of a cube: what is false follows from assumptions alone.
 
-ghost use Rattle.std.specs.Prelude.{◌≡◌, nat_eq, ℕ, ◌+◌, ◌<◌, ◌≤◌, true, ◌++◌, [], ◌∷◌, length, take, slice_index_or, Some, All, Contains, IfOk, OnOk};
-ghost use Rattle.std.specs.List.{filter_map, IsDistinct};
+ghost use Rattle.std.specs.Prelude.{◌≡◌, nat_eq, ◌+◌, ◌<◌, true, [], length, take, slice_index_or, Some, All, Contains, IfOk, OnOk};
+ghost use Rattle.std.specs.List.{IsDistinct};
 ghost use Rattle.clause_arena.specs.Clauses.{live_of};
 ghost use Rattle.dimacs.specs.Literal.{Literal, Clause, IsWithin, negation, var_of};
 ghost use Rattle.dimacs.specs.Propagation.{Rup};
@@ -9,10 +9,11 @@ ghost use Rattle.conflict_analysis.specs.Built.{AreBuilt, AreInside, AreSized};
 ghost use Rattle.conflict_analysis.specs.Walks.{met, HasMet, IsKnown};
 ghost use Rattle.conflict_analysis.specs.Lemmas.{IsClosing, NegatesAssumptions};
 ghost use Rattle.conflict_analysis.specs.declared.closing.Closing.TheVariants as closing;
-ghost use Rattle.conflict_analysis.specs.Traces.{AreTraced, AreNegated, AreOutside, AreFalseOr, IsTraced, reason_of};
+ghost use Rattle.conflict_analysis.specs.Traces.{AreTraced, AreNegated, AreOutside, AreFalseOr};
 ghost use Rattle.watches.specs.Trails.{holds, variables};
 ghost use Rattle.watches.specs.declared.trail.Assigned.{Assigned};
 
+use crate::hints::met_reasons;
 use crate::lemma::Lemma;
 use clause_arena::Arena;
 use dimacs::Lit;
@@ -110,39 +111,6 @@ fn trace(
     Ok(())
 }
 
-/// The reason of an entry that was met.
-fn reason_of(entry: Assigned, stamps: &[u64], stamp: u64) -> Option<u64>
-    requires { var_of entry.literal < length stamps.now }
-    ensures { result ≡ reason_of (met stamps.now stamp) entry }
-{
-    if stamps[entry.literal.var().number() as usize] == stamp {
-        entry.reason
-    } else {
-        None
-    }
-}
-
-/// The reasons of the entries that were met, in trail order, and the number of what is false.
-fn reasons(
-    alloc: Global,
-    entries: &[Assigned],
-    stamps: &[u64],
-    stamp: u64,
-    number: u64,
-) -> Result<Vec<u64>, AllocError>
-    requires { (e : Assigned) → Contains entries.now e → var_of e.literal < length stamps.now }
-    ensures { IfOk result (λ hints. hints.items ≡ filter_map (reason_of (met stamps.now stamp)) entries.now ++ number ∷ []) }
-{
-    let mut hints = Vec::new(alloc);
-    for &entry in entries {
-        if let Some(reason) = reason_of(entry, stamps, stamp) {
-            hints.push(reason)?;
-        }
-    }
-    hints.push(number)?;
-    Ok(hints)
-}
-
 /// The lemma of the first literals and of negations of decisions, from a clause that is false but for the first.
 fn close(
     alloc: Global,
@@ -167,7 +135,8 @@ fn close(
     mark_number(arena, entries, stamps, stamp, number);
     let mut lits = first;
     trace(arena, entries, stamps, stamp, &mut lits)?;
-    let hints = reasons(alloc, entries, stamps, stamp, number)?;
+    let mut hints = met_reasons(alloc, entries, stamps, stamp)?;
+    hints.push(number)?;
     Ok(Lemma {
         lits,
         hints,

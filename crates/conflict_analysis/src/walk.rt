@@ -1,6 +1,6 @@
 //! One walk down a trail, from a false clause to the first implication point.
 
-ghost use Rattle.std.specs.Prelude.{◌≡◌, ℕ, ◌+◌, ◌<◌, ◌≤◌, true, ◌⊎◌, [], None, length, take, Contains, IfOk, OnOk};
+ghost use Rattle.std.specs.Prelude.{◌≡◌, ◌+◌, ◌<◌, ◌≤◌, true, ◌⊎◌, [], None, length, take, Contains, IfOk, OnOk};
 ghost use Rattle.std.specs.Bool.{OnTrue, OnFalse};
 ghost use Rattle.clause_arena.specs.Clauses.{live_of};
 ghost use Rattle.dimacs.specs.Literal.{Literal, Clause, var_of};

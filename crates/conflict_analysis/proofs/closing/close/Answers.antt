@@ -26,5 +26,5 @@ pub returns-clause-rup : goal.returns-clause-rup
 returns-clause-rup c =
     let l = c.requires.live in
     let e = c.in_ok-trace.ensures in
-    rw c.in_ok-hints.ensures (closes (live_of c.args.arena.now) c.args.entries.now c.requires.apart (met c.trace.new.stamps c.args.stamp) c.args.first.items c.trace.new.lits.items e.traced e.negated c.requires.first e.kept
+    rw (c.in_ok-push.ensures.items, c.in_ok-hints.ensures) (closes (live_of c.args.arena.now) c.args.entries.now c.requires.apart (met c.trace.new.stamps c.args.stamp) c.args.first.items c.trace.new.lits.items e.traced e.negated c.requires.first e.kept
     l.0 c.args.number l.1 l.2 (λ k i. e.stamps.grows (var_of k) (c.mark_number.ensures.all l.0 l.1 k i)))

@@ -1,5 +1,4 @@
-use Rattle.std.proofs.Common.{◌≡◌, ℕ, [], ◌∷◌, sym, subst}
-use Rattle.std.specs.List.{Contains}
+use Rattle.std.proofs.Common.{[], sym, subst}
 use Rattle.clause_arena.specs.Clauses.{live_of}
 use Rattle.conflict_analysis.specs.Built.{AreBuilt, AreInside}
 use Rattle.conflict_analysis.proofs.Small.{small_built}
