@@ -1,5 +1,5 @@
 -- What the contents are after two literals of a clause have changed their places.
-use Rattle.std.proofs.Common.{zero, suc, ◌≡◌, ◌≢◌, ℕ, ◌+◌, ◌<◌, ◌≤◌, Bool, true, false, List, [], ◌∷◌, Some, cond, refl, sym, ◌∙◌, ap, subst, length, get_or, set, take, drop, arith, length-drop, length-take, swap, eqb}
+use Rattle.std.proofs.Common.{zero, suc, ◌≡◌, ◌≢◌, ℕ, ◌+◌, ◌<◌, ◌≤◌, Bool, true, false, List, [], ◌∷◌, Some, cond, refl, sym, ◌∙◌, ap, subst, length, get_or, set, take, drop, arith, length-drop, length-take, swap}
 use Rattle.std.specs.Option.{option_map}
 use Rattle.std.specs.List.{IsDistinct}
 use Rattle.std.specs.FinMap.{get, insert, get-insert}
@@ -8,9 +8,9 @@ use Rattle.std.specs.Cmp.{nat_cmp_total}
 use Rattle.std.proofs.lemmas.List.{ext_get_or, get_or-take, get_or-drop, get_or-set_other, drop-set-add, length-take-le}
 use Rattle.std.proofs.lemmas.List.Edits.{swap_is, length-swap}
 use Rattle.std.proofs.lemmas.List.Sorted.{IsPermutation-swap}
-use Rattle.std.proofs.lemmas.Bool.Decides.{nat_tests}
 use Rattle.std.proofs.lemmas.Map.Keys.{IsDistinct-IsPermutation}
-use Rattle.dimacs.specs.Literal.{Literal, Clause, same, Pos, Neg}
+use Rattle.dimacs.specs.Literal.{Literal, Clause, same, Pos}
+use Rattle.dimacs.proofs.LiteralLemmas.{same-flips}
 use Rattle.clause_arena.specs.declared.slots.Slot.{Slot}
 use Rattle.clause_arena.specs.Slots.{Slots}
 use Rattle.clause_arena.specs.Contents.{clause_at, value_at, contents, IsArena}
@@ -45,15 +45,6 @@ swap_part ws m n i j f hi hj =
     ∙ ap (λ s. set s j (get_or ws (m + i) d)) (take_set n (drop m ws) i _ hi)
     ∙ rw (← x, ← y) (swap_is (take n (drop m ws)) i j d (omega arith) (omega arith))
 
-number_flips : (v w : ℕ) → eqb v w ≡ eqb w v
-number_flips v w = grind (arith, nat_tests)
-
-same_flips : (x y : Literal) → same x y ≡ same y x
-same_flips (Pos v) (Pos w) = number_flips v w
-same_flips (Neg v) (Neg w) = number_flips v w
-same_flips (Pos v) (Neg w) = refl
-same_flips (Neg v) (Pos w) = refl
-
 -- the words after a swap inside the slot of a number
 module _ (ws : List Literal) (index : Slots) (arena : IsArena ws index) (number : ℕ) (s : Slot) (there : get index number ≡ Some s) (i j : ℕ) (hi : i < s.len) (hj : j < s.len) where
   abbrev after : List Literal
@@ -79,7 +70,7 @@ module _ (ws : List Literal) (index : Slots) (arena : IsArena ws index) (number 
       let is = same_slot m t e (same_number m number z) in
       let long = length-clause_at ws s (arena.placed number s there) in
       subst (λ x. IsDistinct same (clause_at after x)) (sym is) (subst (λ C. IsDistinct same C) (sym swapped)
-      (IsDistinct-IsPermutation same same_flips (clause_at ws s) (swap (clause_at ws s) i j) (IsPermutation-swap (clause_at ws s) (swap (clause_at ws s) i j) i j (omega (arith, long)) (omega (arith, long)) refl) (arena.distinct number s there)))
+      (IsDistinct-IsPermutation same same-flips (clause_at ws s) (swap (clause_at ws s) i j) (IsPermutation-swap (clause_at ws s) (swap (clause_at ws s) i j) i j (omega (arith, long)) (omega (arith, long)) refl) (arena.distinct number s there)))
   distinct_at m t e false z =
       let ne : m ≢ number = λ is. absurd (let h : true ≡ false = sym (same_test m number is) ∙ z in cc) in
       subst (λ C. IsDistinct same C) (sym (unswapped m t e ne)) (arena.distinct m t e)

@@ -6,15 +6,16 @@ use Rattle.std.proofs.lemmas.List.{take-append-drop}
 use Rattle.std.proofs.lemmas.List.Elements.{All-contains, Contains-get_or}
 use Rattle.dimacs.specs.ClauseMap.{Live}
 use Rattle.dimacs.specs.Literal.{Literal, Clause, IsWithin, negation, var_of}
+use Rattle.dimacs.proofs.LiteralLemmas.{same_or_not, negation-negation, negation_apart, var_of-negation, IsWithin-negation}
+use Rattle.dimacs.proofs.Members.{Contains-head, Contains-cons_cases, Contains-nil}
 use Rattle.watches.specs.Law.{IsImplied}
 use Rattle.watches.specs.Trails.{holds, variables}
 use Rattle.watches.specs.declared.trail.Assigned.{Assigned}
-use Rattle.watches.proofs.LiteralLemmas.{same_or_not, negation-negation, var_of-negation, negation_apart, IsWithin-negation}
 use Rattle.conflict_analysis.specs.Built.{AreBuilt, AreInside, AreSized}
 use Rattle.conflict_analysis.specs.Lemmas.{IsDecision}
 use Rattle.conflict_analysis.specs.Traces.{AreNegated, AreOutside, AreFalseOr}
 use Rattle.conflict_analysis.proofs.Building.{behind}
-use Rattle.conflict_analysis.proofs.Clauses.{Contains-head, Contains-cons_cases, Contains-nil, Contains-take}
+use Rattle.conflict_analysis.proofs.Fronts.{Contains-take}
 use Rattle.conflict_analysis.proofs.Entries.{distinct_left, entry_from_holds, holds_from_entry}
 
 built_prefix : (live : Live) (front xs ys : List Assigned) → AreBuilt live front (xs ++ ys) → AreBuilt live front xs

@@ -9,10 +9,10 @@ use Rattle.std.proofs.lemmas.Map.Keys.{apart_from_distinct}
 use Rattle.dimacs.specs.ClauseMap.{Live}
 use Rattle.dimacs.specs.Literal.{Literal, Clause, var_of}
 use Rattle.dimacs.specs.Propagation.{IsUnit}
+use Rattle.dimacs.proofs.LiteralLemmas.{same_or_not}
 use Rattle.watches.specs.Law.{IsImplied}
 use Rattle.watches.specs.Trails.{holds, present, variables}
 use Rattle.watches.specs.declared.trail.Assigned.{Assigned}
-use Rattle.watches.proofs.LiteralLemmas.{same_or_not}
 use Rattle.watches.proofs.Present.{le_present}
 use Rattle.conflict_analysis.specs.Built.{IsDecided, AreBuilt}
 use Rattle.conflict_analysis.specs.Walks.{waiting, IsKnown}

@@ -5,13 +5,13 @@ use Rattle.std.proofs.lemmas.Bool.{cases_Bool, both_ways, or_left, and_parts, an
 use Rattle.dimacs.specs.ClauseMap.{Live}
 use Rattle.dimacs.specs.Literal.{Literal, Clause, negation, var_of}
 use Rattle.dimacs.specs.Propagation.{Rup, negations}
+use Rattle.dimacs.proofs.LiteralLemmas.{negation-negation, var_of-negation}
+use Rattle.dimacs.proofs.Members.{has-Contains, Contains-has}
 use Rattle.watches.specs.Trails.{holds, variables}
 use Rattle.watches.specs.declared.trail.Assigned.{Assigned}
-use Rattle.watches.proofs.LiteralLemmas.{negation-negation, var_of-negation}
 use Rattle.watches.proofs.TrailLemmas.{consistent}
 use Rattle.conflict_analysis.specs.Traces.{AreTraced, AreNegated, AreOutside, AreFalseOr, reason_of}
 use Rattle.conflict_analysis.specs.Walks.{IsSettled}
-use Rattle.conflict_analysis.proofs.Clauses.{has-Contains, Contains-has}
 use Rattle.conflict_analysis.proofs.Entries.{holds_from_entry, one_entry}
 use Rattle.conflict_analysis.proofs.Concluding.{hints_agree, settled_front}
 use Rattle.conflict_analysis.proofs.Following.{number_of, resolved_of, either, walk_is_rup}

@@ -9,14 +9,15 @@ use Rattle.std.proofs.lemmas.Bool.{cases_Bool, cases_eq, cases_lt, both_ways, or
 use Rattle.dimacs.specs.ClauseMap.{Live}
 use Rattle.dimacs.specs.Literal.{Literal, Clause, IsWithin, negation, same, var_of}
 use Rattle.dimacs.specs.Propagation.{IsFalse, Rup, negations}
+use Rattle.dimacs.proofs.LiteralLemmas.{same-true, same-is, same-false, same_equiv, negation-negation, var_of-negation, IsWithin-negation}
+use Rattle.dimacs.proofs.Members.{Contains-head, Contains-cons, Contains-cons_cases, Contains-nil, has-Contains, Contains-has}
 use Rattle.watches.specs.Trails.{holds, up_to, present, variables}
 use Rattle.watches.specs.declared.trail.Assigned.{Assigned}
-use Rattle.watches.proofs.LiteralLemmas.{same-true, same-is, same-false, negation-negation, var_of-negation, IsWithin-negation}
 use Rattle.watches.proofs.TrailLemmas.{consistent}
 use Rattle.watches.proofs.Present.{le_present}
 use Rattle.conflict_analysis.specs.Lemmas.{IsAsserting}
 use Rattle.conflict_analysis.specs.Walks.{waiting, hint_of, IsBetween, IsLow, IsPoint, IsSettled, AreSettled, IsWalk}
-use Rattle.conflict_analysis.proofs.Clauses.{Contains-head, Contains-cons, Contains-cons_cases, Contains-nil, Contains-take, has-Contains, Contains-has, same_equiv}
+use Rattle.conflict_analysis.proofs.Fronts.{Contains-take}
 use Rattle.conflict_analysis.proofs.Entries.{one_if, holds_from_entry, entry_from_holds, one_entry, waiting_some, waiting_cons}
 use Rattle.conflict_analysis.proofs.Following.{number_of, hints_of, AreClosed, resolved_of, either, walk_is_rup}
 

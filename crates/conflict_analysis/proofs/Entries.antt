@@ -6,12 +6,12 @@ use Rattle.std.proofs.lemmas.Map.Keys.{IsDistinct-tail, IsDistinct-from_apart, a
 use Rattle.std.proofs.lemmas.List.Sums.{sum_by-cons}
 use Rattle.std.proofs.lemmas.List.{map-append, get_or_append_left}
 use Rattle.dimacs.specs.Literal.{Literal, same, var_of}
+use Rattle.dimacs.proofs.LiteralLemmas.{same-true, same-is}
+use Rattle.dimacs.proofs.Members.{Contains-head, Contains-cons, Contains-cons_cases, Contains-nil}
 use Rattle.watches.specs.Trails.{holds, variables}
 use Rattle.watches.specs.declared.trail.Assigned.{Assigned}
-use Rattle.watches.proofs.LiteralLemmas.{same-true, same-is}
 use Rattle.watches.proofs.TrailLemmas.{head_alone}
 use Rattle.conflict_analysis.specs.Walks.{waiting}
-use Rattle.conflict_analysis.proofs.Clauses.{Contains-head, Contains-cons, Contains-cons_cases, Contains-nil}
 
 -- a literal of the trail is an entry's
 pub entry_from_holds : (es : List Assigned) (l : Literal) → holds es l ≡ true → (e : Assigned) × Contains es e × (e.literal ≡ l)

@@ -9,12 +9,12 @@ use Rattle.std.proofs.lemmas.Bool.{cases_Bool, or_left, or_right, or_cases, or_f
 use Rattle.dimacs.specs.ClauseMap.{Live}
 use Rattle.dimacs.specs.Literal.{Literal, Clause, negation, same, var_of}
 use Rattle.dimacs.specs.Propagation.{IsUnit, Leads, Rup, negations, with_literal}
+use Rattle.dimacs.proofs.LiteralLemmas.{same-itself, same-is, same_or_not, same-false, negation-negation, var_of-negation}
+use Rattle.dimacs.proofs.Members.{has-Contains}
 use Rattle.watches.specs.Trails.{holds}
 use Rattle.watches.specs.declared.trail.Assigned.{Assigned}
-use Rattle.watches.proofs.LiteralLemmas.{same-itself, same-is, same-false, same_or_not, negation-negation, var_of-negation}
 use Rattle.watches.proofs.TrailLemmas.{holds_push}
 use Rattle.conflict_analysis.specs.Walks.{IsSettled}
-use Rattle.conflict_analysis.proofs.Clauses.{has-Contains}
 
 abbrev pub number_of : Option ℕ → ℕ
 number_of o = unwrap_or o 0

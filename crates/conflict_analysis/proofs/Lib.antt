@@ -1,6 +1,6 @@
 pub mod Assuming
 pub mod Building
-pub mod Clauses
+pub mod Fronts
 pub mod Closed
 pub mod Concluding
 pub mod Entries

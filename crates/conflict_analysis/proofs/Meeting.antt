@@ -5,11 +5,11 @@ use Rattle.std.proofs.lemmas.Bool.{cases_eq, eq-eqb, ne_eqb, eqb-true, or_left, 
 use Rattle.std.proofs.lemmas.List.Elements.{Contains-append_left, Contains-push, Contains-push_cases}
 use Rattle.std.proofs.lemmas.List.{get_or-set_other, get_or-set_same}
 use Rattle.dimacs.specs.Literal.{Literal, Clause, negation, same, var_of}
+use Rattle.dimacs.proofs.LiteralLemmas.{same_equiv, negation-negation, var_of-negation}
+use Rattle.dimacs.proofs.Members.{has-Contains}
 use Rattle.watches.specs.Trails.{holds, present, variables}
 use Rattle.watches.specs.declared.trail.Assigned.{Assigned}
-use Rattle.watches.proofs.LiteralLemmas.{negation-negation, var_of-negation}
 use Rattle.std.proofs.lemmas.Map.Keys.{IsDistinct-push}
-use Rattle.conflict_analysis.proofs.Clauses.{same_equiv, has-Contains}
 use Rattle.conflict_analysis.specs.Walks.{met, waiting, IsFront, IsBetween, IsWalk}
 use Rattle.conflict_analysis.proofs.Entries.{one_if, entry_from_holds, one_entry, distinct_left, waiting_one}
 

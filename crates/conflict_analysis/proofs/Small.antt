@@ -8,12 +8,12 @@ use Rattle.std.proofs.lemmas.List.Elements.{All-cons, All-nil}
 use Rattle.clause_arena.specs.Clauses.{Clauses, live_of}
 use Rattle.clause_arena.proofs.ClauseLaws.{get-insert_same, get-insert_other, live_once, none_empty}
 use Rattle.dimacs.specs.Literal.{Literal, Pos, Neg, Clause, IsWithin, negation, same}
+use Rattle.dimacs.proofs.Members.{Contains-head, Contains-cons_cases, Contains-nil}
 use Rattle.watches.specs.Law.{IsConflict}
 use Rattle.watches.specs.Trails.{holds, up_to}
 use Rattle.watches.specs.declared.trail.Assigned.{Assigned}
 use Rattle.conflict_analysis.specs.Built.{AreBuilt, AreInside}
 use Rattle.conflict_analysis.specs.Lemmas.{IsPresent, IsDecision}
-use Rattle.conflict_analysis.proofs.Clauses.{Contains-head, Contains-cons_cases, Contains-nil}
 
 abbrev pub first : Clause
 first = Neg 1 ∷ Pos 2 ∷ []

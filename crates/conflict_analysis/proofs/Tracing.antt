@@ -6,15 +6,15 @@ use Rattle.std.proofs.lemmas.List.{length-set, get_or_default}
 use Rattle.std.proofs.lemmas.List.Elements.{All-set}
 use Rattle.dimacs.specs.ClauseMap.{Live}
 use Rattle.dimacs.specs.Literal.{Literal, Clause, negation, var_of}
+use Rattle.dimacs.proofs.LiteralLemmas.{var_of-negation}
 use Rattle.watches.specs.Law.{IsImplied}
 use Rattle.watches.specs.Trails.{variables}
 use Rattle.watches.specs.declared.trail.Assigned.{Assigned}
-use Rattle.watches.proofs.LiteralLemmas.{var_of-negation}
 use Rattle.conflict_analysis.specs.Built.{AreBuilt}
 use Rattle.conflict_analysis.specs.Traces.{IsTraced, AreTraced, AreNegated}
 use Rattle.conflict_analysis.specs.Walks.{met, HasMet, IsKnown, IsSettled}
 use Rattle.conflict_analysis.proofs.Building.{built_at}
-use Rattle.conflict_analysis.proofs.Clauses.{Contains-take}
+use Rattle.conflict_analysis.proofs.Fronts.{Contains-take}
 use Rattle.conflict_analysis.proofs.Entries.{entry_from_holds}
 use Rattle.conflict_analysis.proofs.Meeting.{met_set}
 use Rattle.conflict_analysis.proofs.Settling.{was_met, settled_grows}

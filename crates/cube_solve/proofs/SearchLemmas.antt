@@ -9,6 +9,8 @@ use Rattle.dimacs.specs.Cnf.{Cnf, member_of}
 use Rattle.dimacs.specs.ClauseMap.{ClauseMap, Live, live_in, map_of}
 use Rattle.dimacs.specs.Literal.{Literal, Clause, IsWithin, negation, var_of, literal_true}
 use Rattle.dimacs.specs.Propagation.{IsFalse}
+use Rattle.dimacs.proofs.LiteralLemmas.{negation_apart, var_of-negation}
+use Rattle.dimacs.proofs.Members.{Contains-head, Contains-cons, Contains-cons_cases, Contains-nil}
 use Rattle.clause_arena.specs.Clauses.{Clauses, live_of}
 use Rattle.lrat_text.specs.Grammar.{LineSpells, IsClauseNumber}
 use Rattle.lrat_text.specs.Log.{Cube, Closes, IsHonest}
@@ -19,12 +21,10 @@ use Rattle.lrat_text.proofs.LineLemmas.{written_spells, written_one_line}
 use Rattle.watches.specs.declared.trail.Assigned.{Assigned}
 use Rattle.watches.specs.Law.{AllCalm, AreSame, IsCalm}
 use Rattle.watches.specs.Trails.{TrailValue, holds, present}
-use Rattle.watches.proofs.LiteralLemmas.{negation_apart, var_of-negation}
 use Rattle.watches.proofs.TrailLemmas.{head_alone}
 use Rattle.conflict_analysis.specs.Built.{AreBuilt}
 use Rattle.conflict_analysis.specs.Lemmas.{IsDecision, NegatesAssumptions}
 use Rattle.conflict_analysis.specs.declared.closing.Closing.TheVariants as closing
-use Rattle.conflict_analysis.proofs.Clauses.{Contains-head, Contains-cons, Contains-cons_cases, Contains-nil}
 use Rattle.cube_solve.specs.Ends.{Satisfies}
 use Rattle.cube_solve.specs.Learning.{after_steps, top_of, AreBelow, IsLearnt, IsWritten, Learns, IsSearch}
 use Rattle.cube_solve.specs.Levels.{AreLinked}

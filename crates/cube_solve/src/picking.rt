@@ -1,6 +1,6 @@
 //! What to assume or decide next.
 
-ghost use Rattle.std.specs.Prelude.{◌≡◌, ◌≤◌, All};
+ghost use Rattle.std.specs.Prelude.{◌≤◌, All};
 ghost use Rattle.dimacs.specs.Literal.{IsWithin};
 ghost use Rattle.cube_solve.specs.Steps.{IsNext};
 

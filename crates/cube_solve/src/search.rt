@@ -1,6 +1,6 @@
 //! The loop of the search: descend to a conflict, learn a lemma from it, and descend again.
 
-ghost use Rattle.std.specs.Prelude.{◌≡◌, ℕ, ◌+◌, ◌<◌, ◌≤◌, ◌^◌, [], length, map, nat_eq, All, IfOk, OnOk};
+ghost use Rattle.std.specs.Prelude.{◌≡◌, ℕ, ◌+◌, ◌<◌, ◌≤◌, ◌^◌, [], map, nat_eq, All, IfOk, OnOk};
 ghost use Rattle.std.specs.List.{IsDistinct};
 ghost use Rattle.dimacs.specs.ClauseMap.{map_of, live_in};
 ghost use Rattle.dimacs.specs.Literal.{Clause, IsWithin, var_of};

@@ -1,12 +1,12 @@
 -- The split rule, by its tables.
-use Rattle.std.proofs.Common.{◌≡◌, ◌≢◌, ℕ, ◌+◌, ◌*◌, ◌<◌, ◌≤◌, Bool, true, false, ◌||◌, ◌&&◌, not, cond, List, [], ◌∷◌, ◌++◌, length, get_or, eqb, refl, sym, ap, ◌∙◌, arith, ⊎_elim, ◌⊎◌, inl, inr, Option, Some, None, IfSome, IfNone}
-use Rattle.std.specs.List.{list_any, count_by, All, AllByRecursion}
+use Rattle.std.proofs.Common.{◌≡◌, ◌≢◌, ℕ, ◌+◌, ◌*◌, ◌<◌, ◌≤◌, Bool, false, ◌||◌, ◌&&◌, cond, List, [], ◌∷◌, ◌++◌, length, get_or, eqb, refl, sym, ◌∙◌, arith, ⊎_elim, ◌⊎◌, inl, inr, Option, Some, None, IfSome, IfNone}
+use Rattle.std.specs.List.{AllByRecursion}
 use Rattle.std.proofs.lemmas.Bool.{cases_lt, cases_eq, eqb-false, ne_eqb, or_parts, or_from, and_right, cond-false}
 use Rattle.std.proofs.lemmas.List.Elements.{All-nil, All-cons, All-head, All-tail}
 use Rattle.std.proofs.lemmas.List.Folds.{list_any-append}
 use Rattle.std.proofs.lemmas.List.Sums.{sum_by-cons}
 use Rattle.dimacs.specs.Cnf.{Cnf, AreWithin}
-use Rattle.dimacs.specs.Literal.{Literal, Pos, Neg, Clause, same, has, var_of, index_of, IsWithin}
+use Rattle.dimacs.specs.Literal.{Literal, Pos, Neg, Clause, same, has, var_of, IsWithin}
 use Rattle.icnf.specs.Leaves.{IsFree}
 use Rattle.cube_split.specs.Choice.{has_variable, is_apart, stands_in, IsChoice, HasNoChoice, Choice}
 use Rattle.cube_split.specs.Marks.{AreMarked, IsUnmarked, IsGreatest}

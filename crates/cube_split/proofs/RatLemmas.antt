@@ -1,33 +1,21 @@
 -- Units of pure literals have no candidate.
-use Rattle.std.proofs.Common.{◌≡◌, ◌≢◌, ℕ, zero, suc, ◌+◌, ◌<◌, ◌≤◌, Bool, true, false, ◌||◌, ◌&&◌, not, cond, List, [], ◌∷◌, ◌++◌, map, Option, Some, None, length, get_or, refl, sym, ap, subst, ◌∙◌, arith, nat_eq}
+use Rattle.std.proofs.Common.{◌≡◌, ℕ, zero, suc, ◌+◌, Bool, true, false, ◌||◌, not, cond, List, [], ◌∷◌, ◌++◌, map, Some, refl, sym, ap, subst, ◌∙◌, arith, nat_eq}
 use Rattle.std.specs.List.{list_any, All, Contains, IsDistinct, enumerate_from, flat_map}
 use Rattle.std.specs.Ordering.{nat_cmp, eq_by_cmp}
 use Rattle.std.specs.Cmp.{nat_cmp_total}
-use Rattle.std.specs.FinMap.{get, find, from_entries, get-from_entries}
-use Rattle.std.proofs.lemmas.Bool.{cases_Bool, both_ways, and_parts, or_parts, or_from, not-true as not_true, eq-eqb, eqb-true}
+use Rattle.std.specs.FinMap.{find, get-from_entries}
+use Rattle.std.proofs.lemmas.Bool.{both_ways, and_parts, or_parts, or_from, not-true as not_true}
 use Rattle.std.proofs.lemmas.List.Elements.{filter_passes, All-nil, All-cons, All-head, All-tail}
-use Rattle.std.proofs.lemmas.List.Folds.{list_any-append, list_any_at}
+use Rattle.std.proofs.lemmas.List.Folds.{list_any-append}
 use Rattle.dimacs.specs.Base.{occurs, is_pure, numbers_from, pure_literals}
 use Rattle.dimacs.specs.ClauseMap.{live_in, map_of}
 use Rattle.dimacs.specs.Cnf.{Cnf}
 use Rattle.dimacs.specs.Literal.{Literal, Pos, Neg, Clause, negation, same, has}
 use Rattle.dimacs.specs.Propagation.{negations}
 use Rattle.dimacs.specs.Rat.{Rat}
+use Rattle.dimacs.proofs.LiteralLemmas.{same-true, negation_apart}
+use Rattle.dimacs.proofs.Members.{Contains-has}
 use Rattle.cube_split.specs.Splitting.{with_units}
-
-same_is : (k l : Literal) → same k l ≡ true → k ≡ l
-same_is (Pos v) (Pos w) e = ap Pos (eqb-true v w e)
-same_is (Neg v) (Neg w) e = ap Neg (eqb-true v w e)
-same_is (Pos v) (Neg w) e = cc
-same_is (Neg v) (Pos w) e = cc
-
-same_self : (l : Literal) → same l l ≡ true
-same_self (Pos v) = eq-eqb v v refl
-same_self (Neg v) = eq-eqb v v refl
-
-not_negation : (l : Literal) → negation l ≢ l
-not_negation (Pos v) e = cc
-not_negation (Neg v) e = cc
 
 -- a clause that a number finds is one of the clauses
 fails_found : (P : Clause → Bool) (clauses : List Clause) (n q : ℕ) (D : Clause) → list_any P clauses ≡ false → find nat_cmp q (enumerate_from n clauses) ≡ Some D → P D ≡ false
@@ -50,15 +38,12 @@ units_without f l (k ∷ units) none pure =
     other : (b : Bool) → same (negation l) k ≡ b → (same (negation l) k || false) ≡ false
     other true e =
         let parts = and_parts (occurs f.clauses k) (not (occurs f.clauses (negation k))) (All-head (λ m. is_pure f m ≡ true) k units pure) in
-        absurd (both_ways (occurs f.clauses k) (ap (occurs f.clauses) (sym (same_is (negation l) k e)) ∙ none) parts.0)
+        absurd (both_ways (occurs f.clauses k) (ap (occurs f.clauses) (sym (same-true (negation l) k e)) ∙ none) parts.0)
     other false e = ap (λ b. b || false) e
 
 single : (l m : Literal) → Contains (l ∷ []) m → l ≡ m
 single l m (zero, below, e) = e
 single l m (suc k, below, e) = absurd (omega arith)
-
-held : (D : Clause) (l : Literal) → Contains D l → has D l ≡ true
-held D l (k, below, e) = list_any_at (same l) D k l below (ap (same l) e ∙ same_self l)
 
 all_front : (P : Literal → Type 0) (xs ys : List Literal) → All P (xs ++ ys) → All P xs
 all_front P [] ys h = All-nil P
@@ -87,12 +72,12 @@ unit_is_rat f before after l e = record {
   pivot = l;
   rest = [];
   begins = refl;
-  no_pair = λ pair. not_negation pair.0 (sym (single l (negation pair.0) pair.2) ∙ single l pair.0 pair.1);
+  no_pair = λ pair. negation_apart pair.0 (sym (single l (negation pair.0) pair.2) ∙ single l pair.0 pair.1);
   reached = negations (l ∷ []);
   leads = refl;
   once = distinct_none;
   hold = λ g inside. absurd (omega (arith, inside.1));
   complete = λ id D lives holds. absurd (both_ways (has D (negation l))
       (fails_found (λ C. has C (negation l)) (with_units f before).clauses 1 id D (without f before after l e) (sym (get-from_entries nat_cmp_total (enumerate_from 1 (with_units f before).clauses) id) ∙ lives))
-      (held D (negation l) holds));
+      (Contains-has D (negation l) holds));
 }

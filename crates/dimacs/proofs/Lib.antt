@@ -8,6 +8,7 @@ pub mod FlatPush
 pub mod FormulaLemmas
 pub mod LineLemmas
 pub mod LiteralLemmas
+pub mod Members
 pub mod NumberLemmas
 pub mod SpellingLemmas
 pub mod TokenLemmas

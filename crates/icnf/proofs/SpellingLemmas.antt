@@ -1,5 +1,5 @@
 -- Reading gives exactly the formulas and trees that a text spells.
-use Rattle.std.proofs.Common.{◌≡◌, ◌≢◌, ℕ, suc, ◌+◌, ◌<◌, ◌≤◌, Bool, true, false, cond, not, List, [], ◌∷◌, ◌++◌, map, ℤ, pos, negsuc, nat_abs, Option, Some, None, Result, Ok, Err, length, refl, sym, ap, ◌∙◌, arith, subst, append_assoc, length-append, leb, ltb, eqb, eq-eqb, codes, bytes_eq, IfOk}
+use Rattle.std.proofs.Common.{◌≡◌, ◌≢◌, ℕ, suc, ◌+◌, ◌<◌, ◌≤◌, Bool, true, false, cond, not, List, [], ◌∷◌, ◌++◌, map, ℤ, pos, negsuc, nat_abs, Option, Some, None, Result, Ok, Err, length, refl, sym, ap, ◌∙◌, arith, subst, append_assoc, length-append, leb, ltb, eqb, codes, bytes_eq, IfOk}
 use Rattle.std.specs.List.{flat_map, AllByRecursion, All}
 use Rattle.std.specs.Prelude.{⊤}
 use Rattle.std.proofs.lemmas.Slice.Eq.{bytes_eq-Decides}
@@ -9,10 +9,10 @@ use Rattle.std.proofs.lemmas.List.Elements.{All-nil, All-push, All-head, All-tai
 use Rattle.std.proofs.lemmas.Grind.{flat_map-append}
 use Rattle.dimacs.specs.Building.{greatest_in, greatest_of}
 use Rattle.dimacs.specs.Cnf.{Cnf, AreWithin, literal_count}
-use Rattle.dimacs.specs.Literal.{Literal, Pos, Neg, Clause, IsWithin, negation, var_of, same, number_of, literal_of_number}
+use Rattle.dimacs.specs.Literal.{Literal, Clause, IsWithin, negation, var_of, number_of, literal_of_number}
 use Rattle.dimacs.specs.Spelling.{ended}
 use Rattle.dimacs.specs.Words.{words_of, lines}
-use Rattle.dimacs.proofs.LiteralLemmas.{number_back, literal_back, number_size, literal_size}
+use Rattle.dimacs.proofs.LiteralLemmas.{same-true, same-itself, var_of-negation, number_back, literal_back, number_size, literal_size}
 use Rattle.icnf.specs.declared.fault.IcnfFault.{IcnfFault}
 use Rattle.icnf.specs.declared.fault.Kind.{Kind}
 use Rattle.icnf.specs.declared.fault.Kind.TheVariants.{NoHeader, BadHeader, VariableAboveClauses, AboveLimit, RepeatedVariable, NotATree, CubeTooLong}
@@ -24,7 +24,7 @@ use Rattle.icnf.specs.ReadState.{ReadState}
 use Rattle.icnf.specs.Walk.{literals_of, free_place, other_place, next_front, names, fits, advanced_by, behind_cube, Begun}
 use Rattle.icnf.specs.Reading.{Token, Mark, Number, token, read_token, read_mark, read_number, read_found, begin, begin_behind, in_clause, in_cube, literal_in_cube, end_cube, read_words, read_lines, read_text, read_header, header_end, finish, finish_at, end_behind, start, fault, ◌>>=◌, by_tokens, parse, GivesTree}
 use Rattle.icnf.specs.Spelling.{cube_tokens, AreTokens, IsHeader, SpellsRow, SpellsLines, IsIcnf, Spells}
-use Rattle.icnf.proofs.WalkLemmas.{begun_push, names_free, closed, Closed, front_closed, front_open, negation_var}
+use Rattle.icnf.proofs.WalkLemmas.{begun_push, names_free, closed, Closed, front_closed, front_open}
 
 -- ---- results
 
@@ -351,12 +351,6 @@ end_content stage cubes path forced front done total e =
     ∙ ap (λ (x : List Token). numbers done [] ++ x) (append-nil _ ∙ flat_map-append cube_tokens cubes (literals_of path ∷ []) ∙ ap (λ (x : List Token). flat_map cube_tokens cubes ++ x) (append-nil (cube_tokens (literals_of path))))
     ∙ tail_push (numbers done []) (flat_map cube_tokens cubes) (Mark ∷ map Number (map number_of (literals_of path))) (cube_tokens (literals_of path)) (Number (pos 0)) cube
 
-same_is : (l k : Literal) → same l k ≡ true → l ≡ k
-same_is (Pos v) (Pos w) h = ap Pos (eqb-true v w h)
-same_is (Neg v) (Neg w) h = ap Neg (eqb-true v w h)
-same_is (Pos v) (Neg w) h = absurd (cc)
-same_is (Neg v) (Pos w) h = absurd (cc)
-
 not_false : (b : Bool) → not b ≡ false → b ≡ true
 not_false true h = refl
 not_false false h = absurd (cc)
@@ -399,7 +393,7 @@ module _ (cubes : List Cube) (path : List Place) (done : List Clause) (total : �
       let next : Begun [] ((path ++ free_place l ∷ []) ++ []) cubes = subst (λ (p : List Place). Begun [] p cubes) (sym (append-nil (path ++ free_place l ∷ []))) (begun_push path [] cubes l begun (names_free path (var_of l) other)) in
       subst (λ (x : ReadState). Stepped (Number (number_of l)) (state Inside cubes path [] done [] total) x) (ok_same _ c e) (further (free_place l) [] [] next w size)
   literal_step l (p ∷ forced) c b w other fit size e =
-      let is : l ≡ p.literal = same_is l p.literal fit in
+      let is : l ≡ p.literal = same-true l p.literal fit in
       let next : Begun [] ((path ++ p ∷ []) ++ forced) cubes = subst (λ (q : List Place). Begun [] q cubes) (sym (append_assoc path (p ∷ []) forced)) b in
       let near : IsWithin (greatest_in done) p.literal = subst (λ (k : Literal). IsWithin (greatest_in done) k) is w in
       subst (λ (x : ReadState). Stepped (Number (number_of l)) (state Inside cubes path (p ∷ forced) done [] total) x) (ok_same _ c e)
@@ -580,10 +574,6 @@ free_names (p ∷ path) v h =
     let here = All-head (λ l. var_of l ≢ v) p.literal (literals_of path) h in
     rw (ne_eqb (var_of p.literal) v here) (free_names path v (All-tail (λ l. var_of l ≢ v) p.literal (literals_of path) h))
 
-same_itself : (l : Literal) → same l l ≡ true
-same_itself (Pos v) = eq-eqb v v refl
-same_itself (Neg v) = eq-eqb v v refl
-
 module _ (cubes : List Cube) (done : List Clause) (total : ℕ) where
   inside : List Place → List Place → ReadState
   inside path forced = state Inside cubes path forced done [] total
@@ -620,7 +610,7 @@ module _ (cubes : List Cube) (done : List Clause) (total : ℕ) where
       frees_are (l ∷ ls) = ap (λ (c : Cube). l ∷ c) (frees_are ls)
   places_read (p ∷ forced) ls path w fresh size =
       let fresh' : Fresh (literals_of (path ++ p ∷ [])) (literals_of (forced ++ map free_place ls)) = subst (λ (c : Cube). Fresh c (literals_of (forced ++ map free_place ls))) (sym (map_push (λ (q : Place). q.literal) path p)) fresh.1 in
-      rw (place_read path (p ∷ forced) forced p w.0 fresh.0 (same_itself p.literal) (omega arith) refl)
+      rw (place_read path (p ∷ forced) forced p w.0 fresh.0 (same-itself p.literal) (omega arith) refl)
       (places_read forced ls (path ++ p ∷ []) w.1 fresh' (omega (arith, length-append path (p ∷ []))) ∙ ap (λ (q : List Place). Ok (state Inside cubes q [] done [] total)) (append_assoc path (p ∷ []) (forced ++ map free_place ls)))
 
 -- ---- what is spelled is read: the cubes of a tree
@@ -688,7 +678,7 @@ unfolding Enters
 leaves_read (leaf {path = path}) stage cubes forced places ls done total enters is from fresh room w short = leaf_read path stage cubes forced places ls done total enters is from fresh (omega arith) w.0 short.0
 leaves_read (fork {path = path} {left = left} {right = right} x free a b) stage cubes forced places ls done total enters is from fresh room w short =
     let size = length-append left right in
-    let apart : IsFree path (var_of (negation x)) = subst (λ v. IsFree path v) (sym (negation_var x)) free in
+    let apart : IsFree path (var_of (negation x)) = subst (λ v. IsFree path v) (sym (var_of-negation x)) free in
     let other = other_place (free_place x) in
     let first_is : literals_of (places ++ free_place x ∷ []) ≡ path ++ x ∷ [] = map_push (λ (q : Place). q.literal) places (free_place x) ∙ ap (λ (c : Cube). c ++ x ∷ []) is in
     let first_from : places ++ free_place x ∷ [] ≡ forced ++ map free_place (ls ++ x ∷ []) = ap (λ (q : List Place). q ++ free_place x ∷ []) from ∙ append_assoc forced (map free_place ls) (free_place x ∷ []) ∙ ap (λ (q : List Place). forced ++ q) (sym (map_push free_place ls x)) in

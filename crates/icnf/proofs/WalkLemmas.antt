@@ -3,20 +3,13 @@ use Rattle.std.proofs.Common.{◌≡◌, ◌≢◌, ℕ, ◌+◌, ◌<◌, ◌�
 use Rattle.std.proofs.lemmas.Bool.{eqb-false}
 use Rattle.std.proofs.lemmas.List.{append-nil, take_all, drop_all, take_more, drop_more}
 use Rattle.std.proofs.lemmas.List.Elements.{All-nil, All-cons}
-use Rattle.dimacs.specs.Literal.{Literal, Pos, Neg, negation, var_of}
+use Rattle.dimacs.specs.Literal.{Literal, Pos, negation, var_of}
+use Rattle.dimacs.proofs.LiteralLemmas.{negation-negation, var_of-negation}
 use Rattle.icnf.specs.declared.place.Place.{Place}
 use Rattle.icnf.specs.declared.walk.Stage.{Stage}
 use Rattle.icnf.specs.declared.walk.Stage.TheVariants.{Clauses, Outside, Inside, Complete}
 use Rattle.icnf.specs.Leaves.{Cube, IsFree, Leaves, leaf, fork}
 use Rattle.icnf.specs.Walk.{literals_of, free_place, other_place, front_behind, next_front, names, advanced, ended_cube, BeforePlace, Begun, IsWalked}
-
-negation_twice : (l : Literal) → negation (negation l) ≡ l
-negation_twice (Pos v) = refl
-negation_twice (Neg v) = refl
-
-pub negation_var : (l : Literal) → var_of (negation l) ≡ var_of l
-negation_var (Pos v) = refl
-negation_var (Neg v) = refl
 
 -- a last place whose other branch was read is passed over
 pub front_closed : (path : List Place) (p : Place) → p.is_open ≡ false → next_front (path ++ p ∷ []) ≡ next_front path
@@ -59,16 +52,16 @@ module _ (front : Cube) (l : Literal) (free : IsFree front (var_of l)) where
   -- behind a place whose other branch is missing
   open_closed : (o : Option (List Place)) (cubes : List Cube) → Closed o (front ++ l ∷ []) cubes → Closed (front_behind (free_place l) o) front cubes
   open_closed None cubes h =
-      let apart : IsFree front (var_of (negation l)) = subst (λ v. IsFree front v) (sym (negation_var l)) free in
-      let read : Leaves (front ++ negation (negation l) ∷ []) cubes = subst (λ (k : Literal). Leaves (front ++ k ∷ []) cubes) (sym (negation_twice l)) h in
+      let apart : IsFree front (var_of (negation l)) = subst (λ v. IsFree front v) (sym (var_of-negation l)) free in
+      let read : Leaves (front ++ negation (negation l) ∷ []) cubes = subst (λ (k : Literal). Leaves (front ++ k ∷ []) cubes) (sym (negation-negation l)) h in
       (apart, (cubes, [], sym (append-nil cubes), read, refl))
   open_closed (Some path) cubes h = (free, h)
 
   -- behind a place whose other branch was read
   shut_closed : (o : Option (List Place)) (first rest : List Cube) → Leaves (front ++ negation l ∷ []) first → Closed o (front ++ l ∷ []) rest → Closed (front_behind (record { literal = l; is_open = false }) o) front (first ++ rest)
   shut_closed None first rest a h =
-      let apart : IsFree front (var_of (negation l)) = subst (λ v. IsFree front v) (sym (negation_var l)) free in
-      let last : Leaves (front ++ negation (negation l) ∷ []) rest = subst (λ (k : Literal). Leaves (front ++ k ∷ []) rest) (sym (negation_twice l)) h in
+      let apart : IsFree front (var_of (negation l)) = subst (λ v. IsFree front v) (sym (var_of-negation l)) free in
+      let last : Leaves (front ++ negation (negation l) ∷ []) rest = subst (λ (k : Literal). Leaves (front ++ k ∷ []) rest) (sym (negation-negation l)) h in
       fork (negation l) apart a last
   shut_closed (Some path) first rest a h = (free, (first, rest, refl, a, h))
 

@@ -11,7 +11,8 @@ use Rattle.lrat_check.proofs.Places.{index_of-injective}
 use Rattle.lrat_check.specs.Marks.{OnlyMarks}
 use Rattle.dimacs.specs.Propagation.{Assumed, with_literal}
 use Rattle.dimacs.specs.Rat.{with_candidate, IsBlocked}
-use Rattle.lrat_check.proofs.Literals.{same-true, same-itself, same-false, negation-negation, has-Contains, Contains-has}
+use Rattle.dimacs.proofs.LiteralLemmas.{same-true, same-itself, same-false, negation-negation}
+use Rattle.dimacs.proofs.Members.{has-Contains, Contains-has}
 
 same-negation : (k l : Literal) → same k (negation l) ≡ same (negation k) l
 same-negation (Pos v) (Pos w) = refl

@@ -6,7 +6,8 @@ use Rattle.std.proofs.lemmas.Bool.{cases_Bool, both_ways, and_parts, not-true, n
 use Rattle.dimacs.specs.Literal.{Literal, Pos, Neg, negation, same, Clause, IsTautology}
 use Rattle.dimacs.specs.ClauseMap.{ClauseMap, live_in}
 use Rattle.dimacs.specs.Propagation.{Assumed, negations, with_literal, IsFalse, IsUnit, Leads, Refutes}
-use Rattle.lrat_check.proofs.Literals.{Contains-head, Contains-cons, Contains-cons_cases, Contains-nil, same-true, same-itself, same_or_not, has-Contains, negation-negation}
+use Rattle.dimacs.proofs.LiteralLemmas.{same-true, same-itself, same_or_not, negation-negation}
+use Rattle.dimacs.proofs.Members.{Contains-head, Contains-cons, Contains-cons_cases, Contains-nil, has-Contains}
 use Rattle.lrat_check.specs.declared.propagation.Status.{Status}
 use Rattle.lrat_check.specs.declared.propagation.Status.TheVariants.{Satisfied, Falsified, Unit, Undecided}
 use Rattle.lrat_check.specs.declared.fault.StepFault.TheVariants.{HintAfterConflict}

@@ -8,7 +8,6 @@ pub mod Exact
 pub mod Formula
 pub mod Free
 pub mod Lines
-pub mod Literals
 pub mod Loop
 pub mod Named
 pub mod Pairs

@@ -1,13 +1,13 @@
 -- The lines of a text, and checking line by line.
 use mathlib.Core.Path.{fun_ext}
 use Rattle.std.proofs.Common.{◌≡◌, ℕ, ◌+◌, Bool, true, false, List, [], ◌∷◌, ◌++◌, Ok, refl, sym, ◌∙◌, ap, subst, cond, length, eqb}
-use Rattle.lrat_check.proofs.Literals.{Contains-head, Contains-cons}
 use Rattle.std.specs.List.{join_with_byte, slice_split, onto_first, Contains, All}
 use Rattle.std.proofs.lemmas.Bool.{true≢false, eqb-true, eq-eqb, false_from_ne_true}
 use Rattle.std.proofs.lemmas.List.Splits.{slice_split_none, slice_split_at, join_with_byte-slice_split}
 use Rattle.std.proofs.lemmas.List.Elements.{All-contains, All-cons, All-nil}
 use Rattle.dimacs.specs.Cnf.{Cnf}
 use Rattle.dimacs.specs.ClauseMap.{ClauseMap, map_of}
+use Rattle.dimacs.proofs.Members.{Contains-head, Contains-cons}
 use Rattle.lrat_text.specs.Grammar.{LineSpells, SpellsStep}
 use Rattle.lrat_text.specs.Proof.{Accepts, Refutation}
 use Rattle.lrat_text.specs.Reading.{step_in}

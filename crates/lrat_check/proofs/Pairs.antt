@@ -8,7 +8,8 @@ use Rattle.std.proofs.lemmas.List.Folds.{list_any_at, Any-from_list_any, list_an
 use Rattle.std.proofs.lemmas.List.Elements.{Contains-append_left, Contains-push_cases}
 use Rattle.dimacs.specs.Literal.{Literal, Pos, Neg, negation, same, index_of, Clause, has, IsTautology}
 use Rattle.dimacs.specs.Propagation.{negations, with_literal}
-use Rattle.lrat_check.proofs.Literals.{has-Contains, Contains-has, negation-negation}
+use Rattle.dimacs.proofs.LiteralLemmas.{negation-negation}
+use Rattle.dimacs.proofs.Members.{has-Contains, Contains-has}
 use Rattle.lrat_check.specs.Faults.{is_tautology}
 use Rattle.lrat_check.specs.Marks.{assumed_by, OnlyMarks, IsUnused}
 use Rattle.lrat_check.proofs.Places.{assumed_by-set}

@@ -7,7 +7,7 @@ use Rattle.std.proofs.lemmas.Bool.{both_ways, eq-eqb, cases_eq, or_right, or_lef
 use Rattle.dimacs.specs.Literal.{Literal, Pos, Neg, negation, index_of, var_of, Clause}
 use Rattle.dimacs.specs.ClauseMap.{ClauseMap}
 use Rattle.dimacs.specs.Propagation.{with_literal}
-use Rattle.lrat_check.proofs.Literals.{same_or_not, same-itself, same-false}
+use Rattle.dimacs.proofs.LiteralLemmas.{same-itself, same_or_not, same-false}
 use Rattle.lrat_check.specs.Marks.{assumed_by, OnlyMarks}
 use Rattle.lrat_check.specs.Table.{AllFit, FitsTable}
 use Rattle.std.proofs.lemmas.List.Elements.{All-contains}

@@ -11,7 +11,8 @@ use Rattle.lrat_check.proofs.Candidates.{group_of, named_by}
 use Rattle.dimacs.specs.Rat.{Group, candidates, with_candidate, Rat, IsBlocked, GroupHolds}
 use Rattle.dimacs.specs.ClauseMap.{ClauseMap, live_in}
 use Rattle.dimacs.specs.Propagation.{Assumed, negations, with_literal, Leads, Refutes, Rup}
-use Rattle.lrat_check.proofs.Literals.{Contains-head, Contains-cons, Contains-cons_cases, same-itself, same-false, has-Contains, Contains-has, negation-negation}
+use Rattle.dimacs.proofs.LiteralLemmas.{same-itself, same-false, negation-negation}
+use Rattle.dimacs.proofs.Members.{Contains-head, Contains-cons, Contains-cons_cases, has-Contains, Contains-has}
 use Rattle.lrat_check.specs.Holding.{holders, holding, holds_in}
 use Rattle.lrat_check.proofs.Pigeonhole.{AllNamed, live-holders, held_clause, eq_by_nat_cmp, AllHold, AreDistinct, none_missing, as_many}
 use Rattle.lrat_check.specs.declared.propagation.Status.{Status}

@@ -7,7 +7,7 @@ use Rattle.std.proofs.lemmas.List.Folds.{list_any_at}
 use Rattle.dimacs.specs.Literal.{Literal, negation, same, Clause}
 use Rattle.dimacs.specs.ClauseMap.{ClauseMap}
 use Rattle.dimacs.specs.Propagation.{Assumed}
-use Rattle.lrat_check.proofs.Literals.{Contains-head, Contains-cons, Contains-cons_cases, Contains-nil}
+use Rattle.dimacs.proofs.Members.{Contains-head, Contains-cons, Contains-cons_cases, Contains-nil}
 use Rattle.lrat_check.specs.declared.propagation.Status.{Status}
 use Rattle.lrat_check.specs.declared.propagation.Status.TheVariants.{Satisfied, Unit, Undecided}
 use Rattle.lrat_check.specs.declared.fault.StepFault.TheVariants.{UnknownClause}

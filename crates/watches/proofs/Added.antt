@@ -1,16 +1,15 @@
 -- The clauses after one was added.
-use Rattle.std.proofs.Common.{◌≡◌, ℕ, sym, ◌∙◌, subst, ap, ◌≢◌, ◌⊎◌, inl, inr, None, Result, Ok, Err, Some, Option, Bool, true, false, cond, refl, rules, length}
+use Rattle.std.proofs.Common.{◌≡◌, ℕ, sym, ◌∙◌, subst, ap, ◌≢◌, inl, inr, None, Result, Ok, Err, Some, Option, Bool, true, false, cond, refl, rules, length}
 use Rattle.std.specs.Result.{OnErr}
 use Rattle.std.specs.FinMap.{insert, remove, get, get-insert, get-remove, gets}
 use Rattle.std.specs.Cmp.{nat_cmp_total}
-use Rattle.std.specs.Ordering.{nat_cmp, eq_by_cmp}
 use Rattle.std.proofs.lemmas.Map.Views.{tells_apart}
 use Rattle.std.proofs.lemmas.Map.Lookups.{exact_unsigned}
 use Rattle.std.proofs.lemmas.Bool.{cases_eq}
 use Rattle.dimacs.specs.Literal.{Clause}
 use Rattle.clause_arena.specs.declared.reference.Ref.{Ref}
 use Rattle.clause_arena.specs.Clauses.{Clauses, Stands}
-use Rattle.watches.specs.Law.{AreSame, IsReordered}
+use Rattle.watches.specs.Law.{AreSame}
 
 skips : (b : Bool) (x : ℕ × Clause) (o : Option (ℕ × Clause)) → (b ≡ true → ⊥) → cond b (Some x) o ≡ o
 skips true x o h = absurd (h refl)

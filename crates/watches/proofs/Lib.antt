@@ -1,8 +1,6 @@
-pub mod LiteralLemmas
 pub mod TrailLemmas
 pub mod Present
 pub mod Tested
-pub mod Members
 pub mod Swept
 pub mod Without
 pub mod Added

@@ -1,15 +1,15 @@
 -- Clauses that moved, followed.
-use Rattle.std.proofs.Common.{◌≡◌, ◌≢◌, ℕ, ◌+◌, ◌<◌, ◌≤◌, ◌⊎◌, inl, inr, List, length, get_or, set, map, Option, Some, None, refl, ap, sym, ◌∙◌, subst, arith}
+use Rattle.std.proofs.Common.{◌≡◌, ℕ, ◌+◌, ◌<◌, ◌≤◌, inl, inr, List, length, get_or, set, Option, Some, None, refl, ap, sym, ◌∙◌, subst, arith}
 use Rattle.std.specs.Option.{option_map}
-use Rattle.std.specs.List.{Contains, All}
+use Rattle.std.specs.List.{All}
 use Rattle.std.specs.FinMap.{get}
 use Rattle.std.proofs.lemmas.Bool.{cases_eq}
-use Rattle.std.proofs.lemmas.List.{ext_get_or, get_or-map, length-map, length-set, get_or-set_other, get_or-set_same, get_or_default}
+use Rattle.std.proofs.lemmas.List.{ext_get_or, get_or-map, length-map, get_or-set_other, get_or-set_same, get_or_default}
 use Rattle.std.proofs.lemmas.List.Elements.{Contains-get_or}
 use Rattle.dimacs.specs.Literal.{Clause, IsWithin}
 use Rattle.clause_arena.specs.declared.reference.Ref.{Ref}
 use Rattle.clause_arena.specs.Clauses.{Clauses, Stands}
-use Rattle.clause_arena.specs.Compaction.{IsCompacted, HasMoved, literals_of}
+use Rattle.clause_arena.specs.Compaction.{IsCompacted}
 use Rattle.watches.specs.Scanning.{numbers, IsHere}
 use Rattle.watches.specs.Moving.{AreRising, IsUnmoved, IsMovedTo, Follows, AreFollowed}
 use Rattle.watches.proofs.Swept.{same_clause}

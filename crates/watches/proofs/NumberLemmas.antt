@@ -1,9 +1,9 @@
 -- Numbers that were given out in their order.
-use Rattle.std.proofs.Common.{◌≡◌, ℕ, ◌+◌, ◌<◌, ◌≤◌, ◌⊎◌, inl, inr, List, [], ◌∷◌, ◌++◌, sym, subst, arith}
+use Rattle.std.proofs.Common.{ℕ, ◌+◌, ◌<◌, inl, inr, List, [], ◌∷◌, ◌++◌, sym, subst, arith}
 use Rattle.std.specs.List.{All, Contains}
 use Rattle.std.proofs.lemmas.Bool.{cases_eq}
 use Rattle.std.proofs.lemmas.List.Elements.{All-push, All-weaker, Contains-append_left, Contains-append_right}
-use Rattle.watches.proofs.Members.{Contains-head}
+use Rattle.dimacs.proofs.Members.{Contains-head}
 
 pub all_next : (xs : List ℕ) (n : ℕ) → All (λ k. k < n) xs → All (λ k. k < n + 1) (xs ++ n ∷ [])
 all_next xs n a = All-push (λ k. k < n + 1) xs n (All-weaker (λ k. k < n) (λ k. k < n + 1) (λ k h. omega arith) xs a) (omega arith)

@@ -1,16 +1,16 @@
 -- What is known after a scan has tested some of its clauses.
-use Rattle.std.proofs.Common.{zero, suc, ◌≡◌, ◌≢◌, ℕ, ◌+◌, ◌<◌, ◌≤◌, ◌⊎◌, inl, inr, List, [], ◌∷◌, ◌++◌, length, get_or, map, Option, Some, None, refl, ap, sym, ◌∙◌, subst, arith, length-append, append_assoc}
-use Rattle.std.specs.List.{Contains, All}
+use Rattle.std.proofs.Common.{◌≡◌, ℕ, ◌+◌, ◌<◌, ◌≤◌, inl, inr, List, [], ◌∷◌, ◌++◌, length, get_or, Option, Some, refl, ap, sym, ◌∙◌, subst, arith, length-append, append_assoc}
+use Rattle.std.specs.List.{All}
 use Rattle.std.specs.FinMap.{get}
 use Rattle.std.proofs.lemmas.List.{append-nil, get_or-map, length-map}
 use Rattle.std.proofs.lemmas.Bool.{cases_eq}
-use Rattle.dimacs.specs.Literal.{Literal, Clause, IsWithin}
+use Rattle.dimacs.specs.Literal.{Clause}
 use Rattle.dimacs.specs.ClauseMap.{Live}
 use Rattle.clause_arena.specs.declared.reference.Ref.{Ref}
 use Rattle.clause_arena.specs.Clauses.{Clauses, Stands, live_of}
 use Rattle.watches.specs.declared.trail.Assigned.{Assigned}
 use Rattle.watches.specs.Trails.{TrailValue, holds}
-use Rattle.watches.specs.Law.{IsCalm, IsImplied, AreImplied, Grows, IsQuiet, live_among, AreSame, IsReordered}
+use Rattle.watches.specs.Law.{IsCalm, IsImplied, AreImplied, Grows, IsQuiet, live_among, AreSame}
 use Rattle.watches.specs.Scanning.{numbers, IsHere, has_number}
 
 -- nothing changed

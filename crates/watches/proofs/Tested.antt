@@ -1,5 +1,5 @@
 -- What is known after some literals of a clause were tested.
-use Rattle.std.proofs.Common.{◌≡◌, ℕ, ◌<◌, ◌⊎◌, true, false, List, length, get_or, Option, Some}
+use Rattle.std.proofs.Common.{◌≡◌, ℕ, ◌<◌, ◌⊎◌, true, false, List, get_or, Option, Some}
 use Rattle.std.specs.List.{Contains}
 use Rattle.std.specs.Option.{IfSome}
 use Rattle.dimacs.specs.Literal.{Literal, Clause, negation}

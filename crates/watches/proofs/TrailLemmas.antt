@@ -1,6 +1,6 @@
 -- The tables of a trail: pushing an entry, taking out the last, and reading.
-use Rattle.std.proofs.Common.{zero, suc, ◌≡◌, ◌≢◌, ℕ, ◌+◌, ◌*◌, ◌-◌, ◌<◌, ◌≤◌, ◌⊎◌, inl, inr, Bool, true, false, cond, eqb, ◌||◌, List, [], ◌∷◌, ◌++◌, map, length, get_or, set, Option, Some, None, refl, ap, sym, ◌∙◌, subst, arith, length-append, zero-le, suc-le-suc}
-use Rattle.std.specs.List.{list_any, IsDistinct, All, AllByRecursion, Contains}
+use Rattle.std.proofs.Common.{zero, suc, ◌≡◌, ◌≢◌, ℕ, ◌+◌, ◌*◌, ◌<◌, ◌≤◌, ◌⊎◌, inl, inr, Bool, true, false, cond, eqb, ◌||◌, List, [], ◌∷◌, ◌++◌, length, get_or, set, None, refl, ap, sym, ◌∙◌, subst, arith, length-append, zero-le, suc-le-suc}
+use Rattle.std.specs.List.{list_any, IsDistinct, All, AllByRecursion}
 use Rattle.std.proofs.lemmas.List.Folds.{list_any-append, list_any_none}
 use Rattle.std.proofs.lemmas.Map.Keys.{IsDistinct-push, IsDistinct-head, IsDistinct-tail, IsDistinct-cons}
 use Rattle.std.proofs.lemmas.Map.Steps.{length-le_from_distinct_below}
@@ -10,12 +10,12 @@ use Rattle.std.proofs.Math.Bool.{or-false}
 use Rattle.std.proofs.lemmas.Bool.{cases_eq, false≢true, eq-eqb, ne_eqb, eqb-true, eqb-false, or_right}
 use Rattle.std.proofs.lemmas.Cmp.{nat_eq_equiv}
 use Rattle.dimacs.specs.Literal.{Literal, IsWithin, negation, same, var_of, index_of}
+use Rattle.dimacs.proofs.LiteralLemmas.{same-true, same-itself, same-is, same_or_not, same-false, negation-negation, negation_apart, var_of-negation, IsWithin-negation, twins, index_below, index_apart}
 use Rattle.watches.specs.declared.trail.Assigned.{Assigned}
 use Rattle.watches.specs.declared.truth.Truth.{Truth}
 use Rattle.watches.specs.declared.truth.Truth.TheVariants.{Free, True, False}
-use Rattle.watches.specs.Trails.{TrailValue, holds, IsTruth, variables}
-use Rattle.watches.specs.Tables.{truth_of, IsTrail}
-use Rattle.watches.proofs.LiteralLemmas.{same-true, same-itself, same-is, same_or_not, same-false, negation-negation, negation_apart, var_of-negation, twins, IsWithin-negation, index_below, index_apart}
+use Rattle.watches.specs.Trails.{holds, IsTruth, variables}
+use Rattle.watches.specs.Tables.{truth_of}
 
 -- ---- what a trail holds
 or_false : (a b : Bool) → (a || b) ≡ false → (a ≡ false) × (b ≡ false)

@@ -1,11 +1,11 @@
 -- The clauses without one.
-use Rattle.std.proofs.Common.{◌≡◌, ◌≢◌, ℕ, ◌⊎◌, inl, inr, Bool, true, false, not, cond, eqb, List, [], ◌∷◌, refl, sym, ◌∙◌, ap, subst}
+use Rattle.std.proofs.Common.{◌≡◌, ℕ, ◌⊎◌, inl, inr, Bool, true, false, not, cond, eqb, List, [], ◌∷◌, refl, sym, ◌∙◌, ap, subst}
 use Rattle.std.specs.List.{Contains, filter}
 use Rattle.std.proofs.lemmas.Bool.{ne_eqb, eqb-false, not-true}
 use Rattle.clause_arena.specs.declared.reference.Ref.{Ref}
 use Rattle.watches.specs.Law.{AreWithout}
 use Rattle.watches.specs.Scanning.{numbers}
-use Rattle.watches.proofs.Members.{Contains-head, Contains-cons, Contains-cons_cases, Contains-nil}
+use Rattle.dimacs.proofs.Members.{Contains-head, Contains-cons, Contains-cons_cases, Contains-nil}
 
 abbrev pub without : List Ref → ℕ → List Ref
 without xs n = filter (λ (a : Ref). not (eqb a.number n)) xs

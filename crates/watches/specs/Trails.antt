@@ -1,5 +1,5 @@
 -- The trail of a search: literals in the order in which they became true (Handbook of Satisfiability, chapter 4).
-use Rattle.std.specs.Prelude.{◌≡◌, ℕ, ◌<◌, ◌≤◌, max, Bool, true, false, ◌&&◌, nat_eq, nat_le, List, [], ◌∷◌, length, map, slice_index_or, All}
+use Rattle.std.specs.Prelude.{◌≡◌, ℕ, ◌<◌, ◌≤◌, max, true, false, ◌&&◌, nat_eq, nat_le, List, [], ◌∷◌, length, map, slice_index_or, All}
 use Rattle.std.specs.List.{list_any, IsDistinct}
 use Rattle.dimacs.specs.Literal.{Literal, IsWithin, negation, same, var_of}
 use Rattle.dimacs.specs.Propagation.{Assumed}

@@ -2,8 +2,8 @@ use Rattle.std.proofs.Common.{◌≡◌, inl, inr, length, arith, sym, ◌∙◌
 use Rattle.std.proofs.lemmas.Result.{IfOk-weaker}
 use Rattle.clause_arena.specs.Clauses.{live_of}
 use Rattle.dimacs.specs.Literal.{negation}
+use Rattle.dimacs.proofs.LiteralLemmas.{negation-negation}
 use Rattle.watches.specs.Trails.{holds}
-use Rattle.watches.proofs.LiteralLemmas.{negation-negation}
 use Rattle.conflict_analysis.specs.Lemmas.{IsClosing, IsDecision}
 use Rattle.conflict_analysis.specs.Traces.{AreNegated}
 use Rattle.conflict_analysis.proofs.Assuming.{sized_from, within_from, negates_decisions, decision_holds}

@@ -3,8 +3,8 @@ use Rattle.std.proofs.lemmas.Bool.{eqb-true, or_left, or_cases, false_from_ne_tr
 use Rattle.std.proofs.lemmas.List.Elements.{All-contains, All-set}
 use Rattle.std.proofs.lemmas.List.{length-set}
 use Rattle.dimacs.specs.Literal.{negation, var_of}
+use Rattle.dimacs.proofs.LiteralLemmas.{var_of-negation}
 use Rattle.watches.specs.Trails.{holds, present}
-use Rattle.watches.proofs.LiteralLemmas.{var_of-negation}
 use Rattle.watches.proofs.Present.{le_present}
 use Rattle.conflict_analysis.specs.Walks.{met, IsBetween}
 use Rattle.conflict_analysis.proofs.Meeting.{met_set, in_front, meets_root, meets_present, meets_between}

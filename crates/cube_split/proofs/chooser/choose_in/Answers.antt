@@ -1,5 +1,5 @@
-use Rattle.std.proofs.Common.{rules, arith, ◌≡◌, ◌++◌, ◌||◌, List, Bool, false, length, replicate}
-use Rattle.dimacs.specs.Literal.{Literal, has}
+use Rattle.std.proofs.Common.{rules, arith, ◌≡◌, ◌++◌, ◌||◌, false, length, replicate}
+use Rattle.dimacs.specs.Literal.{has}
 use Rattle.cube_split.specs.Marks.{AreMarked}
 use Rattle.cube_split.proofs.MarkLemmas.{mark_clear}
 use Rattle.cube_split.proofs.ChoiceLemmas.{AreTables, choice_is, marked_both}

@@ -1,7 +1,7 @@
-use Rattle.std.proofs.Common.{rules, arith, ◌≡◌, ◌+◌, ◌<◌, ap, sym, subst, ◌∙◌, length, get_or, set, take, List}
+use Rattle.std.proofs.Common.{rules, arith, ◌≡◌, ◌+◌, ◌<◌, sym, subst, length, get_or, set, take}
 use Rattle.std.proofs.lemmas.List.{take_all}
 use Rattle.dimacs.specs.Literal.{Literal, var_of}
-use Rattle.cube_split.proofs.CountLemmas.{AreCounted, count_none, count_fits, count_new, count_old, count_last}
+use Rattle.cube_split.proofs.CountLemmas.{count_none, count_fits, count_new, count_old, count_last}
 use Rattle.cube_split.proofs.counting.count_clause.Goals as goal
 use Rattle.cube_split.proofs.counting.count_clause.Goals.{then-last-variable, else-last-variable}
 

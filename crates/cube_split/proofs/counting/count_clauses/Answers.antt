@@ -1,10 +1,9 @@
-use Rattle.std.proofs.Common.{rules, arith, refl, sym, ap, ◌≡◌, ◌∙◌, ℕ, ◌+◌, ◌<◌, Bool, not, ◌&&◌, List, length, get_or, take, subst, true, false}
+use Rattle.std.proofs.Common.{arith, sym, ◌≡◌, ◌∙◌, ◌<◌, not, ◌&&◌, List, length, get_or, subst}
 use Rattle.std.specs.List.{list_any, count_by}
 use Rattle.std.proofs.lemmas.List.{take_all}
 use Rattle.std.proofs.lemmas.List.Elements.{All-weaker}
-use Rattle.dimacs.specs.Literal.{Literal, Clause, IsWithin, var_of, index_of}
+use Rattle.dimacs.specs.Literal.{Clause, IsWithin, var_of, index_of}
 use Rattle.cube_split.specs.Choice.{has_variable}
-use Rattle.cube_split.specs.Marks.{AreMarked}
 use Rattle.cube_split.proofs.CountLemmas.{all_none, all_counted, all_passed, index_below}
 use Rattle.cube_split.proofs.counting.count_clauses.Goals as goal
 use Rattle.cube_split.proofs.counting.count_clauses.Goals.{then-is_apart, else-is_apart}

@@ -1,4 +1,4 @@
-use Rattle.std.proofs.Common.{arith, ◌≡◌, ◌<◌, Bool, false, true, ap, subst, sym, ◌∙◌, not, length, get_or, List}
+use Rattle.std.proofs.Common.{◌≡◌, ◌<◌, false, true, ap, subst, sym, not, length, get_or, List}
 use Rattle.std.specs.List.{list_any}
 use Rattle.std.proofs.lemmas.List.{take_all}
 use Rattle.dimacs.specs.Literal.{Literal, index_of}

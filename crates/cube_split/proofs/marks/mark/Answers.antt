@@ -1,4 +1,4 @@
-use Rattle.std.proofs.Common.{rules, ◌≡◌, ◌||◌, ap, subst, sym, ◌∙◌, set, true, arith, List, Bool, take}
+use Rattle.std.proofs.Common.{rules, ◌≡◌, ◌||◌, subst, set, true, arith, List}
 use Rattle.std.proofs.lemmas.List.{take_all}
 use Rattle.dimacs.specs.Literal.{Literal, has, index_of}
 use Rattle.cube_split.specs.Marks.{AreMarked}

@@ -1,4 +1,4 @@
-use Rattle.std.proofs.Common.{◌≡◌, ◌-◌, ◌+◌, ◌<◌, ◌≤◌, ◌&&◌, ◌∷◌, [], not, List, vec_len}
+use Rattle.std.proofs.Common.{◌≡◌, ◌-◌, ◌+◌, ◌≤◌, ◌&&◌, ◌∷◌, [], not, List, vec_len}
 use Rattle.std.specs.List.{filter, flat_map}
 use Rattle.dimacs.specs.Base.{occurs, numbers_from}
 use Rattle.dimacs.specs.Literal.{Clause, Pos, Neg, negation}

@@ -1,5 +1,5 @@
 use Rattle.std.proofs.Common.{rules, arith, ◌≡◌, ◌+◌, ◌-◌, ◌^◌, ◌≤◌, ◌∷◌, ◌++◌, ◌⊎◌, ◌∙◌, [], vec_len, length, length-append, ap, suc, List}
-use Rattle.dimacs.specs.Literal.{Literal, Pos, Neg}
+use Rattle.dimacs.specs.Literal.{Pos, Neg}
 use Rattle.icnf.specs.Leaves.{Cube}
 use Rattle.cube_split.specs.Choice.{IsChoice, HasNoChoice}
 use Rattle.cube_split.specs.Splitting.{AppendsSplit}

@@ -1,4 +1,4 @@
-use Rattle.std.proofs.Common.{◌≡◌, ℕ, ◌+◌, ◌-◌, ◌/◌, ◌<◌, ◌≤◌, subst, sym, ◌∙◌, arith, length}
+use Rattle.std.proofs.Common.{◌+◌, ◌-◌, ◌/◌, sym, ◌∙◌, arith}
 use Rattle.watches.proofs.Swept.{none}
 use Rattle.watches.proofs.MovingLemmas.{below_middle, above_middle, found_move}
 use Rattle.watches.proofs.moving.find_move.Goals as goal

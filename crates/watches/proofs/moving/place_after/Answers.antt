@@ -1,5 +1,4 @@
-use Rattle.std.proofs.Common.{◌≡◌, ℕ, inr, refl, subst, List}
-use Rattle.clause_arena.specs.declared.reference.Ref.{Ref}
+use Rattle.std.proofs.Common.{ℕ, inr, refl, subst}
 use Rattle.watches.specs.Moving.{AreRising, IsUnmoved}
 use Rattle.watches.proofs.moving.place_after.Goals as goal
 

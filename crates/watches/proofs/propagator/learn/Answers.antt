@@ -1,9 +1,8 @@
-use Rattle.std.proofs.Common.{◌≡◌, ◌<◌, ℕ, ap, sym, subst, ◌∙◌, rules, List, ◌++◌, ◌∷◌, [], Some, length}
+use Rattle.std.proofs.Common.{ℕ, ap, sym, subst, ◌∙◌, List}
 use Rattle.std.specs.List.{All, Contains}
 use Rattle.std.specs.FinMap as fin
-use Rattle.std.specs.FinMap.{gets}
-use Rattle.dimacs.specs.Literal.{Clause, IsWithin}
-use Rattle.clause_arena.specs.Clauses.{Clauses, Stands}
+use Rattle.dimacs.specs.Literal.{IsWithin}
+use Rattle.clause_arena.specs.Clauses.{Clauses}
 use Rattle.watches.proofs.Added.{others, stands, still, live_again, same_again, on_err}
 use Rattle.watches.specs.Law.{AreSame}
 use Rattle.watches.proofs.Swept.{same_clause, AreSame-refl}

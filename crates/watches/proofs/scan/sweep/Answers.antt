@@ -1,11 +1,10 @@
-use Rattle.std.proofs.Common.{◌≡◌, ◌<◌, ℕ, sym, ap, ◌∙◌, subst, refl, arith, rules, get_or, List, Some}
+use Rattle.std.proofs.Common.{sym, ap, subst, get_or, Some}
 use Rattle.std.specs.List.{All, Contains}
 use Rattle.std.proofs.lemmas.List.Elements.{All-contains}
 use Rattle.std.proofs.lemmas.List.{get_or_default}
-use Rattle.dimacs.specs.Literal.{Literal, Clause, IsWithin}
+use Rattle.dimacs.specs.Literal.{IsWithin}
 use Rattle.dimacs.specs.Propagation.{IsFalse, IsUnit}
-use Rattle.clause_arena.specs.declared.reference.Ref.{Ref}
-use Rattle.watches.specs.Law.{IsCalm, IsImplied}
+use Rattle.watches.specs.Law.{IsCalm}
 use Rattle.watches.specs.Trails.{holds}
 use Rattle.watches.proofs.Swept.{none, among, standing, lives, calm, swept_calm, swept_push, swept_all}
 use Rattle.watches.proofs.scan.sweep.Goals.{in-Unit, in-Other}

@@ -1,4 +1,4 @@
-use Rattle.std.proofs.Common.{◌≡◌, sym, ap, ◌∙◌, subst, arith, rules}
+use Rattle.std.proofs.Common.{arith}
 use Rattle.watches.specs.Scanning.{here_pushed}
 use Rattle.watches.proofs.Swept.{among, Grows-trans}
 use Rattle.watches.proofs.scan.sweep_all.Goals as goal

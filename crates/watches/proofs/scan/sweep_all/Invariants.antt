@@ -1,4 +1,4 @@
-use Rattle.std.proofs.Common.{◌≡◌, ◌-◌, length}
+use Rattle.std.proofs.Common.{◌-◌, length}
 use Rattle.watches.specs.Law.{Grows}
 use Rattle.watches.proofs.Swept.{among}
 use Rattle.watches.proofs.scan.sweep_all.Given as goal

@@ -1,6 +1,5 @@
-use Rattle.std.proofs.Common.{◌≡◌, ◌≢◌, arith}
-use Rattle.dimacs.specs.Literal.{index_of}
-use Rattle.watches.proofs.LiteralLemmas.{distinct_pair}
+use Rattle.std.proofs.Common.{arith}
+use Rattle.dimacs.proofs.LiteralLemmas.{distinct_pair}
 use Rattle.watches.proofs.scan_tests.learn_pair.Goals as goal
 
 pub learn-requires-clause-distinct : goal.learn-requires-clause-distinct

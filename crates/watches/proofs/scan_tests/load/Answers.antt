@@ -1,4 +1,4 @@
-use Rattle.std.proofs.Common.{◌≡◌, ℕ, ◌+◌, ◌<◌, sym, subst, arith, List}
+use Rattle.std.proofs.Common.{ℕ, ◌+◌, ◌<◌, sym, subst, arith, List}
 use Rattle.std.specs.List.{All, Contains}
 use Rattle.watches.proofs.NumberLemmas.{all_next, there_next}
 use Rattle.watches.proofs.scan_tests.load.Goals as goal

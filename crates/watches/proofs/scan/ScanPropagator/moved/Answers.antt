@@ -1,8 +1,7 @@
-use Rattle.std.proofs.Common.{◌≡◌, ap, sym, subst, ◌∙◌, length, arith, List}
+use Rattle.std.proofs.Common.{◌≡◌, ap, sym, subst, ◌∙◌, arith}
 use Rattle.std.specs.List.{All}
 use Rattle.std.specs.Vec.{with_items}
 use Rattle.std.proofs.lemmas.List.{with_items_is}
-use Rattle.clause_arena.specs.declared.reference.Ref.{Ref}
 use Rattle.watches.specs.Scanning.{numbers, IsHere}
 use Rattle.watches.proofs.MovingLemmas.{all_here_followed, numbers_followed}
 use Rattle.watches.proofs.scan.ScanPropagator.moved.Goals as goal

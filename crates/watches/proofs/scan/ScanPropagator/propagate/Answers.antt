@@ -1,4 +1,4 @@
-use Rattle.std.proofs.Common.{◌≡◌, ◌∙◌, subst, List}
+use Rattle.std.proofs.Common.{◌∙◌, subst, List}
 use Rattle.std.specs.Option.{IfNone}
 use Rattle.clause_arena.specs.declared.reference.Ref.{Ref}
 use Rattle.watches.specs.Law.{IsQuiet}

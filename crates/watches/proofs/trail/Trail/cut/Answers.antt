@@ -1,5 +1,4 @@
-use Rattle.std.proofs.Common.{◌≡◌, ◌<◌, ◌∷◌, ◌++◌, [], ap, sym, ◌∙◌, length, arith, rules, append_assoc, length-append, get_or, ◌-◌}
-use Rattle.std.specs.List.{All}
+use Rattle.std.proofs.Common.{◌≡◌, ◌<◌, ◌∷◌, ◌++◌, [], ap, ◌∙◌, length, arith, append_assoc, length-append, get_or, ◌-◌}
 use Rattle.std.proofs.lemmas.List.Elements.{All-cons}
 use Rattle.std.proofs.lemmas.List.{get_or_at}
 use Rattle.watches.specs.declared.trail.Assigned.{Assigned}

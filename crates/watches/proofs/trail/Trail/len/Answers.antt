@@ -1,4 +1,4 @@
-use Rattle.std.proofs.Common.{◌≡◌, ◌≤◌, subst, arith}
+use Rattle.std.proofs.Common.{◌≤◌, subst, arith}
 use Rattle.watches.proofs.TrailLemmas.{within}
 use Rattle.watches.proofs.trail.Trail.len.Goals as goal
 

@@ -1,9 +1,9 @@
-use Rattle.std.proofs.Common.{◌≡◌, ℕ, ◌*◌, ◌+◌, ap, sym, ◌∙◌, arith, rules, [], length, replicate, get_or}
+use Rattle.std.proofs.Common.{◌≡◌, ◌*◌, ◌+◌, ap, sym, ◌∙◌, arith, rules, replicate, get_or}
 use Rattle.std.proofs.lemmas.List.{get_or-replicate}
 use Rattle.dimacs.specs.Literal.{index_of}
+use Rattle.dimacs.proofs.LiteralLemmas.{index_below}
 use Rattle.watches.specs.declared.truth.Truth.TheVariants.{Free}
 use Rattle.watches.specs.Tables.{truth_of}
-use Rattle.watches.proofs.LiteralLemmas.{index_below}
 use Rattle.watches.proofs.TrailLemmas.{distinct_nil}
 use Rattle.watches.proofs.trail.Trail.new.Goals as goal
 

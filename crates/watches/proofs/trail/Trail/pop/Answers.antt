@@ -1,11 +1,9 @@
-use Rattle.std.proofs.Common.{◌≡◌, ◌<◌, ◌≤◌, ◌+◌, ◌∷◌, ◌++◌, [], ap, sym, subst, ◌∙◌, length, arith, rules, set, get_or}
-use Rattle.std.specs.List.{All}
+use Rattle.std.proofs.Common.{◌≡◌, ◌∷◌, ◌++◌, [], ap, ◌∙◌, arith, set, get_or}
 use Rattle.std.specs.Option.{option_to_list}
 use Rattle.std.proofs.lemmas.List.{length-set}
-use Rattle.dimacs.specs.Literal.{Literal, IsWithin, negation, var_of, index_of}
+use Rattle.dimacs.specs.Literal.{IsWithin, negation, index_of}
 use Rattle.watches.specs.declared.truth.Truth.TheVariants.{Free}
 use Rattle.watches.specs.Tables.{truth_of}
-use Rattle.watches.proofs.LiteralLemmas.{index_below, IsWithin-negation}
 use Rattle.watches.proofs.TrailLemmas.{agrees_pop, apart_pop, rising_front, found_front, all_front, all_last}
 use Rattle.watches.proofs.trail.Trail.pop.Goals as goal
 

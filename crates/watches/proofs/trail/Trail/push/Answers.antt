@@ -1,8 +1,8 @@
-use Rattle.std.proofs.Common.{◌≡◌, ℕ, ◌<◌, ◌≤◌, ◌+◌, ◌∷◌, ◌++◌, [], ap, sym, subst, ◌∙◌, length, arith, rules, false, set, get_or}
+use Rattle.std.proofs.Common.{◌≡◌, ℕ, ◌<◌, ◌≤◌, ◌∷◌, ◌++◌, [], ap, sym, subst, ◌∙◌, length, arith, rules, false, set, get_or}
 use Rattle.std.proofs.lemmas.List.{length-set}
 use Rattle.std.proofs.lemmas.List.Elements.{All-push}
 use Rattle.std.specs.List.{All}
-use Rattle.dimacs.specs.Literal.{Literal, IsWithin, negation, var_of, index_of}
+use Rattle.dimacs.specs.Literal.{IsWithin, negation, var_of, index_of}
 use Rattle.watches.specs.declared.trail.Assigned.{Assigned}
 use Rattle.watches.specs.declared.truth.Truth.TheVariants.{Free, True, False}
 use Rattle.watches.specs.Trails.{holds}
