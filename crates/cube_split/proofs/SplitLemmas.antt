@@ -10,7 +10,7 @@ use Rattle.dimacs.specs.Building.{greatest_in}
 use Rattle.dimacs.specs.Cnf.{Cnf, AreWithin}
 use Rattle.dimacs.specs.Literal.{Literal, Pos, Neg, var_of, IsWithin}
 use Rattle.icnf.specs.Leaves.{Cube, IsFree, Leaves, leaf, fork}
-use Rattle.icnf.proofs.SpellingLemmas.{clauses_within}
+use Rattle.icnf.proofs.StateLemmas.{clauses_within}
 use Rattle.cube_split.specs.Choice.{IsChoice, HasNoChoice}
 use Rattle.cube_split.specs.Splitting.{IsSplit, full, whole, split, AppendsSplit}
 use Rattle.cube_split.proofs.ChoiceLemmas.{stands_nowhere}

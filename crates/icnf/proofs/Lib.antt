@@ -1,7 +1,9 @@
 pub mod BodyLemmas
 pub mod LeavesLemmas
 pub mod LineLemmas
+pub mod RunLemmas
 pub mod SpanLemmas
 pub mod SpellingLemmas
+pub mod StateLemmas
 pub mod WalkLemmas
 pub mod WritingLemmas

@@ -13,7 +13,7 @@ use Rattle.dimacs.proofs.WritingLemmas.{IsInk, number_text, text_ink, clause_pla
 use Rattle.icnf.specs.Leaves.{Cube, IsTree}
 use Rattle.icnf.specs.Reading.{Token, Mark, Number, token}
 use Rattle.icnf.specs.Spelling.{cube_tokens, AreTokens, SpellsRow, SpellsLines, IsIcnf, Spells, cube_line, spelling, formula_of}
-use Rattle.icnf.proofs.SpellingLemmas.{clauses_greatest, clauses_within}
+use Rattle.icnf.proofs.StateLemmas.{clauses_greatest, clauses_within}
 
 -- ---- tokens
 
