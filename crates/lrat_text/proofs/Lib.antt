@@ -3,7 +3,9 @@ pub mod LineLemmas
 pub mod LogLemmas
 pub mod NextLemmas
 pub mod NumberLemmas
+pub mod ReadStepLemmas
 pub mod ReadingLemmas
+pub mod SpelledStepLemmas
 pub mod SpellingLemmas
 pub mod TokenLemmas
 pub mod WritingLemmas
