@@ -6,10 +6,12 @@ pub mod ExampleLemmas
 pub mod FlatLemmas
 pub mod FlatPush
 pub mod FormulaLemmas
+pub mod HeaderLemmas
 pub mod LineLemmas
 pub mod LiteralLemmas
 pub mod Members
 pub mod NumberLemmas
+pub mod RunLemmas
 pub mod SpellingLemmas
 pub mod TokenLemmas
 pub mod WordLemmas
