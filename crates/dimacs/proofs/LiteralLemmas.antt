@@ -46,6 +46,12 @@ pub negation-negation : (l : Literal) → negation (negation l) ≡ l
 negation-negation (Pos v) = refl
 negation-negation (Neg v) = refl
 
+pub same-negation : (k l : Literal) → same k (negation l) ≡ same (negation k) l
+same-negation (Pos v) (Pos w) = refl
+same-negation (Pos v) (Neg w) = refl
+same-negation (Neg v) (Pos w) = refl
+same-negation (Neg v) (Neg w) = refl
+
 pub negation_apart : (l : Literal) → negation l ≢ l
 negation_apart (Pos v) = λ e. cc
 negation_apart (Neg v) = λ e. cc

@@ -1,8 +1,8 @@
--- Members of a list whose head is known, and literals of a clause.
-use Rattle.std.proofs.Common.{zero, suc, ◌≡◌, ◌⊎◌, inl, inr, true, List, [], ◌∷◌, refl, sym, subst, arith}
-use Rattle.std.specs.List.{Contains}
+-- Members of a list whose head is known, members that a filter keeps, and literals of a clause.
+use Rattle.std.proofs.Common.{zero, suc, ◌≡◌, ◌⊎◌, inl, inr, Bool, true, List, [], ◌∷◌, refl, sym, subst, arith}
+use Rattle.std.specs.List.{Contains, filter}
 use Rattle.std.proofs.lemmas.Bool.{true≢false, or_left, or_right, or_cases}
-use Rattle.std.proofs.lemmas.List.Elements.{Contains-append_cases, Contains-append_right}
+use Rattle.std.proofs.lemmas.List.Elements.{All-contains, All-contains_itself, All-filter, filter_passes, Contains-append_cases, Contains-append_right}
 use Rattle.dimacs.specs.Literal.{Literal, Clause, same, has}
 use Rattle.dimacs.proofs.LiteralLemmas.{same-true, same-is}
 
@@ -24,6 +24,13 @@ Contains-cons_cases x y xs h = elim (Contains-append_cases (x ∷ []) xs y h) [
 
 pub Contains-nil : {X : Type 0} (y : X) → Contains [] y → ⊥
 Contains-nil y (k, below, is) = omega arith
+
+-- what a filter keeps stood there, and passes the test
+pub Contains-filter : {X : Type 0} (p : X → Bool) (xs : List X) (y : X) → Contains (filter p xs) y → Contains xs y × (p y ≡ true)
+Contains-filter p xs y h = (
+  All-contains (Contains xs) (filter p xs) y (All-filter p (Contains xs) xs (All-contains_itself xs)) h,
+  All-contains (λ x. p x ≡ true) (filter p xs) y (filter_passes p xs) h,
+)
 
 pub has-Contains : (C : Clause) (l : Literal) → has C l ≡ true → Contains C l
 has-Contains [] l e = absurd (true≢false (sym e))

@@ -7,23 +7,12 @@ use Rattle.dimacs.specs.Literal.{Literal, Pos, Neg, negation, same, Clause, IsTa
 use Rattle.dimacs.specs.ClauseMap.{ClauseMap, live_in}
 use Rattle.dimacs.specs.Propagation.{Assumed, negations, with_literal, IsFalse, IsUnit, Leads, Refutes}
 use Rattle.dimacs.proofs.LiteralLemmas.{same-true, same-itself, same_or_not, negation-negation}
-use Rattle.dimacs.proofs.Members.{Contains-head, Contains-cons, Contains-cons_cases, Contains-nil, has-Contains}
+use Rattle.dimacs.proofs.Members.{Contains-head, Contains-cons, Contains-cons_cases, Contains-nil, Contains-filter, has-Contains}
 use Rattle.lrat_check.specs.declared.propagation.Status.{Status}
 use Rattle.lrat_check.specs.declared.propagation.Status.TheVariants.{Satisfied, Falsified, Unit, Undecided}
 use Rattle.lrat_check.specs.declared.fault.StepFault.TheVariants.{HintAfterConflict}
 use Rattle.lrat_check.specs.Faults.{status, status_of_free, not_false, walk, by_hint, by_status, is_empty, Conflict, Fault}
 use Rattle.lrat_check.proofs.Walks.{unit_not_true}
-
-Contains-filter : (p : Literal → Bool) (C : Clause) (l : Literal) → Contains (filter p C) l → Contains C l × (p l ≡ true)
-Contains-filter p [] l h = absurd (Contains-nil l h)
-Contains-filter p (k ∷ C) l h = at (p k) refl h (λ m. Contains-filter p C l m)
-  where
-    at : (b : Bool) → p k ≡ b → Contains (cond b (k ∷ filter p C) (filter p C)) l → (Contains (filter p C) l → Contains C l × (p l ≡ true)) → Contains (k ∷ C) l × (p l ≡ true)
-    at true is h rest = elim (Contains-cons_cases k l (filter p C) h) [
-      | inl e ↦ (subst (λ x. Contains (k ∷ C) x) e (Contains-head k C), subst (λ x. p x ≡ true) e is)
-      | inr m ↦ (Contains-cons k l C (rest m).0, (rest m).1)
-    ]
-    at false is h rest = (Contains-cons k l C (rest h).0, (rest h).1)
 
 filter_member : (p : Literal → Bool) (C : Clause) (l : Literal) → Contains C l → p l ≡ true → Contains (filter p C) l
 filter_member p [] l h t = absurd (Contains-nil l h)

@@ -11,7 +11,7 @@ use Rattle.lrat_check.proofs.Candidates.{group_of, named_by}
 use Rattle.dimacs.specs.Rat.{Group, candidates, with_candidate, Rat, IsBlocked, GroupHolds}
 use Rattle.dimacs.specs.ClauseMap.{ClauseMap, live_in}
 use Rattle.dimacs.specs.Propagation.{Assumed, negations, with_literal, Leads, Refutes, Rup}
-use Rattle.dimacs.proofs.LiteralLemmas.{same-itself, same-false, negation-negation}
+use Rattle.dimacs.proofs.LiteralLemmas.{same-itself, same-false, negation-negation, twins}
 use Rattle.dimacs.proofs.Members.{Contains-head, Contains-cons, Contains-cons_cases, has-Contains, Contains-has}
 use Rattle.lrat_check.specs.Holding.{holders, holding, holds_in}
 use Rattle.lrat_check.proofs.Pigeonhole.{AllNamed, live-holders, held_clause, eq_by_nat_cmp, AllHold, AreDistinct, none_missing, as_many}
@@ -22,7 +22,6 @@ use Rattle.lrat_check.specs.declared.fault.StepFault.TheVariants.{HintAfterConfl
 use Rattle.lrat_check.specs.Faults.{status, walk, by_hint, by_status, is_empty, Walk, Through, Conflict, Fault, walk_fault, is_tautology, is_blocked, candidate_fault, by_candidate, is_named, group_fault, is_missing, first_fault, groups_fault, pivot_fault, after_walk, some_group, lemma_fault}
 use Rattle.lrat_check.proofs.Exact.{IsConsistent, conflict_refutes, refutes_walk, unit_is, is_unit, with_literal_consistent, negations_consistent}
 use Rattle.lrat_check.proofs.Pairs.{tautology_pair, pair_tautology}
-use Rattle.lrat_check.proofs.Blocked.{same_var}
 
 -- blocked candidates
 
@@ -147,7 +146,7 @@ module _ (M : ClauseMap) (β : Assumed) (p : Literal) where
                 l,
                 subst (λ x. Contains D x) (negation-negation l) (has-Contains D (negation (negation l)) more.0),
                 has-Contains D (negation l) parts.0,
-                λ v. elim (same_var l p v) [ inl e ↦ differs l parts.1 e | inr e ↦ not_negation l more.1 e ],
+                λ v. elim (twins l p v) [ inl e ↦ differs l parts.1 e | inr e ↦ not_negation l more.1 e ],
               ))
         ]
   ]

@@ -1,13 +1,13 @@
 -- A walk along hints, hint by hint.
 use Rattle.std.proofs.Common.{◌≡◌, ℕ, Bool, true, false, not, ◌&&◌, List, [], ◌∷◌, Some, None, cond, refl, sym, ◌∙◌, ap, subst, drop, length, get_or, ◌<◌, ◌≤◌, ◌+◌, inl, inr, arith, add-one, drop-cons, length-drop}
-use Rattle.std.specs.List.{list_any, list_all, filter, Contains}
+use Rattle.std.specs.List.{list_any, list_all, Contains}
 use Rattle.std.specs.FinMap.{get}
 use Rattle.std.proofs.lemmas.Bool.{cases_Bool, both_ways}
 use Rattle.std.proofs.lemmas.List.Folds.{list_any_at}
 use Rattle.dimacs.specs.Literal.{Literal, negation, same, Clause}
 use Rattle.dimacs.specs.ClauseMap.{ClauseMap}
 use Rattle.dimacs.specs.Propagation.{Assumed}
-use Rattle.dimacs.proofs.Members.{Contains-head, Contains-cons, Contains-cons_cases, Contains-nil}
+use Rattle.dimacs.proofs.Members.{Contains-head, Contains-filter}
 use Rattle.lrat_check.specs.declared.propagation.Status.{Status}
 use Rattle.lrat_check.specs.declared.propagation.Status.TheVariants.{Satisfied, Unit, Undecided}
 use Rattle.lrat_check.specs.declared.fault.StepFault.TheVariants.{UnknownClause}
@@ -38,17 +38,6 @@ is_empty-of_length (x ∷ xs) e = absurd (omega arith)
 pub is_empty-drop_true : (hints : List ℕ) (i : ℕ) → length hints ≤ i → is_empty (drop i hints) ≡ true
 is_empty-drop_true hints i past = is_empty-of_length (drop i hints) (simp length-drop (omega arith))
 
-Contains-filter : (p : Literal → Bool) (C : Clause) (l : Literal) → Contains (filter p C) l → Contains C l
-Contains-filter p [] l h = absurd (Contains-nil l h)
-Contains-filter p (k ∷ C) l h = at (p k) h (λ m. Contains-cons k l C (Contains-filter p C l m))
-  where
-    at : (b : Bool) → Contains (cond b (k ∷ filter p C) (filter p C)) l → (Contains (filter p C) l → Contains (k ∷ C) l) → Contains (k ∷ C) l
-    at true h rest = elim (Contains-cons_cases k l (filter p C) h) [
-      | inl e ↦ subst (λ x. Contains (k ∷ C) x) e (Contains-head k C)
-      | inr m ↦ rest m
-    ]
-    at false h rest = rest h
-
 unit_first : (ls : List Literal) (l : Literal) → Unit l ≡ status_of_free ls → Contains ls l
 unit_first [] l e = absurd cc
 unit_first (k ∷ ls) l e = at (list_all (same k) ls) e
@@ -62,7 +51,7 @@ unit_member α C l e = at (list_any α C) e
   where
     at : (b : Bool) → Unit l ≡ cond b Satisfied (status_of_free (not_false α C)) → Contains C l
     at true e = absurd cc
-    at false e = Contains-filter (λ k. not (α (negation k))) C l (unit_first (not_false α C) l e)
+    at false e = (Contains-filter (λ k. not (α (negation k))) C l (unit_first (not_false α C) l e)).0
 
 none_at : (α : Assumed) (C : Clause) (l : Literal) → list_any α C ≡ false → Contains C l → α l ≡ false
 none_at α C l none (k, below, is) =
