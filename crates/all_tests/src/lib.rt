@@ -13,3 +13,5 @@ mod deletions;
 mod lines;
 #[cfg(test)]
 mod nodes;
+#[cfg(test)]
+mod solving;

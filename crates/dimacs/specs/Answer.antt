@@ -27,8 +27,12 @@ filled used (item ∷ items) =
 abbrev pub witness_lines : List Bool → List ℕ
 witness_lines values = codes "v" ++ filled 1 (witness_items values)
 
+-- the answer lines of an assignment that satisfies, with or without its v lines
+abbrev pub satisfied_lines : List Bool → Bool → List ℕ
+satisfied_lines values witness = codes "s SATISFIABLE\n" ++ (if witness then witness_lines values else [])
+
 -- the answer lines; only an assignment has a witness
 abbrev pub Lines : Answer → Bool → List ℕ
-Lines (Satisfiable assignment) witness = codes "s SATISFIABLE\n" ++ (if witness then witness_lines assignment.now else [])
+Lines (Satisfiable assignment) witness = satisfied_lines assignment.now witness
 Lines Unsatisfiable witness = codes "s UNSATISFIABLE\n"
 Lines Unknown witness = codes "s UNKNOWN\n"

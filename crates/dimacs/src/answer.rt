@@ -4,7 +4,7 @@ ghost use Rattle.std.specs.Prelude.{◌≡◌, ◌<◌, ◌≤◌, ◌^◌, ◌�
 ghost use Rattle.std.specs.Fmt.{signed_decimal};
 ghost use Rattle.dimacs.specs.Literal.{Pos, Neg, number_of};
 ghost use Rattle.dimacs.specs.Spelling.{Begins};
-ghost use Rattle.dimacs.specs.Answer.{filled, witness_lines, Lines};
+ghost use Rattle.dimacs.specs.Answer.{filled, satisfied_lines, witness_lines, Lines};
 
 use crate::assignment::Assignment;
 use crate::writing::put;
@@ -77,7 +77,7 @@ fn put_witness(out: &mut Vec<u8>, values: &[bool]) -> Result<(), AllocError>
 }
 
 fn put_satisfiable(out: &mut Vec<u8>, values: &[bool], witness: bool) -> Result<(), AllocError>
-    ensures ok { OnOk result (out.new.items ≡ out.old.items ++ (codes "s SATISFIABLE\n" ++ (if witness then witness_lines values.now else []))) }
+    ensures ok { OnOk result (out.new.items ≡ out.old.items ++ satisfied_lines values.now witness) }
     ensures begins { Begins out.old.items out.new.items }
 {
     put(out, b"s SATISFIABLE\n")?;

@@ -1,0 +1,2 @@
+pub mod SolvingLemmas
+pub mod WordLemmas

@@ -1,53 +1,49 @@
--- The command line of the program, by the rules of `clap`.
-use Rattle.std.specs.Prelude.{◌≡◌, ℕ, ◌≤◌, List, [], ◌∷◌, true, Some, codes, ⊤}
+-- What the words of a command line ask for, by the rules of `clap`.
+use Rattle.std.specs.Prelude.{◌≡◌, ℕ, ◌≤◌, List, Bool, true, false, not, Option, Some, None, option_map, codes, ⊤}
 use Rattle.std.specs.Str.Parse.{IsNumeral, digits_value, without_leading_plus}
-use Rattle.clap.specs.Words.{App, Row, Rule, Text, first_of, new_app, new_rule, subcommand_of, takes, with_rule, with_subcommand}
-use Rattle.clap.specs.declared.builder.ArgAction.TheVariants.{Set}
-use Rattle.clap.specs.declared.builder.value_parser.ValueParser.TheVariants as vp
+use Rattle.clap.specs.Words.{Row, Text, first_of, one_of, subcommand_of, takes}
+use Rattle.node_main.specs.Program.{program}
+use Rattle.node_main.specs.Solving.{AreOptions}
+use Rattle.node_main.specs.declared.options.Options.{Options}
 use Rattle.node_main.specs.declared.request.Request.{Request}
-use Rattle.node_main.specs.declared.request.Request.TheVariants.{Check, Cubes}
+use Rattle.node_main.specs.declared.request.Request.TheVariants.{Check, Cubes, Solve}
 
--- a file that has to be named
-abbrev pub file_rule : Text → Rule
-file_rule name = record (new_rule name) { action = Some Set; required = true }
+-- the text is a number of the range in decimal digits, perhaps with a plus before them
+pub record IsNumber (low high : ℕ) (text : Text) (number : ℕ) : Type 0 where
+  pub numeral : IsNumeral 10 (without_leading_plus text)
+  pub value : number ≡ digits_value 10 (without_leading_plus text)
+  pub least : low ≤ number
+  pub most : number ≤ high
 
--- `--depth D`, a number from 0 to 16, and 4 where it is left out
-abbrev pub depth_rule : Rule
-depth_rule = record (new_rule (codes "depth")) {
-  long = Some (codes "depth");
-  action = Some Set;
-  parser = Some (vp.Unsigned 0 16);
-  defaults = codes "4" ∷ [];
-}
+-- the number in a range that the words give to an option
+pub record NamesNumber (rows : List Row) (name : Text) (low high : ℕ) (number : ℕ) : Type 0 where
+  pub written : Text
+  pub given : first_of name rows ≡ Some written
+  pub read : IsNumber low high written number
 
--- `check INPUT PROOF`
-abbrev pub check_app : App
-check_app = with_rule (with_rule (new_app (codes "check")) (file_rule (codes "INPUT"))) (file_rule (codes "PROOF"))
-
--- `cubes [--depth D] INPUT`
-abbrev pub cubes_app : App
-cubes_app = with_rule (with_rule (new_app (codes "cubes")) depth_rule) (file_rule (codes "INPUT"))
-
-abbrev pub program : App
-program = with_subcommand (with_subcommand (new_app (codes "satcluster")) check_app.top) cubes_app.top
+-- the words say of a flag that it is given, or that it is not
+pub record NamesFlag (rows : List Row) (name : Text) (given : Bool) : Type 0 where
+  pub yes : one_of name rows ≡ Some (codes "true") → given ≡ true
+  pub no : one_of name rows ≡ Some (codes "false") → given ≡ false
+  pub none : one_of name rows ≡ None → given ≡ false
 
 -- what the words of `check` name
 pub record NamesFiles (rows : List Row) (input proof : Text) : Type 0 where
   pub input_is : first_of (codes "INPUT") rows ≡ Some input
   pub proof_is : first_of (codes "PROOF") rows ≡ Some proof
 
--- the text is a number from 0 to 16 in decimal digits, perhaps with a plus before them
-pub record IsDepth (text : Text) (depth : ℕ) : Type 0 where
-  pub numeral : IsNumeral 10 (without_leading_plus text)
-  pub value : depth ≡ digits_value 10 (without_leading_plus text)
-  pub limit : depth ≤ 16
-
 -- what the words of `cubes` name
 pub record NamesCubes (rows : List Row) (input : Text) (depth : ℕ) : Type 0 where
   pub input_is : first_of (codes "INPUT") rows ≡ Some input
-  pub written : Text
-  pub depth_is : first_of (codes "depth") rows ≡ Some written
-  pub read : IsDepth written depth
+  pub depth_is : NamesNumber rows (codes "depth") 0 16 depth
+
+-- what the words of `solve` name
+pub record NamesSolve (rows : List Row) (input : Text) (proof : Option Text) (options : Options) : Type 0 where
+  pub input_is : first_of (codes "INPUT") rows ≡ Some input
+  pub proof_is : first_of (codes "PROOF") rows ≡ proof
+  pub limit_is : NamesNumber rows (codes "limit") 1 1000000000 options.limit
+  pub quiet_is : NamesFlag rows (codes "quiet") options.quiet
+  pub witness_is : NamesFlag rows (codes "no-witness") (not options.witness)
 
 -- the words are right by the rules of the command line
 pub record AreTaken (words : List Text) : Type 0 where
@@ -65,12 +61,20 @@ pub record AsksForCubes (words : List Text) (input : Text) (depth : ℕ) : Type 
   pub command : subcommand_of program words ≡ Some (codes "cubes", rows)
   pub names : NamesCubes rows input depth
 
+-- the words ask for an answer on this file, and for its proof in another where one is named
+pub record AsksForSolve (words : List Text) (input : Text) (proof : Option Text) (options : Options) : Type 0 where
+  pub rows : List Row
+  pub command : subcommand_of program words ≡ Some (codes "solve", rows)
+  pub names : NamesSolve rows input proof options
+
 -- the words ask for what the request says
 abbrev pub AsksFor : List Text → Request → Type 0
 AsksFor words (Check input proof) = AsksForCheck words input.now proof.now
 AsksFor words (Cubes input depth) = AsksForCubes words input.now depth
+AsksFor words (Solve input proof options) = AsksForSolve words input.now (option_map (λ t. t.now) proof) options
 
 -- the numbers of a request are in their ranges
 abbrev pub IsInRange : Request → Type 0
 IsInRange (Check input proof) = ⊤
 IsInRange (Cubes input depth) = depth ≤ 16
+IsInRange (Solve input proof options) = AreOptions options

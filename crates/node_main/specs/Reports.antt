@@ -1,8 +1,7 @@
 -- What `check` prints, and its exit status.
-use Rattle.std.specs.Prelude.{◌≡◌, ℕ, List, ◌++◌, Result, Ok, Err, codes, decimal}
+use Rattle.std.specs.Prelude.{ℕ, List, ◌++◌, Result, Ok, Err, codes, decimal}
 use Rattle.dimacs.specs.Cnf.{Cnf}
 use Rattle.dimacs.specs.Faults.{number_of_kind}
-use Rattle.dimacs.specs.Reading.{parse}
 use Rattle.dimacs.specs.declared.fault.DimacsFault.{DimacsFault}
 use Rattle.lrat_check.specs.Checking.{check_of}
 use Rattle.lrat_check.specs.declared.checking.CheckFault.{CheckFault}

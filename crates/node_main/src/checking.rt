@@ -17,6 +17,7 @@ use std::alloc::{AllocError, Global};
 pub(crate) fn faulty_input(alloc: Global, fault: DimacsFault) -> Result<Report, AllocError>
     ensures text { IfOk result (λ r. r.stdout.items ≡ input_fault_text fault) }
     ensures status { IfOk result (λ r. r.status ≡ 1) }
+    ensures proof { IfOk result (λ r. r.proof ≡ None) }
 {
     let mut report = Report::of(alloc, b"c input ", 1)?;
     put_fault(&mut report.stdout, fault.line, fault.kind.number())?;

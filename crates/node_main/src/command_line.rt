@@ -1,55 +1,16 @@
 //! Reads the words of a command line.
 
-ghost use Rattle.std.specs.Prelude.{◌≡◌, ℕ, List, IfOk, IfErr, IfSome, IfNone, map, false};
-ghost use Rattle.clap.specs.Words.{app_of, found_of, kind_of, rows_of, rule_of};
-ghost use Rattle.node_main.specs.CommandLine.{AreTaken, AsksFor, AsksForCheck, AsksForCubes, IsDepth, IsInRange, NamesCubes, NamesFiles, depth_rule, file_rule, program};
+ghost use Rattle.std.specs.Prelude.{◌≡◌, ℕ, List, Option, IfOk, IfErr, IfSome, IfNone, map, option_map};
+ghost use Rattle.clap.specs.Words.{found_of, kind_of, rows_of};
+ghost use Rattle.node_main.specs.CommandLine.{AreTaken, AsksFor, AsksForCheck, AsksForCubes, AsksForSolve, IsInRange, IsNumber, NamesCubes, NamesFiles, NamesNumber, NamesSolve};
+ghost use Rattle.node_main.specs.declared.options.Options.{Options};
 
+use crate::options::Options;
+use crate::program::satcluster;
 use crate::request::{Request, UsageFault};
-use clap::builder::ValueParser;
 use clap::error::ErrorKind;
-use clap::{Arg, ArgAction, ArgMatches, Command, Error};
-use std::alloc::{AllocError, Global};
-
-/// The file of this name, which has to be given.
-fn file<'a>(alloc: Global, name: &'a str) -> Arg<'a>
-    ensures rule { rule_of result ≡ file_rule name.entry.now }
-    ensures global { result.global ≡ false }
-{
-    Arg::new(alloc, name).action(ArgAction::Set).required(true)
-}
-
-/// How deep a formula is split, from 0 to 16.
-fn depth_option<'a>(alloc: Global) -> Arg<'a>
-    ensures rule { rule_of result ≡ depth_rule }
-    ensures global { result.global ≡ false }
-{
-    Arg::new(alloc, "depth")
-        .long("depth")
-        .action(ArgAction::Set)
-        .value_parser(ValueParser::unsigned(0, 16))
-        .default_value("4")
-}
-
-fn satcluster<'a>(alloc: Global) -> Result<Command<'a>, AllocError>
-    ensures { IfOk result (λ c. app_of c ≡ program) }
-{
-    let input = file(alloc, "INPUT");
-    let proof = file(alloc, "PROOF");
-    let check = Command::new(alloc, "check")
-        .about("Checks an LRAT proof of a DIMACS formula")
-        .arg(input)?
-        .arg(proof)?;
-    let depth = depth_option(alloc);
-    let formula = file(alloc, "INPUT");
-    let cubes = Command::new(alloc, "cubes")
-        .about("Splits a DIMACS formula into cubes, as iCNF")
-        .arg(depth)?
-        .arg(formula)?;
-    Command::new(alloc, "satcluster")
-        .about("Decides propositional formulas, with proofs that anyone can check")
-        .subcommand(check)?
-        .subcommand(cubes)
-}
+use clap::{ArgMatches, Error};
+use std::alloc::Global;
 
 /// The fault that an error of the parser stands for.
 fn fault_of(alloc: Global, error: &Error) -> UsageFault
@@ -76,14 +37,25 @@ fn check_request<'a>(matches: &ArgMatches<'a>) -> Option<(&'a str, &'a str)>
     }
 }
 
-/// The depth that a text says.
-fn depth_of(text: &str) -> Option<u32>
-    ensures some { IfSome result (IsDepth text.now) }
-    ensures none { IfNone result ((depth : ℕ) → IsDepth text.now depth → ⊥) }
+/// The number that a text says, where it is in the range.
+fn number_in(text: &str, low: u64, high: u64) -> Option<u64>
+    ensures some { IfSome result (IsNumber low high text.now) }
+    ensures none { IfNone result ((number : ℕ) → IsNumber low high text.now number → ⊥) }
 {
-    match text.parse::<u32>() {
-        Ok(depth) if depth <= 16 => Some(depth),
+    match text.parse::<u64>() {
+        Ok(number) if low <= number && number <= high => Some(number),
         _ => None,
+    }
+}
+
+/// The number in a range that the words give to an option.
+fn number_of<'a>(matches: &ArgMatches<'a>, name: &str, low: u64, high: u64) -> Option<u64>
+    ensures found { IfSome result (NamesNumber (rows_of (found_of matches.now)) name.now low high) }
+    ensures none { IfNone result ((number : ℕ) → NamesNumber (rows_of (found_of matches.now)) name.now low high number → ⊥) }
+{
+    match matches.get_str(name) {
+        Some(text) => number_in(text, low, high),
+        None => None,
     }
 }
 
@@ -92,11 +64,27 @@ fn cubes_request<'a>(matches: &ArgMatches<'a>) -> Option<(&'a str, u32)>
     ensures found { IfSome result (λ r. NamesCubes (rows_of (found_of matches.now)) r.0.now r.1) }
     ensures none { IfNone result ((input : List ℕ) (depth : ℕ) → NamesCubes (rows_of (found_of matches.now)) input depth → ⊥) }
 {
-    match (matches.get_str("INPUT"), matches.get_str("depth")) {
-        (Some(input), Some(text)) => match depth_of(text) {
-            Some(depth) => Some((input, depth)),
-            None => None,
-        },
+    match (matches.get_str("INPUT"), number_of(matches, "depth", 0, 16)) {
+        (Some(input), Some(depth)) => Some((input, depth as u32)),
+        _ => None,
+    }
+}
+
+/// What `solve` is to work on.
+fn solve_request<'a>(matches: &ArgMatches<'a>) -> Option<(&'a str, Option<&'a str>, Options)>
+    ensures found { IfSome result (λ r. NamesSolve (rows_of (found_of matches.now)) r.0.now (option_map (λ t. t.now) r.1) r.2) }
+    ensures none { IfNone result ((input : List ℕ) (proof : Option (List ℕ)) (options : Options) → NamesSolve (rows_of (found_of matches.now)) input proof options → ⊥) }
+{
+    let limit = number_of(matches, "limit", 1, 1_000_000_000);
+    match (matches.get_str("INPUT"), limit) {
+        (Some(input), Some(limit)) => {
+            let options = Options {
+                limit,
+                quiet: matches.get_flag("quiet"),
+                witness: !matches.get_flag("no-witness"),
+            };
+            Some((input, matches.get_str("PROOF"), options))
+        }
         _ => None,
     }
 }
@@ -112,12 +100,22 @@ pub fn command<'a>(alloc: Global, words: &'a [&'a str]) -> Result<Request<'a>, U
         → AsksForCheck (map (λ w. w.now) words.now) input proof → IfErr result (λ f. f ≡ UsageFault.NoMemory) }
     ensures cubes_complete { (input : List ℕ) (depth : ℕ) → AreTaken (map (λ w. w.now) words.now)
         → AsksForCubes (map (λ w. w.now) words.now) input depth → IfErr result (λ f. f ≡ UsageFault.NoMemory) }
+    ensures solve_complete { (input : List ℕ) (proof : Option (List ℕ)) (options : Options) → AreTaken (map (λ w. w.now) words.now)
+        → AsksForSolve (map (λ w. w.now) words.now) input proof options → IfErr result (λ f. f ≡ UsageFault.NoMemory) }
 {
     let matches = match satcluster(alloc)?.try_get_matches_from(words) {
         Ok(matches) => matches,
         Err(error) => return Err(fault_of(alloc, &error)),
     };
     match matches.subcommand() {
+        Some(("solve", inner)) => match solve_request(inner) {
+            Some((input, proof, options)) => Ok(Request::Solve {
+                input,
+                proof,
+                options,
+            }),
+            None => Err(UsageFault::Usage),
+        },
         Some(("check", inner)) => match check_request(inner) {
             Some((input, proof)) => Ok(Request::Check { input, proof }),
             None => Err(UsageFault::Usage),

@@ -7,11 +7,16 @@
 mod checking;
 mod command_line;
 mod cubing;
+mod options;
+mod program;
 mod report;
 mod request;
+mod solving;
 
 pub use checking::run_check;
 pub use command_line::command;
 pub use cubing::run_cubes;
+pub use options::Options;
 pub use report::Report;
 pub use request::{Request, UsageFault};
+pub use solving::solve_here;

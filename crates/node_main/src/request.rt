@@ -3,15 +3,28 @@
 ghost use Rattle.std.specs.Prelude.{◌≡◌};
 ghost use Rattle.node_main.specs.declared.request.UsageFault.TheVariants.{NoMemory};
 
+use crate::options::Options;
 use std::alloc::AllocError;
 
 /// What is to be done, and with which files.
 #[derive(Clone, Copy, Debug, PartialEq, Eq)]
 pub enum Request<'a> {
+    /// Decide a formula, and write the proof to a file where one is named.
+    Solve {
+        input: &'a str,
+        proof: Option<&'a str>,
+        options: Options,
+    },
     /// Check a proof of a formula.
-    Check { input: &'a str, proof: &'a str },
+    Check {
+        input: &'a str,
+        proof: &'a str,
+    },
     /// Split a formula into cubes, as deep as this, from 0 to 16.
-    Cubes { input: &'a str, depth: u32 },
+    Cubes {
+        input: &'a str,
+        depth: u32,
+    },
 }
 
 /// Why a command line gives no request.

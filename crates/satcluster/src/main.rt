@@ -2,8 +2,9 @@
 #![tactic(auto)]
 
 ghost use Rattle.std.specs.Prelude.{◌≤◌};
+ghost use Rattle.node_main.specs.Solving.{AreOptions};
 
-use node_main::{Report, Request, UsageFault, command, run_check, run_cubes};
+use node_main::{Options, Report, Request, UsageFault, command, run_check, run_cubes, solve_here};
 use std::alloc::AllocError;
 use std::io::Write;
 use std::process::ExitCode;
@@ -34,6 +35,36 @@ fn read<R: Runtime + AllocGlobal>(
     }
 }
 
+/// Writes the proof, where there is one and a file is named for it.
+fn write_proof<R: Runtime + AllocGlobal>(
+    rt: &R,
+    path: Option<&str>,
+    proof: Option<&Vec<u8>>,
+) -> Result<(), Refusal> {
+    match (path, proof) {
+        (Some(path), Some(proof)) => match fs::write(rt, path, proof.as_slice()) {
+            Ok(()) => Ok(()),
+            Err(error) if error.kind() == io::ErrorKind::OutOfMemory => Err(NO_MEMORY),
+            Err(_) => Err("c cannot write proof\n"),
+        },
+        _ => Ok(()),
+    }
+}
+
+fn solve<R: Runtime + AllocGlobal>(
+    rt: &R,
+    input: &str,
+    proof: Option<&str>,
+    options: &Options,
+) -> Result<Report, Refusal>
+    requires { AreOptions options.now }
+{
+    let input = read(rt, input, "c cannot read input\n")?;
+    let report = solve_here(rt.alloc(), input.as_slice(), None, options).map_err(no_memory)?;
+    write_proof(rt, proof, report.proof.as_ref())?;
+    Ok(report)
+}
+
 fn check<R: Runtime + AllocGlobal>(rt: &R, input: &str, proof: &str) -> Result<Report, Refusal> {
     let input = read(rt, input, "c cannot read input\n")?;
     let proof = read(rt, proof, "c cannot read proof\n")?;
@@ -49,6 +80,16 @@ fn cubes<R: Runtime + AllocGlobal>(rt: &R, input: &str, depth: u32) -> Result<Re
 
 fn answer<R: Runtime + AllocGlobal>(rt: &R, words: &[&str]) -> Result<Report, Refusal> {
     match command(rt.alloc(), words) {
+        Ok(
+            Request::Solve {
+                input,
+                proof,
+                options,
+            },
+        ) => {
+            let report = solve(rt, input, proof, &options);
+            report.map_err(|line| if options.quiet { "" } else { line })
+        }
         Ok(Request::Check { input, proof }) => check(rt, input, proof),
         Ok(Request::Cubes { input, depth }) => cubes(rt, input, depth),
         Err(UsageFault::Help(text)) => {

@@ -1,7 +1,6 @@
-use Rattle.std.proofs.Common.{rules, ◌≡◌, ◌∙◌, List, ℕ, sym, ap, codes, Option, Some, None, option_map}
-use Rattle.clap.specs.Words.{first_of, first_value, found_of, rows_of}
+use Rattle.std.proofs.Common.{◌≡◌, ◌∙◌, List, ℕ, sym, ap, codes, Option, Some, None, option_map}
+use Rattle.clap.specs.Words.{found_of}
 use Rattle.clap.proofs.WalkLemmas.{first_value-rows}
-use Rattle.node_main.specs.CommandLine.{NamesFiles}
 use Rattle.node_main.proofs.command_line.check_request.Goals as goal
 use Rattle.node_main.proofs.command_line.check_request.Goals.{in_default-via-in-Some+in_default, in_default-via-in_default}
 

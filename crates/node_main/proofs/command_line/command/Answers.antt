@@ -1,6 +1,6 @@
-use Rattle.std.proofs.Common.{rules, ◌≡◌, ◌∙◌, List, ℕ, Bool, true, sym, ap, ap₂, subst, codes, Some, None, option_map, map}
-use Rattle.clap.specs.Words.{App, Row, Text, app_of, is_simple, subcommand_of, takes, rows_of, found_of, subcommand_rows_of}
-use Rattle.node_main.specs.CommandLine.{AreTaken, AsksForCheck, AsksForCubes, NamesCubes, NamesFiles, program}
+use Rattle.std.proofs.Common.{◌≡◌, ◌∙◌, List, sym, ap, subst, codes, Some, option_map, map}
+use Rattle.clap.specs.Words.{App, Row, is_simple, subcommand_of, takes, rows_of, found_of, subcommand_rows_of}
+use Rattle.node_main.specs.CommandLine.{NamesCubes, NamesFiles, NamesSolve}
 use Rattle.node_main.proofs.command_line.command.Goals as goal
 
 pub returns-in-Err-clause-complete : goal.returns-in-Err-clause-complete
@@ -8,8 +8,27 @@ returns-in-Err-clause-complete c input proof taken asks =
     let texts = map (λ w. w.now) c.args.words.now in
     c.fault_of.ensures (c.in-Err.ensures.passes (ap (λ (a : App). takes a texts) c.in_ok-satcluster.ensures ∙ taken.by_rules))
 
+pub returns-in-Err-clause-cubes_complete : goal.returns-in-Err-clause-cubes_complete
+returns-in-Err-clause-cubes_complete c input depth taken asks =
+    let texts = map (λ w. w.now) c.args.words.now in
+    c.fault_of.ensures (c.in-Err.ensures.passes (ap (λ (a : App). takes a texts) c.in_ok-satcluster.ensures ∙ taken.by_rules))
+
+pub returns-in-Err-clause-solve_complete : goal.returns-in-Err-clause-solve_complete
+returns-in-Err-clause-solve_complete c input proof options taken asks =
+    let texts = map (λ w. w.now) c.args.words.now in
+    c.fault_of.ensures (c.in-Err.ensures.passes (ap (λ (a : App). takes a texts) c.in_ok-satcluster.ensures ∙ taken.by_rules))
+
 same_rows : (a b : List Row) → Some a ≡ Some b → a ≡ b
 same_rows a b e = cc
+
+pub returns-in-Some-solve-default-clause-solve_complete : goal.returns-in-Some-solve-default-clause-solve_complete
+returns-in-Some-solve-default-clause-solve_complete c input proof options taken asks =
+    let texts = map (λ w. w.now) c.args.words.now in
+    let met : subcommand_rows_of c.in-Ok.matches ≡ Some (codes "solve", asks.rows) =
+    (c.in-Ok.ensures.matches (ap is_simple c.in_ok-satcluster.ensures)).1 ∙ ap (λ (a : App). subcommand_of a texts) c.in_ok-satcluster.ensures ∙ asks.command in
+    let rows_are : rows_of (found_of c.in-Some-solve-default.inner.now) ≡ asks.rows =
+    same_rows _ _ (sym (ap (option_map (λ p. rows_of (found_of p.1.now))) c.in-Some-solve-default.is) ∙ c.subcommand.ensures.rows ∙ ap (option_map (λ p. p.1)) met) in
+    absurd (c.in-None.ensures.none input proof options (subst (λ (r : List Row). NamesSolve r input proof options) (sym rows_are) asks.names))
 
 pub returns-in-Some-check-default-clause-complete : goal.returns-in-Some-check-default-clause-complete
 returns-in-Some-check-default-clause-complete c input proof taken asks =
@@ -18,12 +37,7 @@ returns-in-Some-check-default-clause-complete c input proof taken asks =
     (c.in-Ok.ensures.matches (ap is_simple c.in_ok-satcluster.ensures)).1 ∙ ap (λ (a : App). subcommand_of a texts) c.in_ok-satcluster.ensures ∙ asks.command in
     let rows_are : rows_of (found_of c.in-Some-check-default.inner.now) ≡ asks.rows =
     same_rows _ _ (sym (ap (option_map (λ p. rows_of (found_of p.1.now))) c.in-Some-check-default.is) ∙ c.subcommand.ensures.rows ∙ ap (option_map (λ p. p.1)) met) in
-    absurd (c.in-None.ensures.none input proof (subst (λ (r : List Row). NamesFiles r input proof) (sym rows_are) asks.files))
-
-pub returns-in-Err-clause-cubes_complete : goal.returns-in-Err-clause-cubes_complete
-returns-in-Err-clause-cubes_complete c input depth taken asks =
-    let texts = map (λ w. w.now) c.args.words.now in
-    c.fault_of.ensures (c.in-Err.ensures.passes (ap (λ (a : App). takes a texts) c.in_ok-satcluster.ensures ∙ taken.by_rules))
+    absurd (c.in-None-check_request.ensures.none input proof (subst (λ (r : List Row). NamesFiles r input proof) (sym rows_are) asks.files))
 
 pub returns-in-Some-cubes-default-clause-cubes_complete : goal.returns-in-Some-cubes-default-clause-cubes_complete
 returns-in-Some-cubes-default-clause-cubes_complete c input depth taken asks =

@@ -1,0 +1,48 @@
+-- The rules of the program's words, as `clap` takes them.
+use Rattle.std.specs.Prelude.{ℕ, Bool, true, false, [], ◌∷◌, Some, codes}
+use Rattle.clap.specs.Words.{App, Rule, Text, new_app, new_rule, with_rule, with_subcommand}
+use Rattle.clap.specs.declared.builder.ArgAction.TheVariants.{Set, SetTrue}
+use Rattle.clap.specs.declared.builder.value_parser.ValueParser.TheVariants as vp
+
+-- a file, which may have to be named
+abbrev pub file_rule : Text → Bool → Rule
+file_rule name required = record (new_rule name) { action = Some Set; required = required }
+
+-- `--name N`, a number in a range, and another text where it is left out
+abbrev pub number_rule : Text → ℕ → ℕ → Text → Rule
+number_rule name low high default = record (new_rule name) {
+  long = Some name;
+  action = Some Set;
+  parser = Some (vp.Unsigned low high);
+  defaults = default ∷ [];
+}
+
+-- a flag of one letter
+abbrev pub flag_rule : Text → ℕ → Rule
+flag_rule name letter = record (new_rule name) { short = Some letter; action = Some SetTrue }
+
+-- `check INPUT PROOF`
+abbrev pub check_app : App
+check_app = with_rule (with_rule (new_app (codes "check")) (file_rule (codes "INPUT") true)) (file_rule (codes "PROOF") true)
+
+-- `cubes [--depth D] INPUT`, from 0 to 16, else 4
+abbrev pub cubes_app : App
+cubes_app = with_rule (with_rule (new_app (codes "cubes")) (number_rule (codes "depth") 0 16 (codes "4"))) (file_rule (codes "INPUT") true)
+
+-- `q` and `n`
+abbrev pub letter_q : ℕ
+letter_q = 113
+
+abbrev pub letter_n : ℕ
+letter_n = 110
+
+-- `solve [--limit L] [-q] [-n] INPUT [PROOF]`, from 1 to 1,000,000,000, else 100,000
+abbrev pub solve_app : App
+solve_app =
+    with_rule (with_rule (with_rule (with_rule (with_rule (new_app (codes "solve"))
+    (number_rule (codes "limit") 1 1000000000 (codes "100000")))
+    (flag_rule (codes "quiet") letter_q)) (flag_rule (codes "no-witness") letter_n))
+    (file_rule (codes "INPUT") true)) (file_rule (codes "PROOF") false)
+
+abbrev pub program : App
+program = with_subcommand (with_subcommand (with_subcommand (new_app (codes "satcluster")) solve_app.top) check_app.top) cubes_app.top
