@@ -1,0 +1,85 @@
+//! Solves the formulas that are named, and tests what is answered: an assignment by truth, a proof by the checker.
+#![tactic(auto)]
+
+ghost use Rattle.std.specs.Prelude.{◌≡◌, length, IfOk};
+
+use dimacs::number::signed;
+use dimacs::words::next_word;
+use dimacs::{Assignment, Formula, read, satisfies};
+use lrat_check::check;
+use node_main::{Options, solve_here};
+use std::alloc::{AllocError, Global};
+use std::io::Write;
+use std::process::ExitCode;
+use std::rt::Runtime;
+use std::{env, fs, io};
+
+/// The assignment that an answer prints; a variable that it leaves out is false.
+fn printed(alloc: Global, answer: &[u8], vars: u32) -> Result<Assignment, AllocError>
+    ensures { IfOk result (λ a. length a ≡ vars) }
+{
+    let mut values = vec![in alloc; false; vars as usize]?;
+    let mut rest = answer;
+    while let Some((word, more)) = next_word(rest) {
+        match signed(word) {
+            Some(number) if 0 < number.size && number.size <= vars => {
+                values[number.size as usize - 1] = !number.negative;
+            }
+            _ => {}
+        }
+        rest = more;
+    }
+    Ok(Assignment::new(values))
+}
+
+/// What is found of a formula, and whether it stands the test.
+fn found(alloc: Global, input: &[u8], formula: &Formula) -> Result<&'static str, AllocError> {
+    let options = Options {
+        limit: 100_000,
+        quiet: false,
+        witness: true,
+    };
+    let report = solve_here(alloc, input, None, &options)?;
+    match (report.status, &report.proof) {
+        (10, None) => {
+            let assignment = printed(alloc, report.stdout.as_slice(), formula.vars())?;
+            let holds = satisfies(&assignment, formula);
+            Ok(if holds { "satisfied" } else { "NOT SATISFIED" })
+        }
+        (20, Some(proof)) => {
+            let accepted = check(alloc, formula, proof.as_slice()).is_ok();
+            Ok(if accepted { "refuted" } else { "NOT REFUTED" })
+        }
+        _ => Ok("UNKNOWN"),
+    }
+}
+
+/// What is said of a file.
+fn told<R: Runtime + AllocGlobal>(rt: &R, name: &str) -> &'static str {
+    let input = match fs::read(rt, name) {
+        Ok(input) => input,
+        Err(_) => return "CANNOT BE READ",
+    };
+    match read(rt.alloc(), input.as_slice()) {
+        Ok(formula) => found(rt.alloc(), input.as_slice(), &formula).unwrap_or("NO MEMORY"),
+        Err(_) => "NO FORMULA",
+    }
+}
+
+fn run<R: Runtime + AllocGlobal>(rt: &R) -> io::Result<()> {
+    let mut out = io::writer(rt);
+    for name in env::args(rt)?.skip(1) {
+        out.write_all(name.as_str().as_bytes())?;
+        out.write_all(b" ")?;
+        out.write_all(told(rt, name.as_str()).as_bytes())?;
+        out.write_all(b"\n")?;
+    }
+    out.flush()
+}
+
+fn main(rt: HostRuntime) -> ExitCode {
+    match run(&rt) {
+        Ok(()) => ExitCode::SUCCESS,
+        Err(_) => ExitCode::from(1),
+    }
+}
