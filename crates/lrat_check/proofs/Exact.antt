@@ -12,7 +12,7 @@ use Rattle.lrat_check.specs.declared.propagation.Status.{Status}
 use Rattle.lrat_check.specs.declared.propagation.Status.TheVariants.{Satisfied, Falsified, Unit, Undecided}
 use Rattle.lrat_check.specs.declared.fault.StepFault.TheVariants.{HintAfterConflict}
 use Rattle.lrat_check.specs.Faults.{status, status_of_free, not_false, walk, by_hint, by_status, is_empty, Conflict, Fault}
-use Rattle.lrat_check.proofs.Walks.{unit_not_true}
+use Rattle.lrat_check.proofs.Walks.{unit_first, unit_not_true}
 
 filter_member : (p : Literal → Bool) (C : Clause) (l : Literal) → Contains C l → p l ≡ true → Contains (filter p C) l
 filter_member p [] l h t = absurd (Contains-nil l h)
@@ -85,18 +85,10 @@ free_one (j ∷ ls) l m only =
     (list_all_from (same j) ls (λ k n. subst (λ x. same j x ≡ true) (is ∙ sym (only k (Contains-cons j k ls n))) (same-itself j)))
     ∙ ap Unit is
 
-unit_free : (ls : List Literal) (l : Literal) → Unit l ≡ status_of_free ls → Contains ls l
-unit_free [] l e = absurd cc
-unit_free (k ∷ ls) l e = at (list_all (same k) ls) e
-  where
-    at : (b : Bool) → Unit l ≡ cond b (Unit k) Undecided → Contains (k ∷ ls) l
-    at true e = let is : k ≡ l = cc in subst (λ x. Contains (k ∷ ls) x) is (Contains-head k ls)
-    at false e = absurd cc
-
 pub unit_is : (α : Assumed) (C : Clause) (l : Literal) → Unit l ≡ status α C → IsUnit α C l
 unit_is α C l e =
     let free : Unit l ≡ status_of_free (not_false α C) = not_satisfied α C (Unit l) (λ x. cc) e in
-    let here : Contains C l × (not (α (negation l)) ≡ true) = Contains-filter (λ k. not (α (negation k))) C l (unit_free (not_false α C) l free) in
+    let here : Contains C l × (not (α (negation l)) ≡ true) = Contains-filter (λ k. not (α (negation k))) C l (unit_first (not_false α C) l free) in
     record {
       member = here.0;
       not_true = unit_not_true α C l e;
