@@ -15,3 +15,5 @@ mod lines;
 mod nodes;
 #[cfg(test)]
 mod solving;
+#[cfg(test)]
+mod words;
