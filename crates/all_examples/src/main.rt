@@ -35,6 +35,7 @@ fn printed(alloc: Global, answer: &[u8], vars: u32) -> Result<Assignment, AllocE
 /// What is found of a formula, and whether it stands the test.
 fn found(alloc: Global, input: &[u8], formula: &Formula) -> Result<&'static str, AllocError> {
     let options = Options {
+        depth: 4,
         limit: 100_000,
         quiet: false,
         witness: true,

@@ -10,9 +10,21 @@ mod cubes;
 #[cfg(test)]
 mod deletions;
 #[cfg(test)]
+mod fragments;
+#[cfg(test)]
+mod joining;
+#[cfg(test)]
+mod leaves;
+#[cfg(test)]
 mod lines;
 #[cfg(test)]
 mod nodes;
+#[cfg(test)]
+mod pieces;
+#[cfg(test)]
+mod profile;
+#[cfg(test)]
+mod propagators;
 #[cfg(test)]
 mod solving;
 #[cfg(test)]

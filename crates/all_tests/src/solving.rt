@@ -13,11 +13,13 @@ use std::test::Fail;
 const EIGHT: &[u8] =
     b"p cnf 3 8\n1 2 3 0\n1 2 -3 0\n1 -2 3 0\n1 -2 -3 0\n-1 2 3 0\n-1 2 -3 0\n-1 -2 3 0\n-1 -2 -3 0\n";
 
+/// The report of a formula that is not split.
 fn solve_within(alloc: Global, input: &[u8], limit: u64) -> Result<Report, AllocError>
     requires least { 1 ≤ limit }
     requires most { limit ≤ 1000000000 }
 {
     let options = Options {
+        depth: 0,
         limit,
         quiet: false,
         witness: true,
@@ -91,6 +93,7 @@ fn nothing_is_known_at_the_limit(rt: HostRuntime) -> Result<(), Fail> {
 #[test]
 fn options_leave_lines_out(rt: HostRuntime) -> Result<(), Fail> {
     let options = Options {
+        depth: 4,
         limit: 1,
         quiet: true,
         witness: false,

@@ -13,12 +13,14 @@ fn asks(rt: &impl Abort, alloc: Global, words: &[&str], want: Option<Request>) {
 #[test]
 fn an_answer_with_its_defaults(rt: HostRuntime) -> Result<(), Fail> {
     let options = Options {
+        depth: 4,
         limit: 100_000,
         quiet: false,
         witness: true,
     };
     let want = Request::Solve {
         input: "f.cnf",
+        cubes: None,
         proof: None,
         options,
     };
@@ -32,22 +34,30 @@ fn an_answer_with_its_defaults(rt: HostRuntime) -> Result<(), Fail> {
 }
 
 #[test]
-fn an_answer_with_options_and_a_file_for_its_proof(rt: HostRuntime) -> Result<(), Fail> {
+fn an_answer_with_options_and_files_for_its_cubes_and_its_proof(
+    rt: HostRuntime,
+) -> Result<(), Fail> {
     let options = Options {
+        depth: 3,
         limit: 7,
         quiet: true,
         witness: false,
     };
     let want = Request::Solve {
         input: "f.cnf",
+        cubes: Some("f.icnf"),
         proof: Some("f.lrat"),
         options,
     };
     let words = [
         "satcluster",
         "solve",
+        "--depth",
+        "3",
         "--limit",
         "7",
+        "--cubes",
+        "f.icnf",
         "-q",
         "-n",
         "f.cnf",
@@ -96,6 +106,18 @@ fn words_that_are_refused(rt: HostRuntime) -> Result<(), Fail> {
         &rt,
         rt.alloc(),
         &["satcluster", "solve", "--limit", "1000000001", "f.cnf"],
+        None,
+    );
+    asks(
+        &rt,
+        rt.alloc(),
+        &["satcluster", "solve", "--depth", "17", "f.cnf"],
+        None,
+    );
+    asks(
+        &rt,
+        rt.alloc(),
+        &["satcluster", "solve", "f.cnf", "--cubes"],
         None,
     );
     asks(

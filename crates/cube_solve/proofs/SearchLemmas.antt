@@ -1,8 +1,8 @@
 -- What each turn makes of a search, and what its ends come to.
-use Rattle.std.proofs.Common.{◌≡◌, ℕ, ◌+◌, ◌≤◌, ◌⊎◌, inl, inr, Bool, true, false, eqb, List, [], ◌∷◌, ◌++◌, length, map, get_or, refl, sym, ◌∙◌, ap, subst, arith, None}
+use Rattle.std.proofs.Common.{◌≡◌, ℕ, ◌+◌, ◌<◌, ◌≤◌, ◌⊎◌, inl, inr, Bool, true, false, eqb, List, [], ◌∷◌, ◌++◌, length, map, get_or, refl, sym, ◌∙◌, ap, subst, arith, None}
 use Rattle.std.specs.List.{All, Contains, IsDistinct, list_any}
 use Rattle.std.specs.FinMap.{get, insert}
-use Rattle.std.proofs.lemmas.Bool.{cases_Bool, or_left, or_right, eq-eqb}
+use Rattle.std.proofs.lemmas.Bool.{both_ways, cases_Bool, or_left, or_right, eq-eqb}
 use Rattle.std.proofs.lemmas.List.Elements.{All-contains}
 use Rattle.std.proofs.lemmas.Map.Keys.{IsDistinct-tail}
 use Rattle.dimacs.specs.Cnf.{Cnf, member_of}
@@ -17,24 +17,28 @@ use Rattle.lrat_text.specs.Log.{Cube, Closes, IsHonest}
 use Rattle.lrat_text.specs.Writing.{line_text}
 use Rattle.lrat_text.specs.declared.step.Step.{Step}
 use Rattle.lrat_text.specs.declared.step.Step.TheVariants.{Add}
+use Rattle.lrat_text.proofs.ClauseMapLemmas.{not_in, numbered_between, numbered_at}
 use Rattle.lrat_text.proofs.LineLemmas.{written_spells, written_one_line}
 use Rattle.watches.specs.declared.trail.Assigned.{Assigned}
-use Rattle.watches.specs.Law.{AllCalm, AreSame, IsCalm}
-use Rattle.watches.specs.Trails.{TrailValue, holds, present}
+use Rattle.watches.specs.Law.{AllCalm, AreSame, IsCalm, IsConflict}
+use Rattle.watches.specs.Trails.{TrailValue, IsTrailValue, holds, present, up_to}
 use Rattle.watches.proofs.TrailLemmas.{head_alone}
 use Rattle.conflict_analysis.specs.Built.{AreBuilt}
 use Rattle.conflict_analysis.specs.Lemmas.{IsDecision, NegatesAssumptions}
 use Rattle.conflict_analysis.specs.declared.closing.Closing.TheVariants as closing
+use Rattle.conflict_analysis.proofs.Concluding.{above_cut}
+use Rattle.cube_solve.specs.Conflicts.{AllHold, MeetsConflict, after_steps}
 use Rattle.cube_solve.specs.Ends.{Satisfies}
-use Rattle.cube_solve.specs.Learning.{after_steps, top_of, AreBelow, IsLearnt, IsWritten, Learns, IsSearch}
-use Rattle.cube_solve.specs.Levels.{AreLinked}
+use Rattle.cube_solve.specs.Learning.{top_of, AreBelow, IsLearnt, IsWritten, Learns, IsSearch}
+use Rattle.cube_solve.specs.Levels.{AreLinked, IsAdded}
 use Rattle.cube_solve.specs.Outcome.{IsModel, IsBrief, IsFresh}
-use Rattle.cube_solve.specs.State.{IsState, IsAssuming, AllHold, IsTotal}
-use Rattle.cube_solve.proofs.AssumingLemmas.{assuming_below, level_le}
-use Rattle.cube_solve.proofs.BuiltLemmas.{sound}
+use Rattle.cube_solve.specs.State.{IsState, IsAssuming, IsTotal}
+use Rattle.cube_solve.proofs.AssumingLemmas.{assuming_all, assuming_up_to, assuming_below, level_le}
+use Rattle.cube_solve.proofs.BuiltLemmas.{sound, built_same, decision_above}
 use Rattle.cube_solve.proofs.ClauseLemmas.{same_back, same_forth, twins_trans, linked_same, linked_more, linked_turned}
+use Rattle.cube_solve.proofs.LevelLemmas.{quiet_fewer}
 use Rattle.cube_solve.proofs.LogLemmas.{spells_push, log_push, fresh_push, additions_push, after_push, top_push, rup_same, new_same}
-use Rattle.cube_solve.proofs.MapLemmas.{map_added, not_in, numbered_between, numbered_at}
+use Rattle.cube_solve.proofs.MapLemmas.{map_added}
 
 -- ---- the cube
 variable_from : (q : Cube) (l : Literal) (v : ℕ) → Contains q l → var_of l ≡ v → list_any (eqb v) (map var_of q) ≡ true
@@ -160,9 +164,43 @@ search_learns B q n id m k t u a before text is number h g v assumes = record {
   learnt = learnt_more B t.vars n id (live_of m) (live_of k) before text h.vars is number (λ j C i. let b = h.below j C i in let up = b.1 in (b.0, omega arith)) h.learnt g;
 }
 
+-- behind a restart
+pub search_cut : (B : Cnf) (q : Cube) (n : ℕ) (m : Clauses) (t u : TrailValue) (a : ℕ) (text : List ℕ) → IsSearch B q n m t a text → u.vars ≡ t.vars → IsAssuming q u.entries a → IsSearch B q n m u a text
+search_cut B q n m t u a text h v assumes = record {
+  vars = v ∙ h.vars;
+  assuming = assumes;
+  below = h.below;
+  kept = h.kept;
+  learnt = h.learnt;
+}
+
 -- ---- the ends
-pub limited : (B : Cnf) (n limit : ℕ) (live : Live) (text : List ℕ) → IsLearnt B text n live → n ≡ limit → IsHonest B limit text × IsFresh B text
-limited B n limit live text l e = ((l.steps, l.spells, l.log, l.count ∙ e), record { steps = l.steps; spells = l.spells; fresh = l.fresh })
+pub limited : (B : Cnf) (q : Cube) (limit n number : ℕ) (att : List ℕ) (m : Clauses) (t : TrailValue) (a : ℕ) (text : List ℕ) → IsSearch B q n m t a text → IsState att m t → IsTrailValue t
+    → IsConflict (live_of m) t.entries number → a < present t.entries → n ≡ limit → IsHonest B limit text × IsFresh B text × MeetsConflict B q text
+limited B q limit n number att m t a text h s v c above e =
+    let l = h.learnt in
+    let back = linked_turned (live_in (after_steps (map_of B) l.steps)) (live_of m) l.linked in
+    let d = decision_above (live_of m) a [] t.entries s.built (omega arith) above in
+    let f = back.forth number c.0 c.1 in (
+      (l.steps, l.spells, l.log, l.count ∙ e),
+      record { steps = l.steps; spells = l.spells; fresh = l.fresh },
+      record {
+        steps = l.steps;
+        spells = l.spells;
+        conflict = record {
+          trail = t.entries;
+          within = subst (λ vars. All (λ x. IsWithin vars x.literal) t.entries) h.vars v.within;
+          built = built_same (live_of m) (live_in (after_steps (map_of B) l.steps)) back.forth [] t.entries s.built;
+          quiet = quiet_fewer (live_of m) (live_in (after_steps (map_of B) l.steps)) t.entries back.back s.quiet;
+          cube = assuming_all q t.entries a h.assuming above;
+          decision = (d.0).literal;
+          decided = (d.0, d.1, refl, d.2);
+          outside = λ i. both_ways (up_to t.entries a (d.0).literal) (above_cut t.entries d.0 a v.apart d.1 d.3) (assuming_up_to q t.entries a h.assuming above (d.0).literal i);
+          number = number;
+          conflict = (f.0, f.1, λ k i. c.2 k ((f.2 k).1 i));
+        };
+      },
+    )
 
 true_or_false : (t : TrailValue) (C : Clause) → ((l : Literal) → Contains C l → IsWithin t.vars l) → IsTotal t
     → ((l : Literal) × Contains C l × (holds t.entries l ≡ true) × IsWithin t.vars l) ⊎ IsFalse (holds t.entries) C
@@ -213,6 +251,13 @@ below_next B q n id m k t a text is h s = λ j D i.
     let b = h.below j c.0 c.1 in
     let up = b.1 in
     (b.0, omega arith)
+
+-- behind the lemma of a number the live numbers are below the next
+pub below_more : (id : ℕ) (old new : Live) (lits : Clause) → IsClauseNumber id → AreBelow id old → IsAdded old id lits new → AreBelow (id + 1) new
+below_more id old new lits number below add j D i = elim (add.only j D i) [
+  | inl o ↦ (let b = below j o.0 o.1 in let up = b.1 in (b.0, omega arith))
+  | inr o ↦ (let e = o.0 in let low = number.0 in (omega arith, omega arith))
+]
 
 -- the truth values that are read from the trail
 pub model_read : (B : Cnf) (q : Cube) (t : TrailValue) (values : List Bool) → All (IsWithin B.vars) q → Satisfies B q t → length values ≡ t.vars

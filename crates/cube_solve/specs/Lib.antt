@@ -1,7 +1,10 @@
+pub mod Conflicts
 pub mod Ends
-pub mod Levels
+pub mod Forgetting
 pub mod Learning
+pub mod Levels
 pub mod Marks
+pub mod Order
 pub mod Outcome
 pub mod State
 pub mod Steps

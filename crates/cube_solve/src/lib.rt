@@ -1,13 +1,17 @@
 //! Solving under a cube.
 //!
 //! A conflict-driven search (Marques-Silva and Sakallah 1996) under a cube of assumptions: it propagates, assumes the cube's
-//! literals, decides the lowest free variable, false, and learns from each conflict. What a layer above may rest on: the three
-//! outcomes of [`solve`], each by its clause. It ends for every limit.
+//! literals, decides the free variable of the greatest score with its last value, and learns from each conflict. It restarts
+//! from time to time, and forgets lemmas when there are many. What a layer above may rest on: the three outcomes of
+//! [`solve`], each by its clause. It ends for every limit.
 #![tactic(auto)]
 
 mod descent;
+mod forgetting;
 mod loading;
+mod order;
 mod outcome;
+mod pace;
 mod picking;
 mod reading;
 mod search;
@@ -15,7 +19,7 @@ mod solving;
 mod writing;
 
 pub use outcome::Outcome;
-pub use solving::solve;
+pub use solving::{solve, solve_by};
 
 #[cfg(test)]
 mod tests;

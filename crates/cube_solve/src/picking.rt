@@ -1,10 +1,14 @@
 //! What to assume or decide next.
 
-ghost use Rattle.std.specs.Prelude.{◌≤◌, All};
-ghost use Rattle.dimacs.specs.Literal.{IsWithin};
+ghost use Rattle.std.specs.Prelude.{List, All};
+ghost use Rattle.dimacs.specs.Literal.{Literal, IsWithin};
+ghost use Rattle.cube_solve.specs.Conflicts.{AllHold};
+ghost use Rattle.cube_solve.specs.Order.{IsOrder, IsTaken};
+ghost use Rattle.cube_solve.specs.State.{IsAssuming};
 ghost use Rattle.cube_solve.specs.Steps.{IsNext};
 
-use dimacs::{Lit, Var};
+use crate::order::Order;
+use dimacs::Lit;
 use watches::{Trail, Truth};
 
 /// What is to be done where nothing is left to propagate.
@@ -19,12 +23,30 @@ pub(crate) enum Next {
     Done,
 }
 
-/// The first literal of the cube that is not true, and then the lowest variable without a value, negated.
-pub(crate) fn pick(trail: &Trail, cube: &[Lit]) -> Next
-    requires limit { trail.now.vars ≤ 2000000 }
-    requires cube { All (IsWithin trail.now.vars) cube.now }
-    ensures { IsNext trail.now cube.now result }
+/// The best variable without a value, with its last one, where the cube is true.
+fn decide(trail: &Trail, order: &mut Order) -> Next
+    requires { IsOrder trail.now order.old }
+    ensures next { (cube : List Literal) → AllHold trail.now.entries cube → IsNext trail.now cube result }
+    ensures taken { IsTaken trail.now result order.new }
 {
+    match order.take(trail) {
+        Some(literal) => Next::Decide(literal),
+        None => Next::Done,
+    }
+}
+
+/// The first literal of the cube that is not true, and then the best variable without a value. Above the levels of
+/// assumptions the cube is true, so that no decision there looks at it.
+pub(crate) fn pick(trail: &Trail, cube: &[Lit], assumed: u32, order: &mut Order) -> Next
+    requires cube { All (IsWithin trail.now.vars) cube.now }
+    requires order { IsOrder trail.now order.old }
+    requires assumed { IsAssuming cube.now trail.now.entries assumed }
+    ensures next { IsNext trail.now cube.now result }
+    ensures taken { IsTaken trail.now result order.new }
+{
+    if trail.level() > assumed {
+        return decide(trail, order);
+    }
     for &literal in cube {
         match trail.value(literal) {
             Truth::True => {}
@@ -32,13 +54,5 @@ pub(crate) fn pick(trail: &Trail, cube: &[Lit]) -> Next
             Truth::Free => return Next::Assume(literal),
         }
     }
-    for number in 1..trail.vars() + 1 {
-        let literal = Lit::negative(Var::new(number));
-        match trail.value(literal) {
-            Truth::Free => return Next::Decide(literal),
-            Truth::True => {}
-            Truth::False => {}
-        }
-    }
-    Next::Done
+    decide(trail, order)
 }

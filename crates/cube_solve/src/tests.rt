@@ -3,6 +3,7 @@
 ghost use Rattle.std.specs.Prelude.{◌≡◌, ◌≤◌};
 ghost use Rattle.dimacs.specs.Literal.{Pos, IsWithin};
 
+use crate::pace::Pace;
 use crate::{Outcome, solve};
 use dimacs::{Base, Lit, Var, read};
 use std::alloc::{AllocError, Global};
@@ -90,7 +91,7 @@ fn a_log_has_as_many_lemmas_as_the_limit(rt: HostRuntime) -> Result<(), Fail> {
     let two = limited(solve_alone(rt.alloc(), &base, 2)?).ok_or("no limit")?;
     assert_eq!(rt; two.iter().filter(|b| **b == b'\n').count(), 2);
     assert!(rt; two.starts_with(&one));
-    let all = refuted(solve_alone(rt.alloc(), &base, u64::MAX)?).ok_or("not refuted")?;
+    let all = refuted(solve_alone(rt.alloc(), &base, 19)?).ok_or("not refuted")?;
     assert!(rt; all.starts_with(&two));
     Ok(())
 }
@@ -131,7 +132,7 @@ fn units_decide(rt: HostRuntime) -> Result<(), Fail> {
     assert_eq!(rt; values.as_slice(), [true, false, true].as_slice());
     let both = base_of(rt.alloc(), b"p cnf 1 2\n1 0\n-1 0\n")?;
     let text = refuted(solve_alone(rt.alloc(), &both, 0)?).ok_or("not refuted")?;
-    assert_eq!(rt; text.as_slice(), b"3 0 1 2 0\n".as_slice());
+    assert_eq!(rt; text.as_slice(), b"3 0 2 1 0\n".as_slice());
     Ok(())
 }
 
@@ -150,5 +151,36 @@ fn a_model_holds_the_cube(rt: HostRuntime) -> Result<(), Fail> {
     let outcome = solve_under(rt.alloc(), &base, pos(2), 0)?;
     let values = model(outcome).ok_or("no model")?;
     assert_eq!(rt; values.as_slice(), [false, true, false].as_slice());
+    Ok(())
+}
+
+#[test]
+fn restarts_come_by_the_luby_sequence(rt: HostRuntime) -> Result<(), Fail> {
+    let mut pace = Pace::new();
+    let mut restarts = Vec::new(rt.alloc());
+    for conflict in 1..1201u64 {
+        pace.count();
+        if pace.restarts() {
+            restarts.push(conflict)?;
+        }
+    }
+    assert_eq!(rt;
+        restarts.as_slice(),
+        [100, 200, 400, 500, 600, 800, 1200].as_slice()
+    );
+    Ok(())
+}
+
+#[test]
+fn scores_are_halved_every_256_conflicts(rt: HostRuntime) -> Result<(), Fail> {
+    let mut pace = Pace::new();
+    let mut halvings = Vec::new(rt.alloc());
+    for conflict in 1..1200u64 {
+        pace.count();
+        if pace.halves() {
+            halvings.push(conflict)?;
+        }
+    }
+    assert_eq!(rt; halvings.as_slice(), [256, 512, 768, 1024].as_slice());
     Ok(())
 }

@@ -33,11 +33,11 @@ free_from (l ∷ S) w p n =
     let ns = or_parts (same (Neg w) l) (has S (Neg w)) n in
     All-cons (λ l. var_of l ≢ w) l S (differs w l ps.0 ns.0) (free_from S w ps.1 ns.1)
 
-free_positive : (S : List Literal) (w : ℕ) → IsFree S w → has S (Pos w) ≡ false
+pub free_positive : (S : List Literal) (w : ℕ) → IsFree S w → has S (Pos w) ≡ false
 free_positive [] w h = refl
 free_positive (l ∷ S) w h = or_from (same (Pos w) l) (has S (Pos w)) (not_positive w l (All-head (λ l. var_of l ≢ w) l S h)) (free_positive S w (All-tail (λ l. var_of l ≢ w) l S h))
 
-free_negative : (S : List Literal) (w : ℕ) → IsFree S w → has S (Neg w) ≡ false
+pub free_negative : (S : List Literal) (w : ℕ) → IsFree S w → has S (Neg w) ≡ false
 free_negative [] w h = refl
 free_negative (l ∷ S) w h = or_from (same (Neg w) l) (has S (Neg w)) (not_negative w l (All-head (λ l. var_of l ≢ w) l S h)) (free_negative S w (All-tail (λ l. var_of l ≢ w) l S h))
 

@@ -32,11 +32,11 @@ or_found : (a b : Bool) → b ≡ true → (a || b) ≡ true
 or_found true b e = refl
 or_found false b e = e
 
-variable_at : (C : Clause) (i : ℕ) (l : Literal) (w : ℕ) → i < length C → l ≡ get_or C i l → var_of l ≡ w → has_variable (take (i + 1) C) w ≡ true
+pub variable_at : (C : Clause) (i : ℕ) (l : Literal) (w : ℕ) → i < length C → l ≡ get_or C i l → var_of l ≡ w → has_variable (take (i + 1) C) w ≡ true
 variable_at C i l w below is e =
     list_any_more (λ x. eqb (var_of x) w) C i l below ∙ or_found (has_variable (take i C) w) (eqb (var_of (get_or C i l)) w) (eq-eqb _ _ (ap var_of (sym is) ∙ e))
 
-variable_other : (C : Clause) (i : ℕ) (l : Literal) (w : ℕ) → i < length C → l ≡ get_or C i l → (var_of l ≡ w → ⊥) → has_variable (take (i + 1) C) w ≡ has_variable (take i C) w
+pub variable_other : (C : Clause) (i : ℕ) (l : Literal) (w : ℕ) → i < length C → l ≡ get_or C i l → (var_of l ≡ w → ⊥) → has_variable (take (i + 1) C) w ≡ has_variable (take i C) w
 variable_other C i l w below is ne =
     list_any_more (λ x. eqb (var_of x) w) C i l below ∙ or_kept (has_variable (take i C) w) (eqb (var_of (get_or C i l)) w) (ne_eqb _ _ (λ e. ne (ap var_of is ∙ e)))
 

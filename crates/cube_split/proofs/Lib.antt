@@ -1,8 +1,13 @@
 pub mod ChoiceLemmas
 pub mod CountLemmas
 pub mod GreatestLemmas
+pub mod LevelLemmas
 pub mod MarkLemmas
+pub mod OpenLemmas
+pub mod PlaceLemmas
 pub mod PureLemmas
 pub mod RatLemmas
 pub mod SplitLemmas
+pub mod TurnLemmas
 pub mod UnitLemmas
+pub mod WalkLemmas

@@ -1,3 +1,6 @@
 pub mod Choice
 pub mod Marks
+pub mod Open
+pub mod Places
 pub mod Splitting
+pub mod Walking

@@ -19,3 +19,9 @@ pub record IsGreatest (marks : List Bool) (counts : List ℕ) (last v : ℕ) : T
   pub some : 0 < slice_index counts v
   pub most : (w : ℕ) → 0 < w → w ≤ last → IsUnmarked marks w → slice_index counts w ≤ slice_index counts v
   pub lowest : (w : ℕ) → 0 < w → w ≤ last → IsUnmarked marks w → slice_index counts w ≡ slice_index counts v → v ≤ w
+
+-- variables rise, and each that has a count above 0 is among them
+pub record AreListed (counts variables : List ℕ) : Type 0 where
+  pub inside : (k : ℕ) → k < length variables → (0 < slice_index variables k) × (slice_index variables k < length counts)
+  pub rising : (j k : ℕ) → j < k → k < length variables → slice_index variables j < slice_index variables k
+  pub listed : (w : ℕ) → 0 < w → w < length counts → 0 < slice_index counts w → (k : ℕ) × (k < length variables) × (slice_index variables k ≡ w)

@@ -9,9 +9,12 @@ mod chooser;
 mod counting;
 mod laws;
 mod marks;
+mod open;
+mod places;
 mod pure;
 mod splitting;
 mod units;
+mod walk;
 
 pub use chooser::Chooser;
 pub use laws::units_are_rat;

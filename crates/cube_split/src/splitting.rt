@@ -1,16 +1,16 @@
 //! Trees that are grown leaf by leaf, or by the split rule.
 
-ghost use Rattle.std.specs.Prelude.{◌≡◌, ◌+◌, ◌^◌, ◌<◌, ◌≤◌, [], ◌++◌, ◌⊎◌, length, slice_index_or, vec_len, IfOk, IfSome, IfNone, OnOk, OnErr};
-ghost use Rattle.dimacs.specs.Base.{pure_literals};
+ghost use Rattle.std.specs.Prelude.{◌≡◌, ◌+◌, ◌^◌, ◌<◌, ◌≤◌, List, [], ◌∷◌, ◌++◌, ◌⊎◌, length, slice_index_or, vec_len, IfOk, IfSome, IfNone, OnOk, OnErr};
 ghost use Rattle.dimacs.specs.Building.{greatest_in};
-ghost use Rattle.dimacs.specs.Cnf.{AreWithin};
-ghost use Rattle.icnf.specs.Leaves.{IsFree, branched};
+ghost use Rattle.dimacs.specs.Cnf.{Cnf, AreWithin};
+ghost use Rattle.dimacs.specs.Literal.{Literal, var_of};
+ghost use Rattle.icnf.specs.Leaves.{Cube, IsFree, branched};
 ghost use Rattle.cube_split.specs.Choice.{IsChoice, HasNoChoice};
-ghost use Rattle.cube_split.specs.Splitting.{IsSplit, IsTreeOf, AppendsSplit};
+ghost use Rattle.cube_split.specs.Splitting.{IsTreeOf, AppendsSplit};
+ghost use Rattle.cube_split.specs.Walking.{StandsAt};
 
-use crate::chooser::Chooser;
 use crate::pure::preamble;
-use crate::units::Preamble;
+use crate::walk::Walk;
 use dimacs::{Formula, Lit, Var};
 use icnf::{Tree, TreeBuilder};
 use std::alloc::{AllocError, Global};
@@ -28,52 +28,65 @@ pub fn grow(tree: &mut Tree, leaf: usize, var: Var) -> Result<(), AllocError>
     tree.split(leaf, var)
 }
 
-/// The variable on which the cube of a path is split, where so many levels may follow.
-fn next_split(
-    chooser: &mut Chooser,
-    formula: &Formula,
-    preamble: &Preamble,
-    path: &[Lit],
-    levels: u32,
-) -> Option<Var>
-    requires { formula.now.vars ≤ chooser.old }
-    ensures room { chooser.new ≡ chooser.old }
-    ensures none { IfNone result ((levels ≡ 0) ⊎ HasNoChoice formula.now (preamble.now ++ path.now)) }
-    ensures some { IfSome result (λ v. (0 < levels) × IsChoice formula.now (preamble.now ++ path.now) v) }
+/// The variable on which the cube of a walk's path is split, where so many levels may follow.
+fn next_split(walk: &Walk, levels: u32) -> Option<Var>
+    requires { (f : Cnf) × (units : List Literal) × (path : Cube) × StandsAt f units path walk.now }
+    ensures none { IfNone result ((f : Cnf) (units : List Literal) (path : Cube) → StandsAt f units path walk.now → (levels ≡ 0) ⊎ HasNoChoice f (units ++ path)) }
+    ensures some { IfSome result (λ v. (f : Cnf) (units : List Literal) (path : Cube) → StandsAt f units path walk.now → (0 < levels) × IsChoice f (units ++ path) v) }
 {
     if levels == 0 {
         return None;
     }
-    chooser.choose(formula, preamble, path)
+    walk.choice()
+}
+
+/// Appends the cubes below a path that goes on along a literal, split by the rule so many levels deep.
+#[cycle(growing)]
+fn append_branch(
+    walk: &mut Walk,
+    leaves: &mut TreeBuilder,
+    path: &mut Vec<Lit>,
+    literal: Lit,
+    levels: u32,
+) -> Result<(), AllocError>
+    requires stands { (f : Cnf) × (units : List Literal) × StandsAt f units path.old.items walk.old × IsFree (units ++ path.old.items) (var_of literal) × (var_of literal ≤ f.vars) }
+    requires room { length leaves.old + 2 ^ levels ≤ 65536 }
+    requires short { vec_len path.old + levels < 64 }
+    ensures stands { OnOk result ((f : Cnf) (units : List Literal) → StandsAt f units path.old.items walk.old → IsFree (units ++ path.old.items) (var_of literal) → StandsAt f units path.old.items walk.new) }
+    ensures path { OnOk result (path.new.items ≡ path.old.items) }
+    ensures room { OnOk result (length leaves.new ≤ length leaves.old + 2 ^ levels) }
+    ensures split { OnOk result ((f : Cnf) (units : List Literal) → StandsAt f units path.old.items walk.old →
+        AppendsSplit f units levels (path.old.items ++ literal ∷ []) leaves.old leaves.new) }
+{
+    walk.enter(path, literal);
+    path.push(literal)?;
+    append_below(walk, leaves, path, levels)?;
+    path.pop();
+    walk.leave(path, literal);
+    Ok(())
 }
 
 /// Appends the cubes below a path, split by the rule so many levels deep.
+#[cycle(growing)]
 fn append_below(
-    chooser: &mut Chooser,
-    formula: &Formula,
-    preamble: &Preamble,
+    walk: &mut Walk,
     leaves: &mut TreeBuilder,
     path: &mut Vec<Lit>,
     levels: u32,
 ) -> Result<(), AllocError>
-    requires vars { formula.now.vars ≤ chooser.old }
+    requires stands { (f : Cnf) × (units : List Literal) × StandsAt f units path.old.items walk.old }
     requires room { length leaves.old + 2 ^ levels ≤ 65536 }
     requires short { vec_len path.old + levels ≤ 64 }
-    ensures vars { chooser.new ≡ chooser.old }
+    ensures stands { OnOk result ((f : Cnf) (units : List Literal) → StandsAt f units path.old.items walk.old → StandsAt f units path.old.items walk.new) }
     ensures path { OnOk result (path.new.items ≡ path.old.items) }
     ensures room { OnOk result (length leaves.new ≤ length leaves.old + 2 ^ levels) }
-    ensures split { OnOk result (AppendsSplit formula.now preamble.now levels path.old.items leaves.old leaves.new) }
+    ensures split { OnOk result ((f : Cnf) (units : List Literal) → StandsAt f units path.old.items walk.old → AppendsSplit f units levels path.old.items leaves.old leaves.new) }
 {
-    match next_split(chooser, formula, preamble, path, levels) {
+    match next_split(walk, levels) {
         None => leaves.push(path),
         Some(var) => {
-            path.push(Lit::positive(var))?;
-            append_below(chooser, formula, preamble, leaves, path, levels - 1)?;
-            path.pop();
-            path.push(Lit::negative(var))?;
-            append_below(chooser, formula, preamble, leaves, path, levels - 1)?;
-            path.pop();
-            Ok(())
+            append_branch(walk, leaves, path, Lit::positive(var), levels - 1)?;
+            append_branch(walk, leaves, path, Lit::negative(var), levels - 1)
         }
     }
 }
@@ -87,16 +100,9 @@ pub fn tree(alloc: Global, formula: &Formula, depth: u32) -> Result<Tree, AllocE
     ensures within { IfOk result (AreWithin (greatest_in formula.now.clauses)) }
 {
     let preamble = preamble(alloc, formula)?;
-    let mut chooser = Chooser::reserve(alloc, formula.vars())?;
+    let mut walk = Walk::begin(alloc, formula, &preamble)?;
     let mut leaves = TreeBuilder::new(alloc);
     let mut path = Vec::new(alloc);
-    append_below(
-        &mut chooser,
-        formula,
-        &preamble,
-        &mut leaves,
-        &mut path,
-        depth,
-    )?;
+    append_below(&mut walk, &mut leaves, &mut path, depth)?;
     Ok(leaves.finish())
 }

@@ -1,4 +1,5 @@
 pub mod BodyLemmas
+pub mod DistinctLemmas
 pub mod LeavesLemmas
 pub mod LineLemmas
 pub mod RunLemmas

@@ -3,9 +3,12 @@ pub mod Blocked
 pub mod Candidates
 pub mod Changes
 pub mod Checked
+pub mod Counted
 pub mod Counting
 pub mod Exact
 pub mod Formula
+pub mod Fragments
+pub mod FragmentLines
 pub mod Free
 pub mod Lines
 pub mod Loop
@@ -17,6 +20,7 @@ pub mod Places
 pub mod RatExact
 pub mod Running
 pub mod Sound
+pub mod Streams
 pub mod Tables
 pub mod Taken
 pub mod Truth

@@ -1,10 +1,13 @@
 pub mod Checking
 pub mod Faults
+pub mod Fragments
+pub mod FragmentFaults
 pub mod Holding
 pub mod Marks
 pub mod Numbers
 pub mod Soundness
 pub mod State
+pub mod Stream
 pub mod Table
 pub mod Verdicts
 pub mod Cell

@@ -1,10 +1,14 @@
 //! Theorems on the checker's definitions. There is nothing to run: each contract is a theorem.
 
-ghost use Rattle.std.specs.Prelude.{◌≡◌, ℕ, None};
+ghost use Rattle.std.specs.Prelude.{◌≡◌, ℕ, List, None, Ok};
 ghost use Rattle.dimacs.specs.ClauseMap.{ClauseMap};
-ghost use Rattle.lrat_text.specs.Proof.{TakesStep};
+ghost use Rattle.dimacs.specs.Cnf.{Cnf};
+ghost use Rattle.lrat_text.specs.Log.{Cube, Closes};
+ghost use Rattle.lrat_text.specs.Proof.{Accepts, TakesStep};
 ghost use Rattle.lrat_text.specs.declared.step.Step.{Step};
+ghost use Rattle.lrat_check.specs.Checking.{check_of};
 ghost use Rattle.lrat_check.specs.Faults.{step_fault, live_after, top_after};
+ghost use Rattle.lrat_check.specs.Fragments.{fragment_of};
 ghost use Rattle.lrat_check.specs.Soundness.{Soundness};
 ghost use Rattle.lrat_check.specs.Verdicts.{Agreement};
 
@@ -23,4 +27,16 @@ pub fn step_fault_is_exact()
     ensures taken { (M : ClauseMap) (top : ℕ) (step : Step) → step_fault M top step ≡ None → TakesStep M top step (live_after M step) (top_after top step) }
     ensures no_fault { (M M' : ClauseMap) (top top' : ℕ) (step : Step) → TakesStep M top step M' top'
         → (step_fault M top step ≡ None) × (M' ≡ live_after M step) × (top' ≡ top_after top step) }
+{}
+
+/// A text has no fault exactly where it is an accepted proof.
+pub fn proof_fault_is_exact()
+    ensures accepted { (F : Cnf) (text : List ℕ) → check_of F text ≡ Ok tt → Accepts F text }
+    ensures none { (F : Cnf) (text : List ℕ) → Accepts F text → check_of F text ≡ Ok tt }
+{}
+
+/// A fragment has no fault exactly where it closes the cube over the base.
+pub fn fragment_fault_is_exact()
+    ensures closes { (B : Cnf) (q : Cube) (text : List ℕ) → fragment_of B q text ≡ Ok tt → Closes B q text }
+    ensures none { (B : Cnf) (q : Cube) (text : List ℕ) → Closes B q text → fragment_of B q text ≡ Ok tt }
 {}

@@ -8,6 +8,7 @@ mod checker;
 mod checking;
 mod counts;
 mod fault;
+mod fragment;
 mod groups;
 mod laws;
 mod lemma;
@@ -17,11 +18,17 @@ mod propagation;
 mod room;
 mod slot;
 mod store;
+mod stream;
 mod table;
 mod verdict;
 
 pub use checker::Checker;
-pub use checking::{CheckFault, check};
+pub use checking::CheckFault;
 pub use fault::StepFault;
-pub use laws::{right_verdicts_agree, soundness, step_fault_is_exact};
+pub use fragment::check_fragment;
+pub use laws::{
+    fragment_fault_is_exact, proof_fault_is_exact, right_verdicts_agree, soundness,
+    step_fault_is_exact,
+};
+pub use stream::{StreamChecker, check, check_pieces};
 pub use verdict::{ProofText, Reaction, Verdict};

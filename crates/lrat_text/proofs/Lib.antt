@@ -1,10 +1,15 @@
+pub mod DigitLemmas
+pub mod ClauseMapLemmas
+pub mod CountingLemmas
 pub mod GroupLemmas
 pub mod LineLemmas
 pub mod LogLemmas
 pub mod NextLemmas
 pub mod NumberLemmas
+pub mod PieceLemmas
 pub mod ReadStepLemmas
 pub mod ReadingLemmas
+pub mod RunLemmas
 pub mod SpelledStepLemmas
 pub mod SpellingLemmas
 pub mod TokenLemmas

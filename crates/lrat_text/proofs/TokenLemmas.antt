@@ -1,49 +1,19 @@
 -- The tokens of a line.
-use Rattle.std.proofs.Common.{◌≡◌, ℕ, zero, suc, ◌+◌, ◌-◌, ◌*◌, ◌<◌, ◌≤◌, ◌^◌, min, Bool, true, false, ◌&&◌, cond, eqb, List, [], ◌∷◌, ◌++◌, Option, Some, None, length, get_or, take, drop, refl, sym, ap, ◌∙◌, arith, one-add, add-one, add-zero, length-take, length-drop, get_or-drop, drop-cons, ⊎_elim, map}
+use Rattle.std.proofs.Common.{◌≡◌, ℕ, zero, suc, ◌+◌, ◌-◌, ◌<◌, ◌≤◌, Bool, true, false, ◌&&◌, cond, eqb, List, [], ◌∷◌, length, get_or, take, drop, refl, sym, ap, ◌∙◌, arith, one-add, add-one, add-zero, length-take, length-drop, get_or-drop, drop-cons, ⊎_elim, map}
 use Rattle.std.specs.List.{slice_split, filter, prefix_len, position_or_len, after_first}
-use Rattle.std.specs.Option.{option_map, option_and_then}
-use Rattle.std.specs.Char.{is_ascii_digit}
+use Rattle.std.specs.Option.{option_and_then}
 use Rattle.std.proofs.lemmas.Bool.{cases_lt, ne_eqb}
-use Rattle.std.proofs.lemmas.List.{take_all, drop_all, take_more}
+use Rattle.std.proofs.lemmas.List.{take_all, drop_all}
 use Rattle.std.proofs.lemmas.List.Elements.{All-from_get_or}
 use Rattle.std.proofs.lemmas.List.Sums.{passes_at_first, fails_before_first, prefix_len_stops}
 use Rattle.std.proofs.lemmas.List.Splits.{slice_split-cons_yes, slice_split_first, slice_split_none}
 use Rattle.dimacs.specs.Words.{is_some_byte}
-use Rattle.dimacs.specs.Numbers.{digits_from, natural, number, positive, negated}
+use Rattle.dimacs.specs.Numbers.{natural, number, positive, negated}
 use Rattle.lrat_text.specs.declared.token.Token.{Token}
 use Rattle.lrat_text.specs.declared.token.Token.TheVariants.{Letter}
 use Rattle.lrat_text.specs.Grammar.{tokens}
-use Rattle.lrat_text.specs.Tokens.{is_space, with_digit}
+use Rattle.lrat_text.specs.Tokens.{is_space}
 use Rattle.lrat_text.specs.Reading.{token_of, line_tokens, number_token}
-
--- ---- digits
-
-abbrev one_digit : ℕ → ℕ → Option ℕ
-one_digit b n = cond (is_ascii_digit b) (Some (10 * n + (b - 48))) None
-
-digits_snoc : (xs : List ℕ) (b n : ℕ) → digits_from n (xs ++ b ∷ []) ≡ option_and_then (one_digit b) (digits_from n xs)
-digits_snoc [] b n = refl
-digits_snoc (x ∷ xs) b n = by_digit (is_ascii_digit x) (digits_snoc xs b (10 * n + (x - 48)))
-  where
-    by_digit : (t : Bool) → digits_from (10 * n + (x - 48)) (xs ++ b ∷ []) ≡ option_and_then (one_digit b) (digits_from (10 * n + (x - 48)) xs)
-        → cond t (digits_from (10 * n + (x - 48)) (xs ++ b ∷ [])) None ≡ option_and_then (one_digit b) (cond t (digits_from (10 * n + (x - 48)) xs) None)
-    by_digit true h = h
-    by_digit false h = refl
-
-capped_digit : (b : ℕ) (o : Option ℕ) → option_and_then (with_digit b) (option_map (min (2 ^ 48)) o) ≡ option_map (min (2 ^ 48)) (option_and_then (one_digit b) o)
-capped_digit b None = refl
-capped_digit b (Some n) = by_digit (is_ascii_digit b)
-  where
-    by_digit : (t : Bool) → cond t (Some (min (2 ^ 48) (10 * min (2 ^ 48) n + (b - 48)))) None ≡ option_map (min (2 ^ 48)) (cond t (Some (10 * n + (b - 48))) None)
-    by_digit true = ap Some (omega arith)
-    by_digit false = refl
-
--- one byte more
-pub digits_more : (text : List ℕ) (i b : ℕ) (v : Option ℕ) → i < length text → b ≡ get_or text i 0 → v ≡ option_map (min (2 ^ 48)) (digits_from 0 (take i text))
-    → option_and_then (with_digit b) v ≡ option_map (min (2 ^ 48)) (digits_from 0 (take (i + 1) text))
-digits_more text i b v lt e h =
-    let more : take (i + 1) text ≡ take i text ++ b ∷ [] = rw e (take_more text i 0 lt) in
-    rw (h, more, digits_snoc) (capped_digit b (digits_from 0 (take i text)))
 
 -- ---- spaces and tokens
 

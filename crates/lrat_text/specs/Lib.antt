@@ -5,8 +5,10 @@ pub mod Groups
 pub mod Lines
 pub mod Log
 pub mod Parts
+pub mod Pieces
 pub mod Proof
 pub mod Reading
+pub mod Runs
 pub mod Steps
 pub mod Tokens
 pub mod Writing

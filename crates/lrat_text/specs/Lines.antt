@@ -1,8 +1,16 @@
--- The lines of a text, each read.
-use Rattle.std.specs.Prelude.{◌≡◌, ℕ, ◌<◌, ◌≤◌, List, [], ◌∷◌, ◌++◌, length, slice_range, Contains, Ok}
+-- The lines of a text, as they are cut off and as they are read.
+use Rattle.std.specs.Prelude.{◌≡◌, ℕ, ◌<◌, ◌≤◌, ◌==◌, false, List, [], ◌∷◌, ◌++◌, All, length, slice_range, Contains, Ok}
 use Rattle.lrat_text.specs.Grammar.{SpellsStep}
 use Rattle.lrat_text.specs.Reading.{step_in}
 use Rattle.lrat_text.specs.declared.step.Step.{Step}
+
+-- bytes without an LF
+abbrev pub IsOpen : List ℕ → Type 0
+IsOpen bytes = All (λ b. (b == 10) ≡ false) bytes
+
+-- a text is a line without its LF, that LF, and what follows it
+abbrev pub IsCut : List ℕ → List ℕ → List ℕ → Type 0
+IsCut text line rest = (text ≡ line ++ 10 ∷ rest) × IsOpen line
 
 -- behind the last LF stands nothing, and each other piece, in order, is read as its step
 abbrev pub AllRead : List (List ℕ) → List Step → Type 0

@@ -1,6 +1,5 @@
 -- Bytes of tokens.
-use Rattle.std.specs.Prelude.{ℕ, length, ◌+◌, ◌-◌, ◌*◌, ◌^◌, ◌≤◌, ◌<◌, min, Bool, ◌==◌, List, [], ◌∷◌, Option, Some, None, if◌then◌else◌}
-use Rattle.std.specs.Char.{is_ascii_digit}
+use Rattle.std.specs.Prelude.{ℕ, length, ◌+◌, ◌-◌, ◌^◌, ◌≤◌, ◌<◌, Bool, ◌==◌, List, [], ◌∷◌, Option, Some, None}
 use Rattle.std.specs.Borrow.{Bor}
 use Rattle.lrat_text.specs.Reading.{line_tokens}
 use Rattle.lrat_text.specs.declared.token.Token.{Token}
@@ -8,10 +7,6 @@ use Rattle.lrat_text.specs.declared.token.Token.TheVariants.{Letter, Zero, Plus,
 
 abbrev pub is_space : ℕ → Bool
 is_space b = b == 32
-
--- the number of digits that make n and one more, up to 2^48
-abbrev pub with_digit : ℕ → ℕ → Option ℕ
-with_digit b n = if is_ascii_digit b then Some (min (2 ^ 48) (10 * n + (b - 48))) else None
 
 -- a number that is not large is from 1 to 2^48 - 1
 abbrev pub IsCounted : Token → Type 0

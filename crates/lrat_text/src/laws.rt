@@ -1,11 +1,12 @@
 //! Laws of lines, as contracts of calls that do nothing.
 
-ghost use Rattle.std.specs.Prelude.{◌≡◌, ℕ, List, [], Ok, Contains};
+ghost use Rattle.std.specs.Prelude.{◌≡◌, ℕ, ◌^◌, ◌≤◌, List, [], Ok, Contains};
+ghost use Rattle.dimacs.specs.ClauseMap.{map_of};
 ghost use Rattle.dimacs.specs.Cnf.{Cnf};
 ghost use Rattle.dimacs.specs.Words.{lines};
 ghost use Rattle.lrat_text.specs.Grammar.{SpellsStep, LineSpells, IsStep, IsClauseNumber};
 ghost use Rattle.lrat_text.specs.Lines.{AllRead};
-ghost use Rattle.lrat_text.specs.Log.{Closes};
+ghost use Rattle.lrat_text.specs.Log.{Closes, IsLog, IsHonest, AreFresh, additions};
 ghost use Rattle.lrat_text.specs.Proof.{Accepts};
 ghost use Rattle.lrat_text.specs.Reading.{step_in};
 ghost use Rattle.lrat_text.specs.Writing.{line_text};
@@ -33,4 +34,16 @@ pub fn text_is_lines()
 /// A fragment that closes the empty cube over a formula is an accepted proof.
 pub fn closing_the_empty_cube_is_accepted()
     ensures { (F : Cnf) (text : List ℕ) → Closes F [] text → Accepts F text }
+{}
+
+/// A text spells one list of steps.
+pub fn a_text_spells_one_list()
+    ensures { (text : List ℕ) (steps others : List Step) → LineSpells text steps → LineSpells text others → steps ≡ others }
+{}
+
+/// Over at most six variables a fresh log deletes nothing, and has at most three to the power of their number lemmas: as many
+/// as there are clauses without a complementary pair.
+pub fn fresh_logs_are_short()
+    ensures steps { (B : Cnf) (steps : List Step) → B.vars ≤ 6 → IsLog B steps → AreFresh B (map_of B) steps → additions steps ≤ 3 ^ B.vars }
+    ensures text { (B : Cnf) (n : ℕ) (text : List ℕ) (steps : List Step) → B.vars ≤ 6 → IsHonest B n text → LineSpells text steps → AreFresh B (map_of B) steps → n ≤ 3 ^ B.vars }
 {}

@@ -6,6 +6,7 @@ mod fault;
 mod groups;
 mod laws;
 mod parts;
+mod reader;
 mod reading;
 mod step;
 mod token;
@@ -15,9 +16,11 @@ pub use buffer::{StepBuffer, read_line};
 pub use fault::TextFault;
 pub use groups::Groups;
 pub use laws::{
-    closing_the_empty_cube_is_accepted, putting_is_spelling, reading_is_spelling, text_is_lines,
+    a_text_spells_one_list, closing_the_empty_cube_is_accepted, fresh_logs_are_short,
+    putting_is_spelling, reading_is_spelling, text_is_lines,
 };
-pub use reading::next;
+pub use reader::{StepReader, read_pieces};
+pub use reading::{cut_line, next};
 pub use step::{ClauseNumbers, Literals, Step, StepRef};
 pub use writing::{put, put_ref};
 

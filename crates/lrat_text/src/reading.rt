@@ -1,7 +1,7 @@
 //! The lines of a text, one after the other.
 
-ghost use Rattle.std.specs.Prelude.{◌≡◌, ◌<◌, ◌≤◌, ◌==◌, ℕ, length, position, IfSome, IfOk, Ok, Some};
-ghost use Rattle.lrat_text.specs.Lines.{IsLineBetween};
+ghost use Rattle.std.specs.Prelude.{◌≡◌, ◌<◌, ◌≤◌, ◌==◌, ℕ, length, position, IfSome, IfOk, MatchOption, Ok, Some};
+ghost use Rattle.lrat_text.specs.Lines.{IsCut, IsLineBetween, IsOpen};
 ghost use Rattle.lrat_text.specs.declared.step.Step.{Step};
 ghost use Rattle.lrat_text.specs.Reading.{next_of, GivesNext};
 
@@ -17,6 +17,16 @@ fn line_len(text: &[u8]) -> Option<usize>
     ensures within { IfSome result (λ n. n < length text.now) }
 {
     memchr(b'\n', text)
+}
+
+/// The line before the first LF, and what follows that LF; `None` where the text has no LF.
+pub fn cut_line(text: &[u8]) -> Option<(&[u8], &[u8])>
+    ensures { MatchOption result (IsOpen text.now) (λ p. IsCut text.now p.0.now p.1.now) }
+{
+    match memchr(b'\n', text) {
+        Some(end) => Some((&text[..end], &text[end + 1..])),
+        None => None,
+    }
 }
 
 /// Reads the line at a place.

@@ -5,7 +5,7 @@ ghost use Rattle.std.specs.List.{prefix_len, position_or_len};
 ghost use Rattle.std.specs.Option.{option_map, option_and_then};
 ghost use Rattle.dimacs.specs.Numbers.{digits_from, natural as natural_of, positive, negated};
 ghost use Rattle.lrat_text.specs.Reading.{number_token, token_of, line_tokens};
-ghost use Rattle.lrat_text.specs.Tokens.{is_space, with_digit, IsCounted, tokens_from};
+ghost use Rattle.lrat_text.specs.Tokens.{is_space, IsCounted, tokens_from};
 
 /// What a token is.
 #[derive(Clone, Copy)]
@@ -30,7 +30,7 @@ pub(crate) enum Token {
 const CAP: u64 = 281_474_976_710_656;
 
 /// Only the space stands between tokens.
-#[inline]
+#[inline(always)]
 fn is_space(byte: u8) -> bool
     ensures { result ≡ is_space byte }
 {
@@ -38,6 +38,7 @@ fn is_space(byte: u8) -> bool
 }
 
 /// How many spaces a text begins with.
+#[inline(always)]
 fn space_len(text: &[u8]) -> usize
     ensures value { result ≡ prefix_len is_space text.now }
     ensures bound { result ≤ length text.now }
@@ -50,43 +51,43 @@ fn space_len(text: &[u8]) -> usize
     text.len()
 }
 
-/// The value of digits, with one more behind them.
-#[inline]
-fn push_digit(value: Option<u64>, byte: u8) -> Option<u64>
-    requires { IfSome value (λ n. n ≤ 2 ^ 48) }
-    ensures value { result ≡ option_and_then (with_digit byte) value }
-    ensures small { IfSome result (λ n. n ≤ 2 ^ 48) }
+/// How many bytes stand before the first space.
+fn word_len(text: &[u8]) -> usize
+    ensures value { result ≡ position_or_len is_space text.now }
+    ensures bound { result ≤ length text.now }
 {
-    match value {
-        Some(n) => {
-            if byte.is_ascii_digit() {
-                Some((10 * n + u64::from(byte - b'0')).min(CAP))
-            } else {
-                None
-            }
+    for (i, byte) in text.iter().enumerate() {
+        if is_space(*byte) {
+            return i;
         }
-        None => None,
     }
+    text.len()
 }
 
 /// The bytes before the first space: the value of their digits, if they are digits, and how many bytes they are.
+#[inline(always)]
 fn digits(text: &[u8]) -> (Option<u64>, usize)
     ensures len { result.1 ≡ position_or_len is_space text.now }
     ensures bound { result.1 ≤ length text.now }
     ensures value { result.0 ≡ option_map (min (2 ^ 48)) (digits_from 0 (take result.1 text.now)) }
     ensures small { IfSome result.0 (λ n. n ≤ 2 ^ 48) }
 {
-    let mut value = Some(0);
+    let mut value: u64 = 0;
     for (i, byte) in text.iter().enumerate() {
-        if is_space(*byte) {
-            return (value, i);
+        if !byte.is_ascii_digit() {
+            return if is_space(*byte) {
+                (Some(value), i)
+            } else {
+                (None, word_len(text))
+            };
         }
-        value = push_digit(value, *byte);
+        value = (10 * value + u64::from(*byte - b'0')).min(CAP);
     }
-    (value, text.len())
+    (Some(value), text.len())
 }
 
 /// The number without a sign before the first space, and how many bytes it has.
+#[inline(always)]
 fn natural(text: &[u8]) -> (Option<u64>, usize)
     ensures len { result.1 ≡ position_or_len is_space text.now }
     ensures bound { result.1 ≤ length text.now }
@@ -104,7 +105,7 @@ fn natural(text: &[u8]) -> (Option<u64>, usize)
 }
 
 /// The token of a number without a sign.
-#[inline]
+#[inline(always)]
 fn plus_token(size: Option<u64>) -> Token
     ensures token { (n : Option ℕ) → size ≡ option_map (min (2 ^ 48)) n → result ≡ number_token (option_and_then positive n) }
     ensures counted { IsCounted result }
@@ -124,7 +125,7 @@ fn plus_token(size: Option<u64>) -> Token
 }
 
 /// The token of a number behind a minus.
-#[inline]
+#[inline(always)]
 fn minus_token(size: Option<u64>) -> Token
     ensures token { (n : Option ℕ) → size ≡ option_map (min (2 ^ 48)) n → result ≡ number_token (option_and_then negated n) }
     ensures counted { IsCounted result }
@@ -144,6 +145,7 @@ fn minus_token(size: Option<u64>) -> Token
 }
 
 /// The first token of a text that begins with one, and how many bytes it has.
+#[inline(always)]
 fn first_token(text: &[u8]) -> (Token, usize)
     requires some { 0 < length text.now }
     ensures len { result.1 ≡ position_or_len is_space text.now }
@@ -163,6 +165,7 @@ fn first_token(text: &[u8]) -> (Token, usize)
 }
 
 /// The next token of a line, and what follows it.
+#[inline(always)]
 pub(crate) fn next_token(line: &[u8]) -> Option<(Token, &[u8])>
     ensures token { line_tokens line.now ≡ tokens_from result }
     ensures counted { IfSome result (λ p. IsCounted p.0) }

@@ -37,13 +37,19 @@ pub record NamesCubes (rows : List Row) (input : Text) (depth : ℕ) : Type 0 wh
   pub input_is : first_of (codes "INPUT") rows ≡ Some input
   pub depth_is : NamesNumber rows (codes "depth") 0 16 depth
 
--- what the words of `solve` name
-pub record NamesSolve (rows : List Row) (input : Text) (proof : Option Text) (options : Options) : Type 0 where
-  pub input_is : first_of (codes "INPUT") rows ≡ Some input
-  pub proof_is : first_of (codes "PROOF") rows ≡ proof
+-- the options that the words of `solve` name
+pub record NamesOptions (rows : List Row) (options : Options) : Type 0 where
+  pub depth_is : NamesNumber rows (codes "depth") 0 16 options.depth
   pub limit_is : NamesNumber rows (codes "limit") 1 1000000000 options.limit
   pub quiet_is : NamesFlag rows (codes "quiet") options.quiet
   pub witness_is : NamesFlag rows (codes "no-witness") (not options.witness)
+
+-- what the words of `solve` name
+pub record NamesSolve (rows : List Row) (input : Text) (cubes proof : Option Text) (options : Options) : Type 0 where
+  pub input_is : first_of (codes "INPUT") rows ≡ Some input
+  pub cubes_is : first_of (codes "cubes") rows ≡ cubes
+  pub proof_is : first_of (codes "PROOF") rows ≡ proof
+  pub options_are : NamesOptions rows options
 
 -- the words are right by the rules of the command line
 pub record AreTaken (words : List Text) : Type 0 where
@@ -61,20 +67,21 @@ pub record AsksForCubes (words : List Text) (input : Text) (depth : ℕ) : Type 
   pub command : subcommand_of program words ≡ Some (codes "cubes", rows)
   pub names : NamesCubes rows input depth
 
--- the words ask for an answer on this file, and for its proof in another where one is named
-pub record AsksForSolve (words : List Text) (input : Text) (proof : Option Text) (options : Options) : Type 0 where
+-- the words ask for an answer on this file, split by the cubes of another where one is named, and for its proof in another
+-- where one is named
+pub record AsksForSolve (words : List Text) (input : Text) (cubes proof : Option Text) (options : Options) : Type 0 where
   pub rows : List Row
   pub command : subcommand_of program words ≡ Some (codes "solve", rows)
-  pub names : NamesSolve rows input proof options
+  pub names : NamesSolve rows input cubes proof options
 
 -- the words ask for what the request says
 abbrev pub AsksFor : List Text → Request → Type 0
 AsksFor words (Check input proof) = AsksForCheck words input.now proof.now
 AsksFor words (Cubes input depth) = AsksForCubes words input.now depth
-AsksFor words (Solve input proof options) = AsksForSolve words input.now (option_map (λ t. t.now) proof) options
+AsksFor words (Solve input cubes proof options) = AsksForSolve words input.now (option_map (λ t. t.now) cubes) (option_map (λ t. t.now) proof) options
 
 -- the numbers of a request are in their ranges
 abbrev pub IsInRange : Request → Type 0
 IsInRange (Check input proof) = ⊤
 IsInRange (Cubes input depth) = depth ≤ 16
-IsInRange (Solve input proof options) = AreOptions options
+IsInRange (Solve input cubes proof options) = AreOptions options

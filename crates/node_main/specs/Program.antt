@@ -8,6 +8,10 @@ use Rattle.clap.specs.declared.builder.value_parser.ValueParser.TheVariants as v
 abbrev pub file_rule : Text → Bool → Rule
 file_rule name required = record (new_rule name) { action = Some Set; required = required }
 
+-- `--name FILE`, which may be left out
+abbrev pub named_file_rule : Text → Rule
+named_file_rule name = record (new_rule name) { long = Some name; action = Some Set }
+
 -- `--name N`, a number in a range, and another text where it is left out
 abbrev pub number_rule : Text → ℕ → ℕ → Text → Rule
 number_rule name low high default = record (new_rule name) {
@@ -36,12 +40,13 @@ letter_q = 113
 abbrev pub letter_n : ℕ
 letter_n = 110
 
--- `solve [--limit L] [-q] [-n] INPUT [PROOF]`, from 1 to 1,000,000,000, else 100,000
+-- `solve [--depth D] [--limit L] [--cubes FILE] [-q] [-n] INPUT [PROOF]`: D from 0 to 16, else 4, and L from 1 to
+-- 1,000,000,000, else 100,000
 abbrev pub solve_app : App
 solve_app =
-    with_rule (with_rule (with_rule (with_rule (with_rule (new_app (codes "solve"))
-    (number_rule (codes "limit") 1 1000000000 (codes "100000")))
-    (flag_rule (codes "quiet") letter_q)) (flag_rule (codes "no-witness") letter_n))
+    with_rule (with_rule (with_rule (with_rule (with_rule (with_rule (with_rule (new_app (codes "solve"))
+    (number_rule (codes "depth") 0 16 (codes "4"))) (number_rule (codes "limit") 1 1000000000 (codes "100000")))
+    (named_file_rule (codes "cubes"))) (flag_rule (codes "quiet") letter_q)) (flag_rule (codes "no-witness") letter_n))
     (file_rule (codes "INPUT") true)) (file_rule (codes "PROOF") false)
 
 abbrev pub program : App

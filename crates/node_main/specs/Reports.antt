@@ -1,8 +1,10 @@
--- What `check` prints, and its exit status.
+-- What is printed of faults, and of a check.
 use Rattle.std.specs.Prelude.{ℕ, List, ◌++◌, Result, Ok, Err, codes, decimal}
 use Rattle.dimacs.specs.Cnf.{Cnf}
 use Rattle.dimacs.specs.Faults.{number_of_kind}
 use Rattle.dimacs.specs.declared.fault.DimacsFault.{DimacsFault}
+use Rattle.icnf.specs.Faults.{number_of_kind as number_of_cubes_kind}
+use Rattle.icnf.specs.declared.fault.IcnfFault.{IcnfFault}
 use Rattle.lrat_check.specs.Checking.{check_of}
 use Rattle.lrat_check.specs.declared.checking.CheckFault.{CheckFault}
 
@@ -13,6 +15,10 @@ fault_text line number = codes "line " ++ decimal line ++ codes " fault " ++ dec
 -- what is printed of a faulty input
 abbrev pub input_fault_text : DimacsFault → List ℕ
 input_fault_text f = codes "c input " ++ fault_text f.line (number_of_kind f.kind)
+
+-- what is printed of faulty cubes
+abbrev pub cubes_fault_text : IcnfFault → List ℕ
+cubes_fault_text f = codes "c cubes " ++ fault_text f.line (number_of_cubes_kind f.kind)
 
 -- what is printed of a proof, by the answer of its check
 abbrev pub answer_text : Result (Unit {0}) CheckFault → List ℕ

@@ -2,7 +2,7 @@
 
 ghost use Rattle.std.specs.Prelude.{◌≡◌, ℕ, List, Option, IfOk, IfErr, IfSome, IfNone, map, option_map};
 ghost use Rattle.clap.specs.Words.{found_of, kind_of, rows_of};
-ghost use Rattle.node_main.specs.CommandLine.{AreTaken, AsksFor, AsksForCheck, AsksForCubes, AsksForSolve, IsInRange, IsNumber, NamesCubes, NamesFiles, NamesNumber, NamesSolve};
+ghost use Rattle.node_main.specs.CommandLine.{AreTaken, AsksFor, AsksForCheck, AsksForCubes, AsksForSolve, IsInRange, IsNumber, NamesCubes, NamesFiles, NamesNumber, NamesOptions, NamesSolve};
 ghost use Rattle.node_main.specs.declared.options.Options.{Options};
 
 use crate::options::Options;
@@ -70,20 +70,36 @@ fn cubes_request<'a>(matches: &ArgMatches<'a>) -> Option<(&'a str, u32)>
     }
 }
 
-/// What `solve` is to work on.
-fn solve_request<'a>(matches: &ArgMatches<'a>) -> Option<(&'a str, Option<&'a str>, Options)>
-    ensures found { IfSome result (λ r. NamesSolve (rows_of (found_of matches.now)) r.0.now (option_map (λ t. t.now) r.1) r.2) }
-    ensures none { IfNone result ((input : List ℕ) (proof : Option (List ℕ)) (options : Options) → NamesSolve (rows_of (found_of matches.now)) input proof options → ⊥) }
+/// The options that the words give to `solve`.
+fn options_of(matches: &ArgMatches) -> Option<Options>
+    ensures found { IfSome result (NamesOptions (rows_of (found_of matches.now))) }
+    ensures none { IfNone result ((options : Options) → NamesOptions (rows_of (found_of matches.now)) options → ⊥) }
 {
+    let depth = number_of(matches, "depth", 0, 16);
     let limit = number_of(matches, "limit", 1, 1_000_000_000);
-    match (matches.get_str("INPUT"), limit) {
-        (Some(input), Some(limit)) => {
-            let options = Options {
-                limit,
-                quiet: matches.get_flag("quiet"),
-                witness: !matches.get_flag("no-witness"),
-            };
-            Some((input, matches.get_str("PROOF"), options))
+    match (depth, limit) {
+        (Some(depth), Some(limit)) => Some(Options {
+            depth: depth as u32,
+            limit,
+            quiet: matches.get_flag("quiet"),
+            witness: !matches.get_flag("no-witness"),
+        }),
+        _ => None,
+    }
+}
+
+/// What `solve` is to work on: the input, the cubes, the proof, and how.
+fn solve_request<'a>(
+    matches: &ArgMatches<'a>,
+) -> Option<(&'a str, Option<&'a str>, Option<&'a str>, Options)>
+    ensures found { IfSome result (λ r. NamesSolve (rows_of (found_of matches.now)) r.0.now (option_map (λ t. t.now) r.1) (option_map (λ t. t.now) r.2) r.3) }
+    ensures none { IfNone result ((input : List ℕ) (cubes proof : Option (List ℕ)) (options : Options) → NamesSolve (rows_of (found_of matches.now)) input cubes proof options → ⊥) }
+{
+    match (matches.get_str("INPUT"), options_of(matches)) {
+        (Some(input), Some(options)) => {
+            let cubes = matches.get_str("cubes");
+            let proof = matches.get_str("PROOF");
+            Some((input, cubes, proof, options))
         }
         _ => None,
     }
@@ -100,8 +116,8 @@ pub fn command<'a>(alloc: Global, words: &'a [&'a str]) -> Result<Request<'a>, U
         → AsksForCheck (map (λ w. w.now) words.now) input proof → IfErr result (λ f. f ≡ UsageFault.NoMemory) }
     ensures cubes_complete { (input : List ℕ) (depth : ℕ) → AreTaken (map (λ w. w.now) words.now)
         → AsksForCubes (map (λ w. w.now) words.now) input depth → IfErr result (λ f. f ≡ UsageFault.NoMemory) }
-    ensures solve_complete { (input : List ℕ) (proof : Option (List ℕ)) (options : Options) → AreTaken (map (λ w. w.now) words.now)
-        → AsksForSolve (map (λ w. w.now) words.now) input proof options → IfErr result (λ f. f ≡ UsageFault.NoMemory) }
+    ensures solve_complete { (input : List ℕ) (cubes proof : Option (List ℕ)) (options : Options) → AreTaken (map (λ w. w.now) words.now)
+        → AsksForSolve (map (λ w. w.now) words.now) input cubes proof options → IfErr result (λ f. f ≡ UsageFault.NoMemory) }
 {
     let matches = match satcluster(alloc)?.try_get_matches_from(words) {
         Ok(matches) => matches,
@@ -109,8 +125,9 @@ pub fn command<'a>(alloc: Global, words: &'a [&'a str]) -> Result<Request<'a>, U
     };
     match matches.subcommand() {
         Some(("solve", inner)) => match solve_request(inner) {
-            Some((input, proof, options)) => Ok(Request::Solve {
+            Some((input, cubes, proof, options)) => Ok(Request::Solve {
                 input,
+                cubes,
                 proof,
                 options,
             }),

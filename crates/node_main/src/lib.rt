@@ -9,14 +9,17 @@ mod command_line;
 mod cubing;
 mod options;
 mod program;
+mod proof_check;
 mod report;
 mod request;
 mod solving;
+mod splitting;
 
 pub use checking::run_check;
 pub use command_line::command;
 pub use cubing::run_cubes;
 pub use options::Options;
+pub use proof_check::ProofCheck;
 pub use report::Report;
 pub use request::{Request, UsageFault};
 pub use solving::solve_here;

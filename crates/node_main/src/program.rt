@@ -2,7 +2,7 @@
 
 ghost use Rattle.std.specs.Prelude.{◌≡◌, IfOk, false};
 ghost use Rattle.clap.specs.Words.{app_of, rule_of};
-ghost use Rattle.node_main.specs.Program.{check_app, cubes_app, file_rule, flag_rule, number_rule, program, solve_app};
+ghost use Rattle.node_main.specs.Program.{check_app, cubes_app, file_rule, flag_rule, named_file_rule, number_rule, program, solve_app};
 
 use clap::builder::ValueParser;
 use clap::{Arg, ArgAction, Command};
@@ -16,6 +16,14 @@ fn file<'a>(alloc: Global, name: &'a str, required: bool) -> Arg<'a>
     Arg::new(alloc, name)
         .action(ArgAction::Set)
         .required(required)
+}
+
+/// A file that may be named behind `--name`.
+fn named_file<'a>(alloc: Global, name: &'a str) -> Arg<'a>
+    ensures rule { rule_of result ≡ named_file_rule name.entry.now }
+    ensures global { result.global ≡ false }
+{
+    Arg::new(alloc, name).long(name).action(ArgAction::Set)
 }
 
 /// A number from `low` to `high`, and what stands for it where it is left out.
@@ -43,14 +51,18 @@ fn flag<'a>(alloc: Global, name: &'a str, letter: char) -> Arg<'a>
 fn solve<'a>(alloc: Global) -> Result<Command<'a>, AllocError>
     ensures { IfOk result (λ c. app_of c ≡ solve_app) }
 {
+    let depth = number(alloc, "depth", 0, 16, "4");
     let limit = number(alloc, "limit", 1, 1_000_000_000, "100000");
+    let cubes = named_file(alloc, "cubes");
     let quiet = flag(alloc, "quiet", 'q');
     let no_witness = flag(alloc, "no-witness", 'n');
     let input = file(alloc, "INPUT", true);
     let proof = file(alloc, "PROOF", false);
     Command::new(alloc, "solve")
         .about("Decides a DIMACS formula, with an LRAT proof where nothing satisfies it")
-        .arg(limit.help("How many lemmas may be learnt"))?
+        .arg(depth.help("How many variables a cube has at most"))?
+        .arg(limit.help("How many lemmas may be learnt under a cube"))?
+        .arg(cubes.help("Take the cubes of this iCNF file"))?
         .arg(quiet.help("Print no c lines"))?
         .arg(no_witness.help("Print no v lines"))?
         .arg(input)?

@@ -9,9 +9,10 @@ use std::alloc::AllocError;
 /// What is to be done, and with which files.
 #[derive(Clone, Copy, Debug, PartialEq, Eq)]
 pub enum Request<'a> {
-    /// Decide a formula, and write the proof to a file where one is named.
+    /// Decide a formula, split by the cubes of a file where one is named, and write the proof to a file where one is named.
     Solve {
         input: &'a str,
+        cubes: Option<&'a str>,
         proof: Option<&'a str>,
         options: Options,
     },

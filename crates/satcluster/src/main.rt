@@ -4,9 +4,10 @@
 ghost use Rattle.std.specs.Prelude.{◌≤◌};
 ghost use Rattle.node_main.specs.Solving.{AreOptions};
 
-use node_main::{Options, Report, Request, UsageFault, command, run_check, run_cubes, solve_here};
+use node_main::{Options, ProofCheck, Report, Request, UsageFault, command, run_cubes, solve_here};
 use std::alloc::AllocError;
-use std::io::Write;
+use std::fs::File;
+use std::io::{Read, Write};
 use std::process::ExitCode;
 use std::rt::Runtime;
 use std::{env, fs, io};
@@ -18,8 +19,19 @@ const NO_MEMORY: &str = "c no memory\n";
 
 const USAGE: &str = "c usage\n";
 
+/// How many bytes of a proof are read at a time.
+const PIECE: usize = 1_048_576;
+
 fn no_memory<E: Drop>(_error: E) -> Refusal {
     NO_MEMORY
+}
+
+/// The line of a file that cannot be read.
+fn unread(error: io::Error, refusal: Refusal) -> Refusal {
+    match error.kind() {
+        io::ErrorKind::OutOfMemory => NO_MEMORY,
+        _ => refusal,
+    }
 }
 
 /// The file's bytes, or the line that says that it cannot be read.
@@ -28,11 +40,7 @@ fn read<R: Runtime + AllocGlobal>(
     path: &str,
     refusal: Refusal,
 ) -> Result<Vec<u8>, Refusal> {
-    match fs::read(rt, path) {
-        Ok(bytes) => Ok(bytes),
-        Err(error) if error.kind() == io::ErrorKind::OutOfMemory => Err(NO_MEMORY),
-        Err(_) => Err(refusal),
-    }
+    fs::read(rt, path).map_err(|error| unread(error, refusal))
 }
 
 /// Writes the proof, where there is one and a file is named for it.
@@ -51,24 +59,67 @@ fn write_proof<R: Runtime + AllocGlobal>(
     }
 }
 
+/// The bytes of the file of cubes, where one is named.
+fn read_cubes<R: Runtime + AllocGlobal>(
+    rt: &R,
+    path: Option<&str>,
+) -> Result<Option<Vec<u8>>, Refusal> {
+    match path {
+        Some(path) => match read(rt, path, "c cannot read cubes\n") {
+            Ok(bytes) => Ok(Some(bytes)),
+            Err(line) => Err(line),
+        },
+        None => Ok(None),
+    }
+}
+
 fn solve<R: Runtime + AllocGlobal>(
     rt: &R,
     input: &str,
+    cubes: Option<&str>,
     proof: Option<&str>,
     options: &Options,
 ) -> Result<Report, Refusal>
     requires { AreOptions options.now }
 {
     let input = read(rt, input, "c cannot read input\n")?;
-    let report = solve_here(rt.alloc(), input.as_slice(), None, options).map_err(no_memory)?;
+    let cubes = read_cubes(rt, cubes)?;
+    let cubes = cubes.as_ref().map(|bytes| bytes.as_slice());
+    let report = solve_here(rt.alloc(), input.as_slice(), cubes, options).map_err(no_memory)?;
     write_proof(rt, proof, report.proof.as_ref())?;
     Ok(report)
 }
 
-fn check<R: Runtime + AllocGlobal>(rt: &R, input: &str, proof: &str) -> Result<Report, Refusal> {
+/// Reads a proof to its end, also behind a fault, and feeds it piece by piece.
+fn feed<R: Runtime + AllocGlobal>(
+    rt: &R,
+    path: &str,
+    check: &mut ProofCheck,
+) -> Result<(), Refusal> {
+    const CANNOT_READ: &str = "c cannot read proof\n";
+    let mut file = File::open(rt, path).map_err(|error| unread(error, CANNOT_READ))?;
+    let mut piece = vec![in rt.alloc(); 0; PIECE].map_err(no_memory)?;
+    for _ in 0..u64::MAX {
+        match file.read(&mut piece) {
+            Ok(0) => return Ok(()),
+            Ok(len) => check.feed(&piece[..len]),
+            Err(error) if error.kind() == io::ErrorKind::Interrupted => {}
+            Err(error) => return Err(unread(error, CANNOT_READ)),
+        }
+    }
+    Err(CANNOT_READ)
+}
+
+/// Begins to check a proof of the input; the input's bytes are let go before the proof comes.
+fn begin<R: Runtime + AllocGlobal>(rt: &R, input: &str) -> Result<ProofCheck, Refusal> {
     let input = read(rt, input, "c cannot read input\n")?;
-    let proof = read(rt, proof, "c cannot read proof\n")?;
-    run_check(rt.alloc(), input.as_slice(), proof.as_slice()).map_err(no_memory)
+    Ok(ProofCheck::new(rt.alloc(), input.as_slice()))
+}
+
+fn check<R: Runtime + AllocGlobal>(rt: &R, input: &str, proof: &str) -> Result<Report, Refusal> {
+    let mut check = begin(rt, input)?;
+    feed(rt, proof, &mut check)?;
+    check.finish().map_err(no_memory)
 }
 
 fn cubes<R: Runtime + AllocGlobal>(rt: &R, input: &str, depth: u32) -> Result<Report, Refusal>
@@ -83,11 +134,12 @@ fn answer<R: Runtime + AllocGlobal>(rt: &R, words: &[&str]) -> Result<Report, Re
         Ok(
             Request::Solve {
                 input,
+                cubes,
                 proof,
                 options,
             },
         ) => {
-            let report = solve(rt, input, proof, &options);
+            let report = solve(rt, input, cubes, proof, &options);
             report.map_err(|line| if options.quiet { "" } else { line })
         }
         Ok(Request::Check { input, proof }) => check(rt, input, proof),

@@ -6,7 +6,7 @@ use Rattle.std.specs.FinMap.{get}
 use Rattle.std.proofs.lemmas.Bool.{cases_eq}
 use Rattle.std.proofs.lemmas.List.{ext_get_or, get_or-map, length-map, get_or-set_other, get_or-set_same, get_or_default}
 use Rattle.std.proofs.lemmas.List.Elements.{Contains-get_or}
-use Rattle.dimacs.specs.Literal.{Clause, IsWithin}
+use Rattle.dimacs.specs.Literal.{Clause}
 use Rattle.clause_arena.specs.declared.reference.Ref.{Ref}
 use Rattle.clause_arena.specs.Clauses.{Clauses, Stands}
 use Rattle.clause_arena.specs.Compaction.{IsCompacted}
@@ -29,34 +29,31 @@ stays m k moves at C p h s u e = elim (cases_eq p at.place) [
       absurd (u at to (h.all at to (record { literals = C; number = refl; before = s; after = (e, s.1); elsewhere = λ q. d (sym q) })) refl)
 ]
 
-pub here_followed : (m k : Clauses) (moves : List (Ref × Ref)) (v : ℕ) (old new : Ref) → IsCompacted m k moves → Follows moves old new → IsHere m v old → IsHere k v new
-here_followed m k moves v old new h f s = elim f.follows [
+pub stands_followed : (m k : Clauses) (moves : List (Ref × Ref)) (old new : Ref) (C : Clause) → IsCompacted m k moves → Follows moves old new → Stands m old C → Stands k new C
+stands_followed m k moves old new C h f s = elim f.follows [
   | inl w ↦
       let t = h.told w.0 new w.1 in
-      let same : s.0 ≡ t.literals = same_clause m old.number _ _ s.0 t.literals s.1.0 (subst (λ n. get m n ≡ Some (w.0.place, t.literals)) w.2 t.before.0) in
-      (t.literals, t.after, subst (All (IsWithin v)) same s.2)
+      let same : t.literals ≡ C = same_clause m old.number _ _ t.literals C (subst (λ n. get m n ≡ Some (w.0.place, t.literals)) w.2 t.before.0) s.0 in
+      subst (Stands k new) same t.after
   | inr w ↦
-      let e = some_of (get k old.number) s.0 (h.kept old.number ∙ ap (option_map (λ (c : ℕ × Clause). c.1)) s.1.0) in
-      let q = stays m k moves old s.0 e.0 h s.1 (w.1 h.rising) e.1 in
-      subst (IsHere k v) (sym w.0) (s.0, (subst (λ p. get k old.number ≡ Some (p, s.0)) q e.1, s.1.1), s.2)
+      let e = some_of (get k old.number) C (h.kept old.number ∙ ap (option_map (λ (c : ℕ × Clause). c.1)) s.0) in
+      let q = stays m k moves old C e.0 h s (w.1 h.rising (λ from to i. (h.told from to i).number)) e.1 in
+      subst (λ x. Stands k x C) (sym w.0) (subst (λ p. get k old.number ≡ Some (p, C)) q e.1, s.1)
 ]
 
-pub number_followed : (m k : Clauses) (moves : List (Ref × Ref)) (old new : Ref) → IsCompacted m k moves → Follows moves old new → new.number ≡ old.number
-number_followed m k moves old new h f = elim f.follows [
-  | inl w ↦ (h.told w.0 new w.1).number ∙ w.2
-  | inr w ↦ ap (λ (x : Ref). x.number) w.0
-]
+pub here_followed : (m k : Clauses) (moves : List (Ref × Ref)) (v : ℕ) (old new : Ref) → IsCompacted m k moves → Follows moves old new → IsHere m v old → IsHere k v new
+here_followed m k moves v old new h f s = (s.0, stands_followed m k moves old new s.0 h f s.1, s.2)
 
 pub all_here_followed : (m k : Clauses) (moves : List (Ref × Ref)) (v : ℕ) (old new : List Ref) → IsCompacted m k moves → AreFollowed moves old new → All (IsHere m v) old → All (IsHere k v) new
 all_here_followed m k moves v old new h f s = λ i d l.
     let b : i < length old = omega (arith, f.long) in
     here_followed m k moves v (get_or old i d) (get_or new i d) h (f.each i d b) (s i d b)
 
-pub numbers_followed : (m k : Clauses) (moves : List (Ref × Ref)) (old new : List Ref) → IsCompacted m k moves → AreFollowed moves old new → numbers new ≡ numbers old
-numbers_followed m k moves old new h f = ext_get_or 0 _ _ (length-map new (λ (x : Ref). x.number) ∙ f.long ∙ sym (length-map old (λ (x : Ref). x.number))) (λ i l.
+pub numbers_followed : (moves : List (Ref × Ref)) (old new : List Ref) → AreFollowed moves old new → numbers new ≡ numbers old
+numbers_followed moves old new f = ext_get_or 0 _ _ (length-map new (λ (x : Ref). x.number) ∙ f.long ∙ sym (length-map old (λ (x : Ref). x.number))) (λ i l.
     let b : i < length old = omega (arith, f.long, length-map new (λ (x : Ref). x.number)) in
     let d : Ref = record { number = 0; place = 0; len = 0 } in
-    get_or-map (λ (x : Ref). x.number) new i d 0 (omega (arith, f.long)) ∙ number_followed m k moves (get_or old i d) (get_or new i d) h (f.each i d b) ∙ sym (get_or-map (λ (x : Ref). x.number) old i d 0 b))
+    get_or-map (λ (x : Ref). x.number) new i d 0 (omega (arith, f.long)) ∙ (f.each i d b).number ∙ sym (get_or-map (λ (x : Ref). x.number) old i d 0 b))
 
 -- ---- a search by halving
 pub below_middle : (moves : List (Ref × Ref)) (i n : ℕ) (e : Ref × Ref) → i < length moves → (get_or moves i e).0.number < n → AreRising moves → (k : ℕ) (d : Ref × Ref) → k < i + 1 → (get_or moves k d).0.number < n

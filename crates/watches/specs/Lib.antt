@@ -4,3 +4,8 @@ pub mod Law
 pub mod Finding
 pub mod Scanning
 pub mod Moving
+pub mod Chains
+pub mod Watching
+pub mod Walking
+pub mod Ready
+pub mod ReadyLaws

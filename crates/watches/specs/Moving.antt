@@ -14,9 +14,14 @@ IsUnmoved moves n = (from to : Ref) → Contains moves (from, to) → from.numbe
 abbrev pub IsMovedTo : List (Ref × Ref) → ℕ → Ref → Type 0
 IsMovedTo moves n to = (from : Ref) × Contains moves (from, to) × (from.number ≡ n)
 
--- where the moves tell that a clause stands now, or where it stood if they tell nothing of it
+-- no move gives a clause another number
+abbrev pub KeepNumbers : List (Ref × Ref) → Type 0
+KeepNumbers moves = (from to : Ref) → Contains moves (from, to) → to.number ≡ from.number
+
+-- where the moves tell that a clause stands now, or where it stood if they tell nothing of it; of the same number, whatever they tell
 pub record Follows (moves : List (Ref × Ref)) (old new : Ref) : Type 0 where
-  pub follows : IsMovedTo moves old.number new ⊎ ((new ≡ old) × (AreRising moves → IsUnmoved moves old.number))
+  pub number : new.number ≡ old.number
+  pub follows : IsMovedTo moves old.number new ⊎ ((new ≡ old) × (AreRising moves → KeepNumbers moves → IsUnmoved moves old.number))
 
 -- each of a list of clauses followed
 pub record AreFollowed (moves : List (Ref × Ref)) (old new : List Ref) : Type 0 where

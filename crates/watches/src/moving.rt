@@ -28,12 +28,12 @@ fn find_move(moves: &[(Ref, Ref)], number: u64) -> Option<Ref>
     None
 }
 
-/// Where a clause stands after the moves.
+/// Where a clause stands after the moves. A move that names another clause is not followed.
 fn place_after(moves: &[(Ref, Ref)], at: Ref) -> Ref
     ensures { Follows moves.now at result }
 {
     match find_move(moves, at.number()) {
-        Some(to) => to,
+        Some(to) => { if to.number() == at.number() { to } else { at } }
         None => at,
     }
 }

@@ -2,12 +2,15 @@ use Rattle.cube_split.proofs.SplitLemmas.{appends_all, split_leaves, split_withi
 use Rattle.cube_split.proofs.splitting.tree.Goals as goal
 
 pub finish-requires : goal.finish-requires
-finish-requires c = split_leaves (appends_all c.args.formula.now c.in_ok-preamble.preamble c.args.depth c.new-path.result.items c.new-leaves.result c.append_below.new.leaves c.new-leaves.ensures c.new-path.ensures.items c.in_ok-append_below.ensures.split)
+finish-requires c = split_leaves (appends_all c.args.formula.now c.in_ok-preamble.preamble c.args.depth c.new-path.result.items c.new-leaves.result c.append_below.new.leaves c.new-leaves.ensures c.new-path.ensures.items
+    (c.in_ok-append_below.ensures.split c.args.formula.now c.in_ok-preamble.preamble (rw c.new-path.ensures.items c.in_ok-walk.ensures)))
 
 pub returns-clause-within : goal.returns-clause-within
-returns-clause-within c = rw c.finish.ensures (split_within c.vars.ensures.valid.within tt
-    (appends_all c.args.formula.now c.in_ok-preamble.preamble c.args.depth c.new-path.result.items c.new-leaves.result c.append_below.new.leaves c.new-leaves.ensures c.new-path.ensures.items c.in_ok-append_below.ensures.split))
+returns-clause-within c = rw c.finish.ensures (split_within c.in_ok-walk.ensures.within tt
+    (appends_all c.args.formula.now c.in_ok-preamble.preamble c.args.depth c.new-path.result.items c.new-leaves.result c.append_below.new.leaves c.new-leaves.ensures c.new-path.ensures.items
+    (c.in_ok-append_below.ensures.split c.args.formula.now c.in_ok-preamble.preamble (rw c.new-path.ensures.items c.in_ok-walk.ensures))))
 
 pub returns-clause-split : goal.returns-clause-split
 returns-clause-split c = rw (c.finish.ensures, ← c.in_ok-preamble.ensures.units)
-    (appends_all c.args.formula.now c.in_ok-preamble.preamble c.args.depth c.new-path.result.items c.new-leaves.result c.append_below.new.leaves c.new-leaves.ensures c.new-path.ensures.items c.in_ok-append_below.ensures.split)
+    (appends_all c.args.formula.now c.in_ok-preamble.preamble c.args.depth c.new-path.result.items c.new-leaves.result c.append_below.new.leaves c.new-leaves.ensures c.new-path.ensures.items
+    (c.in_ok-append_below.ensures.split c.args.formula.now c.in_ok-preamble.preamble (rw c.new-path.ensures.items c.in_ok-walk.ensures)))

@@ -1,21 +1,21 @@
-use Rattle.std.proofs.Common.{sym, arith, length, ◌<◌, ◌∙◌, below_more, refl}
-use Rattle.std.proofs.lemmas.List.Sums.{position_or_len_is}
-use Rattle.lrat_text.specs.Tokens.{is_space}
-use Rattle.lrat_text.proofs.TokenLemmas.{digits_more}
+use Rattle.std.proofs.Common.{arith, refl, sym, ap, ◌∙◌, ◌^◌, min}
+use Rattle.std.specs.Option.{option_map}
+use Rattle.lrat_text.proofs.DigitLemmas.{digits_more, digits_len, digits_bad, digits_all}
 use Rattle.lrat_text.proofs.token.digits.Goals as goal
 
 pub returns-then-is_space-clause-len : goal.returns-then-is_space-clause-len
-returns-then-is_space-clause-len c =
-    sym (position_or_len_is is_space c.args.text.now c.loop-i.i 0 (omega arith) c.loop-i.invariant.0 (λ _. sym c.is_space.ensures ∙ c.if-is_space.true))
+returns-then-is_space-clause-len c = digits_len c.args.text.now c.loop-i.i _ c.loop-i.value (omega arith) refl c.loop-i.invariant.1 (sym c.is_space.ensures ∙ c.if-is_space.true)
+
+pub returns-else-is_space-clause-value : goal.returns-else-is_space-clause-value
+returns-else-is_space-clause-value c =
+    sym (ap (option_map (min (2 ^ 48))) (digits_bad c.args.text.now c.loop-i.i _ c.loop-i.value (omega arith) refl c.loop-i.invariant.1 c.word_len.result c.word_len.ensures.value c.word_len.ensures.bound
+    (sym c.is_ascii_digit.ensures.value ∙ c.if-not-is_ascii_digit.true) (sym c.is_space.ensures ∙ c.if-is_space.false)))
 
 pub loop-i-preserved : goal.loop-i-preserved
-loop-i-preserved c =
-    let lt : c.loop-i.i < length c.args.text.now = omega arith in (
-      below_more _ _ c.loop-i.invariant.0 (sym c.is_space.ensures ∙ c.if-is_space.false),
-      c.push_digit-value.ensures.value ∙ digits_more c.args.text.now c.loop-i.i _ c.loop-i.value lt refl c.loop-i.invariant.1,
-      c.push_digit-value.ensures.small,
-    )
+loop-i-preserved c = (
+  omega arith,
+  digits_more c.args.text.now c.loop-i.i _ c.loop-i.value (omega arith) refl c.loop-i.invariant.1 c.min-value.result (sym c.is_ascii_digit.ensures.value ∙ c.if-not-is_ascii_digit.false) (omega arith),
+)
 
 pub returns-clause-len : goal.returns-clause-len
-returns-clause-len c =
-    sym (position_or_len_is is_space c.args.text.now (length c.args.text.now) 0 (omega arith) (λ k h. c.loop-i.invariant.0 k (omega arith)) (λ h. absurd (omega arith)))
+returns-clause-len c = digits_all c.args.text.now c.loop-i.i c.loop-i.value (omega arith) c.loop-i.invariant.1

@@ -14,7 +14,7 @@ returns-in-Err-clause-cubes_complete c input depth taken asks =
     c.fault_of.ensures (c.in-Err.ensures.passes (ap (λ (a : App). takes a texts) c.in_ok-satcluster.ensures ∙ taken.by_rules))
 
 pub returns-in-Err-clause-solve_complete : goal.returns-in-Err-clause-solve_complete
-returns-in-Err-clause-solve_complete c input proof options taken asks =
+returns-in-Err-clause-solve_complete c input cubes proof options taken asks =
     let texts = map (λ w. w.now) c.args.words.now in
     c.fault_of.ensures (c.in-Err.ensures.passes (ap (λ (a : App). takes a texts) c.in_ok-satcluster.ensures ∙ taken.by_rules))
 
@@ -22,13 +22,13 @@ same_rows : (a b : List Row) → Some a ≡ Some b → a ≡ b
 same_rows a b e = cc
 
 pub returns-in-Some-solve-default-clause-solve_complete : goal.returns-in-Some-solve-default-clause-solve_complete
-returns-in-Some-solve-default-clause-solve_complete c input proof options taken asks =
+returns-in-Some-solve-default-clause-solve_complete c input cubes proof options taken asks =
     let texts = map (λ w. w.now) c.args.words.now in
     let met : subcommand_rows_of c.in-Ok.matches ≡ Some (codes "solve", asks.rows) =
     (c.in-Ok.ensures.matches (ap is_simple c.in_ok-satcluster.ensures)).1 ∙ ap (λ (a : App). subcommand_of a texts) c.in_ok-satcluster.ensures ∙ asks.command in
     let rows_are : rows_of (found_of c.in-Some-solve-default.inner.now) ≡ asks.rows =
     same_rows _ _ (sym (ap (option_map (λ p. rows_of (found_of p.1.now))) c.in-Some-solve-default.is) ∙ c.subcommand.ensures.rows ∙ ap (option_map (λ p. p.1)) met) in
-    absurd (c.in-None.ensures.none input proof options (subst (λ (r : List Row). NamesSolve r input proof options) (sym rows_are) asks.names))
+    absurd (c.in-None.ensures.none input cubes proof options (subst (λ (r : List Row). NamesSolve r input cubes proof options) (sym rows_are) asks.names))
 
 pub returns-in-Some-check-default-clause-complete : goal.returns-in-Some-check-default-clause-complete
 returns-in-Some-check-default-clause-complete c input proof taken asks =

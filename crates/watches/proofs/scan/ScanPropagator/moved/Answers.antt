@@ -17,4 +17,4 @@ returns-clause-ready c = λ m k t h r. subst (All (IsHere k t.vars)) (sym (after
     (all_here_followed m k c.args.moves.now t.vars c.deref_mut.result.now c.follow_all.new.clauses h c.follow_all.ensures (subst (All (IsHere m t.vars)) (sym (before c)) r))
 
 pub returns-clause-attached : goal.returns-clause-attached
-returns-clause-attached c = λ m k h. ap numbers (after c) ∙ numbers_followed m k c.args.moves.now c.deref_mut.result.now c.follow_all.new.clauses h c.follow_all.ensures ∙ ap numbers (before c)
+returns-clause-attached c = λ m k h. ap numbers (after c) ∙ numbers_followed c.args.moves.now c.deref_mut.result.now c.follow_all.new.clauses c.follow_all.ensures ∙ ap numbers (before c)

@@ -1,0 +1,71 @@
+//! How the search goes: the values that it tries again, and the lemmas that it forgets.
+
+use crate::checks::{VERIFIED, prints};
+use node_main::{Options, Report, solve_here};
+use std::alloc::{AllocError, Global};
+use std::fmt::Write;
+use std::test::Fail;
+
+fn solve(alloc: Global, input: &[u8]) -> Result<Report, AllocError> {
+    let options = Options {
+        depth: 0,
+        limit: 100_000,
+        quiet: false,
+        witness: true,
+    };
+    solve_here(alloc, input, None, &options)
+}
+
+/// Eight pigeons sit in seven holes, and no two of them in one: the variable of a pigeon and a hole is seven times the
+/// pigeon's number, and the hole's, from 1.
+fn pigeons(alloc: Global) -> Result<String, AllocError> {
+    let mut text = String::new(alloc);
+    write!(text, "p cnf 56 204\n")?;
+    for pigeon in 0..8u32 {
+        let holes = 7 * pigeon;
+        for hole in 1..8u32 {
+            write!(text, "{} ", holes + hole)?;
+        }
+        write!(text, "0\n")?;
+        for other in 0..pigeon {
+            for hole in 1..8u32 {
+                write!(text, "-{} -{} 0\n", holes + hole, 7 * other + hole)?;
+            }
+        }
+    }
+    Ok(text)
+}
+
+/// How often a text holds a word of three bytes.
+fn count(text: &[u8], word: &[u8]) -> usize {
+    text.windows(3).filter(|part| *part == word).count()
+}
+
+#[test]
+fn a_variable_is_decided_with_its_last_value(rt: HostRuntime) -> Result<(), Fail> {
+    // The last three clauses leave no literal pure.
+    let input = b"p cnf 4 6\n1 4 0\n2 3 0\n2 -3 0\n1 -1 0\n2 -2 0\n4 -4 0\n";
+    let report = solve(rt.alloc(), input)?;
+    assert_eq!(rt;
+        report.stdout.as_slice(),
+        b"s SATISFIABLE\nv -1 2 3 4 0\n".as_slice()
+    );
+    Ok(())
+}
+
+#[test]
+fn forgotten_lemmas_are_lines_of_the_proof(rt: HostRuntime) -> Result<(), Fail> {
+    let input = pigeons(rt.alloc())?;
+    let report = solve(rt.alloc(), input.as_str().as_bytes())?;
+    assert_eq!(rt; report.status, 20);
+    let proof = report.proof.ok_or("no proof")?;
+    assert!(rt; count(proof.as_slice(), b" d ") > 0);
+    assert_eq!(rt; count(proof.as_slice(), b"d 0"), 0);
+    prints(
+        &rt,
+        rt.alloc(),
+        input.as_str().as_bytes(),
+        proof.as_slice(),
+        VERIFIED,
+    )
+}

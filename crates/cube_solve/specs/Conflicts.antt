@@ -1,0 +1,46 @@
+-- Why a search ends at its limit: at a conflict that is not the cube's alone, so that a lemma would have to be learnt.
+use Rattle.std.specs.Prelude.{◌≡◌, ℕ, ◌<◌, true, List, [], ◌∷◌, All, Contains}
+use Rattle.dimacs.specs.Cnf.{Cnf}
+use Rattle.dimacs.specs.ClauseMap.{ClauseMap, Live, map_of, live_in}
+use Rattle.dimacs.specs.Literal.{Literal, IsWithin}
+use Rattle.lrat_text.specs.Grammar.{LineSpells}
+use Rattle.lrat_text.specs.Log.{Cube, after_step}
+use Rattle.lrat_text.specs.declared.step.Step.{Step}
+use Rattle.watches.specs.Law.{AllCalm, IsConflict}
+use Rattle.watches.specs.Trails.{holds, up_to, present}
+use Rattle.watches.specs.declared.trail.Assigned.{Assigned}
+use Rattle.conflict_analysis.specs.Built.{AreBuilt}
+use Rattle.conflict_analysis.specs.Lemmas.{IsDecision}
+
+-- under the trail cut to any level below the present one no live clause is false or unit
+abbrev pub QuietBelow : Live → List Assigned → Type 0
+QuietBelow live entries = (k : ℕ) → k < present entries → AllCalm live (up_to entries k)
+
+-- each literal is on the trail
+abbrev pub AllHold : List Assigned → List Literal → Type 0
+AllHold entries cube = (l : Literal) → Contains cube l → holds entries l ≡ true
+
+-- under a trail of these variables a live clause is false: each literal was decided or implied when it came, nothing was left to
+-- propagate before a decision, the cube is true, and one decision is no literal of it
+pub record IsOpenConflict (live : Live) (vars : ℕ) (q : Cube) : Type 0 where
+  pub trail : List Assigned
+  pub within : All (λ e. IsWithin vars e.literal) trail
+  pub built : AreBuilt live [] trail
+  pub quiet : QuietBelow live trail
+  pub cube : AllHold trail q
+  pub decision : Literal
+  pub decided : IsDecision trail decision
+  pub outside : ¬ (Contains q decision)
+  pub number : ℕ
+  pub conflict : IsConflict live trail number
+
+-- the live clauses after steps
+abbrev pub after_steps : ClauseMap → List Step → ClauseMap
+after_steps M [] = M
+after_steps M (step ∷ steps) = after_steps (after_step M step) steps
+
+-- the text spells steps over the base, and the clauses that are live after them meet such a conflict
+pub record MeetsConflict (B : Cnf) (q : Cube) (text : List ℕ) : Type 0 where
+  pub steps : List Step
+  pub spells : LineSpells text steps
+  pub conflict : IsOpenConflict (live_in (after_steps (map_of B) steps)) B.vars q

@@ -1,0 +1,9 @@
+use Rattle.std.proofs.Common.{Bool, take}
+use Rattle.dimacs.specs.Literal.{Literal}
+use Rattle.cube_split.specs.Marks.{AreMarked}
+use Rattle.cube_split.specs.Walking.{IsClosedBy}
+use Rattle.cube_split.proofs.walk.closed_by_units.Given as goal
+
+-- the clauses so far have their levels
+abbrev pub invariant-loop-i : goal.invariant-loop-i
+invariant-loop-i l = (test : Literal → Bool) → AreMarked l.marks test → IsClosedBy test (take l.i l.formula.clauses) l.closed.items

@@ -1,0 +1,111 @@
+//! Where each literal stands in a formula.
+
+ghost use Rattle.std.specs.Prelude.{◌≡◌, ℕ, ◌+◌, ◌*◌, ◌<◌, ◌≤◌, ◌++◌, List, [], ◌∷◌, length, slice_index, All, IfOk, OnOk};
+ghost use Rattle.dimacs.specs.Literal.{var_of, index_of};
+ghost use Rattle.cube_split.specs.Places.{ArePlaced, AreChained, Appends};
+
+use dimacs::{Formula, Lit};
+use std::alloc::{AllocError, Global};
+
+/// One place at which a literal stands in a formula.
+#[derive(Clone, Copy)]
+pub(crate) struct Place {
+    pub literal: Lit,
+    /// The clause that it stands in, from 0.
+    pub clause: u32,
+    /// The place before this one where the same literal stood last, from 1; 0 where there is none.
+    pub before: u32,
+    /// Whether no literal before it in its clause is of its variable.
+    pub first: bool,
+}
+
+/// The places of a formula's literals, clause behind clause.
+#[derive(Drop)]
+pub(crate) struct Places {
+    pub places: Vec<Place>,
+    /// By clause, its first place; and behind the last clause the number of places.
+    pub starts: Vec<u32>,
+    /// By literal, the place where it stands last, from 1; 0 where it stands nowhere.
+    pub latest: Vec<u32>,
+}
+
+/// Appends the places of a clause. `last` says in which clause each variable stood last, from 1.
+fn append_clause(
+    places: &mut Vec<Place>,
+    latest: &mut [u32],
+    last: &mut [u32],
+    clause: &[Lit],
+    number: u32,
+) -> Result<(), AllocError>
+    requires within { All (λ l. index_of l < length latest.old) clause.now }
+    requires variables { All (λ l. var_of l < length last.old) clause.now }
+    requires few { length places.old.items + length clause.now ≤ 50000000 }
+    requires number { number < 4000000 }
+    requires chained { AreChained places.old.items latest.old }
+    requires earlier { (w : ℕ) → w < length last.old → slice_index last.old w ≤ number }
+    ensures appends { OnOk result (Appends places.old.items number clause.now places.new.items) }
+    ensures chained { OnOk result (AreChained places.new.items latest.new) }
+    ensures last { OnOk result ((w : ℕ) → w < length last.old → slice_index last.new w ≤ number + 1) }
+{
+    for literal in clause {
+        let variable = literal.var().number() as usize;
+        let index = literal.index();
+        places.push(Place {
+            literal: *literal,
+            clause: number,
+            before: latest[index],
+            first: last[variable] != number + 1,
+        })?;
+        latest[index] = places.len() as u32;
+        last[variable] = number + 1;
+    }
+    Ok(())
+}
+
+/// Appends the places of each clause of a formula.
+fn append_clauses(
+    places: &mut Vec<Place>,
+    starts: &mut Vec<u32>,
+    latest: &mut [u32],
+    last: &mut [u32],
+    formula: &Formula,
+) -> Result<(), AllocError>
+    requires none { places.old.items ≡ [] }
+    requires first { starts.old.items ≡ 0 ∷ [] }
+    requires latest { length latest.old ≡ 2 * length last.old }
+    requires last { formula.now.vars < length last.old }
+    requires zeros { (k : ℕ) → k < length latest.old → slice_index latest.old k ≡ 0 }
+    requires earlier { (w : ℕ) → w < length last.old → slice_index last.old w ≡ 0 }
+    ensures placed { OnOk result (ArePlaced formula.now.clauses (length formula.now.clauses) places.new.items starts.new.items) }
+    ensures chained { OnOk result (AreChained places.new.items latest.new) }
+    ensures within { OnOk result (All (λ e. var_of e.literal < length last.old) places.new.items) }
+{
+    let _ = formula.vars();
+    for i in 0..formula.len() {
+        append_clause(places, latest, last, formula.clause(i), i as u32)?;
+        starts.push(places.len() as u32)?;
+    }
+    Ok(())
+}
+
+impl Places {
+    /// The places of a formula's literals.
+    pub(crate) fn of(alloc: Global, formula: &Formula) -> Result<Places, AllocError>
+        ensures placed { IfOk result (λ p. ArePlaced formula.now.clauses (length formula.now.clauses) p.places.items p.starts.items) }
+        ensures chained { IfOk result (λ p. AreChained p.places.items p.latest.items) }
+        ensures within { IfOk result (λ p. All (λ e. var_of e.literal < formula.now.vars + 1) p.places.items) }
+        ensures size { IfOk result (λ p. length p.latest.items ≡ 2 * (formula.now.vars + 1)) }
+    {
+        let rows = formula.vars() as usize + 1;
+        let mut latest = vec![in alloc; 0; 2 * rows]?;
+        let mut last = vec![in alloc; 0; rows]?;
+        let mut places = Vec::new(alloc);
+        let mut starts = vec![in alloc; 0]?;
+        append_clauses(&mut places, &mut starts, &mut latest, &mut last, formula)?;
+        Ok(Places {
+            places,
+            starts,
+            latest,
+        })
+    }
+}

@@ -1,0 +1,26 @@
+use Rattle.std.proofs.Common.{◌<◌, length, ◌∙◌, sym, ap, arith}
+use Rattle.dimacs.specs.Literal.{Literal}
+use Rattle.dimacs.specs.Propagation.{Assumed}
+use Rattle.lrat_check.specs.Marks.{assumed_by}
+use Rattle.lrat_check.proofs.Free.{status-more, status-more_false, none_true-more}
+use Rattle.lrat_check.proofs.propagation.classify_any.Goals as goal
+use Rattle.lrat_check.proofs.propagation.classify_any.Goals.{then-not-is_assumed, else-not-is_assumed}
+
+pub loop-l-preserved : goal.loop-l-preserved
+loop-l-preserved c =
+    let α : Assumed = assumed_by c.args.marks.now c.args.base c.args.current in
+    let l : Literal = c.l-item.result in
+    let below : c.loop-l.l-index < length c.args.clause.now = omega arith in
+    record {
+      none_true = none_true-more α c.args.clause.now c.loop-l.l-index l below c.l-item.is c.if-is_assumed.ensures c.loop-l.invariant.none_true;
+      seen_is = elim c.if-not-is_assumed.branch [
+        | then-not-is_assumed w ↦
+            w.seen-is ∙ w.with_free-seen.ensures
+            ∙ status-more α c.args.clause.now c.loop-l.l-index l c.loop-l.seen below c.l-item.is
+            (sym w.if-not-is_assumed.true ∙ c.is_assumed-in-loop-l.ensures ∙ ap α c.negate.ensures) c.loop-l.invariant.seen_is
+        | else-not-is_assumed w ↦
+            w.seen-is
+            ∙ status-more_false α c.args.clause.now c.loop-l.l-index l c.loop-l.seen below c.l-item.is
+            (sym w.if-not-is_assumed.false ∙ c.is_assumed-in-loop-l.ensures ∙ ap α c.negate.ensures) c.loop-l.invariant.seen_is
+      ];
+    }

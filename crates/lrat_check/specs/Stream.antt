@@ -1,0 +1,55 @@
+-- Checking a text that comes in pieces.
+use Rattle.std.specs.Prelude.{◌≡◌, ◌⊎◌, ℕ, List, ◌++◌, Option, Some, None, Result, Ok, Err}
+use Rattle.dimacs.specs.Cnf.{Cnf}
+use Rattle.lrat_text.specs.Lines.{IsOpen}
+use Rattle.lrat_check.specs.Checking.{check_text, check_of, no_memory}
+use Rattle.lrat_check.specs.State.{State}
+use Rattle.lrat_check.specs.declared.checking.CheckFault.{CheckFault}
+
+-- what is kept of the pieces so far: a checker's state behind the last LF, the number of the line that follows it, and that
+-- line's bytes; or the fault that was met
+pub data Progress : Type 0 where
+  Within : State → ℕ → List ℕ → Progress
+  Failed : CheckFault → Progress
+
+-- what checking answers where these bytes are still to come, and no others
+abbrev pub check_more : Progress → List ℕ → Result (Unit {0}) CheckFault
+check_more (Within s line begun) more = check_text s.refuted s.live s.top line (begun ++ more)
+check_more (Failed fault) more = Err fault
+
+-- what is answered to a piece
+abbrev pub answer_in : Progress → Result (Unit {0}) CheckFault
+answer_in (Within s line begun) = Ok tt
+answer_in (Failed fault) = Err fault
+
+-- a piece leads from one to the other: whatever follows it, checking answers the same
+abbrev pub LeadsTo : Progress → List ℕ → Progress → Type 0
+LeadsTo old piece new = (more : List ℕ) → check_more old (piece ++ more) ≡ check_more new more
+
+-- a piece leads there, or memory ran out
+abbrev pub Reaches : Progress → List ℕ → Progress → Type 0
+Reaches old piece new = (new ≡ Failed no_memory) ⊎ LeadsTo old piece new
+
+-- these bytes of a proof of the formula have been taken
+abbrev pub HasTaken : Cnf → Progress → List ℕ → Type 0
+HasTaken F p bytes = (p ≡ Failed no_memory) ⊎ ((more : List ℕ) → check_of F (bytes ++ more) ≡ check_more p more)
+
+-- A piece is taken: the answer is the new state's, a fault stays, and whatever bytes were taken, the piece is now taken too.
+pub record TakesPiece (old : Progress) (piece : List ℕ) (answer : Result (Unit {0}) CheckFault) (new : Progress) : Type 0 where
+  pub answers : answer ≡ answer_in new
+  pub stays : (fault : CheckFault) → old ≡ Failed fault → new ≡ old
+  pub history : (F : Cnf) (bytes : List ℕ) → HasTaken F old bytes → HasTaken F new (bytes ++ piece)
+
+-- the line that is begun has no LF, so that each line that is whole was taken
+abbrev pub IsWithinLine : Progress → Type 0
+IsWithinLine (Within s line begun) = IsOpen begun
+IsWithinLine (Failed fault) = Unit {0}
+
+abbrev pub progress_of : Option CheckFault → State → ℕ → List ℕ → Progress
+progress_of None s line begun = Within s line begun
+progress_of (Some fault) s line begun = Failed fault
+
+-- the checker has met no fault, and the line that is begun has no LF
+abbrev pub IsProgress : Option CheckFault → State → List ℕ → Type 0
+IsProgress None s begun = (s.fault ≡ None) × IsOpen begun
+IsProgress (Some fault) s begun = Unit {0}

@@ -1,0 +1,354 @@
+//! Checks a fragment: a log over a base that closes a cube.
+
+ghost use Rattle.std.specs.Prelude.{◌≡◌, ◌⊎◌, ◌+◌, ◌<◌, ◌≤◌, length, false, Some, None, Ok, Err, OnOk, IfOk, IfErr, vec_len};
+ghost use Rattle.std.specs.FinMap.{insert};
+ghost use Rattle.std.specs.List.{list_all};
+ghost use Rattle.dimacs.specs.Literal.{negation, has};
+ghost use Rattle.lrat_check.specs.declared.fault.StepFault.TheVariants.{NoMemory};
+ghost use Rattle.dimacs.specs.ClauseMap.{map_of};
+ghost use Rattle.lrat_text.specs.Log.{Closes};
+ghost use Rattle.lrat_text.specs.Steps.{step_of};
+ghost use Rattle.lrat_check.specs.Checking.{GivesCheck, no_memory};
+ghost use Rattle.lrat_check.specs.Faults.{live_after, removed, top_after};
+ghost use Rattle.lrat_check.specs.FragmentFaults.{FragmentGoesOn, FragmentStops, fragment_fault_number, fragment_refusal, number_in};
+ghost use Rattle.lrat_check.specs.Fragments.{closes, fragment_end, fragment_of, fragment_text, fragment_step_fault, own_addition_fault, own_deletion_fault, own_lemma_fault};
+ghost use Rattle.lrat_check.specs.Marks.{IsUnused, IsWithin, AllAtMost};
+ghost use Rattle.lrat_check.specs.Table.{FitsTable, AllFit};
+
+use crate::checking::{CheckFault, out_of_memory, step_refused, text_refused};
+use crate::fault::StepFault;
+use crate::live::LiveClauses;
+use crate::marks::{assume_negations, fresh, make_room};
+use crate::propagation::follow;
+use dimacs::{Base, Lit};
+use lrat_text::{Groups, StepBuffer, StepRef, cut_line, read_line};
+use std::alloc::{AllocError, Global};
+
+/// The first fault of a step of a fragment.
+#[derive(Clone, Copy, Debug, PartialEq, Eq)]
+pub(crate) enum FragmentFault {
+    /// The fault that a proof's step has too.
+    Step(StepFault),
+    /// A lemma has a group, or its hints end in no conflict.
+    NotRup,
+    /// A clause of the base is deleted.
+    DeletesBase,
+}
+
+impl FragmentFault {
+    /// The fault's number.
+    pub(crate) fn number(self) -> u8
+        ensures { result ≡ fragment_fault_number self }
+    {
+        match self {
+            FragmentFault::Step(fault) => fault.number(),
+            FragmentFault::NotRup => 15,
+            FragmentFault::DeletesBase => 16,
+        }
+    }
+}
+
+/// Whether the lemma follows by its hints alone.
+fn test_rup(
+    clauses: &LiveClauses,
+    marks: &mut [u64],
+    stamp: u64,
+    lits: &[Lit],
+    hints: &[u64],
+    groups: &Groups,
+) -> Result<(), FragmentFault>
+    requires table { AllFit (length marks.old) clauses.now }
+    requires fits { FitsTable (length marks.old) lits.now }
+    requires unused { IsUnused stamp marks.old }
+    requires most { AllAtMost stamp marks.old }
+    ensures fault { number_in result ≡ own_lemma_fault clauses.now lits.now hints.now groups.now }
+    ensures most { AllAtMost stamp marks.new }
+{
+    if assume_negations(marks, stamp, lits) {
+        return Err(FragmentFault::Step(StepFault::Tautology));
+    }
+    if !groups.is_empty() {
+        return Err(FragmentFault::NotRup);
+    }
+    match follow(clauses, marks, stamp, stamp, hints, false) {
+        Ok(true) => Ok(()),
+        Ok(false) => Err(FragmentFault::NotRup),
+        Err(fault) => Err(FragmentFault::Step(fault)),
+    }
+}
+
+/// The same, with room made for the lemma, under a new stamp.
+fn test_own(
+    clauses: &LiveClauses,
+    marks: &mut Vec<u64>,
+    stamp: &mut u64,
+    lits: &[Lit],
+    hints: &[u64],
+    groups: &Groups,
+) -> Result<(), FragmentFault>
+    requires table { AllFit (vec_len marks.old) clauses.now }
+    requires most { AllAtMost stamp.old marks.old.items }
+    ensures took { OnOk result (own_lemma_fault clauses.now lits.now hints.now groups.now ≡ None) }
+    ensures refused { IfErr result (λ f. (f ≡ FragmentFault.Step NoMemory) ⊎ (own_lemma_fault clauses.now lits.now hints.now groups.now ≡ Some (fragment_fault_number f))) }
+    ensures fits { OnOk result (FitsTable (vec_len marks.new) lits.now) }
+    ensures longer { vec_len marks.old ≤ vec_len marks.new }
+    ensures most { AllAtMost stamp.new marks.new.items }
+{
+    match make_room(marks, lits) {
+        Ok(()) => {}
+        Err(_) => return Err(FragmentFault::Step(StepFault::NoMemory)),
+    }
+    let base = fresh(marks, *stamp, 0);
+    *stamp = base;
+    test_rup(clauses, marks, base, lits, hints, groups)
+}
+
+/// Takes out the clauses of these numbers, from the left, until one is the base's or not live.
+fn delete_own(clauses: &mut LiveClauses, base: u64, ids: &[u64]) -> Result<(), FragmentFault>
+    ensures fault { number_in result ≡ own_deletion_fault base clauses.old ids.now }
+    ensures ok { OnOk result (clauses.new ≡ removed clauses.old ids.now) }
+    ensures fewer { IsWithin clauses.old clauses.new }
+{
+    for id in ids {
+        if *id <= base {
+            return Err(FragmentFault::DeletesBase);
+        }
+        if !clauses.remove(*id) {
+            return Err(FragmentFault::Step(StepFault::UnknownClause));
+        }
+    }
+    Ok(())
+}
+
+/// Whether the cube holds the literal.
+fn holds(cube: &[Lit], literal: Lit) -> bool
+    ensures { result ≡ has cube.now literal }
+{
+    for l in cube {
+        if literal == *l {
+            return true;
+        }
+    }
+    false
+}
+
+/// Whether each literal is the negation of one of the cube's.
+fn negates(cube: &[Lit], lits: &[Lit]) -> bool
+    ensures { result ≡ list_all (λ l. has cube.now (negation l)) lits.now }
+{
+    for l in lits {
+        if !holds(cube, l.negate()) {
+            return false;
+        }
+    }
+    true
+}
+
+/// The live clauses behind a base, what tests lemmas, and whether the last step closes the cube.
+#[derive(Drop)]
+pub(crate) struct FragmentChecker {
+    clauses: LiveClauses,
+    marks: Vec<u64>,
+    stamp: u64,
+    top: u64,
+    base: u64,
+    closed: bool,
+    ghost fits: { AllFit (vec_len marks) clauses },
+    ghost most: { AllAtMost stamp marks.items },
+}
+
+impl FragmentChecker {
+    /// Adds the next lemma, where it follows by its hints alone.
+    fn add(
+        &mut self,
+        id: u64,
+        lits: &[Lit],
+        hints: &[u64],
+        groups: &Groups,
+    ) -> Result<(), FragmentFault>
+        ensures took { OnOk result (own_addition_fault self.old.clauses self.old.top id lits.now hints.now groups.now ≡ None) }
+        ensures clauses { OnOk result (self.new.clauses ≡ insert self.old.clauses id lits.now) }
+        ensures top { OnOk result (self.new.top ≡ id) }
+        ensures base { OnOk result (self.new.base ≡ self.old.base) }
+        ensures refused { IfErr result (λ f. (f ≡ FragmentFault.Step NoMemory) ⊎ (own_addition_fault self.old.clauses self.old.top id lits.now hints.now groups.now ≡ Some (fragment_fault_number f))) }
+    {
+        if id <= self.top || id - self.top > 1 {
+            return Err(FragmentFault::Step(StepFault::NumberNotRising));
+        }
+        match test_own(
+            &self.clauses,
+            &mut self.marks,
+            &mut self.stamp,
+            lits,
+            hints,
+            groups,
+        ) {
+            Ok(()) => {}
+            Err(fault) => return Err(fault),
+        }
+        match self.clauses.insert(id, lits) {
+            Ok(_) => {}
+            Err(_) => return Err(FragmentFault::Step(StepFault::NoMemory)),
+        }
+        self.top = id;
+        Ok(())
+    }
+
+    /// Takes a step.
+    fn take(&mut self, cube: &[Lit], step: StepRef<'_>) -> Result<(), FragmentFault>
+        ensures took { OnOk result (fragment_step_fault self.old.base self.old.clauses self.old.top (step_of step.entry) ≡ None) }
+        ensures clauses { OnOk result (self.new.clauses ≡ live_after self.old.clauses (step_of step.entry)) }
+        ensures top { OnOk result (self.new.top ≡ top_after self.old.top (step_of step.entry)) }
+        ensures closed { OnOk result (self.new.closed ≡ closes cube.now (step_of step.entry)) }
+        ensures base { OnOk result (self.new.base ≡ self.old.base) }
+        ensures refused { IfErr result (λ f. (f ≡ FragmentFault.Step NoMemory) ⊎ (fragment_step_fault self.old.base self.old.clauses self.old.top (step_of step.entry) ≡ Some (fragment_fault_number f))) }
+    {
+        match step {
+            StepRef::Add {
+                id,
+                lits,
+                hints,
+                groups,
+            } => {
+                match self.add(id, lits, hints, groups) {
+                    Ok(()) => {}
+                    Err(fault) => return Err(fault),
+                }
+                self.closed = negates(cube, lits);
+                Ok(())
+            }
+            StepRef::Delete { ids } => {
+                match delete_own(&mut self.clauses, self.base, ids) {
+                    Ok(()) => {}
+                    Err(fault) => return Err(fault),
+                }
+                self.closed = false;
+                Ok(())
+            }
+        }
+    }
+}
+
+/// Holds the clauses of a base, numbered from 1.
+fn load(alloc: Global, base: &Base) -> Result<FragmentChecker, AllocError>
+    ensures clauses { IfOk result (λ c. c.clauses ≡ map_of base.now) }
+    ensures top { IfOk result (λ c. c.top ≡ length base.now.clauses) }
+    ensures base { IfOk result (λ c. c.base ≡ length base.now.clauses) }
+    ensures closed { IfOk result (λ c. c.closed ≡ false) }
+{
+    let mut clauses = LiveClauses::with_room(alloc, base.len().saturating_add(1), 0)?;
+    let mut marks = Vec::new(alloc);
+    for i in 0..base.len() {
+        let clause = base.clause(i);
+        make_room(&mut marks, clause)?;
+        clauses.insert(i as u64 + 1, clause)?;
+    }
+    let top = base.len() as u64;
+    Ok(FragmentChecker {
+        clauses,
+        marks,
+        stamp: 0,
+        top,
+        base: top,
+        closed: false,
+    })
+}
+
+/// The fault of a line whose step is refused.
+fn refused(fault: FragmentFault, line: u64) -> CheckFault
+    ensures { result ≡ fragment_refusal fault line }
+{
+    match fault {
+        FragmentFault::Step(step) => step_refused(step, line),
+        _ => CheckFault {
+            number: fault.number(),
+            line,
+            text: 0,
+        },
+    }
+}
+
+/// Reads a line, and takes its step.
+fn take_line(
+    checker: &mut FragmentChecker,
+    buffer: &mut StepBuffer,
+    cube: &[Lit],
+    line: u64,
+    text: &[u8],
+) -> Result<(), CheckFault>
+    ensures passed { OnOk result (FragmentGoesOn checker.old.base cube.now checker.old.clauses checker.old.top line text.now checker.new.closed checker.new.clauses checker.new.top) }
+    ensures base { OnOk result (checker.new.base ≡ checker.old.base) }
+    ensures stopped { IfErr result (λ f. (f ≡ no_memory) ⊎ FragmentStops checker.old.base cube.now checker.old.clauses checker.old.top line text.now f) }
+{
+    match read_line(buffer, text) {
+        Ok(()) => {}
+        Err(fault) => return Err(text_refused(fault, line)),
+    }
+    match checker.take(cube, buffer.as_ref()) {
+        Ok(()) => Ok(()),
+        Err(fault) => Err(refused(fault, line)),
+    }
+}
+
+/// What is answered at the end of a text, behind its last LF.
+fn finish(closed: bool, line: u64, rest: &[u8]) -> Result<(), CheckFault>
+    ensures { result ≡ fragment_end closed line rest.now }
+{
+    if !rest.is_empty() {
+        return Err(CheckFault {
+            number: 1,
+            line,
+            text: 2,
+        });
+    }
+    if closed {
+        return Ok(());
+    }
+    Err(CheckFault {
+        number: 17,
+        line,
+        text: 0,
+    })
+}
+
+/// Checks line by line.
+fn check_lines(
+    checker: &mut FragmentChecker,
+    buffer: &mut StepBuffer,
+    cube: &[Lit],
+    fragment: &[u8],
+) -> Result<(), CheckFault>
+    ensures { GivesCheck result (fragment_text checker.old.base cube.now checker.old.closed checker.old.clauses checker.old.top 1 fragment.now) }
+{
+    let mut rest = fragment;
+    let mut line = 1;
+    while let Some((text, later)) = cut_line(rest) {
+        match take_line(checker, buffer, cube, line, text) {
+            Ok(()) => {}
+            Err(fault) => return Err(fault),
+        }
+        rest = later;
+        line += 1;
+    }
+    finish(checker.closed, line, rest)
+}
+
+/// Whether the text is a fragment that closes the cube over the base; else its first fault.
+pub fn check_fragment(
+    alloc: Global,
+    base: &Base,
+    cube: &[Lit],
+    fragment: &[u8],
+) -> Result<(), CheckFault>
+    ensures closes { OnOk result (Closes base.now cube.now fragment.now) }
+    // a fragment that closes the cube is refused for want of memory alone
+    ensures complete { Closes base.now cube.now fragment.now → (result ≡ Ok tt) ⊎ (result ≡ Err no_memory) }
+    // the first fault, and its line
+    ensures exact { GivesCheck result (fragment_of base.now cube.now fragment.now) }
+{
+    let Ok(mut checker) = load(alloc, base) else {
+        return Err(out_of_memory());
+    };
+    let mut buffer = StepBuffer::new(alloc);
+    check_lines(&mut checker, &mut buffer, cube, fragment)
+}

@@ -1,0 +1,89 @@
+-- What `check` reports of a proof that comes in pieces.
+use Rattle.std.proofs.Common.{◌≡◌, ◌≢◌, ◌⊎◌, ℕ, List, cond, Result, Ok, Err, inl, inr, refl, sym, ap, subst, ◌∙◌}
+use Rattle.std.specs.Prelude.{IfOk, OnOk, is_ok}
+use Rattle.std.specs.declared.alloc.AllocError.{AllocError}
+use Rattle.dimacs.specs.Cnf.{Cnf}
+use Rattle.dimacs.specs.Reading.{parse, UnlessMemory, Fails}
+use Rattle.dimacs.specs.Spelling.{Spells}
+use Rattle.dimacs.specs.declared.fault.DimacsFault.{DimacsFault}
+use Rattle.dimacs.specs.declared.fault.Kind.{Kind}
+use Rattle.dimacs.specs.declared.fault.Kind.TheVariants.{NoHeader, BadHeader, BadToken, VariableAboveHeader, ClauseNotEnded, TooFewClauses, TooManyClauses, AboveLimit, NoMemory}
+use Rattle.dimacs.proofs.SpellingLemmas.{parse_spells, spells_parse}
+use Rattle.lrat_text.specs.Proof.{Accepts}
+use Rattle.lrat_text.proofs.SpellingLemmas.{found_spells, spelled_found}
+use Rattle.lrat_check.specs.Checking.{GivesCheck, check_of, no_memory}
+use Rattle.lrat_check.specs.declared.checking.CheckFault.{CheckFault}
+use Rattle.lrat_check.proofs.Lines.{checked_accepted, accepted_checked}
+use Rattle.node_main.specs.Reports.{answer_text, check_text, input_fault_text}
+use Rattle.node_main.specs.ProofChecks.{IsCheckReport}
+use Rattle.node_main.specs.declared.report.Report.{Report}
+
+-- ---- the proof's answer
+
+-- an answer that is not want of memory is the check's
+answer_is : (answer expected : Result (Unit {0}) CheckFault) → GivesCheck answer expected → answer ≢ Err no_memory → answer ≡ expected
+answer_is (Ok u) expected gives other = sym gives
+answer_is (Err fault) expected (inl none) other = absurd (other (ap Err none))
+answer_is (Err fault) expected (inr is) other = sym is
+
+abbrev status_of : Result (Unit {0}) CheckFault → ℕ
+status_of answer = cond (is_ok answer) 0 1
+
+passed : (answer : Result (Unit {0}) CheckFault) → status_of answer ≡ 0 → answer ≡ Ok tt
+passed (Ok u) e = refl
+passed (Err fault) e = absurd cc
+
+one_of_two : (answer : Result (Unit {0}) CheckFault) → (status_of answer ≡ 0) ⊎ (status_of answer ≡ 1)
+one_of_two (Ok u) = inl refl
+one_of_two (Err fault) = inr refl
+
+formula_is : (input : List ℕ) (F G : Cnf) → parse input ≡ Ok F → Spells input G → G ≡ F
+formula_is input F G read spells = let other : parse input ≡ Ok G = spells_parse input G spells in cc
+
+pub proof_report : (input proof : List ℕ) (F : Cnf) (answer : Result (Unit {0}) CheckFault) (result : Result Report AllocError) → parse input ≡ Ok F → GivesCheck answer (check_of F proof)
+    → IfOk result (λ r. r.stdout.items ≡ answer_text answer) → IfOk result (λ r. r.status ≡ status_of answer) → OnOk result (answer ≢ Err no_memory) → IfOk result (IsCheckReport input proof)
+proof_report input proof F answer (Err e) read gives text status other = tt
+proof_report input proof F answer (Ok report) read gives text status other =
+    let is : answer ≡ check_of F proof = answer_is answer (check_of F proof) gives other in
+    record {
+      verified = (
+        λ zero. (F, parse_spells input F read, checked_accepted found_spells spelled_found F proof (sym is ∙ passed answer (sym status ∙ zero))),
+        λ (G, spells, accepts).
+            let same : G ≡ F = formula_is input F G read spells in
+            let well : check_of F proof ≡ Ok tt = accepted_checked found_spells spelled_found F proof (subst (λ H. Accepts H proof) same accepts) in
+            status ∙ ap status_of (is ∙ well),
+      );
+      status = subst (λ n. (n ≡ 0) ⊎ (n ≡ 1)) (sym status) (one_of_two answer);
+      text = text ∙ ap answer_text is ∙ sym (ap (λ found. check_text found proof) read);
+    }
+
+-- ---- the input's fault
+
+-- a fault that is not want of memory is the input's
+fault_stands : (kind : Kind) (P : Type 0) → UnlessMemory kind P → kind ≢ NoMemory → P
+fault_stands NoMemory P is other = absurd (other refl)
+fault_stands NoHeader P is other = is
+fault_stands BadHeader P is other = is
+fault_stands BadToken P is other = is
+fault_stands VariableAboveHeader P is other = is
+fault_stands ClauseNotEnded P is other = is
+fault_stands TooFewClauses P is other = is
+fault_stands TooManyClauses P is other = is
+fault_stands AboveLimit P is other = is
+
+unspelled : {P : Type 0} (input : List ℕ) (fault : DimacsFault) (F : Cnf) → parse input ≡ Err fault → Spells input F → P
+unspelled input fault F read spells = let other : parse input ≡ Ok F = spells_parse input F spells in absurd cc
+
+pub input_report : (input proof : List ℕ) (fault : DimacsFault) (result : Result Report AllocError) → Fails fault (parse input)
+    → IfOk result (λ r. r.stdout.items ≡ input_fault_text fault) → IfOk result (λ r. r.status ≡ 1) → OnOk result (fault.kind ≢ NoMemory) → IfOk result (IsCheckReport input proof)
+input_report input proof fault (Err e) fails text status other = tt
+input_report input proof fault (Ok report) fails text status other =
+    let read : parse input ≡ Err fault = fault_stands fault.kind (parse input ≡ Err fault) fails other in
+    record {
+      verified = (
+        λ zero. absurd (let no : 1 ≡ 0 = sym status ∙ zero in cc),
+        λ (G, spells, accepts). unspelled input fault G read spells,
+      );
+      status = inr status;
+      text = text ∙ sym (ap (λ found. check_text found proof) read);
+    }

@@ -1,0 +1,30 @@
+-- A check of a proof that comes in pieces.
+use Rattle.std.specs.Prelude.{◌≡◌, ◌↔◌, ◌⊎◌, ℕ, List, Result, Ok, Err}
+use Rattle.dimacs.specs.Cnf.{Cnf}
+use Rattle.dimacs.specs.Reading.{parse, Fails}
+use Rattle.dimacs.specs.Spelling.{Spells}
+use Rattle.dimacs.specs.declared.fault.DimacsFault.{DimacsFault}
+use Rattle.lrat_text.specs.Proof.{Accepts}
+use Rattle.lrat_check.specs.Stream
+use Rattle.lrat_check.specs.Stream.{Progress, IsWithinLine}
+use Rattle.node_main.specs.Reports.{check_text}
+use Rattle.node_main.specs.declared.report.Report.{Report}
+
+-- The input was read, and these bytes of the proof have been taken. What is kept is how far the proof is checked against the
+-- formula, or why there is none: the input's fault, or want of memory.
+abbrev pub HasTaken : List ℕ → Result Progress DimacsFault → List ℕ → Type 0
+HasTaken input (Ok p) proof = (F : Cnf) × (parse input ≡ Ok F) × Stream.HasTaken F p proof
+HasTaken input (Err fault) proof = Fails fault (parse input)
+
+-- no text of the proof is kept but the line that is begun
+abbrev pub KeepsNoLine : Result Progress DimacsFault → Type 0
+KeepsNoLine (Ok p) = IsWithinLine p
+KeepsNoLine (Err fault) = Unit {0}
+
+-- what `check` reports of an input and a proof
+pub record IsCheckReport (input proof : List ℕ) (report : Report) : Type 0 where
+  -- status 0 exactly where the input spells a formula and the proof is accepted against it
+  pub verified : (report.status ≡ 0) ↔ ((F : Cnf) × Spells input F × Accepts F proof)
+  pub status : (report.status ≡ 0) ⊎ (report.status ≡ 1)
+  -- which lines are printed, and so which fault, in which line
+  pub text : report.stdout.items ≡ check_text (parse input) proof

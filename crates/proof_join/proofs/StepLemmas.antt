@@ -1,0 +1,163 @@
+-- Steps of a text, one after the other, under other numbers.
+use Rattle.std.proofs.Common.{◌≡◌, ℕ, ◌+◌, ◌-◌, ◌^◌, ◌<◌, ◌≤◌, Bool, true, false, List, [], ◌∷◌, ◌++◌, map, length, Result, Ok, Err, refl, sym, ◌∙◌, ap, subst, arith, append_assoc, length-append, inl, inr}
+use Rattle.std.specs.Prelude.{nat_eq, ◌==◌}
+use Rattle.std.specs.List.{All, Contains, slice_split}
+use Rattle.std.proofs.lemmas.Bool.{cases_lt, both_ways, eq-eqb}
+use Rattle.std.proofs.lemmas.List.Elements.{All-head, All-tail, All-weaker, All-map, Contains-append_right, All-contains, All-contains_itself}
+use Rattle.dimacs.specs.Literal.{Literal, Clause, IsWithin}
+use Rattle.dimacs.specs.Rat.{Group}
+use Rattle.dimacs.proofs.Members.{Contains-head, Contains-cons}
+use Rattle.lrat_text.specs.Grammar.{LineSpells, SpellsStep, IsStep, IsClauseNumber, IsGroup}
+use Rattle.lrat_text.specs.Lines.{AllRead}
+use Rattle.lrat_text.specs.Log.{top_after}
+use Rattle.lrat_text.specs.Reading.{step_in}
+use Rattle.lrat_text.specs.Writing.{line_text, line_of}
+use Rattle.lrat_text.specs.declared.fault.TextFault.{TextFault}
+use Rattle.lrat_text.specs.declared.step.Step.{Step}
+use Rattle.lrat_text.specs.declared.step.Step.TheVariants.{Add, Delete}
+use Rattle.lrat_text.proofs.LineLemmas.{spelled_read}
+use Rattle.lrat_text.proofs.SpellingLemmas.{spelled_found}
+use Rattle.dimacs.specs.Words
+use Rattle.proof_join.specs.Numbering.{behind, renumbered, renumbered_group}
+use Rattle.lrat_text.specs.Runs.{text_of, top_of}
+use Rattle.proof_join.specs.Steps.{with_step, steps_of, steps_in, IsLow, AreLow, IsCut, Writes, last_of}
+use Rattle.proof_join.specs.declared.fault.JoinFault.{JoinFault}
+use Rattle.proof_join.specs.declared.fault.JoinFault.TheVariants.{TooLong, NoMemory}
+use Rattle.proof_join.proofs.NumberLemmas.{behind_low, behind_high}
+
+-- ---- limits
+-- a number up to k, of which b are the base's, is a clause number behind t as well
+behind_number : (b t k n : ℕ) → b ≤ t → b ≤ k → t + (k - b) < 2 ^ 48 → n ≤ k → IsClauseNumber n → IsClauseNumber (behind b t n)
+behind_number b t k n low base few up (some, small) = elim (cases_lt b n) [
+  | inr x ↦ let e = behind_low b t n x in subst IsClauseNumber (sym e) (some, small)
+  | inl x ↦ let e = behind_high b t n x in subst IsClauseNumber (sym e) (omega arith, omega arith)
+]
+
+numbers_behind : (b t k : ℕ) (ns : List ℕ) → b ≤ t → b ≤ k → t + (k - b) < 2 ^ 48 → All (λ n. n ≤ k) ns → All IsClauseNumber ns → All IsClauseNumber (map (behind b t) ns)
+numbers_behind b t k ns low base few up limits =
+    All-map IsClauseNumber (behind b t) ns (All-weaker (Contains ns) (λ n. IsClauseNumber (behind b t n))
+    (λ n i. behind_number b t k n low base few (All-contains (λ n. n ≤ k) ns n up i) (All-contains IsClauseNumber ns n limits i)) ns (All-contains_itself ns))
+
+pub low_addition : (b t k id : ℕ) (lits : Clause) (hints : List ℕ) (groups : List Group) → b ≤ t → b ≤ k → t + (k - b) + 1 < 2 ^ 48 → IsStep (Add id lits hints groups) → IsLow k (Add id lits hints groups)
+    → IsStep (Add (behind b t id) lits (map (behind b t) hints) groups)
+low_addition b t k id lits hints groups low base few (number, small, limits, gs) (next, up, none) = (
+  behind_number b t (k + 1) id low (omega arith) (omega arith) (omega arith) number,
+  small,
+  numbers_behind b t k hints low base (omega arith) up limits,
+  gs,
+)
+
+pub low_deletion : (b t k : ℕ) (ids : List ℕ) → b ≤ t → b ≤ k → t + (k - b) + 1 < 2 ^ 48 → IsStep (Delete ids) → IsLow k (Delete ids) → IsStep (Delete (map (behind b t) ids))
+low_deletion b t k ids low base few limits up = numbers_behind b t k ids low base (omega arith) up limits
+
+-- ---- the next line
+cut_same : (a c xs ys : List ℕ) → All (λ n. (n == 10) ≡ false) a → ¬ (Contains c 10) → a ++ 10 ∷ xs ≡ c ++ 10 ∷ ys → (a ≡ c) × (xs ≡ ys)
+cut_same [] [] xs ys h g e = (refl, (let t : xs ≡ ys = cc in t))
+cut_same [] (y ∷ c) xs ys h g e = absurd (g (0, omega arith, (let f : y ≡ 10 = cc in f)))
+cut_same (x ∷ a) [] xs ys h g e =
+    let f : x ≡ 10 = cc in
+    absurd (both_ways (nat_eq x 10) (All-head (λ n. (n == 10) ≡ false) x a h) (eq-eqb x 10 f))
+cut_same (x ∷ a) (y ∷ c) xs ys h g e =
+    let first : x ≡ y = cc in
+    let more : a ++ 10 ∷ xs ≡ c ++ 10 ∷ ys = cc in
+    let rest = cut_same a c xs ys (All-tail (λ n. (n == 10) ≡ false) x a h) (λ i. g (Contains-cons y 10 c i)) more in
+    (ap (λ (n : ℕ). n ∷ a) first ∙ ap (λ (ns : List ℕ). y ∷ ns) rest.0, rest.1)
+
+read_steps : (pieces : List (List ℕ)) (steps : List Step) → AllRead pieces steps → steps_of pieces ≡ steps
+read_steps [] steps h = absurd h
+read_steps (last ∷ []) steps h = sym h.1
+read_steps (piece ∷ next ∷ pieces) [] h = absurd h
+read_steps (piece ∷ next ∷ pieces) (step ∷ steps) h = ap (λ (r : Result Step TextFault). with_step r (steps_of (next ∷ pieces))) h.0 ∙ ap (λ (ss : List Step). step ∷ ss) (read_steps (next ∷ pieces) steps h.1)
+
+pub spelled_in : (text : List ℕ) (steps : List Step) → LineSpells text steps → steps_in text ≡ steps
+unfolding steps_in
+spelled_in text steps h = read_steps (Words.lines text) steps (spelled_read text steps h)
+
+-- what stands behind a line of a text whose lines spell steps
+pub record IsNext (text line rest : List ℕ) : Type 0 where
+  pub step : Step
+  pub spells : SpellsStep line step
+  pub steps : steps_in text ≡ step ∷ steps_in rest
+  pub spelled : LineSpells rest (steps_in rest)
+
+pub next_line : (text line rest : List ℕ) → IsCut text line rest → LineSpells text (steps_in text) → IsNext text line rest
+next_line text line rest cut h = at (steps_in text) refl h
+  where
+    at : (steps : List Step) → steps_in text ≡ steps → LineSpells text steps → IsNext text line rest
+    at [] e spelled =
+        let a : length (line ++ 10 ∷ rest) ≡ length {A = ℕ} [] = ap length (sym cut.0 ∙ spelled) in
+        let b = length-append line (10 ∷ rest) in
+        absurd (omega arith)
+    at (step ∷ steps) e (own, later, splits, one, spells, more) =
+        let same = cut_same line own rest later cut.1 one (sym cut.0 ∙ splits) in
+        let left : LineSpells rest steps = subst (λ (t : List ℕ). LineSpells t steps) (sym same.1) more in
+        let known : steps_in rest ≡ steps = spelled_in rest steps left in
+        record {
+          step = step;
+          spells = subst (λ (l : List ℕ). SpellsStep l step) (sym same.0) spells;
+          steps = e ∙ ap (λ (ss : List Step). step ∷ ss) (sym known);
+          spelled = subst (LineSpells rest) (sym known) left;
+        }
+
+-- and where no LF is left, there is no step
+pub no_line : (text : List ℕ) → All (λ n. (n == 10) ≡ false) text → LineSpells text (steps_in text) → steps_in text ≡ []
+no_line text none h = at (steps_in text) refl h
+  where
+    at : (steps : List Step) → steps_in text ≡ steps → LineSpells text steps → steps_in text ≡ []
+    at [] e spelled = e
+    at (step ∷ steps) e (own, later, splits, one, spells, more) =
+        let all : All (λ n. (n == 10) ≡ false) (own ++ 10 ∷ later) = subst (λ (t : List ℕ). All (λ n. (n == 10) ≡ false) t) splits none in
+        absurd (both_ways (nat_eq 10 10) (All-contains (λ n. (n == 10) ≡ false) (own ++ 10 ∷ later) 10 all (Contains-append_right own (10 ∷ later) 10 (Contains-head 10 later))) refl)
+
+-- a line spells one step
+pub read_same : (line : List ℕ) (one two : Step) → SpellsStep line one → SpellsStep line two → one ≡ two
+read_same line one two h g = let e : Ok one ≡ Ok two = sym (spelled_found line one h) ∙ spelled_found line two g in cc
+
+-- ---- one line more
+-- a longer text is too long as well
+pub writes_longer : (A : Type 0) (fault : JoinFault) (new short long : List ℕ) → Writes {A = A} (Err fault) new short → length short ≤ length long → Writes {A = A} (Err fault) new long
+writes_longer A TooLong new short long h below = omega arith
+writes_longer A NoMemory new short long h below = tt
+
+-- the number of the last addition, in the fragment and behind t
+pub top_on : (b t top number : ℕ) (step : Step) → b ≤ t → t ≤ top → IsLow (b + (top - t)) step → number ≡ top_after top (renumbered (behind b t) step)
+    → (top_after (b + (top - t)) step ≡ b + (number - t)) × (t ≤ number) × (number ≤ top + 1)
+top_on b t top number (Add id lits hints groups) low above (next, up, none) e =
+    let f : number ≡ id - b + t = e ∙ behind_high b t id (omega arith) in
+    (omega arith, omega arith, omega arith)
+top_on b t top number (Delete ids) low above up e = (omega arith, omega arith, omega arith)
+
+module _ (b t top number : ℕ) (out out' whole : List ℕ) (step : Step) (rest later : List Step) where
+  pub text_on : rest ≡ step ∷ later → out' ≡ out ++ line_of top (renumbered (behind b t) step) → number ≡ top_after top (renumbered (behind b t) step)
+      → out ++ text_of top (map (renumbered (behind b t)) rest) ≡ whole → out' ++ text_of number (map (renumbered (behind b t)) later) ≡ whole
+  text_on steps wrote is e =
+      let r : Step → Step = renumbered (behind b t) in
+      ap (λ (o : List ℕ). o ++ text_of number (map r later)) wrote
+      ∙ ap (λ (n : ℕ). (out ++ line_of top (r step)) ++ text_of n (map r later)) is
+      ∙ append_assoc out (line_of top (r step)) (text_of (top_after top (r step)) (map r later))
+      ∙ ap (λ (ss : List Step). out ++ text_of top (map r ss)) (sym steps)
+      ∙ e
+
+  pub longer : rest ≡ step ∷ later → out ++ text_of top (map (renumbered (behind b t)) rest) ≡ whole → length (out ++ line_of top (renumbered (behind b t) step)) ≤ length whole
+  longer steps e =
+      let r : Step → Step = renumbered (behind b t) in
+      let f : out ++ (line_of top (r step) ++ text_of (top_after top (r step)) (map r later)) ≡ whole = ap (λ (ss : List Step). out ++ text_of top (map r ss)) (sym steps) ∙ e in
+      let g : length (out ++ (line_of top (r step) ++ text_of (top_after top (r step)) (map r later))) ≡ length whole = ap length f in
+      let h = length-append out (line_of top (r step) ++ text_of (top_after top (r step)) (map r later)) in
+      let i = length-append (line_of top (r step)) (text_of (top_after top (r step)) (map r later)) in
+      let j = length-append out (line_of top (r step)) in
+      omega arith
+
+  pub last_on : rest ≡ step ∷ later → (now now' : Step) → now' ≡ step → (end : Step) → last_of now rest ≡ end → last_of now' later ≡ end
+  last_on steps now now' is end e = ap (λ (s : Step). last_of s later) is ∙ ap (last_of now) (sym steps) ∙ e
+
+  pub top_of_on : rest ≡ step ∷ later → number ≡ top_after top (renumbered (behind b t) step) → (end : ℕ) → top_of top (map (renumbered (behind b t)) rest) ≡ end → top_of number (map (renumbered (behind b t)) later) ≡ end
+  top_of_on steps is end e =
+      ap (λ (n : ℕ). top_of n (map (renumbered (behind b t)) later)) is ∙ ap (λ (ss : List Step). top_of top (map (renumbered (behind b t)) ss)) (sym steps) ∙ e
+
+-- a line has a byte
+pub line_some : (out : List ℕ) (top : ℕ) (step : Step) → length out + 1 ≤ length (out ++ line_of top step)
+line_some out top step =
+    let a = length-append out (line_of top step) in
+    let b = length-append (line_text top step) (10 ∷ []) in
+    omega arith

@@ -1,0 +1,166 @@
+-- The fragments of a tree's leaves, and the whole text.
+use Rattle.std.proofs.Common.{◌≡◌, ℕ, ◌+◌, ◌^◌, ◌<◌, ◌≤◌, List, [], ◌∷◌, ◌++◌, map, length, take, get_or, drop, Result, Err, refl, sym, ◌∙◌, ap, subst, arith, append_assoc, length-append}
+use Rattle.std.specs.Prelude.{IsSome}
+use Rattle.std.specs.List.{All, Contains}
+use Rattle.std.specs.FinMap.{get}
+use Rattle.std.proofs.lemmas.List.{append-nil, take_more, length-take-le, take-append-drop}
+use Rattle.std.proofs.lemmas.List.Elements.{All-nil, All-cons, All-weaker, All-contains_itself}
+use Rattle.dimacs.specs.Base.{pure_literals, base_of}
+use Rattle.dimacs.specs.ClauseMap.{ClauseMap, map_of, live_in}
+use Rattle.dimacs.specs.Cnf.{Cnf, IsFormula}
+use Rattle.dimacs.specs.Literal.{Literal, IsWithin}
+use Rattle.icnf.specs.Leaves.{Cube, Leaves}
+use Rattle.lrat_text.specs.Grammar.{LineSpells, IsStep, IsClauseNumber, IsGroup}
+use Rattle.lrat_text.specs.Log.{after_step, top_after, IsLogStep, AreLogSteps, EndsAt, Negates, Closes}
+use Rattle.lrat_text.specs.Writing.{line_of}
+use Rattle.lrat_text.specs.declared.step.Step.{Step}
+use Rattle.lrat_text.specs.declared.step.Step.TheVariants.{Add, Delete}
+use Rattle.lrat_text.specs.Runs.{text_of, top_of}
+use Rattle.proof_join.specs.Joining.{Closed, leaf, fork, cubes, fragments, part, joined_text, AreSpelled, Joined, AllClose, unit_steps}
+use Rattle.proof_join.specs.Steps.{Writes, steps_in, steps_each, IsLow, AreLow, IsOwn, IsFragment, EndsByAddition, IsBelow}
+use Rattle.proof_join.proofs.JoinLemmas.{some_clause, tree_closed, units_accept}
+use Rattle.lrat_text.specs.Proof.{Accepts}
+use Rattle.cube_split.proofs.PureLemmas.{pure_within}
+use Rattle.proof_join.specs.declared.fault.JoinFault.{JoinFault}
+use Rattle.proof_join.specs.declared.fault.JoinFault.TheVariants.{TooLong, NoMemory}
+use Rattle.proof_join.proofs.MapLemmas.{AreBetween, between_formula, some_live}
+use Rattle.proof_join.proofs.PreambleLemmas.{units_length, units_lead}
+use Rattle.proof_join.proofs.RupLemmas.{hint_live}
+use Rattle.proof_join.proofs.ShapeLemmas.{joined_some, joined_once}
+use Rattle.proof_join.proofs.StepLemmas.{spelled_in}
+use Rattle.proof_join.proofs.TextLemmas.{step_between}
+use Rattle.lrat_text.proofs.RunLemmas.{text_append}
+use Rattle.proof_join.proofs.TreeLemmas.{ends}
+
+-- ---- fragments that close may be copied
+step_low : (m : ℕ) (M : ClauseMap) (top : ℕ) (step : Step) → IsLogStep m M top step → AreBetween top M → IsLow top step
+step_low m M top (Add id lits hints groups) (next, none, rup) between = (
+  next,
+  All-weaker (Contains hints) (λ h. h ≤ top) (λ h i. let d = hint_live (live_in M) lits hints rup h i in (between h d.0 d.1).1) hints (All-contains_itself hints),
+  none,
+)
+step_low m M top (Delete ids) (own, live, distinct) between =
+    All-weaker (λ id. IsSome (get M id)) (λ id. id ≤ top) (λ id some. let d = some_live M id some in (between id d.0 d.1).1) ids live
+
+steps_low : (m : ℕ) (M : ClauseMap) (top : ℕ) (steps : List Step) → AreLogSteps m M top steps → AreBetween top M → AreLow top steps
+steps_low m M top [] h between = tt
+steps_low m M top (step ∷ steps) h between = (step_low m M top step h.0 between, steps_low m (after_step M step) (top_after top step) steps h.1 (step_between m M top step h.0 between))
+
+closes_fragment : (B : Cnf) (q : Cube) (text : List ℕ) → Closes B q text → IsFragment (length B.clauses) text
+closes_fragment B q text (steps, spelled, log, (front, last, splits, n)) =
+    let e : steps_in text ≡ steps = spelled_in text steps spelled in
+    let z = ends q last n in
+    record {
+      own = record {
+        spelled = subst (LineSpells text) (sym e) spelled;
+        low = subst (AreLow (length B.clauses)) (sym e) (steps_low (length B.clauses) (map_of B) (length B.clauses) steps log (between_formula B));
+      };
+      ends = record { front = front; id = z.0; clause = z.1; hints = z.2; groups = z.3; splits = e ∙ splits ∙ ap (λ (s : Step). front ++ s ∷ []) z.4 };
+    }
+
+pub all_fragments : (B : Cnf) (leaves : List Cube) (texts : List (List ℕ)) → AllClose B leaves texts → All (IsFragment (length B.clauses)) texts
+all_fragments B [] [] h = All-nil (IsFragment (length B.clauses))
+all_fragments B [] (text ∷ texts) h = absurd h
+all_fragments B (q ∷ leaves) [] h = absurd h
+all_fragments B (q ∷ leaves) (text ∷ texts) h = All-cons (IsFragment (length B.clauses)) text texts (closes_fragment B q text h.0) (all_fragments B leaves texts h.1)
+
+pub each_spelled : (texts : List (List ℕ)) (steps : List (List Step)) → AreSpelled texts steps → steps_each texts ≡ steps
+each_spelled [] [] h = refl
+each_spelled [] (s ∷ steps) h = absurd h
+each_spelled (text ∷ texts) [] h = absurd h
+each_spelled (text ∷ texts) (s ∷ steps) h = ap (λ (x : List Step). x ∷ steps_each texts) (spelled_in text s h.0) ∙ ap (λ (xs : List (List Step)). s ∷ xs) (each_spelled texts steps h.1)
+
+-- ---- one unit more
+pub units_push : (top : ℕ) (units : List Literal) (l : Literal) → unit_steps top (units ++ l ∷ []) ≡ unit_steps top units ++ Add (top + length units + 1) (l ∷ []) [] [] ∷ []
+units_push top [] l = ap (λ (n : ℕ). Add (n + 1) (l ∷ []) [] [] ∷ []) (let e : top ≡ top + 0 = omega arith in e)
+units_push top (k ∷ units) l =
+    ap (λ (ss : List Step). Add (top + 1) (k ∷ []) [] [] ∷ ss) (units_push (top + 1) units l
+    ∙ ap (λ (n : ℕ). unit_steps (top + 1) units ++ Add (n + 1) (l ∷ []) [] [] ∷ []) (let e : (top + 1) + length units ≡ top + length (k ∷ units) = omega arith in e))
+
+pub units_top : (top : ℕ) (units : List Literal) → top_of top (unit_steps top units) ≡ top + length units
+units_top top [] = (let e : top ≡ top + 0 = omega arith in e)
+units_top top (l ∷ units) = units_top (top + 1) units ∙ (let e : (top + 1) + length units ≡ top + length (l ∷ units) = omega arith in e)
+
+pub unit_more : (out : List ℕ) (top : ℕ) (units : List Literal) (i id : ℕ) (l : Literal) (old : List ℕ) → i < length units → l ≡ get_or units i l → id ≡ top + i + 1 → old ≡ out ++ text_of top (unit_steps top (take i units))
+    → old ++ line_of id (Add id (l ∷ []) [] []) ≡ out ++ text_of top (unit_steps top (take (i + 1) units))
+unit_more out top units i id l old below is number e =
+    let long : length (take i units) ≡ i = length-take-le i units (omega arith) in
+    let step : Step = Add (top + length (take i units) + 1) (l ∷ []) [] [] in
+    ap (λ (o : List ℕ). o ++ line_of id (Add id (l ∷ []) [] [])) e
+    ∙ ap (λ (n : ℕ). (out ++ text_of top (unit_steps top (take i units))) ++ line_of n (Add n (l ∷ []) [] [])) (number ∙ ap (λ (n : ℕ). top + n + 1) (sym long))
+    ∙ append_assoc out (text_of top (unit_steps top (take i units))) (line_of 0 step)
+    ∙ ap (λ (xs : List ℕ). out ++ xs) (
+    ap (λ (xs : List ℕ). text_of top (unit_steps top (take i units)) ++ xs) (sym (append-nil (line_of 0 step)))
+    ∙ sym (text_append top (unit_steps top (take i units)) (step ∷ []))
+    ∙ ap (text_of top) (sym (units_push top (take i units) l) ∙ ap (λ (k : Literal). unit_steps top (take i units ++ k ∷ [])) is ∙ ap (unit_steps top) (sym (take_more units i l below))))
+
+unit_steps_append : (top : ℕ) (xs ys : List Literal) → unit_steps top (xs ++ ys) ≡ unit_steps top xs ++ unit_steps (top + length xs) ys
+unit_steps_append top [] ys = ap (λ (n : ℕ). unit_steps n ys) (let e : top ≡ top + 0 = omega arith in e)
+unit_steps_append top (x ∷ xs) ys =
+    ap (λ (ss : List Step). Add (top + 1) (x ∷ []) [] [] ∷ ss) (unit_steps_append (top + 1) xs ys
+    ∙ ap (λ (n : ℕ). unit_steps (top + 1) xs ++ unit_steps n ys) (let e : (top + 1) + length xs ≡ top + length (x ∷ xs) = omega arith in e))
+
+-- the lines of a front of the units begin those of all
+pub units_front : (out : List ℕ) (top n : ℕ) (units : List Literal)
+    → (out ++ text_of top (unit_steps top (take n units))) ++ text_of (top_of top (unit_steps top (take n units))) (unit_steps (top + length (take n units)) (drop n units)) ≡ out ++ text_of top (unit_steps top units)
+units_front out top n units =
+    append_assoc out (text_of top (unit_steps top (take n units))) (text_of (top_of top (unit_steps top (take n units))) (unit_steps (top + length (take n units)) (drop n units)))
+    ∙ ap (λ (xs : List ℕ). out ++ xs) (sym (text_append top (unit_steps top (take n units)) (unit_steps (top + length (take n units)) (drop n units)))
+    ∙ ap (text_of top) (sym (unit_steps_append top (take n units) (drop n units)) ∙ ap (unit_steps top) (take-append-drop n units)))
+
+pub pure_small : (F : Cnf) → F.vars ≤ 1000000 → All (IsWithin 2000000) (pure_literals F)
+pure_small F few = All-weaker (IsWithin F.vars) (IsWithin 2000000) (λ l h. let b = h.1 in (h.0, omega arith)) (pure_literals F) (pure_within F)
+
+pub base_length : (F : Cnf) → IsFormula F → length (base_of F).clauses ≡ length F.clauses + length (pure_literals F)
+base_length F limits = (units_lead F limits).count ∙ ap (λ (n : ℕ). length F.clauses + n) (units_length (length F.clauses) (pure_literals F))
+
+pub too_long : (A : Type 0) (fault : JoinFault) (new text : List ℕ) → fault ≡ TooLong → Writes {A = A} (Err fault) new text → 2 ^ 32 ≤ length text
+too_long A TooLong new text e h = h
+too_long A NoMemory new text e h = absurd cc
+
+-- ---- all together
+module _ (F : Cnf) (leaves : List Cube) (texts : List (List ℕ)) (tree : Leaves [] leaves) (close : AllClose (base_of F) leaves texts) where
+  abbrev pub whole : (text : List ℕ) × Joined F (unit_steps (length F.clauses) (pure_literals F)) leaves texts text
+  whole = joined_some F (base_of F) (unit_steps (length F.clauses) (pure_literals F)) leaves texts tree close
+
+  pub base_some : 1 ≤ length (base_of F).clauses
+  base_some = some_clause (base_of F) [] whole.1.tree (tree_closed (base_of F) whole.1.tree leaves texts whole.1.free whole.1.leaves_are close whole.1.spelled)
+
+  abbrev pub all_below : IsBelow leaves (steps_each texts) 0 0
+  all_below = record {
+    path = [];
+    tree = whole.1.tree;
+    later = [];
+    more = [];
+    long = refl;
+    leaves_are = sym (append-nil (cubes [] whole.1.tree) ∙ whole.1.leaves_are);
+    steps_are = each_spelled texts (fragments whole.1.tree) whole.1.spelled ∙ sym (append-nil (fragments whole.1.tree));
+  }
+
+  pub whole_is : (base : ℕ) → base ≡ length F.clauses + length (pure_literals F)
+      → text_of (length F.clauses) (unit_steps (length F.clauses) (pure_literals F)) ++ text_of base (part base [] base whole.1.tree).steps ≡ whole.0
+  whole_is base e =
+      let m : ℕ = length F.clauses in
+      let units : List Step = unit_steps m (pure_literals F) in
+      let b : ℕ = m + length units in
+      let same : base ≡ b = e ∙ ap (λ (n : ℕ). m + n) (sym (units_length m (pure_literals F))) in
+      ap (λ (n : ℕ). text_of m units ++ text_of n (part n [] n whole.1.tree).steps) same
+      ∙ ap (λ (n : ℕ). text_of m units ++ text_of n (part b [] b whole.1.tree).steps) (sym (units_top m (pure_literals F) ∙ ap (λ (n : ℕ). m + n) (sym (units_length m (pure_literals F)))))
+      ∙ sym (text_append m units (part b [] b whole.1.tree).steps)
+      ∙ sym whole.1.is
+
+  pub whole_once : (text : List ℕ) → Joined F (unit_steps (length F.clauses) (pure_literals F)) leaves texts text → text ≡ whole.0
+  whole_once text j = joined_once F (unit_steps (length F.clauses) (pure_literals F)) leaves texts text whole.0 j whole.1
+
+  pub whole_joined : (text : List ℕ) → text ≡ whole.0 → Joined F (unit_steps (length F.clauses) (pure_literals F)) leaves texts text
+  whole_joined text e = subst (Joined F (unit_steps (length F.clauses) (pure_literals F)) leaves texts) (sym e) whole.1
+
+  pub whole_accepts : (text : List ℕ) → IsFormula F → text ≡ whole.0 → length text < 2 ^ 32 → Accepts F text
+  whole_accepts text limits e short = units_accept F leaves texts text limits close (whole_joined text e) short
+
+  -- what is too long before the end is too long at the end
+  pub whole_long : (short more text : List ℕ) → short ++ more ≡ whole.0 → 2 ^ 32 ≤ length short → Joined F (unit_steps (length F.clauses) (pure_literals F)) leaves texts text → 2 ^ 32 ≤ length text
+  whole_long short more text e long j =
+      let a : length (short ++ more) ≡ length text = ap length (e ∙ sym (whole_once text j)) in
+      let b = length-append short more in
+      omega arith

@@ -1,0 +1,140 @@
+//! Joins the fragments of a tree's leaves.
+
+ghost use Rattle.std.specs.Prelude.{◌≡◌, ℕ, ◌+◌, ◌^◌, ◌<◌, ◌≤◌, ◌++◌, List, [], map, length, slice_index_or, All, OnOk, IfOk, IfErr};
+ghost use Rattle.dimacs.specs.Base.{pure_literals, base_of};
+ghost use Rattle.dimacs.specs.Literal.{IsWithin};
+ghost use Rattle.lrat_text.specs.Proof.{Accepts};
+ghost use Rattle.proof_join.specs.Joining.{AllClose, Joined, cubes, part, unit_steps};
+ghost use Rattle.lrat_text.specs.Runs.{text_of};
+ghost use Rattle.proof_join.specs.Steps.{IsBelow, IsFragment, Writes, steps_each};
+
+use crate::fault::JoinFault;
+use crate::lines::put_line;
+use crate::subtree::{Subtree, Writer, put_fork, put_leaf};
+use cube_split::Preamble;
+use dimacs::{Formula, Lit};
+use icnf::Tree;
+use lrat_text::{Groups, StepBuffer, StepRef};
+use std::alloc::Global;
+
+/// The text of the fragment at a place.
+fn text_at(fragments: &[Vec<u8>], i: usize) -> &[u8]
+    requires { i < length fragments.now }
+    ensures { result.now ≡ slice_index_or (map (λ v. v.items) fragments.now) i [] }
+{
+    &fragments[i]
+}
+
+/// Appends the part of the subtree whose leaves begin at `next`, below a path of `depth` literals, and goes on behind
+/// these leaves.
+fn join_below(
+    alloc: Global,
+    tree: &Tree,
+    fragments: &[Vec<u8>],
+    base: u64,
+    writer: &mut Writer,
+    next: &mut usize,
+    depth: usize,
+) -> Result<Subtree, JoinFault>
+    requires below { IsBelow tree.now (steps_each (map (λ v. v.items) fragments.now)) next.old depth }
+    requires fragments { All (IsFragment base) (map (λ v. v.items) fragments.now) }
+    requires begun { (1 ≤ base) × (base ≤ writer.old.top) × (writer.old.top ≤ base + length writer.old.out.items) }
+    requires short { (base < 2 ^ 40) × (length writer.old.out.items < 2 ^ 32) }
+    ensures text { (h : IsBelow tree.now (steps_each (map (λ v. v.items) fragments.now)) next.old depth)
+        → Writes result writer.new.out.items (writer.old.out.items ++ text_of writer.old.top (part base h.path writer.old.top h.tree).steps) }
+    ensures top { OnOk result ((h : IsBelow tree.now (steps_each (map (λ v. v.items) fragments.now)) next.old depth)
+        → writer.new.top ≡ (part base h.path writer.old.top h.tree).top) }
+    ensures next { OnOk result ((h : IsBelow tree.now (steps_each (map (λ v. v.items) fragments.now)) next.old depth)
+        → next.new ≡ next.old + length (cubes h.path h.tree)) }
+    ensures id { IfOk result (λ s. (h : IsBelow tree.now (steps_each (map (λ v. v.items) fragments.now)) next.old depth)
+        → s.id ≡ (part base h.path writer.old.top h.tree).id) }
+    ensures clause { IfOk result (λ s. (h : IsBelow tree.now (steps_each (map (λ v. v.items) fragments.now)) next.old depth)
+        → s.clause.items ≡ (part base h.path writer.old.top h.tree).clause) }
+    ensures few { OnOk result ((writer.old.top ≤ writer.new.top) × (writer.new.top ≤ base + length writer.new.out.items)) }
+    ensures small { IfOk result (λ s. (1 ≤ s.id) × (s.id ≤ writer.new.top) × All (IsWithin 2000000) s.clause.items) }
+{
+    let _ = tree.leaves();
+    let place = *next;
+    let cube = tree.cube(place);
+    if cube.len() == depth {
+        *next = place + 1;
+        return put_leaf(alloc, writer, base, text_at(fragments, place));
+    }
+    let left = match join_below(alloc, tree, fragments, base, writer, next, depth + 1) {
+        Ok(left) => left,
+        Err(fault) => return Err(fault),
+    };
+    let right = match join_below(alloc, tree, fragments, base, writer, next, depth + 1) {
+        Ok(right) => right,
+        Err(fault) => return Err(fault),
+    };
+    put_fork(alloc, writer, &cube[..depth], cube[depth], left, right)
+}
+
+/// Appends the unit clauses of a preamble, numbered on behind `top`, and tells the number of the last one.
+fn put_units(alloc: Global, out: &mut Vec<u8>, top: u64, units: &[Lit]) -> Result<u64, JoinFault>
+    requires few { (top ≤ 4000000) × (length units.now ≤ 1000000) }
+    requires within { All (IsWithin 2000000) units.now }
+    requires short { length out.old.items < 2 ^ 32 }
+    ensures text { Writes result out.new.items (out.old.items ++ text_of top (unit_steps top units.now)) }
+    ensures top { IfOk result (λ n. n ≡ top + length units.now) }
+{
+    let groups = Groups::new(alloc);
+    let mut last = top;
+    for unit in units {
+        let id = last + 1;
+        let line = StepRef::Add {
+            id,
+            lits: &[*unit],
+            hints: &[],
+            groups: &groups,
+        };
+        match put_line(out, id, line) {
+            Ok(()) => last = id,
+            Err(fault) => return Err(fault),
+        }
+    }
+    Ok(last)
+}
+
+/// Joins the fragments that close the leaves of a tree into one proof: the preamble's lines, and then each subtree's, the
+/// left branch before the right one and both before the fork.
+///
+/// It answers `TooLong` only where the text would have 2^32 bytes or more.
+pub fn join(
+    alloc: Global,
+    formula: &Formula,
+    preamble: &Preamble,
+    tree: &Tree,
+    fragments: &[Vec<u8>],
+) -> Result<Vec<u8>, JoinFault>
+    requires pure { preamble.now ≡ pure_literals formula.now }
+    requires closed { AllClose (base_of formula.now) tree.now (map (λ v. v.items) fragments.now) }
+    ensures joined { IfOk result (λ text. Joined formula.now (unit_steps (length formula.now.clauses) (pure_literals formula.now)) tree.now (map (λ v. v.items) fragments.now) text.items) }
+    ensures short { IfOk result (λ text. length text.items < 2 ^ 32) }
+    ensures long { IfErr result (λ f. f ≡ JoinFault.TooLong → (text : List ℕ)
+        → Joined formula.now (unit_steps (length formula.now.clauses) (pure_literals formula.now)) tree.now (map (λ v. v.items) fragments.now) text → 2 ^ 32 ≤ length text) }
+    // What is joined is a proof of the formula alone.
+    ensures accepted { IfOk result (λ text. Accepts formula.now text.items) }
+{
+    let _ = tree.leaves();
+    let _ = formula.vars();
+    let mut out = Vec::new(alloc);
+    let base = match put_units(alloc, &mut out, formula.len() as u64, preamble.units()) {
+        Ok(base) => base,
+        Err(fault) => return Err(fault),
+    };
+    let mut writer = Writer {
+        out,
+        top: base,
+        buffer: StepBuffer::new(alloc),
+        numbers: Vec::new(alloc),
+    };
+    let mut next = 0;
+    match join_below(alloc, tree, fragments, base, &mut writer, &mut next, 0) {
+        Ok(_) => {}
+        Err(fault) => return Err(fault),
+    }
+    let Writer { out, .. } = writer;
+    Ok(out)
+}

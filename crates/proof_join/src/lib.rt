@@ -1,0 +1,19 @@
+//! One proof of a formula from the fragments that close the leaves of a splitting tree.
+//!
+//! A fragment is a log over the formula's base that closes its cube. In the joined text the preamble's lines come first, then
+//! the fragments from left to right, each under numbers of its own, and behind the two branches of a fork the line that
+//! resolves their clauses, where one is needed. What a layer above may rest on: [`join`] gives the text that the definition
+//! fixes, and it is an accepted proof of the formula alone.
+#![tactic(auto)]
+
+mod examples;
+mod fault;
+mod joining;
+mod laws;
+mod lines;
+mod subtree;
+
+pub use examples::worked_joins;
+pub use fault::JoinFault;
+pub use joining::join;
+pub use laws::{joined_is_accepted, one_text_is_joined, units_are_a_preamble};

@@ -1,0 +1,149 @@
+//! The clauses that stand for subtrees.
+
+ghost use Rattle.std.specs.Prelude.{◌≡◌, ◌+◌, ◌^◌, ◌<◌, ◌≤◌, ◌++◌, ◌∷◌, [], ◌||◌, true, false, List, map, filter, length, take, All, OnOk, IfOk};
+ghost use Rattle.dimacs.specs.Literal.{Clause, IsWithin, negation, has};
+ghost use Rattle.lrat_text.specs.declared.step.Step.{Step};
+ghost use Rattle.proof_join.specs.Joining.{leaf_part, resolvent};
+ghost use Rattle.lrat_text.specs.Runs.{text_of};
+ghost use Rattle.proof_join.specs.Steps.{IsFragment, Writes, clause_of, own_part, steps_in};
+
+use crate::fault::JoinFault;
+use crate::lines::{put_fragment, put_line};
+use dimacs::Lit;
+use lrat_text::{Groups, StepBuffer, StepRef};
+use std::alloc::{AllocError, Global};
+
+/// The clause that stands for a subtree, and its number.
+#[derive(Drop)]
+pub(crate) struct Subtree {
+    pub(crate) id: u64,
+    pub(crate) clause: Vec<Lit>,
+}
+
+/// The text so far with the number of its last addition, and what a fragment is read into.
+#[derive(Drop)]
+pub(crate) struct Writer {
+    pub(crate) out: Vec<u8>,
+    pub(crate) top: u64,
+    pub(crate) buffer: StepBuffer,
+    pub(crate) numbers: Vec<u64>,
+}
+
+/// Whether the clause holds the literal.
+fn holds(clause: &[Lit], literal: Lit) -> bool
+    ensures { result ≡ has clause.now literal }
+{
+    for l in clause {
+        if literal == *l {
+            return true;
+        }
+    }
+    false
+}
+
+/// The negations of the path's literals that stand negated in one of two clauses.
+fn resolve(alloc: Global, path: &[Lit], left: &[Lit], right: &[Lit]) -> Result<Vec<Lit>, AllocError>
+    ensures { IfOk result (λ c. c.items ≡ resolvent path.now left.now right.now) }
+{
+    let mut clause = Vec::new(alloc);
+    for l in path {
+        let negated = l.negate();
+        if holds(left, negated) || holds(right, negated) {
+            clause.push(negated)?;
+        }
+    }
+    Ok(clause)
+}
+
+/// The clause of the step that was read last.
+fn last_clause(alloc: Global, buffer: &StepBuffer) -> Result<Vec<Lit>, AllocError>
+    ensures { IfOk result (λ c. c.items ≡ clause_of buffer.now) }
+{
+    match buffer.as_ref() {
+        StepRef::Add { lits, .. } => Vec::from_slice(alloc, lits),
+        StepRef::Delete { .. } => Ok(Vec::new(alloc)),
+    }
+}
+
+/// Appends a leaf's fragment, whose numbers behind `base` go on behind those written.
+pub(crate) fn put_leaf(
+    alloc: Global,
+    writer: &mut Writer,
+    base: u64,
+    fragment: &[u8],
+) -> Result<Subtree, JoinFault>
+    requires fragment { IsFragment base fragment.now }
+    requires begun { (1 ≤ base) × (base ≤ writer.old.top) × (writer.old.top ≤ base + length writer.old.out.items) }
+    requires short { (base < 2 ^ 40) × (length writer.old.out.items < 2 ^ 32) }
+    ensures text { Writes result writer.new.out.items (writer.old.out.items ++ text_of writer.old.top (leaf_part base writer.old.top (steps_in fragment.now)).steps) }
+    ensures top { OnOk result (writer.new.top ≡ (leaf_part base writer.old.top (steps_in fragment.now)).top) }
+    ensures subtree { IfOk result (λ s. (s.id ≡ (leaf_part base writer.old.top (steps_in fragment.now)).id) × (s.clause.items ≡ (leaf_part base writer.old.top (steps_in fragment.now)).clause)) }
+    ensures few { OnOk result ((writer.old.top ≤ writer.new.top) × (writer.new.top ≤ base + length writer.new.out.items)) }
+    ensures small { IfOk result (λ s. (1 ≤ s.id) × (s.id ≤ writer.new.top) × All (IsWithin 2000000) s.clause.items) }
+{
+    let begun = writer.top;
+    match put_fragment(
+        &mut writer.out,
+        &mut writer.buffer,
+        &mut writer.numbers,
+        base,
+        begun,
+        fragment,
+    ) {
+        Ok(top) => writer.top = top,
+        Err(fault) => return Err(fault),
+    }
+    match last_clause(alloc, &writer.buffer) {
+        Ok(clause) => Ok(Subtree {
+            id: writer.top,
+            clause,
+        }),
+        Err(_) => Err(JoinFault::NoMemory),
+    }
+}
+
+/// Appends the line of a fork behind those of its branches, where one is needed.
+pub(crate) fn put_fork(
+    alloc: Global,
+    writer: &mut Writer,
+    path: &[Lit],
+    branch: Lit,
+    left: Subtree,
+    right: Subtree,
+) -> Result<Subtree, JoinFault>
+    requires left { (1 ≤ left.id) × (left.id ≤ writer.old.top) × All (IsWithin 2000000) left.clause.items }
+    requires right { (1 ≤ right.id) × (right.id ≤ writer.old.top) × All (IsWithin 2000000) right.clause.items }
+    requires top { (1 ≤ writer.old.top) × (writer.old.top + 1 < 2 ^ 48) }
+    requires short { length writer.old.out.items < 2 ^ 32 }
+    ensures text { Writes result writer.new.out.items (writer.old.out.items ++ text_of writer.old.top (own_part path.now branch writer.old.top left.id left.clause.items right.id right.clause.items).steps) }
+    ensures top { OnOk result (writer.new.top ≡ (own_part path.now branch writer.old.top left.id left.clause.items right.id right.clause.items).top) }
+    ensures id { IfOk result (λ s. s.id ≡ (own_part path.now branch writer.old.top left.id left.clause.items right.id right.clause.items).id) }
+    ensures clause { IfOk result (λ s. s.clause.items ≡ (own_part path.now branch writer.old.top left.id left.clause.items right.id right.clause.items).clause) }
+    ensures few { OnOk result ((writer.old.top ≤ writer.new.top) × (writer.new.top + length writer.old.out.items ≤ writer.old.top + length writer.new.out.items)) }
+    ensures small { IfOk result (λ s. (1 ≤ s.id) × (s.id ≤ writer.new.top) × All (IsWithin 2000000) s.clause.items) }
+{
+    if !holds(&left.clause, branch.negate()) {
+        return Ok(left);
+    }
+    if !holds(&right.clause, branch) {
+        return Ok(right);
+    }
+    let clause = match resolve(alloc, path, &left.clause, &right.clause) {
+        Ok(clause) => clause,
+        Err(_) => return Err(JoinFault::NoMemory),
+    };
+    let id = writer.top + 1;
+    let groups = Groups::new(alloc);
+    let line = StepRef::Add {
+        id,
+        lits: &clause,
+        hints: &[left.id, right.id],
+        groups: &groups,
+    };
+    match put_line(&mut writer.out, writer.top, line) {
+        Ok(()) => {}
+        Err(fault) => return Err(fault),
+    }
+    writer.top = id;
+    Ok(Subtree { id, clause })
+}

@@ -1,0 +1,26 @@
+use Rattle.std.proofs.Common.{◌≡◌, List, sym, ap, subst, ◌∙◌, arith}
+use Rattle.std.specs.Vec.{with_items}
+use Rattle.std.proofs.lemmas.List.{with_items_is}
+use Rattle.clause_arena.specs.declared.reference.Ref.{Ref}
+use Rattle.watches.specs.Moving.{AreFollowed}
+use Rattle.watches.specs.Scanning.{numbers}
+use Rattle.watches.specs.Ready.{Watches, IsReady}
+use Rattle.watches.proofs.MovingLemmas.{numbers_followed}
+use Rattle.watches.proofs.ReadyLemmas.{ready_followed}
+use Rattle.watches.proofs.watched.WatchedPropagator.moved.Goals as goal
+
+after : (c : goal.After-self-1) → (with_items c.self.inside.clauses c.follow_all.new.clauses).items ≡ c.follow_all.new.clauses
+after c = with_items_is c.self.inside.clauses c.follow_all.new.clauses (omega (arith, c.follow_all.ensures.long, c.deref_mut.ensures.len))
+
+followed : (c : goal.After-self-1) → AreFollowed c.args.moves.now c.self.inside.clauses.items c.follow_all.new.clauses
+followed c = subst (λ (xs : List Ref). AreFollowed c.args.moves.now xs c.follow_all.new.clauses) c.deref_mut.ensures.value c.follow_all.ensures
+
+pub returns-clause-ready : goal.returns-clause-ready
+returns-clause-ready c = λ m k t h r.
+    let i = c.self.inside in
+    let w : Watches = record { places = i.places.items; clauses = i.clauses.items; base = i.base; head = i.head; stale = i.stale } in
+    subst (λ (cs : List Ref). IsReady (record w { clauses = cs }) k t) (sym (after c))
+    (ready_followed w c.follow_all.new.clauses c.args.moves.now (followed c) m k t h (subst (λ (x : Watches). IsReady x m t) (sym c.self.view_is) r))
+
+pub returns-clause-attached : goal.returns-clause-attached
+returns-clause-attached c = λ m k h. ap numbers (after c) ∙ numbers_followed c.args.moves.now c.self.inside.clauses.items c.follow_all.new.clauses (followed c) ∙ ap (λ (w : Watches). numbers w.clauses) c.self.view_is

@@ -1,0 +1,15 @@
+use Rattle.clause_arena.specs.Clauses.{live_of}
+use Rattle.watches.specs.Law.{Grows, AreSame, live_among}
+use Rattle.watches.specs.Scanning.{numbers}
+use Rattle.watches.specs.Walking.{Wake, left_behind}
+use Rattle.watches.proofs.watched.wake.wake_all.Given as goal
+
+abbrev pub invariant-chain : goal.invariant-chain
+invariant-chain l = record {
+  wake : Wake l.places l.clauses l.base l.head l.arena l.trail l.previous;
+  grows : Grows (live_among (numbers l.clauses) (live_of l.fn.arena)) l.fn.trail l.trail;
+  same : AreSame l.fn.arena l.arena;
+}
+
+abbrev pub decreases-chain : goal.decreases-chain
+decreases-chain l = left_behind l.places l.previous

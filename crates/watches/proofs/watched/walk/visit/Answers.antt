@@ -1,0 +1,97 @@
+use Rattle.std.proofs.Common.{sym, ap, subst, ◌∙◌, arith, Some}
+use Rattle.dimacs.specs.Literal.{IsWithin}
+use Rattle.clause_arena.specs.Clauses.{live_of, Stands}
+use Rattle.watches.specs.Trails.{holds}
+use Rattle.watches.specs.declared.trail.Assigned.{Assigned}
+use Rattle.watches.specs.Law.{live_among, IsImplied}
+use Rattle.watches.specs.Scanning.{numbers}
+use Rattle.watches.proofs.Swept.{Grows-refl, Grows-push, AreSame-refl}
+use Rattle.watches.proofs.GuardLemmas.{holds_up_to}
+use Rattle.watches.specs.Walking.{Stops}
+use Rattle.watches.proofs.WalkLemmas as WL
+use Rattle.watches.proofs.watched.walk.visit.Goals as goal
+
+pub other_literal-other-requires : goal.other_literal-other-requires
+other_literal-other-requires c = (WL.twin_in c.args.places.now c.args.clauses.now c.args.base c.args.head c.args.arena.now c.args.trail.now c.args.falsified c.args.level c.args.previous c.args.here c.requires.walk c.requires.here_is c.requires.there).1
+
+pub value-value-requires : goal.value-value-requires
+value-value-requires c = subst (IsWithin c.args.trail.now.vars) (sym c.other_literal-other.ensures) (WL.other_in c.args.places.now c.args.clauses.now c.args.base c.args.head c.args.arena.now c.args.trail.now c.args.falsified c.args.level c.args.previous c.args.here c.requires.walk c.requires.here_is c.requires.there)
+
+pub owner_of-clause-requires-clause-low : goal.owner_of-clause-requires-clause-low
+owner_of-clause-requires-clause-low c = (WL.here_long c.args.places.now c.args.clauses.now c.args.base c.args.head c.args.arena.now c.args.trail.now c.args.falsified c.args.level c.args.previous c.args.here c.requires.walk c.requires.here_is c.requires.there).0
+
+pub owner_of-clause-requires-clause-within : goal.owner_of-clause-requires-clause-within
+owner_of-clause-requires-clause-within c = WL.owner_in c.args.places.now c.args.clauses.now c.args.base c.args.head c.args.arena.now c.args.trail.now c.args.falsified c.args.level c.args.previous c.args.here c.requires.walk c.requires.here_is c.requires.there
+
+pub clause-requires : goal.clause-requires
+clause-requires c = record { live = let s = WL.standing c.args.places.now c.args.clauses.now c.args.base c.args.head c.args.arena.now c.args.trail.now c.args.falsified c.args.level c.args.previous c.args.here c.requires.walk c.requires.here_is c.requires.there in (s.0, subst (λ a. Stands c.args.arena.now a s.0) (sym c.owner_of-clause.ensures) s.1) }
+
+pub find_watch-requires : goal.find_watch-requires
+find_watch-requires c = WL.ws_in c.args.places.now c.args.clauses.now c.args.base c.args.head c.args.arena.now c.args.trail.now c.args.falsified c.args.level c.args.previous c.args.here c.requires.walk c.requires.here_is c.requires.there c.owner_of-clause.result c.owner_of-clause.ensures c.clause.result.now c.clause.ensures.literals
+
+pub swap-requires : goal.swap-requires
+swap-requires c =
+    let s = WL.standing c.args.places.now c.args.clauses.now c.args.base c.args.head c.args.arena.now c.args.trail.now c.args.falsified c.args.level c.args.previous c.args.here c.requires.walk c.requires.here_is c.requires.there in
+    let l = WL.lens c.args.places.now c.args.clauses.now c.args.base c.args.head c.args.arena.now c.args.trail.now c.args.falsified c.args.level c.args.previous c.args.here c.requires.walk c.requires.here_is c.requires.there c.owner_of-clause.result c.owner_of-clause.ensures c.clause.result.now c.clause.ensures.literals in
+    record { live = (s.0, WL.stands_at c.args.places.now c.args.clauses.now c.args.base c.args.head c.args.arena.now c.args.trail.now c.args.falsified c.args.level c.args.previous c.args.here c.requires.walk c.requires.here_is c.requires.there c.owner_of-clause.result c.owner_of-clause.ensures c.clause.result.now c.clause.ensures.literals); i_in = l.0; j_in = omega (arith, c.in-Some.ensures.1, l.1) }
+
+pub next_place-next-requires : goal.next_place-next-requires
+next_place-next-requires c = (WL.here_long c.args.places.now c.args.clauses.now c.args.base c.args.head c.args.arena.now c.args.trail.now c.args.falsified c.args.level c.args.previous c.args.here c.requires.walk c.requires.here_is c.requires.there).1
+
+pub relink-requires : goal.relink-requires
+relink-requires c =
+    let x_in = WL.found_in c.args.places.now c.args.clauses.now c.args.base c.args.head c.args.arena.now c.args.trail.now c.args.falsified c.args.level c.args.previous c.args.here c.requires.walk c.requires.here_is c.requires.there c.owner_of-clause.result c.owner_of-clause.ensures c.clause.result.now c.clause.ensures.literals c.in-Some.found.place c.in-Some.found.literal c.in-Some.ensures in
+    let x_apart = WL.found_apart c.args.places.now c.args.clauses.now c.args.base c.args.head c.args.arena.now c.args.trail.now c.args.falsified c.args.level c.args.previous c.args.here c.requires.walk c.requires.here_is c.requires.there c.owner_of-clause.result c.owner_of-clause.ensures c.clause.result.now c.clause.ensures.literals c.in-Some.found.place c.in-Some.found.literal c.in-Some.ensures in
+    let is = c.index-head.ensures.value in
+    let h = WL.head_in c.args.places.now c.args.clauses.now c.args.base c.args.head c.args.arena.now c.args.trail.now c.args.falsified c.args.level c.args.previous c.args.here c.requires.walk c.requires.here_is c.requires.there c.in-Some.found.literal x_in in
+    record {
+      previous_in = WL.previous_in c.args.places.now c.args.clauses.now c.args.base c.args.head c.args.arena.now c.args.trail.now c.args.falsified c.args.level c.args.previous c.args.here c.requires.walk c.requires.here_is c.requires.there;
+      at_in = (WL.here_long c.args.places.now c.args.clauses.now c.args.base c.args.head c.args.arena.now c.args.trail.now c.args.falsified c.args.level c.args.previous c.args.here c.requires.walk c.requires.here_is c.requires.there).1;
+      small = omega (arith, (WL.here_long c.args.places.now c.args.clauses.now c.args.base c.args.head c.args.arena.now c.args.trail.now c.args.falsified c.args.level c.args.previous c.args.here c.requires.walk c.requires.here_is c.requires.there).1, c.requires.few);
+      head_in = omega (arith, h.1);
+      apart = WL.previous_apart c.args.places.now c.args.clauses.now c.args.base c.args.head c.args.arena.now c.args.trail.now c.args.falsified c.args.level c.args.previous c.args.here c.requires.walk c.requires.here_is c.requires.there;
+      apart_head = λ e. WL.head_apart c.args.places.now c.args.clauses.now c.args.base c.args.head c.args.arena.now c.args.trail.now c.args.falsified c.args.level c.args.previous c.args.here c.requires.walk c.requires.here_is c.requires.there c.in-Some.found.literal x_in (sym is ∙ e);
+      apart_both = λ e. WL.heads_apart c.args.places.now c.args.clauses.now c.args.base c.args.head c.args.arena.now c.args.trail.now c.args.falsified c.args.level c.args.previous c.args.here c.requires.walk c.requires.here_is c.requires.there c.in-Some.found.literal x_in x_apart (e ∙ is);
+      next_is = c.next_place-next.ensures;
+    }
+
+pub push-requires : goal.push-requires
+push-requires c =
+    record {
+      within = subst (IsWithin c.args.trail.now.vars) (sym c.other_literal-other.ensures) (WL.other_in c.args.places.now c.args.clauses.now c.args.base c.args.head c.args.arena.now c.args.trail.now c.args.falsified c.args.level c.args.previous c.args.here c.requires.walk c.requires.here_is c.requires.there);
+      not_true = c.in-Free.ensures.0;
+      not_false = c.in-Free.ensures.1;
+      rising = c.level.ensures.greatest;
+    }
+
+pub returns-in-True : goal.returns-in-True
+returns-in-True c = record {
+  trail = Grows-refl (live_among (numbers c.args.clauses.now) (live_of c.args.arena.now)) c.args.trail.now;
+  clauses = AreSame-refl c.args.arena.now;
+  visits = WL.stays c.args.places.now c.args.clauses.now c.args.base c.args.head c.args.arena.now c.args.trail.now c.args.falsified c.args.level c.args.previous c.args.here c.requires.walk c.requires.here_is c.requires.there (holds_up_to c.args.trail.now.entries c.args.level _ c.requires.walk.levels (ap (holds c.args.trail.now.entries) (sym c.other_literal-other.ensures) ∙ c.in-True.ensures.0));
+}
+
+pub returns-in-False : goal.returns-in-False
+returns-in-False c = record {
+  trail = Grows-refl (live_among (numbers c.args.clauses.now) (live_of c.args.arena.now)) c.args.trail.now;
+  clauses = AreSame-refl c.args.arena.now;
+  visits = subst (Stops c.args.places.now c.args.clauses.now c.args.base c.args.head c.args.arena.now c.args.trail.now) (sym c.number.ensures)
+      (WL.stops c.args.places.now c.args.clauses.now c.args.base c.args.head c.args.arena.now c.args.trail.now c.args.falsified c.args.level c.args.previous c.args.here c.requires.walk c.requires.here_is c.requires.there c.owner_of-clause.result c.owner_of-clause.ensures c.clause.result.now c.clause.ensures.literals c.in-None.ensures c.other_literal-other.result c.other_literal-other.ensures c.in-False.ensures.1);
+}
+
+pub returns-in-Free : goal.returns-in-Free
+returns-in-Free c =
+    let i = WL.implies c.args.places.now c.args.clauses.now c.args.base c.args.head c.args.arena.now c.args.trail.now c.args.falsified c.args.level c.args.previous c.args.here c.requires.walk c.requires.here_is c.requires.there c.owner_of-clause.result c.owner_of-clause.ensures c.clause.result.now c.clause.ensures.literals c.in-None.ensures c.other_literal-other.result c.level.result c.other_literal-other.ensures c.in-Free.ensures.0 c.in-Free.ensures.1 c.level.ensures.present in
+    let live = live_among (numbers c.args.clauses.now) (live_of c.args.arena.now) in
+    let e : Assigned = record { literal = c.other_literal-other.result; level = c.level.result; reason = Some c.number-in-Free.result } in
+    let i' : IsImplied live c.args.trail.now.entries e = subst (λ n. IsImplied live c.args.trail.now.entries (record { literal = c.other_literal-other.result; level = c.level.result; reason = Some n })) (sym c.number-in-Free.ensures) i in
+    record {
+      trail = Grows-push live c.args.trail.now c.args.trail.now c.push.new.self e (Grows-refl live c.args.trail.now) i' c.push.ensures.vars c.push.ensures.entries;
+      clauses = AreSame-refl c.args.arena.now;
+      visits = WL.stays_pushed c.args.places.now c.args.clauses.now c.args.base c.args.head c.args.arena.now c.args.trail.now c.args.falsified c.args.level c.args.previous c.args.here c.requires.walk c.requires.here_is c.requires.there c.push.new.self e c.other_literal-other.ensures c.in-Free.ensures.0 c.in-Free.ensures.1 c.level.ensures.present c.push.ensures.vars c.push.ensures.entries;
+    }
+
+pub returns-in-Some : goal.returns-in-Some
+returns-in-Some c =
+    let go = WL.moves_at c.args.places.now c.args.clauses.now c.args.base c.args.head c.args.arena.now c.args.trail.now c.args.falsified c.args.level c.args.previous c.args.here c.requires.walk c.requires.here_is c.requires.there c.owner_of-clause.result c.owner_of-clause.ensures c.clause.result.now c.clause.ensures.literals c.in-Some.found.place c.in-Some.found.literal c.in-Some.ensures c.clause.ensures.distinct c.swap.new.self c.swap.ensures c.relink.new.places c.index-head.result c.index-head.ensures.value c.relink.ensures in
+    record { trail = Grows-refl (live_among (numbers c.args.clauses.now) (live_of c.args.arena.now)) c.args.trail.now; clauses = go.0; visits = go.1 }

@@ -1,0 +1,157 @@
+//! Two watched literals a clause (Moskewicz, Madigan, Zhao, Zhang and Malik 2001).
+//!
+//! Each attached clause owns two places that lie side by side in one store, each with the literal that it watches and the next
+//! place of its chain. The heads of the chains stand at the front of the store: one for each literal, one for the places that
+//! wait to be looked at, one for those that need no look any more. So a watch moves by three stores and nothing grows, and
+//! the clause's other watched literal is at hand: where it is true, the clause is not read.
+
+ghost use Rattle.std.specs.Prelude.{◌≡◌, ℕ, ◌+◌, ◌*◌, ◌<◌, ◌≤◌, [], List};
+ghost use Rattle.watches.specs.Scanning.{numbers};
+ghost use Rattle.watches.specs.Ready.{IsReady};
+ghost use Rattle.watches.specs.ReadyLaws.{ready_pushed, ready_elsewhere};
+
+mod drain;
+mod lookup;
+mod ordering;
+mod outcome;
+mod places;
+mod renewal;
+mod replacement;
+mod wake;
+mod walk;
+
+use crate::moving::follow_all;
+use crate::propagator::Propagator;
+use crate::trail::Trail;
+use crate::watched::drain::drain;
+use crate::watched::lookup::find_clause;
+use crate::watched::ordering::put_best_first;
+use crate::watched::places::{Place, append};
+use crate::watched::renewal::{first_two, put_heads, renew};
+use clause_arena::{Arena, Ref};
+use std::alloc::{AllocError, Global};
+use std::marker::Model;
+
+/// Up to this variable the heads of the chains have numbers of 32 bits.
+const MOST_VARS: u32 = 2_147_483_647;
+
+/// Behind this many places there are numbers of 32 bits for two more.
+const MOST_PLACES: usize = 4_294_967_294;
+
+/// Watches two literals of each clause, and looks at the clause only where one of them becomes false.
+#[derive(Drop)]
+pub struct Watched {
+    places: Vec<Place>,
+    clauses: Vec<Ref>,
+    base: usize,
+    head: usize,
+    stale: bool,
+}
+
+impl Model for Watched {
+    ghost use Rattle.watches.specs.Ready.{Watches, AreWatches};
+
+    ghost Value = { Watches };
+
+    ghost view = { λ w. record { places = w.places.items; clauses = w.clauses.items; base = w.base; head = w.head; stale = w.stale } };
+
+    ghost invariant = { λ w. AreWatches w.places.items w.clauses.items w.base };
+}
+
+impl Watched {
+    /// No clause is attached.
+    pub fn new(alloc: Global) -> Watched
+        ensures { numbers result.clauses ≡ [] }
+    {
+        Watched {
+            places: Vec::new(alloc),
+            clauses: Vec::new(alloc),
+            base: 0,
+            head: 0,
+            stale: false,
+        }
+    }
+}
+
+impl Propagator for Watched {
+    ghost attached = { λ w. numbers w.clauses };
+
+    ghost is_ready = { λ w m t. IsReady w m t };
+
+    ghost pushed = { λ w m t u more h v e. ready_pushed w m t u more h v e };
+
+    ghost elsewhere = { λ w m k t h e. ready_elsewhere w m k t h e };
+
+    fn reserve(&mut self, vars: u32) -> Result<(), AllocError> {
+        if vars > MOST_VARS {
+            return Err(AllocError);
+        }
+        let base = 2 * (vars as usize) + 2;
+        let alloc = *self.places.allocator();
+        let mut places = Vec::with_capacity(alloc, base)?;
+        put_heads(&mut places, base);
+        self.places = places;
+        self.base = base;
+        self.head = 0;
+        self.stale = false;
+        Ok(())
+    }
+
+    fn attach(&mut self, arena: &mut Arena, trail: &Trail, at: Ref) -> Result<(), AllocError> {
+        if self.places.len() > MOST_PLACES {
+            return Err(AllocError);
+        }
+        self.clauses.reserve(1)?;
+        self.places.reserve(2)?;
+        put_best_first(arena, trail, at);
+        let pair = first_two(arena.clause(at));
+        self.clauses.push_reserved(at);
+        append(&mut self.places, pair.one, pair.two);
+        Ok(())
+    }
+
+    fn detach(&mut self, _arena: &Arena, at: Ref) {
+        if let Some(i) = find_clause(&self.clauses, at.number()) {
+            let _ = self.clauses.remove(i);
+            let len = self.places.len();
+            self.places.truncate(len - 2);
+            self.stale = true;
+        }
+    }
+
+    fn moved(&mut self, moves: &[(Ref, Ref)]) {
+        follow_all(&mut self.clauses, moves);
+    }
+
+    fn undo(&mut self, trail: &mut Trail, level: u32) {
+        trail.cut(level);
+        let len = trail.len();
+        if len < self.head {
+            self.head = len;
+        }
+    }
+
+    fn propagate(&mut self, arena: &mut Arena, trail: &mut Trail) -> Option<u64> {
+        let base = self.base;
+        let mut head = renew(
+            &mut self.places,
+            &self.clauses,
+            base,
+            arena,
+            trail,
+            self.stale,
+            self.head,
+        );
+        let found = drain(
+            &mut self.places,
+            &self.clauses,
+            base,
+            arena,
+            trail,
+            &mut head,
+        );
+        self.head = head;
+        self.stale = false;
+        found
+    }
+}

@@ -1,0 +1,41 @@
+//! Where a clause stands among the attached ones.
+
+ghost use Rattle.std.specs.Prelude.{◌≡◌, ℕ, ◌+◌, ◌-◌, ◌<◌, ◌≤◌, Contains, length, slice_index_or, IfSome, IfNone};
+ghost use Rattle.watches.specs.Scanning.{numbers};
+ghost use Rattle.watches.specs.Watching.{no_clause};
+
+use clause_arena::Ref;
+
+/// Where a number stands, or would stand, among numbers that rise.
+fn place_of(clauses: &[Ref], number: u64) -> usize
+    ensures { result ≤ length clauses.now }
+{
+    let mut low = 0;
+    let mut high = clauses.len();
+    while low < high {
+        let middle = low + (high - low) / 2;
+        if clauses[middle].number() < number {
+            low = middle + 1;
+        } else {
+            high = middle;
+        }
+    }
+    low
+}
+
+/// Where the clause of a number stands. The numbers mostly rise, so that halving finds it; else each clause is looked at.
+pub(crate) fn find_clause(clauses: &[Ref], number: u64) -> Option<usize>
+    ensures some { IfSome result (λ i. (i < length clauses.now) × ((slice_index_or clauses.now i no_clause).number ≡ number)) }
+    ensures none { IfNone result (Contains (numbers clauses.now) number → ⊥) }
+{
+    let guess = place_of(clauses, number);
+    if guess < clauses.len() && clauses[guess].number() == number {
+        return Some(guess);
+    }
+    for i in 0..clauses.len() {
+        if clauses[i].number() == number {
+            return Some(i);
+        }
+    }
+    None
+}

@@ -1,0 +1,67 @@
+//! The literals of a clause that are best to watch.
+
+ghost use Rattle.std.specs.Prelude.{◌≡◌, ◌≢◌, ℕ, ◌+◌, ◌<◌, ◌≤◌, All, length};
+ghost use Rattle.std.specs.FinMap as fin;
+ghost use Rattle.dimacs.specs.Literal.{Clause, IsWithin};
+ghost use Rattle.clause_arena.specs.Clauses.{Stands, IsLive};
+ghost use Rattle.watches.specs.Law.{AreSame};
+
+use crate::trail::Trail;
+use crate::truth::Truth;
+use clause_arena::{Arena, Ref};
+use dimacs::Lit;
+
+/// The level at which a literal became false, or the greatest number where it is not false.
+fn falsified_at(literal: Lit, trail: &Trail) -> u64
+    requires { IsWithin trail.now.vars literal }
+{
+    match trail.value(literal) {
+        Truth::False => u64::from(trail.entry_of(literal.negate()).level),
+        _ => u64::MAX,
+    }
+}
+
+/// The place of a literal that became false last, or is not false, from a place on.
+fn best_from(literals: &[Lit], trail: &Trail, from: usize) -> usize
+    requires within { All (IsWithin trail.now.vars) literals.now }
+    requires from_in { from < length literals.now }
+    ensures { result < length literals.now }
+{
+    let mut best = from;
+    let mut latest = falsified_at(literals[from], trail);
+    for k in from..literals.len() {
+        let level = falsified_at(literals[k], trail);
+        if level > latest {
+            best = k;
+            latest = level;
+        }
+    }
+    best
+}
+
+/// Puts the best of a clause's literals from a place on at that place.
+fn put_best(arena: &mut Arena, trail: &Trail, at: Ref, from: usize)
+    requires live { IsLive arena.old at }
+    requires from_in { from < at.len }
+    requires within { (C : Clause) → Stands arena.old at C → All (IsWithin trail.now.vars) C }
+    ensures same { AreSame arena.old arena.new }
+    ensures others { (n : ℕ) → n ≢ at.number → fin.get arena.new n ≡ fin.get arena.old n }
+{
+    let best = best_from(arena.clause(at), trail, from);
+    arena.swap(at, from, best);
+}
+
+/// Puts the two literals first that are best to watch.
+pub(crate) fn put_best_first(arena: &mut Arena, trail: &Trail, at: Ref)
+    requires live { IsLive arena.old at }
+    requires within { (C : Clause) → Stands arena.old at C → All (IsWithin trail.now.vars) C }
+    ensures same { AreSame arena.old arena.new }
+    ensures others { (n : ℕ) → n ≢ at.number → fin.get arena.new n ≡ fin.get arena.old n }
+{
+    let len = arena.clause(at).len();
+    if len < 2 {
+        return;
+    }
+    put_best(arena, trail, at, 0);
+    put_best(arena, trail, at, 1);
+}
