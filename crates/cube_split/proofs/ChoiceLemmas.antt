@@ -1,5 +1,5 @@
 -- The split rule, by its tables.
-use Rattle.std.proofs.Common.{◌≡◌, ◌≢◌, ℕ, ◌+◌, ◌*◌, ◌<◌, ◌≤◌, Bool, false, ◌||◌, ◌&&◌, cond, List, [], ◌∷◌, ◌++◌, length, get_or, eqb, refl, sym, ◌∙◌, arith, ⊎_elim, ◌⊎◌, inl, inr, Option, Some, None, IfSome, IfNone}
+use Rattle.std.proofs.Common.{◌≡◌, ◌≢◌, ℕ, ◌+◌, ◌-◌, ◌*◌, ◌<◌, ◌≤◌, Bool, false, ◌||◌, ◌&&◌, cond, List, [], ◌∷◌, ◌++◌, length, get_or, eqb, refl, sym, ◌∙◌, arith, ⊎_elim, ◌⊎◌, inl, inr, Option, Some, None, IfSome, IfNone}
 use Rattle.std.specs.List.{AllByRecursion}
 use Rattle.std.proofs.lemmas.Bool.{cases_lt, cases_eq, eqb-false, ne_eqb, or_parts, or_from, and_right, cond-false}
 use Rattle.std.proofs.lemmas.List.Elements.{All-nil, All-cons, All-head, All-tail}
@@ -88,7 +88,7 @@ pub record AreTables (f : Cnf) (S : List Literal) (marks : List Bool) (counts : 
   pub marked : AreMarked marks (has S)
   pub counted : (w : ℕ) → w < length counts → get_or counts w 0 ≡ stands_in f.clauses S w
 
-pub choice_some : (f : Cnf) (S : List Literal) (marks : List Bool) (counts : List ℕ) (v : ℕ) → AreTables f S marks counts → IsGreatest marks counts f.vars v → IsChoice f S v
+pub choice_some : (f : Cnf) (S : List Literal) (marks : List Bool) (counts : List ℕ) (v : ℕ) → AreTables f S marks counts → IsGreatest marks counts (length counts - 1) v → IsChoice f S v
 choice_some f S marks counts v t g =
     let here = t.counted v (omega (arith, t.room, g.below)) in
     record {
@@ -97,31 +97,31 @@ choice_some f S marks counts v t g =
       most = λ w free. ⊎_elim
           (λ (i : (0 < w) × (w ≤ f.vars)).
           let u = unmarked_from marks S w t.marked (omega (arith, t.size, t.room, i.1)) free in
-          omega (arith, g.most w i.0 i.1 u, t.counted w (omega (arith, t.room, i.1))))
+          omega (arith, g.most w i.0 (omega (arith, t.room, i.1)) u, t.counted w (omega (arith, t.room, i.1))))
           (λ (o : (w ≡ 0) ⊎ (f.vars < w)). let none = stands_nowhere f.vars w f.clauses S o t.within in omega arith)
           (inside_or_out f.vars w);
       lowest = λ w free same. ⊎_elim
           (λ (i : (0 < w) × (w ≤ f.vars)).
           let u = unmarked_from marks S w t.marked (omega (arith, t.size, t.room, i.1)) free in
           let there = t.counted w (omega (arith, t.room, i.1)) in
-          g.lowest w i.0 i.1 u (there ∙ same ∙ sym here))
+          g.lowest w i.0 (omega (arith, t.room, i.1)) u (there ∙ same ∙ sym here))
           (λ (o : (w ≡ 0) ⊎ (f.vars < w)). let none = stands_nowhere f.vars w f.clauses S o t.within in absurd (omega (arith, g.some)))
           (inside_or_out f.vars w);
     }
 
 pub choice_none : (f : Cnf) (S : List Literal) (marks : List Bool) (counts : List ℕ) → AreTables f S marks counts
-    → ((w : ℕ) → 0 < w → w ≤ f.vars → IsUnmarked marks w → get_or counts w 0 ≡ 0) → HasNoChoice f S
+    → ((w : ℕ) → 0 < w → w < length counts → IsUnmarked marks w → get_or counts w 0 ≡ 0) → HasNoChoice f S
 choice_none f S marks counts t h = record {
   none = λ w free. ⊎_elim
       (λ (i : (0 < w) × (w ≤ f.vars)).
       let u = unmarked_from marks S w t.marked (omega (arith, t.size, t.room, i.1)) free in
-      sym (t.counted w (omega (arith, t.room, i.1))) ∙ h w i.0 i.1 u)
+      sym (t.counted w (omega (arith, t.room, i.1))) ∙ h w i.0 (omega (arith, t.room, i.1)) u)
       (λ (o : (w ≡ 0) ⊎ (f.vars < w)). stands_nowhere f.vars w f.clauses S o t.within)
       (inside_or_out f.vars w);
 }
 
 -- what the tables answer is the choice
-pub choice_is : (f : Cnf) (S : List Literal) (marks : List Bool) (counts : List ℕ) (vars : ℕ) (r : Option ℕ) → vars ≡ f.vars → AreTables f S marks counts
-    → IfSome r (IsGreatest marks counts vars) → IfNone r ((w : ℕ) → 0 < w → w ≤ vars → IsUnmarked marks w → get_or counts w 0 ≡ 0) → Choice f S r
-choice_is f S marks counts vars None e t some none = choice_none f S marks counts t (λ w a b u. none w a (omega arith) u)
-choice_is f S marks counts vars (Some v) e t some none = choice_some f S marks counts v t (rw e at some)
+pub choice_is : (f : Cnf) (S : List Literal) (marks : List Bool) (counts : List ℕ) (r : Option ℕ) → AreTables f S marks counts
+    → IfSome r (IsGreatest marks counts (length counts - 1)) → IfNone r ((w : ℕ) → 0 < w → w < length counts → IsUnmarked marks w → get_or counts w 0 ≡ 0) → Choice f S r
+choice_is f S marks counts None t some none = choice_none f S marks counts t none
+choice_is f S marks counts (Some v) t some none = choice_some f S marks counts v t some

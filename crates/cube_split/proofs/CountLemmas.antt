@@ -1,5 +1,5 @@
 -- Counts of clauses.
-use Rattle.std.proofs.Common.{◌≡◌, ◌≢◌, ℕ, ◌+◌, ◌*◌, ◌<◌, ◌≤◌, Bool, true, false, ◌||◌, ◌&&◌, not, cond, List, [], length, get_or, set, take, eqb, refl, sym, ap, ◌∙◌, arith, ⊎_elim, get_or-set_same, get_or-set_other, length-set}
+use Rattle.std.proofs.Common.{◌≡◌, ◌≢◌, ℕ, ◌+◌, ◌*◌, ◌<◌, ◌≤◌, Bool, true, false, ◌||◌, ◌&&◌, not, cond, List, [], length, get_or, take, eqb, refl, sym, ap, ◌∙◌, arith, ⊎_elim, ◌⊎◌}
 use Rattle.std.specs.List.{list_any, count_by}
 use Rattle.std.proofs.lemmas.Bool.{cases_eq, cases_Bool, eq-eqb, ne_eqb, cond-true, cond-false, and_from, and_left, and_right}
 use Rattle.std.proofs.lemmas.List.Folds.{list_any_more}
@@ -59,45 +59,35 @@ count_fits oc ol counts last n C v h below low ne =
     let none = one_if_false (has_variable C v) (new_variable oc ol counts last n C v h below ne) in
     omega (arith, h.counted v below)
 
--- a literal whose variable was not met in this clause
-pub count_new : (oc ol counts last : List ℕ) (n : ℕ) (C : Clause) (i : ℕ) (l : Literal) (v : ℕ) → i < length C → l ≡ get_or C i l → v ≡ var_of l → v < length oc
-    → get_or last v 0 ≢ n → AreCounted oc ol counts last n (take i C) → AreCounted oc ol (set counts v (get_or counts v 0 + 1)) (set last v n) n (take (i + 1) C)
-count_new oc ol counts last n C i l v below is var inside ne h = record {
-  long = omega (arith, length-set counts v (get_or counts v 0 + 1), h.long);
-  size = omega (arith, length-set last v n, h.size);
+-- the variable of one more literal is met
+pub count_met : (oc ol counts last nc nl : List ℕ) (n : ℕ) (C : Clause) (i : ℕ) (l : Literal) (v : ℕ) → i < length C → l ≡ get_or C i l → v ≡ var_of l → v < length oc → get_or ol v 0 < n → length nc ≡ length counts → length nl ≡ length last
+    → ((get_or last v 0 ≡ n) × (get_or nc v 0 ≡ get_or counts v 0)) ⊎ ((get_or last v 0 ≢ n) × (get_or nc v 0 ≡ get_or counts v 0 + 1)) → get_or nl v 0 ≡ n
+    → ((w : ℕ) → w ≢ v → (get_or nc w 0 ≡ get_or counts w 0) × (get_or nl w 0 ≡ get_or last w 0))
+    → AreCounted oc ol counts last n (take i C) → AreCounted oc ol nc nl n (take (i + 1) C)
+count_met oc ol counts last nc nl n C i l v below is var inside early lc ll count number others h = record {
+  long = lc ∙ h.long;
+  size = ll ∙ h.size;
   counted = λ w wb. ⊎_elim
-      (λ (e : w ≡ v).
-      let here : get_or (set counts v (get_or counts v 0 + 1)) w 0 ≡ get_or counts v 0 + 1 = ap (λ (k : ℕ). get_or (set counts v (get_or counts v 0 + 1)) k 0) e ∙ get_or-set_same counts v (get_or counts v 0 + 1) 0 (omega (arith, h.long)) in
-      let one = one_if_true (has_variable (take (i + 1) C) w) (variable_at C i l w below is (sym var ∙ sym e)) in
-      let none = one_if_false (has_variable (take i C) v) (new_variable oc ol counts last n (take i C) v h inside ne) in
-      let old : get_or oc w 0 ≡ get_or oc v 0 = ap (λ (k : ℕ). get_or oc k 0) e in
-      omega (arith, h.counted v inside))
-      (λ (other : w ≡ v → ⊥).
-      get_or-set_other counts v w (get_or counts v 0 + 1) 0 other ∙ h.counted w wb ∙ ap (λ (b : Bool). get_or oc w 0 + cond b 1 0) (sym (variable_other C i l w below is (λ e. other (sym e ∙ sym var)))))
+      (λ (e : w ≡ v). rw (e, one_if_true (has_variable (take (i + 1) C) v) here) (⊎_elim
+      (λ (old : (get_or last v 0 ≡ n) × (get_or nc v 0 ≡ get_or counts v 0)).
+      let one = one_if_true (has_variable (take i C) v) (old_variable oc ol counts last n (take i C) v h inside early old.0) in
+      omega (arith, old.1, h.counted v inside))
+      (λ (new : (get_or last v 0 ≢ n) × (get_or nc v 0 ≡ get_or counts v 0 + 1)).
+      let none = one_if_false (has_variable (take i C) v) (new_variable oc ol counts last n (take i C) v h inside new.0) in
+      omega (arith, new.1, h.counted v inside))
+      count))
+      (λ (ne : w ≡ v → ⊥). (others w ne).0 ∙ h.counted w wb ∙ ap (λ (b : Bool). get_or oc w 0 + cond b 1 0) (sym (other w ne)))
       (cases_eq w v);
   marked = λ w wb. ⊎_elim
-      (λ (e : w ≡ v).
-      ap (λ (k : ℕ). get_or (set last v n) k 0) e ∙ get_or-set_same last v n 0 (omega (arith, h.size)) ∙ sym (cond-true (has_variable (take (i + 1) C) w) n (get_or ol w 0) (variable_at C i l w below is (sym var ∙ sym e))))
-      (λ (other : w ≡ v → ⊥).
-      get_or-set_other last v w n 0 other ∙ h.marked w wb ∙ ap (λ (b : Bool). cond b n (get_or ol w 0)) (sym (variable_other C i l w below is (λ e. other (sym e ∙ sym var)))))
+      (λ (e : w ≡ v). rw e (number ∙ sym (cond-true (has_variable (take (i + 1) C) v) n (get_or ol v 0) here)))
+      (λ (ne : w ≡ v → ⊥). (others w ne).1 ∙ h.marked w wb ∙ ap (λ (b : Bool). cond b n (get_or ol w 0)) (sym (other w ne)))
       (cases_eq w v);
-}
-
--- a literal whose variable was met in this clause
-pub count_old : (oc ol counts last : List ℕ) (n : ℕ) (C : Clause) (i : ℕ) (l : Literal) (v : ℕ) → i < length C → l ≡ get_or C i l → v ≡ var_of l → v < length oc
-    → get_or ol v 0 < n → get_or last v 0 ≡ n → AreCounted oc ol counts last n (take i C) → AreCounted oc ol counts last n (take (i + 1) C)
-count_old oc ol counts last n C i l v below is var inside early met h = record {
-  long = h.long;
-  size = h.size;
-  counted = λ w wb. h.counted w wb ∙ ap (λ (b : Bool). get_or oc w 0 + cond b 1 0) (same w);
-  marked = λ w wb. h.marked w wb ∙ ap (λ (b : Bool). cond b n (get_or ol w 0)) (same w);
 } where
-  same : (w : ℕ) → has_variable (take i C) w ≡ has_variable (take (i + 1) C) w
-  same w = ⊎_elim
-      (λ (e : w ≡ v).
-      ap (has_variable (take i C)) e ∙ old_variable oc ol counts last n (take i C) v h inside early met ∙ sym (variable_at C i l w below is (sym var ∙ sym e)))
-      (λ (other : w ≡ v → ⊥). sym (variable_other C i l w below is (λ e. other (sym e ∙ sym var))))
-      (cases_eq w v)
+  here : has_variable (take (i + 1) C) v ≡ true
+  here = variable_at C i l v below is (sym var)
+
+  other : (w : ℕ) → (w ≡ v → ⊥) → has_variable (take (i + 1) C) w ≡ has_variable (take i C) w
+  other w ne = variable_other C i l w below is (λ e. ne (sym e ∙ sym var))
 
 -- behind a whole clause
 pub count_last : (oc ol counts last : List ℕ) (n : ℕ) (C : Clause) (w : ℕ) → AreCounted oc ol counts last n C → w < length oc → get_or ol w 0 < n → get_or last w 0 ≤ n

@@ -1,64 +1,8 @@
 -- The greatest count so far.
-use Rattle.std.proofs.Common.{◌≡◌, ℕ, ◌+◌, ◌*◌, ◌<◌, ◌≤◌, Bool, true, false, not, ◌||◌, List, get_or, refl, sym, ap, ◌∙◌, arith, ⊎_elim, length, length-append, ◌-◌, [], ◌∷◌, ◌++◌}
-use Rattle.std.proofs.Math.Seq.{get_or-append_seam}
-use Rattle.std.proofs.lemmas.List.{get_or_append_left}
+use Rattle.std.proofs.Common.{◌≡◌, ℕ, ◌+◌, ◌-◌, ◌*◌, ◌<◌, ◌≤◌, Bool, true, false, not, ◌||◌, List, Option, Some, None, IfSome, IfNone, get_or, sym, ap, ◌∙◌, arith, ⊎_elim, inl, inr, length}
 use Rattle.std.proofs.lemmas.Bool.{cases_eq, cases_lt, or_parts, or_from, both_ways, not-true as not_true}
-use Rattle.cube_split.specs.Marks.{IsUnmarked, IsGreatest, AreListed}
-
--- of the variables below next that are not marked, best has the greatest count, which is most; no variable, and 0, where each count is 0
-pub record IsBestSoFar (marks : List Bool) (counts : List ℕ) (next best most : ℕ) : Type 0 where
-  pub below : best < next
-  pub none : best ≡ 0 → most ≡ 0
-  pub unmarked : 0 < best → IsUnmarked marks best
-  pub counted : 0 < best → most ≡ get_or counts best 0
-  pub some : 0 < best → 0 < most
-  pub greatest : (w : ℕ) → 0 < w → w < next → IsUnmarked marks w → get_or counts w 0 ≤ most
-  pub lowest : (w : ℕ) → 0 < w → w < next → IsUnmarked marks w → get_or counts w 0 ≡ most → 0 < most → best ≤ w
-
-pub best_none : (marks : List Bool) (counts : List ℕ) → IsBestSoFar marks counts 1 0 0
-best_none marks counts = record {
-  below = omega arith;
-  none = λ e. refl;
-  unmarked = λ h. absurd (omega arith);
-  counted = λ h. absurd (omega arith);
-  some = λ h. absurd (omega arith);
-  greatest = λ w a b u. absurd (omega arith);
-  lowest = λ w a b u e s. omega arith;
-}
-
-pub best_new : (marks : List Bool) (counts : List ℕ) (v best most : ℕ) → 0 < v → most < get_or counts v 0 → IsUnmarked marks v → IsBestSoFar marks counts v best most → IsBestSoFar marks counts (v + 1) v (get_or counts v 0)
-best_new marks counts v best most above more free h = record {
-  below = omega arith;
-  none = λ e. absurd (omega arith);
-  unmarked = λ s. free;
-  counted = λ s. refl;
-  some = λ s. omega arith;
-  greatest = λ w a b u. ⊎_elim
-      (λ (e : w ≡ v). rw e (omega arith))
-      (λ (ne : w ≡ v → ⊥). omega (arith, h.greatest w a (omega arith) u))
-      (cases_eq w v);
-  lowest = λ w a b u e s. ⊎_elim
-      (λ (e : w ≡ v). omega arith)
-      (λ (ne : w ≡ v → ⊥). absurd (omega (arith, h.greatest w a (omega arith) u)))
-      (cases_eq w v);
-}
-
-pub best_kept : (marks : List Bool) (counts : List ℕ) (v best most : ℕ) → 0 < v → (IsUnmarked marks v → get_or counts v 0 ≤ most) → IsBestSoFar marks counts v best most → IsBestSoFar marks counts (v + 1) best most
-best_kept marks counts v best most above less h = record {
-  below = omega (arith, h.below);
-  none = h.none;
-  unmarked = h.unmarked;
-  counted = h.counted;
-  some = h.some;
-  greatest = λ w a b u. ⊎_elim
-      (λ (e : w ≡ v). rw e (less (rw e at u)))
-      (λ (ne : w ≡ v → ⊥). h.greatest w a (omega arith) u)
-      (cases_eq w v);
-  lowest = λ w a b u e s. ⊎_elim
-      (λ (same : w ≡ v). omega (arith, h.below))
-      (λ (ne : w ≡ v → ⊥). h.lowest w a (omega arith) u e s)
-      (cases_eq w v);
-}
+use Rattle.cube_split.specs.Marks.{IsUnmarked, IsGreatest, IsAhead, IsAheadOf}
+use Rattle.cube_split.specs.Tallies.{AreListed}
 
 -- whether neither mark stands
 pub unmarked_true : (marks : List Bool) (v : ℕ) (b : Bool) → b ≡ not (get_or marks (2 * v) false || get_or marks (2 * v + 1) false) → b ≡ true → IsUnmarked marks v
@@ -70,150 +14,99 @@ pub unmarked_false : (marks : List Bool) (v : ℕ) (b : Bool) → b ≡ not (get
 unmarked_false marks v b e f u =
     both_ways b f (e ∙ ap not (or_from (get_or marks (2 * v) false) (get_or marks (2 * v + 1) false) u.positive u.negative))
 
--- the best of all
-pub best_last : (marks : List Bool) (counts : List ℕ) (last best most : ℕ) → 0 < best → IsBestSoFar marks counts (last + 1) best most → IsGreatest marks counts last best
-best_last marks counts last best most some h =
-    let is = h.counted some in
-    record {
-      above = some;
-      below = omega (arith, h.below);
-      unmarked = h.unmarked some;
-      some = omega (arith, h.some some);
-      most = λ w a b u. omega (arith, h.greatest w a (omega arith) u);
-      lowest = λ w a b u e. h.lowest w a (omega arith) u (omega arith) (h.some some);
-    }
+-- a variable that is not marked and has a count
+pub record IsBest (marks : List Bool) (counts : List ℕ) (v : ℕ) : Type 0 where
+  pub above : 0 < v
+  pub below : v < length counts
+  pub unmarked : IsUnmarked marks v
+  pub some : 0 < get_or counts v 0
 
--- ---- over a list of variables
+-- the best of the first k variables of a list: none of them is ahead of it
+pub record IsBestOf (marks : List Bool) (counts variables : List ℕ) (k : ℕ) (best : Option ℕ) : Type 0 where
+  pub is : IfSome best (IsBest marks counts)
+  pub first : (j : ℕ) → j < k → IsUnmarked marks (get_or variables j 0) → IsAheadOf counts (get_or variables j 0) best → ⊥
 
--- variables whose counts are 0 change nothing
-best_skips : (marks : List Bool) (counts : List ℕ) (next later best most : ℕ) → next ≤ later → ((w : ℕ) → next ≤ w → w < later → get_or counts w 0 ≡ 0) → IsBestSoFar marks counts next best most → IsBestSoFar marks counts later best most
-best_skips marks counts next later best most le zeros h = record {
-  below = omega (arith, h.below);
-  none = h.none;
-  unmarked = h.unmarked;
-  counted = h.counted;
-  some = h.some;
-  greatest = λ w a b u. ⊎_elim
-      (λ (lt : w < next). h.greatest w a lt u)
-      (λ (ge : next ≤ w). omega (arith, zeros w ge b))
-      (cases_lt w next);
-  lowest = λ w a b u e s. ⊎_elim
-      (λ (lt : w < next). h.lowest w a lt u e s)
-      (λ (ge : next ≤ w). absurd (omega (arith, zeros w ge b)))
-      (cases_lt w next);
-}
+pub best_none : (marks : List Bool) (counts variables : List ℕ) → IsBestOf marks counts variables 0 None
+best_none marks counts variables = record { is = tt; first = λ j b. absurd (omega arith) }
 
--- the best of the first k variables of a list, and so of all below the next one
-pub record IsBestOf (marks : List Bool) (counts variables : List ℕ) (k best most : ℕ) : Type 0 where
-  pub next : ℕ
-  pub low : next ≤ length counts
-  pub best_so_far : IsBestSoFar marks counts next best most
-  pub behind : (j : ℕ) → j < k → get_or variables j 0 < next
-  pub ahead : (j : ℕ) → k ≤ j → j < length variables → next ≤ get_or variables j 0
+pub best_below : (marks : List Bool) (counts : List ℕ) (best : Option ℕ) → IfSome best (IsBest marks counts) → IfSome best (λ b. b < length counts)
+best_below marks counts None h = tt
+best_below marks counts (Some v) h = h.below
 
-pub listed_none : (marks : List Bool) (counts variables : List ℕ) → 0 < length counts → AreListed counts variables → IsBestOf marks counts variables 0 0 0
-listed_none marks counts variables some l = record {
-  next = 1;
-  low = omega arith;
-  best_so_far = best_none marks counts;
-  behind = λ j b. absurd (omega arith);
-  ahead = λ j a b. omega (arith, l.inside j b);
-}
+-- who is ahead of one that is ahead, is ahead of the other
+ahead_still : (counts : List ℕ) (v w : ℕ) (best : Option ℕ) → IsAhead counts v w → IsAheadOf counts w best → IsAheadOf counts v best
+ahead_still counts v w None a b = ⊎_elim (λ (more : get_or counts w 0 < get_or counts v 0). omega arith) (λ (same : (get_or counts v 0 ≡ get_or counts w 0) × (v < w)). omega (arith, same.0)) a
+ahead_still counts v w (Some u) a b = ⊎_elim
+    (λ (more : get_or counts w 0 < get_or counts v 0). ⊎_elim
+    (λ (more_again : get_or counts u 0 < get_or counts w 0). inl (omega arith))
+    (λ (same : (get_or counts w 0 ≡ get_or counts u 0) × (w < u)). inl (omega (arith, same.0)))
+    b)
+    (λ (same : (get_or counts v 0 ≡ get_or counts w 0) × (v < w)). ⊎_elim
+    (λ (more : get_or counts u 0 < get_or counts w 0). inl (omega (arith, same.0)))
+    (λ (same_again : (get_or counts w 0 ≡ get_or counts u 0) × (w < u)). inr (omega (arith, same.0, same_again.0), omega (arith, same.1, same_again.1)))
+    b)
+    a
 
--- up to variable k
-up_to : (marks : List Bool) (counts variables : List ℕ) (k best most : ℕ) → AreListed counts variables → k < length variables → IsBestOf marks counts variables k best most → IsBestSoFar marks counts (get_or variables k 0) best most
-up_to marks counts variables k best most l below h =
-    best_skips marks counts h.next (get_or variables k 0) best most (h.ahead k (omega arith) below)
-    (λ w a b. ⊎_elim
-    (λ (z : get_or counts w 0 ≡ 0). z)
-    (λ (some : get_or counts w 0 ≡ 0 → ⊥).
-    let at = l.listed w (omega (arith, h.best_so_far.below)) (omega (arith, l.inside k below)) (omega arith) in
-    absurd (⊎_elim
-    (λ (lt : at.0 < k). omega (arith, h.behind at.0 lt, at.2))
-    (λ (ge : k ≤ at.0). ⊎_elim
-    (λ (same : at.0 ≡ k). let is : get_or variables at.0 0 ≡ get_or variables k 0 = ap (λ (j : ℕ). get_or variables j 0) same in omega (arith, at.2))
-    (λ (ne : at.0 ≡ k → ⊥). omega (arith, l.rising k at.0 (omega arith) at.1, at.2))
-    (cases_eq at.0 k))
-    (cases_lt at.0 k)))
-    (cases_eq (get_or counts w 0) 0))
-    h.best_so_far
+not_itself : (counts : List ℕ) (v : ℕ) → IsAhead counts v v → ⊥
+not_itself counts v a = ⊎_elim (λ (more : get_or counts v 0 < get_or counts v 0). absurd (omega arith)) (λ (same : (get_or counts v 0 ≡ get_or counts v 0) × (v < v)). absurd (omega (arith, same.1))) a
 
-from_here : (marks : List Bool) (counts variables : List ℕ) (k best most : ℕ) → AreListed counts variables → k < length variables → ((j : ℕ) → j < k → get_or variables j 0 < get_or variables k 0) → IsBestSoFar marks counts (get_or variables k 0 + 1) best most → IsBestOf marks counts variables (k + 1) best most
-from_here marks counts variables k best most l below low h = record {
-  next = get_or variables k 0 + 1;
-  low = omega (arith, l.inside k below);
-  best_so_far = h;
-  behind = λ j b. ⊎_elim
-      (λ (same : j ≡ k). let is : get_or variables j 0 ≡ get_or variables k 0 = ap (λ (i : ℕ). get_or variables i 0) same in omega arith)
-      (λ (ne : j ≡ k → ⊥). omega (arith, low j (omega arith)))
+-- who is ahead has a count, where the best so far has one
+has_count : (marks : List Bool) (counts : List ℕ) (v : ℕ) (best : Option ℕ) → IfSome best (IsBest marks counts) → IsAheadOf counts v best → 0 < get_or counts v 0
+has_count marks counts v None h a = a
+has_count marks counts v (Some w) h a = ⊎_elim (λ (more : get_or counts w 0 < get_or counts v 0). omega arith) (λ (same : (get_or counts v 0 ≡ get_or counts w 0) × (v < w)). omega (arith, same.0, h.some)) a
+
+-- the next variable is ahead
+pub best_new : (marks : List Bool) (counts variables : List ℕ) (k v : ℕ) (best : Option ℕ) → AreListed counts variables → k < length variables → v ≡ get_or variables k 0 → IsUnmarked marks v → IsAheadOf counts v best
+    → IsBestOf marks counts variables k best → IsBestOf marks counts variables (k + 1) (Some v)
+best_new marks counts variables k v best l below is free ahead h = record {
+  is = record { above = rw is ((l.inside k below).0); below = rw is ((l.inside k below).1); unmarked = free; some = has_count marks counts v best h.is ahead };
+  first = λ j b u a. ⊎_elim
+      (λ (same : j ≡ k). not_itself counts v (rw (ap (λ (i : ℕ). get_or variables i 0) same, ← is) at a))
+      (λ (ne : j ≡ k → ⊥). h.first j (omega arith) u (ahead_still counts (get_or variables j 0) v best a ahead))
       (cases_eq j k);
-  ahead = λ j a b. omega (arith, l.rising k j (omega arith) b);
 }
 
-pub listed_new : (marks : List Bool) (counts variables : List ℕ) (k v best most : ℕ) → AreListed counts variables → k < length variables → v ≡ get_or variables k 0 → most < get_or counts v 0 → IsUnmarked marks v
-    → IsBestOf marks counts variables k best most → IsBestOf marks counts variables (k + 1) v (get_or counts v 0)
-listed_new marks counts variables k v best most l below is more free h =
-    from_here marks counts variables k v (get_or counts v 0) l below (λ j b. l.rising j k b below)
-    (rw (← is) (best_new marks counts v best most (omega (arith, l.inside k below)) more free (rw is (up_to marks counts variables k best most l below h))))
-
-pub listed_kept : (marks : List Bool) (counts variables : List ℕ) (k v best most : ℕ) → AreListed counts variables → k < length variables → v ≡ get_or variables k 0 → (IsUnmarked marks v → get_or counts v 0 ≤ most)
-    → IsBestOf marks counts variables k best most → IsBestOf marks counts variables (k + 1) best most
-listed_kept marks counts variables k v best most l below is less h =
-    from_here marks counts variables k best most l below (λ j b. l.rising j k b below)
-    (rw (← is) (best_kept marks counts v best most (omega (arith, l.inside k below)) less (rw is (up_to marks counts variables k best most l below h))))
-
--- the best of all
-pub listed_all : (marks : List Bool) (counts variables : List ℕ) (k best most : ℕ) → AreListed counts variables → length variables ≤ k → 0 < length counts → IsBestOf marks counts variables k best most → IsBestSoFar marks counts (length counts - 1 + 1) best most
-listed_all marks counts variables k best most l past some h =
-    best_skips marks counts h.next (length counts - 1 + 1) best most (omega (arith, h.low))
-    (λ w a b. ⊎_elim
-    (λ (z : get_or counts w 0 ≡ 0). z)
-    (λ (more : get_or counts w 0 ≡ 0 → ⊥).
-    let at = l.listed w (omega (arith, h.best_so_far.below)) (omega arith) (omega arith) in
-    absurd (omega (arith, h.behind at.0 (omega (arith, at.1)), at.2)))
-    (cases_eq (get_or counts w 0) 0))
-    h.best_so_far
-
--- ---- the variables that have a count
-
--- the same of the variables below next
-pub record AreListedBelow (counts : List ℕ) (next : ℕ) (variables : List ℕ) : Type 0 where
-  pub inside : (k : ℕ) → k < length variables → (0 < get_or variables k 0) × (get_or variables k 0 < next)
-  pub rising : (j k : ℕ) → j < k → k < length variables → get_or variables j 0 < get_or variables k 0
-  pub listed : (w : ℕ) → 0 < w → w < next → 0 < get_or counts w 0 → (k : ℕ) × (k < length variables) × (get_or variables k 0 ≡ w)
-
-pub below_none : (counts : List ℕ) → AreListedBelow counts 1 []
-below_none counts = record { inside = λ k b. absurd (omega arith); rising = λ j k a b. absurd (omega arith); listed = λ w a b s. absurd (omega arith) }
-
-pub below_same : (counts : List ℕ) (v : ℕ) (variables : List ℕ) → get_or counts v 0 ≡ 0 → AreListedBelow counts v variables → AreListedBelow counts (v + 1) variables
-below_same counts v variables none h = record {
-  inside = λ k b. let was = h.inside k b in (was.0, omega (arith, was.1));
-  rising = h.rising;
-  listed = λ w a b s. ⊎_elim
-      (λ (e : w ≡ v). absurd (omega (arith, ap (λ (k : ℕ). get_or counts k 0) e)))
-      (λ (ne : w ≡ v → ⊥). h.listed w a (omega arith) s)
-      (cases_eq w v);
+-- it is not ahead, or marked
+pub best_kept : (marks : List Bool) (counts variables : List ℕ) (k v : ℕ) (best : Option ℕ) → v ≡ get_or variables k 0 → (IsUnmarked marks v → IsAheadOf counts v best → ⊥)
+    → IsBestOf marks counts variables k best → IsBestOf marks counts variables (k + 1) best
+best_kept marks counts variables k v best is never h = record {
+  is = h.is;
+  first = λ j b u a. ⊎_elim
+      (λ (same : j ≡ k). let here : get_or variables j 0 ≡ v = ap (λ (i : ℕ). get_or variables i 0) same ∙ sym is in never (rw here at u) (rw here at a))
+      (λ (ne : j ≡ k → ⊥). h.first j (omega arith) u a)
+      (cases_eq j k);
 }
 
-pub below_push : (counts : List ℕ) (v : ℕ) (variables : List ℕ) → 0 < v → AreListedBelow counts v variables → AreListedBelow counts (v + 1) (variables ++ v ∷ [])
-below_push counts v variables above h =
-    let long = length-append variables (v ∷ []) in
-    let old : (k : ℕ) → k < length variables → get_or (variables ++ v ∷ []) k 0 ≡ get_or variables k 0 = λ k b. get_or_append_left variables (v ∷ []) 0 k b in
-    let end : get_or (variables ++ v ∷ []) (length variables) 0 ≡ v = get_or-append_seam variables v [] 0 in
+-- none is ahead of the best of all
+none_ahead : (marks : List Bool) (counts variables : List ℕ) (k : ℕ) (best : Option ℕ) → AreListed counts variables → length variables ≤ k → IsBestOf marks counts variables k best
+    → (w : ℕ) → 0 < w → w < length counts → 0 < get_or counts w 0 → IsUnmarked marks w → IsAheadOf counts w best → ⊥
+none_ahead marks counts variables k best l all h w above below some u a =
+    let at = l.listed w above below some in
+    h.first at.0 (omega (arith, at.1)) (rw at.2 u) (rw at.2 a)
+
+pub best_some : (marks : List Bool) (counts variables : List ℕ) (k : ℕ) (best : Option ℕ) → AreListed counts variables → length variables ≤ k → IsBestOf marks counts variables k best → IfSome best (IsGreatest marks counts (length counts - 1))
+best_some marks counts variables k None l all h = tt
+best_some marks counts variables k (Some v) l all h =
+    let never = none_ahead marks counts variables k (Some v) l all h in
     record {
-      inside = λ k b. ⊎_elim
-          (λ (lt : k < length variables). rw (old k lt) (let was = h.inside k lt in (was.0, omega (arith, was.1))))
-          (λ (ge : length variables ≤ k). let is : k ≡ length variables = omega arith in rw (is, end) (above, omega arith))
-          (cases_lt k (length variables));
-      rising = λ j k a b. ⊎_elim
-          (λ (lt : k < length variables). rw (old k lt, old j (omega arith)) (h.rising j k a lt))
-          (λ (ge : length variables ≤ k). let is : k ≡ length variables = omega arith in rw (is, end, old j (omega arith)) ((h.inside j (omega arith)).1))
-          (cases_lt k (length variables));
-      listed = λ w a b s. ⊎_elim
-          (λ (e : w ≡ v). (length variables, omega arith, end ∙ sym e))
-          (λ (ne : w ≡ v → ⊥). let at = h.listed w a (omega arith) s in (at.0, omega (arith, at.1), old at.0 at.1 ∙ at.2))
-          (cases_eq w v);
+      above = h.is.above;
+      below = omega (arith, h.is.below);
+      unmarked = h.is.unmarked;
+      some = h.is.some;
+      most = λ w a b u. ⊎_elim
+          (λ (more : get_or counts v 0 < get_or counts w 0). absurd (never w a (omega (arith, h.is.below)) (omega arith) u (inl more)))
+          (λ (less : get_or counts w 0 ≤ get_or counts v 0). less)
+          (cases_lt (get_or counts v 0) (get_or counts w 0));
+      lowest = λ w a b u same. ⊎_elim
+          (λ (lower : w < v). absurd (never w a (omega (arith, h.is.below)) (omega (arith, h.is.some)) u (inr (same, lower))))
+          (λ (higher : v ≤ w). higher)
+          (cases_lt w v);
     }
 
-pub below_all : (counts : List ℕ) (n : ℕ) (variables : List ℕ) → n ≡ length counts → AreListedBelow counts n variables → AreListed counts variables
-below_all counts n variables is h = record { inside = λ k b. rw (← is) (h.inside k b); rising = h.rising; listed = λ w a b s. h.listed w a (omega arith) s }
+pub best_is_none : (marks : List Bool) (counts variables : List ℕ) (k : ℕ) (best : Option ℕ) → AreListed counts variables → length variables ≤ k → IsBestOf marks counts variables k best
+    → IfNone best ((w : ℕ) → 0 < w → w < length counts → IsUnmarked marks w → get_or counts w 0 ≡ 0)
+best_is_none marks counts variables k None l all h = λ w a b u. ⊎_elim
+    (λ (zero : get_or counts w 0 ≡ 0). zero)
+    (λ (some : get_or counts w 0 ≡ 0 → ⊥). absurd (none_ahead marks counts variables k None l all h w a b (omega arith) u (omega arith)))
+    (cases_eq (get_or counts w 0) 0)
+best_is_none marks counts variables k (Some v) l all h = tt

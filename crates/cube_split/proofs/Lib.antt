@@ -8,6 +8,7 @@ pub mod PlaceLemmas
 pub mod PureLemmas
 pub mod RatLemmas
 pub mod SplitLemmas
+pub mod TallyLemmas
 pub mod TurnLemmas
 pub mod UnitLemmas
 pub mod WalkLemmas

@@ -1,10 +1,10 @@
 -- Tables of marks.
-use Rattle.std.proofs.Common.{◌≡◌, ℕ, ◌+◌, ◌*◌, ◌/◌, ◌%◌, ◌<◌, ◌≤◌, Bool, true, false, ◌||◌, List, replicate, length, get_or, set, take, eqb, refl, sym, ap, ◌∙◌, arith, ⊎_elim, get_or-set_same, get_or-set_other, length-set}
+use Rattle.std.proofs.Common.{◌≡◌, ℕ, ◌+◌, ◌*◌, ◌/◌, ◌%◌, ◌<◌, ◌≤◌, Bool, true, false, not, ◌||◌, ◌&&◌, List, ◌++◌, replicate, length, get_or, set, take, eqb, refl, sym, ap, ◌∙◌, arith, ⊎_elim, get_or-set_same, get_or-set_other, length-set}
 use Rattle.std.specs.List.{list_any}
 use Rattle.std.proofs.lemmas.Bool.{cases_eq, eq-eqb, ne_eqb}
 use Rattle.std.proofs.lemmas.Bool.Decides.{nat_tests}
 use Rattle.std.proofs.lemmas.List.{get_or-replicate, length-replicate}
-use Rattle.std.proofs.lemmas.List.Folds.{list_any_more, list_any_at}
+use Rattle.std.proofs.lemmas.List.Folds.{list_any-append, list_any_more, list_any_at}
 use Rattle.dimacs.specs.Codes.{index_of-literal_of}
 use Rattle.dimacs.specs.Literal.{Literal, Pos, Neg, same, has, index_of, literal_of}
 use Rattle.cube_split.specs.Marks.{AreMarked}
@@ -100,3 +100,45 @@ pub not_apart : (marks : List Bool) (test : Literal → Bool) (C : List Literal)
     → get_or marks (index_of l) false ≡ true → list_any test C ≡ true
 not_apart marks test C i l below is h inside found =
     list_any_at test C i l below (ap test (sym is) ∙ sym (marked_at marks test l h inside) ∙ found)
+
+-- ---- marks are taken away
+
+pub unmark_none : (marks : List Bool) (test : Literal → Bool) → AreMarked marks test → AreMarked marks (λ x. test x && not false)
+unmark_none marks test h = record { marked = λ k below. h.marked k below ∙ sym (and_all (test (literal_of k))) } where
+  and_all : (a : Bool) → (a && true) ≡ a
+  and_all true = refl
+  and_all false = refl
+
+-- one mark less
+pub unmark_one : (marks : List Bool) (test : Literal → Bool) (xs : List Literal) (i : ℕ) (l : Literal) → i < length xs → l ≡ get_or xs i l → index_of l < length marks
+    → AreMarked marks (λ x. test x && not (has (take i xs) x)) → AreMarked (set marks (index_of l) false) (λ x. test x && not (has (take (i + 1) xs) x))
+unmark_one marks test xs i l below is inside h = record {
+  marked = λ k kb. ⊎_elim
+      (λ (e : k ≡ index_of l).
+      ap (λ (n : ℕ). get_or (set marks (index_of l) false) n false) e ∙ get_or-set_same marks (index_of l) false false inside
+      ∙ sym (and_none (test (literal_of k)) (has (take (i + 1) xs) (literal_of k)) (has_at xs i k l below is e false)))
+      (λ (ne : k ≡ index_of l → ⊥).
+      get_or-set_other marks (index_of l) k false false ne ∙ h.marked k (omega (arith, length-set marks (index_of l) false))
+      ∙ sym (ap (λ (b : Bool). test (literal_of k) && not b) (has_other xs i k l below is ne false)))
+      (cases_eq k (index_of l));
+} where
+  and_none : (a b : Bool) → b ≡ true → (a && not b) ≡ false
+  and_none true b e = rw e refl
+  and_none false b e = refl
+
+-- a literal beyond the table is passed over
+pub unmark_past : (marks : List Bool) (test : Literal → Bool) (xs : List Literal) (i : ℕ) (l : Literal) → i < length xs → l ≡ get_or xs i l → length marks ≤ index_of l
+    → AreMarked marks (λ x. test x && not (has (take i xs) x)) → AreMarked marks (λ x. test x && not (has (take (i + 1) xs) x))
+unmark_past marks test xs i l below is past h = record {
+  marked = λ k kb. h.marked k kb ∙ sym (ap (λ (b : Bool). test (literal_of k) && not b) (has_other xs i k l below is (λ e. absurd (omega arith)) false));
+}
+
+-- the marks of two lists are taken away, and none is left
+pub unmarked_both : (marks : List Bool) (xs ys : List Literal) → AreMarked marks (λ l. (has (xs ++ ys) l && not (has xs l)) && not (has ys l)) → AreMarked marks (λ l. false)
+unmarked_both marks xs ys h = marked_same marks (λ l. (has (xs ++ ys) l && not (has xs l)) && not (has ys l)) (λ l. false)
+    (λ l. ap (λ (b : Bool). (b && not (has xs l)) && not (has ys l)) (list_any-append (same l) xs ys) ∙ nothing (has xs l) (has ys l)) h where
+      nothing : (a b : Bool) → (((a || b) && not a) && not b) ≡ false
+      nothing true true = refl
+      nothing true false = refl
+      nothing false true = refl
+      nothing false false = refl

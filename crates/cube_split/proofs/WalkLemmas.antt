@@ -1,5 +1,5 @@
 -- The tables of a walk, as its path goes on and back.
-use Rattle.std.proofs.Common.{◌≡◌, ℕ, ◌+◌, ◌*◌, ◌<◌, ◌≤◌, Bool, true, false, ◌||◌, List, [], ◌∷◌, ◌++◌, length, get_or, set, take, All, Option, Some, None, IfSome, IfNone, ◌-◌, if◌then◌else◌, not, refl, sym, ap, subst, ◌∙◌, arith, ⊎_elim, inr, append_assoc, get_or-set_same, get_or-set_other, length-set, length-append}
+use Rattle.std.proofs.Common.{◌≡◌, ℕ, ◌+◌, ◌*◌, ◌<◌, ◌≤◌, Bool, true, false, ◌||◌, List, [], ◌∷◌, ◌++◌, length, get_or, set, take, All, Option, IfSome, IfNone, ◌-◌, if◌then◌else◌, not, refl, sym, ap, subst, ◌∙◌, arith, ⊎_elim, inr, append_assoc, get_or-set_same, get_or-set_other, length-set, length-append}
 use Rattle.std.specs.List.{list_any}
 use Rattle.std.proofs.lemmas.Bool.{cases_eq, cases_lt, ne_eqb}
 use Rattle.std.proofs.Math.Seq.{get_or-append_seam}
@@ -10,9 +10,10 @@ use Rattle.dimacs.specs.Codes.{index_of-literal_of}
 use Rattle.dimacs.specs.Literal.{Literal, Pos, Neg, Clause, same, has, var_of, index_of, literal_of}
 use Rattle.icnf.specs.Leaves.{Cube, IsFree}
 use Rattle.cube_split.specs.Choice.{Choice, IsChoice, stands_in}
-use Rattle.cube_split.specs.Marks.{AreMarked, IsUnmarked, IsGreatest, AreListed}
+use Rattle.cube_split.specs.Marks.{AreMarked, IsUnmarked, IsGreatest}
 use Rattle.cube_split.specs.Open.{AreTurned, open_count}
 use Rattle.cube_split.specs.Places.{clause_of, ArePlaced, AreChained}
+use Rattle.cube_split.specs.Tallies.{AreListed}
 use Rattle.cube_split.specs.Walking.{StandsAt, IsClosedBy, closed_at}
 use Rattle.cube_split.specs.declared.walk.Walk.{Walk}
 use Rattle.cube_split.proofs.ChoiceLemmas.{free_positive, free_negative, AreTables, choice_is, stands_nowhere}
@@ -141,22 +142,16 @@ left_by f units path l s t oc on nc nn h free inside places variables marks olds
 pub listed_at : (f : Cnf) (units : List Literal) (path : Cube) (s : Walk) → StandsAt f units path s → AreListed s.counts.items s.variables.items
 listed_at f units path s h = record {
   inside = λ k b. let was = h.listed.inside k b in (was.0, omega (arith, was.1, h.rows));
-  rising = h.listed.rising;
   listed = λ w a b some. ⊎_elim
       (λ (none : stands_in f.clauses units w ≡ 0). let z = stands_less f.clauses units path w none in absurd (omega (arith, h.counted w b)))
       (λ (more : stands_in f.clauses units w ≡ 0 → ⊥). h.listed.listed w a (omega (arith, h.rows)) (omega arith))
       (cases_eq (stands_in f.clauses units w) 0);
 }
 
-none_weaker : (r : Option ℕ) (P Q : Type 0) → (P → Q) → IfNone r P → IfNone r Q
-none_weaker None P Q h p = h p
-none_weaker (Some v) P Q h p = p
-
 -- the greatest count is the choice
 pub choice_at : (f : Cnf) (units : List Literal) (path : Cube) (s : Walk) (r : Option ℕ) → StandsAt f units path s → IfSome r (IsGreatest s.marks.items s.counts.items (length s.counts.items - 1))
     → IfNone r ((w : ℕ) → 0 < w → w < length s.counts.items → IsUnmarked s.marks.items w → get_or s.counts.items w 0 ≡ 0) → Choice f (units ++ path) r
 choice_at f units path s r h some none =
-    let last : length s.counts.items - 1 ≡ f.vars = omega (arith, h.rows) in
     let tables : AreTables f (units ++ path) s.marks.items s.counts.items = record {
       within = h.within;
       size = h.marks;
@@ -164,8 +159,7 @@ choice_at f units path s r h some none =
       marked = h.marked;
       counted = h.counted;
     } in
-    choice_is f (units ++ path) s.marks.items s.counts.items (length s.counts.items - 1) r last tables some
-    (none_weaker r _ _ (λ all. λ w a b u. all w a (omega (arith, h.rows)) u) none)
+    choice_is f (units ++ path) s.marks.items s.counts.items r tables some none
 
 -- ---- where a walk begins
 
@@ -210,7 +204,6 @@ begins f units s valid placed chained within latest marked marks closed counted 
       inside = rw size within;
       listed = record {
         inside = λ k b. let was = listed.inside k b in (was.0, omega (arith, was.1));
-        rising = listed.rising;
         listed = λ w a b some. listed.listed w a (omega arith) (omega (arith, counted w b));
       };
       marked = rw all marked;

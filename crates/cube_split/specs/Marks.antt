@@ -1,5 +1,5 @@
 -- Tables over literals and variables.
-use Rattle.std.specs.Prelude.{◌≡◌, ℕ, ◌+◌, ◌<◌, ◌≤◌, ◌*◌, Bool, false, List, length, slice_index, slice_index_or}
+use Rattle.std.specs.Prelude.{◌≡◌, ℕ, ◌+◌, ◌<◌, ◌≤◌, ◌*◌, Bool, false, List, Option, Some, None, ◌⊎◌, length, slice_index, slice_index_or}
 use Rattle.dimacs.specs.Literal.{Literal, literal_of}
 
 -- the table says of each literal whether the test holds of it; a literal stands at its place, twice its variable, and one more where it is negated
@@ -20,8 +20,11 @@ pub record IsGreatest (marks : List Bool) (counts : List ℕ) (last v : ℕ) : T
   pub most : (w : ℕ) → 0 < w → w ≤ last → IsUnmarked marks w → slice_index counts w ≤ slice_index counts v
   pub lowest : (w : ℕ) → 0 < w → w ≤ last → IsUnmarked marks w → slice_index counts w ≡ slice_index counts v → v ≤ w
 
--- variables rise, and each that has a count above 0 is among them
-pub record AreListed (counts variables : List ℕ) : Type 0 where
-  pub inside : (k : ℕ) → k < length variables → (0 < slice_index variables k) × (slice_index variables k < length counts)
-  pub rising : (j k : ℕ) → j < k → k < length variables → slice_index variables j < slice_index variables k
-  pub listed : (w : ℕ) → 0 < w → w < length counts → 0 < slice_index counts w → (k : ℕ) × (k < length variables) × (slice_index variables k ≡ w)
+-- of two variables the one with the greater count is ahead, and of two with the same count the lower
+abbrev pub IsAhead : List ℕ → ℕ → ℕ → Type 0
+IsAhead counts v w = (slice_index counts w < slice_index counts v) ⊎ ((slice_index counts v ≡ slice_index counts w) × (v < w))
+
+-- the same, of the best variable so far; where there is none, each with a count is ahead
+abbrev pub IsAheadOf : List ℕ → ℕ → Option ℕ → Type 0
+IsAheadOf counts v None = 0 < slice_index counts v
+IsAheadOf counts v (Some w) = IsAhead counts v w

@@ -24,10 +24,9 @@ pub record IsClosedBy (test : Literal → Bool) (clauses : List Clause) (closed 
   pub size : length closed ≡ length clauses
   pub level : (i : ℕ) → i < length clauses → slice_index closed i ≡ (if list_any test (slice_index_or clauses i []) then 1 else 0)
 
--- variables rise, and each that stands in a clause apart from the units is among them
+-- each variable that stands in a clause apart from the units is among these
 pub record AreOpenVariables (f : Cnf) (units : List Literal) (variables : List ℕ) : Type 0 where
   pub inside : (k : ℕ) → k < length variables → (0 < slice_index variables k) × (slice_index variables k ≤ f.vars)
-  pub rising : (j k : ℕ) → j < k → k < length variables → slice_index variables j < slice_index variables k
   pub listed : (w : ℕ) → 0 < w → w ≤ f.vars → 0 < stands_in f.clauses units w → (k : ℕ) × (k < length variables) × (slice_index variables k ≡ w)
 
 -- the tables of a walk that stands at this path

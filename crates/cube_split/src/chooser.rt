@@ -1,10 +1,13 @@
 //! The split rule.
 
-ghost use Rattle.std.specs.Prelude.{◌≡◌, ◌+◌, ◌*◌, ◌<◌, ◌≤◌, ◌++◌, length, IfOk};
+ghost use Rattle.std.specs.Prelude.{◌≡◌, ◌+◌, ◌*◌, ◌<◌, ◌≤◌, ◌++◌, false, length, IfOk};
 ghost use Rattle.cube_split.specs.Choice.{Choice};
+ghost use Rattle.cube_split.specs.Marks.{AreMarked};
+ghost use Rattle.cube_split.specs.Tallies.{IsClear};
 
-use crate::counting::{count_clauses, greatest};
-use crate::marks::mark;
+use crate::greatest::greatest;
+use crate::marks::{mark, unmark};
+use crate::tally::Tally;
 use crate::units::Preamble;
 use dimacs::{Formula, Lit, Var};
 use std::alloc::{AllocError, Global};
@@ -12,22 +15,23 @@ use std::marker::Model;
 
 /// The tables in which the split rule counts, for formulas of so many variables. Only `reserve` takes memory.
 ///
-/// `marks` stands by literal, `counts` and `last` by variable.
+/// From one choice to the next no literal is marked, and nothing is counted.
 #[derive(Drop)]
 pub struct Chooser {
     marks: Vec<bool>,
-    counts: Vec<usize>,
-    last: Vec<usize>,
+    tally: Tally,
 }
 
 impl Model for Chooser {
-    ghost use Rattle.std.specs.Prelude.{ℕ, ◌≡◌, ◌-◌, ◌*◌, ◌<◌, length};
+    ghost use Rattle.std.specs.Prelude.{ℕ, ◌≡◌, ◌-◌, ◌*◌, ◌<◌, false, length};
+    ghost use Rattle.cube_split.specs.Marks.{AreMarked};
+    ghost use Rattle.cube_split.specs.Tallies.{IsClear};
 
     ghost Value = { ℕ };
 
-    ghost view = { λ c. length c.counts.items - 1 };
+    ghost view = { λ c. length c.tally.counts.items - 1 };
 
-    ghost invariant = { λ c. (0 < length c.counts.items) × (length c.last.items ≡ length c.counts.items) × (length c.marks.items ≡ 2 * length c.counts.items) };
+    ghost invariant = { λ c. IsClear (length c.tally.counts.items) c.tally × (length c.marks.items ≡ 2 * length c.tally.counts.items) × AreMarked c.marks.items (λ l. false) };
 }
 
 impl Chooser {
@@ -38,8 +42,7 @@ impl Chooser {
         let rows = vars as usize + 1;
         Ok(Chooser {
             marks: vec![in alloc; false; 2 * rows]?,
-            counts: vec![in alloc; 0; rows]?,
-            last: vec![in alloc; 0; rows]?,
+            tally: Tally::new(alloc, rows)?,
         })
     }
 
@@ -53,8 +56,7 @@ impl Chooser {
     {
         choose_in(
             &mut self.marks,
-            &mut self.counts,
-            &mut self.last,
+            &mut self.tally,
             formula,
             preamble.units(),
             cube,
@@ -62,25 +64,29 @@ impl Chooser {
     }
 }
 
-/// The choice, by these tables.
+/// The choice, by tables that are clear, and are so again.
 fn choose_in(
     marks: &mut [bool],
-    counts: &mut [usize],
-    last: &mut [usize],
+    tally: &mut Tally,
     formula: &Formula,
     units: &[Lit],
     cube: &[Lit],
 ) -> Option<Var>
-    requires last { length last.old ≡ length counts.old }
-    requires marks { length marks.old ≡ 2 * length counts.old }
-    requires vars { formula.now.vars < length counts.old }
-    ensures { Choice formula.now (units.now ++ cube.now) result }
+    requires clear { IsClear (length tally.old.counts.items) tally.old }
+    requires size { length marks.old ≡ 2 * length tally.old.counts.items }
+    requires unmarked { AreMarked marks.old (λ l. false) }
+    requires vars { formula.now.vars < length tally.old.counts.items }
+    ensures choice { Choice formula.now (units.now ++ cube.now) result }
+    ensures clear { IsClear (length tally.old.counts.items) tally.new }
+    ensures unmarked { AreMarked marks.new (λ l. false) }
 {
-    marks.fill(false);
-    counts.fill(0);
-    last.fill(0);
+    let _vars = formula.vars(); // with it comes that no literal is of another variable
     mark(marks, units);
     mark(marks, cube);
-    count_clauses(marks, counts, last, formula);
-    greatest(marks, counts, formula.vars())
+    tally.count_clauses(marks, formula);
+    let choice = greatest(marks, &tally.counts, tally.variables());
+    tally.clear();
+    unmark(marks, units);
+    unmark(marks, cube);
+    choice
 }

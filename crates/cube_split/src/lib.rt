@@ -6,13 +6,14 @@
 #![tactic(auto)]
 
 mod chooser;
-mod counting;
+mod greatest;
 mod laws;
 mod marks;
 mod open;
 mod places;
 mod pure;
 mod splitting;
+mod tally;
 mod units;
 mod walk;
 

@@ -1,6 +1,6 @@
 //! A table that says of each literal whether it was marked.
 
-ghost use Rattle.std.specs.Prelude.{◌≡◌, ◌<◌, ◌↔◌, ◌||◌, length, IsTrue, Bool, All, not, false};
+ghost use Rattle.std.specs.Prelude.{◌≡◌, ◌<◌, ◌↔◌, ◌||◌, ◌&&◌, length, IsTrue, Bool, All, not, false};
 ghost use Rattle.std.specs.List.{list_any};
 ghost use Rattle.dimacs.specs.Literal.{Literal, index_of, has};
 ghost use Rattle.cube_split.specs.Marks.{AreMarked};
@@ -15,6 +15,18 @@ pub(crate) fn mark(marks: &mut [bool], literals: &[Lit])
         let at = literal.index();
         if at < marks.len() {
             marks[at] = true;
+        }
+    }
+}
+
+/// Takes the marks of literals away; those beyond the table are passed over.
+pub(crate) fn unmark(marks: &mut [bool], literals: &[Lit])
+    ensures { (test : Literal → Bool) → AreMarked marks.old test → AreMarked marks.new (λ l. test l && not (has literals.now l)) }
+{
+    for literal in literals {
+        let at = literal.index();
+        if at < marks.len() {
+            marks[at] = false;
         }
     }
 }

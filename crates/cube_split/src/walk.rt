@@ -7,12 +7,14 @@ ghost use Rattle.dimacs.specs.Literal.{Literal, var_of, has};
 ghost use Rattle.icnf.specs.Leaves.{Cube, IsFree};
 ghost use Rattle.cube_split.specs.Choice.{Choice, has_variable};
 ghost use Rattle.cube_split.specs.Marks.{AreMarked};
+ghost use Rattle.cube_split.specs.Tallies.{IsTally};
 ghost use Rattle.cube_split.specs.Walking.{StandsAt, IsClosedBy};
 
-use crate::counting::{count_clauses, counted_variables, greatest_of};
+use crate::greatest::greatest;
 use crate::marks::{is_apart, mark};
 use crate::open::{close, reopen};
 use crate::places::Places;
+use crate::tally::Tally;
 use crate::units::Preamble;
 use dimacs::{Formula, Lit, Var};
 use std::alloc::{AllocError, Global};
@@ -21,8 +23,8 @@ use std::alloc::{AllocError, Global};
 #[derive(Drop)]
 pub(crate) struct Walk {
     pub places: Places,
-    /// The variables that stand in clauses apart from the units, rising.
-    pub variables: Vec<u32>,
+    /// The variables that stand in clauses apart from the units.
+    pub variables: Vec<Var>,
     /// By literal, whether it is one of the units or of the path.
     pub marks: Vec<bool>,
     /// By clause, the level at which it was closed: 1 by the units, 2 by the first literal of the path, and so on; 0 while it
@@ -61,18 +63,17 @@ fn marks_of(alloc: Global, literals: &[Lit], vars: u32) -> Result<Vec<bool>, All
     Ok(marks)
 }
 
-/// By variable, in how many clauses without a marked literal it stands.
-fn counts_of(alloc: Global, marks: &[bool], formula: &Formula) -> Result<Vec<usize>, AllocError>
+/// Counts for each variable the clauses without a marked literal in which it stands.
+fn tally_of(alloc: Global, marks: &[bool], formula: &Formula) -> Result<Tally, AllocError>
     requires { length marks.now ≡ 2 * (formula.now.vars + 1) }
-    ensures counted { IfOk result (λ c. (test : Literal → Bool) → AreMarked marks.now test → (w : ℕ) → w ≤ formula.now.vars →
-        slice_index c.items w ≡ count_by (λ C. not (list_any test C) && has_variable C w) formula.now.clauses) }
-    ensures size { IfOk result (λ c. length c.items ≡ formula.now.vars + 1) }
+    ensures tally { IfOk result IsTally }
+    ensures counted { IfOk result (λ t. (test : Literal → Bool) → AreMarked marks.now test → (w : ℕ) → w ≤ formula.now.vars →
+        slice_index t.counts.items w ≡ count_by (λ C. not (list_any test C) && has_variable C w) formula.now.clauses) }
+    ensures size { IfOk result (λ t. length t.counts.items ≡ formula.now.vars + 1) }
 {
-    let rows = formula.vars() as usize + 1;
-    let mut counts = vec![in alloc; 0; rows]?;
-    let mut last = vec![in alloc; 0; rows]?;
-    count_clauses(marks, &mut counts, &mut last, formula);
-    Ok(counts)
+    let mut tally = Tally::new(alloc, formula.vars() as usize + 1)?;
+    tally.count_clauses(marks, formula);
+    Ok(tally)
 }
 
 impl Walk {
@@ -87,8 +88,8 @@ impl Walk {
         let places = Places::of(alloc, formula)?;
         let marks = marks_of(alloc, preamble.units(), formula.vars())?;
         let closed = closed_by_units(alloc, &marks, formula)?;
-        let counts = counts_of(alloc, &marks, formula)?;
-        let variables = counted_variables(alloc, &counts)?;
+        let tally = tally_of(alloc, &marks, formula)?;
+        let (variables, counts) = tally.into_parts();
         Ok(Walk {
             places,
             variables,
@@ -103,7 +104,7 @@ impl Walk {
         requires { (f : Cnf) × (units : List Literal) × (path : Cube) × StandsAt f units path self.now }
         ensures { (f : Cnf) (units : List Literal) (path : Cube) → StandsAt f units path self.now → Choice f (units ++ path) result }
     {
-        greatest_of(&self.marks, &self.counts, &self.variables)
+        greatest(&self.marks, &self.counts, &self.variables)
     }
 
     /// Goes on along a literal of a variable that is not in the path.

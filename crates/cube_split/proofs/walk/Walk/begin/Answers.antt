@@ -12,4 +12,4 @@ returns c =
     let lent_again : AreMarked c.deref-2.result.now (has c.args.preamble.now) = rw c.deref-2.ensures.value marked in
     begins c.args.formula.now c.args.preamble.now _ c.vars.ensures.valid c.in_ok-places.ensures.placed c.in_ok-places.ensures.chained c.in_ok-places.ensures.within c.in_ok-places.ensures.size
     marked (rw (← c.vars.ensures.value) c.in_ok-marks.ensures.size) (c.in_ok-closed.ensures (has c.args.preamble.now) lent)
-    (λ w b. c.in_ok-counts.ensures.counted (has c.args.preamble.now) lent_again w b) c.in_ok-counts.ensures.size (rw (← c.deref-3.ensures.value) c.in_ok-variables.ensures)
+    (rw c.into_parts-variables.ensures.counts (λ w b. c.in_ok-tally.ensures.counted (has c.args.preamble.now) lent_again w b)) (rw c.into_parts-variables.ensures.counts c.in_ok-tally.ensures.size) (rw c.into_parts-variables.ensures.counts c.into_parts-variables.ensures.listed)

@@ -1,0 +1,8 @@
+use Rattle.std.proofs.Common.{Bool, not, ◌&&◌, take}
+use Rattle.dimacs.specs.Literal.{Literal, has}
+use Rattle.cube_split.specs.Marks.{AreMarked}
+use Rattle.cube_split.proofs.marks.unmark.Given as goal
+
+-- the literals so far are marked no more
+abbrev pub invariant-loop-literal : goal.invariant-loop-literal
+invariant-loop-literal l = (test : Literal → Bool) → AreMarked l.fn.marks test → AreMarked l.marks (λ x. test x && not (has (take l.literal-index l.literals) x))
