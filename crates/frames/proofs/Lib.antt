@@ -5,6 +5,7 @@ pub mod SameFields
 pub mod Payloads
 pub mod WritingLemmas
 pub mod NoFrames
+pub mod NumberLemmas
 pub mod Heads
 pub mod Streams
 pub mod FillingLemmas

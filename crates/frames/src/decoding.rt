@@ -6,10 +6,9 @@ ghost use Rattle.frames.specs.Reading.{Decodes};
 
 use crate::chunk::Chunk;
 use crate::fault::FrameFault;
-use crate::fields::{
-    answer_at, attempt_at, cube_of, finding_of, outcome_of, u32_at, u64_at, worker_at,
-};
+use crate::fields::{answer_at, attempt_at, cube_of, finding_of, outcome_of, worker_at};
 use crate::frame::{Frame, Kind};
+use crate::numbers::{u32_at, u64_at};
 use std::alloc::Global;
 
 fn task_of(alloc: Global, payload: &[u8]) -> Result<Frame, FrameFault>

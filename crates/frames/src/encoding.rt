@@ -12,6 +12,7 @@ use crate::chunk::Chunk;
 use crate::cube::Cube;
 use crate::frame::{Attempt, Frame, Kind};
 use crate::head::{HEAD, MARK};
+use crate::numbers::{put_u16, put_u32, put_u64};
 use crate::worker::Worker;
 use dimacs::Lit;
 
@@ -55,18 +56,18 @@ fn put_head(out: &mut [u8], kind: Kind, len: u16) -> usize
     requires { 5 ≤ length out.old }
     ensures { Puts out.old 0 (67 ∷ 67 ∷ kind_number kind ∷ to_be_bytes w16 len) out.new result }
 {
-    let [high, low] = len.to_be_bytes();
-    put(out, 0, &[MARK, MARK, kind.number(), high, low])
+    let at = put(out, 0, &[MARK, MARK, kind.number()]);
+    put_u16(out, at, len)
 }
 
 fn put_attempt(out: &mut [u8], at: usize, attempt: &Attempt) -> usize
     requires { at + 28 ≤ length out.old }
     ensures { Puts out.old at (attempt_bytes attempt.now) out.new result }
 {
-    let at = put(out, at, &attempt.session.to_be_bytes());
-    let at = put(out, at, &attempt.job.to_be_bytes());
-    let at = put(out, at, &attempt.worker.number().to_be_bytes());
-    put(out, at, &attempt.incarnation.to_be_bytes())
+    let at = put_u64(out, at, attempt.session);
+    let at = put_u64(out, at, attempt.job);
+    let at = put_u32(out, at, attempt.worker.number());
+    put_u64(out, at, attempt.incarnation)
 }
 
 fn put_finding(out: &mut [u8], at: usize, finding: &Finding) -> usize
@@ -75,7 +76,7 @@ fn put_finding(out: &mut [u8], at: usize, finding: &Finding) -> usize
 {
     let answer = finding.answer().number();
     let at = put(out, at, &[answer]);
-    put(out, at, &finding.length().to_be_bytes())
+    put_u32(out, at, finding.length())
 }
 
 fn put_outcome(out: &mut [u8], at: usize, outcome: &Outcome) -> usize
@@ -101,7 +102,7 @@ fn put_literals(out: &mut [u8], at: usize, literals: &[Lit]) -> usize
 {
     let mut at = at;
     for literal in literals {
-        at = put(out, at, &word(*literal).to_be_bytes());
+        at = put_u32(out, at, word(*literal));
     }
     at
 }
@@ -110,9 +111,9 @@ fn put_task(out: &mut [u8], at: usize, session: u64, job: u64, limit: u64, cube:
     requires { at + 24 + 4 * length cube.now ≤ length out.old }
     ensures { Puts out.old at (payload (Frame.Task session job limit cube.now)) out.new result }
 {
-    let at = put(out, at, &session.to_be_bytes());
-    let at = put(out, at, &job.to_be_bytes());
-    let at = put(out, at, &limit.to_be_bytes());
+    let at = put_u64(out, at, session);
+    let at = put_u64(out, at, job);
+    let at = put_u64(out, at, limit);
     put_literals(out, at, cube.as_slice())
 }
 
@@ -129,7 +130,7 @@ fn put_fetch(out: &mut [u8], at: usize, attempt: &Attempt, offset: u32) -> usize
     ensures { Puts out.old at (payload (Frame.Fetch attempt.now offset)) out.new result }
 {
     let at = put_attempt(out, at, attempt);
-    put(out, at, &offset.to_be_bytes())
+    put_u32(out, at, offset)
 }
 
 fn put_piece(out: &mut [u8], at: usize, attempt: &Attempt, offset: u32, bytes: &Chunk) -> usize
@@ -144,7 +145,7 @@ fn put_verdict(out: &mut [u8], at: usize, session: u64, finding: &Finding) -> us
     requires { at + 13 ≤ length out.old }
     ensures { Puts out.old at (payload (Frame.Verdict session finding.now)) out.new result }
 {
-    let at = put(out, at, &session.to_be_bytes());
+    let at = put_u64(out, at, session);
     put_finding(out, at, finding)
 }
 
@@ -152,9 +153,9 @@ fn put_want(out: &mut [u8], at: usize, session: u64, worker: Worker, offset: u32
     requires { at + 16 ≤ length out.old }
     ensures { Puts out.old at (payload (Frame.Want session worker offset)) out.new result }
 {
-    let at = put(out, at, &session.to_be_bytes());
-    let at = put(out, at, &worker.number().to_be_bytes());
-    put(out, at, &offset.to_be_bytes())
+    let at = put_u64(out, at, session);
+    let at = put_u32(out, at, worker.number());
+    put_u32(out, at, offset)
 }
 
 fn put_part(
@@ -168,10 +169,10 @@ fn put_part(
     requires { at + 13 + length bytes.now ≤ length out.old }
     ensures { Puts out.old at (payload (Frame.Part session answer offset bytes.now)) out.new result }
 {
-    let at = put(out, at, &session.to_be_bytes());
+    let at = put_u64(out, at, session);
     let number = answer.number();
     let at = put(out, at, &[number]);
-    let at = put(out, at, &offset.to_be_bytes());
+    let at = put_u32(out, at, offset);
     put(out, at, bytes.as_slice())
 }
 
@@ -179,8 +180,8 @@ fn put_idle(out: &mut [u8], at: usize, worker: Worker, incarnation: u64) -> usiz
     requires { at + 12 ≤ length out.old }
     ensures { Puts out.old at (payload (Frame.Idle worker incarnation)) out.new result }
 {
-    let at = put(out, at, &worker.number().to_be_bytes());
-    put(out, at, &incarnation.to_be_bytes())
+    let at = put_u32(out, at, worker.number());
+    put_u64(out, at, incarnation)
 }
 
 fn put_payload(out: &mut [u8], at: usize, frame: &Frame) -> usize

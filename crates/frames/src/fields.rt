@@ -1,7 +1,7 @@
 //! Fields, as they are read from the front of a payload.
 
 ghost use Rattle.std.specs.Prelude.{◌≡◌, ◌≢◌, ◌+◌, ◌*◌, ◌%◌, ◌≤◌, ◌<◌, ◌^◌, ◌++◌, length, take, drop, MatchOption, MatchResult};
-ghost use Rattle.std.specs.Int.{w32, w64, to_be_bytes, from_be_bytes};
+ghost use Rattle.std.specs.Int.{w32, to_be_bytes};
 ghost use Rattle.std.specs.List.{flat_map};
 ghost use Rattle.dimacs.specs.Literal.{Literal};
 ghost use Rattle.frames.specs.Cubes.{IsCube};
@@ -12,35 +12,10 @@ use crate::answer::{Answer, Finding, Outcome, ProofLength};
 use crate::cube::Cube;
 use crate::fault::FrameFault;
 use crate::frame::Attempt;
+use crate::numbers::{u32_at, u64_at};
 use crate::worker::Worker;
 use dimacs::{Lit, Var};
 use std::alloc::Global;
-
-/// The number in the first four bytes, and the rest.
-pub(crate) fn u32_at(bytes: &[u8]) -> (u32, &[u8])
-    requires { 4 ≤ length bytes.now }
-    ensures parts { bytes.now ≡ to_be_bytes w32 result.0 ++ result.1.now }
-    ensures fits { result.0 < 2 ^ 32 }
-    ensures rest { result.1.now ≡ drop 4 bytes.now }
-{
-    let (front, rest) = bytes.split_at(4);
-    let number = u32::from_be_bytes([front[0], front[1], front[2], front[3]]);
-    (number, rest)
-}
-
-/// The number in the first eight bytes, and the rest.
-pub(crate) fn u64_at(bytes: &[u8]) -> (u64, &[u8])
-    requires { 8 ≤ length bytes.now }
-    ensures parts { bytes.now ≡ to_be_bytes w64 result.0 ++ result.1.now }
-    ensures fits { result.0 < 2 ^ 64 }
-    ensures rest { result.1.now ≡ drop 8 bytes.now }
-{
-    let (front, rest) = bytes.split_at(8);
-    let number = u64::from_be_bytes([
-        front[0], front[1], front[2], front[3], front[4], front[5], front[6], front[7],
-    ]);
-    (number, rest)
-}
 
 /// The number of a worker, and the rest.
 pub(crate) fn worker_at(bytes: &[u8]) -> Option<(Worker, &[u8])>

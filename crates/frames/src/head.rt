@@ -5,6 +5,7 @@ ghost use Rattle.frames.specs.Stream.{from_length, from_kind, from_second_mark, 
 
 use crate::fault::FrameFault;
 use crate::frame::Kind;
+use byteorder::{BigEndian, ByteOrder};
 
 /// The byte that a frame's first two are.
 pub(crate) const MARK: u8 = 0x43;
@@ -62,8 +63,8 @@ fn after_kind(kind: Kind, bytes: &[u8]) -> Head
     match bytes {
         [] => Head::Short,
         [_] => Head::Short,
-        [high, low, ..] => {
-            let len = u16::from_be_bytes([*high, *low]);
+        [_, _, ..] => {
+            let len = BigEndian::read_u16(bytes);
             if kind.may_have(len) {
                 Head::Whole(kind, len as usize)
             } else {

@@ -12,6 +12,7 @@ mod fields;
 mod frame;
 mod head;
 mod laws;
+mod numbers;
 mod reader;
 mod worker;
 

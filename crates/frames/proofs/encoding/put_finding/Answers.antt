@@ -8,4 +8,4 @@ pub returns : goal.returns
 returns c =
     let f = c.args.finding.now in
     let p = Puts-first _ (answer_number (answer_of f) ∷ []) (ap (λ n. n ∷ []) (c.number-answer.ensures ∙ ap answer_number c.answer.ensures)) c.put-at.ensures in
-    Puts-then _ _ (to_be_bytes w32 (length_of f)) p (c.to_be_bytes.ensures ∙ ap (to_be_bytes w32) c.length.ensures) c.put.ensures
+    Puts-then _ _ (to_be_bytes w32 (length_of f)) p (ap (to_be_bytes w32) c.length.ensures) c.put_u32.ensures

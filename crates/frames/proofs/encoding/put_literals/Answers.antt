@@ -1,16 +1,16 @@
-use Rattle.std.proofs.Common.{◌∙◌, ap, subst, arith, take, length, length-take, sym}
+use Rattle.std.proofs.Common.{ap, subst, arith, take, length-take, sym}
 use Rattle.std.specs.Int.{w32, to_be_bytes}
 use Rattle.frames.specs.Spelling.{literal_bytes}
 use Rattle.frames.specs.Writing.{Puts}
 use Rattle.frames.proofs.WritingLemmas.{length-literals, literals_more, Puts-then}
 use Rattle.frames.proofs.encoding.put_literals.Goals as goal
 
-pub put-at-requires : goal.put-at-requires
-put-at-requires c =
-    omega (arith, c.requires, c.loop-literal.invariant.ends, length-literals (take c.loop-literal.literal-index c.args.literals.now), length-take c.loop-literal.literal-index c.args.literals.now, ap length c.to_be_bytes.ensures)
+pub put_u32-at-requires : goal.put_u32-at-requires
+put_u32-at-requires c =
+    omega (arith, c.requires, c.loop-literal.invariant.ends, length-literals (take c.loop-literal.literal-index c.args.literals.now), length-take c.loop-literal.literal-index c.args.literals.now)
 
 pub loop-literal-preserved : goal.loop-literal-preserved
 loop-literal-preserved c =
     let more = literals_more c.args.literals.now c.loop-literal.literal-index c.literal-item.result c.loop-literal-test.true c.literal-item.is in
-    subst (λ bytes. Puts c.args.out.now c.args.at bytes c.put-at.new.out c.put-at.result) (sym more)
-    (Puts-then _ _ (literal_bytes c.literal-item.result) c.loop-literal.invariant (c.to_be_bytes.ensures ∙ ap (to_be_bytes w32) c.word.ensures) c.put-at.ensures)
+    subst (λ bytes. Puts c.args.out.now c.args.at bytes c.put_u32-at.new.out c.put_u32-at.result) (sym more)
+    (Puts-then _ _ (literal_bytes c.literal-item.result) c.loop-literal.invariant (ap (to_be_bytes w32) c.word.ensures) c.put_u32-at.ensures)

@@ -6,5 +6,5 @@ use Rattle.frames.proofs.encoding.put_verdict.Goals as goal
 
 pub returns : goal.returns
 returns c =
-    let p = Puts-first _ (to_be_bytes w64 c.args.session) c.to_be_bytes.ensures c.put-at.ensures in
+    let p = Puts-first _ (to_be_bytes w64 c.args.session) refl c.put_u64-at.ensures in
     Puts-then _ _ (finding_bytes c.args.finding.now) p refl c.put_finding.ensures
