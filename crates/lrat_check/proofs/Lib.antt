@@ -18,6 +18,7 @@ pub mod Passing
 pub mod Pigeonhole
 pub mod Places
 pub mod RatExact
+pub mod Rising
 pub mod Running
 pub mod Sound
 pub mod Streams

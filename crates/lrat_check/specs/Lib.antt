@@ -5,6 +5,7 @@ pub mod FragmentFaults
 pub mod Holding
 pub mod Marks
 pub mod Numbers
+pub mod Rising
 pub mod Soundness
 pub mod State
 pub mod Stream

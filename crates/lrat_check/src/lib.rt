@@ -14,6 +14,7 @@ mod laws;
 mod lemma;
 mod live;
 mod marks;
+mod naming;
 mod propagation;
 mod room;
 mod slot;
