@@ -1,7 +1,8 @@
 //! A formula with further clauses numbered on after it.
 
-ghost use Rattle.std.specs.Prelude.{◌≡◌, ◌+◌, ◌<◌, ◌≤◌, [], ◌∷◌, ◌++◌, length, slice_index_or, All, IfOk, OnOk, OnErr};
+ghost use Rattle.std.specs.Prelude.{◌≡◌, ◌+◌, ◌<◌, ◌≤◌, [], ◌∷◌, ◌++◌, length, slice_index_or, All, IfOk, OnOk, OnErr, vec_len};
 ghost use Rattle.dimacs.specs.Cnf.{IsBase, literal_count};
+ghost use Rattle.dimacs.specs.Flat.{parts, ArePlaces};
 ghost use Rattle.dimacs.specs.Literal.{IsWithin};
 
 use crate::flat;
@@ -93,6 +94,18 @@ impl Base {
         ensures valid { IsBase self.now }
     {
         flat::clause_at(&self.literals, &self.places, i)
+    }
+
+    /// A copy of its literals, clause after clause, and of the places where its clauses begin, with the place where the last
+    /// one ends.
+    pub fn copy_parts(&self, alloc: Global) -> Result<(Vec<Lit>, Vec<u32>), AllocError>
+        ensures clauses { IfOk result (λ p. parts p.0.items p.1.items ≡ self.now.clauses) }
+        ensures places { IfOk result (λ p. ArePlaces p.1.items (vec_len p.0)) }
+    {
+        Ok((
+            Vec::from_slice(alloc, &self.literals)?,
+            Vec::from_slice(alloc, &self.places)?,
+        ))
     }
 
     /// Appends a clause; where memory is refused, the base is as before.

@@ -79,6 +79,19 @@ impl Formula {
         self.literals.len()
     }
 
+    /// Its literals, clause after clause, and the places where its clauses begin, with the place where the last one ends.
+    pub fn into_parts(self) -> (Vec<Lit>, Vec<u32>)
+        ensures clauses { parts result.0.items result.1.items ≡ self.clauses }
+        ensures places { ArePlaces result.1.items (vec_len result.0) }
+    {
+        let Formula {
+            vars: _,
+            literals,
+            places,
+        } = self;
+        (literals, places)
+    }
+
     /// The same formula again.
     pub fn copy(&self, alloc: Global) -> Result<Formula, AllocError>
         ensures { IfOk result (λ f. f ≡ self.now) }

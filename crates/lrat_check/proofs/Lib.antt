@@ -14,6 +14,7 @@ pub mod Lines
 pub mod Loop
 pub mod Named
 pub mod Pairs
+pub mod Parts
 pub mod Passing
 pub mod Pigeonhole
 pub mod Places

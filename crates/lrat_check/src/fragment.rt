@@ -18,6 +18,7 @@ ghost use Rattle.lrat_check.specs.Table.{FitsTable, AllFit};
 use crate::checking::{CheckFault, out_of_memory, step_refused, text_refused};
 use crate::fault::StepFault;
 use crate::live::LiveClauses;
+use crate::loading::load;
 use crate::marks::{assume_negations, fresh, make_room};
 use crate::propagation::follow;
 use dimacs::{Base, Lit};
@@ -230,19 +231,14 @@ impl FragmentChecker {
 }
 
 /// Holds the clauses of a base, numbered from 1.
-fn load(alloc: Global, base: &Base) -> Result<FragmentChecker, AllocError>
+fn begin(alloc: Global, base: &Base) -> Result<FragmentChecker, AllocError>
     ensures clauses { IfOk result (λ c. c.clauses ≡ map_of base.now) }
     ensures top { IfOk result (λ c. c.top ≡ length base.now.clauses) }
     ensures base { IfOk result (λ c. c.base ≡ length base.now.clauses) }
     ensures closed { IfOk result (λ c. c.closed ≡ false) }
 {
-    let mut clauses = LiveClauses::with_room(alloc, base.len().saturating_add(1), 0)?;
-    let mut marks = Vec::new(alloc);
-    for i in 0..base.len() {
-        let clause = base.clause(i);
-        make_room(&mut marks, clause)?;
-        clauses.insert(i as u64 + 1, clause)?;
-    }
+    let (literals, places) = base.copy_parts(alloc)?;
+    let (clauses, marks) = load(alloc, literals, &places)?;
     let top = base.len() as u64;
     Ok(FragmentChecker {
         clauses,
@@ -346,7 +342,7 @@ pub fn check_fragment(
     // the first fault, and its line
     ensures exact { GivesCheck result (fragment_of base.now cube.now fragment.now) }
 {
-    let Ok(mut checker) = load(alloc, base) else {
+    let Ok(mut checker) = begin(alloc, base) else {
         return Err(out_of_memory());
     };
     let mut buffer = StepBuffer::new(alloc);

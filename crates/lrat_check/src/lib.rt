@@ -13,6 +13,7 @@ mod groups;
 mod laws;
 mod lemma;
 mod live;
+mod loading;
 mod marks;
 mod naming;
 mod propagation;

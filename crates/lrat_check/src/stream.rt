@@ -173,7 +173,14 @@ impl StreamChecker {
     pub fn new(alloc: Global, formula: &Formula) -> Result<StreamChecker, AllocError>
         ensures { IfOk result (λ s. HasTaken formula.now s []) }
     {
-        let checker = Checker::new(alloc, formula)?;
+        StreamChecker::of(alloc, formula.copy(alloc)?)
+    }
+
+    /// The same, of a formula that is taken over.
+    pub fn of(alloc: Global, formula: Formula) -> Result<StreamChecker, AllocError>
+        ensures { IfOk result (λ s. HasTaken formula s []) }
+    {
+        let checker = Checker::of(alloc, formula)?;
         Ok(StreamChecker {
             checker,
             buffer: StepBuffer::new(alloc),

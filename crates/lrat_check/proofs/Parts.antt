@@ -1,0 +1,111 @@
+-- Clauses that lie one after the other, as entries of a table.
+use Rattle.std.proofs.Common.{◌≡◌, ℕ, zero, suc, ◌+◌, ◌-◌, ◌*◌, ◌<◌, ◌≤◌, false, List, [], ◌∷◌, ◌++◌, Option, Some, None, refl, sym, ◌∙◌, ap, subst, length, take, drop, get_or, arith, drop-cons}
+use Rattle.std.specs.Option.{option_or, option_map, is_some}
+use Rattle.std.specs.List.{slice_range, enumerate_from}
+use Rattle.std.specs.FinMap.{get, len, from_entries, get-from_entries}
+use Rattle.std.specs.Ordering.{nat_cmp}
+use Rattle.std.specs.Map.{lookup}
+use Rattle.std.specs.BTreeMap.{is_at}
+use Rattle.std.specs.Cmp.{nat_cmp_total}
+use Rattle.std.proofs.lemmas.List.{append_assoc, append-nil, drop_all, take_all, length-take-le}
+use Rattle.std.proofs.lemmas.List.Elements.{All-take, All-drop}
+use Rattle.dimacs.specs.Literal.{Literal, Clause, var_of}
+use Rattle.dimacs.specs.Flat.{parts}
+use Rattle.dimacs.specs.ClauseMap.{ClauseMap}
+use Rattle.lrat_check.specs.declared.slot.Slot.{Slot}
+use Rattle.lrat_check.specs.declared.store.Far.{Far}
+use Rattle.lrat_check.specs.Store.{clause_at, entries_of, near_entries, far_entries, live_of, numbered, numbered_entries, place_of, ArePlaced, IsStore}
+use Rattle.lrat_check.specs.Table.{FitsTable, AllFit}
+use Rattle.lrat_check.proofs.Counted.{counted_none, counted_new}
+use Rattle.lrat_check.proofs.Formula.{clauses_more, find-past}
+use Rattle.lrat_check.proofs.Slots.{near_at, get-live_of, placed_at, no_slot, no_place}
+
+entries_of-push : (words : List Literal) (number : ℕ → ℕ) (slots : List (Option Slot)) (n : ℕ) (s : Slot)
+    → entries_of words number n (slots ++ Some s ∷ []) ≡ entries_of words number n slots ++ (number (n + length slots), clause_at words s) ∷ []
+entries_of-push words number [] n s = ap (λ k. (number k, clause_at words s) ∷ []) (omega arith)
+entries_of-push words number (None ∷ slots) n s =
+    entries_of-push words number slots (n + 1) s ∙ ap (λ k. entries_of words number (n + 1) slots ++ (number k, clause_at words s) ∷ []) (omega arith)
+entries_of-push words number (Some v ∷ slots) n s =
+    ap (λ (es : List (ℕ × Clause)). (number n, clause_at words v) ∷ es)
+    (entries_of-push words number slots (n + 1) s ∙ ap (λ k. entries_of words number (n + 1) slots ++ (number k, clause_at words s) ∷ []) (omega arith))
+
+-- the part at a place, and those behind it
+parts_next : (xs : List Literal) (places : List ℕ) (i : ℕ) → i + 1 < length places
+    → parts xs (drop i places) ≡ slice_range xs (get_or places i 0) (get_or places (i + 1) 0) ∷ parts xs (drop (i + 1) places)
+parts_next xs places i lt =
+    let next : i + 1 ≡ suc i = omega arith in
+    let second : drop (suc i) places ≡ get_or places (suc i) 0 ∷ drop (suc (suc i)) places = drop-cons places (suc i) 0 (omega arith) in
+    ap (parts xs) (drop-cons places i 0 (omega arith) ∙ ap (λ ps. get_or places i 0 ∷ ps) second)
+    ∙ ap (λ ps. slice_range xs (get_or places i 0) (get_or places (suc i) 0) ∷ parts xs ps) (sym second)
+    ∙ ap (λ k. slice_range xs (get_or places i 0) (get_or places k 0) ∷ parts xs (drop k places)) (sym next)
+
+-- one slot more
+pub slots_more : (xs : List Literal) (places : List ℕ) (near : List (Option Slot)) (i : ℕ) (s : Slot) → length near ≡ i + 1 → i + 1 < length places
+    → s.place ≡ get_or places i 0 → s.len ≡ get_or places (i + 1) 0 - get_or places i 0
+    → near_entries xs (near ++ Some s ∷ []) ++ enumerate_from (i + 1 + 1) (parts xs (drop (i + 1) places)) ≡ near_entries xs near ++ enumerate_from (i + 1) (parts xs (drop i places))
+slots_more xs places near i s len lt at is =
+    let rest : List (ℕ × Clause) = enumerate_from (i + 1 + 1) (parts xs (drop (i + 1) places)) in
+    let clause : clause_at xs s ≡ slice_range xs (get_or places i 0) (get_or places (i + 1) 0) = ap (λ p. take s.len (drop p xs)) at ∙ ap (λ n. take n (drop (get_or places i 0) xs)) is in
+    let number : 0 + length near ≡ i + 1 = omega arith in
+    ap (λ (es : List (ℕ × Clause)). es ++ rest) (entries_of-push xs (λ n. n) near 0 s)
+    ∙ append_assoc (near_entries xs near) ((0 + length near, clause_at xs s) ∷ []) rest
+    ∙ ap (λ k. near_entries xs near ++ (k, clause_at xs s) ∷ rest) number
+    ∙ ap (λ (C : Clause). near_entries xs near ++ (i + 1, C) ∷ rest) clause
+    ∙ ap (λ cs. near_entries xs near ++ enumerate_from (i + 1) cs) (sym (parts_next xs places i lt))
+
+one_place : (xs : List Literal) (places : List ℕ) (i : ℕ) → length places ≤ i + 1 → i < length places → parts xs (drop i places) ≡ []
+one_place xs places i le lt = ap (parts xs) (drop-cons places i 0 lt ∙ ap (λ ps. get_or places i 0 ∷ ps) (drop_all (suc i) places (omega arith)))
+
+-- no part is left behind the last place
+pub slots_all : (xs : List Literal) (places : List ℕ) (es : List (ℕ × Clause)) (i : ℕ) → length places ≤ i + 1 → i < length places → es ++ enumerate_from (i + 1) (parts xs (drop i places)) ≡ es
+slots_all xs places es i le lt = ap (λ cs. es ++ enumerate_from (i + 1) cs) (one_place xs places i le lt) ∙ append-nil es
+
+-- the clauses of a table alone
+pub live_near : (words : List Literal) (near : List (Option Slot)) (far : Far) (F : List Clause) → far.slots.items ≡ [] → near_entries words near ≡ numbered_entries F → live_of words near far ≡ numbered F
+live_near words near far F none same =
+    ap (λ (es : List (ℕ × Clause)). from_entries {R = nat_cmp} (near_entries words near ++ es)) (ap (entries_of words (λ p. get_or far.numbers.items p 0) 0) none)
+    ∙ ap (λ (es : List (ℕ × Clause)). from_entries {R = nat_cmp} es) (append-nil (near_entries words near) ∙ same)
+
+pub store_near : (words : List Literal) (near : List (Option Slot)) (far : Far) → ArePlaced words near → far.places.entries ≡ [] → far.numbers.items ≡ [] → far.slots.items ≡ [] → IsStore words near far
+store_near words near far placed places numbers slots = record {
+  near_placed = placed;
+  far_placed = λ q s is. absurd (no_slot s (sym (ap (λ xs. get_or xs q None) slots) ∙ is));
+  level = ap length numbers ∙ sym (ap length slots);
+  found = λ q p f. absurd (no_place p (sym (nowhere far places q) ∙ f));
+  kept = λ q s is. absurd (no_slot s (sym (ap (λ xs. get_or xs q None) slots) ∙ is));
+}
+  where
+    nowhere : (far : Far) → far.places.entries ≡ [] → (q : ℕ) → place_of far q ≡ None
+    nowhere far none q = ap (lookup (is_at (nat_cmp q))) none
+
+no_clause : (C : Clause) → None ≡ Some C → ⊥
+no_clause C e = cc
+
+-- a table that fits all words fits each clause
+pub near_fits : (words : List Literal) (near : List (Option Slot)) (far : Far) (places : ℕ) → IsStore words near far → far.slots.items ≡ [] → FitsTable places words → AllFit places (live_of words near far)
+near_fits words near far places store none fits id C is = at (place_of far id) refl
+  where
+    at_slot : (o : Option Slot) → option_or (option_map (clause_at words) o) None ≡ Some C → FitsTable places C
+    at_slot None e = absurd (no_clause C e)
+    at_slot (Some s) e =
+        let same : clause_at words s ≡ C = cc in
+        subst (λ D. FitsTable places D) same (All-take (λ l. 2 * var_of l + 1 < places) s.len (drop s.place words) (All-drop (λ l. 2 * var_of l + 1 < places) s.place words fits))
+
+    at : (o : Option ℕ) → place_of far id ≡ o → FitsTable places C
+    at None e = at_slot (get_or near id None) (sym (get-live_of words near far id store ∙ ap (λ o. option_or (near_at words near id) (placed_at words far.slots.items o)) e) ∙ is)
+    at (Some p) e = absurd (omega (arith, (store.found id p e).1, ap length none))
+
+-- the next number is not live yet
+is_new : (F : List Clause) (i : ℕ) → i ≤ length F → is_some (get (numbered (take i F)) (i + 1)) ≡ false
+is_new F i le = ap is_some (get-from_entries nat_cmp_total (numbered_entries (take i F)) (i + 1) ∙ find-past (take i F) 1 (i + 1) (omega (arith, length-take-le i F le)))
+
+-- as many clauses are live as there are in the list
+pub len-numbered : (F : List Clause) → length F ≡ len (numbered F)
+len-numbered F = at (length F) (omega arith) ∙ ap (λ cs. len (numbered cs)) (take_all (length F) F (omega arith))
+  where
+    at : (i : ℕ) → i ≤ length F → i ≡ len (numbered (take i F))
+    at zero le = counted_none (numbered []) refl
+    at (suc i) le =
+        let more : i + 1 ≡ len (numbered (take (i + 1) F)) = counted_new (numbered (take i F)) (numbered (take (i + 1) F)) (i + 1) (get_or F i []) i (at i (omega arith)) (clauses_more F i (omega arith)) (is_new F i (omega arith)) in
+        let next : i + 1 ≡ suc i = omega arith in
+        subst (λ k. k ≡ len (numbered (take k F))) next more

@@ -1,0 +1,17 @@
+use Rattle.std.proofs.Common.{List, ℕ, ap, sym, ◌∙◌, length}
+use Rattle.std.specs.FinMap.{len}
+use Rattle.dimacs.specs.ClauseMap.{ClauseMap}
+use Rattle.dimacs.specs.Flat.{parts}
+use Rattle.dimacs.specs.Literal.{Clause}
+use Rattle.lrat_check.proofs.Parts.{len-numbered}
+use Rattle.lrat_check.proofs.checker.Checker.of.Goals as goal
+
+pub invariant_of-result : goal.invariant_of-result
+invariant_of-result c = (
+  c.in_ok-clauses.ensures.fits,
+  c.in_ok-clauses.ensures.most,
+  c.len-top.ensures
+      ∙ ap (length {A = Clause}) (sym c.into_parts-literals.ensures.clauses ∙ ap (parts c.into_parts-literals.result.0.items) (sym c.deref.ensures.value))
+      ∙ len-numbered (parts c.into_parts-literals.result.0.items c.deref.result.now)
+      ∙ ap (λ (M : ClauseMap). len M) (sym c.in_ok-clauses.ensures.clauses),
+)

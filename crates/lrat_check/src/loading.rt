@@ -1,0 +1,54 @@
+//! Clauses that are live from the beginning. Their literals are taken over as they lie, clause after clause.
+
+ghost use Rattle.std.specs.Prelude.{◌≡◌, IfOk, length, vec_len};
+ghost use Rattle.dimacs.specs.Flat.{parts, ArePlaces};
+ghost use Rattle.lrat_check.specs.Marks.{AllAtMost};
+ghost use Rattle.lrat_check.specs.Store.{near_entries, numbered, numbered_entries, ArePlaced};
+ghost use Rattle.lrat_check.specs.Table.{AllFit};
+
+use crate::live::LiveClauses;
+use crate::slot::{Cell, Slot};
+use crate::table::grow;
+use dimacs::Lit;
+use std::alloc::{AllocError, Global};
+
+/// The slots of clauses that begin at these places, numbered from 1.
+pub(crate) fn slots_of(
+    alloc: Global,
+    literals: &[Lit],
+    places: &[u32],
+) -> Result<Vec<Cell>, AllocError>
+    requires { ArePlaces places.now (length literals.now) }
+    ensures entries { IfOk result (λ near. near_entries literals.now near.items ≡ numbered_entries (parts literals.now places.now)) }
+    ensures placed { IfOk result (λ near. ArePlaced literals.now near.items) }
+{
+    let _ = literals;
+    let mut near = Vec::with_capacity(alloc, places.len())?;
+    near.push(Cell::free())?;
+    for i in 0..places.len() - 1 {
+        let place = places[i] as usize;
+        let end = places[i + 1] as usize;
+        near.push(Cell::of(Slot {
+            place,
+            len: end - place,
+        }))?;
+    }
+    Ok(near)
+}
+
+/// The clauses that begin at these places, numbered from 1, and a table of marks for their literals.
+pub(crate) fn load(
+    alloc: Global,
+    literals: Vec<Lit>,
+    places: &[u32],
+) -> Result<(LiveClauses, Vec<u64>), AllocError>
+    requires { ArePlaces places.now (vec_len literals) }
+    ensures clauses { IfOk result (λ r. r.0 ≡ numbered (parts literals.items places.now)) }
+    ensures fits { IfOk result (λ r. AllFit (vec_len r.1) r.0) }
+    ensures most { IfOk result (λ r. AllAtMost 0 r.1.items) }
+{
+    let clauses = LiveClauses::of_parts(alloc, literals, places)?;
+    let mut marks = Vec::new(alloc);
+    grow(&mut marks, clauses.places(), 0)?;
+    Ok((clauses, marks))
+}
