@@ -8,7 +8,7 @@ use Rattle.dimacs.specs.Cnf.{AreWithin}
 use Rattle.dimacs.specs.Literal.{Literal, Clause, IsWithin, var_of}
 use Rattle.std.specs.List.{All, AllByRecursion}
 use Rattle.std.proofs.lemmas.List.Elements.{All-weaker, All-push, All-nil}
-use Rattle.dimacs.specs.Flat.{parts, ArePlaces, last_place}
+use Rattle.dimacs.specs.Flat.{parts, ArePlaces, Fills, last_place}
 use Rattle.dimacs.proofs.FormulaLemmas.{places_tail}
 
 abbrev pub state : List Clause → Clause → ℕ → Building
@@ -111,7 +111,7 @@ greatest_append (x ∷ xs) ys = omega (arith, greatest_append xs ys)
 greatest_split : (n : ℕ) (xs : Clause) → greatest_of xs ≡ max (greatest_of (take n xs)) (greatest_of (drop n xs))
 greatest_split n xs = ap greatest_of (sym (take-append-drop n xs)) ∙ greatest_append (take n xs) (drop n xs)
 
-drop_on : (a b : ℕ) (xs : Clause) → a ≤ b → drop (b - a) (drop a xs) ≡ drop b xs
+pub drop_on : (a b : ℕ) (xs : Clause) → a ≤ b → drop (b - a) (drop a xs) ≡ drop b xs
 drop_on zero b xs h = let e : b - 0 ≡ b = omega arith in rw e refl
 drop_on (suc a) zero xs h = absurd (omega arith)
 drop_on (suc a) (suc b) [] h = drop_all (suc b - suc a) [] (omega arith)
@@ -191,3 +191,9 @@ closed_within xs places g vars h closed w =
     let top = greatest_is xs places g h in
     let none = ap greatest_of closed in
     within_more g vars xs (omega (arith, top, none, clauses_greatest vars (parts xs places) w)) h.within
+
+-- they fill the list, where no clause is open
+pub closed_fills : (xs : Clause) (places : List ℕ) (g : ℕ) → IsLaid xs places g → drop (last_place places) xs ≡ [] → Fills xs places
+closed_fills xs places g h closed =
+    let none = ap length closed in
+    record { rise = h.rise; begins = h.first; ends = omega (arith, none, length-drop (last_place places) xs, last_inside places (length xs) h.rise) }

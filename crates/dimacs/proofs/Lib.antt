@@ -6,6 +6,7 @@ pub mod ExampleLemmas
 pub mod FlatLemmas
 pub mod FlatPush
 pub mod FormulaLemmas
+pub mod FrontLemmas
 pub mod HeaderLemmas
 pub mod LineLemmas
 pub mod LiteralLemmas
@@ -14,5 +15,6 @@ pub mod NumberLemmas
 pub mod RunLemmas
 pub mod SpellingLemmas
 pub mod TokenLemmas
+pub mod ToldLemmas
 pub mod WordLemmas
 pub mod WritingLemmas

@@ -1,5 +1,5 @@
 -- Reading tokens and lines, one after the other.
-use Rattle.std.proofs.Common.{◌≡◌, ℕ, ◌+◌, ◌<◌, ◌≤◌, List, [], ◌∷◌, Option, Some, None, Result, Ok, Err, length, refl, sym, ◌∙◌, arith, subst, IfSome}
+use Rattle.std.proofs.Common.{◌≡◌, ℕ, ◌+◌, ◌<◌, ◌≤◌, ◌≢◌, List, [], ◌∷◌, Option, Some, None, Result, Ok, Err, length, refl, sym, ◌∙◌, arith, subst, IfSome}
 use Rattle.std.specs.Borrow.{Bor}
 use Rattle.dimacs.specs.declared.fault.Kind.{Kind}
 use Rattle.dimacs.specs.declared.fault.Kind.TheVariants.{NoHeader, BadHeader, BadToken, VariableAboveHeader, ClauseNotEnded, TooFewClauses, TooManyClauses, AboveLimit, NoMemory}
@@ -7,6 +7,7 @@ use Rattle.dimacs.specs.declared.fault.DimacsFault.{DimacsFault}
 use Rattle.dimacs.specs.BodyState.{BodyState}
 use Rattle.dimacs.specs.Cnf.{Cnf}
 use Rattle.dimacs.specs.Words.{words, words_of, left_len}
+use Rattle.dimacs.proofs.ToldLemmas.{IsTold}
 use Rattle.dimacs.specs.Reading.{read_token, read_words, read_lines, read_text, read_header, finish, start, fault, Fails, GivesFormula, UnlessMemory, ◌>>=◌}
 
 pub words_more : (line : ℕ) (ws more : List (List ℕ)) (w : List ℕ) (b next : BodyState) → ws ≡ w ∷ more → read_token line w b ≡ Ok next → read_words line ws b ≡ read_words line more next
@@ -17,31 +18,32 @@ pub words_end : (line : ℕ) (ws : List (List ℕ)) (b : BodyState) → ws ≡ [
 unfolding read_words
 words_end line ws b e = rw e refl
 
-fails_as : (k : Kind) (P Q : Type 0) → (P → Q) → UnlessMemory k P → UnlessMemory k Q
-fails_as NoMemory P Q goes h = tt
-fails_as NoHeader P Q goes h = goes h
-fails_as BadHeader P Q goes h = goes h
-fails_as BadToken P Q goes h = goes h
-fails_as VariableAboveHeader P Q goes h = goes h
-fails_as ClauseNotEnded P Q goes h = goes h
-fails_as TooFewClauses P Q goes h = goes h
-fails_as TooManyClauses P Q goes h = goes h
-fails_as AboveLimit P Q goes h = goes h
+fails_as : (k : Kind) (line : ℕ) (P Q : Type 0) → (P → Q) → UnlessMemory k line P → UnlessMemory k line Q
+fails_as NoMemory line P Q goes h = h
+fails_as NoHeader line P Q goes h = goes h
+fails_as BadHeader line P Q goes h = goes h
+fails_as BadToken line P Q goes h = goes h
+fails_as VariableAboveHeader line P Q goes h = goes h
+fails_as ClauseNotEnded line P Q goes h = goes h
+fails_as TooFewClauses line P Q goes h = goes h
+fails_as TooManyClauses line P Q goes h = goes h
+fails_as AboveLimit line P Q goes h = goes h
 
-always : (k : Kind) (P : Type 0) → P → UnlessMemory k P
-always NoMemory P h = tt
-always NoHeader P h = h
-always BadHeader P h = h
-always BadToken P h = h
-always VariableAboveHeader P h = h
-always ClauseNotEnded P h = h
-always TooFewClauses P h = h
-always TooManyClauses P h = h
-always AboveLimit P h = h
+-- a fault that is not want of memory
+stands : (k : Kind) (line : ℕ) (P : Type 0) → k ≢ NoMemory → P → UnlessMemory k line P
+stands NoMemory line P other h = absurd (other refl)
+stands NoHeader line P other h = h
+stands BadHeader line P other h = h
+stands BadToken line P other h = h
+stands VariableAboveHeader line P other h = h
+stands ClauseNotEnded line P other h = h
+stands TooFewClauses line P other h = h
+stands TooManyClauses line P other h = h
+stands AboveLimit line P other h = h
 
 -- what fails for another reason than memory
 pub Fails-by : {A B : Type 0} (k : DimacsFault) (first : Result A DimacsFault) (all : Result B DimacsFault) → (first ≡ Err k → all ≡ Err k) → Fails k first → Fails k all
-Fails-by k first all goes h = fails_as k.kind (first ≡ Err k) (all ≡ Err k) goes h
+Fails-by k first all goes h = fails_as k.kind k.line (first ≡ Err k) (all ≡ Err k) goes h
 
 words_fault : (line : ℕ) (ws more : List (List ℕ)) (w : List ℕ) (b : BodyState) (f : DimacsFault) → ws ≡ w ∷ more → read_token line w b ≡ Err f → read_words line ws b ≡ Err f
 unfolding read_words
@@ -95,9 +97,9 @@ text_fault n ls more line f e some is = text_by n ls more line (words line) e so
 pub gives_same : (r all all' : Result Cnf DimacsFault) → all ≡ all' → GivesFormula r all → GivesFormula r all'
 gives_same r all all' e h = subst (λ (x : Result Cnf DimacsFault). GivesFormula r x) e h
 
-pub gives_err : (f : DimacsFault) (all : Result Cnf DimacsFault) → all ≡ Err f → Fails f all
-gives_err f all e = always f.kind (all ≡ Err f) e
+pub gives_err : (f : DimacsFault) (all : Result Cnf DimacsFault) → f.kind ≢ NoMemory → all ≡ Err f → Fails f all
+gives_err f all other e = stands f.kind f.line (all ≡ Err f) other e
 
-pub gives_itself : (r : Result Cnf DimacsFault) → GivesFormula r r
-gives_itself (Ok f) = refl
-gives_itself (Err f) = always f.kind (_ ≡ _) refl
+pub gives_itself : (r : Result Cnf DimacsFault) → IsTold r → GivesFormula r r
+gives_itself (Ok f) other = refl
+gives_itself (Err f) other = stands f.kind f.line (_ ≡ _) other refl

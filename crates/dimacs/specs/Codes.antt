@@ -1,7 +1,7 @@
 -- Codes of literals and clause maps: how a proof tells such values apart. Nothing here is to be believed.
-use Rattle.std.specs.Prelude.{◌≡◌, ℕ, ◌+◌, ◌*◌, ◌/◌, ◌%◌, ◌<◌, Bool, true, false, refl, cond}
-use Rattle.std.proofs.Common.{arith, eqb}
-use Rattle.std.proofs.lemmas.Bool.Decides.{nat_tests}
+use Rattle.std.specs.Prelude.{◌≡◌, ℕ, zero, suc, ◌+◌, ◌*◌, ◌/◌, ◌%◌, ◌<◌, ◌==◌, Bool, true, false, refl, cond}
+use Rattle.std.proofs.Common.{◌∙◌, sym}
+use Rattle.std.proofs.Math.Nat.{add-zero, div-add-mod, le_of_suc-le-suc, mod-lt, not-suc-le-zero, zero-lt-suc}
 use Rattle.std.specs.FinMap.{code}
 use Rattle.std.specs.Coded.{Coded, code_by, coded×, coded_ℕ, coded_bool, coded_list}
 use Rattle.dimacs.specs.Literal.{Literal, Pos, Neg, var_of, is_negative, index_of, literal_of}
@@ -9,13 +9,12 @@ use Rattle.dimacs.specs.ClauseMap.{ClauseMap}
 
 -- the place of a literal gives the literal back
 pub index_of-literal_of : (n : ℕ) → index_of (literal_of n) ≡ n
-index_of-literal_of n = code_of_parts n (n % 2) (n / 2) (omega arith) (omega arith)
+index_of-literal_of n = of_parts (n / 2) (n % 2) (mod-lt n (zero-lt-suc 1)) ∙ div-add-mod n 2
   where
-    code_of_parts : (n r q : ℕ) → 2 * q + r ≡ n → r < 2 → index_of (cond (eqb r 0) (Pos q) (Neg q)) ≡ n
-    code_of_parts n r q e l = elim (eqb r 0) as (λ b. eqb r 0 ≡ b → index_of (cond b (Pos q) (Neg q)) ≡ n) [
-      | true ↦ λ t. grind (arith, nat_tests)
-      | false ↦ λ t. grind (arith, nat_tests)
-    ] refl
+    of_parts : (q r : ℕ) → r < 2 → index_of (cond (r == 0) (Pos q) (Neg q)) ≡ 2 * q + r
+    of_parts q zero l = sym (add-zero (2 * q))
+    of_parts q (suc zero) l = refl
+    of_parts q (suc (suc r)) l = absurd (not-suc-le-zero (le_of_suc-le-suc (le_of_suc-le-suc l)))
 
 abbrev pub literal_by : Bool → ℕ → Literal
 literal_by true v = Neg v

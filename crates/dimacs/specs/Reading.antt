@@ -99,13 +99,14 @@ read_text n (line ∷ more) = by_tokens (words_of line) (read_text (n + 1) more)
 abbrev pub parse : List ℕ → Result Cnf DimacsFault
 parse text = read_text 0 (lines text)
 
-abbrev pub UnlessMemory : Kind → Type 0 → Type 0
-UnlessMemory NoMemory P = Unit {0}
-UnlessMemory _ P = P
+-- want of memory has line 0
+abbrev pub UnlessMemory : Kind → ℕ → Type 0 → Type 0
+UnlessMemory NoMemory line P = line ≡ 0
+UnlessMemory _ line P = P
 
 -- a call that changes a value gives what reading gives, unless memory ran out
 abbrev pub Fails : {A : Type 0} → DimacsFault → Result A DimacsFault → Type 0
-Fails f expected = UnlessMemory f.kind (expected ≡ Err f)
+Fails f expected = UnlessMemory f.kind f.line (expected ≡ Err f)
 
 abbrev pub Gives : BodyState → Result (Unit {0}) DimacsFault → Result BodyState DimacsFault → Type 0
 Gives new (Ok _) expected = expected ≡ Ok new

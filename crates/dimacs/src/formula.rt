@@ -1,8 +1,8 @@
 //! Formulas in conjunctive normal form.
 
-ghost use Rattle.std.specs.Prelude.{◌≡◌, ℕ, ◌+◌, ◌-◌, ◌<◌, ◌≤◌, [], length, slice_index_or, All, IfOk, vec_len};
+ghost use Rattle.std.specs.Prelude.{◌≡◌, ◌<◌, ◌≤◌, [], length, slice_index_or, All, IfOk, vec_len};
 ghost use Rattle.dimacs.specs.Cnf.{IsFormula};
-ghost use Rattle.dimacs.specs.Flat.{parts, ArePlaces};
+ghost use Rattle.dimacs.specs.Flat.{parts, Fills};
 ghost use Rattle.dimacs.specs.Literal.{IsWithin};
 
 use crate::flat;
@@ -23,19 +23,19 @@ impl Model for Formula {
     ghost use Rattle.std.specs.Prelude.{ℕ, ◌≤◌, All, vec_len};
     ghost use Rattle.dimacs.specs.Cnf.{Cnf};
     ghost use Rattle.dimacs.specs.Literal.{IsWithin};
-    ghost use Rattle.dimacs.specs.Flat.{parts, ArePlaces};
+    ghost use Rattle.dimacs.specs.Flat.{parts, Fills};
 
     ghost Value = { Cnf };
 
     ghost view = { λ f. record { vars = f.vars; clauses = parts f.literals.items f.places.items } };
 
-    ghost invariant = { λ f. (f.vars ≤ 1000000) × ArePlaces f.places.items (vec_len f.literals) × All (IsWithin f.vars) f.literals.items × (vec_len f.places ≤ 4000001) × (vec_len f.literals ≤ 50000000) };
+    ghost invariant = { λ f. (f.vars ≤ 1000000) × Fills f.literals.items f.places.items × All (IsWithin f.vars) f.literals.items × (vec_len f.places ≤ 4000001) × (vec_len f.literals ≤ 50000000) };
 }
 
 impl Formula {
     pub(crate) fn from_parts(vars: u32, literals: Vec<Lit>, places: Vec<u32>) -> Formula
         requires limit { vars ≤ 1000000 }
-        requires places { ArePlaces places.items (vec_len literals) }
+        requires places { Fills literals.items places.items }
         requires within { All (IsWithin vars) literals.items }
         requires count { vec_len places ≤ 4000001 }
         requires total { vec_len literals ≤ 50000000 }
@@ -46,6 +46,21 @@ impl Formula {
             literals,
             places,
         }
+    }
+
+    /// Its number of variables, its literals, clause after clause, and the places where its clauses begin, with the place where
+    /// the last one ends.
+    pub fn into_parts(self) -> (u32, Vec<Lit>, Vec<u32>)
+        ensures value { self ≡ record { vars = result.0; clauses = parts result.1.items result.2.items } }
+        ensures fills { Fills result.1.items result.2.items }
+        ensures valid { IsFormula self }
+    {
+        let Formula {
+            vars,
+            literals,
+            places,
+        } = self;
+        (vars, literals, places)
     }
 
     /// How many variables it has, at most 1,000,000: the greatest that a clause may name.
@@ -74,22 +89,9 @@ impl Formula {
         flat::clause_at(&self.literals, &self.places, i)
     }
 
-    // How many literals its vector holds: room for each literal of its clauses.
+    // How many literals its clauses have.
     pub(crate) fn literal_count(&self) -> usize {
         self.literals.len()
-    }
-
-    /// Its literals, clause after clause, and the places where its clauses begin, with the place where the last one ends.
-    pub fn into_parts(self) -> (Vec<Lit>, Vec<u32>)
-        ensures clauses { parts result.0.items result.1.items ≡ self.clauses }
-        ensures places { ArePlaces result.1.items (vec_len result.0) }
-    {
-        let Formula {
-            vars: _,
-            literals,
-            places,
-        } = self;
-        (literals, places)
     }
 
     /// The same formula again.

@@ -1,5 +1,5 @@
 -- Reading gives exactly the formulas and trees that a text spells.
-use Rattle.std.proofs.Common.{◌≡◌, ◌≢◌, ℕ, suc, ◌+◌, ◌<◌, ◌≤◌, Bool, true, false, cond, List, [], ◌∷◌, ◌++◌, map, pos, nat_abs, Option, Some, None, Result, Ok, Err, length, refl, sym, ap, ◌∙◌, arith, subst, append_assoc, length-append, ltb, eq-eqb, codes, bytes_eq, IfOk}
+use Rattle.std.proofs.Common.{◌≡◌, ◌≢◌, ℕ, suc, ◌+◌, ◌<◌, ◌≤◌, Bool, true, false, cond, List, [], ◌∷◌, ◌++◌, map, pos, nat_abs, Option, Some, None, Result, Ok, Err, length, refl, sym, ap, ◌∙◌, arith, subst, append_assoc, length-append, ltb, codes, bytes_eq, IfOk}
 use Rattle.std.specs.List.{flat_map, AllByRecursion}
 use Rattle.std.specs.Prelude.{⊤}
 use Rattle.std.proofs.lemmas.Slice.Eq.{bytes_eq-Decides}
@@ -9,7 +9,7 @@ use Rattle.std.proofs.lemmas.List.Elements.{All-head, All-tail, recursion_from_A
 use Rattle.std.proofs.lemmas.Grind.{flat_map-append}
 use Rattle.dimacs.specs.Building.{greatest_in}
 use Rattle.dimacs.specs.Cnf.{Cnf, AreWithin, literal_count}
-use Rattle.dimacs.specs.Literal.{Literal, Pos, Neg, Clause, IsWithin, negation, var_of, same, number_of}
+use Rattle.dimacs.specs.Literal.{Literal, Clause, IsWithin, negation, var_of, number_of}
 use Rattle.dimacs.specs.Spelling.{ended}
 use Rattle.dimacs.specs.Words.{words_of, lines}
 use Rattle.dimacs.proofs.LiteralLemmas.{same-itself, var_of-negation, literal_back, number_size}

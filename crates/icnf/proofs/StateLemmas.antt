@@ -7,7 +7,7 @@ use Rattle.std.proofs.lemmas.List.Elements.{All-nil, All-push}
 use Rattle.std.proofs.lemmas.Grind.{flat_map-append}
 use Rattle.dimacs.specs.Building.{greatest_in, greatest_of}
 use Rattle.dimacs.specs.Cnf.{Cnf, AreWithin, literal_count}
-use Rattle.dimacs.specs.Literal.{Literal, Pos, Neg, Clause, IsWithin, var_of, same, number_of, literal_of_number}
+use Rattle.dimacs.specs.Literal.{Literal, Clause, IsWithin, var_of, number_of, literal_of_number}
 use Rattle.dimacs.specs.Spelling.{ended}
 use Rattle.dimacs.specs.Words.{words_of}
 use Rattle.dimacs.proofs.LiteralLemmas.{same-true, number_back, literal_size}

@@ -2,6 +2,7 @@ use Rattle.std.proofs.Common.{arith, ap, ◌∙◌, sym, length}
 use Rattle.std.proofs.lemmas.Result.{err_from_is_err_and}
 use Rattle.dimacs.specs.Words.{lines_left, left_len}
 use Rattle.dimacs.proofs.LineLemmas.{left_shorter, lines_more, lines_end, lines_fails, gives_same, gives_itself}
+use Rattle.dimacs.proofs.ToldLemmas.{finish_told}
 use Rattle.dimacs.proofs.reading.read_lines.Goals as goal
 
 pub returns-in_err-read_line : goal.returns-in_err-read_line
@@ -19,4 +20,4 @@ loop-rest-preserved c =
 
 pub returns : goal.returns
 returns c =
-    rw c.finish.ensures (gives_same _ _ _ (sym (lines_end c.loop-rest.lines _ c.loop-rest.body (ap lines_left c.in_default.is)) ∙ c.loop-rest.invariant.1) (gives_itself _))
+    rw c.finish.ensures (gives_same _ _ _ (sym (lines_end c.loop-rest.lines _ c.loop-rest.body (ap lines_left c.in_default.is)) ∙ c.loop-rest.invariant.1) (gives_itself _ (finish_told _ _)))

@@ -4,6 +4,7 @@ use Rattle.std.proofs.lemmas.Bool.{MatchBool-at_true, MatchBool-at_false}
 use Rattle.dimacs.specs.Words.{lines_left, left_len}
 use Rattle.icnf.specs.Reading.{read_text, read_lines}
 use Rattle.icnf.proofs.LineLemmas.{left_shorter, text_end, text_blank, text_header, text_fault, gives_same, gives_err}
+use Rattle.icnf.proofs.ToldLemmas.{header_told, told_fault}
 use Rattle.icnf.proofs.reading.parse.Goals as goal
 
 pub returns-in_err-read_header : goal.returns-in_err-read_header
@@ -12,7 +13,7 @@ returns-in_err-read_header c =
     let row = MatchBool-at_false _ _ c.if-not-is_blank.true c.is_blank.ensures in
     let e : read_text c.loop-rest.lines (lines_left c.loop-rest.rest) ≡ Err c.in_err-read_header.field-0.0 =
     text_fault c.loop-rest.lines (lines_left c.loop-rest.rest) (lines_left c.next_line.result.1) c.next_line.result.0.now c.in_err-read_header.field-0.0 (ap lines_left c.in-Some.is ∙ c.next_line.ensures.line) row c.in_err-read_header.ensures in
-    rw (p.1, p.2) (gives_err _ _ (sym c.loop-rest.invariant.1 ∙ e))
+    rw (p.1, p.2) (gives_err _ _ (told_fault _ _ (header_told (c.loop-rest.lines + 1) _) c.in_err-read_header.ensures) (sym c.loop-rest.invariant.1 ∙ e))
 
 pub returns-then-not-is_blank : goal.returns-then-not-is_blank
 returns-then-not-is_blank c =

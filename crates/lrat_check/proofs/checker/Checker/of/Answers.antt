@@ -1,6 +1,7 @@
 use Rattle.std.proofs.Common.{List, ℕ, ap, sym, ◌∙◌, length}
 use Rattle.std.specs.FinMap.{len}
 use Rattle.dimacs.specs.ClauseMap.{ClauseMap}
+use Rattle.dimacs.specs.Cnf.{Cnf}
 use Rattle.dimacs.specs.Flat.{parts}
 use Rattle.dimacs.specs.Literal.{Clause}
 use Rattle.lrat_check.proofs.Parts.{len-numbered}
@@ -11,7 +12,7 @@ invariant_of-result c = (
   c.in_ok-clauses.ensures.fits,
   c.in_ok-clauses.ensures.most,
   c.len-top.ensures
-      ∙ ap (length {A = Clause}) (sym c.into_parts-literals.ensures.clauses ∙ ap (parts c.into_parts-literals.result.0.items) (sym c.deref.ensures.value))
-      ∙ len-numbered (parts c.into_parts-literals.result.0.items c.deref.result.now)
+      ∙ ap (length {A = Clause}) (ap (λ (f : Cnf). f.clauses) c.into_parts-literals.ensures.value ∙ ap (parts c.into_parts-literals.result.1.items) (sym c.deref.ensures.value))
+      ∙ len-numbered (parts c.into_parts-literals.result.1.items c.deref.result.now)
       ∙ ap (λ (M : ClauseMap). len M) (sym c.in_ok-clauses.ensures.clauses),
 )
