@@ -20,4 +20,5 @@ pub mod DelayLemmas
 pub mod AttachLemmas
 pub mod SettleLemmas
 pub mod OrderingLemmas
+pub mod DetachLemmas
 pub mod ReadyLemmas

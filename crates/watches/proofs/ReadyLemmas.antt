@@ -1,8 +1,8 @@
 -- What is kept of all watches, through each call of a propagator.
-use Rattle.std.proofs.Common.{◌≡◌, ◌≢◌, ℕ, ◌+◌, ◌*◌, ◌-◌, ◌/◌, ◌%◌, ◌^◌, ◌<◌, ◌≤◌, inl, inr, List, [], ◌∷◌, ◌++◌, length, get_or, refl, ap, sym, ◌∙◌, subst, arith, length-append}
+use Rattle.std.proofs.Common.{◌≡◌, ◌≢◌, ℕ, ◌+◌, ◌*◌, ◌-◌, ◌/◌, ◌%◌, ◌^◌, ◌<◌, ◌≤◌, inl, inr, Bool, true, false, List, [], ◌∷◌, ◌++◌, length, get_or, set, refl, ap, sym, ◌∙◌, subst, arith, length-append}
 use Rattle.std.specs.List.{All, Contains, IsDistinct, remove}
-use Rattle.std.proofs.lemmas.Bool.{cases_lt}
-use Rattle.std.proofs.lemmas.List.{get_or-map, length-map}
+use Rattle.std.proofs.lemmas.Bool.{cases_lt, false≢true}
+use Rattle.std.proofs.lemmas.List.{get_or-map, length-map, length-set}
 use Rattle.std.proofs.lemmas.List.Edits.{length-remove, get_or-remove_below, get_or-remove_above}
 use Rattle.std.proofs.lemmas.List.Elements.{All-push}
 use Rattle.dimacs.specs.Literal.{Literal, Clause, IsWithin, same}
@@ -18,10 +18,11 @@ use Rattle.watches.specs.Scanning.{IsHere, numbers, has_number, here_pushed}
 use Rattle.watches.specs.declared.watched.places.Place.{Place}
 use Rattle.watches.specs.Chains.{AppendsTwo}
 use Rattle.watches.specs.Watching.{IsWatching, IsLong, no_clause}
-use Rattle.watches.specs.Ready.{Watches, AreNamed, AreWatches, IsReady}
+use Rattle.watches.specs.Ready.{Watches, AreNamed, AreWatches, IsReady, attached_of}
 use Rattle.watches.proofs.MovingLemmas.{stands_followed, all_here_followed}
 use Rattle.watches.proofs.StateLemmas.{cut}
 use Rattle.watches.proofs.AttachLemmas.{appends, some_watching, named_push}
+use Rattle.watches.proofs.DetachLemmas.{attached_push, all_attached, attached_followed, stood, marks}
 
 -- ---- literals above a level were taken out
 pub ready_cut : (w : Watches) (now : ℕ) (m : Clauses) (t u : TrailValue) (gone : List Assigned) (level : ℕ) → IsReady w m t → u.vars ≡ t.vars → t.entries ≡ u.entries ++ gone
@@ -33,28 +34,35 @@ ready_cut w now m t u gone level r v e a c l n = record {
 }
 
 -- ---- a clause was attached
-module _ (w : Watches) (k : Clauses) (t : TrailValue) (ys : List Place) (at : Ref) (C : Clause) (one two : Literal)
+module _ (w : Watches) (cs : List Ref) (ls : List Bool) (among : w.clauses ≡ attached_of cs ls) (h : AreWatches w.places cs ls w.base w.stale)
+    (k : Clauses) (t : TrailValue) (ys : List Place) (at : Ref) (C : Clause) (one two : Literal)
     (fresh : Contains (numbers w.clauses) at.number → ⊥)
     (appended : AppendsTwo w.places ys one two) where
   new_number : (i : ℕ) → i < length w.clauses → (get_or w.clauses i no_clause).number ≢ at.number
   new_number i l e = fresh (subst (Contains (numbers w.clauses)) e (has_number w.clauses i no_clause l))
 
-  pub watches_attached : AreWatches w.places w.clauses w.base → length w.places + 2 ≤ 2 ^ 32 → AreWatches ys (w.clauses ++ at ∷ []) w.base
-  watches_attached h l = record {
-    whole = omega (arith, appended.long, h.whole, length-append w.clauses (at ∷ []));
+  pub attached_more : attached_of (cs ++ at ∷ []) (ls ++ true ∷ []) ≡ w.clauses ++ at ∷ []
+  attached_more = attached_push cs ls at true h.marked ∙ ap (λ (xs : List Ref). xs ++ at ∷ []) (sym among)
+
+  pub watches_attached : length w.places + 2 ≤ 2 ^ 32 → AreWatches ys (cs ++ at ∷ []) (ls ++ true ∷ []) w.base w.stale
+  watches_attached l = record {
+    whole = omega (arith, appended.long, h.whole, length-append cs (at ∷ []));
     few = omega (arith, appended.long);
     even = h.even;
-    named = named_push w.clauses at h.named new_number;
+    marked = omega (arith, length-append cs (at ∷ []), length-append ls (true ∷ []), h.marked);
+    named = subst AreNamed (sym attached_more) (named_push w.clauses at (subst AreNamed (sym among) h.named) new_number);
+    none_gone = λ s. All-push (λ b. b ≡ true) ls true (h.none_gone s) refl;
   }
 
-  pub ready_attached : AreWatches w.places w.clauses w.base → IsReady w k t → Stands k at C → All (IsWithin t.vars) C → IsDistinct same C
+  pub ready_attached : IsReady w k t → Stands k at C → All (IsWithin t.vars) C → IsDistinct same C
       → ((d : Literal) → 2 ≤ length C → (one ≡ get_or C 0 d) × (two ≡ get_or C 1 d)) → IsReady (record w { places = ys; clauses = w.clauses ++ at ∷ [] }) k t
-  ready_attached h r st within differ firsts = record {
+  ready_attached r st within differ firsts = record {
     wide = r.wide;
     here = All-push (IsHere k t.vars) w.clauses at r.here (C, st, within);
     watching = λ s.
         let x = r.watching s in
-        some_watching w.places ys w.clauses w.base w.head k t x.0 x.1 h.whole at C st within differ new_number (appends w.places ys C one two appended firsts);
+        let all : w.clauses ≡ cs = among ∙ all_attached cs ls h.marked (h.none_gone s) in
+        some_watching w.places ys w.clauses w.base w.head k t x.0 x.1 (omega (arith, h.whole, ap length all)) at C st within differ new_number (appends w.places ys C one two appended firsts);
   }
 
 -- ---- numbers of clauses, by places
@@ -108,6 +116,36 @@ module _ (clauses : List Ref) (i : ℕ) (inside : i < length clauses) where
         ],
   )
 
+-- ---- a clause was marked as detached
+module _ (places : List Place) (cs : List Ref) (ls : List Bool) (base : ℕ) (stale : Bool) (h : AreWatches places cs ls base stale) (i : ℕ) (inside : i < length cs) (live : get_or ls i false ≡ true) where
+  pub watches_marked : AreWatches places cs (set ls i false) base true
+  watches_marked =
+      let m = marks cs ls i h.marked inside live in
+      record {
+        whole = h.whole;
+        few = h.few;
+        even = h.even;
+        marked = omega (arith, length-set ls i false, h.marked);
+        named = subst AreNamed (sym m.without) (named_removed (attached_of cs ls) m.place m.within h.named);
+        none_gone = λ s. absurd (false≢true (sym s));
+      }
+
+  pub all_marked : (P : Ref → Type 0) → All P (attached_of cs ls) → All P (attached_of cs (set ls i false))
+  all_marked P a = let m = marks cs ls i h.marked inside live in subst (All P) (sym m.without) (all_removed (attached_of cs ls) m.place m.within P a)
+
+  pub without_marked : (n : ℕ) → (get_or cs i no_clause).number ≡ n → AreWithout (numbers (attached_of cs ls)) n (numbers (attached_of cs (set ls i false)))
+  without_marked n e =
+      let m = marks cs ls i h.marked inside live in
+      subst (λ (xs : List Ref). AreWithout (numbers (attached_of cs ls)) n (numbers xs)) (sym m.without)
+      (without_removed (attached_of cs ls) m.place m.within n h.named (ap (λ (r : Ref). r.number) (m.same no_clause) ∙ e))
+
+-- where an attached clause stands among all
+pub attached_at : (cs : List Ref) (ls : List Bool) (n : ℕ) → Contains (numbers (attached_of cs ls)) n → (i : ℕ) × (i < length cs) × (get_or ls i false ≡ true) × ((get_or cs i no_clause).number ≡ n)
+attached_at cs ls n h =
+    let x = number_at (attached_of cs ls) n h in
+    let s = stood cs ls x.0 x.1 in
+    (s.place, s.within, s.live, ap (λ (r : Ref). r.number) (sym (s.same no_clause)) ∙ x.2)
+
 -- ---- clauses moved
 module _ (m k : Clauses) (moves : List (Ref × Ref)) (old new : List Ref) (h : IsCompacted m k moves) (f : AreFollowed moves old new) where
   pub watching_followed : (places : List Place) (base head : ℕ) (t : TrailValue) (paths : ℕ → List ℕ) → IsWatching places old base head m t paths → IsWatching places new base head k t paths
@@ -158,16 +196,20 @@ ready_followed w news moves f m k t h r = record {
   watching = λ s. let x = r.watching s in (x.0, watching_followed m k moves w.clauses news h f w.places w.base w.head t x.0 x.1);
 }
 
-pub watches_followed : (places : List Place) (base : ℕ) (old new : List Ref) (moves : List (Ref × Ref)) → AreFollowed moves old new → AreWatches places old base → AreWatches places new base
-watches_followed places base old new moves f h = record {
+pub watches_followed : (places : List Place) (base : ℕ) (old new : List Ref) (ls : List Bool) (stale : Bool) (moves : List (Ref × Ref)) → AreFollowed moves old new → AreWatches places old ls base stale → AreWatches places new ls base stale
+watches_followed places base old new ls stale moves f h = record {
   whole = omega (arith, h.whole, f.long);
   few = h.few;
   even = h.even;
-  named = λ i j a b e.
-      let l : i < length old = omega (arith, f.long) in
-      let g : j < length old = omega (arith, f.long) in
-      h.named i j l g (sym (f.each i no_clause l).number ∙ e ∙ (f.each j no_clause g).number);
-}
+  marked = omega (arith, h.marked, f.long);
+  named = named_followed (attached_of old ls) (attached_of new ls) (attached_followed moves old new ls f) h.named;
+  none_gone = h.none_gone;
+} where
+  named_followed : (xs ys : List Ref) → AreFollowed moves xs ys → AreNamed xs → AreNamed ys
+  named_followed xs ys g n i j a b e =
+      let l : i < length xs = omega (arith, g.long) in
+      let r : j < length xs = omega (arith, g.long) in
+      n i j l r (sym (g.each i no_clause l).number ∙ e ∙ (g.each j no_clause r).number)
 
 -- ---- the chains were made anew
 -- heads with no places behind them

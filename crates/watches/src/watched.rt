@@ -17,6 +17,7 @@ mod outcome;
 mod places;
 mod renewal;
 mod replacement;
+mod sweeping;
 mod wake;
 mod walk;
 
@@ -39,23 +40,27 @@ const MOST_VARS: u32 = 2_147_483_647;
 const MOST_PLACES: usize = 4_294_967_294;
 
 /// Watches two literals of each clause, and looks at the clause only where one of them becomes false.
+///
+/// A clause that is detached is only marked, in `live`; the next `propagate` takes out all that are marked in one sweep, and makes the
+/// chains anew.
 #[derive(Drop)]
 pub struct Watched {
     places: Vec<Place>,
     clauses: Vec<Ref>,
+    live: Vec<bool>,
     base: usize,
     head: usize,
     stale: bool,
 }
 
 impl Model for Watched {
-    ghost use Rattle.watches.specs.Ready.{Watches, AreWatches};
+    ghost use Rattle.watches.specs.Ready.{Watches, AreWatches, attached_of};
 
     ghost Value = { Watches };
 
-    ghost view = { λ w. record { places = w.places.items; clauses = w.clauses.items; base = w.base; head = w.head; stale = w.stale } };
+    ghost view = { λ w. record { places = w.places.items; clauses = attached_of w.clauses.items w.live.items; base = w.base; head = w.head; stale = w.stale } };
 
-    ghost invariant = { λ w. AreWatches w.places.items w.clauses.items w.base };
+    ghost invariant = { λ w. AreWatches w.places.items w.clauses.items w.live.items w.base w.stale };
 }
 
 impl Watched {
@@ -66,6 +71,7 @@ impl Watched {
         Watched {
             places: Vec::new(alloc),
             clauses: Vec::new(alloc),
+            live: Vec::new(alloc),
             base: 0,
             head: 0,
             stale: false,
@@ -91,6 +97,8 @@ impl Propagator for Watched {
         let mut places = Vec::with_capacity(alloc, base)?;
         put_heads(&mut places, base);
         self.places = places;
+        self.clauses.clear();
+        self.live.clear();
         self.base = base;
         self.head = 0;
         self.stale = false;
@@ -102,19 +110,19 @@ impl Propagator for Watched {
             return Err(AllocError);
         }
         self.clauses.reserve(1)?;
+        self.live.reserve(1)?;
         self.places.reserve(2)?;
         put_best_first(arena, trail, at);
         let pair = first_two(arena.clause(at));
         self.clauses.push_reserved(at);
+        self.live.push_reserved(true);
         append(&mut self.places, pair.one, pair.two);
         Ok(())
     }
 
     fn detach(&mut self, _arena: &Arena, at: Ref) {
-        if let Some(i) = find_clause(&self.clauses, at.number()) {
-            let _ = self.clauses.remove(i);
-            let len = self.places.len();
-            self.places.truncate(len - 2);
+        if let Some(i) = find_clause(&self.clauses, &self.live, at.number()) {
+            self.live[i] = false;
             self.stale = true;
         }
     }
@@ -135,7 +143,8 @@ impl Propagator for Watched {
         let base = self.base;
         let mut head = renew(
             &mut self.places,
-            &self.clauses,
+            &mut self.clauses,
+            &mut self.live,
             base,
             arena,
             trail,

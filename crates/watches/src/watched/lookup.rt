@@ -1,8 +1,9 @@
 //! Where a clause stands among the attached ones.
 
-ghost use Rattle.std.specs.Prelude.{◌≡◌, ℕ, ◌+◌, ◌-◌, ◌<◌, ◌≤◌, Contains, length, slice_index_or, IfSome, IfNone};
+ghost use Rattle.std.specs.Prelude.{◌≡◌, ℕ, ◌+◌, ◌-◌, ◌<◌, ◌≤◌, true, false, Contains, length, slice_index_or, IfSome, IfNone};
 ghost use Rattle.watches.specs.Scanning.{numbers};
 ghost use Rattle.watches.specs.Watching.{no_clause};
+ghost use Rattle.watches.specs.Ready.{attached_of};
 
 use clause_arena::Ref;
 
@@ -23,17 +24,19 @@ fn place_of(clauses: &[Ref], number: u64) -> usize
     low
 }
 
-/// Where the clause of a number stands. The numbers mostly rise, so that halving finds it; else each clause is looked at.
-pub(crate) fn find_clause(clauses: &[Ref], number: u64) -> Option<usize>
-    ensures some { IfSome result (λ i. (i < length clauses.now) × ((slice_index_or clauses.now i no_clause).number ≡ number)) }
-    ensures none { IfNone result (Contains (numbers clauses.now) number → ⊥) }
+/// Where the clause of a number stands that is not marked as detached. The numbers mostly rise, so that halving finds it; else each
+/// clause is looked at.
+pub(crate) fn find_clause(clauses: &[Ref], live: &[bool], number: u64) -> Option<usize>
+    requires { length live.now ≡ length clauses.now }
+    ensures some { IfSome result (λ i. (i < length clauses.now) × ((slice_index_or clauses.now i no_clause).number ≡ number) × (slice_index_or live.now i false ≡ true)) }
+    ensures none { IfNone result (Contains (numbers (attached_of clauses.now live.now)) number → ⊥) }
 {
     let guess = place_of(clauses, number);
-    if guess < clauses.len() && clauses[guess].number() == number {
+    if guess < clauses.len() && live[guess] && clauses[guess].number() == number {
         return Some(guess);
     }
     for i in 0..clauses.len() {
-        if clauses[i].number() == number {
+        if live[i] && clauses[i].number() == number {
             return Some(i);
         }
     }

@@ -1,14 +1,15 @@
 //! The chains, made anew.
 
-ghost use Rattle.std.specs.Prelude.{◌≡◌, ℕ, ◌+◌, ◌*◌, ◌<◌, ◌≤◌, false, [], All, List, length, slice_index_or};
+ghost use Rattle.std.specs.Prelude.{◌≡◌, ℕ, ◌+◌, ◌*◌, ◌%◌, ◌^◌, ◌<◌, ◌≤◌, true, false, [], All, List, length, slice_index_or};
 ghost use Rattle.std.specs.Vec.{vec_capacity};
 ghost use Rattle.dimacs.specs.Literal.{Literal};
 ghost use Rattle.watches.specs.Scanning.{IsHere};
 ghost use Rattle.watches.specs.Watching.{IsWatching};
-ghost use Rattle.watches.specs.Ready.{AreWatches};
+ghost use Rattle.watches.specs.Ready.{AreNamed, AreWatches, attached_of};
 
 use crate::trail::Trail;
 use crate::watched::places::{Place, PlaceId, append};
+use crate::watched::sweeping::sweep;
 use clause_arena::{Arena, Ref};
 use dimacs::{Lit, Var};
 
@@ -50,32 +51,53 @@ pub(crate) fn put_heads(places: &mut Vec<Place>, base: usize)
     }
 }
 
-/// Makes the chains anew where they are stale, so that each place waits. Answers how many literals of the trail need no more work
-/// then. It takes no memory.
-pub(crate) fn renew(
-    places: &mut Vec<Place>,
-    clauses: &[Ref],
-    base: usize,
-    arena: &Arena,
-    trail: &Trail,
-    stale: bool,
-    head: usize,
-) -> usize
-    requires watches { AreWatches places.old.items clauses.now base }
+/// Makes the chains anew, so that each place waits. It takes no memory.
+fn chain_all(places: &mut Vec<Place>, clauses: &[Ref], base: usize, arena: &Arena, trail: &Trail)
+    requires room { base + 2 * length clauses.now ≤ vec_capacity places.old }
+    requires few { base + 2 * length clauses.now ≤ 2 ^ 32 }
+    requires even { base % 2 ≡ 0 }
     requires wide { 2 * trail.now.vars + 2 ≤ base }
+    requires named { AreNamed clauses.now }
     requires here { All (IsHere arena.now trail.now.vars) clauses.now }
-    requires watching { stale ≡ false → (paths : ℕ → List ℕ) × IsWatching places.old.items clauses.now base head arena.now trail.now paths }
-    ensures watching { (paths : ℕ → List ℕ) × IsWatching places.new.items clauses.now base result arena.now trail.now paths }
-    ensures whole { length places.new.items ≡ length places.old.items }
+    ensures watching { (paths : ℕ → List ℕ) × IsWatching places.new.items clauses.now base (length trail.now.entries) arena.now trail.now paths }
+    ensures whole { length places.new.items ≡ base + 2 * length clauses.now }
 {
-    if !stale {
-        return head;
-    }
+    let _trail = trail;
     places.clear();
     put_heads(places, base);
     for i in 0..clauses.len() {
         let pair = first_two(arena.clause(clauses[i]));
         append(places, pair.one, pair.two);
     }
+}
+
+/// Takes out the clauses that are marked as detached and makes the chains anew, where they are stale. Answers how many literals of
+/// the trail need no more work then. It takes no memory.
+pub(crate) fn renew(
+    places: &mut Vec<Place>,
+    clauses: &mut Vec<Ref>,
+    live: &mut Vec<bool>,
+    base: usize,
+    arena: &Arena,
+    trail: &Trail,
+    stale: bool,
+    head: usize,
+) -> usize
+    requires watches { AreWatches places.old.items clauses.old.items live.old.items base stale }
+    requires wide { 2 * trail.now.vars + 2 ≤ base }
+    requires here { All (IsHere arena.now trail.now.vars) (attached_of clauses.old.items live.old.items) }
+    requires watching { stale ≡ false → (paths : ℕ → List ℕ) × IsWatching places.old.items (attached_of clauses.old.items live.old.items) base head arena.now trail.now paths }
+    ensures clauses { clauses.new.items ≡ attached_of clauses.old.items live.old.items }
+    ensures live { All (λ b. b ≡ true) live.new.items }
+    ensures marked { length live.new.items ≡ length clauses.new.items }
+    ensures watching { (paths : ℕ → List ℕ) × IsWatching places.new.items clauses.new.items base result arena.now trail.now paths }
+    ensures whole { length places.new.items ≡ base + 2 * length clauses.new.items }
+    ensures no_more { length places.new.items ≤ length places.old.items }
+{
+    if !stale {
+        return head;
+    }
+    sweep(clauses, live);
+    chain_all(places, clauses, base, arena, trail);
     trail.len()
 }

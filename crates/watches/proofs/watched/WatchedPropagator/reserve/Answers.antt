@@ -1,20 +1,16 @@
-use Rattle.std.proofs.Common.{◌≡◌, ℕ, ◌+◌, ◌*◌, List, [], ◌∷◌, length, sym, ap, subst, ◌∙◌, arith, refl}
+use Rattle.std.proofs.Common.{◌≡◌, ℕ, ◌+◌, ◌*◌, List, [], length, sym, ap, subst, arith}
 use Rattle.std.specs.List.{All}
 use Rattle.clause_arena.specs.declared.reference.Ref.{Ref}
-use Rattle.watches.specs.Scanning.{numbers, IsHere}
+use Rattle.watches.specs.Scanning.{IsHere}
 use Rattle.watches.specs.Watching.{IsWatching}
-use Rattle.watches.specs.Ready.{Watches}
+use Rattle.watches.specs.Ready.{attached_of}
 use Rattle.watches.proofs.ReadyLemmas.{nothing_watched}
 use Rattle.watches.proofs.watched.WatchedPropagator.reserve.Goals as goal
-
-none_left : (xs : List Ref) → numbers xs ≡ [] → xs ≡ []
-none_left [] e = refl
-none_left (x ∷ xs) e = absurd (omega (arith, ap length e))
 
 pub returns-clause-ready : goal.returns-clause-ready
 returns-clause-ready c = λ m t e v.
     let base = 2 * c.args.vars + 2 in
-    let none : [] ≡ c.self.inside.clauses.items = sym (ap (λ (w : Watches). w.clauses) c.self.view_is ∙ none_left c.args.self.now.clauses c.requires) in
+    let none : [] ≡ attached_of c.clear.new.self.items c.clear-2.new.self.items = ap (λ (cs : List Ref). attached_of cs c.clear-2.new.self.items) (sym c.clear.ensures.items) in
     let empty = nothing_watched c.put_heads.new.places.items base m t (omega arith) (omega arith) c.put_heads.ensures.long c.put_heads.ensures.ended in
     record {
       wide = omega arith;

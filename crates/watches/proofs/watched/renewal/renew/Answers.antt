@@ -1,66 +1,37 @@
-use Rattle.std.proofs.Common.{◌≡◌, ℕ, ◌≤◌, [], List, length, get_or, take, sym, ap, subst, ◌∙◌, arith}
-use Rattle.std.specs.List.{IsDistinct}
-use Rattle.std.proofs.lemmas.List.{take_more, take_all, get_or-take, length-take-le}
-use Rattle.dimacs.specs.Literal.{Literal, Clause, same}
+use Rattle.std.proofs.Common.{◌≡◌, List, length, sym, ap, subst, ◌∙◌, arith}
+use Rattle.std.specs.List.{All}
 use Rattle.clause_arena.specs.declared.reference.Ref.{Ref}
-use Rattle.watches.specs.Watching.{IsWatching, no_clause}
-use Rattle.watches.proofs.AttachLemmas.{appends, some_watching}
-use Rattle.watches.proofs.ReadyLemmas.{nothing_watched}
+use Rattle.watches.specs.Scanning.{IsHere}
+use Rattle.watches.specs.Watching.{IsWatching}
+use Rattle.watches.specs.Ready.{attached_of}
+use Rattle.watches.proofs.DetachLemmas.{all_attached, attached_fewer}
 use Rattle.watches.proofs.watched.renewal.renew.Goals as goal
 
-pub loop-i-init : goal.loop-i-init
-loop-i-init c =
-    let old = c.requires.watches in
-    record {
-      watching = ((λ _. []), nothing_watched c.put_heads.new.places.items c.args.base c.args.arena.now c.args.trail.now c.requires.wide old.even c.put_heads.ensures.long c.put_heads.ensures.ended);
-      long = omega (arith, c.put_heads.ensures.long);
-      room = omega (arith, c.put_heads.ensures.room, c.clear.ensures.capacity, old.whole, c.args.places.now.ok.0, c.args.places.now.ok.1);
-    }
+all : (c : goal.Then-not-stale) → attached_of c.args.clauses.now.items c.args.live.now.items ≡ c.args.clauses.now.items
+all c = let w = c.requires.watches in all_attached c.args.clauses.now.items c.args.live.now.items w.marked (w.none_gone c.if-not-stale.true)
 
-pub clause-requires : goal.clause-requires
-clause-requires c = let h = c.requires.here c.loop-i.i no_clause c.loop-i-test.true in record { live = (h.0, h.1) }
+pub returns-then-not-stale-clause-clauses : goal.returns-then-not-stale-clause-clauses
+returns-then-not-stale-clause-clauses c = sym (all c)
 
-pub append-requires : goal.append-requires
-append-requires c =
-    let l = c.loop-i-test.true in
-    let long = c.loop-i.invariant.long in
-    record {
-      room = omega (arith, c.loop-i.invariant.room);
-      some = omega (arith, c.requires.wide);
-      small = omega (arith, c.requires.watches.whole, c.requires.watches.few);
-    }
+pub returns-then-not-stale-clause-watching : goal.returns-then-not-stale-clause-watching
+returns-then-not-stale-clause-watching c =
+    let x = c.requires.watching c.if-not-stale.true in
+    (x.0, subst (λ (cs : List Ref). IsWatching c.args.places.now.items cs c.args.base c.args.head c.args.arena.now c.args.trail.now x.0) (all c) x.1)
 
-pub loop-i-preserved : goal.loop-i-preserved
-loop-i-preserved c =
-    let i = c.loop-i.i in
-    let clauses = c.args.clauses.now in
-    let l = c.loop-i-test.true in
-    let old = c.loop-i.invariant in
-    let at = get_or clauses i no_clause in
-    let h = c.requires.here i no_clause l in
-    let words = c.clause.ensures.literals h.0 h.1 in
-    let n : length (take i clauses) ≡ i = length-take-le i clauses (omega arith) in
-    let appended = c.append.ensures.appended in
-    let x = some_watching c.loop-i.places.items c.append.new.places.items (take i clauses) c.args.base (length c.args.trail.now.entries) c.args.arena.now c.args.trail.now old.watching.0 old.watching.1
-    (omega (arith, old.long)) at h.0 h.1 h.2 (subst (IsDistinct same) words c.clause.ensures.distinct)
-    (λ j b e. let s : j ≡ i = c.requires.watches.named j i (omega arith) l (ap (λ (r : Ref). r.number) (sym (get_or-take i clauses j no_clause (omega arith))) ∙ e) in omega arith)
-    (appends c.loop-i.places.items c.append.new.places.items h.0 c.first_two-pair.result.one c.first_two-pair.result.two appended
-    (subst (λ (C : Clause). (d : Literal) → 2 ≤ length C → (c.first_two-pair.result.one ≡ get_or C 0 d) × (c.first_two-pair.result.two ≡ get_or C 1 d)) words c.first_two-pair.ensures)) in
-    record {
-      watching = (x.0, subst (λ (cs : List Ref). IsWatching c.append.new.places.items cs c.args.base (length c.args.trail.now.entries) c.args.arena.now c.args.trail.now x.0) (sym (take_more clauses i no_clause l)) x.1);
-      long = omega (arith, appended.long, old.long);
-      room = omega (arith, c.append.ensures.room, old.room);
-    }
+pub chain_all-requires-clause-room : goal.chain_all-requires-clause-room
+chain_all-requires-clause-room c =
+    let w = c.requires.watches in
+    omega (arith, c.args.places.now.ok.0, c.args.places.now.ok.1, w.whole, attached_fewer c.args.clauses.now.items c.args.live.now.items, ap length c.sweep.ensures.clauses, ap length c.deref.ensures.value)
 
-pub returns : goal.returns
-returns c =
-    let old = c.loop-i.invariant in
-    let e : c.loop-i.i ≡ length c.args.clauses.now = omega (arith, c.loop-i-test.false, c.loop-i.auto.i-end) in
-    record {
-      watching = (
-        old.watching.0,
-        subst (λ (n : ℕ). IsWatching c.loop-i.places.items c.args.clauses.now c.args.base n c.args.arena.now c.args.trail.now old.watching.0) (sym c.len.ensures.value)
-            (subst (λ (cs : List Ref). IsWatching c.loop-i.places.items cs c.args.base (length c.args.trail.now.entries) c.args.arena.now c.args.trail.now old.watching.0) (take_all c.loop-i.i c.args.clauses.now (omega arith)) old.watching.1),
-      );
-      whole = omega (arith, old.long, c.requires.watches.whole);
-    }
+pub chain_all-requires-clause-few : goal.chain_all-requires-clause-few
+chain_all-requires-clause-few c =
+    let w = c.requires.watches in
+    omega (arith, w.whole, w.few, attached_fewer c.args.clauses.now.items c.args.live.now.items, ap length c.sweep.ensures.clauses, ap length c.deref.ensures.value)
+
+pub chain_all-requires-clause-here : goal.chain_all-requires-clause-here
+chain_all-requires-clause-here c = subst (All (IsHere c.args.arena.now c.args.trail.now.vars)) (sym (c.deref.ensures.value ∙ c.sweep.ensures.clauses)) c.requires.here
+
+pub returns-clause-no_more : goal.returns-clause-no_more
+returns-clause-no_more c =
+    let w = c.requires.watches in
+    omega (arith, w.whole, attached_fewer c.args.clauses.now.items c.args.live.now.items, ap length c.sweep.ensures.clauses, ap length c.deref.ensures.value, c.chain_all.ensures.whole)

@@ -1,6 +1,6 @@
 use Rattle.std.proofs.Common.{◌≡◌, ℕ, ◌+◌, ◌*◌, ◌≤◌, List, length, take, vec_capacity}
 use Rattle.watches.specs.Watching.{IsWatching}
-use Rattle.watches.proofs.watched.renewal.renew.Given as goal
+use Rattle.watches.proofs.watched.renewal.chain_all.Given as goal
 
 abbrev pub invariant-loop-i : goal.invariant-loop-i
 invariant-loop-i l = record {
