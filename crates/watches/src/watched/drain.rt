@@ -30,8 +30,6 @@ fn delay(
     requires few { length places.old ≤ 2 ^ 32 }
     ensures { (paths : ℕ → List ℕ) × IsWatching places.new clauses.now base (head + 1) arena.now trail.now paths }
 {
-    let _ = arena;
-    let _ = (clauses.len(), base, head);
     recall(trail);
     let falsified = entry.literal.negate();
     let first = falsified.index();

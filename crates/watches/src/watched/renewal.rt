@@ -62,7 +62,6 @@ fn chain_all(places: &mut Vec<Place>, clauses: &[Ref], base: usize, arena: &Aren
     ensures watching { (paths : ℕ → List ℕ) × IsWatching places.new.items clauses.now base (length trail.now.entries) arena.now trail.now paths }
     ensures whole { length places.new.items ≡ base + 2 * length clauses.now }
 {
-    let _trail = trail;
     places.clear();
     put_heads(places, base);
     for i in 0..clauses.len() {

@@ -44,8 +44,6 @@ fn settle(
     requires other_true { holds trail.now.entries other ≡ true }
     ensures { Wakes places.old places.new clauses.now base head arena.now trail.now previous here result }
 {
-    let _ = arena;
-    let _ = (clauses.len(), base, head);
     recall(trail);
     let mine = trail.entry_of(own.negate());
     let theirs = trail.entry_of(other);
@@ -79,7 +77,6 @@ fn wake_long(
     ensures clauses { AreSame arena.old arena.new }
     ensures wakes { Wakes places.old places.new clauses.now base head arena.new trail.new previous here result }
 {
-    let _ = head;
     let own = own_literal(places, here);
     match trail.value(own) {
         Truth::False => {}
@@ -140,8 +137,6 @@ fn retire(
     requires satisfied { IsSatisfied arena.now trail.now.entries (owner clauses.now base here) }
     ensures { Wakes places.old places.new clauses.now base head arena.now trail.now previous here result }
 {
-    let _ = arena;
-    let _ = (clauses.len(), base, head);
     if trail.level() > 0 {
         return Outcome::Stays;
     }

@@ -41,7 +41,6 @@ fn visit(
     ensures clauses { AreSame arena.old arena.new }
     ensures visits { Visits places.old places.new clauses.now base head arena.new trail.new falsified level previous here result }
 {
-    let _ = (head, falsified, level);
     let other = other_literal(places, here);
     let value = trail.value(other);
     match value {
