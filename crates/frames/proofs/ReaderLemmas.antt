@@ -1,5 +1,5 @@
 -- A reader takes a piece.
-use Rattle.std.proofs.Common.{◌≡◌, ◌≢◌, ℕ, ◌+◌, ◌<◌, List, [], ◌∷◌, ◌++◌, length, take, drop, get_or, refl, sym, ap, subst, ◌∙◌, append_assoc, Result, Ok, Err}
+use Rattle.std.proofs.Common.{◌≡◌, ◌≢◌, ℕ, ◌+◌, ◌<◌, List, [], ◌∷◌, ◌++◌, length, take, drop, get_or, refl, sym, ap, subst, ◌∙◌, append_assoc, arith, Result, Ok, Err}
 use Rattle.std.specs.Global.{Vec}
 use Rattle.std.proofs.lemmas.List.{append-nil, take_more, take-append-drop}
 use Rattle.std.proofs.lemmas.List.Concat.{flat_map-cons}
@@ -7,7 +7,7 @@ use Rattle.std.proofs.lemmas.Grind.{flat_map-append}
 use Rattle.frames.specs.declared.fault.FrameFault.TheVariants.{BadMark, BadKind, BadLength, BadField, NoMemory}
 use Rattle.frames.specs.declared.fault.FrameFault.{FrameFault}
 use Rattle.frames.specs.declared.frame.Frame.{Frame}
-use Rattle.frames.specs.Stream.{Open, Fault, Ends, Splits, Stream, Progress, Within, Failed, HasTaken, TakesPiece, answer_in, joined}
+use Rattle.frames.specs.Stream.{Open, Fault, Ends, Splits, StopsBefore, Stream, Progress, Within, Failed, HasTaken, TakesPiece, answer_in, joined}
 use Rattle.frames.proofs.Streams.{splits_then, stream_then, stream_more}
 
 pub takes_nothing : (fault : FrameFault) (piece : List ℕ) (frames : List Frame) → TakesPiece (Failed fault) piece frames frames (Err fault) (Failed fault)
@@ -65,3 +65,27 @@ stops fault old new done piece rest all before mid after given frames taken whol
     by_fault BadKind e = other_fault (λ n. let q : BadKind ≡ NoMemory = sym e ∙ n in cc)
     by_fault BadLength e = other_fault (λ n. let q : BadLength ≡ NoMemory = sym e ∙ n in cc)
     by_fault BadField e = other_fault (λ n. let q : BadField ≡ NoMemory = sym e ∙ n in cc)
+
+-- ---- want of memory
+
+open_stream : (old : Progress) (bytes : List ℕ) (frames : List Frame) → answer_in old ≡ Ok tt → HasTaken old bytes frames → Stream bytes frames Open
+open_stream (Within rest) bytes frames well taken = (rest, taken.0, taken.1)
+open_stream (Failed g) bytes frames well taken = absurd cc
+
+pub stops_before : (ps : List (Vec ℕ)) (i : ℕ) (old : Progress) (before mid after given : List Frame) → i < length ps → mid ≡ before ++ given → after ≡ mid → answer_in old ≡ Ok tt → HasTaken old (joined (take i ps)) given → StopsBefore ps before after
+stops_before ps i old before mid after given l frames same well taken = record {
+  count = i;
+  few = omega arith;
+  appended = given;
+  frames = same ∙ frames;
+  stream = open_stream old (joined (take i ps)) given well taken;
+}
+
+pub stops_at_once : (ps : List (Vec ℕ)) (before : List Frame) → StopsBefore ps before before
+stops_at_once ps before = record {
+  count = 0;
+  few = omega arith;
+  appended = [];
+  frames = sym (append-nil before);
+  stream = ([], record { whole = refl; right = tt }, refl);
+}

@@ -1,5 +1,5 @@
 -- What a stream of bytes is: frames, and a rest that is open or has met a fault.
-use Rattle.std.specs.Prelude.{◌≡◌, ◌≢◌, ℕ, ◌+◌, ◌<◌, ◌≤◌, List, [], ◌∷◌, ◌++◌, length, Option, Some, None, Result, Ok, Err, ◌==◌, if◌then◌else◌}
+use Rattle.std.specs.Prelude.{◌≡◌, ◌≢◌, ℕ, ◌+◌, ◌<◌, ◌≤◌, List, [], ◌∷◌, ◌++◌, length, take, Option, Some, None, Result, Ok, Err, ◌==◌, if◌then◌else◌}
 use Rattle.std.specs.Global.{Vec}
 use Rattle.std.specs.List.{flat_map, AllByRecursion}
 use Rattle.std.specs.Int.{w16, from_be_bytes}
@@ -96,3 +96,11 @@ pub record TakesPiece (old : Progress) (piece : List ℕ) (before after : List F
 -- the bytes of pieces, one after the other
 abbrev pub joined : List (Vec ℕ) → List ℕ
 joined pieces = flat_map (λ piece. piece.items) pieces
+
+-- the frames of the first pieces were appended, and these end within no fault
+pub record StopsBefore (pieces : List (Vec ℕ)) (before after : List Frame) : Type 0 where
+  pub count : ℕ
+  pub few : count ≤ length pieces
+  pub appended : List Frame
+  pub frames : after ≡ before ++ appended
+  pub stream : Stream (joined (take count pieces)) appended Open

@@ -3,7 +3,7 @@
 ghost use Rattle.std.specs.Prelude.{◌≡◌, ◌≢◌, ◌+◌, ◌≤◌, ◌++◌, List, [], length, take, min, vec_len, vec_capacity, MatchOption, MatchResult, OnErr, IfOk, Ok, Err};
 ghost use Rattle.frames.specs.declared.frame.Frame.{Frame};
 ghost use Rattle.frames.specs.declared.fault.FrameFault.{FrameFault};
-ghost use Rattle.frames.specs.Stream.{Open, Fault, Ends, Begins, Splits, Stream, Within, Failed, TakesPiece, joined};
+ghost use Rattle.frames.specs.Stream.{Open, Fault, Ends, Begins, Splits, StopsBefore, Stream, Within, Failed, TakesPiece, joined};
 ghost use Rattle.frames.specs.Filling.{lacks, Fills};
 
 use crate::decoding::frame_of;
@@ -88,9 +88,10 @@ pub fn read_pieces(
     pieces: &[Vec<u8>],
     frames: &mut Vec<Frame>,
 ) -> Result<(), FrameFault>
-    ensures { (new : List Frame) × (frames.new.items ≡ frames.old.items ++ new) × MatchResult result
+    ensures stream { (new : List Frame) × (frames.new.items ≡ frames.old.items ++ new) × MatchResult result
         (λ _. Stream (joined pieces.now) new Open)
         (λ fault. fault ≢ FrameFault.NoMemory → Stream (joined pieces.now) new (Fault fault)) }
+    ensures memory { result ≡ Err FrameFault.NoMemory → StopsBefore pieces.now frames.old.items frames.new.items }
 {
     let mut reader = Reader::new(alloc)?;
     for piece in pieces {

@@ -1,10 +1,10 @@
 use Rattle.std.proofs.Common.{◌∙◌, sym, ap, ◌++◌, ◌+◌, take, drop}
 use Rattle.frames.specs.Stream.{joined}
-use Rattle.frames.proofs.ReaderLemmas.{joined_split, stops}
+use Rattle.frames.proofs.ReaderLemmas.{joined_split, stops, stops_at_once, stops_before}
 use Rattle.frames.proofs.reader.read_pieces.Goals as goal
 
-pub returns-in-Err : goal.returns-in-Err
-returns-in-Err c =
+pub returns-in-Err-clause-stream : goal.returns-in-Err-clause-stream
+returns-in-Err-clause-stream c =
     let i = c.loop-piece.piece-index in
     let ps = c.args.pieces.now in
     let p = c.piece-item.result in
@@ -12,3 +12,9 @@ returns-in-Err c =
     let s = stops c.in-Err.fault c.loop-piece.reader c.feed.new.self (joined (take i ps)) c.deref.result.now (joined (drop (i + 1) ps)) (joined ps) c.args.frames.now.items c.loop-piece.frames.items c.feed.new.frames.items c.loop-piece.invariant.new
     c.loop-piece.invariant.frames c.loop-piece.invariant.taken whole c.in-Err.ensures.taken c.in-Err.ensures.no_memory in
     (s.new, s.frames, s.stream)
+
+pub returns-in-Err-clause-memory : goal.returns-in-Err-clause-memory
+returns-in-Err-clause-memory c none =
+    let kept = c.in-Err.ensures.no_memory none in
+    stops_before c.args.pieces.now c.loop-piece.piece-index c.loop-piece.reader c.args.frames.now.items c.loop-piece.frames.items c.feed.new.frames.items c.loop-piece.invariant.new
+    c.loop-piece-test.true c.loop-piece.invariant.frames kept.1 c.loop-piece.invariant.well c.loop-piece.invariant.taken
