@@ -1,16 +1,18 @@
 -- Meeting one more literal that is false.
 use Rattle.std.proofs.Common.{◌≡◌, ℕ, ◌+◌, ◌<◌, ◌≤◌, ◌⊎◌, inl, inr, Bool, true, false, eqb, ◌||◌, List, [], ◌∷◌, ◌++◌, length, get_or, set, refl, ap, sym, ◌∙◌, subst, arith}
-use Rattle.std.specs.List.{Contains, IsDistinct, list_any}
+use Rattle.std.specs.List.{All, Contains, IsDistinct, list_any}
 use Rattle.std.proofs.lemmas.Bool.{cases_eq, eq-eqb, ne_eqb, eqb-true, or_left, or_right, or_cases, both_ways, false_from_ne_true}
-use Rattle.std.proofs.lemmas.List.Elements.{Contains-append_left, Contains-push, Contains-push_cases}
+use Rattle.std.proofs.lemmas.List.Elements.{All-nil, All-push, Contains-append_left, Contains-push, Contains-push_cases}
 use Rattle.std.proofs.lemmas.List.{get_or-set_other, get_or-set_same}
 use Rattle.dimacs.specs.Literal.{Literal, Clause, negation, same, var_of}
 use Rattle.dimacs.proofs.LiteralLemmas.{same_equiv, negation-negation, var_of-negation}
-use Rattle.dimacs.proofs.Members.{has-Contains}
+use Rattle.dimacs.proofs.Members.{Contains-nil, has-Contains}
 use Rattle.watches.specs.Trails.{holds, present, variables}
 use Rattle.watches.specs.declared.trail.Assigned.{Assigned}
 use Rattle.std.proofs.lemmas.Map.Keys.{IsDistinct-push}
-use Rattle.conflict_analysis.specs.Walks.{met, waiting, IsFront, IsBetween, IsWalk}
+use Rattle.std.specs.Cmp.{nat_eq_equiv}
+use Rattle.std.proofs.lemmas.Map.Views.{Contains-from_any}
+use Rattle.conflict_analysis.specs.Walks.{met, waiting, IsFront, IsBetween, IsWalk, AreListed}
 use Rattle.conflict_analysis.proofs.Entries.{one_if, entry_from_holds, one_entry, distinct_left, waiting_one}
 
 -- a variable gets the present stamp
@@ -24,6 +26,35 @@ met_set stamps stamp u v h = elim (cases_eq v u) [
     none : (a b : Bool) → b ≡ false → (a || b) ≡ a
     none true b q = refl
     none false b q = q
+
+-- none is listed
+distinct_none : IsDistinct eqb []
+unfolding IsDistinct
+distinct_none = tt
+
+pub lists_none : (vars : ℕ) (f : ℕ → Bool) → ((v : ℕ) → f v ≡ false) → AreListed vars f []
+lists_none vars f none = record {
+  within = All-nil (λ u. (0 < u) × (u ≤ vars));
+  distinct = distinct_none;
+  were = λ v c. absurd (Contains-nil v c);
+  all = λ v h. absurd (both_ways (f v) (none v) h);
+}
+
+-- one more is listed
+pub lists : (vars : ℕ) (f g : ℕ → Bool) (vs : List ℕ) (v : ℕ) → AreListed vars f vs → 0 < v → v ≤ vars → f v ≡ false → ((u : ℕ) → g u ≡ (f u || eqb u v)) → AreListed vars g (vs ++ v ∷ [])
+lists vars f g vs v l low high new grown = record {
+  within = All-push (λ u. (0 < u) × (u ≤ vars)) vs v l.within (low, high);
+  distinct = IsDistinct-push nat_eq_equiv vs v l.distinct (false_from_ne_true (list_any (eqb v) vs) (λ t.
+      both_ways (f v) new (l.were v (Contains-from_any (λ x y h. eqb-true x y h) v vs t))));
+  were = λ u c. grown u ∙ elim (Contains-push_cases vs v u c) [
+    | inl t ↦ or_left (f u) (eqb u v) (l.were u t)
+    | inr q ↦ or_right (f u) (eqb u v) (eq-eqb u v (sym q))
+  ];
+  all = λ u h. elim (or_cases (f u) (eqb u v) (sym (grown u) ∙ h)) [
+    | inl t ↦ Contains-append_left vs (v ∷ []) u (l.all u t)
+    | inr t ↦ subst (Contains (vs ++ v ∷ [])) (sym (eqb-true u v t)) (Contains-push vs v)
+  ];
+}
 
 module _ (es front : List Assigned) (apart : IsDistinct eqb (variables es)) (is_front : IsFront front es) (f g : ℕ → Bool) (k : Literal) (e : Assigned)
     (here : Contains es e) (is : e.literal ≡ negation k) (false_ : holds front (negation k) ≡ true) (new : f (var_of k) ≡ false) (grown : (v : ℕ) → g v ≡ (f v || eqb v (var_of k))) where

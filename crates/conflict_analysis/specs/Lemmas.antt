@@ -1,5 +1,6 @@
 -- What a conflict teaches: a lemma with one literal of the present level, or the negations of assumptions.
-use Rattle.std.specs.Prelude.{◌≡◌, ◌≢◌, ℕ, ◌-◌, ◌<◌, true, false, List, ◌⊎◌, None, Contains}
+use Rattle.std.specs.Prelude.{◌≡◌, ◌≢◌, ℕ, ◌-◌, ◌<◌, ◌≤◌, true, false, List, ◌⊎◌, None, nat_eq, All, Contains}
+use Rattle.std.specs.List.{IsDistinct}
 use Rattle.dimacs.specs.ClauseMap.{Live}
 use Rattle.dimacs.specs.Literal.{Literal, Clause, negation}
 use Rattle.dimacs.specs.Propagation.{IsFalse}
@@ -22,6 +23,11 @@ pub record IsAsserting (entries : List Assigned) (lits : Clause) (level : ℕ) :
   pub below : level < present entries
   pub others : (k : Literal) → Contains lits k → k ≢ literal → up_to entries level (negation k) ≡ true
   pub reached : (level ≡ 0) ⊎ ((k : Literal) × Contains lits k × (k ≢ literal) × ((j : ℕ) → j < level → up_to entries j (negation k) ≡ false))
+
+-- variables from 1 to `vars`, no one twice
+pub record AreApart (vars : ℕ) (listed : List ℕ) : Type 0 where
+  pub within : All (λ v. (0 < v) × (v ≤ vars)) listed
+  pub distinct : IsDistinct nat_eq listed
 
 -- a literal that was decided
 abbrev pub IsDecision : List Assigned → Literal → Type 0

@@ -1,5 +1,5 @@
 -- A walk down a trail: which variables were met, and how many of them are still to be walked. Nothing here is to be believed.
-use Rattle.std.specs.Prelude.{◌≡◌, ◌≢◌, ℕ, Option, Some, None, take, ◌<◌, ◌≤◌, ◌==◌, Bool, true, not, ◌&&◌, ◌||◌, if◌then◌else◌, List, ◌++◌, ◌⊎◌, length, All, Contains, slice_index_or}
+use Rattle.std.specs.Prelude.{◌≡◌, ◌≢◌, ℕ, Option, Some, None, take, ◌<◌, ◌≤◌, ◌==◌, Bool, true, not, ◌&&◌, ◌||◌, if◌then◌else◌, List, ◌++◌, ◌⊎◌, length, nat_eq, All, Contains, slice_index_or}
 use Rattle.std.specs.List.{IsDistinct, count_by}
 use Rattle.dimacs.specs.ClauseMap.{Live}
 use Rattle.dimacs.specs.Literal.{Literal, Clause, negation, var_of, same}
@@ -17,6 +17,13 @@ pub record HasMet (front : List Assigned) (stamp : ℕ) (old new : List ℕ) : T
   pub grows : (v : ℕ) → met old stamp v ≡ true → met new stamp v ≡ true
   pub only : (v : ℕ) → met new stamp v ≡ true → (met old stamp v ≡ true) ⊎ ((e : Assigned) × Contains front e × (var_of e.literal ≡ v))
   pub bounded : All (λ s. s ≤ stamp) old → All (λ s. s ≤ stamp) new
+
+-- the variables that were met, no one twice
+pub record AreListed (vars : ℕ) (seen : ℕ → Bool) (listed : List ℕ) : Type 0 where
+  pub within : All (λ v. (0 < v) × (v ≤ vars)) listed
+  pub distinct : IsDistinct nat_eq listed
+  pub were : (v : ℕ) → Contains listed v → seen v ≡ true
+  pub all : (v : ℕ) → seen v ≡ true → Contains listed v
 
 -- a literal that can be met: its variable was, or its negation is still to be walked
 abbrev pub IsKnown : List Assigned → (ℕ → Bool) → Literal → Type 0

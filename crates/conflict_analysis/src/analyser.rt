@@ -6,8 +6,8 @@ ghost use Rattle.clause_arena.specs.Clauses.{live_of};
 ghost use Rattle.dimacs.specs.Literal.{IsWithin, negation, same};
 ghost use Rattle.dimacs.specs.Propagation.{Rup};
 ghost use Rattle.conflict_analysis.specs.Built.{AreBuilt, AreInside};
-ghost use Rattle.conflict_analysis.specs.Lemmas.{IsAsserting, IsPresent};
-ghost use Rattle.conflict_analysis.specs.Walks.{met, HasMet, hint_of};
+ghost use Rattle.conflict_analysis.specs.Lemmas.{AreApart, IsAsserting, IsPresent};
+ghost use Rattle.conflict_analysis.specs.Walks.{met, HasMet, AreListed, hint_of};
 ghost use Rattle.watches.specs.Law.{IsConflict};
 ghost use Rattle.watches.specs.Trails.{present, IsTrailValue};
 
@@ -15,9 +15,10 @@ use crate::hints::resolved_reasons;
 use crate::lemma::Lemma;
 use crate::walk::{Walk, descend, meet_number};
 use clause_arena::Arena;
-use dimacs::Lit;
+use dimacs::{Lit, Var};
 use std::alloc::{AllocError, Global};
 use std::marker::Model;
+use std::mem;
 use watches::Trail;
 
 /// Makes the lemma of a walk that has come to its end at place `i`.
@@ -26,7 +27,7 @@ fn conclude(
     trail: &Trail,
     stamps: &[u64],
     stamp: u64,
-    walk: Walk,
+    walk: &mut Walk,
     point: Lit,
     i: usize,
     number: u64,
@@ -34,20 +35,21 @@ fn conclude(
     requires trail { IsTrailValue trail.now }
     requires room { trail.now.vars < length stamps.now }
     requires within { i ≤ length trail.now.entries }
-    ensures { IfOk result (λ lemma. (lemma.lits.items ≡ walk.lits.items ++ negation point ∷ [])
-        × (lemma.hints.items ≡ filter_map (hint_of (met stamps.now stamp) walk.present point) (drop i trail.now.entries) ++ number ∷ [])
-        × (lemma.level ≡ walk.level)) }
+    ensures lemma { IfOk result (λ lemma. (lemma.lits.items ≡ walk.old.lits.items ++ negation point ∷ [])
+        × (lemma.hints.items ≡ filter_map (hint_of (met stamps.now stamp) walk.old.present point) (drop i trail.now.entries) ++ number ∷ [])
+        × (lemma.level ≡ walk.old.level)) }
+    ensures met { walk.new.met.items ≡ walk.old.met.items }
 {
     let entries = &trail.entries()[i..];
     let mut hints = resolved_reasons(alloc, entries, walk.present, stamps, stamp, point)?;
     hints.push(number)?;
     let level = walk.level;
-    let mut lits = walk.lits;
+    let mut lits = mem::replace(&mut walk.lits, Vec::new(alloc));
     lits.push(point.negate())?;
     Ok(Lemma { lits, hints, level })
 }
 
-/// Analyses a conflict by stamps of which none is the present one.
+/// Analyses a conflict by stamps of which none is the present one, and lists the variables that it meets.
 fn analyse_by(
     alloc: Global,
     stamps: &mut [u64],
@@ -55,6 +57,7 @@ fn analyse_by(
     arena: &Arena,
     trail: &Trail,
     number: u64,
+    walk: &mut Walk,
 ) -> Result<Lemma, AllocError>
     requires fresh { (v : ℕ) → met stamps.old stamp v ≡ false }
     requires room { trail.now.vars < length stamps.old }
@@ -68,18 +71,13 @@ fn analyse_by(
     ensures distinct { IfOk result (λ lemma. IsDistinct same lemma.lits.items) }
     ensures within { IfOk result (λ lemma. All (IsWithin trail.now.vars) lemma.lits.items) }
     ensures stamps { HasMet trail.now.entries stamp stamps.old stamps.new }
+    ensures met { IfOk result (λ lemma. AreApart trail.now.vars walk.new.met.items) }
 {
     let entries = trail.entries();
-    let mut walk = Walk {
-        present: trail.level(),
-        open: 0,
-        root: 0,
-        level: 0,
-        lits: Vec::new(alloc),
-    };
-    meet_number(arena, trail, entries, stamps, stamp, &mut walk, number)?;
+    walk.begin(trail.level());
+    meet_number(arena, trail, entries, stamps, stamp, walk, number)?;
     let mut point = None;
-    let i = descend(arena, trail, stamps, stamp, &mut walk, &mut point)?;
+    let i = descend(arena, trail, stamps, stamp, walk, &mut point)?;
     let point = point.unwrap();
     conclude(alloc, trail, stamps, stamp, walk, point, i, number)
 }
@@ -128,14 +126,15 @@ pub struct Analyser {
     alloc: Global,
     stamps: Vec<u64>,
     stamp: u64,
+    walk: Walk,
 }
 
 impl Model for Analyser {
-    ghost use Rattle.std.specs.Prelude.{◌≤◌, All};
+    ghost use Rattle.std.specs.Prelude.{ℕ, List, ◌≤◌, All};
 
-    ghost Value = { Unit {0} };
+    ghost Value = { List ℕ };
 
-    ghost view = { λ a. tt };
+    ghost view = { λ a. a.walk.met.items };
 
     ghost invariant = { λ a. All (λ s. s ≤ a.stamp) a.stamps.items };
 }
@@ -147,12 +146,21 @@ impl Analyser {
             alloc,
             stamps: Vec::new(alloc),
             stamp: 0,
+            walk: Walk::new(alloc),
         }
+    }
+
+    /// The variables that the last analysis met, no one twice.
+    pub fn met(&self) -> &[Var]
+        ensures { result.now ≡ self.now }
+    {
+        &self.walk.met
     }
 
     /// The lemma of a false clause that has a literal of the present level, which is above 0: by its hints, in trail order
     /// with the false clause last, it follows by reverse unit propagation; its literals are false, exactly one of them of
     /// the present level, the first implication point's; and the level to go back to is the greatest of the others.
+    /// What it met are variables of the trail.
     pub fn analyse(
         &mut self,
         arena: &Arena,
@@ -168,6 +176,7 @@ impl Analyser {
         ensures asserting { IfOk result (λ lemma. IsAsserting trail.now.entries lemma.lits.items lemma.level) }
         ensures distinct { IfOk result (λ lemma. IsDistinct same lemma.lits.items) }
         ensures within { IfOk result (λ lemma. All (IsWithin trail.now.vars) lemma.lits.items) }
+        ensures met { IfOk result (λ lemma. AreApart trail.now.vars self.new) }
     {
         renew(&mut self.stamps, &mut self.stamp, trail.vars())?;
         analyse_by(
@@ -177,6 +186,7 @@ impl Analyser {
             arena,
             trail,
             number,
+            &mut self.walk,
         )
     }
 }

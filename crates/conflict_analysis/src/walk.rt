@@ -5,17 +5,17 @@ ghost use Rattle.std.specs.Bool.{OnTrue, OnFalse};
 ghost use Rattle.clause_arena.specs.Clauses.{live_of};
 ghost use Rattle.dimacs.specs.Literal.{Literal, Clause, var_of};
 ghost use Rattle.conflict_analysis.specs.Built.{AreBuilt, AreInside};
-ghost use Rattle.conflict_analysis.specs.Walks.{met, IsFront, IsKnown, IsWalk, HasMet, IsPoint, IsResolved, IsPassed, AreSettled};
+ghost use Rattle.conflict_analysis.specs.Walks.{met, IsFront, IsKnown, IsWalk, HasMet, AreListed, IsPoint, IsResolved, IsPassed, AreSettled};
 ghost use Rattle.watches.specs.Trails.{present, IsTrailValue};
 ghost use Rattle.watches.specs.declared.trail.Assigned.{Assigned};
 
 use clause_arena::Arena;
-use dimacs::Lit;
+use dimacs::{Lit, Var};
 use std::alloc::{AllocError, Global};
 use watches::{Assigned, Trail};
 
 /// What a walk has met: how many entries of the present level, and of level 0, are still to be walked, and the negations of
-/// those between, with their greatest level.
+/// those between, with their greatest level; and the variables that it met.
 #[derive(Drop)]
 pub(crate) struct Walk {
     pub(crate) present: u32,
@@ -23,6 +23,38 @@ pub(crate) struct Walk {
     pub(crate) root: usize,
     pub(crate) level: u32,
     pub(crate) lits: Vec<Lit>,
+    pub(crate) met: Vec<Var>,
+}
+
+impl Walk {
+    /// A walk that has not begun.
+    pub(crate) fn new(alloc: Global) -> Walk {
+        Walk {
+            present: 0,
+            open: 0,
+            root: 0,
+            level: 0,
+            lits: Vec::new(alloc),
+            met: Vec::new(alloc),
+        }
+    }
+
+    /// Begins at the end of a trail of this level.
+    pub(crate) fn begin(&mut self, present: u32)
+        ensures present { self.new.present ≡ present }
+        ensures open { self.new.open ≡ 0 }
+        ensures root { self.new.root ≡ 0 }
+        ensures level { self.new.level ≡ 0 }
+        ensures lits { self.new.lits.items ≡ [] }
+        ensures met { self.new.met.items ≡ [] }
+    {
+        self.present = present;
+        self.open = 0;
+        self.root = 0;
+        self.level = 0;
+        self.lits.clear();
+        self.met.clear();
+    }
 }
 
 /// Meets a literal that is false.
@@ -39,10 +71,12 @@ pub(crate) fn meet(
     requires above { 0 < walk.old.present }
     requires front { IsFront front.now trail.now.entries }
     requires walk { IsWalk trail.now.entries front.now (met stamps.old stamp) walk.old.open walk.old.root walk.old.level walk.old.lits.items }
+    requires listed { AreListed trail.now.vars (met stamps.old stamp) walk.old.met.items }
     requires known { IsKnown front.now (met stamps.old stamp) literal }
     requires sized { var_of literal < length stamps.old }
     ensures present { walk.new.present ≡ walk.old.present }
     ensures walk { OnOk result (IsWalk trail.now.entries front.now (met stamps.new stamp) walk.new.open walk.new.root walk.new.level walk.new.lits.items) }
+    ensures listed { OnOk result (AreListed trail.now.vars (met stamps.new stamp) walk.new.met.items) }
     ensures here { OnOk result (met stamps.new stamp (var_of literal) ≡ true) }
     ensures stamps { HasMet front.now stamp stamps.old stamps.new }
 {
@@ -51,6 +85,7 @@ pub(crate) fn meet(
         return Ok(());
     }
     let entry = trail.entry_of(literal.negate());
+    walk.met.push(literal.var())?;
     if entry.level == 0 {
         walk.root += 1;
     } else if entry.level == walk.present {
@@ -79,10 +114,12 @@ pub(crate) fn meet_clause(
     requires above { 0 < walk.old.present }
     requires front { IsFront front.now trail.now.entries }
     requires walk { IsWalk trail.now.entries front.now (met stamps.old stamp) walk.old.open walk.old.root walk.old.level walk.old.lits.items }
+    requires listed { AreListed trail.now.vars (met stamps.old stamp) walk.old.met.items }
     requires known { (k : Literal) → Contains clause.now k → IsKnown front.now (met stamps.old stamp) k }
     requires sized { (k : Literal) → Contains clause.now k → var_of k < length stamps.old }
     ensures present { walk.new.present ≡ walk.old.present }
     ensures walk { OnOk result (IsWalk trail.now.entries front.now (met stamps.new stamp) walk.new.open walk.new.root walk.new.level walk.new.lits.items) }
+    ensures listed { OnOk result (AreListed trail.now.vars (met stamps.new stamp) walk.new.met.items) }
     ensures all { OnOk result ((k : Literal) → Contains clause.now k → met stamps.new stamp (var_of k) ≡ true) }
     ensures stamps { HasMet front.now stamp stamps.old stamps.new }
 {
@@ -107,12 +144,14 @@ pub(crate) fn meet_number(
     requires above { 0 < walk.old.present }
     requires front { IsFront front.now trail.now.entries }
     requires walk { IsWalk trail.now.entries front.now (met stamps.old stamp) walk.old.open walk.old.root walk.old.level walk.old.lits.items }
+    requires listed { AreListed trail.now.vars (met stamps.old stamp) walk.old.met.items }
     requires inside { AreInside (live_of arena.now) trail.now.vars }
     requires room { trail.now.vars < length stamps.old }
     requires live { (C : Clause) × live_of arena.now number C }
     requires known { (C : Clause) → live_of arena.now number C → (k : Literal) → Contains C k → IsKnown front.now (met stamps.old stamp) k }
     ensures present { walk.new.present ≡ walk.old.present }
     ensures walk { OnOk result (IsWalk trail.now.entries front.now (met stamps.new stamp) walk.new.open walk.new.root walk.new.level walk.new.lits.items) }
+    ensures listed { OnOk result (AreListed trail.now.vars (met stamps.new stamp) walk.new.met.items) }
     ensures all { OnOk result ((C : Clause) → live_of arena.now number C → (k : Literal) → Contains C k → met stamps.new stamp (var_of k) ≡ true) }
     ensures stamps { HasMet front.now stamp stamps.old stamps.new }
 {
@@ -140,6 +179,7 @@ pub(crate) fn pass(
     requires walk { IsWalk trail.now.entries (take (i + 1) trail.now.entries) (met stamps.now stamp) walk.old.open walk.old.root walk.old.level walk.old.lits.items }
     requires point { IsPoint trail.now.entries (i + 1) (met stamps.now stamp) walk.old.open point.old }
     ensures present { walk.new.present ≡ walk.old.present }
+    ensures met { walk.new.met.items ≡ walk.old.met.items }
     ensures walk { IsWalk trail.now.entries (take i trail.now.entries) (met stamps.now stamp) walk.new.open walk.new.root walk.new.level walk.new.lits.items }
     ensures point { IsPoint trail.now.entries i (met stamps.now stamp) walk.new.open point.new }
     ensures kept { (point.new ≡ point.old) ⊎ (point.old ≡ None) }
@@ -183,10 +223,12 @@ pub(crate) fn look(
     requires within { i < length trail.now.entries }
     requires room { trail.now.vars < length stamps.old }
     requires walk { IsWalk trail.now.entries (take (i + 1) trail.now.entries) (met stamps.old stamp) walk.old.open walk.old.root walk.old.level walk.old.lits.items }
+    requires listed { AreListed trail.now.vars (met stamps.old stamp) walk.old.met.items }
     requires point { IsPoint trail.now.entries (i + 1) (met stamps.old stamp) walk.old.open point.old }
     requires settled { AreSettled (live_of arena.now) trail.now.entries (i + 1) (met stamps.old stamp) point.old }
     ensures present { walk.new.present ≡ walk.old.present }
     ensures walk { OnOk result (IsWalk trail.now.entries (take i trail.now.entries) (met stamps.new stamp) walk.new.open walk.new.root walk.new.level walk.new.lits.items) }
+    ensures listed { OnOk result (AreListed trail.now.vars (met stamps.new stamp) walk.new.met.items) }
     ensures point { OnOk result (IsPoint trail.now.entries i (met stamps.new stamp) walk.new.open point.new) }
     ensures settled { OnOk result (AreSettled (live_of arena.now) trail.now.entries i (met stamps.new stamp) point.new) }
     ensures stamps { HasMet (take i trail.now.entries) stamp stamps.old stamps.new }
@@ -218,10 +260,12 @@ pub(crate) fn descend(
     requires above { 0 < walk.old.present }
     requires room { trail.now.vars < length stamps.old }
     requires walk { IsWalk trail.now.entries trail.now.entries (met stamps.old stamp) walk.old.open walk.old.root walk.old.level walk.old.lits.items }
+    requires listed { AreListed trail.now.vars (met stamps.old stamp) walk.old.met.items }
     requires point { IsPoint trail.now.entries (length trail.now.entries) (met stamps.old stamp) walk.old.open point.old }
     ensures present { walk.new.present ≡ walk.old.present }
     ensures within { IfOk result (λ i. i ≤ length trail.now.entries) }
     ensures walk { IfOk result (λ i. IsWalk trail.now.entries (take i trail.now.entries) (met stamps.new stamp) 0 0 walk.new.level walk.new.lits.items) }
+    ensures listed { OnOk result (AreListed trail.now.vars (met stamps.new stamp) walk.new.met.items) }
     ensures point { IfOk result (λ i. IsPoint trail.now.entries i (met stamps.new stamp) 0 point.new) }
     ensures settled { IfOk result (λ i. AreSettled (live_of arena.now) trail.now.entries i (met stamps.new stamp) point.new) }
     ensures stamps { HasMet trail.now.entries stamp stamps.old stamps.new }

@@ -105,7 +105,7 @@ fn learn_from<P: Propagator>(
 {
     let lemma = analyser.analyse(arena, trail, conflict)?;
     log.write(id, &lemma)?;
-    order.bump(arena, &lemma.hints);
+    order.bump(analyser.met());
     go_back(propagator, trail, order, lemma.level);
     learn(propagator, arena, trail, id, &lemma.lits)?;
     Ok(())

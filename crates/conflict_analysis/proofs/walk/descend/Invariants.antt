@@ -1,6 +1,6 @@
 use Rattle.std.proofs.Common.{◌≡◌, ◌≤◌, length, take}
 use Rattle.clause_arena.specs.Clauses.{live_of}
-use Rattle.conflict_analysis.specs.Walks.{met, HasMet, IsWalk, IsPoint, AreSettled}
+use Rattle.conflict_analysis.specs.Walks.{met, HasMet, IsWalk, AreListed, IsPoint, AreSettled}
 use Rattle.conflict_analysis.proofs.walk.descend.Given as goal
 
 abbrev pub invariant-loop-walk : goal.invariant-loop-walk
@@ -11,6 +11,7 @@ invariant-loop-walk l =
     × IsWalk l.trail.entries (take l.i l.trail.entries) (met l.stamps l.stamp) l.walk.open l.walk.root l.walk.level l.walk.lits.items
     × IsPoint l.trail.entries l.i (met l.stamps l.stamp) l.walk.open l.point
     × AreSettled (live_of l.arena) l.trail.entries l.i (met l.stamps l.stamp) l.point
+    × AreListed l.trail.vars (met l.stamps l.stamp) l.walk.met.items
 
 abbrev pub decreases-loop-walk : goal.decreases-loop-walk
 decreases-loop-walk l = l.i

@@ -1,15 +1,15 @@
-use Rattle.std.proofs.Common.{◌≡◌, ℕ, ◌<◌, ◌≤◌, ◌||◌, inl, inr, true, false, eqb, arith, refl, sym, ◌∙◌, ap, subst, set}
+use Rattle.std.proofs.Common.{◌≡◌, ℕ, ◌<◌, ◌≤◌, ◌||◌, [], ◌∷◌, ◌++◌, inl, inr, true, false, eqb, arith, refl, sym, ◌∙◌, ap, subst, set}
 use Rattle.std.proofs.lemmas.Bool.{eqb-true, or_left, or_cases, false_from_ne_true, cases_lt}
 use Rattle.std.proofs.lemmas.List.Elements.{All-contains, All-set}
 use Rattle.std.proofs.lemmas.List.{length-set}
-use Rattle.dimacs.specs.Literal.{negation, var_of}
+use Rattle.dimacs.specs.Literal.{IsWithin, negation, var_of}
 use Rattle.dimacs.proofs.LiteralLemmas.{var_of-negation}
 use Rattle.watches.specs.Trails.{holds, present}
 use Rattle.watches.proofs.Present.{le_present}
-use Rattle.conflict_analysis.specs.Walks.{met, IsBetween}
-use Rattle.conflict_analysis.proofs.Meeting.{met_set, in_front, meets_root, meets_present, meets_between}
+use Rattle.conflict_analysis.specs.Walks.{met, IsBetween, AreListed}
+use Rattle.conflict_analysis.proofs.Meeting.{met_set, in_front, lists, meets_root, meets_present, meets_between}
 use Rattle.conflict_analysis.proofs.walk.meet.Goals as goal
-use Rattle.conflict_analysis.proofs.walk.meet.Goals.{then-entry-eq0, else-entry-eq0+then-entry-walk, else-entry-eq0+else-entry-walk+in_ok-push+then-walk-entry, else-entry-eq0+else-entry-walk+in_ok-push+else-walk-entry}
+use Rattle.conflict_analysis.proofs.walk.meet.Goals.{then-entry-eq0, else-entry-eq0+then-entry-walk, else-entry-eq0+else-entry-walk+in_ok-push-2+then-walk-entry, else-entry-eq0+else-entry-walk+in_ok-push-2+else-walk-entry}
 
 place : (c : goal.Joined-entry-eq0) → c.number-place.result ≡ var_of c.args.literal
 place c = c.number-place.ensures.value ∙ c.var.ensures
@@ -48,12 +48,26 @@ returns-clause-walk c = elim c.if-entry-eq0.branch [
       c.entry_of-entry.ensures.member (is c) (is_false c) (new c) (grown c) _ _ _ _ (omega (arith, c.requires.above, c.requires.present)) c.requires.walk w.if-entry-eq0.true)
   | else-entry-eq0+then-entry-walk w ↦ rw w.walk-is (meets_present c.args.trail.now.entries c.args.front.now c.requires.trail.apart c.requires.front _ _ c.args.literal c.entry_of-entry.result
       c.entry_of-entry.ensures.member (is c) (is_false c) (new c) (grown c) _ _ _ _ (omega (arith, c.requires.above, c.requires.present)) c.requires.walk (w.if-entry-walk.true ∙ c.requires.present))
-  | else-entry-eq0+else-entry-walk+in_ok-push+then-walk-entry w ↦ rw (w.walk-is, w.in_ok-push.ensures.items) (meets_between c.args.trail.now.entries c.args.front.now c.requires.trail.apart c.requires.front _ _ c.args.literal c.entry_of-entry.result
+  | else-entry-eq0+else-entry-walk+in_ok-push-2+then-walk-entry w ↦ rw (w.walk-is, w.in_ok-push-2.ensures.items) (meets_between c.args.trail.now.entries c.args.front.now c.requires.trail.apart c.requires.front _ _ c.args.literal c.entry_of-entry.result
       c.entry_of-entry.ensures.member (is c) (is_false c) (new c) (grown c) _ _ _ _ _ c.requires.walk (between c w.if-entry-eq0.false w.if-entry-walk.false)
       (let l = w.if-walk-entry.true in omega (arith, l)) (omega arith) (inr refl))
-  | else-entry-eq0+else-entry-walk+in_ok-push+else-walk-entry w ↦ rw (w.walk-is, w.in_ok-push.ensures.items) (meets_between c.args.trail.now.entries c.args.front.now c.requires.trail.apart c.requires.front _ _ c.args.literal c.entry_of-entry.result
+  | else-entry-eq0+else-entry-walk+in_ok-push-2+else-walk-entry w ↦ rw (w.walk-is, w.in_ok-push-2.ensures.items) (meets_between c.args.trail.now.entries c.args.front.now c.requires.trail.apart c.requires.front _ _ c.args.literal c.entry_of-entry.result
       c.entry_of-entry.ensures.member (is c) (is_false c) (new c) (grown c) _ _ _ _ _ c.requires.walk (between c w.if-entry-eq0.false w.if-entry-walk.false)
       (omega arith) (let l = w.if-walk-entry.false in omega (arith, l)) (inl refl))
+]
+
+listed : (c : goal.Joined-entry-eq0) → AreListed c.args.trail.now.vars (met (set c.args.stamps.now c.number-place.result c.args.stamp) c.args.stamp) (c.args.walk.now.met.items ++ var_of c.args.literal ∷ [])
+listed c =
+    let b = All-contains (λ e. IsWithin c.args.trail.now.vars e.literal) c.args.trail.now.entries c.entry_of-entry.result c.requires.trail.within c.entry_of-entry.ensures.member in
+    let q = var_of_entry c in
+    lists c.args.trail.now.vars _ _ c.args.walk.now.met.items (var_of c.args.literal) c.requires.listed (let l = b.0 in omega (arith, l, q)) (let l = b.1 in omega (arith, l, q)) (new c) (grown c)
+
+pub returns-clause-listed : goal.returns-clause-listed
+returns-clause-listed c = elim c.if-entry-eq0.branch [
+  | then-entry-eq0 w ↦ rw (w.walk-is, c.in_ok-push.ensures.items, c.var-2.ensures) (listed c)
+  | else-entry-eq0+then-entry-walk w ↦ rw (w.walk-is, c.in_ok-push.ensures.items, c.var-2.ensures) (listed c)
+  | else-entry-eq0+else-entry-walk+in_ok-push-2+then-walk-entry w ↦ rw (w.walk-is, c.in_ok-push.ensures.items, c.var-2.ensures) (listed c)
+  | else-entry-eq0+else-entry-walk+in_ok-push-2+else-walk-entry w ↦ rw (w.walk-is, c.in_ok-push.ensures.items, c.var-2.ensures) (listed c)
 ]
 
 pub returns-clause-stamps : goal.returns-clause-stamps

@@ -17,7 +17,11 @@ loop-literal-preserved c =
         | inl t ↦ (c.meet.ensures.stamps).grows (var_of k) (i.3 k t)
         | inr e ↦ let q = c.literal-item.is in subst (λ x. met c.meet.new.stamps c.args.stamp (var_of x) ≡ true) (q ∙ e) c.in_ok-meet.ensures.here
       ],
+      c.in_ok-meet.ensures.listed,
     )
 
 pub returns-clause-all : goal.returns-clause-all
 returns-clause-all c = λ k h. (c.loop-literal.invariant).3 k (subst (λ xs. Contains xs k) (sym (take_all c.loop-literal.literal-index c.args.clause.now c.loop-literal-test.false)) h)
+
+pub returns-in_err-meet-clause-stamps : goal.returns-in_err-meet-clause-stamps
+returns-in_err-meet-clause-stamps c = met_further c.args.front.now c.args.stamp c.args.stamps.now c.loop-literal.stamps c.meet.new.stamps (c.loop-literal.invariant).1 c.meet.ensures.stamps

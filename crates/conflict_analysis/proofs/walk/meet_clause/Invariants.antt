@@ -1,7 +1,7 @@
 use Rattle.std.proofs.Common.{◌≡◌, true, take}
 use Rattle.std.specs.List.{Contains}
 use Rattle.dimacs.specs.Literal.{Literal, var_of}
-use Rattle.conflict_analysis.specs.Walks.{met, HasMet, IsWalk}
+use Rattle.conflict_analysis.specs.Walks.{met, HasMet, IsWalk, AreListed}
 use Rattle.conflict_analysis.proofs.walk.meet_clause.Given as goal
 
 -- the literals so far were met
@@ -11,3 +11,4 @@ invariant-loop-literal l =
     × HasMet l.front l.stamp l.fn.stamps l.stamps
     × IsWalk l.trail.entries l.front (met l.stamps l.stamp) l.walk.open l.walk.root l.walk.level l.walk.lits.items
     × ((k : Literal) → Contains (take l.literal-index l.clause) k → met l.stamps l.stamp (var_of k) ≡ true)
+    × AreListed l.trail.vars (met l.stamps l.stamp) l.walk.met.items
