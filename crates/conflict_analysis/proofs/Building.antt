@@ -2,7 +2,7 @@
 use Rattle.std.proofs.Common.{zero, suc, ◌≡◌, ℕ, ◌<◌, ◌≤◌, ◌⊎◌, inl, inr, Bool, true, eqb, List, [], ◌∷◌, ◌++◌, length, get_or, take, ap, sym, ◌∙◌, subst, arith, append_assoc, Option, Some}
 use Rattle.std.specs.List.{Contains, IsDistinct}
 use Rattle.std.specs.Option.{unwrap_or}
-use Rattle.std.proofs.lemmas.Bool.{both_ways, eq-eqb}
+use Rattle.std.proofs.lemmas.Bool.{both_ways, eq-eqb, eqb-true}
 use Rattle.std.proofs.lemmas.List.{append-nil, get_or-map, get_or-take, length-take, length-map}
 use Rattle.std.proofs.lemmas.List.Elements.{All-contains}
 use Rattle.std.proofs.lemmas.Map.Keys.{apart_from_distinct}
@@ -15,7 +15,7 @@ use Rattle.watches.specs.Trails.{holds, present, variables}
 use Rattle.watches.specs.declared.trail.Assigned.{Assigned}
 use Rattle.watches.proofs.Present.{le_present}
 use Rattle.conflict_analysis.specs.Built.{IsDecided, AreBuilt}
-use Rattle.conflict_analysis.specs.Walks.{waiting, IsKnown}
+use Rattle.conflict_analysis.specs.Walks.{waiting, is_present, IsKnown}
 use Rattle.conflict_analysis.proofs.Entries.{waiting_found}
 
 -- an entry as it came
@@ -32,18 +32,14 @@ built_from live front (e ∷ more) b (suc k) d l =
 pub built_at : (live : Live) (es : List Assigned) → AreBuilt live [] es → (k : ℕ) (d : Assigned) → k < length es → Came live es k d
 built_at live es b k d l = built_from live [] es b k d l
 
--- an entry of level 0 has a reason, and so has one of the present level before which another waits
-pub not_decided : (es front : List Assigned) (e : Assigned) (f : ℕ → Bool) (o : ℕ) → o ≡ waiting f (present es) front
-    → (e.level ≡ 0) ⊎ ((e.level ≡ present es) × (0 < o)) → IsDecided front e → ⊥
-not_decided es front e f o w low d = elim low [
-  | inl z ↦ let l = d.level in omega (arith, z, l)
-  | inr (p, some) ↦
-      let r = waiting_found front f (present es) (omega (arith, w, some)) in
-      let b = All-contains (λ x. x.level ≤ present front) front r.0 (le_present front) r.1 in
-      let l = d.level in
-      let q = r.3 in
-      omega (arith, l, p, b, q)
-]
+-- an entry of the present level before which another waits has a reason
+pub not_decided : (es front : List Assigned) (e : Assigned) (f : ℕ → Bool) (o : ℕ) → o ≡ waiting f (is_present es) front → e.level ≡ present es → 0 < o → IsDecided front e → ⊥
+not_decided es front e f o w p some d =
+    let r = waiting_found front f (is_present es) (omega (arith, w, some)) in
+    let b = All-contains (λ x. x.level ≤ present front) front r.0 (le_present front) r.1 in
+    let l = d.level in
+    let q = eqb-true r.0.level (present es) r.3 in
+    omega (arith, l, p, b, q)
 
 -- what is known of an entry by its reason
 pub implied_by : (live : Live) (front : List Assigned) (e : Assigned) (n : ℕ) → (i : IsImplied live front e) → e.reason ≡ Some n → live n i.clause

@@ -11,10 +11,10 @@ use Rattle.watches.specs.Trails.{holds, variables}
 use Rattle.watches.specs.declared.trail.Assigned.{Assigned}
 use Rattle.watches.proofs.TrailLemmas.{consistent}
 use Rattle.conflict_analysis.specs.Traces.{AreTraced, AreNegated, AreOutside, AreFalseOr, reason_of}
-use Rattle.conflict_analysis.specs.Walks.{IsSettled}
+use Rattle.conflict_analysis.specs.Walks.{IsSettled, number_of, resolved_of}
 use Rattle.conflict_analysis.proofs.Entries.{holds_from_entry, one_entry}
 use Rattle.conflict_analysis.proofs.Concluding.{hints_agree, settled_front}
-use Rattle.conflict_analysis.proofs.Following.{number_of, resolved_of, either, walk_is_rup}
+use Rattle.conflict_analysis.proofs.Following.{either, walk_is_rup}
 
 module _ (live : Live) (es : List Assigned) (apart : IsDistinct eqb (variables es)) (seen : ℕ → Bool) (first lits : Clause)
     (traced : AreTraced live es 0 seen lits) (negated : AreNegated es first lits) (outside : AreOutside es first) (kept_first : (l : Literal) → Contains first l → Contains lits l) where

@@ -1,25 +1,23 @@
 -- What a walk that has come to its end has found.
-use Rattle.std.proofs.Common.{◌≡◌, ◌≢◌, ℕ, ◌-◌, ◌<◌, ◌≤◌, ◌⊎◌, inl, inr, Bool, true, false, not, cond, eqb, ◌||◌, ◌&&◌, List, [], ◌∷◌, ◌++◌, length, length-append, get_or, take, drop, refl, ap, sym, ◌∙◌, subst, arith, append_assoc, Option, Some, None}
+use Rattle.std.proofs.Common.{◌≡◌, ◌≢◌, ℕ, ◌-◌, ◌<◌, ◌≤◌, inl, inr, Bool, true, false, not, cond, eqb, ◌&&◌, List, [], ◌∷◌, ◌++◌, length, length-append, get_or, take, drop, reverse, refl, ap, sym, ◌∙◌, subst, arith, append_assoc, Option, Some, None}
 use Rattle.std.specs.Prelude.{nat_le}
-use Rattle.std.specs.List.{All, Contains, IsDistinct, list_any, filter_map, cons_option}
-use Rattle.std.proofs.lemmas.List.{get_or_at, take-append-drop, take-append-le, take_all, get_or-take, length-take}
-use Rattle.std.proofs.lemmas.List.Elements.{All-contains, Contains-append_left, Contains-append_right, Contains-push, Contains-push_cases, Contains-get_or, filter_map-append}
-use Rattle.std.proofs.lemmas.Map.Keys.{IsDistinct-push}
-use Rattle.std.proofs.lemmas.Bool.{cases_Bool, cases_eq, cases_lt, both_ways, or_left, or_right, or_cases, and_parts, and_from, and_left, false≢true, false_from_ne_true, eq-eqb, eqb-true, le-leb, leb-true}
+use Rattle.std.specs.List.{All, Contains, IsDistinct, filter_map, cons_option}
+use Rattle.std.proofs.lemmas.List.{get_or_at, take-append-drop, take-append-le, take_all, drop_all, get_or-take, length-take, reverse-reverse}
+use Rattle.std.proofs.lemmas.List.Elements.{All-contains, Contains-get_or, filter_map-append}
+use Rattle.std.proofs.lemmas.Bool.{cases_Bool, cases_lt, both_ways, or_left, or_right, or_cases, and_parts, and_from, and_left, false≢true, false_from_ne_true, eq-eqb, le-leb, leb-true}
 use Rattle.dimacs.specs.ClauseMap.{Live}
 use Rattle.dimacs.specs.Literal.{Literal, Clause, IsWithin, negation, same, var_of}
 use Rattle.dimacs.specs.Propagation.{IsFalse, Rup, negations}
-use Rattle.dimacs.proofs.LiteralLemmas.{same-true, same-is, same-false, same_equiv, negation-negation, var_of-negation, IsWithin-negation}
-use Rattle.dimacs.proofs.Members.{Contains-head, Contains-cons, Contains-cons_cases, Contains-nil, has-Contains, Contains-has}
+use Rattle.dimacs.proofs.LiteralLemmas.{same-true, same-is, negation-negation, var_of-negation, IsWithin-negation}
+use Rattle.dimacs.proofs.Members.{Contains-head, Contains-cons, Contains-cons_cases, Contains-nil, Contains-has}
 use Rattle.watches.specs.Trails.{holds, up_to, present, variables}
 use Rattle.watches.specs.declared.trail.Assigned.{Assigned}
 use Rattle.watches.proofs.TrailLemmas.{consistent}
 use Rattle.watches.proofs.Present.{le_present}
 use Rattle.conflict_analysis.specs.Lemmas.{IsAsserting}
-use Rattle.conflict_analysis.specs.Walks.{waiting, hint_of, IsBetween, IsLow, IsPoint, IsSettled, AreSettled, IsWalk}
-use Rattle.conflict_analysis.proofs.Fronts.{Contains-take}
+use Rattle.conflict_analysis.specs.Walks.{waiting, is_present, is_lower, number_of, hints_of, resolved_of, HasLevel, IsSettled, IsWalk, AreWalked, IsLevelled}
 use Rattle.conflict_analysis.proofs.Entries.{one_if, holds_from_entry, entry_from_holds, one_entry, waiting_some, waiting_cons}
-use Rattle.conflict_analysis.proofs.Following.{number_of, hints_of, AreClosed, resolved_of, either, walk_is_rup}
+use Rattle.conflict_analysis.proofs.Following.{AreClosed, either, walk_is_rup}
 
 -- ---- hints of a list
 hints_of-append : (test : Literal → Bool) (xs ys : List Assigned) → hints_of test (xs ++ ys) ≡ hints_of test xs ++ hints_of test ys
@@ -89,178 +87,68 @@ above_cut es e k apart i l = false_from_ne_true (up_to es k e.literal) (λ t.
     let b : e.level ≤ k = subst (λ (y : Assigned). y.level ≤ k) q r.3 in
     omega (arith, l, b))
 
-module _ (live : Live) (es : List Assigned) (apart : IsDistinct eqb (variables es)) (above : 0 < present es) (seen : ℕ → Bool) (i level : ℕ) (ls : Clause) (p : Literal)
-    (w : IsWalk es (take i es) seen 0 0 level ls) (settled : AreSettled live es i seen (Some p)) (point : IsPoint es i seen 0 (Some p)) where
-  abbrev lits : Clause
-  lits = ls ++ negation p ∷ []
-
+module _ (live : Live) (es : List Assigned) (apart : IsDistinct eqb (variables es)) (seen : ℕ → Bool) (i level : ℕ) (lits : Clause) (hints : List ℕ)
+    (w : IsWalk es (take i es) seen 0 0) (walked : AreWalked live es i seen lits hints) (levels : IsLevelled es 0 lits level) where
   abbrev resolved : Literal → Bool
   resolved = resolved_of es seen lits
 
-  abbrev top : Assigned
-  top = (point.2).0
-
-  top_here : Contains es top
-  top_here = (point.2).1
-
-  top_is : top.literal ≡ p
-  top_is = (point.2).2
-
-  top_level : top.level ≡ present es
-  top_level = (point.2).3
-
   pub on_trail : (l : Literal) → Contains lits l → holds es (negation l) ≡ true
-  on_trail l h = elim (Contains-push_cases ls (negation p) l h) [
-    | inl c ↦ let r = w.only l c in subst (λ k. holds es k ≡ true) r.2 (holds_from_entry es r.0 r.1)
-    | inr q ↦ subst (λ k. holds es k ≡ true) (top_is ∙ sym (negation-negation p) ∙ ap negation q) (holds_from_entry es top top_here)
+  on_trail l h =
+      let r = walked.kept l h in
+      let e : Assigned = record { literal = l; level = 0; reason = None } in
+      subst (λ k. holds es k ≡ true) (r.3 e) (holds_from_entry es (get_or es r.0 e) (Contains-get_or es r.0 e r.2))
+
+  -- nothing was met that is still to be walked
+  front_none : (e : Assigned) → Contains (take i es) e → seen (var_of e.literal) ≡ true → ⊥
+  front_none e c s = elim (cases_Bool (is_present es e.level)) [
+    | inl t ↦ let a = waiting_some (take i es) seen (is_present es) e c s t in let b = w.opened in omega (arith, a, b)
+    | inr t ↦ let a = waiting_some (take i es) seen (is_lower es) e c s (ap not t) in let b = w.remaining in omega (arith, a, b)
   ]
 
-  levels : (e : Assigned) → Contains es e → IsLow es e ⊎ IsBetween es e
-  levels e c =
-      let b = All-contains (λ x. x.level ≤ present es) es e (le_present es) c in
-      elim (cases_eq e.level 0) [
-        | inl z ↦ inl (inl z)
-        | inr n ↦ elim (cases_eq e.level (present es)) [
-          | inl q ↦ inl (inr q)
-          | inr m ↦ inr (omega (arith, n), omega (arith, b, m))
-        ]
-      ]
-
-  not_both : (e : Assigned) → IsLow es e → IsBetween es e → ⊥
-  not_both e (inl z) b = let x = b.0 in omega (arith, z, x)
-  not_both e (inr q) b = let x = b.1 in omega (arith, q, x)
-
-  -- nothing low was met that is still to be walked
-  front_none : (e : Assigned) → Contains (take i es) e → seen (var_of e.literal) ≡ true → IsLow es e → ⊥
-  front_none e c s (inl z) = let a = waiting_some (take i es) seen e c s in let b = w.rooted in let x : waiting seen e.level (take i es) ≡ waiting seen 0 (take i es) = ap (λ n. waiting seen n (take i es)) z in omega (arith, a, b, x)
-  front_none e c s (inr q) = let a = waiting_some (take i es) seen e c s in let b = w.opened in let x : waiting seen e.level (take i es) ≡ waiting seen (present es) (take i es) = ap (λ n. waiting seen n (take i es)) q in omega (arith, a, b, x)
-
-  -- what is kept of the trail: the point, and what was met between
-  kept_cases : (e : Assigned) → Contains es e → negations lits e.literal ≡ true → (e.literal ≡ p) ⊎ IsBetween es e
-  kept_cases e c h = elim (Contains-push_cases ls (negation p) (negation e.literal) (has-Contains lits (negation e.literal) h)) [
-    | inl j ↦
-        let r = w.only (negation e.literal) j in
-        let q = one_entry es r.0 e apart r.1 c (ap var_of (r.2 ∙ negation-negation e.literal)) in
-        inr (subst (IsBetween es) q r.3)
-    | inr q ↦ inl (sym (negation-negation e.literal) ∙ ap negation (sym q) ∙ negation-negation p)
-  ]
-
-  point_kept : (e : Assigned) → e.literal ≡ p → negations lits e.literal ≡ true
-  point_kept e q = Contains-has lits (negation e.literal) (subst (Contains lits) (ap negation (sym q)) (Contains-push ls (negation p)))
-
-  is_resolved : (e : Assigned) → Contains es e → resolved e.literal ≡ true → (seen (var_of e.literal) ≡ true) × IsLow es e × (e.literal ≢ p)
-  is_resolved e c h =
+  settled_entry : (k : ℕ) (d : Assigned) → k < length es → resolved (get_or es k d).literal ≡ true → IsSettled live (take k es) seen (get_or es k d)
+  settled_entry k d l h =
+      let e = get_or es k d in
       let a = and_parts (holds es e.literal) (seen (var_of e.literal) && not (negations lits e.literal)) h in
       let b = and_parts (seen (var_of e.literal)) (not (negations lits e.literal)) a.1 in
-      let free : negations lits e.literal ≡ true → ⊥ = λ k. clash (negations lits e.literal) k b.1 in (
-        b.0,
-        elim (levels e c) [
-          | inl low ↦ low
-          | inr between ↦ absurd (free (Contains-has lits (negation e.literal) (Contains-append_left ls (negation p ∷ []) (negation e.literal) (w.kept e c b.0 between))))
-        ],
-        λ q. free (point_kept e q),
-      )
+      elim (cases_lt k i) [
+        | inl c ↦ absurd (front_none e (subst (Contains (take i es)) (get_or-take i es k d c) (Contains-get_or (take i es) k d (let n = length-take i es in omega (arith, n, c, l)))) b.0)
+        | inr c ↦ elim (walked.each k d c l b.0) [
+          | inl t ↦ absurd (clash (negations lits e.literal) (Contains-has lits (negation e.literal) t) b.1)
+          | inr t ↦ t
+        ]
+      ]
     where
       clash : (b : Bool) → b ≡ true → not b ≡ true → ⊥
       clash true h n = false≢true n
       clash false h n = false≢true h
 
-  becomes_resolved : (e : Assigned) → Contains es e → seen (var_of e.literal) ≡ true → IsLow es e → e.literal ≢ p → resolved e.literal ≡ true
-  becomes_resolved e c s low n =
-      and_from (holds es e.literal) (seen (var_of e.literal) && not (negations lits e.literal)) (holds_from_entry es e c)
-      (and_from (seen (var_of e.literal)) (not (negations lits e.literal)) s
-      (ap not (false_from_ne_true (negations lits e.literal) (λ k. elim (kept_cases e c k) [ inl q ↦ n q | inr b ↦ not_both e low b ]))))
+  unresolved : (e : Assigned) → Contains (take i es) e → resolved e.literal ≡ true → ⊥
+  unresolved e c h =
+      let a = and_parts (holds es e.literal) (seen (var_of e.literal) && not (negations lits e.literal)) h in
+      front_none e c (and_parts (seen (var_of e.literal)) (not (negations lits e.literal)) a.1).0
 
-  settled_entry : (k : ℕ) (d : Assigned) → k < length es → resolved (get_or es k d).literal ≡ true → IsSettled live (take k es) seen (get_or es k d)
-  settled_entry k d l h =
-      let e = get_or es k d in
-      let c = Contains-get_or es k d l in
-      let r = is_resolved e c h in
-      elim (cases_lt k i) [
-        | inl b ↦ absurd (front_none e (subst (Contains (take i es)) (get_or-take i es k d b) (Contains-get_or (take i es) k d (let n = length-take i es in omega (arith, n, b, l)))) r.0 r.1)
-        | inr b ↦ settled k d b l r.0 r.1 (λ q. r.2 (sym (some_is p e.literal q)))
-      ]
-    where
-      some_is : (x y : Literal) → Some x ≡ Some y → x ≡ y
-      some_is x y q = cc
-
-  pub closed : AreClosed live seen resolved [] es
-  closed = settled_front live es seen resolved settled_entry
-
-  -- ---- the hints
-  is_low_test : (e : Assigned) → IsLow es e → (eqb e.level 0 || eqb e.level (present es)) ≡ true
-  is_low_test e (inl z) = or_left (eqb e.level 0) (eqb e.level (present es)) (eq-eqb e.level 0 z)
-  is_low_test e (inr q) = or_right (eqb e.level 0) (eqb e.level (present es)) (eq-eqb e.level (present es) q)
-
-  low_from_test : (e : Assigned) → (eqb e.level 0 || eqb e.level (present es)) ≡ true → IsLow es e
-  low_from_test e h = elim (or_cases (eqb e.level 0) (eqb e.level (present es)) h) [
-    | inl t ↦ inl (eqb-true e.level 0 t)
-    | inr t ↦ inr (eqb-true e.level (present es) t)
-  ]
-
-  abbrev test : Assigned → Bool
-  test e = (eqb e.level 0 || eqb e.level (present es)) && (seen (var_of e.literal) && not (same e.literal p))
-
-  test_is : (e : Assigned) → Contains es e → test e ≡ resolved e.literal
-  test_is e c = elim (cases_Bool (resolved e.literal)) [
-    | inl r ↦
-        let x = is_resolved e c r in
-        and_from (eqb e.level 0 || eqb e.level (present es)) _ (is_low_test e x.1) (and_from (seen (var_of e.literal)) (not (same e.literal p)) x.0 (ap not (same-false e.literal p x.2))) ∙ sym r
-    | inr n ↦ false_from_ne_true (test e) (λ t.
-        let a = and_parts (eqb e.level 0 || eqb e.level (present es)) (seen (var_of e.literal) && not (same e.literal p)) t in
-        let b = and_parts (seen (var_of e.literal)) (not (same e.literal p)) a.1 in
-        both_ways (resolved e.literal) n (becomes_resolved e c b.0 (low_from_test e a.0) (λ q. differs (same e.literal p) b.1 (same-is e.literal p q)))) ∙ sym n
-  ]
-    where
-      differs : (b : Bool) → not b ≡ true → b ≡ true → ⊥
-      differs true h n = false≢true h
-      differs false h n = false≢true n
-
-  reason_some : (e : Assigned) → Contains es e → resolved e.literal ≡ true → e.reason ≡ Some (number_of e.reason)
-  reason_some e c r =
-      let s = settled_entry c.0 e c.1 (subst (λ (x : Assigned). resolved x.literal ≡ true) (sym c.2) r) in
-      let q : e.reason ≡ Some s.number = subst (λ (x : Assigned). x.reason ≡ Some s.number) c.2 s.reason in
-      q ∙ ap Some (sym (ap number_of q))
-
-  hint_is : (e : Assigned) → Contains es e → hint_of seen (present es) p e ≡ cond (resolved e.literal) (Some (number_of e.reason)) None
-  hint_is e c = go (test e) (resolved e.literal) refl (test_is e c) refl
-    where
-      go : (a b : Bool) → test e ≡ a → a ≡ b → resolved e.literal ≡ b → cond a e.reason None ≡ cond b (Some (number_of e.reason)) None
-      go true true t q r = reason_some e c r
-      go false false t q r = refl
-      go true false t q r = absurd (false≢true (sym q))
-      go false true t q r = absurd (false≢true q)
-
-  pub hints_are : filter_map (hint_of seen (present es) p) (drop i es) ≡ hints_of resolved es
+  pub hints_are : reverse hints ≡ hints_of resolved es
   hints_are =
-      hints_agree resolved (hint_of seen (present es) p) (drop i es) (λ e c. hint_is e (Contains-drop e c))
-      ∙ sym (ap (λ ns. ns ++ hints_of resolved (drop i es)) (hints_none resolved (take i es) (λ e c r.
-      let x = is_resolved e (Contains-take es i e c) r in front_none e c x.0 x.1)))
+      ap reverse walked.named
+      ∙ reverse-reverse (hints_of resolved (drop i es))
+      ∙ sym (ap (λ ns. ns ++ hints_of resolved (drop i es)) (hints_none resolved (take i es) unresolved))
       ∙ sym (hints_of-append resolved (take i es) (drop i es))
       ∙ ap (hints_of resolved) (take-append-drop i es)
-    where
-      Contains-drop : (e : Assigned) → Contains (drop i es) e → Contains es e
-      Contains-drop e c = subst (λ xs. Contains xs e) (take-append-drop i es) (Contains-append_right (take i es) (drop i es) e c)
 
   -- ---- the lemma
   pub follows : (C : Clause) (number : ℕ) → live number C → IsFalse (holds es) C → ((k : Literal) → Contains C k → seen (var_of k) ≡ true)
-      → Rup live lits (filter_map (hint_of seen (present es) p) (drop i es) ++ number ∷ [])
+      → Rup live lits (reverse hints ++ number ∷ [])
   follows C number lives false_ all =
       subst (λ ns. Rup live lits (ns ++ number ∷ [])) (sym hints_are)
       (walk_is_rup live es seen lits not_here no_pair C number lives
-      (λ k i. either live es seen lits not_here no_pair (negation k) (false_ k i) (subst (λ v. seen v ≡ true) (sym (var_of-negation k)) (all k i))) closed)
+      (λ k i. either live es seen lits not_here no_pair (negation k) (false_ k i) (subst (λ v. seen v ≡ true) (sym (var_of-negation k)) (all k i)))
+      (settled_front live es seen resolved settled_entry))
     where
       not_here : (l : Literal) → Contains lits l → holds es l ≡ true → ⊥
       not_here l c h = consistent es l apart h (on_trail l c)
 
       no_pair : (l : Literal) → Contains lits l → Contains lits (negation l) → ⊥
       no_pair l c d = consistent es (negation l) apart (on_trail l c) (on_trail (negation l) d)
-
-  pub lemma_distinct : IsDistinct same lits
-  lemma_distinct = IsDistinct-push same_equiv ls (negation p) w.distinct (false_from_ne_true (list_any (same (negation p)) ls) (λ t.
-      let r = w.only (negation p) (has-Contains ls (negation p) t) in
-      let q = one_entry es r.0 top apart r.1 top_here (ap var_of (r.2 ∙ negation-negation p ∙ sym top_is)) in
-      not_both top (inr top_level) (subst (IsBetween es) q r.3)))
 
   pub lemma_within : (vars : ℕ) → All (λ e. IsWithin vars e.literal) es → All (IsWithin vars) lits
   lemma_within vars a = λ k d l.
@@ -269,54 +157,68 @@ module _ (live : Live) (es : List Assigned) (apart : IsDistinct eqb (variables e
       let b = All-contains (λ e. IsWithin vars e.literal) es r.0 a r.1 in
       subst (IsWithin vars) (ap negation r.2 ∙ negation-negation x) (IsWithin-negation vars r.0.literal b)
 
-  pub asserting : IsAsserting es lits level
-  asserting = record {
-    literal = negation p;
-    member = Contains-push ls (negation p);
-    is_false = subst (λ k. holds es k ≡ true) (top_is ∙ sym (negation-negation p)) (holds_from_entry es top top_here);
-    is_present = subst (λ k. up_to es (present es - 1) k ≡ false) (top_is ∙ sym (negation-negation p))
-        (above_cut es top (present es - 1) apart top_here (let q = top_level in omega (arith, q, above)));
-    below = elim w.reached [
-      | inl z ↦ omega (arith, z, above)
-      | inr (k, j, e, c, q, y) ↦ let r = w.only k j in let x = one_entry es r.0 e apart r.1 c (ap var_of (r.2 ∙ sym q)) in let b = (subst (IsBetween es) x r.3).1 in omega (arith, b, y)
-    ];
-    others = λ k j n. elim (Contains-push_cases ls (negation p) k j) [
-      | inl c ↦ let r = w.only k c in subst (λ x. up_to es level x ≡ true) r.2 (up_to_entry es r.0 level r.1 r.4)
-      | inr q ↦ absurd (n (sym q))
-    ];
-    reached = elim w.reached [
-      | inl z ↦ inl z
-      | inr (k, j, e, c, q, y) ↦ inr (
-        k,
-        Contains-append_left ls (negation p ∷ []) k j,
-        (λ n. let r = w.only k j in let x = one_entry es r.0 top apart r.1 top_here (ap var_of (r.2 ∙ ap negation n ∙ negation-negation p ∙ sym top_is)) in not_both top (inr top_level) (subst (IsBetween es) x r.3)),
-        (λ m l. subst (λ x. up_to es m x ≡ false) q (above_cut es e m apart c (omega (arith, l, y)))),
-      )
-    ];
-  }
+  pub asserting : 0 < present es → IsAsserting es lits level
+  asserting above = go lits levels
+    where
+      -- two levels of one literal are the same
+      one_level : (l : Literal) (m n : ℕ) → HasLevel es l m → HasLevel es l n → m ≡ n
+      one_level l m n (e, c, q, x) (f, d, r, y) = sym x ∙ ap (λ (z : Assigned). z.level) (one_entry es e f apart c d (ap var_of (q ∙ sym r))) ∙ y
+
+      go : (ls : Clause) → IsLevelled es 0 ls level → IsAsserting es ls level
+      go [] (some, z) = absurd (omega (arith, some))
+      go (p ∷ ls) (none, (e, c, q, x), others, reached) =
+          let differs : (k : Literal) (n : ℕ) → HasLevel es k n → n < present es → k ≢ p = λ k n h l s. let y = one_level k n (present es) h (e, c, q ∙ ap negation (sym s), x) in omega (arith, l, y) in
+          record {
+            literal = p;
+            member = Contains-head p ls;
+            is_false = subst (λ k. holds es k ≡ true) q (holds_from_entry es e c);
+            is_present = subst (λ k. up_to es (present es - 1) k ≡ false) q (above_cut es e (present es - 1) apart c (omega (arith, x, above)));
+            below = elim reached [
+              | inl z ↦ omega (arith, z, above)
+              | inr (k, j, h) ↦ let (n, g, l, m) = others k j in let y = one_level k n level g h in omega (arith, y, l)
+            ];
+            others = λ k j n. elim (Contains-cons_cases p k ls j) [
+              | inl s ↦ absurd (n (sym s))
+              | inr j ↦ let (m, (f, d, r, y), l, b) = others k j in subst (λ t. up_to es level t ≡ true) r (up_to_entry es f level d (omega (arith, y, b)))
+            ];
+            reached = elim reached [
+              | inl z ↦ inl z
+              | inr (k, j, (f, d, r, y)) ↦ inr (
+                k,
+                Contains-cons p k ls j,
+                differs k level (f, d, r, y) (let (n, g, l, m) = others k j in let s = one_level k n level g (f, d, r, y) in omega (arith, s, l)),
+                (λ m l. subst (λ t. up_to es m t ≡ false) r (above_cut es f m apart d (omega (arith, l, y)))),
+              )
+            ];
+          }
 
 -- ---- the beginning
 none_distinct : IsDistinct same []
 unfolding IsDistinct
 none_distinct = tt
 
-pub begins : (es : List Assigned) (f : ℕ → Bool) → ((v : ℕ) → f v ≡ false) → IsWalk es es f 0 0 0 []
+pub begins : (es : List Assigned) (f : ℕ → Bool) → ((v : ℕ) → f v ≡ false) → IsWalk es es f 0 0
 begins es f none = record {
-  opened = sym (zero_waiting (present es) es);
-  rooted = sym (zero_waiting 0 es);
-  kept = λ e c s b. absurd (both_ways (f (var_of e.literal)) (none (var_of e.literal)) s);
-  only = λ l c. absurd (Contains-nil l c);
-  reached = inl refl;
-  distinct = none_distinct;
+  opened = sym (zero_waiting (is_present es) es);
+  remaining = sym (zero_waiting (is_lower es) es);
 }
   where
-    zero_waiting : (level : ℕ) (xs : List Assigned) → waiting f level xs ≡ 0
-    zero_waiting level [] = refl
-    zero_waiting level (x ∷ xs) =
-        let a = waiting_cons f level x xs in
-        let b : one_if (f (var_of x.literal) && eqb x.level level) ≡ 0 = ap one_if (and_left (f (var_of x.literal)) (eqb x.level level) (none (var_of x.literal))) in
-        let c = zero_waiting level xs in
+    zero_waiting : (at : ℕ → Bool) (xs : List Assigned) → waiting f at xs ≡ 0
+    zero_waiting at [] = refl
+    zero_waiting at (x ∷ xs) =
+        let a = waiting_cons f at x xs in
+        let b : one_if (f (var_of x.literal) && at x.level) ≡ 0 = ap one_if (and_left (f (var_of x.literal)) (at x.level) (none (var_of x.literal))) in
+        let c = zero_waiting at xs in
         omega (arith, a, b, c)
+
+-- nothing is walked at the trail's end
+pub nothing_walked : (live : Live) (es : List Assigned) (f : ℕ → Bool) → AreWalked live es (length es) f [] []
+nothing_walked live es f = record {
+  each = λ k d le l m. absurd (omega (arith, le, l));
+  kept = λ l c. absurd (Contains-nil l c);
+  named = sym (ap (λ xs. reverse (hints_of (resolved_of es f []) xs)) (drop_all (length es) es (omega arith)));
+  distinct = none_distinct;
+}
 
 -- a clause that is false has a literal that is not yet false below
 unless_false : (α : Literal → Bool) (C : Clause) → (IsFalse α C → ⊥) → (k : Literal) × Contains C k × (α (negation k) ≡ false)
@@ -329,7 +231,7 @@ unless_false α (x ∷ C) n = elim (cases_Bool (α (negation x))) [
 ]
 
 -- once a false clause of the present level was met, some entry of that level waits
-pub some_waits : (es : List Assigned) (f : ℕ → Bool) (C : Clause) (o : ℕ) → o ≡ waiting f (present es) es → IsFalse (holds es) C → (IsFalse (up_to es (present es - 1)) C → ⊥)
+pub some_waits : (es : List Assigned) (f : ℕ → Bool) (C : Clause) (o : ℕ) → o ≡ waiting f (is_present es) es → IsFalse (holds es) C → (IsFalse (up_to es (present es - 1)) C → ⊥)
     → ((k : Literal) → Contains C k → f (var_of k) ≡ true) → 0 < present es → 0 < o
 some_waits es f C o w false_ here all above =
     let r = unless_false (up_to es (present es - 1)) C here in
@@ -339,9 +241,9 @@ some_waits es f C o w false_ here all above =
       | inr g ↦ absurd (both_ways (up_to es (present es - 1) (negation r.0)) r.2 (subst (λ k. up_to es (present es - 1) k ≡ true) e.2 (up_to_entry es e.0 (present es - 1) e.1 g)))
     ] in
     let low = All-contains (λ x. x.level ≤ present es) es e.0 (le_present es) e.1 in
-    let s = waiting_some es f e.0 e.1 (ap (λ k. f (var_of k)) e.2 ∙ ap f (var_of-negation r.0) ∙ all r.0 r.1) in
-    let q : waiting f e.0.level es ≡ waiting f (present es) es = ap (λ n. waiting f n es) (same_level e.0.level (present es) high low) in
-    omega (arith, s, q, w)
+    let level : e.0.level ≡ present es = same_level e.0.level (present es) high low in
+    let s = waiting_some es f (is_present es) e.0 e.1 (ap (λ k. f (var_of k)) e.2 ∙ ap f (var_of-negation r.0) ∙ all r.0 r.1) (eq-eqb e.0.level (present es) level) in
+    omega (arith, s, w)
   where
     same_level : (m n : ℕ) → n ≤ m → m ≤ n → m ≡ n
     same_level m n a b = omega (arith, a, b)

@@ -1,7 +1,7 @@
 -- Entries of a trail, of which no two have one variable; and how many of them were met.
 use Rattle.std.proofs.Common.{◌≡◌, ℕ, ◌+◌, ◌<◌, ◌≤◌, inl, inr, Bool, true, false, cond, eqb, ◌||◌, ◌&&◌, List, [], ◌∷◌, ◌++◌, length-append, get_or, refl, ap, sym, ◌∙◌, subst, arith}
 use Rattle.std.specs.List.{Contains, IsDistinct, list_any}
-use Rattle.std.proofs.lemmas.Bool.{cases_Bool, false≢true, eq-eqb, ne_eqb, eqb-true, or_left, or_right, or_cases, and_from, and_parts}
+use Rattle.std.proofs.lemmas.Bool.{cases_Bool, false≢true, eq-eqb, ne_eqb, or_left, or_right, or_cases, and_from, and_parts}
 use Rattle.std.proofs.lemmas.Map.Keys.{IsDistinct-tail, IsDistinct-from_apart, apart_from_distinct}
 use Rattle.std.proofs.lemmas.List.Sums.{sum_by-cons}
 use Rattle.std.proofs.lemmas.List.{map-append, get_or_append_left}
@@ -63,39 +63,39 @@ abbrev pub one_if : Bool → ℕ
 one_if b = cond b 1 0
 
 -- ---- how many were met
-pub waiting_cons : (f : ℕ → Bool) (level : ℕ) (x : Assigned) (xs : List Assigned) → waiting f level (x ∷ xs) ≡ one_if (f (var_of x.literal) && eqb x.level level) + waiting f level xs
-waiting_cons f level x xs = sum_by-cons (λ (e : Assigned). one_if (f (var_of e.literal) && eqb e.level level)) x xs
+pub waiting_cons : (f : ℕ → Bool) (at : ℕ → Bool) (x : Assigned) (xs : List Assigned) → waiting f at (x ∷ xs) ≡ one_if (f (var_of x.literal) && at x.level) + waiting f at xs
+waiting_cons f at x xs = sum_by-cons (λ (e : Assigned). one_if (f (var_of e.literal) && at e.level)) x xs
 
-pub waiting_agree : (es : List Assigned) (f g : ℕ → Bool) (level : ℕ) → ((e : Assigned) → Contains es e → f (var_of e.literal) ≡ g (var_of e.literal)) → waiting f level es ≡ waiting g level es
-waiting_agree [] f g level h = refl
-waiting_agree (x ∷ xs) f g level h =
-    let one : one_if (f (var_of x.literal) && eqb x.level level) ≡ one_if (g (var_of x.literal) && eqb x.level level) = ap (λ b. one_if (b && eqb x.level level)) (h x (Contains-head x xs)) in
-    let more = waiting_agree xs f g level (λ e c. h e (Contains-cons x e xs c)) in
-    let a = waiting_cons f level x xs in
-    let b = waiting_cons g level x xs in
+pub waiting_agree : (es : List Assigned) (f g : ℕ → Bool) (at : ℕ → Bool) → ((e : Assigned) → Contains es e → f (var_of e.literal) ≡ g (var_of e.literal)) → waiting f at es ≡ waiting g at es
+waiting_agree [] f g at h = refl
+waiting_agree (x ∷ xs) f g at h =
+    let one : one_if (f (var_of x.literal) && at x.level) ≡ one_if (g (var_of x.literal) && at x.level) = ap (λ b. one_if (b && at x.level)) (h x (Contains-head x xs)) in
+    let more = waiting_agree xs f g at (λ e c. h e (Contains-cons x e xs c)) in
+    let a = waiting_cons f at x xs in
+    let b = waiting_cons g at x xs in
     omega (arith, one, more, a, b)
 
 -- one more is met
-pub waiting_one : (es : List Assigned) (f g : ℕ → Bool) (level : ℕ) (e : Assigned) → IsDistinct eqb (variables es) → Contains es e → f (var_of e.literal) ≡ false
-    → ((v : ℕ) → g v ≡ (f v || eqb v (var_of e.literal))) → waiting g level es ≡ one_if (eqb e.level level) + waiting f level es
-waiting_one [] f g level e d i n h = absurd (Contains-nil e i)
-waiting_one (x ∷ xs) f g level e d i n h = elim (Contains-cons_cases x e xs i) [
+pub waiting_one : (es : List Assigned) (f g : ℕ → Bool) (at : ℕ → Bool) (e : Assigned) → IsDistinct eqb (variables es) → Contains es e → f (var_of e.literal) ≡ false
+    → ((v : ℕ) → g v ≡ (f v || eqb v (var_of e.literal))) → waiting g at es ≡ one_if (at e.level) + waiting f at es
+waiting_one [] f g at e d i n h = absurd (Contains-nil e i)
+waiting_one (x ∷ xs) f g at e d i n h = elim (Contains-cons_cases x e xs i) [
   | inl p ↦
       let gx : g (var_of x.literal) ≡ true = h (var_of x.literal) ∙ or_right (f (var_of x.literal)) (eqb (var_of x.literal) (var_of e.literal)) (eq-eqb (var_of x.literal) (var_of e.literal) (ap (λ (y : Assigned). var_of y.literal) p)) in
       let fx : f (var_of x.literal) ≡ false = ap (λ (y : Assigned). f (var_of y.literal)) p ∙ n in
-      let rest : waiting g level xs ≡ waiting f level xs = waiting_agree xs g f level (λ y c. h (var_of y.literal) ∙ or_false_right (f (var_of y.literal)) (eqb (var_of y.literal) (var_of e.literal))
+      let rest : waiting g at xs ≡ waiting f at xs = waiting_agree xs g f at (λ y c. h (var_of y.literal) ∙ or_false_right (f (var_of y.literal)) (eqb (var_of y.literal) (var_of e.literal))
       (ne_eqb (var_of y.literal) (var_of e.literal) (λ q. head_alone (var_of x.literal) (variables xs) d (variable_from_entry xs y (var_of x.literal) c (q ∙ ap (λ (z : Assigned). var_of z.literal) (sym p)))))) in
-      let a : one_if (g (var_of x.literal) && eqb x.level level) ≡ one_if (eqb e.level level) = ap (λ b. one_if (b && eqb x.level level)) gx ∙ ap (λ (y : Assigned). one_if (eqb y.level level)) p in
-      let b : one_if (f (var_of x.literal) && eqb x.level level) ≡ 0 = ap (λ b. one_if (b && eqb x.level level)) fx in
-      let l = waiting_cons f level x xs in
-      let r = waiting_cons g level x xs in
+      let a : one_if (g (var_of x.literal) && at x.level) ≡ one_if (at e.level) = ap (λ b. one_if (b && at x.level)) gx ∙ ap (λ (y : Assigned). one_if (at y.level)) p in
+      let b : one_if (f (var_of x.literal) && at x.level) ≡ 0 = ap (λ b. one_if (b && at x.level)) fx in
+      let l = waiting_cons f at x xs in
+      let r = waiting_cons g at x xs in
       omega (arith, a, b, rest, l, r)
   | inr c ↦
       let apart : eqb (var_of x.literal) (var_of e.literal) ≡ false = ne_eqb (var_of x.literal) (var_of e.literal) (λ q. head_alone (var_of x.literal) (variables xs) d (variable_from_entry xs e (var_of x.literal) c (sym q))) in
-      let one : one_if (g (var_of x.literal) && eqb x.level level) ≡ one_if (f (var_of x.literal) && eqb x.level level) = ap (λ b. one_if (b && eqb x.level level)) (h (var_of x.literal) ∙ or_false_right (f (var_of x.literal)) (eqb (var_of x.literal) (var_of e.literal)) apart) in
-      let more = waiting_one xs f g level e (IsDistinct-tail eqb (var_of x.literal) (variables xs) d) c n h in
-      let l = waiting_cons f level x xs in
-      let r = waiting_cons g level x xs in
+      let one : one_if (g (var_of x.literal) && at x.level) ≡ one_if (f (var_of x.literal) && at x.level) = ap (λ b. one_if (b && at x.level)) (h (var_of x.literal) ∙ or_false_right (f (var_of x.literal)) (eqb (var_of x.literal) (var_of e.literal)) apart) in
+      let more = waiting_one xs f g at e (IsDistinct-tail eqb (var_of x.literal) (variables xs) d) c n h in
+      let l = waiting_cons f at x xs in
+      let r = waiting_cons g at x xs in
       omega (arith, one, more, l, r)
 ]
   where
@@ -103,34 +103,34 @@ waiting_one (x ∷ xs) f g level e d i n h = elim (Contains-cons_cases x e xs i)
     or_false_right true b q = refl
     or_false_right false b q = q
 
-pub waiting_some : (es : List Assigned) (f : ℕ → Bool) (e : Assigned) → Contains es e → f (var_of e.literal) ≡ true → 0 < waiting f e.level es
-waiting_some [] f e i m = absurd (Contains-nil e i)
-waiting_some (x ∷ xs) f e i m = elim (Contains-cons_cases x e xs i) [
+pub waiting_some : (es : List Assigned) (f : ℕ → Bool) (at : ℕ → Bool) (e : Assigned) → Contains es e → f (var_of e.literal) ≡ true → at e.level ≡ true → 0 < waiting f at es
+waiting_some [] f at e i m l = absurd (Contains-nil e i)
+waiting_some (x ∷ xs) f at e i m l = elim (Contains-cons_cases x e xs i) [
   | inl p ↦
-      let a : one_if (f (var_of x.literal) && eqb x.level e.level) ≡ 1 = ap one_if (and_from (f (var_of x.literal)) (eqb x.level e.level) (ap (λ (y : Assigned). f (var_of y.literal)) p ∙ m) (eq-eqb x.level e.level (ap (λ (y : Assigned). y.level) p))) in
-      let l = waiting_cons f e.level x xs in
-      omega (arith, a, l)
-  | inr c ↦ let r = waiting_some xs f e c m in let l = waiting_cons f e.level x xs in omega (arith, r, l)
+      let a : one_if (f (var_of x.literal) && at x.level) ≡ 1 = ap one_if (and_from (f (var_of x.literal)) (at x.level) (ap (λ (y : Assigned). f (var_of y.literal)) p ∙ m) (ap (λ (y : Assigned). at y.level) p ∙ l)) in
+      let n = waiting_cons f at x xs in
+      omega (arith, a, n)
+  | inr c ↦ let r = waiting_some xs f at e c m l in let n = waiting_cons f at x xs in omega (arith, r, n)
 ]
 
 -- one that waits
-pub waiting_found : (es : List Assigned) (f : ℕ → Bool) (level : ℕ) → 0 < waiting f level es → (e : Assigned) × Contains es e × (f (var_of e.literal) ≡ true) × (e.level ≡ level)
-waiting_found [] f level h = absurd (omega (arith, h))
-waiting_found (x ∷ xs) f level h = elim (cases_Bool (f (var_of x.literal) && eqb x.level level)) [
-  | inl t ↦ let p = and_parts (f (var_of x.literal)) (eqb x.level level) t in (x, Contains-head x xs, p.0, eqb-true x.level level p.1)
+pub waiting_found : (es : List Assigned) (f : ℕ → Bool) (at : ℕ → Bool) → 0 < waiting f at es → (e : Assigned) × Contains es e × (f (var_of e.literal) ≡ true) × (at e.level ≡ true)
+waiting_found [] f at h = absurd (omega (arith, h))
+waiting_found (x ∷ xs) f at h = elim (cases_Bool (f (var_of x.literal) && at x.level)) [
+  | inl t ↦ let p = and_parts (f (var_of x.literal)) (at x.level) t in (x, Contains-head x xs, p.0, p.1)
   | inr n ↦
-      let b : one_if (f (var_of x.literal) && eqb x.level level) ≡ 0 = ap one_if n in
-      let l = waiting_cons f level x xs in
-      let r = waiting_found xs f level (omega (arith, h, b, l)) in (r.0, Contains-cons x r.0 xs r.1, r.2, r.3)
+      let b : one_if (f (var_of x.literal) && at x.level) ≡ 0 = ap one_if n in
+      let l = waiting_cons f at x xs in
+      let r = waiting_found xs f at (omega (arith, h, b, l)) in (r.0, Contains-cons x r.0 xs r.1, r.2, r.3)
 ]
 
-pub waiting_more : (es : List Assigned) (f g : ℕ → Bool) (level : ℕ) → ((v : ℕ) → f v ≡ true → g v ≡ true) → waiting f level es ≤ waiting g level es
-waiting_more [] f g level h = omega arith
-waiting_more (x ∷ xs) f g level h =
-    let l = waiting_cons f level x xs in
-    let r = waiting_cons g level x xs in
-    let m = waiting_more xs f g level h in
-    let one = less (f (var_of x.literal)) (g (var_of x.literal)) (eqb x.level level) (h (var_of x.literal)) in
+pub waiting_more : (es : List Assigned) (f g : ℕ → Bool) (at : ℕ → Bool) → ((v : ℕ) → f v ≡ true → g v ≡ true) → waiting f at es ≤ waiting g at es
+waiting_more [] f g at h = omega arith
+waiting_more (x ∷ xs) f g at h =
+    let l = waiting_cons f at x xs in
+    let r = waiting_cons g at x xs in
+    let m = waiting_more xs f g at h in
+    let one = less (f (var_of x.literal)) (g (var_of x.literal)) (at x.level) (h (var_of x.literal)) in
     omega (arith, l, r, m, one)
   where
     less : (a b c : Bool) → (a ≡ true → b ≡ true) → one_if (a && c) ≤ one_if (b && c)

@@ -1,7 +1,6 @@
 -- What was met and is not kept follows, entry by entry, from what is kept: the lemma of what is kept is a reverse unit
 -- propagation along the reasons of the rest, in trail order.
-use Rattle.std.proofs.Common.{◌≡◌, ℕ, inl, inr, Bool, true, false, not, cond, ◌||◌, ◌&&◌, List, [], ◌∷◌, ◌++◌, refl, ap, sym, ◌∙◌, subst, append_assoc, Option}
-use Rattle.std.specs.Option.{unwrap_or}
+use Rattle.std.proofs.Common.{◌≡◌, ℕ, inl, inr, Bool, true, false, not, cond, ◌||◌, ◌&&◌, List, [], ◌∷◌, ◌++◌, refl, ap, sym, ◌∙◌, subst, append_assoc}
 use Rattle.std.specs.List.{Contains}
 use Rattle.std.proofs.lemmas.List.{append-nil}
 use Rattle.std.proofs.lemmas.List.Folds.{list_any-append}
@@ -14,24 +13,12 @@ use Rattle.dimacs.proofs.Members.{has-Contains}
 use Rattle.watches.specs.Trails.{holds}
 use Rattle.watches.specs.declared.trail.Assigned.{Assigned}
 use Rattle.watches.proofs.TrailLemmas.{holds_push}
-use Rattle.conflict_analysis.specs.Walks.{IsSettled}
-
-abbrev pub number_of : Option ℕ → ℕ
-number_of o = unwrap_or o 0
-
--- the reasons of the entries that are resolved, in trail order
-abbrev pub hints_of : (Literal → Bool) → List Assigned → List ℕ
-hints_of resolved [] = []
-hints_of resolved (e ∷ es) = cond (resolved e.literal) (number_of e.reason ∷ hints_of resolved es) (hints_of resolved es)
+use Rattle.conflict_analysis.specs.Walks.{IsSettled, number_of, hints_of, resolved_of}
 
 -- each resolved entry behind the front is settled
 abbrev pub AreClosed : Live → (ℕ → Bool) → (Literal → Bool) → List Assigned → List Assigned → Type 0
 AreClosed live seen resolved front [] = Unit {0}
 AreClosed live seen resolved front (e ∷ rest) = (resolved e.literal ≡ true → IsSettled live front seen e) × AreClosed live seen resolved (front ++ e ∷ []) rest
-
--- what was met on the trail, and is not kept
-abbrev pub resolved_of : List Assigned → (ℕ → Bool) → Clause → Literal → Bool
-resolved_of es seen lits = λ l. holds es l && (seen (var_of l) && not (negations lits l))
 
 or_none : (b : Bool) → (b || false) ≡ b
 or_none true = refl

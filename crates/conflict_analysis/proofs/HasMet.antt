@@ -1,5 +1,5 @@
 -- What stays when more entries are met.
-use Rattle.std.proofs.Common.{ℕ, inl, inr, List, take, ◌∙◌}
+use Rattle.std.proofs.Common.{ℕ, inl, inr, List, take, refl, ◌∙◌}
 use Rattle.watches.specs.declared.trail.Assigned.{Assigned}
 use Rattle.conflict_analysis.specs.Walks.{HasMet}
 use Rattle.conflict_analysis.proofs.Fronts.{Contains-take}
@@ -18,4 +18,12 @@ met_in_front es i stamp a b h = record {
   grows = h.grows;
   only = λ v m. elim (h.only v m) [ inl t ↦ inl t | inr (e, c, q) ↦ inr (e, Contains-take es i e c, q) ];
   bounded = h.bounded;
+}
+
+pub met_none : (front : List Assigned) (stamp : ℕ) (a : List ℕ) → HasMet front stamp a a
+met_none front stamp a = record {
+  sized = refl;
+  grows = λ v m. m;
+  only = λ v m. inl m;
+  bounded = λ m. m;
 }

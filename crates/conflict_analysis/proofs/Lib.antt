@@ -6,7 +6,7 @@ pub mod Concluding
 pub mod Entries
 pub mod Finding
 pub mod HasMet
-pub mod Looking
+pub mod Walking
 pub mod Meeting
 pub mod Settling
 pub mod Small

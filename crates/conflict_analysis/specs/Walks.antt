@@ -1,9 +1,9 @@
 -- A walk down a trail: which variables were met, and how many of them are still to be walked. Nothing here is to be believed.
-use Rattle.std.specs.Prelude.{◌≡◌, ◌≢◌, ℕ, Option, Some, None, take, ◌<◌, ◌≤◌, ◌==◌, Bool, true, not, ◌&&◌, ◌||◌, if◌then◌else◌, List, ◌++◌, ◌⊎◌, length, nat_eq, All, Contains, slice_index_or}
+use Rattle.std.specs.Prelude.{◌≡◌, ℕ, Option, Some, None, unwrap_or, take, drop, reverse, ◌<◌, ◌≤◌, ◌==◌, Bool, true, not, ◌&&◌, if◌then◌else◌, List, [], ◌∷◌, ◌++◌, ◌⊎◌, length, nat_eq, All, Contains, slice_index_or}
 use Rattle.std.specs.List.{IsDistinct, count_by}
 use Rattle.dimacs.specs.ClauseMap.{Live}
 use Rattle.dimacs.specs.Literal.{Literal, Clause, negation, var_of, same}
-use Rattle.dimacs.specs.Propagation.{IsUnit}
+use Rattle.dimacs.specs.Propagation.{IsUnit, negations}
 use Rattle.watches.specs.declared.trail.Assigned.{Assigned}
 use Rattle.watches.specs.Trails.{holds, present}
 
@@ -29,27 +29,26 @@ pub record AreListed (vars : ℕ) (seen : ℕ → Bool) (listed : List ℕ) : Ty
 abbrev pub IsKnown : List Assigned → (ℕ → Bool) → Literal → Type 0
 IsKnown front seen l = (seen (var_of l) ≡ true) ⊎ (holds front (negation l) ≡ true)
 
--- how many entries of this level were met
-abbrev pub waiting : (ℕ → Bool) → ℕ → List Assigned → ℕ
-waiting seen level entries = count_by (λ e. seen (var_of e.literal) && e.level == level) entries
+-- how many met entries have a level of which a test holds
+abbrev pub waiting : (ℕ → Bool) → (ℕ → Bool) → List Assigned → ℕ
+waiting seen at entries = count_by (λ e. seen (var_of e.literal) && at e.level) entries
+
+-- whether a level is the present one
+abbrev pub is_present : List Assigned → ℕ → Bool
+is_present entries level = level == present entries
+
+-- whether it is another one
+abbrev pub is_lower : List Assigned → ℕ → Bool
+is_lower entries level = not (level == present entries)
 
 -- the front is what is still to be walked
 abbrev pub IsFront : List Assigned → List Assigned → Type 0
 IsFront front entries = (rest : List Assigned) × (entries ≡ front ++ rest)
 
--- an entry of a level between 0 and the present one
-abbrev pub IsBetween : List Assigned → Assigned → Type 0
-IsBetween entries e = (0 < e.level) × (e.level < present entries)
-
--- the literals so far are the negations of what was met between level 0 and the present one; `level` is their greatest level;
--- of the present level `open` met entries are still to be walked, and of level 0 `root`
-pub record IsWalk (entries front : List Assigned) (seen : ℕ → Bool) (open_ root level : ℕ) (lits : Clause) : Type 0 where
-  pub opened : open_ ≡ waiting seen (present entries) front
-  pub rooted : root ≡ waiting seen 0 front
-  pub kept : (e : Assigned) → Contains entries e → seen (var_of e.literal) ≡ true → IsBetween entries e → Contains lits (negation e.literal)
-  pub only : (l : Literal) → Contains lits l → (e : Assigned) × Contains entries e × (e.literal ≡ negation l) × IsBetween entries e × (e.level ≤ level) × (seen (var_of l) ≡ true)
-  pub reached : (level ≡ 0) ⊎ ((l : Literal) × Contains lits l × (e : Assigned) × Contains entries e × (e.literal ≡ negation l) × (e.level ≡ level))
-  pub distinct : IsDistinct same lits
+-- of the present level `open` met entries are still to be walked, and of lower levels `rest`
+pub record IsWalk (entries front : List Assigned) (seen : ℕ → Bool) (open_ rest : ℕ) : Type 0 where
+  pub opened : open_ ≡ waiting seen (is_present entries) front
+  pub remaining : rest ≡ waiting seen (is_lower entries) front
 
 -- the entry of this place was implied by a live clause, of which each literal was met
 pub record IsSettled (live : Live) (front : List Assigned) (seen : ℕ → Bool) (e : Assigned) : Type 0 where
@@ -60,33 +59,40 @@ pub record IsSettled (live : Live) (front : List Assigned) (seen : ℕ → Bool)
   pub unit : IsUnit (holds front) clause e.literal
   pub all : (k : Literal) → Contains clause k → seen (var_of k) ≡ true
 
--- an entry of level 0 or of the present one
-abbrev pub IsLow : List Assigned → Assigned → Type 0
-IsLow entries e = (e.level ≡ 0) ⊎ (e.level ≡ present entries)
+abbrev pub number_of : Option ℕ → ℕ
+number_of o = unwrap_or o 0
 
--- behind the first i entries each met one of level 0 or the present level is settled, but for the implication point
-abbrev pub AreSettled : Live → List Assigned → ℕ → (ℕ → Bool) → Option Literal → Type 0
-AreSettled live entries i seen point =
-    (k : ℕ) (d : Assigned) → i ≤ k → k < length entries → seen (var_of (slice_index_or entries k d).literal) ≡ true → IsLow entries (slice_index_or entries k d)
-    → point ≢ Some (slice_index_or entries k d).literal → IsSettled live (take k entries) seen (slice_index_or entries k d)
+-- the reasons of the entries that are resolved, in trail order
+abbrev pub hints_of : (Literal → Bool) → List Assigned → List ℕ
+hints_of resolved [] = []
+hints_of resolved (e ∷ es) = if resolved e.literal then number_of e.reason ∷ hints_of resolved es else hints_of resolved es
 
--- the implication point: a met entry of the present level, none of which is left to be walked; until it is found, some are
-abbrev pub IsPoint : List Assigned → ℕ → (ℕ → Bool) → ℕ → Option Literal → Type 0
-IsPoint entries i seen open_ None = 0 < open_
-IsPoint entries i seen open_ (Some p) = (open_ ≡ 0) × (seen (var_of p) ≡ true) × ((e : Assigned) × Contains entries e × (e.literal ≡ p) × (e.level ≡ present entries))
+-- what was met on the trail, and is not kept
+abbrev pub resolved_of : List Assigned → (ℕ → Bool) → Clause → Literal → Bool
+resolved_of es seen lits = λ l. holds es l && (seen (var_of l) && not (negations lits l))
 
--- the entry at place i is to be settled
-pub record IsResolved (entries : List Assigned) (i : ℕ) (seen : ℕ → Bool) (open_ : ℕ) (old new : Option Literal) : Type 0 where
-  pub same : new ≡ old
-  pub here : (d : Assigned) → seen (var_of (slice_index_or entries i d).literal) ≡ true
-  pub low : (d : Assigned) → ((slice_index_or entries i d).level ≡ 0) ⊎ (((slice_index_or entries i d).level ≡ present entries) × (0 < open_))
+-- from place i on each met entry is settled or its negation is kept; the hints are the reasons of those that are not kept, the last first
+pub record AreWalked (live : Live) (entries : List Assigned) (i : ℕ) (seen : ℕ → Bool) (lits : Clause) (hints : List ℕ) : Type 0 where
+  pub each : (k : ℕ) (d : Assigned) → i ≤ k → k < length entries → seen (var_of (slice_index_or entries k d).literal) ≡ true
+      → Contains lits (negation (slice_index_or entries k d).literal) ⊎ IsSettled live (take k entries) seen (slice_index_or entries k d)
+  pub kept : (l : Literal) → Contains lits l → (k : ℕ) × (i ≤ k) × (k < length entries) × ((d : Assigned) → (slice_index_or entries k d).literal ≡ negation l)
+  pub named : hints ≡ reverse (hints_of (resolved_of entries seen lits) (drop i entries))
+  pub distinct : IsDistinct same lits
 
--- it is not
-abbrev pub IsPassed : List Assigned → ℕ → (ℕ → Bool) → Option Literal → Type 0
-IsPassed entries i seen point =
-    (d : Assigned) → seen (var_of (slice_index_or entries i d).literal) ≡ true → IsLow entries (slice_index_or entries i d) → point ≡ Some (slice_index_or entries i d).literal
+-- the literal is false since this level
+abbrev pub HasLevel : List Assigned → Literal → ℕ → Type 0
+HasLevel entries l level = (e : Assigned) × Contains entries e × (e.literal ≡ negation l) × (e.level ≡ level)
 
--- the reason of an entry that is resolved: it was met, has level 0 or the present one, and is not the implication point
-abbrev pub hint_of : (ℕ → Bool) → ℕ → Literal → Assigned → Option ℕ
-hint_of seen level point e =
-    if (e.level == 0 || e.level == level) && (seen (var_of e.literal) && not (same e.literal point)) then e.reason else None
+-- the first literal is the implication point's negation, and none of the present level waits; the others are of lower levels, of
+-- which `level` is the greatest. Until the point is found, some entry of the present level waits
+abbrev pub IsLevelled : List Assigned → ℕ → Clause → ℕ → Type 0
+IsLevelled entries open_ [] level = (0 < open_) × (level ≡ 0)
+IsLevelled entries open_ (p ∷ lits) level =
+    (open_ ≡ 0) × HasLevel entries p (present entries)
+    × ((l : Literal) → Contains lits l → (n : ℕ) × HasLevel entries l n × (n < present entries) × (n ≤ level))
+    × ((level ≡ 0) ⊎ ((l : Literal) × Contains lits l × HasLevel entries l level))
+
+-- the reason by which an entry is resolved: of the present level all are but the last one left
+abbrev pub IsChoice : List Assigned → ℕ → Option ℕ → ℕ → Option ℕ → Type 0
+IsChoice entries level reason open_ (Some number) = (reason ≡ Some number) × (level ≡ present entries → 0 < open_)
+IsChoice entries level reason open_ None = level ≡ present entries → (open_ ≡ 0) ⊎ (reason ≡ None)

@@ -1,64 +1,45 @@
 //! The analysis of a conflict: the first unique implication point (Marques-Silva and Sakallah 1996).
 
-ghost use Rattle.std.specs.Prelude.{◌≡◌, ℕ, ◌+◌, ◌<◌, ◌≤◌, false, [], ◌++◌, ◌∷◌, length, All, IfOk, OnOk, drop};
-ghost use Rattle.std.specs.List.{IsDistinct, filter_map};
+ghost use Rattle.std.specs.Prelude.{◌≡◌, ℕ, ◌+◌, ◌<◌, ◌≤◌, false, [], ◌++◌, ◌∷◌, reverse, length, All, IfOk, OnOk};
+ghost use Rattle.std.specs.List.{IsDistinct};
 ghost use Rattle.clause_arena.specs.Clauses.{live_of};
-ghost use Rattle.dimacs.specs.Literal.{IsWithin, negation, same};
+ghost use Rattle.dimacs.specs.Literal.{IsWithin, same};
 ghost use Rattle.dimacs.specs.Propagation.{Rup};
 ghost use Rattle.conflict_analysis.specs.Built.{AreBuilt, AreInside};
 ghost use Rattle.conflict_analysis.specs.Lemmas.{AreApart, IsAsserting, IsPresent};
-ghost use Rattle.conflict_analysis.specs.Walks.{met, HasMet, AreListed, hint_of};
+ghost use Rattle.conflict_analysis.specs.Walks.{met, HasMet};
 ghost use Rattle.watches.specs.Law.{IsConflict};
-ghost use Rattle.watches.specs.Trails.{present, IsTrailValue};
+ghost use Rattle.watches.specs.Trails.{present};
 
-use crate::hints::resolved_reasons;
 use crate::lemma::Lemma;
 use crate::walk::{Walk, descend, meet_number};
 use clause_arena::Arena;
-use dimacs::{Lit, Var};
+use dimacs::Var;
 use std::alloc::{AllocError, Global};
 use std::marker::Model;
-use std::mem;
 use watches::Trail;
 
-/// Makes the lemma of a walk that has come to its end at place `i`.
-fn conclude(
-    alloc: Global,
-    trail: &Trail,
-    stamps: &[u64],
-    stamp: u64,
-    walk: &mut Walk,
-    point: Lit,
-    i: usize,
-    number: u64,
-) -> Result<Lemma, AllocError>
-    requires trail { IsTrailValue trail.now }
-    requires room { trail.now.vars < length stamps.now }
-    requires within { i ≤ length trail.now.entries }
-    ensures lemma { IfOk result (λ lemma. (lemma.lits.items ≡ walk.old.lits.items ++ negation point ∷ [])
-        × (lemma.hints.items ≡ filter_map (hint_of (met stamps.now stamp) walk.old.present point) (drop i trail.now.entries) ++ number ∷ [])
-        × (lemma.level ≡ walk.old.level)) }
-    ensures met { walk.new.met.items ≡ walk.old.met.items }
+/// Ends a lemma of a walk: its hints in trail order, and behind them the false clause.
+fn conclude(lemma: &mut Lemma, number: u64) -> Result<(), AllocError>
+    ensures lits { lemma.new.lits.items ≡ lemma.old.lits.items }
+    ensures hints { OnOk result (lemma.new.hints.items ≡ reverse lemma.old.hints.items ++ number ∷ []) }
+    ensures level { lemma.new.level ≡ lemma.old.level }
 {
-    let entries = &trail.entries()[i..];
-    let mut hints = resolved_reasons(alloc, entries, walk.present, stamps, stamp, point)?;
-    hints.push(number)?;
-    let level = walk.level;
-    let mut lits = mem::replace(&mut walk.lits, Vec::new(alloc));
-    lits.push(point.negate())?;
-    Ok(Lemma { lits, hints, level })
+    lemma.hints.reverse();
+    lemma.hints.push(number)?;
+    Ok(())
 }
 
 /// Analyses a conflict by stamps of which none is the present one, and lists the variables that it meets.
 fn analyse_by(
-    alloc: Global,
     stamps: &mut [u64],
     stamp: u64,
+    walk: &mut Walk,
     arena: &Arena,
     trail: &Trail,
     number: u64,
-    walk: &mut Walk,
-) -> Result<Lemma, AllocError>
+    lemma: &mut Lemma,
+) -> Result<(), AllocError>
     requires fresh { (v : ℕ) → met stamps.old stamp v ≡ false }
     requires room { trail.now.vars < length stamps.old }
     requires built { AreBuilt (live_of arena.now) [] trail.now.entries }
@@ -66,20 +47,19 @@ fn analyse_by(
     requires conflict { IsConflict (live_of arena.now) trail.now.entries number }
     requires here { IsPresent (live_of arena.now) trail.now.entries number }
     requires above { 0 < present trail.now.entries }
-    ensures rup { IfOk result (λ lemma. Rup (live_of arena.now) lemma.lits.items lemma.hints.items) }
-    ensures asserting { IfOk result (λ lemma. IsAsserting trail.now.entries lemma.lits.items lemma.level) }
-    ensures distinct { IfOk result (λ lemma. IsDistinct same lemma.lits.items) }
-    ensures within { IfOk result (λ lemma. All (IsWithin trail.now.vars) lemma.lits.items) }
+    ensures rup { OnOk result (Rup (live_of arena.now) lemma.new.lits.items lemma.new.hints.items) }
+    ensures asserting { OnOk result (IsAsserting trail.now.entries lemma.new.lits.items lemma.new.level) }
+    ensures distinct { OnOk result (IsDistinct same lemma.new.lits.items) }
+    ensures within { OnOk result (All (IsWithin trail.now.vars) lemma.new.lits.items) }
     ensures stamps { HasMet trail.now.entries stamp stamps.old stamps.new }
-    ensures met { IfOk result (λ lemma. AreApart trail.now.vars walk.new.met.items) }
+    ensures met { OnOk result (AreApart trail.now.vars walk.new.met.items) }
 {
-    let entries = trail.entries();
+    lemma.clear();
     walk.begin(trail.level());
+    let entries = trail.entries();
     meet_number(arena, trail, entries, stamps, stamp, walk, number)?;
-    let mut point = None;
-    let i = descend(arena, trail, stamps, stamp, walk, &mut point)?;
-    let point = point.unwrap();
-    conclude(alloc, trail, stamps, stamp, walk, point, i, number)
+    descend(arena, trail, stamps, stamp, walk, lemma)?;
+    conclude(lemma, number)
 }
 
 /// Makes a stamp that no variable has, in a table with room for these variables.
@@ -178,15 +158,39 @@ impl Analyser {
         ensures within { IfOk result (λ lemma. All (IsWithin trail.now.vars) lemma.lits.items) }
         ensures met { IfOk result (λ lemma. AreApart trail.now.vars self.new) }
     {
+        let mut lemma = Lemma::new(self.alloc);
+        self.analyse_into(arena, trail, number, &mut lemma)?;
+        Ok(lemma)
+    }
+
+    /// Writes that lemma over another one, whose room it uses. Where memory is refused what it holds is open.
+    pub fn analyse_into(
+        &mut self,
+        arena: &Arena,
+        trail: &Trail,
+        number: u64,
+        lemma: &mut Lemma,
+    ) -> Result<(), AllocError>
+        requires built { AreBuilt (live_of arena.now) [] trail.now.entries }
+        requires inside { AreInside (live_of arena.now) trail.now.vars }
+        requires conflict { IsConflict (live_of arena.now) trail.now.entries number }
+        requires here { IsPresent (live_of arena.now) trail.now.entries number }
+        requires above { 0 < present trail.now.entries }
+        ensures rup { OnOk result (Rup (live_of arena.now) lemma.new.lits.items lemma.new.hints.items) }
+        ensures asserting { OnOk result (IsAsserting trail.now.entries lemma.new.lits.items lemma.new.level) }
+        ensures distinct { OnOk result (IsDistinct same lemma.new.lits.items) }
+        ensures within { OnOk result (All (IsWithin trail.now.vars) lemma.new.lits.items) }
+        ensures met { OnOk result (AreApart trail.now.vars self.new) }
+    {
         renew(&mut self.stamps, &mut self.stamp, trail.vars())?;
         analyse_by(
-            self.alloc,
             &mut self.stamps,
             self.stamp,
+            &mut self.walk,
             arena,
             trail,
             number,
-            &mut self.walk,
+            lemma,
         )
     }
 }

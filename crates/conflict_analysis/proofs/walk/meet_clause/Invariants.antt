@@ -9,6 +9,6 @@ abbrev pub invariant-loop-literal : goal.invariant-loop-literal
 invariant-loop-literal l =
     (l.walk.present ≡ l.fn.walk.present)
     × HasMet l.front l.stamp l.fn.stamps l.stamps
-    × IsWalk l.trail.entries l.front (met l.stamps l.stamp) l.walk.open l.walk.root l.walk.level l.walk.lits.items
+    × IsWalk l.trail.entries l.front (met l.stamps l.stamp) l.walk.open l.walk.rest
     × ((k : Literal) → Contains (take l.literal-index l.clause) k → met l.stamps l.stamp (var_of k) ≡ true)
     × AreListed l.trail.vars (met l.stamps l.stamp) l.walk.met.items
