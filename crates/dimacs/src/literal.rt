@@ -1,7 +1,7 @@
 //! Variables and literals.
 
 ghost use Rattle.std.specs.Prelude.{◌≡◌, ℕ, ◌+◌, ◌*◌, ◌^◌, ◌<◌, ◌≤◌, IsTrue};
-ghost use Rattle.dimacs.specs.Literal.{Literal, Pos, Neg, negation, var_of, index_of, number_of, is_negative};
+ghost use Rattle.dimacs.specs.Literal.{Literal, Pos, Neg, negation, var_of, index_of, number_of, is_negative, has};
 
 use std::marker::Model;
 
@@ -133,4 +133,11 @@ impl Lit {
             -variable
         }
     }
+}
+
+/// Whether a clause holds the literal.
+pub fn has_literal(clause: &[Lit], literal: Lit) -> bool
+    ensures { result ≡ has clause.now literal }
+{
+    clause.iter().any(|l| literal == *l)
 }

@@ -11,10 +11,9 @@ use Rattle.std.proofs.lemmas.List.{append_assoc, append-nil, drop_all, take_all,
 use Rattle.std.proofs.lemmas.List.Elements.{All-take, All-drop}
 use Rattle.dimacs.specs.Literal.{Literal, Clause, var_of}
 use Rattle.dimacs.specs.Flat.{parts}
-use Rattle.dimacs.specs.ClauseMap.{ClauseMap}
 use Rattle.lrat_check.specs.declared.slot.Slot.{Slot}
 use Rattle.lrat_check.specs.declared.store.Far.{Far}
-use Rattle.lrat_check.specs.Store.{clause_at, entries_of, near_entries, far_entries, live_of, numbered, numbered_entries, place_of, ArePlaced, IsStore}
+use Rattle.lrat_check.specs.Store.{clause_at, entries_of, near_entries, live_of, numbered, numbered_entries, place_of, ArePlaced, IsStore}
 use Rattle.lrat_check.specs.Table.{FitsTable, AllFit}
 use Rattle.lrat_check.proofs.Counted.{counted_none, counted_new}
 use Rattle.lrat_check.proofs.Formula.{clauses_more, find-past}

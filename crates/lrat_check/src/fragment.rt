@@ -21,7 +21,7 @@ use crate::live::LiveClauses;
 use crate::loading::load;
 use crate::marks::{assume_negations, fresh, make_room};
 use crate::propagation::follow;
-use dimacs::{Base, Lit};
+use dimacs::{Base, Lit, has_literal};
 use lrat_text::{Groups, StepBuffer, StepRef, cut_line, read_line};
 use std::alloc::{AllocError, Global};
 
@@ -121,24 +121,12 @@ fn delete_own(clauses: &mut LiveClauses, base: u64, ids: &[u64]) -> Result<(), F
     Ok(())
 }
 
-/// Whether the cube holds the literal.
-fn holds(cube: &[Lit], literal: Lit) -> bool
-    ensures { result ≡ has cube.now literal }
-{
-    for l in cube {
-        if literal == *l {
-            return true;
-        }
-    }
-    false
-}
-
 /// Whether each literal is the negation of one of the cube's.
 fn negates(cube: &[Lit], lits: &[Lit]) -> bool
     ensures { result ≡ list_all (λ l. has cube.now (negation l)) lits.now }
 {
     for l in lits {
-        if !holds(cube, l.negate()) {
+        if !has_literal(cube, l.negate()) {
             return false;
         }
     }

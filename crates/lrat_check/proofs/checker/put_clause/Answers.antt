@@ -1,4 +1,4 @@
-use Rattle.std.proofs.Common.{◌≡◌, ◌+◌, false, true, ◌∙◌, arith}
+use Rattle.std.proofs.Common.{◌≡◌, ◌+◌, ◌∙◌, arith}
 use Rattle.std.specs.FinMap.{get, len}
 use Rattle.std.specs.Option.{is_some}
 use Rattle.lrat_check.proofs.Counted.{counted_new, counted_over, was_live}

@@ -1,4 +1,4 @@
-use Rattle.std.proofs.Common.{◌≡◌, ◌+◌, ◌-◌, ◌++◌, ◌∷◌, [], Some, List, refl, sym, ◌∙◌, ap, subst, arith, drop, get_or}
+use Rattle.std.proofs.Common.{◌≡◌, ◌+◌, ◌-◌, ◌++◌, ◌∷◌, [], Some, refl, sym, ◌∙◌, ap, subst, arith, drop, get_or}
 use Rattle.std.specs.List.{enumerate_from}
 use Rattle.dimacs.specs.Flat.{parts}
 use Rattle.lrat_check.specs.declared.slot.Slot.{Slot}

@@ -1,4 +1,4 @@
-use Rattle.std.proofs.Common.{List, ℕ, ap, sym, ◌∙◌, length}
+use Rattle.std.proofs.Common.{ap, sym, ◌∙◌, length}
 use Rattle.std.specs.FinMap.{len}
 use Rattle.dimacs.specs.ClauseMap.{ClauseMap}
 use Rattle.dimacs.specs.Cnf.{Cnf}

@@ -1,9 +1,8 @@
-use Rattle.std.proofs.Common.{List, ap, ◌∙◌, subst}
-use Rattle.dimacs.specs.Flat.{parts}
+use Rattle.std.proofs.Common.{List, subst}
 use Rattle.dimacs.specs.Literal.{Literal}
-use Rattle.lrat_check.specs.Store.{near_entries, numbered_entries, ArePlaced, IsStore}
+use Rattle.lrat_check.specs.Store.{ArePlaced, IsStore}
 use Rattle.lrat_check.specs.Table.{FitsTable}
-use Rattle.lrat_check.proofs.Parts.{store_near, near_fits, live_near}
+use Rattle.lrat_check.proofs.Parts.{store_near, near_fits}
 use Rattle.lrat_check.proofs.live.LiveClauses.of_parts.Goals as goal
 
 pub invariant_of-result : goal.invariant_of-result
