@@ -68,7 +68,7 @@ impl Arena {
     }
 
     /// Lends the literals of a live clause.
-    #[inline]
+    #[inline(always)]
     pub fn clause(&self, at: Ref) -> &[Lit]
         requires live { IsLive self.now at }
         ensures literals { (C : Clause) → Stands self.now at C → result.now ≡ C }
@@ -79,7 +79,7 @@ impl Arena {
     }
 
     /// Where the live clause of a number stands; None where the number is not live.
-    #[inline]
+    #[inline(always)]
     pub fn find(&self, number: u64) -> Option<Ref>
         ensures some { IfSome result (λ at. (at.number ≡ number) × IsLive self.now at) }
         ensures none { IfNone result (get self.now number ≡ None) }
@@ -95,7 +95,7 @@ impl Arena {
     }
 
     /// Exchanges two literals of a live clause.
-    #[inline]
+    #[inline(always)]
     pub fn swap(&mut self, at: Ref, i: usize, j: usize)
         requires live { IsLive self.old at }
         requires i_in { i < at.len }

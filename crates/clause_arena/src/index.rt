@@ -46,7 +46,7 @@ impl Index {
     }
 
     /// The slot of a number.
-    #[inline]
+    #[inline(always)]
     pub(crate) fn get(&self, number: u64) -> Option<Slot>
         ensures { result ≡ get self.now number }
     {

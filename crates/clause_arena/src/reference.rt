@@ -13,7 +13,7 @@ pub struct Ref {
 
 impl Ref {
     /// The clause's number.
-    #[inline]
+    #[inline(always)]
     pub fn number(self) -> u64
         ensures { result ≡ self.number }
     {

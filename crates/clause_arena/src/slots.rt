@@ -23,8 +23,19 @@ pub(crate) struct Slot {
 
 pub(crate) type Far = BTreeMap<u64, Slot>;
 
+/// The slot of a number that has no place.
+#[cold]
+fn find_far(far: &Far, number: u64) -> Option<Slot>
+    ensures { result ≡ tree.get nat_cmp far.now number }
+{
+    match far.get(&number) {
+        Some(slot) => Some(*slot),
+        None => None,
+    }
+}
+
 /// The slot of a number.
-#[inline]
+#[inline(always)]
 pub(crate) fn find(near: &[Option<Slot>], far: &Far, number: u64) -> Option<Slot>
     requires { IsApart near.now far.now }
     ensures { result ≡ get (slots_of near.now far.now) number }
@@ -33,10 +44,7 @@ pub(crate) fn find(near: &[Option<Slot>], far: &Far, number: u64) -> Option<Slot
     if place < near.len() {
         near[place]
     } else {
-        match far.get(&number) {
-            Some(slot) => Some(*slot),
-            None => None,
-        }
+        find_far(far, number)
     }
 }
 

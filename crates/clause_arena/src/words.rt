@@ -7,7 +7,7 @@ use crate::reference::Ref;
 use dimacs::Lit;
 
 /// The literals at a reference.
-#[inline]
+#[inline(always)]
 pub(crate) fn literals_at(words: &[Lit], at: Ref) -> &[Lit]
     requires { IsPlaced words.now (slot_of at) }
     ensures { result.now ≡ clause_at words.now (slot_of at) }
@@ -16,7 +16,7 @@ pub(crate) fn literals_at(words: &[Lit], at: Ref) -> &[Lit]
 }
 
 /// Exchanges two literals of the clause at a reference.
-#[inline]
+#[inline(always)]
 pub(crate) fn exchange(words: &mut [Lit], at: Ref, i: usize, j: usize)
     requires placed { IsPlaced words.old (slot_of at) }
     requires i_in { i < at.len }

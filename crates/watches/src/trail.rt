@@ -56,7 +56,7 @@ impl Trail {
     }
 
     /// How many variables there is room for.
-    #[inline]
+    #[inline(always)]
     pub fn vars(&self) -> u32
         ensures { result ≡ self.now.vars }
     {
@@ -64,7 +64,7 @@ impl Trail {
     }
 
     /// How many literals there are, at most one of each variable.
-    #[inline]
+    #[inline(always)]
     pub fn len(&self) -> usize
         ensures value { result ≡ length self.now.entries }
         ensures within { result ≤ self.now.vars }
@@ -73,7 +73,7 @@ impl Trail {
     }
 
     /// The literals in the order in which they came, with levels and reasons.
-    #[inline]
+    #[inline(always)]
     pub fn entries(&self) -> &[Assigned]
         ensures entries { result.now ≡ self.now.entries }
         ensures valid { IsTrailValue self.now }
@@ -82,7 +82,7 @@ impl Trail {
     }
 
     /// Whether a literal is true or false, or neither.
-    #[inline]
+    #[inline(always)]
     pub fn value(&self, literal: Lit) -> Truth
         requires { IsWithin self.now.vars literal }
         ensures { IsTruth self.now.entries literal result }
@@ -92,7 +92,7 @@ impl Trail {
     }
 
     /// The entry of a literal of the trail.
-    #[inline]
+    #[inline(always)]
     pub fn entry_of(&self, literal: Lit) -> Assigned
         requires { holds self.now.entries literal ≡ true }
         ensures member { Contains self.now.entries result }
@@ -103,7 +103,7 @@ impl Trail {
     }
 
     /// Puts a literal that is neither true nor false at the end, at no lower level than those before it. It takes no memory.
-    #[inline]
+    #[inline(always)]
     pub fn push(&mut self, entry: Assigned)
         requires within { IsWithin self.old.vars entry.literal }
         requires not_true { holds self.old.entries entry.literal ≡ false }
@@ -121,7 +121,7 @@ impl Trail {
     }
 
     /// The present level: the greatest there is, that of the last literal; 0 where there is none.
-    #[inline]
+    #[inline(always)]
     pub fn level(&self) -> u32
         ensures present { result ≡ present self.now.entries }
         ensures greatest { All (λ e. e.level ≤ result) self.now.entries }

@@ -23,7 +23,7 @@ pub(crate) struct Place {
 }
 
 /// The literal of a watch.
-#[inline]
+#[inline(always)]
 pub(crate) fn own_literal(places: &[Place], at: usize) -> Lit
     requires { at < length places.now }
     ensures { result ≡ literal_at places.now at }
@@ -32,7 +32,7 @@ pub(crate) fn own_literal(places: &[Place], at: usize) -> Lit
 }
 
 /// The literal of a clause's other watch.
-#[inline]
+#[inline(always)]
 pub(crate) fn other_literal(places: &[Place], at: usize) -> Lit
     requires { twin at < length places.now }
     ensures { result ≡ literal_at places.now (twin at) }
@@ -41,7 +41,7 @@ pub(crate) fn other_literal(places: &[Place], at: usize) -> Lit
 }
 
 /// The place behind another one.
-#[inline]
+#[inline(always)]
 pub(crate) fn next_place(places: &[Place], at: usize) -> PlaceId
     requires { at < length places.now }
     ensures { result.number ≡ next_of places.now at }
@@ -50,7 +50,7 @@ pub(crate) fn next_place(places: &[Place], at: usize) -> PlaceId
 }
 
 /// The clause that owns a place.
-#[inline]
+#[inline(always)]
 pub(crate) fn owner_of(clauses: &[Ref], base: usize, at: usize) -> Ref
     requires low { base ≤ at }
     requires within { (at - base) / 2 < length clauses.now }
@@ -60,7 +60,7 @@ pub(crate) fn owner_of(clauses: &[Ref], base: usize, at: usize) -> Ref
 }
 
 /// Takes a place out behind another one, gives it a literal, and puts it behind a head.
-#[inline]
+#[inline(always)]
 pub(crate) fn relink(
     places: &mut [Place],
     previous: usize,

@@ -16,7 +16,7 @@ pub(crate) struct Found {
 }
 
 /// The place of a literal that is not false, behind the first two, with that literal.
-#[inline]
+#[inline(always)]
 pub(crate) fn find_watch(literals: &[Lit], trail: &Trail) -> Option<Found>
     requires { All (IsWithin trail.now.vars) literals.now }
     ensures { FindsWatch trail.now.entries literals.now result }

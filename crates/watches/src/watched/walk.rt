@@ -20,7 +20,7 @@ use clause_arena::{Arena, Ref};
 use dimacs::Lit;
 
 /// Looks at the place behind `previous`, whose literal became false.
-#[inline]
+#[inline(always)]
 fn visit(
     places: &mut [Place],
     clauses: &[Ref],
@@ -72,7 +72,7 @@ fn visit(
 }
 
 /// No two entries of a trail have one variable.
-#[inline]
+#[inline(always)]
 pub(crate) fn recall(trail: &Trail)
     ensures { IsTrailValue trail.now }
 {

@@ -5,8 +5,5 @@ use Rattle.clause_arena.proofs.slots.find.Goals as goal
 pub returns-then-place-near : goal.returns-then-place-near
 returns-then-place-near c = sym (get_near c.args.near.now c.args.far.now c.args.number c.requires c.if-place-near.true)
 
-pub returns-in-Some : goal.returns-in-Some
-returns-in-Some c = c.in-Some.ensures.value ∙ sym (get_far c.args.near.now c.args.far.now c.args.number c.if-place-near.false)
-
-pub returns-in-None : goal.returns-in-None
-returns-in-None c = c.in-None.ensures.value ∙ sym (get_far c.args.near.now c.args.far.now c.args.number c.if-place-near.false)
+pub returns-else-place-near : goal.returns-else-place-near
+returns-else-place-near c = c.find_far.ensures ∙ sym (get_far c.args.near.now c.args.far.now c.args.number c.if-place-near.false)
