@@ -26,7 +26,7 @@ use crate::order::Order;
 use crate::pace::Pace;
 use crate::writing::Log;
 use clause_arena::Arena;
-use conflict_analysis::{Analyser, Closing, close_cube};
+use conflict_analysis::{Analyser, Closing, Lemma, close_cube};
 use dimacs::{Base, Lit};
 use std::alloc::{AllocError, Global};
 use watches::{Propagator, Trail, learn};
@@ -77,10 +77,11 @@ fn go_back<P: Propagator>(propagator: &mut P, trail: &mut Trail, order: &mut Ord
     propagator.undo(trail, level);
 }
 
-/// Learns the lemma of a conflict: it is written, and joins the clauses behind a return to its level.
+/// Learns the lemma of a conflict, in the room of another one: it is written, and joins the clauses behind a return to its level.
 fn learn_from<P: Propagator>(
     propagator: &mut P,
     analyser: &mut Analyser,
+    lemma: &mut Lemma,
     arena: &mut Arena,
     trail: &mut Trail,
     order: &mut Order,
@@ -103,8 +104,8 @@ fn learn_from<P: Propagator>(
     ensures vars { OnOk result (trail.new.vars ≡ trail.old.vars) }
     ensures assuming { OnOk result ((q : Cube) (assumed : ℕ) → IsAssuming q trail.old.entries assumed → IsAssuming q trail.new.entries assumed) }
 {
-    let lemma = analyser.analyse(arena, trail, conflict)?;
-    log.write(id, &lemma)?;
+    analyser.analyse_into(arena, trail, conflict, lemma)?;
+    log.write(id, lemma)?;
     order.bump(analyser.met());
     go_back(propagator, trail, order, lemma.level);
     learn(propagator, arena, trail, id, &lemma.lits)?;
@@ -178,6 +179,7 @@ fn turn<P: Propagator>(
     alloc: Global,
     propagator: &mut P,
     analyser: &mut Analyser,
+    lemma: &mut Lemma,
     arena: &mut Arena,
     trail: &mut Trail,
     order: &mut Order,
@@ -204,7 +206,9 @@ fn turn<P: Propagator>(
     ensures lemmas { OnOk result (AreLemmas first (live_of arena.new) lemmas.new.items) }
     ensures search { OnOk result ((B : Cnf) (q : Cube) (n assumed : ℕ) → length B.clauses + 1 ≡ first → first + n ≡ id → IsSearch B q n arena.old trail.old assumed log.old → IsSearch B q (n + 1) arena.new trail.new assumed log.new) }
 {
-    learn_from(propagator, analyser, arena, trail, order, conflict, id, log)?;
+    learn_from(
+        propagator, analyser, lemma, arena, trail, order, conflict, id, log,
+    )?;
     lemmas.push(id)?;
     keep_pace(
         alloc, propagator, arena, trail, order, pace, lemmas, id, log,
@@ -235,6 +239,7 @@ pub(crate) fn run<P: Propagator>(
     ensures { IfOk result (IsEnd base.now cube.now limit trail.new) }
 {
     let mut analyser = Analyser::new(alloc);
+    let mut lemma = Lemma::new(alloc);
     let mut log = Log::new(alloc);
     let mut lemmas = Vec::new(alloc);
     let mut pace = Pace::new();
@@ -264,6 +269,7 @@ pub(crate) fn run<P: Propagator>(
                     alloc,
                     propagator,
                     &mut analyser,
+                    &mut lemma,
                     arena,
                     trail,
                     order,
