@@ -9,7 +9,7 @@ ghost use Rattle.proof_join.specs.Steps.{IsFragment, Writes, clause_of, own_part
 
 use crate::fault::JoinFault;
 use crate::lines::{put_fragment, put_line};
-use dimacs::Lit;
+use dimacs::{Lit, has_literal};
 use lrat_text::{Groups, StepBuffer, StepRef};
 use std::alloc::{AllocError, Global};
 
@@ -29,18 +29,6 @@ pub(crate) struct Writer {
     pub(crate) numbers: Vec<u64>,
 }
 
-/// Whether the clause holds the literal.
-fn holds(clause: &[Lit], literal: Lit) -> bool
-    ensures { result ≡ has clause.now literal }
-{
-    for l in clause {
-        if literal == *l {
-            return true;
-        }
-    }
-    false
-}
-
 /// The negations of the path's literals that stand negated in one of two clauses.
 fn resolve(alloc: Global, path: &[Lit], left: &[Lit], right: &[Lit]) -> Result<Vec<Lit>, AllocError>
     ensures { IfOk result (λ c. c.items ≡ resolvent path.now left.now right.now) }
@@ -48,7 +36,7 @@ fn resolve(alloc: Global, path: &[Lit], left: &[Lit], right: &[Lit]) -> Result<V
     let mut clause = Vec::new(alloc);
     for l in path {
         let negated = l.negate();
-        if holds(left, negated) || holds(right, negated) {
+        if has_literal(left, negated) || has_literal(right, negated) {
             clause.push(negated)?;
         }
     }
@@ -122,10 +110,10 @@ pub(crate) fn put_fork(
     ensures few { OnOk result ((writer.old.top ≤ writer.new.top) × (writer.new.top + length writer.old.out.items ≤ writer.old.top + length writer.new.out.items)) }
     ensures small { IfOk result (λ s. (1 ≤ s.id) × (s.id ≤ writer.new.top) × All (IsWithin 2000000) s.clause.items) }
 {
-    if !holds(&left.clause, branch.negate()) {
+    if !has_literal(&left.clause, branch.negate()) {
         return Ok(left);
     }
-    if !holds(&right.clause, branch) {
+    if !has_literal(&right.clause, branch) {
         return Ok(right);
     }
     let clause = match resolve(alloc, path, &left.clause, &right.clause) {
