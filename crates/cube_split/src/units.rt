@@ -2,6 +2,7 @@
 
 ghost use Rattle.std.specs.Prelude.{◌≡◌, ◌≤◌, length, All, IfOk};
 ghost use Rattle.dimacs.specs.Base.{pure_literals, base_of};
+ghost use Rattle.dimacs.specs.Cnf.{IsFormula};
 ghost use Rattle.dimacs.specs.Literal.{IsWithin};
 ghost use Rattle.cube_split.specs.Splitting.{with_units};
 
@@ -49,17 +50,29 @@ impl Preamble {
         // The base of the formula, where this is its own preamble.
         ensures base { self.now ≡ pure_literals formula.now → IfOk result (λ b. b ≡ base_of formula.now) }
     {
-        append_units(alloc, formula, &self.units)
+        let _ = formula.vars();
+        append_units(Base::of(alloc, formula)?, &self.units)
+    }
+
+    /// The same base, of a formula that is no longer needed: its lists become the base's.
+    pub fn base_from(&self, formula: Formula) -> Result<Base, AllocError>
+        requires { All (IsWithin formula.vars) self.now }
+        ensures units { IfOk result (λ b. b ≡ with_units formula self.now) }
+        ensures base { self.now ≡ pure_literals formula → IfOk result (λ b. b ≡ base_of formula) }
+    {
+        let _ = formula.vars();
+        append_units(Base::from_formula(formula), &self.units)
     }
 }
 
-fn append_units(alloc: Global, formula: &Formula, units: &[Lit]) -> Result<Base, AllocError>
+/// Appends unit clauses to a base that is a formula alone.
+fn append_units(front: Base, units: &[Lit]) -> Result<Base, AllocError>
+    requires formula { IsFormula front }
     requires limit { length units.now ≤ 1000000 }
-    requires within { All (IsWithin formula.now.vars) units.now }
-    ensures { IfOk result (λ b. b ≡ with_units formula.now units.now) }
+    requires within { All (IsWithin front.vars) units.now }
+    ensures { IfOk result (λ b. b ≡ with_units front units.now) }
 {
-    let _ = formula.vars();
-    let mut base = Base::of(alloc, formula)?;
+    let mut base = front;
     for unit in units {
         base.push_clause(&[*unit])?;
     }

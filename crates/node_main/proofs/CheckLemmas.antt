@@ -1,5 +1,5 @@
 -- What `check` reports of a proof that comes in pieces.
-use Rattle.std.proofs.Common.{◌≡◌, ◌≢◌, ◌⊎◌, ℕ, List, cond, Result, Ok, Err, inl, inr, refl, sym, ap, subst, ◌∙◌}
+use Rattle.std.proofs.Common.{◌≡◌, ◌≢◌, ◌⊎◌, ℕ, List, cond, Result, Ok, Err, None, inl, inr, refl, sym, ap, subst, ◌∙◌}
 use Rattle.std.specs.Prelude.{IfOk, OnOk, is_ok}
 use Rattle.std.specs.declared.alloc.AllocError.{AllocError}
 use Rattle.dimacs.specs.Cnf.{Cnf}
@@ -41,9 +41,9 @@ formula_is : (input : List ℕ) (F G : Cnf) → parse input ≡ Ok F → Spells 
 formula_is input F G read spells = let other : parse input ≡ Ok G = spells_parse input G spells in cc
 
 pub proof_report : (input proof : List ℕ) (F : Cnf) (answer : Result (Unit {0}) CheckFault) (result : Result Report AllocError) → parse input ≡ Ok F → GivesCheck answer (check_of F proof)
-    → IfOk result (λ r. r.stdout.items ≡ answer_text answer) → IfOk result (λ r. r.status ≡ status_of answer) → OnOk result (answer ≢ Err no_memory) → IfOk result (IsCheckReport input proof)
-proof_report input proof F answer (Err e) read gives text status other = tt
-proof_report input proof F answer (Ok report) read gives text status other =
+    → IfOk result (λ r. r.stdout.items ≡ answer_text answer) → IfOk result (λ r. r.status ≡ status_of answer) → IfOk result (λ r. r.proof ≡ None) → OnOk result (answer ≢ Err no_memory) → IfOk result (IsCheckReport input proof)
+proof_report input proof F answer (Err e) read gives text status none other = tt
+proof_report input proof F answer (Ok report) read gives text status none other =
     let is : answer ≡ check_of F proof = answer_is answer (check_of F proof) gives other in
     record {
       verified = (
@@ -55,30 +55,31 @@ proof_report input proof F answer (Ok report) read gives text status other =
       );
       status = subst (λ n. (n ≡ 0) ⊎ (n ≡ 1)) (sym status) (one_of_two answer);
       text = text ∙ ap answer_text is ∙ sym (ap (λ found. check_text found proof) read);
+      no_proof = none;
     }
 
 -- ---- the input's fault
 
 -- a fault that is not want of memory is the input's
-fault_stands : (kind : Kind) (P : Type 0) → UnlessMemory kind P → kind ≢ NoMemory → P
-fault_stands NoMemory P is other = absurd (other refl)
-fault_stands NoHeader P is other = is
-fault_stands BadHeader P is other = is
-fault_stands BadToken P is other = is
-fault_stands VariableAboveHeader P is other = is
-fault_stands ClauseNotEnded P is other = is
-fault_stands TooFewClauses P is other = is
-fault_stands TooManyClauses P is other = is
-fault_stands AboveLimit P is other = is
+fault_stands : (kind : Kind) (line : ℕ) (P : Type 0) → UnlessMemory kind line P → kind ≢ NoMemory → P
+fault_stands NoMemory line P is other = absurd (other refl)
+fault_stands NoHeader line P is other = is
+fault_stands BadHeader line P is other = is
+fault_stands BadToken line P is other = is
+fault_stands VariableAboveHeader line P is other = is
+fault_stands ClauseNotEnded line P is other = is
+fault_stands TooFewClauses line P is other = is
+fault_stands TooManyClauses line P is other = is
+fault_stands AboveLimit line P is other = is
 
 unspelled : {P : Type 0} (input : List ℕ) (fault : DimacsFault) (F : Cnf) → parse input ≡ Err fault → Spells input F → P
 unspelled input fault F read spells = let other : parse input ≡ Ok F = spells_parse input F spells in absurd cc
 
 pub input_report : (input proof : List ℕ) (fault : DimacsFault) (result : Result Report AllocError) → Fails fault (parse input)
-    → IfOk result (λ r. r.stdout.items ≡ input_fault_text fault) → IfOk result (λ r. r.status ≡ 1) → OnOk result (fault.kind ≢ NoMemory) → IfOk result (IsCheckReport input proof)
-input_report input proof fault (Err e) fails text status other = tt
-input_report input proof fault (Ok report) fails text status other =
-    let read : parse input ≡ Err fault = fault_stands fault.kind (parse input ≡ Err fault) fails other in
+    → IfOk result (λ r. r.stdout.items ≡ input_fault_text fault) → IfOk result (λ r. r.status ≡ 1) → IfOk result (λ r. r.proof ≡ None) → OnOk result (fault.kind ≢ NoMemory) → IfOk result (IsCheckReport input proof)
+input_report input proof fault (Err e) fails text status none other = tt
+input_report input proof fault (Ok report) fails text status none other =
+    let read : parse input ≡ Err fault = fault_stands fault.kind fault.line (parse input ≡ Err fault) fails other in
     record {
       verified = (
         λ zero. absurd (let no : 1 ≡ 0 = sym status ∙ zero in cc),
@@ -86,4 +87,5 @@ input_report input proof fault (Ok report) fails text status other =
       );
       status = inr status;
       text = text ∙ sym (ap (λ found. check_text found proof) read);
+      no_proof = none;
     }

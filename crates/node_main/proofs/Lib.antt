@@ -1,5 +1,6 @@
 pub mod CheckLemmas
 pub mod LeafLemmas
+pub mod RefusalLemmas
 pub mod SolvingLemmas
 pub mod SplittingLemmas
 pub mod WordLemmas

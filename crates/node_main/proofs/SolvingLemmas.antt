@@ -1,12 +1,13 @@
 -- What is known of a report, put together.
-use Rattle.std.proofs.Common.{◌≡◌, ◌∙◌, ℕ, ◌≤◌, Bool, true, false, List, [], ◌∷◌, ◌++◌, map, Result, Ok, Err, None, IfOk, refl, inl, arith, subst, length-append, if◌then◌else◌}
+use Rattle.std.proofs.Common.{◌≡◌, ◌∙◌, ℕ, ◌≤◌, Bool, true, false, List, [], ◌∷◌, ◌++◌, map, Result, Ok, Err, None, IfOk, refl, inl, arith, ap, length, take, subst, length-append, if◌then◌else◌}
 use Rattle.std.specs.Prelude.{All, ◌⊎◌}
+use Rattle.std.proofs.Math.Seq.{take-append_seam}
 use Rattle.std.proofs.lemmas.List.{get_or_append_left}
 use Rattle.cube_solve.specs.Outcome.{IsModel, allowed}
 use Rattle.dimacs.specs.Answer.{Lines, satisfied_lines}
 use Rattle.dimacs.specs.Base.{pure_literals, base_of}
 use Rattle.dimacs.specs.Cnf.{Cnf, Sat, member_of}
-use Rattle.dimacs.specs.Literal.{IsTrueIn}
+use Rattle.dimacs.specs.Literal.{Clause, IsTrueIn}
 use Rattle.dimacs.specs.declared.answer.Answer.TheVariants.{Unknown}
 use Rattle.icnf.specs.Leaves.{Cube}
 use Rattle.node_main.specs.Solving.{Decides, IsRefused, IsTooLong, IsUndecided, MeetsLimit}
@@ -40,6 +41,10 @@ pub told_unknown : {E : Type 0} (r : Result Report E) (F : Cnf) (leaves : List C
     → IfOk r (λ x. x.stdout.items ≡ Lines Unknown o.witness) → IfOk r (λ x. x.status ≡ 0) → IfOk r (λ x. x.proof ≡ None) → IfOk r (IsUndecided F leaves o)
 told_unknown (Ok x) F leaves o reason text status proof = record { status = status; reason = reason; text = text; proof = proof }
 told_unknown (Err e) F leaves o reason text status proof = tt
+
+-- the first clauses of a formula's base are the formula
+pub front_again : (F B : Cnf) (n : ℕ) → B ≡ base_of F → n ≡ length F.clauses → record B { clauses = take n B.clauses } ≡ F
+front_again F B n e f = rw (e, f) (ap (λ (cs : List Clause). record F { clauses = cs }) (take-append_seam F.clauses (map (λ l. l ∷ []) (pure_literals F))))
 
 -- the limit of an option is below that of clause numbers
 pub allowed_all : (limit : ℕ) → limit ≤ 1000000000 → allowed limit ≡ limit

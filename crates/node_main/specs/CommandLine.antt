@@ -1,12 +1,17 @@
 -- What the words of a command line ask for, by the rules of `clap`.
-use Rattle.std.specs.Prelude.{◌≡◌, ℕ, ◌≤◌, List, Bool, true, false, not, Option, Some, None, option_map, codes, ⊤}
+use Rattle.std.specs.Prelude.{◌≡◌, ◌≢◌, ◌⊎◌, ℕ, ◌≤◌, List, [], ◌∷◌, Bool, true, false, not, Option, Some, None, option_map, codes, ⊤}
 use Rattle.std.specs.Str.Parse.{IsNumeral, digits_value, without_leading_plus}
-use Rattle.clap.specs.Words.{Row, Text, first_of, one_of, subcommand_of, takes}
+use Rattle.clap.specs.Kinds.{IsAmong}
+use Rattle.clap.specs.Words.{Row, Text, fault_of, first_of, one_of, subcommand_of, takes}
+use Rattle.clap.specs.declared.error.kind.ErrorKind.{ErrorKind}
+use Rattle.clap.specs.declared.error.kind.ErrorKind.TheVariants as kind
 use Rattle.node_main.specs.Program.{program}
 use Rattle.node_main.specs.Solving.{AreOptions}
 use Rattle.node_main.specs.declared.options.Options.{Options}
 use Rattle.node_main.specs.declared.request.Request.{Request}
 use Rattle.node_main.specs.declared.request.Request.TheVariants.{Check, Cubes, Solve}
+use Rattle.node_main.specs.declared.request.UsageFault.{UsageFault}
+use Rattle.node_main.specs.declared.request.UsageFault.TheVariants.{Help, NoMemory, Usage}
 
 -- the text is a number of the range in decimal digits, perhaps with a plus before them
 pub record IsNumber (low high : ℕ) (text : Text) (number : ℕ) : Type 0 where
@@ -73,6 +78,22 @@ pub record AsksForSolve (words : List Text) (input : Text) (cubes proof : Option
   pub rows : List Row
   pub command : subcommand_of program words ≡ Some (codes "solve", rows)
   pub names : NamesSolve rows input cubes proof options
+
+-- the words ask for help: a parse of them ends there, if not for want of memory
+abbrev pub AsksForHelp : List Text → Type 0
+AsksForHelp words = fault_of program words ≡ kind.DisplayHelp ∷ []
+
+-- the fault that an error of a parse stands for, by its kind
+abbrev pub StandsFor : ErrorKind → UsageFault → Type 0
+StandsFor k (Help text) = k ≡ kind.DisplayHelp
+StandsFor k Usage = (k ≢ kind.DisplayHelp) × (k ≢ kind.OutOfMemory)
+StandsFor k NoMemory = (k ≡ kind.DisplayHelp) ⊎ (k ≡ kind.OutOfMemory)
+
+-- why words give no request
+abbrev pub IsRefusal : List Text → UsageFault → Type 0
+IsRefusal words (Help text) = IsAmong kind.DisplayHelp (fault_of program words)
+IsRefusal words Usage = AsksForHelp words → ⊥
+IsRefusal words NoMemory = ⊤
 
 -- the words ask for what the request says
 abbrev pub AsksFor : List Text → Request → Type 0

@@ -1,5 +1,6 @@
 pub mod Reports
 pub mod Program
+pub mod Refusals
 pub mod ProofChecks
 pub mod CommandLine
 pub mod Cubing

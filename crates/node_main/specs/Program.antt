@@ -1,5 +1,6 @@
 -- The rules of the program's words, as `clap` takes them.
 use Rattle.std.specs.Prelude.{ℕ, Bool, true, false, [], ◌∷◌, Some, codes}
+use Rattle.clap.specs.Simple.{on_top}
 use Rattle.clap.specs.Words.{App, Rule, Text, new_app, new_rule, with_rule, with_subcommand}
 use Rattle.clap.specs.declared.builder.ArgAction.TheVariants.{Set, SetTrue}
 use Rattle.clap.specs.declared.builder.value_parser.ValueParser.TheVariants as vp
@@ -49,5 +50,9 @@ solve_app =
     (named_file_rule (codes "cubes"))) (flag_rule (codes "quiet") letter_q)) (flag_rule (codes "no-witness") letter_n))
     (file_rule (codes "INPUT") true)) (file_rule (codes "PROOF") false)
 
+-- the program, of which a command has to be named
+abbrev pub bare_program : App
+bare_program = on_top (λ s. record s { subcommand_required = true }) (new_app (codes "satcluster"))
+
 abbrev pub program : App
-program = with_subcommand (with_subcommand (with_subcommand (new_app (codes "satcluster")) solve_app.top) check_app.top) cubes_app.top
+program = with_subcommand (with_subcommand (with_subcommand bare_program solve_app.top) check_app.top) cubes_app.top

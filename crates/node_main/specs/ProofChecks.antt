@@ -1,5 +1,5 @@
 -- A check of a proof that comes in pieces.
-use Rattle.std.specs.Prelude.{◌≡◌, ◌↔◌, ◌⊎◌, ℕ, List, Result, Ok, Err}
+use Rattle.std.specs.Prelude.{◌≡◌, ◌↔◌, ◌⊎◌, ℕ, List, Result, Ok, Err, None}
 use Rattle.dimacs.specs.Cnf.{Cnf}
 use Rattle.dimacs.specs.Reading.{parse, Fails}
 use Rattle.dimacs.specs.Spelling.{Spells}
@@ -28,3 +28,5 @@ pub record IsCheckReport (input proof : List ℕ) (report : Report) : Type 0 whe
   pub status : (report.status ≡ 0) ⊎ (report.status ≡ 1)
   -- which lines are printed, and so which fault, in which line
   pub text : report.stdout.items ≡ check_text (parse input) proof
+  -- no proof is handed out
+  pub no_proof : report.proof ≡ None

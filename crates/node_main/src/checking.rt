@@ -30,6 +30,7 @@ pub fn run_check(alloc: Global, input: &[u8], proof: &[u8]) -> Result<Report, Al
     ensures status { IfOk result (λ r. (r.status ≡ 0) ⊎ (r.status ≡ 1)) }
     // Which lines are printed, and so which fault, in which line.
     ensures text { IfOk result (λ r. r.stdout.items ≡ check_text (parse input.now) proof.now) }
+    ensures proof { IfOk result (λ r. r.proof ≡ None) }
 {
     let mut check = ProofCheck::new(alloc, input);
     check.feed(proof);

@@ -2,7 +2,7 @@
 
 ghost use Rattle.std.specs.Prelude.{◌≡◌, ℕ, List, Option, IfOk, IfErr, IfSome, IfNone, map, option_map};
 ghost use Rattle.clap.specs.Words.{found_of, kind_of, rows_of};
-ghost use Rattle.node_main.specs.CommandLine.{AreTaken, AsksFor, AsksForCheck, AsksForCubes, AsksForSolve, IsInRange, IsNumber, NamesCubes, NamesFiles, NamesNumber, NamesOptions, NamesSolve};
+ghost use Rattle.node_main.specs.CommandLine.{AreTaken, AsksFor, AsksForCheck, AsksForCubes, AsksForSolve, IsInRange, IsNumber, IsRefusal, NamesCubes, NamesFiles, NamesNumber, NamesOptions, NamesSolve, StandsFor};
 ghost use Rattle.node_main.specs.declared.options.Options.{Options};
 
 use crate::options::Options;
@@ -14,7 +14,7 @@ use std::alloc::Global;
 
 /// The fault that an error of the parser stands for.
 fn fault_of(alloc: Global, error: &Error) -> UsageFault
-    ensures { kind_of error.now ≡ ErrorKind.OutOfMemory → result ≡ UsageFault.NoMemory }
+    ensures { StandsFor (kind_of error.now) result }
 {
     match error.kind() {
         ErrorKind::DisplayHelp => match error.to_string(alloc) {
@@ -105,7 +105,7 @@ fn solve_request<'a>(
     }
 }
 
-/// The request that the words make; the first word is the program's name.
+/// The request that the words make, or why there is none; the first word is the program's name.
 pub fn command<'a>(alloc: Global, words: &'a [&'a str]) -> Result<Request<'a>, UsageFault>
     // A request is what the words ask for, by the rules of the command line.
     ensures asks { IfOk result (AsksFor (map (λ w. w.now) words.now)) }
@@ -118,6 +118,8 @@ pub fn command<'a>(alloc: Global, words: &'a [&'a str]) -> Result<Request<'a>, U
         → AsksForCubes (map (λ w. w.now) words.now) input depth → IfErr result (λ f. f ≡ UsageFault.NoMemory) }
     ensures solve_complete { (input : List ℕ) (cubes proof : Option (List ℕ)) (options : Options) → AreTaken (map (λ w. w.now) words.now)
         → AsksForSolve (map (λ w. w.now) words.now) input cubes proof options → IfErr result (λ f. f ≡ UsageFault.NoMemory) }
+    // Help is handed out where the words ask for it, and nowhere else.
+    ensures refused { IfErr result (IsRefusal (map (λ w. w.now) words.now)) }
 {
     let matches = match satcluster(alloc)?.try_get_matches_from(words) {
         Ok(matches) => matches,

@@ -1,6 +1,6 @@
 //! The run of `cubes`.
 
-ghost use Rattle.std.specs.Prelude.{◌≡◌, ◌≤◌, ◌↔◌, ◌⊎◌, IfOk};
+ghost use Rattle.std.specs.Prelude.{◌≡◌, ◌≤◌, ◌↔◌, ◌⊎◌, IfOk, None};
 ghost use Rattle.dimacs.specs.Cnf.{Cnf};
 ghost use Rattle.dimacs.specs.Spelling.{Spells};
 ghost use Rattle.dimacs.specs.Reading.{parse};
@@ -17,6 +17,7 @@ fn listed(alloc: Global, formula: &Formula, depth: u32) -> Result<Report, AllocE
     requires { depth ≤ 16 }
     ensures text { IfOk result (λ r. ShowsCubes formula.now depth r.stdout.items) }
     ensures status { IfOk result (λ r. r.status ≡ 0) }
+    ensures proof { IfOk result (λ r. r.proof ≡ None) }
 {
     let tree = tree(alloc, formula, depth)?;
     let mut report = Report::of(alloc, b"", 0)?;
@@ -32,6 +33,7 @@ pub fn run_cubes(alloc: Global, input: &[u8], depth: u32) -> Result<Report, Allo
     ensures status { IfOk result (λ r. (r.status ≡ 0) ⊎ (r.status ≡ 1)) }
     // The formula's clauses and the cubes of its tree, or the fault of the input.
     ensures text { IfOk result (λ r. PrintsCubes (parse input.now) depth r.stdout.items) }
+    ensures proof { IfOk result (λ r. r.proof ≡ None) }
 {
     match dimacs::read(alloc, input) {
         Ok(formula) => listed(alloc, &formula, depth),

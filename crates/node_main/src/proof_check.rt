@@ -1,13 +1,14 @@
 //! A check of a proof that comes in pieces.
 
-ghost use Rattle.std.specs.Prelude.{◌≡◌, ◌≢◌, ◌++◌, [], ℕ, List, Ok, Err, IfOk, OnOk, is_ok, if◌then◌else◌};
+ghost use Rattle.std.specs.Prelude.{◌≡◌, ◌≢◌, ◌++◌, [], ℕ, List, Ok, Err, None, IfOk, OnOk, is_ok, if◌then◌else◌};
+ghost use Rattle.dimacs.specs.Reading.{GivesFormula, parse};
 ghost use Rattle.lrat_check.specs.Checking.{no_memory};
 ghost use Rattle.node_main.specs.ProofChecks.{HasTaken, IsCheckReport, KeepsNoLine};
 ghost use Rattle.node_main.specs.Reports.{answer_text, input_fault_text};
 
 use crate::checking::faulty_input;
 use crate::report::{Report, put_fault};
-use dimacs::{DimacsFault, Kind};
+use dimacs::{DimacsFault, Formula, Kind};
 use lrat_check::{CheckFault, StreamChecker};
 use std::alloc::{AllocError, Global};
 use std::marker::Model;
@@ -16,6 +17,7 @@ use std::marker::Model;
 fn refused_proof(alloc: Global, fault: CheckFault) -> Result<Report, AllocError>
     ensures text { IfOk result (λ r. r.stdout.items ≡ answer_text (Err fault)) }
     ensures status { IfOk result (λ r. r.status ≡ 1) }
+    ensures proof { IfOk result (λ r. r.proof ≡ None) }
 {
     let mut report = Report::of(alloc, b"s NOT VERIFIED\nc ", 1)?;
     put_fault(&mut report.stdout, fault.line, fault.number)?;
@@ -26,6 +28,7 @@ fn refused_proof(alloc: Global, fault: CheckFault) -> Result<Report, AllocError>
 fn answered(alloc: Global, answer: Result<(), CheckFault>) -> Result<Report, AllocError>
     ensures text { IfOk result (λ r. r.stdout.items ≡ answer_text answer) }
     ensures status { IfOk result (λ r. r.status ≡ (if is_ok answer then 0 else 1)) }
+    ensures proof { IfOk result (λ r. r.proof ≡ None) }
     ensures memory { OnOk result (answer ≢ Err no_memory) }
 {
     match answer {
@@ -39,6 +42,7 @@ fn answered(alloc: Global, answer: Result<(), CheckFault>) -> Result<Report, All
 fn unread(alloc: Global, fault: DimacsFault) -> Result<Report, AllocError>
     ensures text { IfOk result (λ r. r.stdout.items ≡ input_fault_text fault) }
     ensures status { IfOk result (λ r. r.status ≡ 1) }
+    ensures proof { IfOk result (λ r. r.proof ≡ None) }
     ensures memory { OnOk result (fault.kind ≢ Kind.NoMemory) }
 {
     if fault.kind == Kind::NoMemory {
@@ -47,11 +51,11 @@ fn unread(alloc: Global, fault: DimacsFault) -> Result<Report, AllocError>
     faulty_input(alloc, fault)
 }
 
-/// Begins to check a proof of the formula that an input spells.
-fn begin(alloc: Global, input: &[u8]) -> Result<StreamChecker, DimacsFault>
-    ensures { HasTaken input.now result [] }
+/// Begins to check a proof of a formula that was read, or not.
+fn begin(alloc: Global, found: Result<Formula, DimacsFault>) -> Result<StreamChecker, DimacsFault>
+    ensures { (input : List ℕ) → GivesFormula found (parse input) → HasTaken input result [] }
 {
-    let formula = match dimacs::read(alloc, input) {
+    let formula = match found {
         Ok(formula) => formula,
         Err(fault) => return Err(fault),
     };
@@ -90,7 +94,20 @@ impl ProofCheck {
     {
         ProofCheck {
             alloc,
-            state: begin(alloc, input),
+            state: begin(alloc, dimacs::read(alloc, input)),
+        }
+    }
+
+    /// The same of an input that is let go as soon as it is read.
+    pub fn taking(alloc: Global, input: Vec<u8>) -> ProofCheck
+        ensures taken { HasTaken input.items result [] }
+        ensures kept { KeepsNoLine result }
+    {
+        let found = dimacs::read(alloc, input.as_slice());
+        drop(input);
+        ProofCheck {
+            alloc,
+            state: begin(alloc, found),
         }
     }
 

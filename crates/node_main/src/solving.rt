@@ -14,7 +14,7 @@ ghost use Rattle.node_main.specs.Splitting.{StaysWithin};
 use crate::checking::faulty_input;
 use crate::options::Options;
 use crate::report::Report;
-use crate::splitting::{Split, faulty_cubes, split_of};
+use crate::splitting::{Split, faulty_cubes, split_of, split_taking};
 use cube_solve::{Outcome, solve};
 use cube_split::{Preamble, preamble};
 use dimacs::{Answer, Assignment, Base, DimacsFault, Formula, Kind, answer_lines};
@@ -85,26 +85,29 @@ fn refuted(
     }
 }
 
-/// The report of a formula that is split so.
+/// The report of a formula that is split so. While the leaves are searched its clauses stand in the base alone.
 fn decided(
     alloc: Global,
-    formula: &Formula,
+    formula: Formula,
     tree: &Tree,
     options: &Options,
 ) -> Result<Report, AllocError>
     requires options { AreOptions options.now }
-    requires within { AreWithin formula.now.vars tree.now }
-    ensures { IfOk result (Decides formula.now tree.now options.now) }
+    requires within { AreWithin formula.vars tree.now }
+    ensures { IfOk result (Decides formula tree.now options.now) }
 {
-    let preamble = preamble(alloc, formula)?;
-    let base = preamble.base(alloc, formula)?;
+    let preamble = preamble(alloc, &formula)?;
+    let _ = formula.vars();
+    let clauses = formula.len();
+    let base = preamble.base_from(formula)?;
     match close_leaves(alloc, &base, tree, options.limit)? {
         Ending::Model(values) => {
             answered(alloc, Answer::Satisfiable(&values), options.witness, 10)
         }
         Ending::Limit => answered(alloc, Answer::Unknown, options.witness, 0),
         Ending::Closed(fragments) => {
-            refuted(alloc, formula, &preamble, tree, &fragments, options)
+            let formula = base.into_formula(clauses);
+            refuted(alloc, &formula, &preamble, tree, &fragments, options)
         }
     }
 }
@@ -123,13 +126,13 @@ fn refused(alloc: Global, fault: DimacsFault, options: &Options) -> Result<Repor
 /// The report of a formula, or of its cubes where they are refused.
 fn reported(
     alloc: Global,
-    formula: &Formula,
+    formula: Formula,
     split: Split,
     options: &Options,
 ) -> Result<Report, AllocError>
     requires options { AreOptions options.now }
-    requires within { StaysWithin formula.now.vars split }
-    ensures { IfOk result (λ r. Answers formula.now options.now r split) }
+    requires within { StaysWithin formula.vars split }
+    ensures { IfOk result (λ r. Answers formula options.now r split) }
 {
     match split {
         Split::By(tree) => decided(alloc, formula, &tree, options),
@@ -156,5 +159,26 @@ pub fn solve_here(
         Err(fault) => return refused(alloc, fault, options),
     };
     let split = split_of(alloc, &formula, cubes, options.depth)?;
-    reported(alloc, &formula, split, options)
+    reported(alloc, formula, split, options)
+}
+
+/// The same of bytes that are let go as soon as they are read.
+pub fn solve_taking(
+    alloc: Global,
+    input: Vec<u8>,
+    cubes: Option<Vec<u8>>,
+    options: &Options,
+) -> Result<Report, AllocError>
+    requires { AreOptions options.now }
+    ensures { IfOk result (Solves input.items (option_map (λ v. v.items) cubes) options.now) }
+{
+    let found = dimacs::read(alloc, input.as_slice());
+    drop(input);
+    let formula = match found {
+        Ok(formula) => formula,
+        Err(fault) if fault.kind == Kind::NoMemory => return Err(AllocError),
+        Err(fault) => return refused(alloc, fault, options),
+    };
+    let split = split_taking(alloc, &formula, cubes, options.depth)?;
+    reported(alloc, formula, split, options)
 }

@@ -82,3 +82,20 @@ pub(crate) fn split_of(
         None => Ok(Split::By(tree(alloc, formula, depth)?)),
     }
 }
+
+/// The same of cubes that are let go as soon as they are read.
+pub(crate) fn split_taking(
+    alloc: Global,
+    formula: &Formula,
+    cubes: Option<Vec<u8>>,
+    depth: u32,
+) -> Result<Split, AllocError>
+    requires { depth ≤ 16 }
+    ensures splits { IfOk result (Splits formula.now (option_map (λ v. v.items) cubes) depth) }
+    ensures within { IfOk result (StaysWithin formula.now.vars) }
+{
+    match cubes {
+        Some(cubes) => split_of(alloc, formula, Some(cubes.as_slice()), depth),
+        None => split_of(alloc, formula, None, depth),
+    }
+}

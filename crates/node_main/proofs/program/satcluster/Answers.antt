@@ -1,6 +1,7 @@
-use Rattle.std.proofs.Common.{rules, ◌≡◌, ◌∙◌, Bool, true, false, not, ◌&&◌, ap, ap₂, codes, refl}
+use Rattle.std.proofs.Common.{rules, ◌≡◌, ◌∙◌, Bool, true, false, not, ◌&&◌, ap, ap₂, refl}
 use Rattle.std.proofs.lemmas.Result.{IfOk-weaker}
-use Rattle.clap.specs.Words.{App, app_of, new_app, with_subcommand}
+use Rattle.clap.specs.Words.{App, app_of, with_subcommand}
+use Rattle.node_main.specs.Program.{bare_program}
 use Rattle.node_main.proofs.program.satcluster.Goals as goal
 
 -- of a command with plain fields the third says that it has no globals
@@ -12,7 +13,7 @@ no_globals true true false rest h = refl
 
 pub returns : goal.returns
 returns c =
-    let start : app_of c.about.result ≡ new_app (codes "satcluster") = search rules in
+    let start : app_of c.subcommand_required.result ≡ bare_program = search rules in
     let solve = c.in_ok-solve.ensures in
     let check = c.in_ok-check.ensures in
     let cubes = c.in_ok-cubes.ensures in
