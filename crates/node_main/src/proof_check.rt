@@ -59,7 +59,7 @@ fn begin(alloc: Global, found: Result<Formula, DimacsFault>) -> Result<StreamChe
         Ok(formula) => formula,
         Err(fault) => return Err(fault),
     };
-    match StreamChecker::new(alloc, &formula) {
+    match StreamChecker::of(alloc, formula) {
         Ok(stream) => Ok(stream),
         Err(error) => Err(DimacsFault::from(error)),
     }
