@@ -4,7 +4,12 @@
 ghost use Rattle.std.specs.Prelude.{◌≤◌};
 ghost use Rattle.node_main.specs.Solving.{AreOptions};
 
-use node_main::{Options, ProofCheck, Report, Request, UsageFault, command, run_cubes, solve_here};
+mod proof_file;
+
+use node_main::{
+    Options, ProofCheck, Refusal, Report, Request, UsageFault, command, run_cubes, solve_taking,
+};
+use proof_file::write_proof;
 use std::alloc::AllocError;
 use std::fs::File;
 use std::io::{Read, Write};
@@ -12,29 +17,22 @@ use std::process::ExitCode;
 use std::rt::Runtime;
 use std::{env, fs, io};
 
-/// The line that stands for a run without a report; its status is 1.
-type Refusal = &'static str;
-
-const NO_MEMORY: &str = "c no memory\n";
-
-const USAGE: &str = "c usage\n";
-
 /// How many bytes of a proof are read at a time.
 const PIECE: usize = 1_048_576;
 
 fn no_memory<E: Drop>(_error: E) -> Refusal {
-    NO_MEMORY
+    Refusal::NoMemory
 }
 
-/// The line of a file that cannot be read.
+/// The refusal that an error of the system stands for.
 fn unread(error: io::Error, refusal: Refusal) -> Refusal {
     match error.kind() {
-        io::ErrorKind::OutOfMemory => NO_MEMORY,
+        io::ErrorKind::OutOfMemory => Refusal::NoMemory,
         _ => refusal,
     }
 }
 
-/// The file's bytes, or the line that says that it cannot be read.
+/// The file's bytes, or the refusal of a file that cannot be read.
 fn read<R: Runtime + AllocGlobal>(
     rt: &R,
     path: &str,
@@ -43,31 +41,15 @@ fn read<R: Runtime + AllocGlobal>(
     fs::read(rt, path).map_err(|error| unread(error, refusal))
 }
 
-/// Writes the proof, where there is one and a file is named for it.
-fn write_proof<R: Runtime + AllocGlobal>(
-    rt: &R,
-    path: Option<&str>,
-    proof: Option<&Vec<u8>>,
-) -> Result<(), Refusal> {
-    match (path, proof) {
-        (Some(path), Some(proof)) => match fs::write(rt, path, proof.as_slice()) {
-            Ok(()) => Ok(()),
-            Err(error) if error.kind() == io::ErrorKind::OutOfMemory => Err(NO_MEMORY),
-            Err(_) => Err("c cannot write proof\n"),
-        },
-        _ => Ok(()),
-    }
-}
-
 /// The bytes of the file of cubes, where one is named.
 fn read_cubes<R: Runtime + AllocGlobal>(
     rt: &R,
     path: Option<&str>,
 ) -> Result<Option<Vec<u8>>, Refusal> {
     match path {
-        Some(path) => match read(rt, path, "c cannot read cubes\n") {
+        Some(path) => match read(rt, path, Refusal::Cubes) {
             Ok(bytes) => Ok(Some(bytes)),
-            Err(line) => Err(line),
+            Err(refusal) => Err(refusal),
         },
         None => Ok(None),
     }
@@ -82,11 +64,13 @@ fn solve<R: Runtime + AllocGlobal>(
 ) -> Result<Report, Refusal>
     requires { AreOptions options.now }
 {
-    let input = read(rt, input, "c cannot read input\n")?;
-    let cubes = read_cubes(rt, cubes)?;
-    let cubes = cubes.as_ref().map(|bytes| bytes.as_slice());
-    let report = solve_here(rt.alloc(), input.as_slice(), cubes, options).map_err(no_memory)?;
-    write_proof(rt, proof, report.proof.as_ref())?;
+    let text = read(rt, input, Refusal::Input)?;
+    let leaves = read_cubes(rt, cubes)?;
+    let report = solve_taking(rt.alloc(), text, leaves, options).map_err(no_memory)?;
+    match (proof, &report.proof) {
+        (Some(path), Some(bytes)) => write_proof(rt, path, bytes.as_slice(), input, cubes)?,
+        _ => {}
+    }
     Ok(report)
 }
 
@@ -96,28 +80,22 @@ fn feed<R: Runtime + AllocGlobal>(
     path: &str,
     check: &mut ProofCheck,
 ) -> Result<(), Refusal> {
-    const CANNOT_READ: &str = "c cannot read proof\n";
-    let mut file = File::open(rt, path).map_err(|error| unread(error, CANNOT_READ))?;
+    let mut file = File::open(rt, path).map_err(|error| unread(error, Refusal::Proof))?;
     let mut piece = vec![in rt.alloc(); 0; PIECE].map_err(no_memory)?;
     for _ in 0..u64::MAX {
         match file.read(&mut piece) {
             Ok(0) => return Ok(()),
             Ok(len) => check.feed(&piece[..len]),
             Err(error) if error.kind() == io::ErrorKind::Interrupted => {}
-            Err(error) => return Err(unread(error, CANNOT_READ)),
+            Err(error) => return Err(unread(error, Refusal::Proof)),
         }
     }
-    Err(CANNOT_READ)
-}
-
-/// Begins to check a proof of the input; the input's bytes are let go before the proof comes.
-fn begin<R: Runtime + AllocGlobal>(rt: &R, input: &str) -> Result<ProofCheck, Refusal> {
-    let input = read(rt, input, "c cannot read input\n")?;
-    Ok(ProofCheck::new(rt.alloc(), input.as_slice()))
+    Err(Refusal::Proof)
 }
 
 fn check<R: Runtime + AllocGlobal>(rt: &R, input: &str, proof: &str) -> Result<Report, Refusal> {
-    let mut check = begin(rt, input)?;
+    let text = read(rt, input, Refusal::Input)?;
+    let mut check = ProofCheck::taking(rt.alloc(), text);
     feed(rt, proof, &mut check)?;
     check.finish().map_err(no_memory)
 }
@@ -125,12 +103,13 @@ fn check<R: Runtime + AllocGlobal>(rt: &R, input: &str, proof: &str) -> Result<R
 fn cubes<R: Runtime + AllocGlobal>(rt: &R, input: &str, depth: u32) -> Result<Report, Refusal>
     requires { depth ≤ 16 }
 {
-    let input = read(rt, input, "c cannot read input\n")?;
+    let input = read(rt, input, Refusal::Input)?;
     run_cubes(rt.alloc(), input.as_slice(), depth).map_err(no_memory)
 }
 
-fn answer<R: Runtime + AllocGlobal>(rt: &R, words: &[&str]) -> Result<Report, Refusal> {
-    match command(rt.alloc(), words) {
+/// The report of the words, or the line of a run without one.
+fn answer<R: Runtime + AllocGlobal>(rt: &R, words: &[&str]) -> Result<Report, &'static str> {
+    let (report, quiet) = match command(rt.alloc(), words) {
         Ok(
             Request::Solve {
                 input,
@@ -138,30 +117,31 @@ fn answer<R: Runtime + AllocGlobal>(rt: &R, words: &[&str]) -> Result<Report, Re
                 proof,
                 options,
             },
-        ) => {
-            let report = solve(rt, input, cubes, proof, &options);
-            report.map_err(|line| if options.quiet { "" } else { line })
-        }
-        Ok(Request::Check { input, proof }) => check(rt, input, proof),
-        Ok(Request::Cubes { input, depth }) => cubes(rt, input, depth),
+        ) => (solve(rt, input, cubes, proof, &options), options.quiet),
+        Ok(Request::Check { input, proof }) => (check(rt, input, proof), false),
+        Ok(Request::Cubes { input, depth }) => (cubes(rt, input, depth), false),
         Err(UsageFault::Help(text)) => {
-            Report::of(rt.alloc(), text.as_str().as_bytes(), 0).map_err(no_memory)
+            let report = Report::of(rt.alloc(), text.as_str().as_bytes(), 0);
+            (report.map_err(no_memory), false)
         }
-        Err(UsageFault::Usage) => Err(USAGE),
-        Err(UsageFault::NoMemory) => Err(NO_MEMORY),
-    }
+        Err(UsageFault::Usage) => (Err(Refusal::Usage), false),
+        Err(UsageFault::NoMemory) => (Err(Refusal::NoMemory), false),
+    };
+    report.map_err(|refusal| refusal.line(quiet))
 }
 
 /// The program's words; a word that is no text is refused as the others are.
 fn words<R: Runtime + AllocGlobal>(rt: &R) -> Result<Vec<String>, Refusal> {
-    let words = env::args(rt).map_err(|_| USAGE)?;
+    let words = env::args(rt).map_err(|error| unread(error, Refusal::Usage))?;
     words.collect(rt.alloc()).map_err(no_memory)
 }
 
-fn run<R: Runtime + AllocGlobal>(rt: &R) -> Result<Report, Refusal> {
-    let owned = words(rt)?;
+/// The report of the program's words. Where they cannot be copied it is not known whether they have `-q`.
+fn run<R: Runtime + AllocGlobal>(rt: &R) -> Result<Report, &'static str> {
+    let owned = words(rt).map_err(|refusal| refusal.line(false))?;
     let lent: Result<Vec<&str>, AllocError> = owned.iter().map(|w| w.as_str()).collect(rt.alloc());
-    answer(rt, lent.map_err(no_memory)?.as_slice())
+    let lent = lent.map_err(|_| Refusal::NoMemory.line(false))?;
+    answer(rt, lent.as_slice())
 }
 
 fn print<R: Runtime + AllocGlobal>(rt: &R, text: &[u8]) -> io::Result<()> {

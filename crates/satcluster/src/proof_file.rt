@@ -1,0 +1,125 @@
+//! Writes a proof to its file, whole or not at all wherever a file can be made beside it.
+
+use node_main::Refusal;
+use std::fs::{File, Metadata, OpenFile, OpenOptions};
+use std::io::{ErrorKind, Write};
+use std::os::unix::fs::MetadataExt;
+use std::rt::Runtime;
+use std::{fs, io};
+
+/// How many names are tried for the file beside the proof's.
+const NAMES: u32 = 100;
+
+/// How a proof is brought to its place.
+enum Way {
+    /// In a new file beside it, which then takes the place of the old one, and its permissions.
+    Beside(Option<Metadata>),
+    /// In place: there is something else than a file.
+    InPlace,
+}
+
+/// The refusal of a proof that cannot be written.
+fn unwritten(error: io::Error) -> Refusal {
+    match error.kind() {
+        ErrorKind::OutOfMemory => Refusal::NoMemory,
+        _ => Refusal::Writing,
+    }
+}
+
+/// Whether two paths lead to one file, or are the same where there is none.
+fn is_same_file<R: Runtime>(rt: &R, path: &str, other: &str) -> bool {
+    match (fs::metadata(rt, path), fs::metadata(rt, other)) {
+        (Ok(found), Ok(known)) => found.dev() == known.dev() && found.ino() == known.ino(),
+        _ => path == other,
+    }
+}
+
+/// What stands at the path decides how it is written. A file that may not be written is refused, though another could take
+/// its place.
+fn way_to<R: Runtime>(rt: &R, path: &str) -> io::Result<Way> {
+    match fs::symlink_metadata(rt, path) {
+        Ok(old) if old.is_file() => {
+            let _ = OpenOptions::new().write(true).open(rt, path)?;
+            Ok(Way::Beside(Some(old)))
+        }
+        Err(error) if error.kind() == ErrorKind::NotFound => Ok(Way::Beside(None)),
+        _ => Ok(Way::InPlace),
+    }
+}
+
+/// A new file beside the path, and its name; none where no file can be made there.
+fn make_beside<R: Runtime + AllocGlobal>(
+    rt: &R,
+    path: &str,
+) -> io::Result<Option<(R::File, String)>> {
+    for number in 0..NAMES {
+        let name = format!(in rt.alloc(); "{path}.part{number}")?;
+        match File::create_new(rt, name.as_str()) {
+            Ok(file) => return Ok(Some((file, name))),
+            Err(error) if error.kind() == ErrorKind::AlreadyExists => {}
+            Err(_) => return Ok(None),
+        }
+    }
+    Ok(None)
+}
+
+/// Fills a new file, and tells whether it could take the place of what stands at the path.
+fn replace<R: Runtime>(
+    rt: &R,
+    path: &str,
+    proof: &[u8],
+    made: (R::File, &str),
+    old: Option<&Metadata>,
+) -> io::Result<bool> {
+    let (mut file, name) = made;
+    if let Some(old) = old {
+        if file.set_permissions(old.permissions()).is_err() {
+            return Ok(false);
+        }
+    }
+    file.write_all(proof)?;
+    Ok(fs::rename(rt, name, path).is_ok())
+}
+
+/// Writes the proof beside its place, where no file is left; in place where none can be made beside it or put there.
+fn write_beside<R: Runtime + AllocGlobal>(
+    rt: &R,
+    path: &str,
+    proof: &[u8],
+    old: Option<&Metadata>,
+) -> io::Result<()> {
+    let Some((file, name)) = make_beside(rt, path)? else {
+        return fs::write(rt, path, proof);
+    };
+    let replaced = replace(rt, path, proof, (file, name.as_str()), old);
+    if let Ok(true) = replaced {
+        return Ok(());
+    }
+    let _ = fs::remove_file(rt, name.as_str());
+    replaced?;
+    fs::write(rt, path, proof)
+}
+
+/// Writes a proof to the file at a path, unless it is one of the files that were read.
+pub(crate) fn write_proof<R: Runtime + AllocGlobal>(
+    rt: &R,
+    path: &str,
+    proof: &[u8],
+    input: &str,
+    cubes: Option<&str>,
+) -> Result<(), Refusal> {
+    let was_read = is_same_file(rt, path, input)
+        || match cubes {
+            Some(cubes) => is_same_file(rt, path, cubes),
+            None => false,
+        };
+    if was_read {
+        return Err(Refusal::Writing);
+    }
+    let written = match way_to(rt, path) {
+        Ok(Way::Beside(old)) => write_beside(rt, path, proof, old.as_ref()),
+        Ok(Way::InPlace) => fs::write(rt, path, proof),
+        Err(error) => Err(error),
+    };
+    written.map_err(unwritten)
+}
