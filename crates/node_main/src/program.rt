@@ -95,7 +95,12 @@ fn check<'a>(alloc: Global) -> Result<Command<'a>, AllocError>
     ensures { IfOk result (λ c. app_of c ≡ check_app) }
 {
     let input = file(alloc, "INPUT", true, INPUT);
-    let proof = file(alloc, "PROOF", true, "The proof of it, an LRAT file that is read");
+    let proof = file(
+        alloc,
+        "PROOF",
+        true,
+        "The proof of it, an LRAT file that is read",
+    );
     Command::new(alloc, "check")
         .about("Checks an LRAT proof of a DIMACS formula")
         .after_help("Status: 0 the proof is accepted, 1 it is not, or an error")
