@@ -2,8 +2,9 @@
 
 ghost use Rattle.std.specs.Prelude.{◌≤◌};
 
-use cube_split::{Chooser, preamble, tree};
+use cube_split::{Chooser, grow, preamble, tree};
 use dimacs::{Formula, Lit, Var, read};
+use icnf::Tree;
 use node_main::run_cubes;
 use std::alloc::Global;
 use std::process::Abort;
@@ -36,6 +37,26 @@ fn a_preamble_has_the_units_of_pure_literals_alone(rt: HostRuntime) -> Result<()
     let formula = read(rt.alloc(), b"p cnf 2 2\n1 2 0\n1 -2 0\n")?;
     let made = preamble(rt.alloc(), &formula)?;
     assert_eq!(rt; made.units(), [Lit::positive(Var::new(1))].as_slice());
+    Ok(())
+}
+
+#[test]
+fn a_base_has_the_units_behind_the_formula(rt: HostRuntime) -> Result<(), Fail> {
+    let formula = read(rt.alloc(), b"p cnf 2 2\n1 2 0\n1 -2 0\n")?;
+    let made = preamble(rt.alloc(), &formula)?;
+    let base = made.base(rt.alloc(), &formula)?;
+    assert_eq!(rt; base.len(), 3);
+    assert_eq!(rt; base.clause(2), made.units());
+    Ok(())
+}
+
+#[test]
+fn a_leaf_is_split_the_positive_branch_first(rt: HostRuntime) -> Result<(), Fail> {
+    let mut grown = Tree::leaf(rt.alloc())?;
+    grow(&mut grown, 0, Var::new(2))?;
+    assert_eq!(rt; grown.leaves(), 2);
+    assert_eq!(rt; grown.cube(0), [Lit::positive(Var::new(2))].as_slice());
+    assert_eq!(rt; grown.cube(1), [Lit::negative(Var::new(2))].as_slice());
     Ok(())
 }
 

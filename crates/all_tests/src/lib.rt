@@ -2,13 +2,19 @@
 #![tactic(auto)]
 
 #[cfg(test)]
+mod arenas;
+#[cfg(test)]
 mod candidates;
 #[cfg(test)]
 mod checks;
 #[cfg(test)]
 mod cubes;
 #[cfg(test)]
+mod deciding;
+#[cfg(test)]
 mod deletions;
+#[cfg(test)]
+mod formulas;
 #[cfg(test)]
 mod fragments;
 #[cfg(test)]
@@ -17,6 +23,8 @@ mod joining;
 mod leaves;
 #[cfg(test)]
 mod lines;
+#[cfg(test)]
+mod messages;
 #[cfg(test)]
 mod nodes;
 #[cfg(test)]
@@ -27,5 +35,13 @@ mod profile;
 mod propagators;
 #[cfg(test)]
 mod solving;
+#[cfg(test)]
+mod steps;
+#[cfg(test)]
+mod trails;
+#[cfg(test)]
+mod trees;
+#[cfg(test)]
+mod units;
 #[cfg(test)]
 mod words;

@@ -21,11 +21,17 @@ fn all_fault(rt: &impl Abort, alloc: Global, rows: &[(&'static [u8], u8)]) {
 
 #[test]
 fn a_line_ends_where_it_should(rt: HostRuntime) {
-    let rows: [(&'static [u8], u8); 6] = [
+    let rows: [(&'static [u8], u8); 12] = [
         (b"5 2 0 1 2 0\n", 0),
         (b"5 2 0 1 2 0", 2),
+        (b"x", 2),
+        (b"", 0),
         (b"5 2 0 1 2\n", 3),
+        (b"5\n", 3),
         (b"5 2\n", 3),
+        (b"5 2 0\n", 3),
+        (b"5 2 0 -1\n", 3),
+        (b"5 d\n", 3),
         (b"5 d 1\n", 3),
         (b"5 2 0 1 2 0 0\n", 1),
     ];
@@ -34,13 +40,18 @@ fn a_line_ends_where_it_should(rt: HostRuntime) {
 
 #[test]
 fn a_number_is_within_its_limit(rt: HostRuntime) {
-    let rows: [(&'static [u8], u8); 8] = [
+    let rows: [(&'static [u8], u8); 13] = [
         (b"5 2000001 0 0\n", 4),
+        (b"5 -2000001 0 0\n", 4),
+        (b"5 2000001 x\n", 4),
         (b"5 2000000 0 0\n", 0),
         (b"281474976710655 0 0\n", 0),
         (b"281474976710656 0 0\n", 4),
         (b"281474976710656 d 1 0\n", 4),
+        (b"5 2 0 281474976710656 0\n", 4),
         (b"5 1 0 -281474976710656 0\n", 4),
+        (b"5 d 281474976710656 0\n", 4),
+        (b"5 18446744073709551617 0 0\n", 4),
         (b"-281474976710656 1 0 0\n", 1),
         (b"99999999999999999999999999999999999999999 1 0 0\n", 4),
     ];
@@ -49,8 +60,9 @@ fn a_number_is_within_its_limit(rt: HostRuntime) {
 
 #[test]
 fn a_token_stands_where_it_may(rt: HostRuntime) {
-    let rows: [(&'static [u8], u8); 12] = [
+    let rows: [(&'static [u8], u8); 22] = [
         (b"\n", 1),
+        (b" \n", 1),
         (b" 5 2 0 0\n", 1),
         (b"5 2 0 0 \n", 1),
         (b"5  2 0   0\n", 0),
@@ -62,6 +74,15 @@ fn a_token_stands_where_it_may(rt: HostRuntime) {
         (b"0 d 1 0\n", 1),
         (b"-5 d 1 0\n", 1),
         (b"5 d -1 0\n", 1),
+        (b"d 1 0\n", 1),
+        (b"5 d d 0\n", 1),
+        (b"5 2 d 0\n", 1),
+        (b"5 00 0\n", 1),
+        (b"5 - 0 0\n", 1),
+        (b"5 2 0 1 0 281474976710656\n", 1),
+        (b"5 d 1 0 2\n", 1),
+        (b"c 5 2 0 1 0\n", 1),
+        (b"5 x 2000001\n", 1),
     ];
     all_fault(&rt, rt.alloc(), &rows);
 }

@@ -15,6 +15,3 @@ mod words;
 
 pub use arena::Arena;
 pub use reference::Ref;
-
-#[cfg(test)]
-mod tests;

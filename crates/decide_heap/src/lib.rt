@@ -10,6 +10,3 @@ mod rows;
 mod sifting;
 
 pub use heap::DecideHeap;
-
-#[cfg(test)]
-mod tests;

@@ -156,27 +156,3 @@ impl Base {
         self.vars += more;
     }
 }
-
-#[cfg(test)]
-mod tests {
-    use super::*;
-    use crate::reading::read;
-    use std::test::Fail;
-
-    #[test]
-    fn pushed_clauses_and_variables_follow_the_formula(rt: HostRuntime) -> Result<(), Fail> {
-        let formula = read(rt.alloc(), b"p cnf 2 2\n1 2 0\n1 -2 0\n")?;
-        assert_eq!(rt; formula.vars(), 2);
-        assert_eq!(rt; formula.len(), 2);
-        let mut base = Base::of(rt.alloc(), &formula)?;
-        let last = formula.clause(1);
-        assert_eq!(rt; last.len(), 2);
-        base.push_clause(last)?;
-        base.add_vars(1);
-        assert_eq!(rt; base.vars(), 3);
-        assert_eq!(rt; base.len(), 3);
-        assert_eq!(rt; base.clause(0).len(), 2);
-        assert_eq!(rt; base.clause(2), base.clause(1));
-        Ok(())
-    }
-}

@@ -33,6 +33,3 @@ pub use laws::{reading_is_spelling, writing_is_spelling};
 pub use literal::{Lit, Var, has_literal};
 pub use reading::read;
 pub use writing::{put_clause, write};
-
-#[cfg(test)]
-mod tests;

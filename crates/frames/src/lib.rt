@@ -26,6 +26,3 @@ pub use head::Head;
 pub use laws::{no_spelling_begins_another, one_reading, right_fields};
 pub use reader::{Reader, read_pieces};
 pub use worker::Worker;
-
-#[cfg(test)]
-mod tests;

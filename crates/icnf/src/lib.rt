@@ -19,6 +19,3 @@ pub use laws::{reading_is_spelling, writing_is_spelling};
 pub use reading::read;
 pub use tree::Tree;
 pub use writing::write;
-
-#[cfg(test)]
-mod tests;

@@ -23,6 +23,3 @@ pub use reader::{StepReader, read_pieces};
 pub use reading::{cut_line, next};
 pub use step::{ClauseNumbers, Literals, Step, StepRef};
 pub use writing::{put, put_ref};
-
-#[cfg(test)]
-mod tests;

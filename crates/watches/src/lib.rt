@@ -20,8 +20,3 @@ pub use scan::Scan;
 pub use trail::{Assigned, Trail};
 pub use truth::Truth;
 pub use watched::Watched;
-
-#[cfg(test)]
-mod propagator_tests;
-#[cfg(test)]
-mod tests;

@@ -3,10 +3,10 @@
 ghost use Rattle.std.specs.Prelude.{◌≡◌, ◌≤◌};
 ghost use Rattle.dimacs.specs.Literal.{Pos, Neg};
 
-use crate::{Assigned, Finding, Trail, Truth, test_clause};
 use dimacs::{Lit, Var};
 use std::process::Abort;
 use std::test::Fail;
+use watches::{Assigned, Finding, Trail, Truth, test_clause};
 
 fn pos(number: u32) -> Lit
     requires low { 1 ≤ number }

@@ -1,5 +1,9 @@
-use super::*;
+//! Frames as bytes, and streams of them in any cutting.
+
 use dimacs::{Lit, Var};
+use frames::{
+    Attempt, Chunk, Cube, Finding, Frame, FrameFault, Outcome, Reader, Worker, encode, len,
+};
 use std::alloc::Global;
 use std::process::Abort;
 use std::test::Fail;

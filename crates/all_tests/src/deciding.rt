@@ -1,8 +1,8 @@
-//! The worked examples, and a long run beside a plain list that is searched.
+//! The order in which variables are decided: worked examples, and a long run beside a plain list that is searched.
 
 ghost use Rattle.std.specs.Prelude.{◌≡◌, ◌≤◌};
 
-use crate::DecideHeap;
+use decide_heap::DecideHeap;
 use dimacs::Var;
 use std::alloc::{AllocError, Global};
 use std::process::Abort;

@@ -3,12 +3,12 @@
 ghost use Rattle.std.specs.Prelude.{◌≡◌, ℕ, ◌+◌, ◌<◌, ◌≤◌, [], ◌∷◌, ◌++◌, All, Contains, OnOk, length};
 ghost use Rattle.dimacs.specs.Literal.{Pos, Neg, IsWithin};
 
-use crate::{Assigned, Propagator, Scan, Trail, Truth, Watched, learn};
 use clause_arena::Arena;
 use dimacs::{Lit, Var};
 use std::alloc::{AllocError, Global};
 use std::process::Abort;
 use std::test::Fail;
+use watches::{Assigned, Propagator, Scan, Trail, Truth, Watched, learn};
 
 fn pos(number: u32) -> Lit
     requires low { 1 ≤ number }

@@ -1,0 +1,126 @@
+//! Steps of proofs: buffers, groups of hints, and what is written of a line.
+
+use dimacs::{Lit, Var};
+use lrat_text::{
+    ClauseNumbers, Groups, Literals, Step, StepBuffer, StepRef, TextFault, next, put, put_ref,
+    read_line,
+};
+use std::alloc::Global;
+use std::test::Fail;
+
+/// The line that is written for the step of a line, under the number 7.
+fn again(alloc: Global, line: &[u8]) -> Result<Vec<u8>, TextFault> {
+    let mut buffer = StepBuffer::new(alloc);
+    read_line(&mut buffer, line)?;
+    let mut out = Vec::new(alloc);
+    put_ref(buffer.as_ref(), 7, &mut out)?;
+    Ok(out)
+}
+
+#[test]
+fn lines_are_read_and_written(rt: HostRuntime) -> Result<(), Fail> {
+    let rows: [(&'static [u8], &'static [u8]); 8] = [
+        (b"5 2 0 1 2 0", b"5 2 0 1 2 0\n"),
+        (b"5   2  -1 2 0 0", b"5 2 -1 2 0 0\n"),
+        (b"6 -3 1 0 -5 0", b"6 -3 1 0 -5 0\n"),
+        (
+            b"6 -3 1 0 4 -5 1 2 -6 -7 3 0",
+            b"6 -3 1 0 4 -5 1 2 -6 -7 3 0\n",
+        ),
+        (b"5 0 0", b"5 0 0\n"),
+        (b"5 d 1 0", b"7 d 1 0\n"),
+        (b"5 d 0", b"7 d 0\n"),
+        (
+            b"281474976710655 2000000 -2000000 0 281474976710655 0",
+            b"281474976710655 2000000 -2000000 0 281474976710655 0\n",
+        ),
+    ];
+    for (line, want) in &rows {
+        assert_eq!(&rt; again(rt.alloc(), *line)?.as_slice(), *want);
+    }
+    Ok(())
+}
+
+#[test]
+fn the_line_at_a_place(rt: HostRuntime) -> Result<(), Fail> {
+    let a = rt.alloc();
+    let text = b"5 2 0 1 2 0\n5 d 1 0\n6 0";
+    let (first, place) = next(a, text, 0)?.ok_or("a line")?;
+    assert_eq!(rt; place, 12);
+    let mut out = Vec::new(a);
+    put(&first, 1, &mut out)?;
+    let (second, place) = next(a, text, place)?.ok_or("a line")?;
+    assert_eq!(rt; place, 20);
+    put(&second, 5, &mut out)?;
+    assert_eq!(rt; out.as_slice(), &text[..20]);
+    assert_eq!(rt; next(a, text, 20).err(), Some(TextFault::LineNotEnded));
+    Ok(())
+}
+
+#[test]
+fn a_buffer_is_used_again(rt: HostRuntime) -> Result<(), Fail> {
+    let a = rt.alloc();
+    let mut buffer = StepBuffer::new(a);
+    assert!(rt; read_line(&mut buffer, b"6 -3 1 0 4 -5 1 0").is_ok());
+    assert!(rt; read_line(&mut buffer, b"6 x").is_err());
+    assert!(rt; read_line(&mut buffer, b"7 8 0 9 0").is_ok());
+    match buffer.as_ref() {
+        StepRef::Add {
+            id,
+            lits,
+            hints,
+            groups,
+        } => {
+            assert_eq!(rt; id, 7);
+            assert_eq!(rt; lits, [Lit::positive(Var::new(8))].as_slice());
+            assert_eq!(rt; hints, [9].as_slice());
+            assert!(rt; groups.is_empty());
+        }
+        StepRef::Delete { ids: _ } => return Err("an addition".into()),
+    }
+    Ok(())
+}
+
+#[test]
+fn groups_hold_hints(rt: HostRuntime) -> Result<(), Fail> {
+    let a = rt.alloc();
+    let mut groups = Groups::new(a);
+    groups.push(3, &[1, 2])?;
+    groups.push(4, &[])?;
+    groups.push_hint(5)?;
+    assert_eq!(rt; groups.len(), 2);
+    assert!(rt; !groups.is_empty());
+    let (candidate, hints) = groups.get(0);
+    assert_eq!(rt; candidate, 3);
+    assert_eq!(rt; hints, [1, 2].as_slice());
+    let (candidate, hints) = groups.get(1);
+    assert_eq!(rt; candidate, 4);
+    assert_eq!(rt; hints, [5].as_slice());
+    groups.clear();
+    assert!(rt; groups.is_empty());
+    Ok(())
+}
+
+#[test]
+fn steps_are_lent(rt: HostRuntime) -> Result<(), Fail> {
+    let a = rt.alloc();
+    let literals = Literals::from_vec([Lit::negative(Var::new(2))].to_vec(a)?);
+    assert_eq!(rt; literals.as_slice().len(), 1);
+    assert_eq!(rt; literals.into_vec().len(), 1);
+    let ids = ClauseNumbers::from_vec([8, 9].to_vec(a)?);
+    assert_eq!(rt; ids.as_slice(), [8, 9].as_slice());
+    assert_eq!(rt; ids.into_vec().len(), 2);
+    let step = Step::Delete {
+        ids: ClauseNumbers::from_vec([8, 9].to_vec(a)?),
+    };
+    match step.as_ref() {
+        StepRef::Delete { ids } => assert_eq!(rt; ids, [8, 9].as_slice()),
+        StepRef::Add {
+            id: _,
+            lits: _,
+            hints: _,
+            groups: _,
+        } => return Err("a deletion".into()),
+    }
+    Ok(())
+}
