@@ -22,6 +22,3 @@ pub use laws::units_are_rat;
 pub use pure::preamble;
 pub use splitting::{grow, tree};
 pub use units::Preamble;
-
-#[cfg(test)]
-mod tests;
