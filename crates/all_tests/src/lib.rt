@@ -38,6 +38,8 @@ mod solving;
 #[cfg(test)]
 mod steps;
 #[cfg(test)]
+mod taking;
+#[cfg(test)]
 mod trails;
 #[cfg(test)]
 mod trees;

@@ -1,5 +1,5 @@
 -- Trees that are split by the rule.
-use Rattle.std.proofs.Common.{◌≡◌, ◌≢◌, ℕ, suc, ◌*◌, ◌^◌, ◌<◌, ◌≤◌, List, [], ◌∷◌, ◌++◌, length, ap, ◌∙◌, arith, ⊎_elim, ◌⊎◌, inl, inr, length-append, append_assoc, take, ◌-◌, Result, Ok, Err, OnOk}
+use Rattle.std.proofs.Common.{◌≡◌, ◌≢◌, ℕ, suc, ◌*◌, ◌^◌, ◌<◌, ◌≤◌, List, [], ◌∷◌, ◌++◌, length, ap, ◌∙◌, arith, ⊎_elim, ◌⊎◌, inl, inr, length-append, append_assoc, take, ◌-◌, Result, Ok, Err, IfOk, OnOk}
 use Rattle.std.specs.List.{AllByRecursion}
 use Rattle.std.proofs.Math.Nat.{pow-suc}
 use Rattle.std.proofs.lemmas.Nat.{pow_pos}
@@ -12,7 +12,7 @@ use Rattle.dimacs.specs.Literal.{Literal, Pos, Neg, var_of, IsWithin}
 use Rattle.icnf.specs.Leaves.{Cube, IsFree, Leaves, leaf, fork}
 use Rattle.icnf.proofs.StateLemmas.{clauses_within}
 use Rattle.cube_split.specs.Choice.{IsChoice, HasNoChoice}
-use Rattle.cube_split.specs.Splitting.{IsSplit, full, whole, split, AppendsSplit}
+use Rattle.cube_split.specs.Splitting.{IsSplit, full, whole, split, IsTreeOf, AppendsSplit}
 use Rattle.cube_split.proofs.ChoiceLemmas.{stands_nowhere}
 
 free_behind : (xs ys : List Literal) (v : ℕ) → IsFree (xs ++ ys) v → IsFree ys v
@@ -101,3 +101,8 @@ pub appends_all : (f : Cnf) (units : List Literal) (levels : ℕ) (path : Cube) 
 appends_all f units levels path before after none start h =
     let all : after ≡ h.cubes = h.appended ∙ ap (λ (cs : List Cube). cs ++ h.cubes) none in
     rw (all, ← start) h.below
+
+-- a tree of no levels is one leaf
+pub leaf_alone : (E : Type 0) (f : Cnf) (r : Result (List Cube) E) → IfOk r (λ t. t ≡ [] ∷ []) → IfOk r (IsTreeOf f 0)
+leaf_alone E f (Ok t) h = rw h full
+leaf_alone E f (Err e) h = tt

@@ -99,6 +99,9 @@ pub fn tree(alloc: Global, formula: &Formula, depth: u32) -> Result<Tree, AllocE
     // No cube has a variable that stands in no clause.
     ensures within { IfOk result (AreWithin (greatest_in formula.now.clauses)) }
 {
+    if depth == 0 {
+        return Tree::leaf(alloc);
+    }
     let preamble = preamble(alloc, formula)?;
     let mut walk = Walk::begin(alloc, formula, &preamble)?;
     let mut leaves = TreeBuilder::new(alloc);

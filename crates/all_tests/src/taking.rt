@@ -1,0 +1,59 @@
+//! Calls that let go of what they are handed: the same answers.
+
+use crate::checks::FOUR;
+use cube_split::preamble;
+use dimacs::{Base, read};
+use node_main::{Options, ProofCheck, Refusal, solve_here, solve_taking};
+use std::test::Fail;
+
+#[test]
+fn a_base_takes_a_formula(rt: HostRuntime) -> Result<(), Fail> {
+    let text = b"p cnf 3 2\n1 2 0\n-1 3 0\n";
+    let formula = read(rt.alloc(), text)?;
+    let units = preamble(rt.alloc(), &formula)?;
+    assert_eq!(rt; units.base_from(formula)?.len(), 4);
+    assert_eq!(rt; Base::from_formula(read(rt.alloc(), text)?).len(), 2);
+    Ok(())
+}
+
+#[test]
+fn an_input_that_is_let_go_is_checked(rt: HostRuntime) -> Result<(), Fail> {
+    let input = Vec::from_slice(rt.alloc(), FOUR)?;
+    let mut check = ProofCheck::taking(rt.alloc(), input);
+    check.feed(b"5 2 0 1 2 0\n6 0 5 3 4 0\n");
+    let report = check.finish()?;
+    assert_eq!(rt; report.stdout.as_slice(), b"s VERIFIED\n".as_slice());
+    assert_eq!(rt; report.status, 0);
+    Ok(())
+}
+
+#[test]
+fn texts_that_are_let_go_are_solved(rt: HostRuntime) -> Result<(), Fail> {
+    let options = Options {
+        depth: 4,
+        limit: 100_000,
+        quiet: false,
+        witness: true,
+    };
+    let cubes = b"p inccnf\n1 2 0\n-1 2 0\n1 -2 0\n-1 -2 0\na 1 0\na -1 0\n";
+    let known = solve_here(rt.alloc(), FOUR, Some(cubes), &options)?;
+    let input = Vec::from_slice(rt.alloc(), FOUR)?;
+    let leaves = Vec::from_slice(rt.alloc(), cubes)?;
+    let report = solve_taking(rt.alloc(), input, Some(leaves), &options)?;
+    assert_eq!(rt; report.status, 20);
+    assert_eq!(rt; report.stdout.as_slice(), b"s UNSATISFIABLE\n".as_slice());
+    match (&report.proof, &known.proof) {
+        (Some(proof), Some(want)) => assert_eq!(rt; proof.as_slice(), want.as_slice()),
+        _ => assert!(rt; false),
+    }
+    Ok(())
+}
+
+#[test]
+fn only_refused_words_are_told_under_quiet(rt: HostRuntime) -> Result<(), Fail> {
+    assert_eq!(rt; Refusal::Usage.line(true), "c usage\n");
+    assert_eq!(rt; Refusal::Usage.line(false), "c usage\n");
+    assert_eq!(rt; Refusal::Writing.line(true), "");
+    assert_eq!(rt; Refusal::Writing.line(false), "c cannot write proof\n");
+    Ok(())
+}
