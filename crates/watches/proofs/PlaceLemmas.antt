@@ -7,7 +7,8 @@ use Rattle.clause_arena.specs.declared.reference.Ref.{Ref}
 use Rattle.clause_arena.specs.Clauses.{Clauses, Stands, live_of}
 use Rattle.watches.specs.Trails.{TrailValue, holds, present}
 use Rattle.watches.specs.Law.{IsImplied, IsConflict, live_among}
-use Rattle.watches.specs.Scanning.{IsHere, numbers, has_number}
+use Rattle.watches.specs.Scanning.{IsHere, numbers}
+use Rattle.watches.specs.ScanLaws.{has_number}
 use Rattle.watches.specs.declared.watched.places.Place.{Place}
 use Rattle.watches.specs.Chains.{literal_at, twin}
 use Rattle.watches.specs.Watching.{owner, no_clause, FindsWatch, IsLong, IsWatching}

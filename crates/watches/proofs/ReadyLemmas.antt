@@ -14,7 +14,8 @@ use Rattle.watches.specs.declared.trail.Assigned.{Assigned}
 use Rattle.watches.specs.Trails.{TrailValue}
 use Rattle.watches.specs.Law.{AreWithout}
 use Rattle.watches.specs.Moving.{AreFollowed}
-use Rattle.watches.specs.Scanning.{IsHere, numbers, has_number, here_pushed}
+use Rattle.watches.specs.Scanning.{IsHere, numbers}
+use Rattle.watches.specs.ScanLaws.{has_number, here_pushed}
 use Rattle.watches.specs.declared.watched.places.Place.{Place}
 use Rattle.watches.specs.Chains.{AppendsTwo}
 use Rattle.watches.specs.Watching.{IsWatching, IsLong, no_clause}

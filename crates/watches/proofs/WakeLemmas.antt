@@ -14,7 +14,8 @@ use Rattle.watches.specs.Trails.{TrailValue, holds, IsTruth}
 use Rattle.watches.specs.declared.truth.Truth.{Truth}
 use Rattle.watches.specs.declared.truth.Truth.TheVariants.{Free, True, False}
 use Rattle.watches.specs.Law.{AreSame, IsCalm, live_among}
-use Rattle.watches.specs.Scanning.{IsHere, numbers, has_number}
+use Rattle.watches.specs.Scanning.{IsHere, numbers}
+use Rattle.watches.specs.ScanLaws.{has_number}
 use Rattle.watches.proofs.GuardLemmas.{guarded_free, holds_up_to}
 use Rattle.watches.specs.declared.watched.places.Place.{Place}
 use Rattle.watches.specs.Chains.{literal_at, next_of, twin, IsIn, IsOnce, IsChain, last_of, Relinks}

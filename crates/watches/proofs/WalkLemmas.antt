@@ -16,7 +16,8 @@ use Rattle.clause_arena.proofs.ClauseLaws.{get-insert_same, get-insert_other}
 use Rattle.watches.specs.declared.trail.Assigned.{Assigned}
 use Rattle.watches.specs.Trails.{TrailValue, holds, up_to, present}
 use Rattle.watches.specs.Law.{AreSame, IsReordered, IsImplied, live_among}
-use Rattle.watches.specs.Scanning.{IsHere, numbers, has_number}
+use Rattle.watches.specs.Scanning.{IsHere, numbers}
+use Rattle.watches.specs.ScanLaws.{has_number}
 use Rattle.watches.proofs.Present.{present_le}
 use Rattle.watches.proofs.TrailLemmas.{distinct_nil, holds_push}
 use Rattle.watches.specs.declared.watched.places.Place.{Place}

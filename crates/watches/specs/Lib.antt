@@ -3,6 +3,7 @@ pub mod Tables
 pub mod Law
 pub mod Finding
 pub mod Scanning
+pub mod ScanLaws
 pub mod Moving
 pub mod Chains
 pub mod Watching

@@ -13,7 +13,8 @@ use Rattle.clause_arena.specs.Clauses.{Clauses}
 use Rattle.watches.specs.declared.trail.Assigned.{Assigned}
 use Rattle.watches.specs.declared.watched.places.Place.{Place}
 use Rattle.watches.specs.Trails.{TrailValue, up_to}
-use Rattle.watches.specs.Scanning.{IsHere, numbers, has_number, here_pushed, here_elsewhere}
+use Rattle.watches.specs.Scanning.{IsHere, numbers}
+use Rattle.watches.specs.ScanLaws.{has_number, here_pushed, here_elsewhere}
 use Rattle.watches.specs.Chains.{literal_at, twin}
 use Rattle.watches.specs.Watching.{no_clause, IsGuarded, IsWatching}
 use Rattle.watches.specs.Ready.{Watches, IsReady}
