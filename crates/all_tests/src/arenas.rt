@@ -2,7 +2,7 @@
 
 ghost use Rattle.std.specs.Prelude.{◌≡◌, ◌+◌, ◌≤◌, ◌<◌, List, [], ◌∷◌};
 ghost use Rattle.std.specs.List.{IsDistinct};
-ghost use Rattle.dimacs.specs.Literal.{Literal, Pos, Neg, same};
+ghost use Rattle.dimacs.specs.logic.Literal.{Literal, Pos, Neg, same};
 ghost use Rattle.clause_arena.specs.Clauses.{IsLive};
 
 use clause_arena::{Arena, Ref};

@@ -1,7 +1,7 @@
 //! The trail on its happy paths.
 
 ghost use Rattle.std.specs.Prelude.{◌≡◌, ◌≤◌};
-ghost use Rattle.dimacs.specs.Literal.{Pos, Neg};
+ghost use Rattle.dimacs.specs.logic.Literal.{Pos, Neg};
 
 use dimacs::{Lit, Var};
 use std::process::Abort;

@@ -1,7 +1,7 @@
 //! Propagators on their happy paths, by their law alone.
 
 ghost use Rattle.std.specs.Prelude.{◌≡◌, ℕ, ◌+◌, ◌<◌, ◌≤◌, [], ◌∷◌, ◌++◌, All, Contains, OnOk, length};
-ghost use Rattle.dimacs.specs.Literal.{Pos, Neg, IsWithin};
+ghost use Rattle.dimacs.specs.logic.Literal.{Pos, Neg, IsWithin};
 
 use clause_arena::Arena;
 use dimacs::{Lit, Var};

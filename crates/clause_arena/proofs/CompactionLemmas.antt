@@ -10,7 +10,7 @@ use Rattle.std.specs.Ordering.{nat_cmp}
 use Rattle.std.proofs.lemmas.List.{map-append, drop_at, take_all}
 use Rattle.std.proofs.lemmas.List.Sums.{sum_by-cons}
 use Rattle.std.proofs.lemmas.List.Elements.{Contains-get_or}
-use Rattle.dimacs.specs.Literal.{Literal, Clause, same}
+use Rattle.dimacs.specs.logic.Literal.{Literal, Clause, same}
 use Rattle.clause_arena.specs.declared.reference.Ref.{Ref}
 use Rattle.clause_arena.specs.declared.slots.Slot.{Slot}
 use Rattle.clause_arena.specs.Slots.{Slots, near_entries, slots_of, IsApart}

@@ -6,7 +6,7 @@ use Rattle.std.specs.FinMap.{get, insert, remove, empty, entries, find, get-from
 use Rattle.std.specs.Ordering.{nat_cmp, eq_by_cmp}
 use Rattle.std.specs.Cmp.{nat_cmp_total}
 use Rattle.std.proofs.lemmas.List.{drop-append-le, take-append-le, take_all, length-take-le, drop_at}
-use Rattle.dimacs.specs.Literal.{Literal, Clause, same}
+use Rattle.dimacs.specs.logic.Literal.{Literal, Clause, same}
 use Rattle.clause_arena.specs.declared.reference.Ref.{Ref}
 use Rattle.clause_arena.specs.declared.slots.Slot.{Slot}
 use Rattle.clause_arena.specs.Slots.{Slots}

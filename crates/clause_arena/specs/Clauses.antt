@@ -3,9 +3,9 @@ use Rattle.std.specs.Prelude.{◌≡◌, ℕ, Some, length}
 use Rattle.std.specs.Coded.{Coded, coded_ℕ, coded×, coded_list}
 use Rattle.std.specs.FinMap.{FinMap, get, code}
 use Rattle.std.specs.Ordering.{nat_cmp}
-use Rattle.dimacs.specs.Codes.{literal_code}
-use Rattle.dimacs.specs.ClauseMap.{Live}
-use Rattle.dimacs.specs.Literal.{Clause}
+use Rattle.dimacs.specs.layout.Codes.{literal_code}
+use Rattle.dimacs.specs.logic.ClauseMap.{Live}
+use Rattle.dimacs.specs.logic.Literal.{Clause}
 use Rattle.clause_arena.specs.declared.reference.Ref.{Ref}
 
 -- what an arena holds: from the number of each live clause to its place and its literals

@@ -1,7 +1,7 @@
 -- What closing the gaps of an arena does and tells.
 use Rattle.std.specs.Prelude.{◌≡◌, ◌≢◌, ℕ, ◌+◌, ◌<◌, ◌≤◌, List, Option, Some, length, option_map, slice_index_or, Contains, sum_by}
 use Rattle.std.specs.FinMap.{get, entries}
-use Rattle.dimacs.specs.Literal.{Clause}
+use Rattle.dimacs.specs.logic.Literal.{Clause}
 use Rattle.clause_arena.specs.declared.reference.Ref.{Ref}
 use Rattle.clause_arena.specs.Clauses.{Clauses, Stands}
 

@@ -2,7 +2,7 @@
 use Rattle.std.specs.Prelude.{◌≡◌, ℕ, ◌+◌, ◌<◌, ◌≤◌, List, length, map, take, drop, Some}
 use Rattle.std.specs.List.{IsDistinct}
 use Rattle.std.specs.FinMap.{from_entries, entries, get}
-use Rattle.dimacs.specs.Literal.{Literal, Clause, same}
+use Rattle.dimacs.specs.logic.Literal.{Literal, Clause, same}
 use Rattle.clause_arena.specs.declared.reference.Ref.{Ref}
 use Rattle.clause_arena.specs.declared.slots.Slot.{Slot}
 use Rattle.clause_arena.specs.Slots.{Slots}

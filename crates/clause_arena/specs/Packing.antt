@@ -1,7 +1,7 @@
 -- How the live clauses are laid one after the other. Nothing here is to be believed.
 use Rattle.std.specs.Prelude.{ℕ, ◌+◌, List, [], ◌∷◌, ◌++◌, map, nat_eq, if◌then◌else◌}
 use Rattle.std.specs.FinMap.{entries, insert}
-use Rattle.dimacs.specs.Literal.{Literal}
+use Rattle.dimacs.specs.logic.Literal.{Literal}
 use Rattle.clause_arena.specs.declared.reference.Ref.{Ref}
 use Rattle.clause_arena.specs.declared.slots.Slot.{Slot}
 use Rattle.clause_arena.specs.Slots.{Slots}

@@ -3,7 +3,7 @@
 ghost use Rattle.std.specs.Prelude.{◌≡◌, ℕ, ◌<◌, ◌++◌, List, length, swap, IfOk, OnOk, OnErr, IfSome, IfNone, None};
 ghost use Rattle.std.specs.List.{IsDistinct};
 ghost use Rattle.std.specs.FinMap.{get, insert, remove, empty};
-ghost use Rattle.dimacs.specs.Literal.{Clause, same};
+ghost use Rattle.dimacs.specs.logic.Literal.{Clause, same};
 ghost use Rattle.clause_arena.specs.declared.reference.Ref.{Ref};
 ghost use Rattle.clause_arena.specs.Clauses.{Clauses, Stands, IsLive};
 ghost use Rattle.clause_arena.specs.Compaction.{IsCompacted};

@@ -1,7 +1,7 @@
 -- From verdicts that are right to nodes that agree.
 use Rattle.std.proofs.Common.{List, sym, subst}
 use Rattle.std.proofs.lemmas.List.Elements.{All-contains}
-use Rattle.dimacs.specs.Cnf.{Cnf}
+use Rattle.dimacs.specs.logic.Cnf.{Cnf}
 use Rattle.lrat_check.specs.Verdicts.{Right, Agreement}
 use Rattle.cluster.specs.declared.event.OpenEvent.{OpenEvent}
 use Rattle.cluster.specs.Nodes.{NodeState, AreRight}

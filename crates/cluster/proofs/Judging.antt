@@ -2,7 +2,7 @@
 use Rattle.std.proofs.Common.{◌≡◌, ℕ, ◌==◌, ◌∷◌, Bool, true, false, nat_lt, List, map, length, refl, subst, inl, inr, ap, sym, ◌∙◌}
 use Rattle.std.specs.List.{list_all}
 use Rattle.std.proofs.lemmas.List.{length-map}
-use Rattle.dimacs.specs.Cnf.{Cnf, Sat, member_of}
+use Rattle.dimacs.specs.logic.Cnf.{Cnf, Sat, assignment_of}
 use Rattle.lrat_text.specs.Proof.{Accepts}
 use Rattle.lrat_check.specs.Verdicts.{Right}
 use Rattle.lrat_check.specs.declared.verdict.Verdict.{Verdict}
@@ -27,7 +27,7 @@ proof_refused F text refused = (refl, (inl refl, text, refl), nothing_right, ref
 
 -- bytes that are those of no right assignment are refused
 pub values_refused : (F : Cnf) (values : List ℕ)
-    → ((a : List Bool) → values ≡ map value_byte a → length a ≡ F.vars → Sat (member_of a) F → ⊥)
+    → ((a : List Bool) → values ≡ map value_byte a → length a ≡ F.vars → Sat (assignment_of a) F → ⊥)
     → Delivers (fresh F) (2 ∷ values) (reaction.Refused 2) (fresh F)
 values_refused F values refused = (refl, (inr refl, values, refl), nothing_right, refl)
   where
@@ -47,12 +47,12 @@ wrong_byte_refused F values wrong =
     values_refused F values (λ a same count sat. let below = bytes_are_below a in cc (ap (list_all (λ b. nat_lt b 2)) same))
 
 -- as the bytes of an assignment that does not satisfy the formula
-pub not_satisfied_refused : (F : Cnf) (values : List ℕ) (found : List Bool) → found ≡ map (λ b. b == 1) values → (Sat (member_of found) F → ⊥)
+pub not_satisfied_refused : (F : Cnf) (values : List ℕ) (found : List Bool) → found ≡ map (λ b. b == 1) values → (Sat (assignment_of found) F → ⊥)
     → Delivers (fresh F) (2 ∷ values) (reaction.Refused 2) (fresh F)
 not_satisfied_refused F values found is wrong =
     values_refused F values (λ a same count sat.
     let found_is : a ≡ found = sym (values_back a) ∙ sym (ap (map (λ b. b == 1)) same) ∙ sym is in
-    wrong (subst (λ (x : List Bool). Sat (member_of x) F) found_is sat))
+    wrong (subst (λ (x : List Bool). Sat (assignment_of x) F) found_is sat))
 
 -- there is no room for one byte for each variable
 pub values_without_room : (F : Cnf) (values : List ℕ) → length values ≡ F.vars → list_all (λ b. nat_lt b 2) values ≡ true
@@ -62,7 +62,7 @@ values_without_room F values count below =
 
 -- an assignment that satisfies the formula is taken
 pub values_taken : (F : Cnf) (values : List ℕ) (found : List Bool) → found ≡ map (λ b. b == 1) values → length values ≡ F.vars
-    → list_all (λ b. nat_lt b 2) values ≡ true → Sat (member_of found) F
+    → list_all (λ b. nat_lt b 2) values ≡ true → Sat (assignment_of found) F
     → Delivers (fresh F) (2 ∷ values) reaction.Verdict (holding F (Model found))
 values_taken F values found is count below sat =
     let counted : length found ≡ F.vars = ap length is ∙ simp length-map count in

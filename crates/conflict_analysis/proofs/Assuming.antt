@@ -4,8 +4,8 @@ use Rattle.std.specs.List.{All, Contains, IsDistinct}
 use Rattle.std.proofs.lemmas.Bool.{false_from_ne_true}
 use Rattle.std.proofs.lemmas.List.{take-append-drop}
 use Rattle.std.proofs.lemmas.List.Elements.{All-contains, Contains-get_or}
-use Rattle.dimacs.specs.ClauseMap.{Live}
-use Rattle.dimacs.specs.Literal.{Literal, Clause, IsWithin, negation, var_of}
+use Rattle.dimacs.specs.logic.ClauseMap.{Live}
+use Rattle.dimacs.specs.logic.Literal.{Literal, Clause, IsWithin, negation, var_of}
 use Rattle.dimacs.proofs.LiteralLemmas.{same_or_not, negation-negation, negation_apart, var_of-negation, IsWithin-negation}
 use Rattle.dimacs.proofs.Members.{Contains-head, Contains-cons_cases, Contains-nil}
 use Rattle.watches.specs.Law.{IsImplied}

@@ -6,9 +6,9 @@ use Rattle.std.proofs.lemmas.Bool.{both_ways, eq-eqb, eqb-true}
 use Rattle.std.proofs.lemmas.List.{append-nil, get_or-map, get_or-take, length-take, length-map}
 use Rattle.std.proofs.lemmas.List.Elements.{All-contains}
 use Rattle.std.proofs.lemmas.Map.Keys.{apart_from_distinct}
-use Rattle.dimacs.specs.ClauseMap.{Live}
-use Rattle.dimacs.specs.Literal.{Literal, Clause, var_of}
-use Rattle.dimacs.specs.Propagation.{IsUnit}
+use Rattle.dimacs.specs.logic.ClauseMap.{Live}
+use Rattle.dimacs.specs.logic.Literal.{Literal, Clause, var_of}
+use Rattle.dimacs.specs.logic.Propagation.{IsUnit}
 use Rattle.dimacs.proofs.LiteralLemmas.{same_or_not}
 use Rattle.watches.specs.Law.{IsImplied}
 use Rattle.watches.specs.Trails.{holds, present, variables}

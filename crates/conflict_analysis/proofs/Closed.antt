@@ -2,9 +2,9 @@
 use Rattle.std.proofs.Common.{◌≡◌, ℕ, ◌<◌, ◌⊎◌, inl, inr, Bool, true, false, not, cond, eqb, ◌&&◌, List, [], ◌∷◌, ◌++◌, length, get_or, take, refl, ap, sym, ◌∙◌, subst, arith, Some, None}
 use Rattle.std.specs.List.{Contains, IsDistinct, filter_map}
 use Rattle.std.proofs.lemmas.Bool.{cases_Bool, both_ways, or_left, and_parts, and_from, and_left, and_right, false≢true}
-use Rattle.dimacs.specs.ClauseMap.{Live}
-use Rattle.dimacs.specs.Literal.{Literal, Clause, negation, var_of}
-use Rattle.dimacs.specs.Propagation.{Rup, negations}
+use Rattle.dimacs.specs.logic.ClauseMap.{Live}
+use Rattle.dimacs.specs.logic.Literal.{Literal, Clause, negation, var_of}
+use Rattle.dimacs.specs.logic.Propagation.{Rup, negations}
 use Rattle.dimacs.proofs.LiteralLemmas.{negation-negation, var_of-negation}
 use Rattle.dimacs.proofs.Members.{has-Contains, Contains-has}
 use Rattle.watches.specs.Trails.{holds, variables}

@@ -5,9 +5,9 @@ use Rattle.std.specs.List.{All, Contains, IsDistinct, filter_map, cons_option}
 use Rattle.std.proofs.lemmas.List.{get_or_at, take-append-drop, take-append-le, take_all, drop_all, get_or-take, length-take, reverse-reverse}
 use Rattle.std.proofs.lemmas.List.Elements.{All-contains, Contains-get_or, filter_map-append}
 use Rattle.std.proofs.lemmas.Bool.{cases_Bool, cases_lt, both_ways, or_left, or_right, or_cases, and_parts, and_from, and_left, false≢true, false_from_ne_true, eq-eqb, le-leb, leb-true}
-use Rattle.dimacs.specs.ClauseMap.{Live}
-use Rattle.dimacs.specs.Literal.{Literal, Clause, IsWithin, negation, same, var_of}
-use Rattle.dimacs.specs.Propagation.{IsFalse, Rup, negations}
+use Rattle.dimacs.specs.logic.ClauseMap.{Live}
+use Rattle.dimacs.specs.logic.Literal.{Literal, Clause, IsWithin, negation, same, var_of}
+use Rattle.dimacs.specs.logic.Propagation.{IsFalse, Rup, negations}
 use Rattle.dimacs.proofs.LiteralLemmas.{same-true, same-is, negation-negation, var_of-negation, IsWithin-negation}
 use Rattle.dimacs.proofs.Members.{Contains-head, Contains-cons, Contains-cons_cases, Contains-nil, Contains-has}
 use Rattle.watches.specs.Trails.{holds, up_to, present, variables}

@@ -5,7 +5,7 @@ use Rattle.std.proofs.lemmas.Bool.{cases_Bool, false≢true, eq-eqb, ne_eqb, or_
 use Rattle.std.proofs.lemmas.Map.Keys.{IsDistinct-tail, IsDistinct-from_apart, apart_from_distinct}
 use Rattle.std.proofs.lemmas.List.Sums.{sum_by-cons}
 use Rattle.std.proofs.lemmas.List.{map-append, get_or_append_left}
-use Rattle.dimacs.specs.Literal.{Literal, same, var_of}
+use Rattle.dimacs.specs.logic.Literal.{Literal, same, var_of}
 use Rattle.dimacs.proofs.LiteralLemmas.{same-true, same-is}
 use Rattle.dimacs.proofs.Members.{Contains-head, Contains-cons, Contains-cons_cases, Contains-nil}
 use Rattle.watches.specs.Trails.{holds, variables}

@@ -1,6 +1,6 @@
 -- The live clause of a number.
 use Rattle.std.proofs.Common.{◌≡◌, ℕ, subst}
-use Rattle.dimacs.specs.Literal.{Clause}
+use Rattle.dimacs.specs.logic.Literal.{Clause}
 use Rattle.clause_arena.specs.Clauses.{Clauses, live_of, Stands}
 use Rattle.clause_arena.specs.declared.reference.Ref.{Ref}
 

@@ -5,9 +5,9 @@ use Rattle.std.specs.List.{Contains}
 use Rattle.std.proofs.lemmas.List.{append-nil}
 use Rattle.std.proofs.lemmas.List.Folds.{list_any-append}
 use Rattle.std.proofs.lemmas.Bool.{cases_Bool, or_left, or_right, or_cases, or_from, and_parts, and_from, and_left, and_right, false≢true, false_from_ne_true}
-use Rattle.dimacs.specs.ClauseMap.{Live}
-use Rattle.dimacs.specs.Literal.{Literal, Clause, negation, same, var_of}
-use Rattle.dimacs.specs.Propagation.{IsUnit, Leads, Rup, negations, with_literal}
+use Rattle.dimacs.specs.logic.ClauseMap.{Live}
+use Rattle.dimacs.specs.logic.Literal.{Literal, Clause, negation, same, var_of}
+use Rattle.dimacs.specs.logic.Propagation.{IsUnit, Leads, Rup, negations, with_literal}
 use Rattle.dimacs.proofs.LiteralLemmas.{same-itself, same-is, same_or_not, same-false, negation-negation, var_of-negation}
 use Rattle.dimacs.proofs.Members.{has-Contains}
 use Rattle.watches.specs.Trails.{holds}

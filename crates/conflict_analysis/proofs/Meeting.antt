@@ -4,7 +4,7 @@ use Rattle.std.specs.List.{Contains, IsDistinct, list_any}
 use Rattle.std.proofs.lemmas.Bool.{cases_eq, eq-eqb, ne_eqb, eqb-true, or_left, or_right, or_cases, both_ways, false_from_ne_true}
 use Rattle.std.proofs.lemmas.List.Elements.{All-nil, All-push, Contains-append_left, Contains-push, Contains-push_cases}
 use Rattle.std.proofs.lemmas.List.{get_or-set_other, get_or-set_same}
-use Rattle.dimacs.specs.Literal.{Literal, negation, var_of}
+use Rattle.dimacs.specs.logic.Literal.{Literal, negation, var_of}
 use Rattle.dimacs.proofs.LiteralLemmas.{var_of-negation}
 use Rattle.dimacs.proofs.Members.{Contains-nil}
 use Rattle.watches.specs.Trails.{holds, present, variables}

@@ -1,8 +1,8 @@
 -- Settling one entry more.
 use Rattle.std.proofs.Common.{◌≡◌, ℕ, ◌<◌, ◌≤◌, inl, inr, Bool, true, eqb, List, length, get_or, take}
 use Rattle.std.specs.List.{Contains, IsDistinct}
-use Rattle.dimacs.specs.ClauseMap.{Live}
-use Rattle.dimacs.specs.Literal.{Literal, var_of}
+use Rattle.dimacs.specs.logic.ClauseMap.{Live}
+use Rattle.dimacs.specs.logic.Literal.{Literal, var_of}
 use Rattle.watches.specs.Law.{IsImplied}
 use Rattle.watches.specs.Trails.{variables}
 use Rattle.watches.specs.declared.trail.Assigned.{Assigned}

@@ -7,7 +7,7 @@ use Rattle.std.proofs.lemmas.Bool.{cases_eq, false≢true}
 use Rattle.std.proofs.lemmas.List.Elements.{All-cons, All-nil}
 use Rattle.clause_arena.specs.Clauses.{Clauses, live_of}
 use Rattle.clause_arena.proofs.ClauseLaws.{get-insert_same, get-insert_other, live_once, none_empty}
-use Rattle.dimacs.specs.Literal.{Literal, Pos, Neg, Clause, IsWithin, negation, same}
+use Rattle.dimacs.specs.logic.Literal.{Literal, Pos, Neg, Clause, IsWithin, negation, same}
 use Rattle.dimacs.proofs.Members.{Contains-head, Contains-cons_cases, Contains-nil}
 use Rattle.watches.specs.Law.{IsConflict}
 use Rattle.watches.specs.Trails.{holds, up_to}

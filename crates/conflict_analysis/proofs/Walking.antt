@@ -8,9 +8,9 @@ use Rattle.std.proofs.lemmas.List.Elements.{All-contains, Contains-append_left, 
 use Rattle.std.proofs.lemmas.List.Folds.{list_any-append}
 use Rattle.std.proofs.lemmas.Map.Keys.{IsDistinct-push}
 use Rattle.std.proofs.lemmas.Bool.{cases_eq, cases_lt, and_from, eq-eqb, eqb-true, false_from_ne_true, false≢true}
-use Rattle.dimacs.specs.ClauseMap.{Live}
-use Rattle.dimacs.specs.Literal.{Literal, Clause, negation, same, var_of}
-use Rattle.dimacs.specs.Propagation.{negations}
+use Rattle.dimacs.specs.logic.ClauseMap.{Live}
+use Rattle.dimacs.specs.logic.Literal.{Literal, Clause, negation, same, var_of}
+use Rattle.dimacs.specs.logic.Propagation.{negations}
 use Rattle.dimacs.proofs.LiteralLemmas.{same_equiv, same-false, negation-negation}
 use Rattle.dimacs.proofs.Members.{Contains-head, Contains-cons, Contains-nil, has-Contains, Contains-has}
 use Rattle.watches.specs.Trails.{holds, present, variables}

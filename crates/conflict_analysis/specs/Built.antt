@@ -1,7 +1,7 @@
 -- How the trail of a search came to be (Handbook of Satisfiability, chapter 4).
 use Rattle.std.specs.Prelude.{◌≡◌, ℕ, ◌+◌, ◌<◌, Contains, false, List, [], ◌∷◌, ◌++◌, ◌⊎◌, None, All}
-use Rattle.dimacs.specs.ClauseMap.{Live}
-use Rattle.dimacs.specs.Literal.{Literal, Clause, IsWithin, negation, var_of}
+use Rattle.dimacs.specs.logic.ClauseMap.{Live}
+use Rattle.dimacs.specs.logic.Literal.{Literal, Clause, IsWithin, negation, var_of}
 use Rattle.watches.specs.Law.{IsImplied}
 use Rattle.watches.specs.Trails.{holds, present}
 use Rattle.watches.specs.declared.trail.Assigned.{Assigned}

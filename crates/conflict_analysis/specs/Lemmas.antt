@@ -1,9 +1,9 @@
 -- What a conflict teaches: a lemma with one literal of the present level, or the negations of assumptions.
 use Rattle.std.specs.Prelude.{◌≡◌, ◌≢◌, ℕ, ◌-◌, ◌<◌, ◌≤◌, true, false, List, ◌⊎◌, None, nat_eq, All, Contains}
 use Rattle.std.specs.List.{IsDistinct}
-use Rattle.dimacs.specs.ClauseMap.{Live}
-use Rattle.dimacs.specs.Literal.{Literal, Clause, negation}
-use Rattle.dimacs.specs.Propagation.{IsFalse}
+use Rattle.dimacs.specs.logic.ClauseMap.{Live}
+use Rattle.dimacs.specs.logic.Literal.{Literal, Clause, negation}
+use Rattle.dimacs.specs.logic.Propagation.{IsFalse}
 use Rattle.watches.specs.Law.{IsConflict}
 use Rattle.watches.specs.Trails.{holds, up_to, present}
 use Rattle.watches.specs.declared.trail.Assigned.{Assigned}

@@ -1,9 +1,9 @@
 -- A walk down a trail: which variables were met, and how many of them are still to be walked. Nothing here is to be believed.
 use Rattle.std.specs.Prelude.{◌≡◌, ℕ, Option, Some, None, unwrap_or, take, drop, reverse, ◌<◌, ◌≤◌, ◌==◌, Bool, true, not, ◌&&◌, if◌then◌else◌, List, [], ◌∷◌, ◌++◌, ◌⊎◌, length, nat_eq, All, Contains, slice_index_or}
 use Rattle.std.specs.List.{IsDistinct, count_by}
-use Rattle.dimacs.specs.ClauseMap.{Live}
-use Rattle.dimacs.specs.Literal.{Literal, Clause, negation, var_of, same}
-use Rattle.dimacs.specs.Propagation.{IsUnit, negations}
+use Rattle.dimacs.specs.logic.ClauseMap.{Live}
+use Rattle.dimacs.specs.logic.Literal.{Literal, Clause, negation, var_of, same}
+use Rattle.dimacs.specs.logic.Propagation.{IsUnit, negations}
 use Rattle.watches.specs.declared.trail.Assigned.{Assigned}
 use Rattle.watches.specs.Trails.{holds, present}
 

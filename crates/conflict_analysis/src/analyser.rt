@@ -3,8 +3,8 @@
 ghost use Rattle.std.specs.Prelude.{◌≡◌, ℕ, ◌+◌, ◌<◌, ◌≤◌, false, [], ◌++◌, ◌∷◌, reverse, length, All, IfOk, OnOk};
 ghost use Rattle.std.specs.List.{IsDistinct};
 ghost use Rattle.clause_arena.specs.Clauses.{live_of};
-ghost use Rattle.dimacs.specs.Literal.{IsWithin, same};
-ghost use Rattle.dimacs.specs.Propagation.{Rup};
+ghost use Rattle.dimacs.specs.logic.Literal.{IsWithin, same};
+ghost use Rattle.dimacs.specs.logic.Propagation.{Rup};
 ghost use Rattle.conflict_analysis.specs.Built.{AreBuilt, AreInside};
 ghost use Rattle.conflict_analysis.specs.Lemmas.{AreApart, IsAsserting, IsPresent};
 ghost use Rattle.conflict_analysis.specs.Walks.{met, HasMet};

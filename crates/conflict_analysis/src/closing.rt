@@ -3,8 +3,8 @@
 ghost use Rattle.std.specs.Prelude.{◌≡◌, nat_eq, ◌+◌, ◌<◌, true, [], length, take, slice_index_or, Some, All, Contains, IfOk, OnOk};
 ghost use Rattle.std.specs.List.{IsDistinct};
 ghost use Rattle.clause_arena.specs.Clauses.{live_of};
-ghost use Rattle.dimacs.specs.Literal.{Literal, Clause, IsWithin, negation, var_of};
-ghost use Rattle.dimacs.specs.Propagation.{Rup};
+ghost use Rattle.dimacs.specs.logic.Literal.{Literal, Clause, IsWithin, negation, var_of};
+ghost use Rattle.dimacs.specs.logic.Propagation.{Rup};
 ghost use Rattle.conflict_analysis.specs.Built.{AreBuilt, AreInside, AreSized};
 ghost use Rattle.conflict_analysis.specs.Walks.{met, HasMet, IsKnown};
 ghost use Rattle.conflict_analysis.specs.Lemmas.{IsClosing, NegatesAssumptions};

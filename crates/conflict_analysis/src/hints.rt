@@ -2,7 +2,7 @@
 
 ghost use Rattle.std.specs.Prelude.{◌≡◌, ◌<◌, length, All, IfOk};
 ghost use Rattle.std.specs.List.{filter_map};
-ghost use Rattle.dimacs.specs.Literal.{var_of};
+ghost use Rattle.dimacs.specs.logic.Literal.{var_of};
 ghost use Rattle.conflict_analysis.specs.Traces.{reason_of};
 ghost use Rattle.conflict_analysis.specs.Walks.{met};
 

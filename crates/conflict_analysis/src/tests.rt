@@ -2,7 +2,7 @@
 
 ghost use Rattle.std.specs.Prelude.{◌≡◌, ◌≤◌, [], ◌∷◌, Some, None, IfOk};
 ghost use Rattle.clause_arena.specs.Clauses.{live_of};
-ghost use Rattle.dimacs.specs.Literal.{Pos, Neg};
+ghost use Rattle.dimacs.specs.logic.Literal.{Pos, Neg};
 ghost use Rattle.conflict_analysis.specs.Built.{AreInside};
 
 use crate::{Closing, analyse, close_cube};

@@ -3,7 +3,7 @@
 ghost use Rattle.std.specs.Prelude.{◌≡◌, ℕ, ◌+◌, ◌<◌, ◌≤◌, max, true, [], ◌∷◌, ◌++◌, Some, length, take, slice_index_or, Contains, IfOk, OnOk};
 ghost use Rattle.std.specs.Bool.{OnFalse};
 ghost use Rattle.clause_arena.specs.Clauses.{live_of};
-ghost use Rattle.dimacs.specs.Literal.{Literal, Clause, negation, var_of};
+ghost use Rattle.dimacs.specs.logic.Literal.{Literal, Clause, negation, var_of};
 ghost use Rattle.conflict_analysis.specs.Built.{AreBuilt, AreInside};
 ghost use Rattle.conflict_analysis.specs.Walks.{met, IsFront, IsKnown, IsWalk, HasMet, AreListed, AreWalked, IsLevelled, IsChoice};
 ghost use Rattle.watches.specs.Trails.{present, IsTrailValue};

@@ -1,7 +1,7 @@
 -- A base of few variables is decided.
 use Rattle.std.proofs.Common.{ℕ, ◌^◌, ◌<◌, ◌≤◌, List, arith}
 use Rattle.std.proofs.Math.Nat.{pow-le-pow_right}
-use Rattle.dimacs.specs.Cnf.{Cnf}
+use Rattle.dimacs.specs.logic.Cnf.{Cnf}
 use Rattle.lrat_text.specs.Log.{IsHonest}
 use Rattle.lrat_text.proofs.CountingLemmas.{few_lemmas}
 use Rattle.cube_solve.specs.Outcome.{IsFresh, allowed}

@@ -9,9 +9,9 @@ use Rattle.std.specs.Cmp.{nat_cmp_total}
 use Rattle.std.proofs.lemmas.Bool.{true≢false, both_ways, cases_Bool, cases_eq, or_left, or_right, or_cases, eqb-true, eq-eqb, ne_eqb}
 use Rattle.std.proofs.lemmas.List.Elements.{All-contains, All-weaker, Contains-get_or}
 use Rattle.std.proofs.lemmas.Map.Keys.{IsDistinct-cons, IsDistinct-tail, IsDistinct-from_apart}
-use Rattle.dimacs.specs.Cnf.{Cnf}
-use Rattle.dimacs.specs.ClauseMap.{ClauseMap, Live, live_in, map_of}
-use Rattle.dimacs.specs.Literal.{Clause}
+use Rattle.dimacs.specs.logic.Cnf.{Cnf}
+use Rattle.dimacs.specs.logic.ClauseMap.{ClauseMap, Live, live_in, map_of}
+use Rattle.dimacs.specs.logic.Literal.{Clause}
 use Rattle.dimacs.proofs.Members.{Contains-head, Contains-cons, Contains-cons_cases, Contains-nil}
 use Rattle.clause_arena.specs.Clauses.{Clauses, live_of}
 use Rattle.lrat_text.specs.Grammar.{LineSpells}

@@ -9,8 +9,8 @@ use Rattle.std.proofs.lemmas.List.Elements.{All-contains, All-filter, All-push, 
 use Rattle.std.proofs.lemmas.List.Kept.{AllPairs-filter}
 use Rattle.std.proofs.lemmas.List.Quantifiers.{all_pairs_push}
 use Rattle.std.proofs.lemmas.List.{get_or-take, length-take}
-use Rattle.dimacs.specs.ClauseMap.{Live}
-use Rattle.dimacs.specs.Literal.{Clause}
+use Rattle.dimacs.specs.logic.ClauseMap.{Live}
+use Rattle.dimacs.specs.logic.Literal.{Clause}
 use Rattle.dimacs.proofs.Members.{Contains-head, Contains-cons, Contains-cons_cases, Contains-nil}
 use Rattle.clause_arena.specs.Clauses.{Clauses, live_of}
 use Rattle.clause_arena.proofs.ClauseLaws.{get-remove_same, get-remove_other}

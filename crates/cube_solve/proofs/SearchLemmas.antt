@@ -5,10 +5,10 @@ use Rattle.std.specs.FinMap.{get, insert}
 use Rattle.std.proofs.lemmas.Bool.{both_ways, cases_Bool, or_left, or_right, eq-eqb}
 use Rattle.std.proofs.lemmas.List.Elements.{All-contains}
 use Rattle.std.proofs.lemmas.Map.Keys.{IsDistinct-tail}
-use Rattle.dimacs.specs.Cnf.{Cnf, member_of}
-use Rattle.dimacs.specs.ClauseMap.{ClauseMap, Live, live_in, map_of}
-use Rattle.dimacs.specs.Literal.{Literal, Clause, IsWithin, negation, var_of, literal_true}
-use Rattle.dimacs.specs.Propagation.{IsFalse}
+use Rattle.dimacs.specs.logic.Cnf.{Cnf, assignment_of}
+use Rattle.dimacs.specs.logic.ClauseMap.{ClauseMap, Live, live_in, map_of}
+use Rattle.dimacs.specs.logic.Literal.{Literal, Clause, IsWithin, negation, var_of, literal_true}
+use Rattle.dimacs.specs.logic.Propagation.{IsFalse}
 use Rattle.dimacs.proofs.LiteralLemmas.{negation_apart, var_of-negation}
 use Rattle.dimacs.proofs.Members.{Contains-head, Contains-cons, Contains-cons_cases, Contains-nil}
 use Rattle.clause_arena.specs.Clauses.{Clauses, live_of}
@@ -261,7 +261,7 @@ below_more id old new lits number below add j D i = elim (add.only j D i) [
 
 -- the truth values that are read from the trail
 pub model_read : (B : Cnf) (q : Cube) (t : TrailValue) (values : List Bool) → All (IsWithin B.vars) q → Satisfies B q t → length values ≡ t.vars
-    → ((l : Literal) → IsWithin t.vars l → holds t.entries l ≡ true → literal_true (member_of values) l ≡ true) → IsModel B q values
+    → ((l : Literal) → IsWithin t.vars l → holds t.entries l ≡ true → literal_true (assignment_of values) l ≡ true) → IsModel B q values
 model_read B q t values within h len reads = record {
   whole = len ∙ h.vars;
   base = λ i d b.

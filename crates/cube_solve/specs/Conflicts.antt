@@ -1,8 +1,8 @@
 -- Why a search ends at its limit: at a conflict that is not the cube's alone, so that a lemma would have to be learnt.
 use Rattle.std.specs.Prelude.{◌≡◌, ℕ, ◌<◌, true, List, [], ◌∷◌, All, Contains}
-use Rattle.dimacs.specs.Cnf.{Cnf}
-use Rattle.dimacs.specs.ClauseMap.{ClauseMap, Live, map_of, live_in}
-use Rattle.dimacs.specs.Literal.{Literal, IsWithin}
+use Rattle.dimacs.specs.logic.Cnf.{Cnf}
+use Rattle.dimacs.specs.logic.ClauseMap.{ClauseMap, Live, map_of, live_in}
+use Rattle.dimacs.specs.logic.Literal.{Literal, IsWithin}
 use Rattle.lrat_text.specs.Grammar.{LineSpells}
 use Rattle.lrat_text.specs.Log.{Cube, after_step}
 use Rattle.lrat_text.specs.declared.step.Step.{Step}

@@ -1,8 +1,8 @@
 -- Lemmas that a search forgets. Nothing here is to be believed.
 use Rattle.std.specs.Prelude.{◌≡◌, ℕ, ◌<◌, ◌≤◌, List, [], ◌++◌, ◌⊎◌, length, Some, All, Contains}
 use Rattle.std.specs.List.{AllPairs}
-use Rattle.dimacs.specs.ClauseMap.{Live}
-use Rattle.dimacs.specs.Literal.{Clause}
+use Rattle.dimacs.specs.logic.ClauseMap.{Live}
+use Rattle.dimacs.specs.logic.Literal.{Clause}
 use Rattle.lrat_text.specs.Grammar.{IsStep, IsClauseNumber}
 use Rattle.lrat_text.specs.Writing.{line_of}
 use Rattle.lrat_text.specs.declared.step.Step.TheVariants.{Delete}

@@ -4,7 +4,7 @@ ghost use Rattle.std.specs.Prelude.{◌≡◌, ℕ, ◌+◌, ◌<◌, ◌≤◌,
 ghost use Rattle.clause_arena.specs.Clauses.{live_of};
 ghost use Rattle.conflict_analysis.specs.Built.{IsDecided};
 ghost use Rattle.decide_heap.specs.Decisions.{Decisions};
-ghost use Rattle.dimacs.specs.Literal.{IsWithin};
+ghost use Rattle.dimacs.specs.logic.Literal.{IsWithin};
 ghost use Rattle.lrat_text.specs.Log.{Cube};
 ghost use Rattle.watches.specs.Law.{AreSame, IsConflict, IsQuiet};
 ghost use Rattle.watches.specs.declared.trail.Assigned.{Assigned};

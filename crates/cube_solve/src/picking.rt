@@ -1,7 +1,7 @@
 //! What to assume or decide next.
 
 ghost use Rattle.std.specs.Prelude.{List, All};
-ghost use Rattle.dimacs.specs.Literal.{Literal, IsWithin};
+ghost use Rattle.dimacs.specs.logic.Literal.{Literal, IsWithin};
 ghost use Rattle.cube_solve.specs.Conflicts.{AllHold};
 ghost use Rattle.cube_solve.specs.Order.{IsOrder, IsTaken};
 ghost use Rattle.cube_solve.specs.State.{IsAssuming};

@@ -2,9 +2,9 @@
 
 ghost use Rattle.std.specs.Prelude.{◌≡◌, ℕ, ◌+◌, ◌<◌, ◌≤◌, ◌^◌, List, [], ◌++◌, length, map, nat_eq, All, IfOk, OnOk};
 ghost use Rattle.std.specs.List.{IsDistinct};
-ghost use Rattle.dimacs.specs.ClauseMap.{map_of, live_in};
-ghost use Rattle.dimacs.specs.Cnf.{Cnf};
-ghost use Rattle.dimacs.specs.Literal.{Clause, IsWithin, var_of};
+ghost use Rattle.dimacs.specs.logic.ClauseMap.{map_of, live_in};
+ghost use Rattle.dimacs.specs.logic.Cnf.{Cnf};
+ghost use Rattle.dimacs.specs.logic.Literal.{Clause, IsWithin, var_of};
 ghost use Rattle.clause_arena.specs.Clauses.{Clauses, live_of};
 ghost use Rattle.lrat_text.specs.Grammar.{IsClauseNumber};
 ghost use Rattle.lrat_text.specs.Log.{Cube};

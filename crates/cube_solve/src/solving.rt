@@ -2,7 +2,7 @@
 
 ghost use Rattle.std.specs.Prelude.{◌≡◌, ◌+◌, ◌^◌, ◌<◌, ◌≤◌, [], map, nat_eq, All, IfOk};
 ghost use Rattle.std.specs.List.{IsDistinct};
-ghost use Rattle.dimacs.specs.Literal.{IsWithin, var_of};
+ghost use Rattle.dimacs.specs.logic.Literal.{IsWithin, var_of};
 ghost use Rattle.lrat_text.specs.Log.{Closes, IsHonest};
 ghost use Rattle.cube_solve.specs.Conflicts.{MeetsConflict};
 ghost use Rattle.cube_solve.specs.Outcome.{IsModel, IsBrief, IsFresh, IfModel, IfRefuted, IfLimit, allowed};

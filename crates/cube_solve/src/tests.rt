@@ -1,7 +1,7 @@
 //! Small bases, each to every outcome.
 
 ghost use Rattle.std.specs.Prelude.{◌≡◌, ◌≤◌};
-ghost use Rattle.dimacs.specs.Literal.{Pos, IsWithin};
+ghost use Rattle.dimacs.specs.logic.Literal.{Pos, IsWithin};
 
 use crate::pace::Pace;
 use crate::{Outcome, solve};

@@ -5,9 +5,10 @@ use Rattle.std.proofs.lemmas.Bool.{cases_lt, cases_eq, eqb-false, ne_eqb, or_par
 use Rattle.std.proofs.lemmas.List.Elements.{All-nil, All-cons, All-head, All-tail}
 use Rattle.std.proofs.lemmas.List.Folds.{list_any-append}
 use Rattle.std.proofs.lemmas.List.Sums.{sum_by-cons}
-use Rattle.dimacs.specs.Cnf.{Cnf, AreWithin}
-use Rattle.dimacs.specs.Literal.{Literal, Pos, Neg, Clause, same, has, var_of, IsWithin}
+use Rattle.dimacs.specs.logic.Cnf.{Cnf, AreWithin}
+use Rattle.dimacs.specs.logic.Literal.{Literal, Pos, Neg, Clause, same, has, var_of, IsWithin}
 use Rattle.icnf.specs.Leaves.{IsFree}
+use Rattle.dimacs.proofs.WithinLemmas.{EachWithin, each_within}
 use Rattle.cube_split.specs.Choice.{has_variable, is_apart, stands_in, IsChoice, HasNoChoice, Choice}
 use Rattle.cube_split.specs.Marks.{AreMarked, IsUnmarked, IsGreatest}
 use Rattle.cube_split.proofs.MarkLemmas.{marked_at, marked_same}
@@ -63,14 +64,17 @@ no_variable vars w [] out h = refl
 no_variable vars w (l ∷ C) out h =
     or_from (eqb (var_of l) w) (has_variable C w) (ne_eqb (var_of l) w (λ e. ⊎_elim (λ (z : w ≡ 0). absurd (omega (arith, h.0.0))) (λ (a : vars < w). absurd (omega (arith, h.0.1))) out)) (no_variable vars w C out h.1)
 
-pub stands_nowhere : (vars w : ℕ) (clauses : List Clause) (S : List Literal) → (w ≡ 0) ⊎ (vars < w) → AreWithin vars clauses → stands_in clauses S w ≡ 0
-stands_nowhere vars w [] S out h = refl
-stands_nowhere vars w (C ∷ clauses) S out h =
+each_nowhere : (vars w : ℕ) (clauses : List Clause) (S : List Literal) → (w ≡ 0) ⊎ (vars < w) → EachWithin vars clauses → stands_in clauses S w ≡ 0
+each_nowhere vars w [] S out h = refl
+each_nowhere vars w (C ∷ clauses) S out h =
     let fails : (is_apart S C && has_variable C w) ≡ false = and_right (is_apart S C) (has_variable C w) (no_variable vars w C out h.0) in
     let none : cond {A = ℕ} (is_apart S C && has_variable C w) 1 0 ≡ 0 = cond-false {A = ℕ} (is_apart S C && has_variable C w) 1 0 fails in
-    let rest = stands_nowhere vars w clauses S out h.1 in
+    let rest = each_nowhere vars w clauses S out h.1 in
     let all = sum_by-cons (λ (D : Clause). cond {A = ℕ} (is_apart S D && has_variable D w) 1 0) C clauses in
     omega arith
+
+pub stands_nowhere : (vars w : ℕ) (clauses : List Clause) (S : List Literal) → (w ≡ 0) ⊎ (vars < w) → AreWithin vars clauses → stands_in clauses S w ≡ 0
+stands_nowhere vars w clauses S out h = each_nowhere vars w clauses S out (each_within vars clauses h)
 
 inside_or_out : (vars w : ℕ) → ((0 < w) × (w ≤ vars)) ⊎ ((w ≡ 0) ⊎ (vars < w))
 inside_or_out vars w = ⊎_elim

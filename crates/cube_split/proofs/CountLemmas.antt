@@ -4,7 +4,7 @@ use Rattle.std.specs.List.{list_any, count_by}
 use Rattle.std.proofs.lemmas.Bool.{cases_eq, cases_Bool, eq-eqb, ne_eqb, cond-true, cond-false, and_from, and_left, and_right}
 use Rattle.std.proofs.lemmas.List.Folds.{list_any_more}
 use Rattle.std.proofs.lemmas.List.Sums.{count_by_more_yes, count_by_more_no}
-use Rattle.dimacs.specs.Literal.{Literal, Pos, Neg, Clause, var_of, index_of, IsWithin}
+use Rattle.dimacs.specs.logic.Literal.{Literal, Pos, Neg, Clause, var_of, index_of, IsWithin}
 use Rattle.cube_split.specs.Choice.{has_variable}
 use Rattle.cube_split.specs.Marks.{AreMarked}
 

@@ -4,7 +4,7 @@ use Rattle.std.specs.List.{list_any, count_by}
 use Rattle.std.proofs.lemmas.Bool.{cases_eq, cases_Bool, eq-eqb, ne_eqb, not-true as not_true, not-false as not_false, not_from_true, not_from_false, both_ways, or_parts, or_from, or_left}
 use Rattle.std.proofs.lemmas.List.{take_all}
 use Rattle.std.proofs.lemmas.List.Sums.{count_by_more_yes, count_by_more_no, sum_by-cons}
-use Rattle.dimacs.specs.Literal.{Literal, Clause, same, has}
+use Rattle.dimacs.specs.logic.Literal.{Literal, Clause, same, has}
 use Rattle.dimacs.proofs.LiteralLemmas.{same-flips}
 use Rattle.icnf.specs.Leaves.{Cube}
 use Rattle.cube_split.specs.Choice.{has_variable, is_apart, stands_in}

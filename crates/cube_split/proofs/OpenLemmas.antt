@@ -4,7 +4,7 @@ use Rattle.std.proofs.lemmas.Bool.{cases_eq, eq-eqb, ne_eqb, not-true as not_tru
 use Rattle.std.proofs.lemmas.List.{get_or-map, get_or_default, length-map, take_all}
 use Rattle.std.proofs.lemmas.List.Elements.{All-get_or}
 use Rattle.std.proofs.lemmas.List.Folds.{list_any_at}
-use Rattle.dimacs.specs.Literal.{Literal, Clause, var_of}
+use Rattle.dimacs.specs.logic.Literal.{Literal, Clause, var_of}
 use Rattle.cube_split.specs.Choice.{has_variable}
 use Rattle.cube_split.specs.Open.{AreFlagged, open_count}
 use Rattle.cube_split.specs.Places.{nowhere, place_at}

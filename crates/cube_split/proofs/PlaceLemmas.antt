@@ -5,8 +5,8 @@ use Rattle.std.proofs.Math.Seq.{get_or-append_seam, take-append_seam, drop-appen
 use Rattle.std.proofs.lemmas.Bool.{cases_eq, cases_lt, eq-eqb, ne_eqb, cond-true}
 use Rattle.std.proofs.lemmas.List.Elements.{All-append}
 use Rattle.std.proofs.lemmas.List.{get_or_append_left, take-append-le, drop-append-le, length-map, get_or-map, map-append, take_all, take_more, append-nil}
-use Rattle.dimacs.specs.Cnf.{literal_count}
-use Rattle.dimacs.specs.Literal.{Literal, Clause, var_of, index_of, literal_of}
+use Rattle.dimacs.specs.logic.Cnf.{literal_count}
+use Rattle.dimacs.specs.logic.Literal.{Literal, Clause, var_of, index_of, literal_of}
 use Rattle.cube_split.specs.Choice.{has_variable}
 use Rattle.cube_split.specs.Open.{AreIndexed}
 use Rattle.cube_split.specs.Places.{nowhere, place_at, places_of, AreOf, Appends, IsLast, AreChained, ArePlaced}

@@ -4,9 +4,9 @@ use Rattle.std.specs.List.{filter, flat_map, All}
 use Rattle.std.proofs.lemmas.List.{append-nil}
 use Rattle.std.proofs.lemmas.List.Elements.{filter-append, All-filter, All-cons, All-nil}
 use Rattle.std.proofs.lemmas.List.Folds.{list_any_more}
-use Rattle.dimacs.specs.Base.{occurs, is_pure, numbers_from, pure_literals}
-use Rattle.dimacs.specs.Cnf.{Cnf}
-use Rattle.dimacs.specs.Literal.{Literal, Clause, Pos, Neg, has, IsWithin}
+use Rattle.dimacs.specs.logic.Base.{occurs, is_pure, numbers_from, pure_literals}
+use Rattle.dimacs.specs.logic.Cnf.{Cnf}
+use Rattle.dimacs.specs.logic.Literal.{Literal, Clause, Pos, Neg, has, IsWithin}
 use Rattle.cube_split.specs.Marks.{AreMarked}
 use Rattle.cube_split.proofs.MarkLemmas.{marked_same}
 

@@ -7,12 +7,12 @@ use Rattle.std.specs.FinMap.{find, get-from_entries}
 use Rattle.std.proofs.lemmas.Bool.{both_ways, and_parts, or_parts, or_from, not-true as not_true}
 use Rattle.std.proofs.lemmas.List.Elements.{filter_passes, All-nil, All-cons, All-head, All-tail}
 use Rattle.std.proofs.lemmas.List.Folds.{list_any-append}
-use Rattle.dimacs.specs.Base.{occurs, is_pure, numbers_from, pure_literals}
-use Rattle.dimacs.specs.ClauseMap.{live_in, map_of}
-use Rattle.dimacs.specs.Cnf.{Cnf}
-use Rattle.dimacs.specs.Literal.{Literal, Pos, Neg, Clause, negation, same, has}
-use Rattle.dimacs.specs.Propagation.{negations}
-use Rattle.dimacs.specs.Rat.{Rat}
+use Rattle.dimacs.specs.logic.Base.{occurs, is_pure, numbers_from, pure_literals}
+use Rattle.dimacs.specs.logic.ClauseMap.{live_in, map_of}
+use Rattle.dimacs.specs.logic.Cnf.{Cnf}
+use Rattle.dimacs.specs.logic.Literal.{Literal, Pos, Neg, Clause, negation, same, has}
+use Rattle.dimacs.specs.logic.Propagation.{negations}
+use Rattle.dimacs.specs.logic.Rat.{Rat}
 use Rattle.dimacs.proofs.LiteralLemmas.{same-true, negation_apart}
 use Rattle.dimacs.proofs.Members.{Contains-has}
 use Rattle.cube_split.specs.Splitting.{with_units}

@@ -1,14 +1,14 @@
 -- Trees that are split by the rule.
 use Rattle.std.proofs.Common.{◌≡◌, ◌≢◌, ℕ, suc, ◌*◌, ◌^◌, ◌<◌, ◌≤◌, List, [], ◌∷◌, ◌++◌, length, ap, ◌∙◌, arith, ⊎_elim, ◌⊎◌, inl, inr, length-append, append_assoc, take, ◌-◌, Result, Ok, Err, IfOk, OnOk}
-use Rattle.std.specs.List.{AllByRecursion}
+use Rattle.std.specs.List.{All}
+use Rattle.std.proofs.lemmas.List.Elements.{All-append, All-cons, All-nil, All-push}
 use Rattle.std.proofs.Math.Nat.{pow-suc}
 use Rattle.std.proofs.lemmas.Nat.{pow_pos}
 use Rattle.std.proofs.lemmas.Bool.{cases_lt, cases_eq}
 use Rattle.std.proofs.lemmas.List.{take_at}
 use Rattle.std.proofs.lemmas.List.Elements.{All-tail}
-use Rattle.dimacs.specs.Building.{greatest_in}
-use Rattle.dimacs.specs.Cnf.{Cnf, AreWithin}
-use Rattle.dimacs.specs.Literal.{Literal, Pos, Neg, var_of, IsWithin}
+use Rattle.dimacs.specs.logic.Cnf.{Cnf, AreWithin, greatest_in}
+use Rattle.dimacs.specs.logic.Literal.{Literal, Pos, Neg, var_of, IsWithin}
 use Rattle.icnf.specs.Leaves.{Cube, IsFree, Leaves, leaf, fork}
 use Rattle.icnf.proofs.StateLemmas.{clauses_within}
 use Rattle.cube_split.specs.Choice.{IsChoice, HasNoChoice}
@@ -37,13 +37,9 @@ split_count full = omega arith
 split_count (whole {levels = k} none) = omega (arith, power_some k)
 split_count (split {levels = k} {left = l} {right = r} v choice left right) = omega (arith, split_count left, split_count right, double k, length-append l r)
 
-path_push : (n : ℕ) (path : Cube) (l : Literal) → AllByRecursion (IsWithin n) path → IsWithin n l → AllByRecursion (IsWithin n) (path ++ l ∷ [])
-path_push n [] l h k = (k, tt)
-path_push n (x ∷ path) l h k = (h.0, path_push n path l h.1 k)
-
-cubes_append : (n : ℕ) (xs ys : List Cube) → AreWithin n xs → AreWithin n ys → AreWithin n (xs ++ ys)
-cubes_append n [] ys h k = k
-cubes_append n (x ∷ xs) ys h k = (h.0, cubes_append n xs ys h.1 k)
+-- one cube alone
+one_within : (n : ℕ) (path : Cube) → All (IsWithin n) path → AreWithin n (path ∷ [])
+one_within n path h = All-cons (All (IsWithin n)) path [] h (All-nil (All (IsWithin n)))
 
 -- a choice is a variable of the clauses
 choice_within : (f : Cnf) (S : List Literal) (v : ℕ) → AreWithin f.vars f.clauses → IsChoice f S v → (0 < v) × (v ≤ greatest_in f.clauses)
@@ -58,15 +54,15 @@ choice_within f S v within h =
     (cases_eq v 0)
 
 -- no cube has a variable that stands in no clause
-pub split_within : {f : Cnf} {units : List Literal} {levels : ℕ} {path : Cube} {cubes : List Cube} → AreWithin f.vars f.clauses → AllByRecursion (IsWithin (greatest_in f.clauses)) path
+pub split_within : {f : Cnf} {units : List Literal} {levels : ℕ} {path : Cube} {cubes : List Cube} → AreWithin f.vars f.clauses → All (IsWithin (greatest_in f.clauses)) path
     → IsSplit f units levels path cubes → AreWithin (greatest_in f.clauses) cubes
-split_within within h full = (h, tt)
-split_within within h (whole none) = (h, tt)
+split_within {f = f} {path = path} within h full = one_within (greatest_in f.clauses) path h
+split_within {f = f} {path = path} within h (whole none) = one_within (greatest_in f.clauses) path h
 split_within {f = f} {units = units} within h (split {path = path} {left = l} {right = r} v choice left right) =
     let here = choice_within f (units ++ path) v within choice in
-    cubes_append (greatest_in f.clauses) l r
-    (split_within within (path_push (greatest_in f.clauses) path (Pos v) h here) left)
-    (split_within within (path_push (greatest_in f.clauses) path (Neg v) h here) right)
+    All-append (All (IsWithin (greatest_in f.clauses))) l r
+    (split_within within (All-push (IsWithin (greatest_in f.clauses)) path (Pos v) h here) left)
+    (split_within within (All-push (IsWithin (greatest_in f.clauses)) path (Neg v) h here) right)
 
 -- the path alone
 pub appends_leaf : (f : Cnf) (units : List Literal) (levels : ℕ) (path : Cube) (before after : List Cube) → after ≡ before ++ path ∷ [] → (levels ≡ 0) ⊎ HasNoChoice f (units ++ path) → AppendsSplit f units levels path before after

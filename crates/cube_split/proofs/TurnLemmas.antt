@@ -4,7 +4,7 @@ use Rattle.std.specs.List.{slice_range}
 use Rattle.std.proofs.lemmas.Bool.{cases_eq, cases_lt, or_cases, both_ways}
 use Rattle.std.proofs.lemmas.List.{get_or-map, get_or-take, get_or-drop, length-take-le, length-map}
 use Rattle.std.proofs.lemmas.List.Folds.{list_any_at}
-use Rattle.dimacs.specs.Literal.{Literal, index_of, same, has}
+use Rattle.dimacs.specs.logic.Literal.{Literal, index_of, same, has}
 use Rattle.dimacs.proofs.LiteralLemmas.{same-true, same-is}
 use Rattle.cube_split.specs.Open.{AreIndexed, AreTurned}
 use Rattle.cube_split.specs.Places.{nowhere, place_at, places_of, clause_of, IsLast}

@@ -1,8 +1,8 @@
 -- Unit clauses behind a formula.
 use Rattle.std.proofs.Common.{◌≡◌, ℕ, ◌+◌, ◌<◌, List, [], ◌∷◌, ◌++◌, map, length, get_or, take, refl, sym, ap, ◌∙◌, arith, length-append, append_assoc}
 use Rattle.std.proofs.lemmas.List.{length-map, map_more}
-use Rattle.dimacs.specs.Cnf.{Cnf, literal_count}
-use Rattle.dimacs.specs.Literal.{Literal, Clause}
+use Rattle.dimacs.specs.logic.Cnf.{Cnf, literal_count}
+use Rattle.dimacs.specs.logic.Literal.{Literal, Clause}
 use Rattle.cube_split.specs.Splitting.{with_units}
 
 count_append : (xs ys : List Clause) → literal_count (xs ++ ys) ≡ literal_count xs + literal_count ys

@@ -5,9 +5,9 @@ use Rattle.std.proofs.lemmas.Bool.{cases_eq, cases_lt, ne_eqb}
 use Rattle.std.proofs.Math.Seq.{get_or-append_seam}
 use Rattle.std.proofs.lemmas.List.{get_or_append_left, get_or-take, length-take-le, append-nil}
 use Rattle.std.proofs.lemmas.List.Folds.{list_any-append}
-use Rattle.dimacs.specs.Cnf.{Cnf, IsFormula}
-use Rattle.dimacs.specs.Codes.{index_of-literal_of}
-use Rattle.dimacs.specs.Literal.{Literal, Pos, Neg, Clause, same, has, var_of, index_of, literal_of}
+use Rattle.dimacs.specs.logic.Cnf.{Cnf, IsFormula}
+use Rattle.dimacs.specs.layout.Codes.{index_of-literal_of}
+use Rattle.dimacs.specs.logic.Literal.{Literal, Pos, Neg, Clause, same, has, var_of, index_of, literal_of}
 use Rattle.icnf.specs.Leaves.{Cube, IsFree}
 use Rattle.cube_split.specs.Choice.{Choice, IsChoice, stands_in}
 use Rattle.cube_split.specs.Marks.{AreMarked, IsUnmarked, IsGreatest}

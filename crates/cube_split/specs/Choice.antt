@@ -1,8 +1,8 @@
 -- The split rule: which variable a cube is split on.
 use Rattle.std.specs.Prelude.{◌≡◌, ℕ, ◌<◌, ◌≤◌, ◌==◌, Bool, not, ◌&&◌, List, Option, Some, None, count_by}
 use Rattle.std.specs.List.{list_any}
-use Rattle.dimacs.specs.Cnf.{Cnf}
-use Rattle.dimacs.specs.Literal.{Literal, Clause, var_of, has}
+use Rattle.dimacs.specs.logic.Cnf.{Cnf}
+use Rattle.dimacs.specs.logic.Literal.{Literal, Clause, var_of, has}
 use Rattle.icnf.specs.Leaves.{IsFree}
 
 -- whether a literal of the variable stands in the clause

@@ -1,6 +1,6 @@
 -- Tables over literals and variables.
 use Rattle.std.specs.Prelude.{◌≡◌, ℕ, ◌+◌, ◌<◌, ◌≤◌, ◌*◌, Bool, false, List, Option, Some, None, ◌⊎◌, length, slice_index, slice_index_or}
-use Rattle.dimacs.specs.Literal.{Literal, literal_of}
+use Rattle.dimacs.specs.logic.Literal.{Literal, literal_of}
 
 -- the table says of each literal whether the test holds of it; a literal stands at its place, twice its variable, and one more where it is negated
 pub record AreMarked (marks : List Bool) (test : Literal → Bool) : Type 0 where

@@ -1,6 +1,6 @@
 -- The clauses that a path leaves open, by tables. Nothing here is to be believed.
 use Rattle.std.specs.Prelude.{◌≡◌, ℕ, zero, suc, ◌+◌, ◌<◌, ◌≤◌, ◌==◌, ◌&&◌, true, not, List, length, take, cond, slice_index}
-use Rattle.dimacs.specs.Literal.{Literal, Clause, var_of, has}
+use Rattle.dimacs.specs.logic.Literal.{Literal, Clause, var_of, has}
 use Rattle.cube_split.specs.Choice.{has_variable}
 use Rattle.cube_split.specs.Places.{place_at, places_of, clause_of, AreOf, AreChained}
 use Rattle.cube_split.specs.declared.places.Place.{Place}

@@ -1,6 +1,6 @@
 -- Where literals stand in clauses, as the walk over a tree looks them up. Nothing here is to be believed.
 use Rattle.std.specs.Prelude.{◌≡◌, ◌≢◌, ℕ, ◌+◌, ◌-◌, ◌<◌, ◌≤◌, false, not, List, [], ◌++◌, length, map, take, slice_index_or, slice_range}
-use Rattle.dimacs.specs.Literal.{Literal, Pos, Clause, var_of, index_of}
+use Rattle.dimacs.specs.logic.Literal.{Literal, Pos, Clause, var_of, index_of}
 use Rattle.cube_split.specs.Choice.{has_variable}
 use Rattle.cube_split.specs.declared.places.Place.{Place}
 

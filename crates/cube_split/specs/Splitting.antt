@@ -1,8 +1,8 @@
 -- The tree that the split rule makes of a formula.
 use Rattle.std.specs.Prelude.{◌≡◌, ℕ, zero, suc, List, [], ◌∷◌, ◌++◌, map}
-use Rattle.dimacs.specs.Base.{pure_literals}
-use Rattle.dimacs.specs.Cnf.{Cnf}
-use Rattle.dimacs.specs.Literal.{Literal, Pos, Neg}
+use Rattle.dimacs.specs.logic.Base.{pure_literals}
+use Rattle.dimacs.specs.logic.Cnf.{Cnf}
+use Rattle.dimacs.specs.logic.Literal.{Literal, Pos, Neg}
 use Rattle.icnf.specs.Leaves.{Cube}
 use Rattle.cube_split.specs.Choice.{IsChoice, HasNoChoice}
 

@@ -1,8 +1,8 @@
 -- What a walk over a tree keeps at a path. Nothing here is to be believed.
 use Rattle.std.specs.Prelude.{◌≡◌, ℕ, Bool, ◌+◌, ◌*◌, ◌<◌, ◌≤◌, List, [], ◌∷◌, ◌++◌, length, slice_index, slice_index_or, All, if◌then◌else◌}
 use Rattle.std.specs.List.{list_any}
-use Rattle.dimacs.specs.Cnf.{Cnf, AreWithin}
-use Rattle.dimacs.specs.Literal.{Literal, Clause, var_of, has}
+use Rattle.dimacs.specs.logic.Cnf.{Cnf, AreWithin}
+use Rattle.dimacs.specs.logic.Literal.{Literal, Clause, var_of, has}
 use Rattle.icnf.specs.Leaves.{Cube}
 use Rattle.cube_split.specs.Choice.{is_apart, stands_in}
 use Rattle.cube_split.specs.Marks.{AreMarked}

@@ -1,11 +1,11 @@
 //! Laws of the definitions.
 
 ghost use Rattle.std.specs.Prelude.{◌≡◌, List, [], ◌∷◌, ◌++◌};
-ghost use Rattle.dimacs.specs.Base.{pure_literals};
-ghost use Rattle.dimacs.specs.ClauseMap.{live_in, map_of};
-ghost use Rattle.dimacs.specs.Cnf.{Cnf};
-ghost use Rattle.dimacs.specs.Literal.{Literal};
-ghost use Rattle.dimacs.specs.Rat.{Rat};
+ghost use Rattle.dimacs.specs.logic.Base.{pure_literals};
+ghost use Rattle.dimacs.specs.logic.ClauseMap.{live_in, map_of};
+ghost use Rattle.dimacs.specs.logic.Cnf.{Cnf};
+ghost use Rattle.dimacs.specs.logic.Literal.{Literal};
+ghost use Rattle.dimacs.specs.logic.Rat.{Rat};
 ghost use Rattle.cube_split.specs.Splitting.{with_units};
 
 /// The unit of each pure literal is a resolution asymmetric tautology over the formula and the units before it, with no

@@ -1,7 +1,7 @@
 //! Which clauses are open, and in how many of them each variable stands.
 
 ghost use Rattle.std.specs.Prelude.{◌≡◌, ℕ, ◌+◌, ◌<◌, ◌≤◌, length, map, cond, slice_index, All};
-ghost use Rattle.dimacs.specs.Literal.{var_of, index_of};
+ghost use Rattle.dimacs.specs.logic.Literal.{var_of, index_of};
 ghost use Rattle.cube_split.specs.Choice.{has_variable};
 ghost use Rattle.cube_split.specs.Open.{AreFlagged, AreIndexed, AreTurned, open_count};
 ghost use Rattle.cube_split.specs.Places.{clause_of, places_of};

@@ -1,7 +1,7 @@
 //! Where each literal stands in a formula.
 
 ghost use Rattle.std.specs.Prelude.{◌≡◌, ℕ, ◌+◌, ◌*◌, ◌<◌, ◌≤◌, ◌++◌, List, [], ◌∷◌, length, slice_index, All, IfOk, OnOk};
-ghost use Rattle.dimacs.specs.Literal.{var_of, index_of};
+ghost use Rattle.dimacs.specs.logic.Literal.{var_of, index_of};
 ghost use Rattle.cube_split.specs.Places.{ArePlaced, AreChained, Appends};
 
 use dimacs::{Formula, Lit};

@@ -2,8 +2,8 @@
 
 ghost use Rattle.std.specs.Prelude.{◌≡◌, ◌+◌, ◌*◌, ◌<◌, ◌≤◌, ◌&&◌, ◌∷◌, [], not, filter, length, vec_len, All, Bool, List, IfOk};
 ghost use Rattle.std.specs.Option.{option_to_list};
-ghost use Rattle.dimacs.specs.Base.{occurs, pure_literals};
-ghost use Rattle.dimacs.specs.Literal.{Literal, Clause, Pos, Neg, negation, IsWithin};
+ghost use Rattle.dimacs.specs.logic.Base.{occurs, pure_literals};
+ghost use Rattle.dimacs.specs.logic.Literal.{Literal, Clause, Pos, Neg, negation, IsWithin};
 ghost use Rattle.cube_split.specs.Marks.{AreMarked};
 
 use crate::marks::mark;

@@ -1,9 +1,8 @@
 //! Trees that are grown leaf by leaf, or by the split rule.
 
 ghost use Rattle.std.specs.Prelude.{◌≡◌, ◌+◌, ◌^◌, ◌<◌, ◌≤◌, List, [], ◌∷◌, ◌++◌, ◌⊎◌, length, slice_index_or, vec_len, IfOk, IfSome, IfNone, OnOk, OnErr};
-ghost use Rattle.dimacs.specs.Building.{greatest_in};
-ghost use Rattle.dimacs.specs.Cnf.{Cnf, AreWithin};
-ghost use Rattle.dimacs.specs.Literal.{Literal, var_of};
+ghost use Rattle.dimacs.specs.logic.Cnf.{Cnf, AreWithin, greatest_in};
+ghost use Rattle.dimacs.specs.logic.Literal.{Literal, var_of};
 ghost use Rattle.icnf.specs.Leaves.{Cube, IsFree, branched};
 ghost use Rattle.cube_split.specs.Choice.{IsChoice, HasNoChoice};
 ghost use Rattle.cube_split.specs.Splitting.{IsTreeOf, AppendsSplit};

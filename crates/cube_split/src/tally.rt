@@ -2,7 +2,7 @@
 
 ghost use Rattle.std.specs.Prelude.{◌≡◌, ◌≢◌, ℕ, ◌+◌, ◌*◌, ◌<◌, ◌≤◌, ◌⊎◌, length, slice_index, take, All, Bool, IfOk, cond, count_by, not, ◌&&◌};
 ghost use Rattle.std.specs.List.{list_any};
-ghost use Rattle.dimacs.specs.Literal.{Literal, var_of};
+ghost use Rattle.dimacs.specs.logic.Literal.{Literal, var_of};
 ghost use Rattle.cube_split.specs.Choice.{has_variable};
 ghost use Rattle.cube_split.specs.Marks.{AreMarked};
 ghost use Rattle.cube_split.specs.Tallies.{IsTally, IsClear, AreListed};

@@ -1,9 +1,9 @@
 //! Unit clauses that may be added to a formula before it is split.
 
 ghost use Rattle.std.specs.Prelude.{◌≡◌, ◌≤◌, length, All, IfOk};
-ghost use Rattle.dimacs.specs.Base.{pure_literals, base_of};
-ghost use Rattle.dimacs.specs.Cnf.{IsFormula};
-ghost use Rattle.dimacs.specs.Literal.{IsWithin};
+ghost use Rattle.dimacs.specs.logic.Base.{pure_literals, base_of};
+ghost use Rattle.dimacs.specs.logic.Cnf.{IsFormula};
+ghost use Rattle.dimacs.specs.logic.Literal.{IsWithin};
 ghost use Rattle.cube_split.specs.Splitting.{with_units};
 
 use dimacs::{Base, Formula, Lit};
@@ -18,7 +18,7 @@ pub struct Preamble {
 
 impl Model for Preamble {
     ghost use Rattle.std.specs.Prelude.{List, ◌≤◌, length};
-    ghost use Rattle.dimacs.specs.Literal.{Literal};
+    ghost use Rattle.dimacs.specs.logic.Literal.{Literal};
 
     ghost Value = { List Literal };
 

@@ -2,8 +2,8 @@
 
 ghost use Rattle.std.specs.Prelude.{◌≡◌, ℕ, ◌+◌, ◌*◌, ◌<◌, ◌≤◌, ◌++◌, ◌∷◌, ◌&&◌, not, Bool, List, [], length, slice_index, count_by, IfOk};
 ghost use Rattle.std.specs.List.{list_any};
-ghost use Rattle.dimacs.specs.Cnf.{Cnf};
-ghost use Rattle.dimacs.specs.Literal.{Literal, var_of, has};
+ghost use Rattle.dimacs.specs.logic.Cnf.{Cnf};
+ghost use Rattle.dimacs.specs.logic.Literal.{Literal, var_of, has};
 ghost use Rattle.icnf.specs.Leaves.{Cube, IsFree};
 ghost use Rattle.cube_split.specs.Choice.{Choice, has_variable};
 ghost use Rattle.cube_split.specs.Marks.{AreMarked};

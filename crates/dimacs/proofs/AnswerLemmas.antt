@@ -3,8 +3,8 @@ use Rattle.std.proofs.Common.{◌≡◌, ℕ, ◌+◌, ◌<◌, ◌≤◌, Bool,
 use Rattle.std.specs.Prelude.{if◌then◌else◌, slice_index_or, map}
 use Rattle.std.proofs.lemmas.List.{drop_all}
 use Rattle.std.specs.Fmt.{signed_decimal}
-use Rattle.dimacs.specs.Literal.{Pos, Neg, number_of}
-use Rattle.dimacs.specs.Answer.{true_literals}
+use Rattle.dimacs.specs.logic.Literal.{Pos, Neg, number_of}
+use Rattle.dimacs.specs.text.Answer.{true_literals}
 
 -- the items of the values from variable v on
 abbrev pub items_from : ℕ → List Bool → List (List ℕ)

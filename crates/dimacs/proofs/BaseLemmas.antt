@@ -1,17 +1,13 @@
 -- A base stays within its limits.
 use Rattle.std.proofs.Common.{◌≡◌, ℕ, zero, suc, ◌+◌, ◌<◌, ◌≤◌, List, [], ◌∷◌, ◌++◌, length, get_or, take, arith, length-append}
-use Rattle.std.specs.List.{All, AllByRecursion}
-use Rattle.std.proofs.lemmas.List.Elements.{recursion_from_All}
-use Rattle.dimacs.specs.Literal.{Clause, IsWithin}
-use Rattle.dimacs.specs.Cnf.{Cnf, literal_count, AreWithin, IsBase}
+use Rattle.std.specs.List.{All}
+use Rattle.std.proofs.lemmas.List.Elements.{All-push}
+use Rattle.dimacs.specs.logic.Literal.{Clause, IsWithin}
+use Rattle.dimacs.specs.logic.Cnf.{Cnf, literal_count, IsBase}
 
 count_push : (cs : List Clause) (C : Clause) → literal_count (cs ++ C ∷ []) ≡ literal_count cs + length C
 count_push [] C = omega arith
 count_push (D ∷ cs) C = omega (arith, count_push cs C)
-
-within_push : (vars : ℕ) (cs : List Clause) (C : Clause) → AreWithin vars cs → AllByRecursion (IsWithin vars) C → AreWithin vars (cs ++ C ∷ [])
-within_push vars [] C h k = (k, tt)
-within_push vars (D ∷ cs) C h k = (h.0, within_push vars cs C h.1 k)
 
 pub base_push : (f : Cnf) (C : Clause) → IsBase f → length f.clauses < 5000192 → literal_count f.clauses + length C ≤ 51000448 → All (IsWithin f.vars) C
     → IsBase (record f { clauses = f.clauses ++ C ∷ [] })
@@ -19,7 +15,7 @@ base_push f C h room literals within = record {
   vars = h.vars;
   clauses = omega (arith, length-append f.clauses (C ∷ []));
   literals = omega (arith, count_push f.clauses C);
-  within = within_push f.vars f.clauses C h.within (recursion_from_All (IsWithin f.vars) C within);
+  within = All-push (All (IsWithin f.vars)) f.clauses C h.within within;
 }
 
 -- the clause at i and those before it have no more literals than all

@@ -2,9 +2,9 @@
 use Rattle.std.proofs.Common.{◌≡◌, ℕ, ◌<◌, ◌≤◌, List, [], ◌∷◌, Ok, length, refl, arith}
 use Rattle.std.proofs.lemmas.Bool.{lt-ltb, le-ltb}
 use Rattle.dimacs.specs.declared.fault.Kind.TheVariants.{ClauseNotEnded, TooFewClauses}
-use Rattle.dimacs.specs.BodyState.{BodyState}
-use Rattle.dimacs.specs.Literal.{Clause}
-use Rattle.dimacs.specs.Reading.{finish, fault}
+use Rattle.dimacs.specs.text.BodyState.{BodyState}
+use Rattle.dimacs.specs.logic.Literal.{Clause}
+use Rattle.dimacs.specs.text.Reading.{finish, fault}
 
 abbrev pub state : ℕ → ℕ → List Clause → Clause → ℕ → BodyState
 state vars count done open_clause total = record { vars = vars; count = count; done = done; open_clause = open_clause; total = total }

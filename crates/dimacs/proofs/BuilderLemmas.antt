@@ -3,12 +3,13 @@ use Rattle.std.proofs.Common.{◌≡◌, ℕ, zero, suc, ◌+◌, ◌-◌, ◌<�
 use Rattle.std.proofs.Math.Seq.{get_or-append_seam}
 use Rattle.std.proofs.lemmas.Bool.{cases_lt}
 use Rattle.std.proofs.lemmas.List.{take_all, drop_all, take-append-le, take-append-drop, drop-append-le, get_or_append_left, get_or_read}
-use Rattle.dimacs.specs.Building.{Building, IsLaid, greatest_of, greatest_in}
-use Rattle.dimacs.specs.Cnf.{AreWithin}
-use Rattle.dimacs.specs.Literal.{Literal, Clause, IsWithin, var_of}
+use Rattle.dimacs.specs.layout.Building.{Building, IsLaid}
+use Rattle.dimacs.specs.logic.Cnf.{AreWithin, greatest_of, greatest_in}
+use Rattle.dimacs.proofs.WithinLemmas.{EachWithin, each_within}
+use Rattle.dimacs.specs.logic.Literal.{Literal, Clause, IsWithin, var_of}
 use Rattle.std.specs.List.{All, AllByRecursion}
 use Rattle.std.proofs.lemmas.List.Elements.{All-weaker, All-push, All-nil}
-use Rattle.dimacs.specs.Flat.{parts, ArePlaces, Fills, last_place}
+use Rattle.dimacs.specs.layout.Flat.{parts, ArePlaces, Fills, last_place}
 use Rattle.dimacs.proofs.FormulaLemmas.{places_tail}
 
 abbrev pub state : List Clause → Clause → ℕ → Building
@@ -181,7 +182,7 @@ clause_greatest : (vars : ℕ) (c : Clause) → AllByRecursion (IsWithin vars) c
 clause_greatest vars [] h = omega arith
 clause_greatest vars (l ∷ c) h = omega (arith, h.0.1, clause_greatest vars c h.1)
 
-clauses_greatest : (vars : ℕ) (cs : List Clause) → AreWithin vars cs → greatest_in cs ≤ vars
+clauses_greatest : (vars : ℕ) (cs : List Clause) → EachWithin vars cs → greatest_in cs ≤ vars
 clauses_greatest vars [] h = omega arith
 clauses_greatest vars (c ∷ cs) h = omega (arith, clause_greatest vars c h.0, clauses_greatest vars cs h.1)
 
@@ -190,7 +191,7 @@ pub closed_within : (xs : Clause) (places : List ℕ) (g vars : ℕ) → IsLaid 
 closed_within xs places g vars h closed w =
     let top = greatest_is xs places g h in
     let none = ap greatest_of closed in
-    within_more g vars xs (omega (arith, top, none, clauses_greatest vars (parts xs places) w)) h.within
+    within_more g vars xs (omega (arith, top, none, clauses_greatest vars (parts xs places) (each_within vars (parts xs places) w))) h.within
 
 -- they fill the list, where no clause is open
 pub closed_fills : (xs : Clause) (places : List ℕ) (g : ℕ) → IsLaid xs places g → drop (last_place places) xs ≡ [] → Fills xs places

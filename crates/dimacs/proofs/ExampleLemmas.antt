@@ -2,11 +2,11 @@
 use Rattle.std.proofs.Common.{rules, ◌≡◌, Some, None, true, false, [], ◌∷◌, refl, arith, codes}
 use Rattle.std.specs.FinMap.{get, gets}
 use Rattle.std.specs.Fmt.{digits}
-use Rattle.dimacs.specs.Literal.{Pos, IsTautology}
-use Rattle.dimacs.specs.Propagation.{negations, with_literal, IsFalse, IsUnit, Rup}
-use Rattle.dimacs.specs.ClauseMap.{map_of, live_in}
-use Rattle.dimacs.specs.Answer.{witness_lines}
-use Rattle.dimacs.specs.Examples.{one_or_two, one_or_not_two, small, all_but_two}
+use Rattle.dimacs.specs.logic.Literal.{Pos, IsTautology}
+use Rattle.dimacs.specs.logic.Propagation.{negations, with_literal, IsFalse, IsUnit, Rup}
+use Rattle.dimacs.specs.logic.ClauseMap.{map_of, live_in}
+use Rattle.dimacs.specs.text.Answer.{witness_lines}
+use Rattle.dimacs.specs.logic.Examples.{one_or_two, one_or_not_two, small, all_but_two}
 
 pub first : get (map_of small) 1 ≡ Some one_or_two
 first = grind (arith, gets)

@@ -1,8 +1,8 @@
 -- The parts of a list.
 use Rattle.std.proofs.Common.{◌≡◌, ℕ, zero, suc, ◌+◌, ◌-◌, ◌<◌, ◌≤◌, List, [], ◌∷◌, length, get_or, take, drop, refl, arith}
 use Rattle.std.proofs.lemmas.List.{get_or_read}
-use Rattle.dimacs.specs.Literal.{Literal}
-use Rattle.dimacs.specs.Flat.{parts, ArePlaces}
+use Rattle.dimacs.specs.logic.Literal.{Literal}
+use Rattle.dimacs.specs.layout.Flat.{parts, ArePlaces}
 
 pub length_parts : (xs : List Literal) (places : List ℕ) → length (parts xs places) ≡ length places - 1
 length_parts xs [] = refl

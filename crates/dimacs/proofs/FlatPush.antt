@@ -2,9 +2,9 @@
 use Rattle.std.proofs.Common.{◌≡◌, ℕ, ◌+◌, ◌-◌, ◌≤◌, ◌<◌, List, [], ◌∷◌, ◌++◌, length, drop, refl, ◌∙◌, arith, length-append, length-take, length-drop}
 use Rattle.std.proofs.Math.Seq.{drop-append_seam}
 use Rattle.std.proofs.lemmas.List.{get_or_append_left}
-use Rattle.dimacs.specs.Literal.{Literal, Clause}
-use Rattle.dimacs.specs.Cnf.{literal_count}
-use Rattle.dimacs.specs.Flat.{parts, ArePlaces, last_place, Fills}
+use Rattle.dimacs.specs.logic.Literal.{Literal, Clause}
+use Rattle.dimacs.specs.logic.Cnf.{literal_count}
+use Rattle.dimacs.specs.layout.Flat.{parts, ArePlaces, last_place, Fills}
 use Rattle.dimacs.proofs.FormulaLemmas.{places_tail}
 use Rattle.dimacs.proofs.BuilderLemmas.{parts_append, parts_end, last_cons, last_push, places_push, places_longer}
 

@@ -1,10 +1,10 @@
 -- Clauses that lie one after the other in a list.
 use Rattle.std.proofs.Common.{◌≡◌, ℕ, suc, ◌+◌, ◌-◌, ◌≤◌, List, [], ◌∷◌, length, take, drop, arith, length-take, length-drop}
-use Rattle.dimacs.specs.Literal.{Literal, IsWithin}
-use Rattle.dimacs.specs.Cnf.{literal_count, IsFormula}
-use Rattle.std.specs.List.{All, AllByRecursion}
-use Rattle.std.proofs.lemmas.List.Elements.{All-take, All-drop, recursion_from_All}
-use Rattle.dimacs.specs.Flat.{parts, ArePlaces}
+use Rattle.dimacs.specs.logic.Literal.{Literal, IsWithin}
+use Rattle.dimacs.specs.logic.Cnf.{literal_count, IsFormula}
+use Rattle.std.specs.List.{All}
+use Rattle.std.proofs.lemmas.List.Elements.{All-cons, All-drop, All-nil, All-take}
+use Rattle.dimacs.specs.layout.Flat.{parts, ArePlaces}
 use Rattle.dimacs.proofs.FlatLemmas.{length_parts}
 
 -- behind the first place
@@ -22,10 +22,10 @@ parts_count xs a (b ∷ places) h =
     let high : b ≤ length xs = h.inside 1 (omega arith) in
     omega (arith, parts_count xs b places (places_tail a b places (length xs) h), length-take (b - a) (drop a xs), length-drop a xs)
 
-pub parts_within : (P : Literal → Type 0) (xs : List Literal) (places : List ℕ) → All P xs → AllByRecursion (AllByRecursion P) (parts xs places)
-parts_within P xs [] h = tt
-parts_within P xs (a ∷ []) h = tt
-parts_within P xs (a ∷ b ∷ places) h = (recursion_from_All P (take (b - a) (drop a xs)) (All-take P (b - a) (drop a xs) (All-drop P a xs h)), parts_within P xs (b ∷ places) h)
+pub parts_within : (P : Literal → Type 0) (xs : List Literal) (places : List ℕ) → All P xs → All (All P) (parts xs places)
+parts_within P xs [] h = All-nil (All P)
+parts_within P xs (a ∷ []) h = All-nil (All P)
+parts_within P xs (a ∷ b ∷ places) h = All-cons (All P) (take (b - a) (drop a xs)) (parts xs (b ∷ places)) (All-take P (b - a) (drop a xs) (All-drop P a xs h)) (parts_within P xs (b ∷ places) h)
 
 count_le : (xs : List Literal) (places : List ℕ) → ArePlaces places (length xs) → literal_count (parts xs places) ≤ length xs
 count_le xs [] h = omega arith

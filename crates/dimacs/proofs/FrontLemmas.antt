@@ -1,11 +1,11 @@
 -- The first of the clauses that fill a list.
 use Rattle.std.proofs.Common.{◌≡◌, ℕ, zero, suc, ◌+◌, ◌-◌, ◌<◌, ◌≤◌, List, [], ◌∷◌, length, get_or, take, drop, refl, sym, ap, subst, ◌∙◌, arith}
-use Rattle.std.specs.List.{All, AllByRecursion}
+use Rattle.std.specs.List.{All}
 use Rattle.std.proofs.lemmas.List.{drop_all, get_or-take, length-take-le, take-append-drop}
-use Rattle.std.proofs.lemmas.List.Elements.{All-append, All-from_recursion, All-nil}
-use Rattle.dimacs.specs.Literal.{Literal, Clause}
-use Rattle.dimacs.specs.Cnf.{Cnf, IsBase, IsFormula, literal_count}
-use Rattle.dimacs.specs.Flat.{parts, ArePlaces, Fills, last_place}
+use Rattle.std.proofs.lemmas.List.Elements.{All-append, All-head, All-nil, All-tail}
+use Rattle.dimacs.specs.logic.Literal.{Literal, Clause}
+use Rattle.dimacs.specs.logic.Cnf.{Cnf, IsBase, IsFormula, literal_count}
+use Rattle.dimacs.specs.layout.Flat.{parts, ArePlaces, Fills, last_place}
 use Rattle.dimacs.proofs.BuilderLemmas.{drop_on, last_cons, parts_append}
 use Rattle.dimacs.proofs.FlatPush.{fills_count}
 use Rattle.dimacs.proofs.FormulaLemmas.{places_tail}
@@ -65,16 +65,16 @@ front_parts xs places n k h l e =
     let inside : k ≤ length xs = omega (arith, h.rise.inside n l) in
     rw more (parts_front xs (take (suc n) places) k inside (rw e (places_front places (length xs) n h.rise l)) ∙ parts_take xs places n)
 
-all_behind : (P : Literal → Type 0) (xs : List Literal) (a : ℕ) (places : List ℕ) → ArePlaces (a ∷ places) (length xs) → last_place (a ∷ places) ≡ length xs → AllByRecursion (AllByRecursion P) (parts xs (a ∷ places)) → All P (drop a xs)
+all_behind : (P : Literal → Type 0) (xs : List Literal) (a : ℕ) (places : List ℕ) → ArePlaces (a ∷ places) (length xs) → last_place (a ∷ places) ≡ length xs → All (All P) (parts xs (a ∷ places)) → All P (drop a xs)
 all_behind P xs a [] at ends h = rw (drop_all a xs (omega (arith, ends))) (All-nil P)
 all_behind P xs a (b ∷ places) at ends h =
     let low : a ≤ b = at.rise 0 (omega arith) in
-    let rest : All P (drop b xs) = all_behind P xs b places (places_tail a b places (length xs) at) (sym (last_cons a b places) ∙ ends) h.1 in
+    let rest : All P (drop b xs) = all_behind P xs b places (places_tail a b places (length xs) at) (sym (last_cons a b places) ∙ ends) (All-tail (All P) (take (b - a) (drop a xs)) (parts xs (b ∷ places)) h) in
     subst (All P) (take-append-drop (b - a) (drop a xs))
-    (All-append P (take (b - a) (drop a xs)) (drop (b - a) (drop a xs)) (All-from_recursion P (take (b - a) (drop a xs)) h.0) (rw (drop_on a b xs low) rest))
+    (All-append P (take (b - a) (drop a xs)) (drop (b - a) (drop a xs)) (All-head (All P) (take (b - a) (drop a xs)) (parts xs (b ∷ places)) h) (rw (drop_on a b xs low) rest))
 
 -- what holds of the literals of the parts holds of those of the list that they fill
-pub all_filled : (P : Literal → Type 0) (xs : List Literal) (places : List ℕ) → Fills xs places → AllByRecursion (AllByRecursion P) (parts xs places) → All P xs
+pub all_filled : (P : Literal → Type 0) (xs : List Literal) (places : List ℕ) → Fills xs places → All (All P) (parts xs places) → All P xs
 all_filled P xs [] h all = absurd (omega (arith, h.rise.some))
 all_filled P xs (a ∷ places) h all =
     let begins : a ≡ 0 = h.begins in

@@ -5,10 +5,10 @@ use Rattle.std.proofs.lemmas.Bool.{le-ltb, ltb-false}
 use Rattle.dimacs.specs.declared.fault.DimacsFault.{DimacsFault}
 use Rattle.dimacs.specs.declared.fault.Kind.{Kind}
 use Rattle.dimacs.specs.declared.fault.Kind.TheVariants.{AboveLimit, NoHeader, BadHeader}
-use Rattle.dimacs.specs.Cnf.{Cnf, IsFormula}
-use Rattle.dimacs.specs.Numbers.{natural}
-use Rattle.dimacs.specs.Reading.{read_header, fault, header_end, header_count, header_four, header_vars}
-use Rattle.dimacs.specs.Spelling.{IsHeader}
+use Rattle.dimacs.specs.logic.Cnf.{Cnf, IsFormula}
+use Rattle.dimacs.specs.text.Numbers.{natural}
+use Rattle.dimacs.specs.text.Reading.{read_header, fault, header_end, header_count, header_four, header_vars}
+use Rattle.dimacs.specs.text.Spelling.{IsHeader}
 use Rattle.dimacs.proofs.RunLemmas.{fault≢ok}
 
 pub record Header (ws : List (List ℕ)) (h : ℕ × ℕ) : Type 0 where

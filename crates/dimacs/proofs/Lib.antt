@@ -8,13 +8,14 @@ pub mod FlatPush
 pub mod FormulaLemmas
 pub mod FrontLemmas
 pub mod HeaderLemmas
-pub mod LineLemmas
 pub mod LiteralLemmas
 pub mod Members
 pub mod NumberLemmas
+pub mod RowLemmas
+pub mod RowRuns
 pub mod RunLemmas
 pub mod SpellingLemmas
 pub mod TokenLemmas
-pub mod ToldLemmas
+pub mod WithinLemmas
 pub mod WordLemmas
 pub mod WritingLemmas

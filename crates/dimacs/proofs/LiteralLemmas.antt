@@ -4,7 +4,7 @@ use Rattle.std.specs.Cmp.{IsEquivalence}
 use Rattle.std.specs.List.{IsDistinct}
 use Rattle.std.proofs.lemmas.Bool.{true≢false, both_ways, cases_Bool, eqb-true, eq-eqb, false_from_ne_true}
 use Rattle.std.proofs.lemmas.Map.Keys.{IsDistinct-cons}
-use Rattle.dimacs.specs.Literal.{Literal, Pos, Neg, IsWithin, negation, same, literal_true, var_of, index_of, number_of, literal_of_number}
+use Rattle.dimacs.specs.logic.Literal.{Literal, Pos, Neg, IsWithin, negation, same, literal_true, var_of, index_of, number_of, literal_of_number}
 
 -- ---- the same literal
 pub same-true : (k l : Literal) → same k l ≡ true → k ≡ l

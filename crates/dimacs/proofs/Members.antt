@@ -3,7 +3,7 @@ use Rattle.std.proofs.Common.{zero, suc, ◌≡◌, ◌⊎◌, inl, inr, Bool, t
 use Rattle.std.specs.List.{Contains, filter}
 use Rattle.std.proofs.lemmas.Bool.{true≢false, or_left, or_right, or_cases}
 use Rattle.std.proofs.lemmas.List.Elements.{All-contains, All-contains_itself, All-filter, filter_passes, Contains-append_cases, Contains-append_right}
-use Rattle.dimacs.specs.Literal.{Literal, Clause, same, has}
+use Rattle.dimacs.specs.logic.Literal.{Literal, Clause, same, has}
 use Rattle.dimacs.proofs.LiteralLemmas.{same-true, same-is}
 
 pub Contains-head : {X : Type 0} (x : X) (xs : List X) → Contains (x ∷ xs) x

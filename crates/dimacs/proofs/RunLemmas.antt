@@ -1,42 +1,17 @@
--- The lines of a text are read as one run over its numbers.
-use Rattle.std.proofs.Common.{◌≡◌, ℕ, ◌+◌, ◌<◌, ◌≤◌, Bool, true, false, cond, List, [], ◌∷◌, ◌++◌, map, ℤ, nat_abs, Option, Some, None, Result, Ok, Err, length, refl, sym, ap, ◌∙◌, arith, leb, ltb, eqb}
-use Rattle.std.specs.List.{flat_map}
+-- What a number makes of what was read, on whatever line it stands.
+use Rattle.std.proofs.Common.{◌≡◌, ℕ, ◌+◌, ◌<◌, ◌≤◌, Bool, true, false, cond, [], ◌∷◌, ◌++◌, ℤ, nat_abs, Option, Some, None, Ok, length, refl, ap, ◌∙◌, arith, leb, ltb, eqb}
 use Rattle.std.proofs.lemmas.Bool.{lt-leb, le-ltb, leb-false, ltb-false, eqb-true, eqb-false}
-use Rattle.std.proofs.lemmas.List.{map-append}
-use Rattle.dimacs.specs.declared.fault.DimacsFault.{DimacsFault}
 use Rattle.dimacs.specs.declared.fault.Kind.{Kind}
 use Rattle.dimacs.specs.declared.fault.Kind.TheVariants.{TooManyClauses, VariableAboveHeader, AboveLimit, TooFewClauses}
-use Rattle.dimacs.specs.BodyState.{BodyState}
-use Rattle.dimacs.specs.Cnf.{Cnf}
-use Rattle.dimacs.specs.Literal.{Clause, literal_of_number}
-use Rattle.dimacs.specs.Numbers.{number}
-use Rattle.dimacs.specs.Words.{words_of}
-use Rattle.dimacs.specs.Reading.{read_token, read_number, read_found, read_words, read_lines, finish, fault, ◌>>=◌}
-
--- the numbers, one after the other
-unfoldable pub run : List ℤ → BodyState → Result BodyState DimacsFault
-run [] b = Ok b
-run (z ∷ zs) b = read_number 0 z b >>= run zs
-
-pub bind_ok : {A B : Type 0} (r : Result A DimacsFault) (f : A → Result B DimacsFault) (y : B) → (r >>= f) ≡ Ok y → (x : A) × (r ≡ Ok x) × (f x ≡ Ok y)
-bind_ok (Ok x) f y h = (x, refl, h)
-bind_ok (Err e) f y h = absurd (cc)
+use Rattle.dimacs.specs.text.BodyState.{BodyState}
+use Rattle.dimacs.specs.logic.Cnf.{Cnf}
+use Rattle.dimacs.specs.logic.Literal.{Clause, literal_of_number}
+use Rattle.dimacs.specs.text.Numbers.{number}
+use Rattle.dimacs.specs.text.Reading.{read_token, read_number, read_found, finish, fault, format}
+use Rattle.dimacs.proofs.RowRuns.{IsRun}
 
 pub fault≢ok : {A : Type 0} (k : Kind) (n : ℕ) (x : A) → fault k n ≡ Ok x → ⊥
 fault≢ok k n x h = cc
-
-bind_same : {A B : Type 0} (r : Result A DimacsFault) (f g : A → Result B DimacsFault) → ((x : A) → f x ≡ g x) → (r >>= f) ≡ (r >>= g)
-bind_same (Ok x) f g h = h x
-bind_same (Err e) f g h = refl
-
-bind_twice : {A B C : Type 0} (r : Result A DimacsFault) (f : A → Result B DimacsFault) (g : B → Result C DimacsFault) → (r >>= λ x. f x >>= g) ≡ ((r >>= f) >>= g)
-bind_twice (Ok x) f g = refl
-bind_twice (Err e) f g = refl
-
-pub run_append : (xs ys : List ℤ) (b : BodyState) → run (xs ++ ys) b ≡ (run xs b >>= run ys)
-unfolding run
-run_append [] ys b = refl
-run_append (x ∷ xs) ys b = bind_same (read_number 0 x b) (run (xs ++ ys)) (λ c. run xs c >>= run ys) (λ c. run_append xs ys c) ∙ bind_twice (read_number 0 x b) (run xs) (run ys)
 
 -- what a number leaves, where it is read
 unfoldable pub added : ℤ → BodyState → BodyState
@@ -83,34 +58,6 @@ found_number : (line : ℕ) (o : Option ℤ) (b c : BodyState) → read_found li
 found_number line None b c h = absurd (fault≢ok _ _ _ h)
 found_number line (Some z) b c h = (z, refl, h)
 
-token_number : (line : ℕ) (w : List ℕ) (b c : BodyState) → read_token line w b ≡ Ok c → (z : ℤ) × (number w ≡ Some z) × (read_number line z b ≡ Ok c)
-unfolding read_token
-token_number line w b c h = found_number line (number w) b c h
-
--- the tokens of a line are numbers, and these are read
-words_run : (line : ℕ) (ws : List (List ℕ)) (b c : BodyState) → read_words line ws b ≡ Ok c → (zs : List ℤ) × (map number ws ≡ map Some zs) × (run zs b ≡ Ok c)
-unfolding read_words run
-words_run line [] b c h = ([], refl, h)
-words_run line (w ∷ ws) b c h =
-    let first = bind_ok (read_token line w b) (read_words line ws) c h in
-    let z = token_number line w b first.0 first.1 in
-    let rest = words_run line ws first.0 c first.2 in
-    let t = number_takes line z.0 b first.0 z.2 in
-    (z.0 ∷ rest.0, rw (z.1, rest.1) refl, rw (takes_number 0 z.0 b t.0, t.1) rest.2)
-
--- the other way
-run_words : (line : ℕ) (ws : List (List ℕ)) (zs : List ℤ) (b c : BodyState) → map number ws ≡ map Some zs → run zs b ≡ Ok c → read_words line ws b ≡ Ok c
-unfolding read_words run read_token
-run_words line [] [] b c e h = h
-run_words line [] (z ∷ zs) b c e h = absurd (cc)
-run_words line (w ∷ ws) [] b c e h = absurd (cc)
-run_words line (w ∷ ws) (z ∷ zs) b c e h =
-    let first : number w ≡ Some z = cc in
-    let rest : map number ws ≡ map Some zs = cc in
-    let next = bind_ok (read_number 0 z b) (run zs) c h in
-    let t = number_takes 0 z b next.0 next.1 in
-    rw (first, takes_number line z b t.0, t.1) (run_words line ws zs next.0 c rest next.2)
-
 -- ---- lines
 
 finish_any : (m n : ℕ) (b : BodyState) (f : Cnf) → finish m b ≡ Ok f → finish n b ≡ Ok f
@@ -136,44 +83,14 @@ finish_is n b f h = by_open b.open_clause refl h where
   by_open [] e h = let p = by_few (ltb (length b.done) b.count) refl h in (e, p.0, p.1)
   by_open (x ∷ xs) e h = absurd (fault≢ok _ _ _ h)
 
-pub record Body (tokens : List (List ℕ)) (b : BodyState) (f : Cnf) : Type 0 where
-  pub numbers : List ℤ
-  pub end : BodyState
-  pub are : map number tokens ≡ map Some numbers
-  pub ran : run numbers b ≡ Ok end
-  pub finished : finish 0 end ≡ Ok f
-
-pub lines_body : (n : ℕ) (ls : List (List ℕ)) (b : BodyState) (f : Cnf) → read_lines n ls b ≡ Ok f → Body (flat_map words_of ls) b f
-unfolding read_lines run
-lines_body n [] b f h = record { numbers = []; end = b; are = refl; ran = refl; finished = finish_any n 0 b f h }
-lines_body n (l ∷ ls) b f h =
-    let first = bind_ok (read_words (n + 1) (words_of l) b) (read_lines (n + 1) ls) f h in
-    let here = words_run (n + 1) (words_of l) b first.0 first.1 in
-    let rest = lines_body (n + 1) ls first.0 f first.2 in
-    record {
-      numbers = here.0 ++ rest.numbers;
-      end = rest.end;
-      are = map-append number (words_of l) (flat_map words_of ls) ∙ ap (λ x. x ++ map number (flat_map words_of ls)) here.1 ∙ ap (λ x. map Some here.0 ++ x) rest.are ∙ sym (map-append Some here.0 rest.numbers);
-      ran = run_append here.0 rest.numbers b ∙ ap (λ (r : Result BodyState DimacsFault). r >>= run rest.numbers) here.2 ∙ rest.ran;
-      finished = rest.finished;
-    }
-
-split_numbers : (ws vs : List (List ℕ)) (zs : List ℤ) → map number (ws ++ vs) ≡ map Some zs → (xs : List ℤ) × (ys : List ℤ) × (zs ≡ xs ++ ys) × (map number ws ≡ map Some xs) × (map number vs ≡ map Some ys)
-split_numbers [] vs zs h = ([], zs, refl, refl, h)
-split_numbers (w ∷ ws) vs [] h = absurd (cc)
-split_numbers (w ∷ ws) vs (z ∷ zs) h =
-    let first : number w ≡ Some z = cc in
-    let rest : map number (ws ++ vs) ≡ map Some zs = cc in
-    let s = split_numbers ws vs zs rest in
-    (z ∷ s.0, s.1, ap (λ x. z ∷ x) s.2, rw (first, s.3) refl, s.4)
-
-pub body_lines : (n : ℕ) (ls : List (List ℕ)) (zs : List ℤ) (b c : BodyState) (f : Cnf) → map number (flat_map words_of ls) ≡ map Some zs → run zs b ≡ Ok c → finish 0 c ≡ Ok f → read_lines n ls b ≡ Ok f
-unfolding read_lines run
-body_lines n [] [] b c f e h g = let same : b ≡ c = cc in finish_any 0 n b f (ap (finish 0) same ∙ g)
-body_lines n [] (z ∷ zs) b c f e h g = absurd (cc)
-body_lines n (l ∷ ls) zs b c f e h g =
-    let s = split_numbers (words_of l) (flat_map words_of ls) zs e in
-    let ran = sym (run_append s.0 s.1 b) ∙ ap (λ x. run x b) (sym s.2) ∙ h in
-    let next = bind_ok (run s.0 b) (run s.1) c ran in
-    let here = run_words (n + 1) (words_of l) s.0 b next.0 s.3 next.1 in
-    rw here (body_lines (n + 1) ls s.1 next.0 c f s.4 next.2 g)
+-- the lines behind a header are a run over their numbers
+pub numbers_run : IsRun format number (read_number 0)
+unfolding read_token
+numbers_run = record {
+  forth = λ line w b c h.
+      let z = found_number line (number w) b c h in
+      let t = number_takes line z.0 b c z.2 in
+      (z.0, z.1, takes_number 0 z.0 b t.0 ∙ ap Ok t.1);
+  back = λ line w z b c e h. let t = number_takes 0 z b c h in rw e (takes_number line z b t.0 ∙ ap Ok t.1);
+  ends = finish_any;
+}

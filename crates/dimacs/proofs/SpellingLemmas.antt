@@ -5,15 +5,20 @@ use Rattle.std.proofs.lemmas.Bool.{lt-leb, le-ltb, ne_eqb, eqb-true, eqb-false}
 use Rattle.std.proofs.lemmas.List.{append-nil, map-append}
 use Rattle.std.proofs.lemmas.Grind.{flat_map-append}
 use Rattle.dimacs.specs.declared.fault.DimacsFault.{DimacsFault}
-use Rattle.dimacs.specs.BodyState.{BodyState}
-use Rattle.dimacs.specs.Cnf.{Cnf, IsFormula, literal_count}
-use Rattle.dimacs.specs.Literal.{Literal, Clause, IsWithin, number_of, literal_of_number}
-use Rattle.dimacs.specs.Words.{words_of, lines}
-use Rattle.dimacs.specs.Reading.{read_number, read_lines, read_text, read_header, finish, start, ◌>>=◌, by_tokens, parse, GivesFormula}
-use Rattle.dimacs.specs.Spelling.{ended, AreClauses, SpellsRow, SpellsLines, Spells}
+use Rattle.dimacs.specs.text.BodyState.{BodyState}
+use Rattle.dimacs.specs.logic.Cnf.{Cnf, IsFormula, literal_count}
+use Rattle.dimacs.specs.logic.Literal.{Literal, Clause, IsWithin, number_of, literal_of_number}
+use Rattle.dimacs.specs.text.Words.{words_of, lines}
+use Rattle.dimacs.specs.text.Reading.{read_number, read_header, finish, format, start, parse, GivesFormula}
+use Rattle.dimacs.specs.text.Rows.{read_lines, ◌>>=◌}
+use Rattle.dimacs.specs.text.Spelling.{ended, AreClauses, IsHeader, Spells}
+use Rattle.dimacs.specs.text.Numbers.{number}
 use Rattle.dimacs.proofs.LiteralLemmas.{number_back, literal_back, number_size, literal_size}
-use Rattle.dimacs.proofs.RunLemmas.{run, run_append, bind_ok, fault≢ok, added, Takes, number_takes, finish_is, lines_body, body_lines}
+use Rattle.dimacs.proofs.RowLemmas.{bind_ok, text_spelled, spelled_text}
+use Rattle.dimacs.proofs.RowRuns.{run, run_append, lines_body, body_lines}
+use Rattle.dimacs.proofs.RunLemmas.{added, Takes, number_takes, finish_is, numbers_run}
 use Rattle.dimacs.proofs.HeaderLemmas.{header_is, spelled_header}
+use Rattle.dimacs.proofs.WithinLemmas.{EachWithin, are_within, each_within}
 
 -- ---- what was read
 
@@ -21,7 +26,7 @@ content : BodyState → List ℤ
 content b = flat_map ended b.done ++ map number_of b.open_clause
 
 record Good (b : BodyState) : Type 0 where
-  done : AllByRecursion (AllByRecursion (IsWithin b.vars)) b.done
+  done : EachWithin b.vars b.done
   open_clause : AllByRecursion (IsWithin b.vars) b.open_clause
   count : length b.done ≤ b.count
   total : b.total ≤ 50000000
@@ -89,13 +94,13 @@ record Ran (zs : List ℤ) (b c : BodyState) : Type 0 where
   content : content c ≡ content b ++ zs
   good : Good c
 
-run_good : (zs : List ℤ) (b c : BodyState) → run zs b ≡ Ok c → Good b → Ran zs b c
+run_good : (zs : List ℤ) (b c : BodyState) → run (read_number 0) zs b ≡ Ok c → Good b → Ran zs b c
 unfolding run
 run_good [] b c h g =
     let same : b ≡ c = cc in
     subst (λ (x : BodyState). Ran [] b x) same (record { vars = refl; count = refl; content = sym (append-nil (content b)); good = g })
 run_good (z ∷ zs) b c h g =
-    let first = bind_ok (read_number 0 z b) (run zs) c h in
+    let first = bind_ok (read_number 0 z b) (run (read_number 0) zs) c h in
     let t = number_takes 0 z b first.0 first.1 in
     let a : Added z b first.0 = subst (λ (x : BodyState). Added z b x) t.1 (added_good z b t.0 g) in
     let r = run_good zs first.0 c first.2 a.good in
@@ -123,7 +128,7 @@ step_end : (vars count total : ℕ) (done : List Clause) (o : Clause) → length
 step_end vars count total done o room = rw (lt-leb count (length done) room) refl
 
 run_clause : (c : Clause) (vars count total : ℕ) (done : List Clause) (o : Clause) → length done < count → AllByRecursion (IsWithin vars) c → total + length c ≤ 50000000
-    → run (ended c) (state vars count done o total) ≡ Ok (state vars count (done ++ (o ++ c) ∷ []) [] (total + length c))
+    → run (read_number 0) (ended c) (state vars count done o total) ≡ Ok (state vars count (done ++ (o ++ c) ∷ []) [] (total + length c))
 unfolding run
 run_clause [] vars count total done o room w limit =
     let n : total + 0 ≡ total = omega arith in
@@ -133,8 +138,8 @@ run_clause (l ∷ c) vars count total done o room w limit =
     rw (step_literal vars count total done o l room w.0 (omega arith), n)
     (run_clause c vars count (total + 1) done (o ++ l ∷ []) room w.1 (omega arith) ∙ ap (λ x. Ok (state vars count (done ++ x ∷ []) [] ((total + 1) + length c))) (append_assoc o (l ∷ []) c))
 
-run_clauses : (cs : List Clause) (vars count total : ℕ) (done : List Clause) → length done + length cs ≤ count → AllByRecursion (AllByRecursion (IsWithin vars)) cs → total + literal_count cs ≤ 50000000
-    → run (flat_map ended cs) (state vars count done [] total) ≡ Ok (state vars count (done ++ cs) [] (total + literal_count cs))
+run_clauses : (cs : List Clause) (vars count total : ℕ) (done : List Clause) → length done + length cs ≤ count → EachWithin vars cs → total + literal_count cs ≤ 50000000
+    → run (read_number 0) (flat_map ended cs) (state vars count done [] total) ≡ Ok (state vars count (done ++ cs) [] (total + literal_count cs))
 unfolding run
 run_clauses [] vars count total done room w limit =
     let n : total + 0 ≡ total = omega arith in
@@ -143,67 +148,53 @@ run_clauses (c ∷ cs) vars count total done room w limit =
     let one = run_clause c vars count total done [] (omega arith) w.0 (omega arith) in
     let n : total + (length c + literal_count cs) ≡ (total + length c) + literal_count cs = omega arith in
     let m : length (done ++ c ∷ []) + length cs ≤ count = omega (arith, length-append done (c ∷ [])) in
-    run_append (ended c) (flat_map ended cs) (state vars count done [] total)
-    ∙ ap (λ (r : Result BodyState DimacsFault). r >>= run (flat_map ended cs)) one
+    run_append (read_number 0) (ended c) (flat_map ended cs) (state vars count done [] total)
+    ∙ ap (λ (r : Result BodyState DimacsFault). r >>= run (read_number 0) (flat_map ended cs)) one
     ∙ rw n (run_clauses cs vars count (total + length c) (done ++ c ∷ []) m w.1 (omega arith) ∙ ap (λ x. Ok (state vars count x [] ((total + length c) + literal_count cs))) (append_assoc done (c ∷ []) cs))
 
 -- ---- the lines behind the header
 
-lines_spelled : (n : ℕ) (ls : List (List ℕ)) (h : ℕ × ℕ) (f : Cnf) → h.0 ≤ 1000000 → h.1 ≤ 4000000 → read_lines n ls (start h) ≡ Ok f → IsFormula f × (f.vars ≡ h.0) × (length f.clauses ≡ h.1) × AreClauses (flat_map words_of ls) f
+lines_spelled : (n : ℕ) (ls : List (List ℕ)) (h : ℕ × ℕ) (f : Cnf) → h.0 ≤ 1000000 → h.1 ≤ 4000000 → read_lines format n ls (start h) ≡ Ok f → IsFormula f × (f.vars ≡ h.0) × (length f.clauses ≡ h.1) × AreClauses (flat_map words_of ls) f
 unfolding content
 lines_spelled n ls h f v c e =
-    let b = lines_body n ls (start h) f e in
-    let r = run_good b.numbers (start h) b.end b.ran (record { done = tt; open_clause = tt; count = omega arith; total = omega arith; sizes = refl }) in
+    let b = lines_body format number (read_number 0) numbers_run n ls (start h) f e in
+    let r = run_good b.read (start h) b.end b.ran (record { done = tt; open_clause = tt; count = omega arith; total = omega arith; sizes = refl }) in
     let g = r.good in
     let last = finish_is 0 b.end f b.finished in
-    let closed : flat_map ended b.end.done ≡ b.numbers = sym (append-nil _) ∙ ap (λ (x : Clause). flat_map ended b.end.done ++ map number_of x) (sym last.0) ∙ r.content in
+    let closed : flat_map ended b.end.done ≡ b.read = sym (append-nil _) ∙ ap (λ (x : Clause). flat_map ended b.end.done ++ map number_of x) (sym last.0) ∙ r.content in
     let vars = r.vars in
     let count = r.count in
     rw last.2 (
-      record { vars = omega arith; clauses = omega (arith, g.count); literals = omega (arith, g.sizes, g.total); within = g.done },
+      record { vars = omega arith; clauses = omega (arith, g.count); literals = omega (arith, g.sizes, g.total); within = are_within b.end.vars b.end.done g.done },
       vars,
       omega (arith, g.count, last.1),
       b.are ∙ ap (map Some) (sym closed),
     )
 
-spelled_lines : (n : ℕ) (ls : List (List ℕ)) (f : Cnf) → IsFormula f → AreClauses (flat_map words_of ls) f → read_lines n ls (start (f.vars, length f.clauses)) ≡ Ok f
+spelled_lines : (n : ℕ) (ls : List (List ℕ)) (f : Cnf) → IsFormula f → AreClauses (flat_map words_of ls) f → read_lines format n ls (start (f.vars, length f.clauses)) ≡ Ok f
 unfolding finish
 spelled_lines n ls f is are =
     let few : ltb (length f.clauses) (length f.clauses) ≡ false = le-ltb _ _ (omega arith) in
-    body_lines n ls (flat_map ended f.clauses) (start (f.vars, length f.clauses)) (state f.vars (length f.clauses) f.clauses [] (0 + literal_count f.clauses)) f are
-    (run_clauses f.clauses f.vars (length f.clauses) 0 [] (omega arith) is.within (omega (arith, is.literals))) (rw few refl)
+    body_lines format number (read_number 0) numbers_run n ls (flat_map ended f.clauses) (start (f.vars, length f.clauses)) (state f.vars (length f.clauses) f.clauses [] (0 + literal_count f.clauses)) f are
+    (run_clauses f.clauses f.vars (length f.clauses) 0 [] (omega arith) (each_within f.vars f.clauses is.within) (omega (arith, is.literals))) (rw few refl)
 
 -- ---- the whole text
 
-row_spelled : (n : ℕ) (more : List (List ℕ)) (f : Cnf) (ws : List (List ℕ)) → (read_text (n + 1) more ≡ Ok f → IsFormula f × SpellsLines more f)
-    → by_tokens ws (read_text (n + 1) more) (λ words. read_header (n + 1) words >>= λ h. read_lines (n + 1) more (start h)) ≡ Ok f → IsFormula f × SpellsRow ws (SpellsLines more f) more f
-row_spelled n more f [] later e = later e
-row_spelled n more f (w ∷ ws) later e =
-    let h = bind_ok (read_header (n + 1) (w ∷ ws)) (λ h. read_lines (n + 1) more (start h)) f e in
-    let head = header_is (n + 1) (w ∷ ws) h.0 h.1 in
-    let body = lines_spelled (n + 1) more h.0 f head.vars head.count h.2 in
-    (body.0, (head.spelled f body.1 body.2, body.3))
-
-text_spelled : (n : ℕ) (ls : List (List ℕ)) (f : Cnf) → read_text n ls ≡ Ok f → IsFormula f × SpellsLines ls f
-unfolding read_text
-text_spelled n [] f e = absurd (fault≢ok _ _ _ e)
-text_spelled n (line ∷ more) f e = row_spelled n more f (words_of line) (λ h. text_spelled (n + 1) more f h) e
-
-spelled_row : (n : ℕ) (more : List (List ℕ)) (f : Cnf) (ws : List (List ℕ)) → IsFormula f → (SpellsLines more f → read_text (n + 1) more ≡ Ok f) → SpellsRow ws (SpellsLines more f) more f
-    → by_tokens ws (read_text (n + 1) more) (λ words. read_header (n + 1) words >>= λ h. read_lines (n + 1) more (start h)) ≡ Ok f
-spelled_row n more f [] is later s = later s
-spelled_row n more f (w ∷ ws) is later s = rw (spelled_header (n + 1) (w ∷ ws) f is s.0) (spelled_lines (n + 1) more f is s.1)
-
-spelled_text : (n : ℕ) (ls : List (List ℕ)) (f : Cnf) → IsFormula f → SpellsLines ls f → read_text n ls ≡ Ok f
-unfolding read_text
-spelled_text n [] f is s = absurd s
-spelled_text n (line ∷ more) f is s = spelled_row n more f (words_of line) is (λ h. spelled_text (n + 1) more f is h) s
+text_is : (f : Cnf) (n : ℕ) (ws more : List (List ℕ)) → (format.header n ws >>= read_lines format n more) ≡ Ok f → IsFormula f × IsHeader ws f × AreClauses (flat_map words_of more) f
+text_is f n ws more e =
+    let began = bind_ok (format.header n ws) (read_lines format n more) f e in
+    let h = bind_ok (read_header n ws) (λ h. Ok (start h)) began.0 began.1 in
+    let same : start h.0 ≡ began.0 = cc in
+    let head = header_is n ws h.0 h.1 in
+    let body = lines_spelled n more h.0 f head.vars head.count (ap (read_lines format n more) same ∙ began.2) in
+    (body.0, head.spelled f body.1 body.2, body.3)
 
 pub parse_spells : (text : List ℕ) (f : Cnf) → parse text ≡ Ok f → Spells text f
-parse_spells text f e = text_spelled 0 (lines text) f e
+parse_spells text f e = text_spelled format (λ header. IsHeader header f) (λ tokens. AreClauses tokens f) f (IsFormula f) (text_is f) 0 (lines text) e
 
 pub spells_parse : (text : List ℕ) (f : Cnf) → Spells text f → parse text ≡ Ok f
-spells_parse text f s = spelled_text 0 (lines text) f s.0 s.1
+spells_parse text f s =
+    spelled_text format (λ header. IsHeader header f) (λ tokens. AreClauses tokens f) f (λ n ws more h b. rw (spelled_header n ws f s.0 h) (spelled_lines n more f s.0 b)) 0 (lines text) s.1
 
 -- what `read` answers, in the words of the grammar
 pub found_spells : (text : List ℕ) (r : Result Cnf DimacsFault) → GivesFormula r (parse text) → IfOk r (λ f. Spells text f)

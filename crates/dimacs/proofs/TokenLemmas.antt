@@ -4,11 +4,11 @@ use Rattle.std.specs.Option.{option_map}
 use Rattle.std.proofs.lemmas.Bool.Decides.{nat_tests}
 use Rattle.dimacs.specs.declared.fault.Kind.TheVariants.{BadToken, VariableAboveHeader, TooManyClauses, AboveLimit}
 use Rattle.dimacs.specs.declared.number.Number.{Number}
-use Rattle.dimacs.specs.BodyState.{BodyState}
-use Rattle.dimacs.specs.Capped.{capped}
-use Rattle.dimacs.specs.Literal.{Literal, Pos, Neg, literal_of_number}
-use Rattle.dimacs.specs.Numbers.{number}
-use Rattle.dimacs.specs.Reading.{read_token, read_number, fault}
+use Rattle.dimacs.specs.text.BodyState.{BodyState}
+use Rattle.dimacs.specs.layout.Capped.{capped}
+use Rattle.dimacs.specs.logic.Literal.{Literal, Pos, Neg, literal_of_number}
+use Rattle.dimacs.specs.text.Numbers.{number}
+use Rattle.dimacs.specs.text.Reading.{read_token, read_number, fault}
 
 no_number : (o : Option ℤ) → option_map capped o ≡ None → o ≡ None
 no_number None h = refl

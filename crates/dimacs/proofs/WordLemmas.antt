@@ -7,7 +7,7 @@ use Rattle.std.proofs.lemmas.List.Elements.{All-from_get_or}
 use Rattle.std.proofs.lemmas.List.Sums.{passes_at_first, position_or_len_is, fails_before_first, prefix_len_stops}
 use Rattle.std.proofs.lemmas.List.Splits.{slice_split-cons_yes, slice_split_first, slice_split_none}
 use Rattle.memchr.specs.Find.{IsFirstByte, is_byte}
-use Rattle.dimacs.specs.Words.{is_white, is_some_byte, words, lines}
+use Rattle.dimacs.specs.text.Words.{is_white, is_some_byte, words, lines}
 
 pub words_blank : (b : ℕ) (bs : List ℕ) → is_white b ≡ true → words (b ∷ bs) ≡ words bs
 unfolding words

@@ -9,11 +9,13 @@ use Rattle.std.proofs.lemmas.List.{map-append}
 use Rattle.std.proofs.lemmas.List.Elements.{All-from_recursion}
 use Rattle.std.proofs.lemmas.List.Splits.{slice_split_at, slice_split_none}
 use Rattle.std.proofs.lemmas.Fmt.{decimal_by_steps, first_decimal, decimal_nonempty, decimal_digit}
-use Rattle.dimacs.specs.Cnf.{Cnf, IsFormula}
-use Rattle.dimacs.specs.Literal.{Clause, IsWithin, number_of}
-use Rattle.dimacs.specs.Numbers.{number, natural, digits_from}
-use Rattle.dimacs.specs.Words.{words, words_of, lines, is_white, is_some_byte, is_comment}
-use Rattle.dimacs.specs.Spelling.{ended, AreClauses, IsHeader, SpellsRow, SpellsLines, Spells, clause_text, clause_line, header_text, spelling}
+use Rattle.dimacs.specs.logic.Cnf.{Cnf, IsFormula}
+use Rattle.dimacs.specs.logic.Literal.{Clause, IsWithin, number_of}
+use Rattle.dimacs.specs.text.Numbers.{number, natural, digits_from}
+use Rattle.dimacs.proofs.WithinLemmas.{EachWithin, each_within}
+use Rattle.dimacs.specs.text.Words.{words, words_of, lines, is_white, is_some_byte, is_comment}
+use Rattle.dimacs.specs.text.Rows.{AreRows}
+use Rattle.dimacs.specs.text.Spelling.{ended, AreClauses, IsHeader, Spells, clause_text, clause_line, header_text, spelling}
 use Rattle.dimacs.proofs.LiteralLemmas.{number_size}
 use Rattle.dimacs.proofs.NumberLemmas.{digits_append}
 
@@ -156,7 +158,7 @@ pub words_of_clause : (vars : ℕ) (c : Clause) → vars ≤ 1000000 → AllByRe
 words_of_clause vars c v h = rw (not_comment (clause_text c) (clause_plain vars c v h)) (clause_words vars c v h)
 
 -- the tokens behind the header
-clauses_words : (vars : ℕ) (cs : List Clause) → vars ≤ 1000000 → AllByRecursion (AllByRecursion (IsWithin vars)) cs → flat_map words_of (lines (flat_map clause_line cs)) ≡ map signed_decimal (flat_map ended cs)
+clauses_words : (vars : ℕ) (cs : List Clause) → vars ≤ 1000000 → EachWithin vars cs → flat_map words_of (lines (flat_map clause_line cs)) ≡ map signed_decimal (flat_map ended cs)
 unfolding words
 clauses_words vars [] v h = refl
 clauses_words vars (c ∷ cs) v h =
@@ -173,7 +175,7 @@ pub clause_small : (vars : ℕ) (c : Clause) → vars ≤ 1000000 → AllByRecur
 clause_small vars [] v h = (omega arith, tt)
 clause_small vars (l ∷ c) v h = (omega (arith, number_size l, h.0.1), clause_small vars c v h.1)
 
-clauses_small : (vars : ℕ) (cs : List Clause) → vars ≤ 1000000 → AllByRecursion (AllByRecursion (IsWithin vars)) cs → AllByRecursion (λ z. nat_abs z < 2 ^ 63) (flat_map ended cs)
+clauses_small : (vars : ℕ) (cs : List Clause) → vars ≤ 1000000 → EachWithin vars cs → AllByRecursion (λ z. nat_abs z < 2 ^ 63) (flat_map ended cs)
 clauses_small vars [] v h = tt
 clauses_small vars (c ∷ cs) v h = all_append (λ z. nat_abs z < 2 ^ 63) (ended c) (flat_map ended cs) (clause_small vars c v h.0) (clauses_small vars cs v h.1)
 
@@ -217,8 +219,8 @@ writing_spells f is =
     let text : spelling f ≡ header_text f ++ 10 ∷ flat_map clause_line f.clauses = append_assoc (header_text f) (10 ∷ []) (flat_map clause_line f.clauses) in
     let l : lines (spelling f) ≡ header_text f ∷ lines (flat_map clause_line f.clauses) = ap lines text ∙ lines_line (header_text f) (flat_map clause_line f.clauses) (header_line f v c) in
     let head : IsHeader (codes "p" ∷ codes "cnf" ∷ decimal f.vars ∷ decimal (length f.clauses) ∷ []) f = (refl, refl, natural_decimal f.vars (omega arith), natural_decimal (length f.clauses) (omega arith)) in
+    let within = each_within f.vars f.clauses is.within in
     let body : AreClauses (flat_map words_of (lines (flat_map clause_line f.clauses))) f =
-    ap (map number) (clauses_words f.vars f.clauses is.vars is.within) ∙ numbers_back (flat_map ended f.clauses) (clauses_small f.vars f.clauses is.vars is.within) in
-    let row : SpellsRow (words_of (header_text f)) (SpellsLines (lines (flat_map clause_line f.clauses)) f) (lines (flat_map clause_line f.clauses)) f =
-    subst (λ (ws : List (List ℕ)). SpellsRow ws (SpellsLines (lines (flat_map clause_line f.clauses)) f) (lines (flat_map clause_line f.clauses)) f) (sym (header_of f v c)) (head, body) in
-    (is, subst (λ (ls : List (List ℕ)). SpellsLines ls f) (sym l) row)
+    ap (map number) (clauses_words f.vars f.clauses is.vars within) ∙ numbers_back (flat_map ended f.clauses) (clauses_small f.vars f.clauses is.vars within) in
+    let rows : AreRows (λ header. IsHeader header f) (λ tokens. AreClauses tokens f) (header_text f ∷ lines (flat_map clause_line f.clauses)) = rw (header_of f v c) (head, body) in
+    (is, rw l rows)

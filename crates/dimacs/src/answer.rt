@@ -2,9 +2,9 @@
 
 ghost use Rattle.std.specs.Prelude.{◌≡◌, ◌<◌, ◌≤◌, ◌^◌, ◌∷◌, ◌++◌, [], List, ℕ, length, codes, OnOk, OnErr, IfOk, if◌then◌else◌};
 ghost use Rattle.std.specs.Fmt.{signed_decimal};
-ghost use Rattle.dimacs.specs.Literal.{Pos, Neg, number_of};
-ghost use Rattle.dimacs.specs.Spelling.{Begins};
-ghost use Rattle.dimacs.specs.Answer.{filled, satisfied_lines, witness_lines, Lines};
+ghost use Rattle.dimacs.specs.logic.Literal.{Pos, Neg, number_of};
+ghost use Rattle.dimacs.specs.text.Spelling.{Begins};
+ghost use Rattle.dimacs.specs.text.Answer.{filled, satisfied_lines, witness_lines, Lines};
 
 use crate::assignment::Assignment;
 use crate::writing::put;

@@ -1,8 +1,8 @@
 //! Truth values, and what they satisfy.
 
 ghost use Rattle.std.specs.Prelude.{◌≡◌, ℕ, ◌-◌, ◌<◌, ◌≤◌, ◌↔◌, IsTrue, List, Bool, length, true, All};
-ghost use Rattle.dimacs.specs.Cnf.{Sat, member_of};
-ghost use Rattle.dimacs.specs.Literal.{literal_true, IsTrueIn, IsWithin};
+ghost use Rattle.dimacs.specs.logic.Cnf.{Sat, assignment_of};
+ghost use Rattle.dimacs.specs.logic.Literal.{literal_true, IsTrueIn, IsWithin};
 
 use crate::formula::Formula;
 use crate::literal::Lit;
@@ -53,7 +53,7 @@ impl Assignment {
     /// Whether a literal is true.
     pub fn holds(&self, literal: Lit) -> bool
         requires { IsWithin (length self.now) literal }
-        ensures { result ≡ literal_true (member_of self.now) literal }
+        ensures { result ≡ literal_true (assignment_of self.now) literal }
     {
         let value = self.values[literal.var().number() as usize - 1];
         value != literal.is_negative()
@@ -62,7 +62,7 @@ impl Assignment {
 
 fn clause_holds(assignment: &Assignment, clause: &[Lit]) -> bool
     requires { All (IsWithin (length assignment.now)) clause.now }
-    ensures { IsTrue result ↔ IsTrueIn (member_of assignment.now) clause.now }
+    ensures { IsTrue result ↔ IsTrueIn (assignment_of assignment.now) clause.now }
 {
     for literal in clause {
         if assignment.holds(*literal) {
@@ -75,7 +75,7 @@ fn clause_holds(assignment: &Assignment, clause: &[Lit]) -> bool
 /// Whether the assignment makes each clause true. It asks for one truth value for each variable, and takes no memory.
 pub fn satisfies(assignment: &Assignment, formula: &Formula) -> bool
     requires { length assignment.now ≡ formula.now.vars }
-    ensures { IsTrue result ↔ Sat (member_of assignment.now) formula.now }
+    ensures { IsTrue result ↔ Sat (assignment_of assignment.now) formula.now }
 {
     for i in 0..formula.len() {
         if !clause_holds(assignment, formula.clause(i)) {

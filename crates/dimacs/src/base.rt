@@ -1,9 +1,9 @@
 //! A formula with further clauses numbered on after it.
 
 ghost use Rattle.std.specs.Prelude.{◌≡◌, ◌+◌, ◌<◌, ◌≤◌, [], ◌∷◌, ◌++◌, length, slice_index_or, take, All, IfOk, OnOk, OnErr, vec_len};
-ghost use Rattle.dimacs.specs.Cnf.{IsBase, IsFormula, literal_count};
-ghost use Rattle.dimacs.specs.Flat.{parts, ArePlaces};
-ghost use Rattle.dimacs.specs.Literal.{IsWithin};
+ghost use Rattle.dimacs.specs.logic.Cnf.{IsBase, IsFormula, literal_count};
+ghost use Rattle.dimacs.specs.layout.Flat.{parts, ArePlaces};
+ghost use Rattle.dimacs.specs.logic.Literal.{IsWithin};
 
 use crate::flat;
 use crate::formula::Formula;
@@ -22,8 +22,8 @@ pub struct Base {
 }
 
 impl Model for Base {
-    ghost use Rattle.dimacs.specs.Cnf.{Cnf, IsBase};
-    ghost use Rattle.dimacs.specs.Flat.{parts, Fills};
+    ghost use Rattle.dimacs.specs.logic.Cnf.{Cnf, IsBase};
+    ghost use Rattle.dimacs.specs.layout.Flat.{parts, Fills};
 
     ghost Value = { Cnf };
 

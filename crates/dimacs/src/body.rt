@@ -2,17 +2,20 @@
 
 ghost use Rattle.std.specs.Prelude.{◌≡◌, ℕ, List, ◌+◌, ◌<◌, ◌≤◌, [], ◌∷◌, ◌++◌, length, OnOk, IfOk, nat_le};
 ghost use Rattle.std.specs.Option.{option_map};
-ghost use Rattle.dimacs.specs.Capped.{capped};
-ghost use Rattle.dimacs.specs.Literal.{IsWithin};
-ghost use Rattle.dimacs.specs.Numbers.{number};
-ghost use Rattle.dimacs.specs.Words.{words_of, words};
-ghost use Rattle.dimacs.specs.Reading.{read_token, read_words, Gives, finish};
+ghost use Rattle.dimacs.specs.layout.Capped.{capped};
+ghost use Rattle.dimacs.specs.logic.Literal.{IsWithin};
+ghost use Rattle.dimacs.specs.text.Numbers.{number};
+ghost use Rattle.dimacs.specs.text.Words.{words_of, words};
+ghost use Rattle.dimacs.specs.text.Reading.{read_token, finish, format, no_memory};
+ghost use Rattle.dimacs.specs.text.Rows.{Gives, read_words};
 
 use crate::builder::Builder;
 use crate::fault::{DimacsFault, Kind};
 use crate::formula::Formula;
+use crate::header::read_header;
 use crate::literal::Lit;
 use crate::number::{Number, next_number};
+use crate::rows::Rows;
 use crate::words::is_comment;
 use std::alloc::{AllocError, Global};
 use std::marker::Model;
@@ -26,22 +29,21 @@ pub(crate) struct Body {
 }
 
 impl Model for Body {
-    ghost use Rattle.std.specs.Prelude.{◌≤◌, length};
-    ghost use Rattle.std.specs.List.{AllByRecursion};
-    ghost use Rattle.dimacs.specs.BodyState.{BodyState};
-    ghost use Rattle.dimacs.specs.Cnf.{AreWithin};
-    ghost use Rattle.dimacs.specs.Literal.{IsWithin};
+    ghost use Rattle.std.specs.Prelude.{◌≤◌, length, All};
+    ghost use Rattle.dimacs.specs.text.BodyState.{BodyState};
+    ghost use Rattle.dimacs.specs.logic.Cnf.{AreWithin};
+    ghost use Rattle.dimacs.specs.logic.Literal.{IsWithin};
 
     ghost Value = { BodyState };
 
     ghost view = { λ b. record { vars = b.vars; count = b.count; done = b.clauses.done; open_clause = b.clauses.open_clause; total = b.clauses.total } };
 
-    ghost invariant = { λ b. (b.vars ≤ 1000000) × (b.count ≤ 4000000) × (length b.clauses.done ≤ b.count) × AreWithin b.vars b.clauses.done × AllByRecursion (IsWithin b.vars) b.clauses.open_clause };
+    ghost invariant = { λ b. (b.vars ≤ 1000000) × (b.count ≤ 4000000) × (length b.clauses.done ≤ b.count) × AreWithin b.vars b.clauses.done × All (IsWithin b.vars) b.clauses.open_clause };
 }
 
 impl Body {
     /// Nothing read yet.
-    pub(crate) fn new(alloc: Global, vars: u32, count: u32) -> Result<Body, AllocError>
+    fn new(alloc: Global, vars: u32, count: u32) -> Result<Body, AllocError>
         requires vars { vars ≤ 1000000 }
         requires count { count ≤ 4000000 }
         ensures { IfOk result (λ b. b ≡ record { vars = vars; count = count; done = []; open_clause = []; total = 0 }) }
@@ -78,7 +80,7 @@ impl Body {
 
     /// Reads a token that was found to be this number, or none.
     fn read_token(&mut self, line: u64, found: Option<Number>) -> Result<(), DimacsFault>
-        ensures { (word : List ℕ) → found ≡ option_map capped (number word) → Gives self.new result (read_token line word self.old) }
+        ensures { (word : List ℕ) → found ≡ option_map capped (number word) → Gives no_memory self.new result (read_token line word self.old) }
     {
         let Some(number) = found else {
             return Err(DimacsFault::at(Kind::BadToken, line));
@@ -100,19 +102,8 @@ impl Body {
         Ok(())
     }
 
-    /// Reads the tokens of a line.
-    #[tactic(auto, unfolding(crate::specs::Reading::read_words))]
-    pub(crate) fn read_line(&mut self, line: u64, text: &[u8]) -> Result<(), DimacsFault>
-        ensures { Gives self.new result (read_words line (words_of text.now) self.old) }
-    {
-        if is_comment(text) {
-            return Ok(());
-        }
-        self.read_words(line, text)
-    }
-
     fn read_words(&mut self, line: u64, text: &[u8]) -> Result<(), DimacsFault>
-        ensures { Gives self.new result (read_words line (words text.now) self.old) }
+        ensures { Gives no_memory self.new result (read_words format line (words text.now) self.old) }
     {
         let mut rest = text;
         while let Some((number, after)) = next_number(rest) {
@@ -121,11 +112,37 @@ impl Body {
         }
         Ok(())
     }
+}
 
-    /// The formula, at the end of a text of that many lines.
-    pub(crate) fn finish(self, lines: u64) -> Result<Formula, DimacsFault>
-        ensures { result ≡ finish lines self }
-    {
+impl Rows for Body {
+    ghost use Rattle.dimacs.specs.text.Reading as reading;
+
+    type Value = Formula;
+
+    type Fault = DimacsFault;
+
+    ghost format = { reading.format };
+
+    ghost no_memory = { reading.no_memory };
+
+    fn no_header(lines: u64) -> DimacsFault {
+        DimacsFault::at(Kind::NoHeader, lines)
+    }
+
+    fn begin(alloc: Global, line: u64, header: &[u8]) -> Result<Body, DimacsFault> {
+        let (vars, count) = read_header(line, header)?;
+        Ok(Body::new(alloc, vars, count)?)
+    }
+
+    #[tactic(auto, unfolding(crate::specs::text::Rows::read_words))]
+    fn read_line(&mut self, line: u64, text: &[u8]) -> Result<(), DimacsFault> {
+        if is_comment(text) {
+            return Ok(());
+        }
+        self.read_words(line, text)
+    }
+
+    fn finish(self, lines: u64) -> Result<Formula, DimacsFault> {
         let Body {
             vars,
             count,

@@ -1,8 +1,7 @@
 //! A formula in the making.
 
 ghost use Rattle.std.specs.Prelude.{◌≡◌, ℕ, ◌+◌, ◌^◌, ◌<◌, ◌≤◌, max, [], ◌∷◌, ◌++◌, length, OnOk, OnErr, IfOk, MatchBool};
-ghost use Rattle.dimacs.specs.Building.{greatest_of, greatest_in};
-ghost use Rattle.dimacs.specs.Cnf.{AreWithin};
+ghost use Rattle.dimacs.specs.logic.Cnf.{AreWithin, greatest_of, greatest_in};
 
 use crate::formula::Formula;
 use crate::literal::Lit;
@@ -20,8 +19,8 @@ pub struct Builder {
 
 impl Model for Builder {
     ghost use Rattle.std.specs.Prelude.{ℕ, vec_len, drop};
-    ghost use Rattle.dimacs.specs.Building.{Building, IsLaid};
-    ghost use Rattle.dimacs.specs.Flat.{parts, last_place};
+    ghost use Rattle.dimacs.specs.layout.Building.{Building, IsLaid};
+    ghost use Rattle.dimacs.specs.layout.Flat.{parts, last_place};
 
     ghost Value = { Building };
 

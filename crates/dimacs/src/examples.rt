@@ -2,12 +2,12 @@
 
 ghost use Rattle.std.specs.Prelude.{◌≡◌, true, false, Some, None, [], ◌∷◌, ◌++◌, codes};
 ghost use Rattle.std.specs.FinMap.{get};
-ghost use Rattle.dimacs.specs.Answer.{witness_lines};
-ghost use Rattle.dimacs.specs.Base.{is_pure, base_of};
-ghost use Rattle.dimacs.specs.ClauseMap.{map_of, live_in};
-ghost use Rattle.dimacs.specs.Examples.{one_or_two, one_or_not_two, small, all_but_two};
-ghost use Rattle.dimacs.specs.Literal.{Pos, Neg};
-ghost use Rattle.dimacs.specs.Propagation.{negations, with_literal, IsFalse, IsUnit, Rup};
+ghost use Rattle.dimacs.specs.text.Answer.{witness_lines};
+ghost use Rattle.dimacs.specs.logic.Base.{is_pure, base_of};
+ghost use Rattle.dimacs.specs.logic.ClauseMap.{map_of, live_in};
+ghost use Rattle.dimacs.specs.logic.Examples.{one_or_two, one_or_not_two, small, all_but_two};
+ghost use Rattle.dimacs.specs.logic.Literal.{Pos, Neg};
+ghost use Rattle.dimacs.specs.logic.Propagation.{negations, with_literal, IsFalse, IsUnit, Rup};
 
 /// Pure literals, and the base of a formula: it has the further clause `1`, and none for variable 2.
 pub fn worked_bases()

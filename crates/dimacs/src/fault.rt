@@ -1,8 +1,8 @@
 //! Why a text is no formula.
 
 ghost use Rattle.std.specs.Prelude.{◌≡◌};
-ghost use Rattle.dimacs.specs.Faults.{number_of_kind};
-ghost use Rattle.dimacs.specs.Reading.{no_memory};
+ghost use Rattle.dimacs.specs.text.Faults.{number_of_kind};
+ghost use Rattle.dimacs.specs.text.Reading.{no_memory};
 
 use std::alloc::{AllocError, AllocFailed};
 

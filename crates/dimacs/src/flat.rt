@@ -1,8 +1,8 @@
 //! Clauses that lie one after the other in a vector of literals, each between a place and the next.
 
 ghost use Rattle.std.specs.Prelude.{◌≡◌, ℕ, ◌+◌, ◌<◌, ◌^◌, [], ◌∷◌, ◌++◌, length, slice_index_or, vec_len, All, OnOk, OnErr};
-ghost use Rattle.dimacs.specs.Literal.{IsWithin};
-ghost use Rattle.dimacs.specs.Flat.{parts, ArePlaces, Fills};
+ghost use Rattle.dimacs.specs.logic.Literal.{IsWithin};
+ghost use Rattle.dimacs.specs.layout.Flat.{parts, ArePlaces, Fills};
 
 use crate::literal::Lit;
 use std::alloc::AllocError;

@@ -1,9 +1,9 @@
 //! Formulas in conjunctive normal form.
 
 ghost use Rattle.std.specs.Prelude.{◌≡◌, ◌<◌, ◌≤◌, [], length, slice_index_or, All, IfOk, vec_len};
-ghost use Rattle.dimacs.specs.Cnf.{IsFormula};
-ghost use Rattle.dimacs.specs.Flat.{parts, Fills};
-ghost use Rattle.dimacs.specs.Literal.{IsWithin};
+ghost use Rattle.dimacs.specs.logic.Cnf.{IsFormula};
+ghost use Rattle.dimacs.specs.layout.Flat.{parts, Fills};
+ghost use Rattle.dimacs.specs.logic.Literal.{IsWithin};
 
 use crate::flat;
 use crate::literal::Lit;
@@ -21,9 +21,9 @@ pub struct Formula {
 
 impl Model for Formula {
     ghost use Rattle.std.specs.Prelude.{ℕ, ◌≤◌, All, vec_len};
-    ghost use Rattle.dimacs.specs.Cnf.{Cnf};
-    ghost use Rattle.dimacs.specs.Literal.{IsWithin};
-    ghost use Rattle.dimacs.specs.Flat.{parts, Fills};
+    ghost use Rattle.dimacs.specs.logic.Cnf.{Cnf};
+    ghost use Rattle.dimacs.specs.logic.Literal.{IsWithin};
+    ghost use Rattle.dimacs.specs.layout.Flat.{parts, Fills};
 
     ghost Value = { Cnf };
 

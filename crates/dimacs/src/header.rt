@@ -1,8 +1,8 @@
 //! The header of a DIMACS text: `p cnf`, the number of variables and the number of clauses, one function a token.
 
 ghost use Rattle.std.specs.Prelude.{◌≡◌, ◌≤◌, IfOk, Err, bytes_eq};
-ghost use Rattle.dimacs.specs.Words.{words};
-ghost use Rattle.dimacs.specs.Reading.{read_header, header_two, header_three, header_four, header_end};
+ghost use Rattle.dimacs.specs.text.Words.{words};
+ghost use Rattle.dimacs.specs.text.Reading.{read_header, header_two, header_three, header_four, header_end};
 
 use crate::fault::{DimacsFault, Kind};
 use crate::number::natural;
@@ -77,7 +77,7 @@ fn format_of_header(line: u64, text: &[u8]) -> Result<(u32, u32), DimacsFault>
 }
 
 /// Reads the header's two numbers from its line.
-#[tactic(auto, unfolding(crate::specs::Reading::read_header))]
+#[tactic(auto, unfolding(crate::specs::text::Reading::read_header))]
 pub(crate) fn read_header(line: u64, text: &[u8]) -> Result<(u32, u32), DimacsFault>
     ensures value { result ≡ read_header line (words text.now) }
     ensures limits { IfOk result (λ h. (h.0 ≤ 1000000) × (h.1 ≤ 4000000)) }

@@ -1,9 +1,9 @@
 //! Laws of the definitions.
 
 ghost use Rattle.std.specs.Prelude.{◌≡◌, ℕ, List, Ok};
-ghost use Rattle.dimacs.specs.Cnf.{Cnf, IsFormula};
-ghost use Rattle.dimacs.specs.Spelling.{Spells, spelling};
-ghost use Rattle.dimacs.specs.Reading.{parse};
+ghost use Rattle.dimacs.specs.logic.Cnf.{Cnf, IsFormula};
+ghost use Rattle.dimacs.specs.text.Spelling.{Spells, spelling};
+ghost use Rattle.dimacs.specs.text.Reading.{parse};
 
 /// Reading gives exactly the formula that a text spells.
 pub fn reading_is_spelling()

@@ -19,6 +19,7 @@ mod laws;
 mod literal;
 pub mod number;
 mod reading;
+pub mod rows;
 pub mod words;
 mod writing;
 

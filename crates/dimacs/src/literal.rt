@@ -1,7 +1,7 @@
 //! Variables and literals.
 
 ghost use Rattle.std.specs.Prelude.{◌≡◌, ℕ, ◌+◌, ◌*◌, ◌^◌, ◌<◌, ◌≤◌, IsTrue};
-ghost use Rattle.dimacs.specs.Literal.{Literal, Pos, Neg, negation, var_of, index_of, number_of, is_negative, has};
+ghost use Rattle.dimacs.specs.logic.Literal.{Literal, Pos, Neg, negation, var_of, index_of, number_of, is_negative, has};
 
 use std::marker::Model;
 
@@ -51,8 +51,8 @@ pub struct Lit {
 
 impl Model for Lit {
     ghost use Rattle.std.specs.Prelude.{◌≤◌};
-    ghost use Rattle.dimacs.specs.Literal.{Literal, literal_of, index_of};
-    ghost use Rattle.dimacs.specs.Codes.{index_of-literal_of};
+    ghost use Rattle.dimacs.specs.logic.Literal.{Literal, literal_of, index_of};
+    ghost use Rattle.dimacs.specs.layout.Codes.{index_of-literal_of};
 
     ghost Value = { Literal };
 

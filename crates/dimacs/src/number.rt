@@ -3,10 +3,10 @@
 ghost use Rattle.std.specs.Prelude.{◌≡◌, ℕ, ◌<◌, ◌≤◌, List, [], ◌∷◌, Option, option_and_then, Some, None, min, length, take, drop, IfSome, MatchOption, if◌then◌else◌};
 ghost use Rattle.std.specs.List.{position_or_len};
 ghost use Rattle.std.specs.Option.{option_map};
-ghost use Rattle.dimacs.specs.Capped.{capped};
-ghost use Rattle.dimacs.specs.Literal.{Pos, Neg};
-ghost use Rattle.dimacs.specs.Numbers.{digits_from, natural as natural_of, number as number_of, negated, positive};
-ghost use Rattle.dimacs.specs.Words.{is_white, words};
+ghost use Rattle.dimacs.specs.layout.Capped.{capped};
+ghost use Rattle.dimacs.specs.logic.Literal.{Pos, Neg};
+ghost use Rattle.dimacs.specs.text.Numbers.{digits_from, natural as natural_of, number as number_of, negated, positive};
+ghost use Rattle.dimacs.specs.text.Words.{is_white, words};
 
 use crate::literal::{Lit, Var};
 use crate::words::{is_white, white_len, word_len};

@@ -2,7 +2,7 @@
 
 ghost use Rattle.std.specs.Prelude.{◌≡◌, ◌+◌, ◌++◌, ◌∷◌, [], length, take, OnOk, OnErr, decimal, codes};
 ghost use Rattle.std.specs.List.{flat_map};
-ghost use Rattle.dimacs.specs.Spelling.{spelling, literal_text, clause_line, clause_text, header_text, Begins, Spells};
+ghost use Rattle.dimacs.specs.text.Spelling.{spelling, literal_text, clause_line, clause_text, header_text, Begins, Spells};
 
 use crate::formula::Formula;
 use crate::literal::Lit;
@@ -48,7 +48,7 @@ pub fn put_clause(out: &mut Vec<u8>, clause: &[Lit]) -> Result<(), AllocError>
 }
 
 fn put_header(out: &mut Vec<u8>, vars: u64, count: u64) -> Result<(), AllocError>
-    ensures ok { OnOk result (out.new.items ≡ out.old.items ++ (codes "p cnf " ++ decimal vars ++ 32 ∷ [] ++ decimal count ++ 10 ∷ [])) }
+    ensures ok { OnOk result (out.new.items ≡ out.old.items ++ (codes "p cnf " ++ decimal vars ++ codes " " ++ decimal count ++ codes "\n")) }
     ensures begins { Begins out.old.items out.new.items }
 {
     put(out, b"p cnf ")?;

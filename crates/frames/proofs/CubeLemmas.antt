@@ -3,7 +3,7 @@ use Rattle.std.proofs.Common.{◌≡◌, ◌<◌, Bool, true, false, not, eqb, l
 use Rattle.std.specs.Prelude.{nat_eq, ◌&&◌, ◌||◌}
 use Rattle.std.specs.List.{AllByRecursion, IsDistinct, list_any}
 use Rattle.std.proofs.lemmas.Bool.{ltb-true, leb-true}
-use Rattle.dimacs.specs.Literal.{Literal, var_of, IsWithin}
+use Rattle.dimacs.specs.logic.Literal.{Literal, var_of, IsWithin}
 use Rattle.frames.specs.Cubes.{IsCube, names, takes}
 
 pub empty_cube : IsCube []

@@ -5,7 +5,7 @@ use Rattle.std.specs.Int.{w32, to_be_bytes, cast_unsigned}
 use Rattle.std.specs.List.{flat_map, AllByRecursion, IsDistinct, list_any}
 use Rattle.std.proofs.lemmas.Bool.{lt-ltb, le-leb}
 use Rattle.std.proofs.lemmas.List.Concat.{flat_map-cons}
-use Rattle.dimacs.specs.Literal.{Literal, var_of, number_of, IsWithin}
+use Rattle.dimacs.specs.logic.Literal.{Literal, var_of, number_of, IsWithin}
 use Rattle.frames.specs.Cubes.{IsCube, names, takes}
 use Rattle.frames.specs.Spelling.{literal_bytes}
 use Rattle.frames.specs.Reading.{IsWord, SpellsNone}

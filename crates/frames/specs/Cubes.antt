@@ -1,7 +1,7 @@
 -- Cubes: what a task takes as given.
 use Rattle.std.specs.Prelude.{ℕ, ◌≤◌, Bool, not, ◌&&◌, ◌==◌, nat_eq, nat_lt, nat_le, List, length, map}
 use Rattle.std.specs.List.{AllByRecursion, IsDistinct, list_any}
-use Rattle.dimacs.specs.Literal.{Literal, var_of, IsWithin}
+use Rattle.dimacs.specs.logic.Literal.{Literal, var_of, IsWithin}
 
 -- at most 64 literals, of variables from 1 to 2,000,000, no variable twice
 pub record IsCube (literals : List Literal) : Type 0 where

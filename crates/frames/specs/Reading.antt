@@ -1,7 +1,7 @@
 -- What the functions that read one field or one payload promise.
 use Rattle.std.specs.Prelude.{◌≡◌, ◌≢◌, ℕ, List, ◌++◌, Result, Ok, Err}
 use Rattle.std.specs.Int.{w32, cast_unsigned}
-use Rattle.dimacs.specs.Literal.{Literal, number_of, IsWithin}
+use Rattle.dimacs.specs.logic.Literal.{Literal, number_of, IsWithin}
 use Rattle.frames.specs.declared.fault.FrameFault.{FrameFault}
 use Rattle.frames.specs.declared.fault.FrameFault.TheVariants.{BadField, NoMemory}
 use Rattle.frames.specs.declared.frame.Frame.{Frame}

@@ -16,7 +16,7 @@ pub struct Cube {
 
 impl Model for Cube {
     ghost use Rattle.std.specs.Prelude.{List};
-    ghost use Rattle.dimacs.specs.Literal.{Literal};
+    ghost use Rattle.dimacs.specs.logic.Literal.{Literal};
     ghost use Rattle.frames.specs.Cubes.{IsCube};
 
     ghost Value = { List Literal };

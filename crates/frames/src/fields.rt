@@ -3,7 +3,7 @@
 ghost use Rattle.std.specs.Prelude.{◌≡◌, ◌≢◌, ◌+◌, ◌*◌, ◌%◌, ◌≤◌, ◌<◌, ◌^◌, ◌++◌, length, take, drop, MatchOption, MatchResult};
 ghost use Rattle.std.specs.Int.{w32, to_be_bytes};
 ghost use Rattle.std.specs.List.{flat_map};
-ghost use Rattle.dimacs.specs.Literal.{Literal};
+ghost use Rattle.dimacs.specs.logic.Literal.{Literal};
 ghost use Rattle.frames.specs.Cubes.{IsCube};
 ghost use Rattle.frames.specs.Spelling.{attempt_bytes, answer_bytes, finding_bytes, outcome_bytes, literal_bytes, IsWorker, IsAttempt, IsAnswer, IsFinding, IsOutcome};
 ghost use Rattle.frames.specs.Reading.{StandsAt, NoneStandsAt, IsSpelled, SpellsNone, IsWord, NotRead};

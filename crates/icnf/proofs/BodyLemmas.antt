@@ -2,17 +2,19 @@
 use Rattle.std.proofs.Common.{◌≡◌, ℕ, ◌+◌, ◌≤◌, max, true, false, List, [], ◌∷◌, ◌++◌, ℤ, Option, Some, None, Result, refl, arith, codes, bytes_eq}
 use Rattle.std.specs.Option.{option_map}
 use Rattle.dimacs.specs.declared.number.Number.{Number}
-use Rattle.dimacs.specs.Building.{Building, greatest_of, greatest_in}
-use Rattle.dimacs.specs.Capped.{capped}
-use Rattle.dimacs.specs.Literal.{Literal, Clause, var_of}
-use Rattle.dimacs.specs.Numbers.{number}
+use Rattle.dimacs.specs.layout.Building.{Building}
+use Rattle.dimacs.specs.logic.Cnf.{greatest_of, greatest_in}
+use Rattle.dimacs.specs.layout.Capped.{capped}
+use Rattle.dimacs.specs.logic.Literal.{Literal, Clause, var_of}
+use Rattle.dimacs.specs.text.Rows.{Gives}
+use Rattle.dimacs.specs.text.Numbers.{number}
 use Rattle.icnf.specs.declared.fault.IcnfFault.{IcnfFault}
 use Rattle.icnf.specs.declared.fault.Kind.TheVariants.{BadToken}
 use Rattle.icnf.specs.declared.walk.Stage.{Stage}
 use Rattle.icnf.specs.declared.walk.Stage.TheVariants.{Clauses, Outside, Inside, Complete}
 use Rattle.icnf.specs.ReadState.{ReadState, IsRead, IsClosed}
 use Rattle.icnf.specs.Walk.{WalkState}
-use Rattle.icnf.specs.Reading.{Gives, read_token, read_mark, read_number, fault}
+use Rattle.icnf.specs.Reading.{no_memory, read_token, read_mark, read_number, fault}
 
 pub greatest_append : (xs ys : Clause) → greatest_of (xs ++ ys) ≡ max (greatest_of xs) (greatest_of ys)
 greatest_append [] ys = omega arith
@@ -49,11 +51,11 @@ some_number None r h = absurd (cc)
 some_number (Some z) r h = (z, refl, cc)
 
 module _ (line : ℕ) (word : List ℕ) (s new : ReadState) (r : Result (Unit {0}) IcnfFault) where
-  pub token_mark : bytes_eq word (codes "a") ≡ true → Gives new r (read_mark line s.walk.stage s) → Gives new r (read_token line word s)
+  pub token_mark : bytes_eq word (codes "a") ≡ true → Gives no_memory new r (read_mark line s.walk.stage s) → Gives no_memory new r (read_token line word s)
   unfolding read_token
   token_mark e h = rw e h
 
-  pub token_number : (n : Number) → bytes_eq word (codes "a") ≡ false → Some n ≡ option_map capped (number word) → ((z : ℤ) → n ≡ capped z → Gives new r (read_number line z s.walk.stage s)) → Gives new r (read_token line word s)
+  pub token_number : (n : Number) → bytes_eq word (codes "a") ≡ false → Some n ≡ option_map capped (number word) → ((z : ℤ) → n ≡ capped z → Gives no_memory new r (read_number line z s.walk.stage s)) → Gives no_memory new r (read_token line word s)
   unfolding read_token
   token_number n e found h =
       let z = some_number (number word) n found in

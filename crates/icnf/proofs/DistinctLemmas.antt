@@ -8,7 +8,7 @@ use Rattle.std.proofs.lemmas.Bool.Decides.{nat_tests}
 use Rattle.std.proofs.lemmas.List.{map-append}
 use Rattle.std.proofs.lemmas.List.Elements.{All-nil, All-cons, All-head, All-tail, All-append}
 use Rattle.std.proofs.lemmas.Map.Keys.{IsDistinct-push}
-use Rattle.dimacs.specs.Literal.{Literal, negation, var_of}
+use Rattle.dimacs.specs.logic.Literal.{Literal, negation, var_of}
 use Rattle.dimacs.proofs.LiteralLemmas.{var_of-negation}
 use Rattle.icnf.specs.Leaves.{Cube, IsFree, Leaves, leaf, fork}
 

@@ -2,7 +2,7 @@
 use Rattle.std.proofs.Common.{◌≡◌, ℕ, zero, suc, ◌+◌, ◌-◌, ◌<◌, ◌≤◌, List, [], ◌∷◌, ◌++◌, length, get_or, refl, sym, ap, arith, subst, length-append, ⊎_elim, Result, Ok, Err, OnOk, OnErr}
 use Rattle.std.proofs.lemmas.Bool.{cases_lt}
 use Rattle.std.proofs.lemmas.List.{get_or_append_left, get_or-append_right}
-use Rattle.dimacs.specs.Literal.{Pos}
+use Rattle.dimacs.specs.logic.Literal.{Pos}
 use Rattle.icnf.specs.Leaves.{Cube, IsFree, Leaves, leaf, fork, branched}
 
 -- a tree has a leaf

@@ -1,11 +1,9 @@
 pub mod BodyLemmas
 pub mod DistinctLemmas
 pub mod LeavesLemmas
-pub mod LineLemmas
 pub mod RunLemmas
 pub mod SpanLemmas
 pub mod SpellingLemmas
 pub mod StateLemmas
-pub mod ToldLemmas
 pub mod WalkLemmas
 pub mod WritingLemmas

@@ -1,11 +1,7 @@
--- The lines of a text are read as one run over its tokens.
-use Rattle.std.proofs.Common.{◌≡◌, ℕ, ◌+◌, Bool, true, false, cond, not, List, [], ◌∷◌, ◌++◌, map, ℤ, nat_abs, Option, Some, None, Result, Ok, Err, length, refl, sym, ap, ◌∙◌, leb, ltb, eqb}
-use Rattle.std.specs.List.{flat_map}
-use Rattle.std.proofs.lemmas.List.{map-append}
-use Rattle.dimacs.specs.Building.{greatest_in}
-use Rattle.dimacs.specs.Cnf.{Cnf}
-use Rattle.dimacs.specs.Literal.{Literal, Clause, var_of, literal_of_number}
-use Rattle.dimacs.specs.Words.{words_of}
+-- What a token makes of what was read, on whatever line it stands.
+use Rattle.std.proofs.Common.{◌≡◌, ℕ, Bool, true, false, cond, not, List, [], ◌∷◌, ℤ, nat_abs, Option, Some, None, Result, Ok, length, refl, sym, ap, leb, ltb, eqb}
+use Rattle.dimacs.specs.logic.Cnf.{Cnf, greatest_in}
+use Rattle.dimacs.specs.logic.Literal.{Literal, Clause, var_of, literal_of_number}
 use Rattle.icnf.specs.declared.fault.IcnfFault.{IcnfFault}
 use Rattle.icnf.specs.declared.fault.Kind.{Kind}
 use Rattle.icnf.specs.declared.fault.Kind.TheVariants.{VariableAboveClauses, AboveLimit, RepeatedVariable, NotATree, CubeTooLong}
@@ -15,30 +11,16 @@ use Rattle.icnf.specs.declared.walk.Stage.TheVariants.{Clauses, Outside, Inside,
 use Rattle.icnf.specs.Leaves.{Cube}
 use Rattle.icnf.specs.ReadState.{ReadState}
 use Rattle.icnf.specs.Walk.{names, fits}
-use Rattle.icnf.specs.Reading.{Token, Mark, Number, token, read_token, read_mark, read_number, read_found, begin, begin_behind, in_clause, in_cube, literal_in_cube, end_cube, read_words, read_lines, finish, finish_at, end_behind, fault, ◌>>=◌}
+use Rattle.icnf.specs.Reading.{Token, Mark, Number, token, read_token, read_mark, read_number, read_found, begin, begin_behind, in_clause, in_cube, literal_in_cube, end_cube, finish, finish_at, end_behind, fault, format}
+use Rattle.dimacs.proofs.RowRuns.{IsRun}
 
 -- ---- results
-
-pub bind_ok : {A B : Type 0} (r : Result A IcnfFault) (f : A → Result B IcnfFault) (y : B) → (r >>= f) ≡ Ok y → (x : A) × (r ≡ Ok x) × (f x ≡ Ok y)
-bind_ok (Ok x) f y h = (x, refl, h)
-bind_ok (Err e) f y h = absurd (cc)
 
 pub fault≢ok : {A : Type 0} (k : Kind) (n : ℕ) (x : A) → fault k n ≡ Ok x → ⊥
 fault≢ok k n x h = cc
 
 pub ok_same : {A : Type 0} (x y : A) → let r : Result A IcnfFault = Ok x in r ≡ Ok y → x ≡ y
 ok_same x y h = cc
-
-cons_same : {X : Type 0} (x y : X) (xs ys : List X) → x ≡ y → xs ≡ ys → x ∷ xs ≡ y ∷ ys
-cons_same x y xs ys e f = cc
-
-bind_same : {A B : Type 0} (r : Result A IcnfFault) (f g : A → Result B IcnfFault) → ((x : A) → f x ≡ g x) → (r >>= f) ≡ (r >>= g)
-bind_same (Ok x) f g h = h x
-bind_same (Err e) f g h = refl
-
-bind_twice : {A B C : Type 0} (r : Result A IcnfFault) (f : A → Result B IcnfFault) (g : B → Result C IcnfFault) → (r >>= λ x. f x >>= g) ≡ ((r >>= f) >>= g)
-bind_twice (Ok x) f g = refl
-bind_twice (Err e) f g = refl
 
 -- past a test that was not met
 pub past : {A : Type 0} (t : Bool) (k : Kind) (n : ℕ) (r : Result A IcnfFault) (c : A) → cond t (fault k n) r ≡ Ok c → (t ≡ false) × (r ≡ Ok c)
@@ -99,49 +81,7 @@ found_any : (m n : ℕ) (t : Token) (s c : ReadState) → read_found m (Some t) 
 found_any m n Mark s c h = mark_any m n s.walk.stage s c h
 found_any m n (Number z) s c h = number_any m n z s.walk.stage s c h
 
--- ---- tokens, one after the other
-
-unfoldable pub run : List Token → ReadState → Result ReadState IcnfFault
-run [] s = Ok s
-run (t ∷ ts) s = read_found 0 (Some t) s >>= run ts
-
-pub run_append : (xs ys : List Token) (s : ReadState) → run (xs ++ ys) s ≡ (run xs s >>= run ys)
-unfolding run
-run_append [] ys s = refl
-run_append (x ∷ xs) ys s = bind_same (read_found 0 (Some x) s) (run (xs ++ ys)) (λ c. run xs c >>= run ys) (λ c. run_append xs ys c) ∙ bind_twice (read_found 0 (Some x) s) (run xs) (run ys)
-
-found_token : (line : ℕ) (o : Option Token) (s c : ReadState) → read_found line o s ≡ Ok c → (t : Token) × (o ≡ Some t) × (read_found 0 (Some t) s ≡ Ok c)
-found_token line None s c h = absurd (fault≢ok _ _ _ h)
-found_token line (Some t) s c h = (t, refl, found_any line 0 t s c h)
-
-words_run : (line : ℕ) (ws : List (List ℕ)) (s c : ReadState) → read_words line ws s ≡ Ok c → (ts : List Token) × (map token ws ≡ map Some ts) × (run ts s ≡ Ok c)
-unfolding read_words run read_token
-words_run line [] s c h = ([], refl, h)
-words_run line (w ∷ ws) s c h =
-    let first = bind_ok (read_token line w s) (read_words line ws) c h in
-    let t = found_token line (token w) s first.0 first.1 in
-    let rest = words_run line ws first.0 c first.2 in
-    (t.0 ∷ rest.0, cons_same (token w) (Some t.0) (map token ws) (map Some rest.0) t.1 rest.1, ap (λ (r : Result ReadState IcnfFault). r >>= run rest.0) t.2 ∙ rest.2)
-
-run_words : (line : ℕ) (ws : List (List ℕ)) (ts : List Token) (s c : ReadState) → map token ws ≡ map Some ts → run ts s ≡ Ok c → read_words line ws s ≡ Ok c
-unfolding read_words run read_token
-run_words line [] [] s c e h = h
-run_words line [] (t ∷ ts) s c e h = absurd (cc)
-run_words line (w ∷ ws) [] s c e h = absurd (cc)
-run_words line (w ∷ ws) (t ∷ ts) s c e h =
-    let first : token w ≡ Some t = cc in
-    let rest : map token ws ≡ map Some ts = cc in
-    let next = bind_ok (read_found 0 (Some t) s) (run ts) c h in
-    rw (first, found_any 0 line t s next.0 next.1) (run_words line ws ts next.0 c rest next.2)
-
--- ---- lines
-
-pub record Body (tokens : List (List ℕ)) (s : ReadState) (f : Cnf) (cubes : List Cube) : Type 0 where
-  pub read : List Token
-  pub end : ReadState
-  pub are : map token tokens ≡ map Some read
-  pub ran : run read s ≡ Ok end
-  pub finished : finish 0 end ≡ Ok (f, cubes)
+-- ---- the end
 
 behind_end : (m n : ℕ) (o : Clause) (r : Cnf × List Cube) → end_behind m o ≡ Ok r → ⊥
 behind_end m n [] r h = fault≢ok _ _ _ h
@@ -165,37 +105,20 @@ finish_any m n s f cubes h =
     let e = at_complete m s.walk.stage s f cubes h in
     rw (e.1, e.2) (complete_at n s.walk.stage s e.0)
 
-pub lines_body : (n : ℕ) (ls : List (List ℕ)) (s : ReadState) (f : Cnf) (cubes : List Cube) → read_lines n ls s ≡ Ok (f, cubes) → Body (flat_map words_of ls) s f cubes
-unfolding read_lines run
-lines_body n [] s f cubes h = record { read = []; end = s; are = refl; ran = refl; finished = finish_any n 0 s f cubes h }
-lines_body n (l ∷ ls) s f cubes h =
-    let first = bind_ok (read_words (n + 1) (words_of l) s) (read_lines (n + 1) ls) (f, cubes) h in
-    let here = words_run (n + 1) (words_of l) s first.0 first.1 in
-    let rest = lines_body (n + 1) ls first.0 f cubes first.2 in
-    record {
-      read = here.0 ++ rest.read;
-      end = rest.end;
-      are = map-append token (words_of l) (flat_map words_of ls) ∙ ap (λ x. x ++ map token (flat_map words_of ls)) here.1 ∙ ap (λ x. map Some here.0 ++ x) rest.are ∙ sym (map-append Some here.0 rest.read);
-      ran = run_append here.0 rest.read s ∙ ap (λ (r : Result ReadState IcnfFault). r >>= run rest.read) here.2 ∙ rest.ran;
-      finished = rest.finished;
-    }
+-- ---- tokens, one after the other
 
-split_tokens : (ws vs : List (List ℕ)) (ts : List Token) → map token (ws ++ vs) ≡ map Some ts → (xs : List Token) × (ys : List Token) × (ts ≡ xs ++ ys) × (map token ws ≡ map Some xs) × (map token vs ≡ map Some ys)
-split_tokens [] vs ts h = ([], ts, refl, refl, h)
-split_tokens (w ∷ ws) vs [] h = absurd (cc)
-split_tokens (w ∷ ws) vs (t ∷ ts) h =
-    let first : token w ≡ Some t = cc in
-    let rest : map token (ws ++ vs) ≡ map Some ts = cc in
-    let s = split_tokens ws vs ts rest in
-    (t ∷ s.0, s.1, ap (λ x. t ∷ x) s.2, rw (first, s.3) refl, s.4)
+abbrev pub read_one : Token → ReadState → Result ReadState IcnfFault
+read_one t s = read_found 0 (Some t) s
 
-pub body_lines : (n : ℕ) (ls : List (List ℕ)) (ts : List Token) (s c : ReadState) (f : Cnf) (cubes : List Cube) → map token (flat_map words_of ls) ≡ map Some ts → run ts s ≡ Ok c → finish 0 c ≡ Ok (f, cubes) → read_lines n ls s ≡ Ok (f, cubes)
-unfolding read_lines run
-body_lines n [] [] s c f cubes e h g = let same : s ≡ c = cc in finish_any 0 n s f cubes (ap (finish 0) same ∙ g)
-body_lines n [] (t ∷ ts) s c f cubes e h g = absurd (cc)
-body_lines n (l ∷ ls) ts s c f cubes e h g =
-    let p = split_tokens (words_of l) (flat_map words_of ls) ts e in
-    let ran = sym (run_append p.0 p.1 s) ∙ ap (λ x. run x s) (sym p.2) ∙ h in
-    let next = bind_ok (run p.0 s) (run p.1) c ran in
-    let here = run_words (n + 1) (words_of l) p.0 s next.0 p.3 next.1 in
-    rw here (body_lines (n + 1) ls p.1 next.0 c f cubes p.4 next.2 g)
+found_token : (line : ℕ) (o : Option Token) (s c : ReadState) → read_found line o s ≡ Ok c → (t : Token) × (o ≡ Some t) × (read_one t s ≡ Ok c)
+found_token line None s c h = absurd (fault≢ok _ _ _ h)
+found_token line (Some t) s c h = (t, refl, found_any line 0 t s c h)
+
+-- the lines behind a header are a run over their tokens
+pub tokens_run : IsRun format token read_one
+unfolding read_token
+tokens_run = record {
+  forth = λ line w s c h. found_token line (token w) s c h;
+  back = λ line w t s c e h. rw e (found_any 0 line t s c h);
+  ends = λ m n s v h. finish_any m n s v.0 v.1 h;
+}

@@ -4,7 +4,7 @@ use Rattle.std.specs.List.{All, insert}
 use Rattle.std.proofs.Math.Seq.{drop-append_seam}
 use Rattle.std.proofs.lemmas.List.{take_all, take-append-le, drop-append-le, length-map, get_or-map, append_assoc, append-nil, map-append, map_more}
 use Rattle.std.proofs.lemmas.List.Elements.{All-head, All-tail, All-nil, All-cons, All-weaker, All-map}
-use Rattle.dimacs.specs.Literal.{Literal, Pos, Neg}
+use Rattle.dimacs.specs.logic.Literal.{Literal, Pos, Neg}
 use Rattle.icnf.specs.declared.place.Place.{Place}
 use Rattle.icnf.specs.declared.span.Span.{Span}
 use Rattle.icnf.specs.Walk.{literals_of}

@@ -7,11 +7,10 @@ use Rattle.std.proofs.lemmas.Bool.{lt-leb, le-ltb, ne_eqb}
 use Rattle.std.proofs.lemmas.List.{append-nil, map-append, map_push, length-map}
 use Rattle.std.proofs.lemmas.List.Elements.{All-head, All-tail, recursion_from_All}
 use Rattle.std.proofs.lemmas.Grind.{flat_map-append}
-use Rattle.dimacs.specs.Building.{greatest_in}
-use Rattle.dimacs.specs.Cnf.{Cnf, AreWithin, literal_count}
-use Rattle.dimacs.specs.Literal.{Literal, Clause, IsWithin, negation, var_of, number_of}
-use Rattle.dimacs.specs.Spelling.{ended}
-use Rattle.dimacs.specs.Words.{words_of, lines}
+use Rattle.dimacs.specs.logic.Cnf.{Cnf, AreWithin, literal_count, greatest_in}
+use Rattle.dimacs.specs.logic.Literal.{Literal, Clause, IsWithin, negation, var_of, number_of}
+use Rattle.dimacs.specs.text.Spelling.{ended}
+use Rattle.dimacs.specs.text.Words.{words_of, lines}
 use Rattle.dimacs.proofs.LiteralLemmas.{same-itself, var_of-negation, literal_back, number_size}
 use Rattle.icnf.specs.declared.fault.IcnfFault.{IcnfFault}
 use Rattle.icnf.specs.declared.fault.Kind.{Kind}
@@ -19,13 +18,17 @@ use Rattle.icnf.specs.declared.fault.Kind.TheVariants.{NoHeader, BadHeader}
 use Rattle.icnf.specs.declared.place.Place.{Place}
 use Rattle.icnf.specs.declared.walk.Stage.{Stage}
 use Rattle.icnf.specs.declared.walk.Stage.TheVariants.{Clauses, Outside, Inside, Complete}
+use Rattle.dimacs.proofs.WithinLemmas.{EachWithin, each_within}
 use Rattle.icnf.specs.Leaves.{Cube, IsFree, Leaves, leaf, fork}
 use Rattle.icnf.specs.ReadState.{ReadState}
 use Rattle.icnf.specs.Walk.{literals_of, free_place, other_place, next_front, names, fits, advanced_by, behind_cube}
-use Rattle.icnf.specs.Reading.{Token, Mark, Number, read_found, read_lines, read_text, read_header, header_end, finish, start, fault, ◌>>=◌, by_tokens, parse, GivesTree}
-use Rattle.icnf.specs.Spelling.{cube_tokens, AreTokens, IsHeader, SpellsRow, SpellsLines, IsIcnf, Spells}
+use Rattle.icnf.specs.Reading.{Token, Mark, Number, token, read_found, read_header, header_end, finish, format, start, fault, parse, GivesTree}
+use Rattle.dimacs.specs.text.Rows.{read_lines, ◌>>=◌}
+use Rattle.dimacs.proofs.RowLemmas.{bind_ok, text_spelled, spelled_text}
+use Rattle.dimacs.proofs.RowRuns.{run, run_append, body_lines}
+use Rattle.icnf.specs.Spelling.{cube_tokens, AreTokens, IsHeader, IsIcnf, Spells}
 use Rattle.icnf.proofs.WalkLemmas.{front_closed, front_open}
-use Rattle.icnf.proofs.RunLemmas.{run, run_append, bind_ok, fault≢ok, body_lines}
+use Rattle.icnf.proofs.RunLemmas.{read_one, tokens_run, fault≢ok}
 use Rattle.icnf.proofs.StateLemmas.{state, clauses_within, lines_spelled}
 
 -- ---- what is spelled is read: the clauses
@@ -41,7 +44,7 @@ end_read : (done : List Clause) (o : Clause) (total : ℕ) → length done < 400
 end_read done o total room = rw (lt-leb 4000000 (length done) room) refl
 
 clause_read : (c : Clause) (done : List Clause) (o : Clause) (total : ℕ) → length done < 4000000 → AllByRecursion (IsWithin 1000000) c → total + length c ≤ 50000000
-    → run (map Number (ended c)) (state Clauses [] [] [] done o total) ≡ Ok (state Clauses [] [] [] (done ++ (o ++ c) ∷ []) [] (total + length c))
+    → run read_one (map Number (ended c)) (state Clauses [] [] [] done o total) ≡ Ok (state Clauses [] [] [] (done ++ (o ++ c) ∷ []) [] (total + length c))
 unfolding run
 clause_read [] done o total room w limit =
     let n : total + 0 ≡ total = omega arith in
@@ -51,8 +54,8 @@ clause_read (l ∷ c) done o total room w limit =
     rw (literal_read done o total l room w.0 (omega arith), n)
     (clause_read c done (o ++ l ∷ []) (total + 1) room w.1 (omega arith) ∙ ap (λ x. Ok (state Clauses [] [] [] (done ++ x ∷ []) [] ((total + 1) + length c))) (append_assoc o (l ∷ []) c))
 
-clauses_read : (cs : List Clause) (done : List Clause) (total : ℕ) → length done + length cs ≤ 4000000 → AllByRecursion (AllByRecursion (IsWithin 1000000)) cs → total + literal_count cs ≤ 50000000
-    → run (map Number (flat_map ended cs)) (state Clauses [] [] [] done [] total) ≡ Ok (state Clauses [] [] [] (done ++ cs) [] (total + literal_count cs))
+clauses_read : (cs : List Clause) (done : List Clause) (total : ℕ) → length done + length cs ≤ 4000000 → EachWithin 1000000 cs → total + literal_count cs ≤ 50000000
+    → run read_one (map Number (flat_map ended cs)) (state Clauses [] [] [] done [] total) ≡ Ok (state Clauses [] [] [] (done ++ cs) [] (total + literal_count cs))
 unfolding run
 clauses_read [] done total room w limit =
     let n : total + 0 ≡ total = omega arith in
@@ -61,9 +64,9 @@ clauses_read (c ∷ cs) done total room w limit =
     let one = clause_read c done [] total (omega arith) w.0 (omega arith) in
     let n : total + (length c + literal_count cs) ≡ (total + length c) + literal_count cs = omega arith in
     let m : length (done ++ c ∷ []) + length cs ≤ 4000000 = omega (arith, length-append done (c ∷ [])) in
-    ap (λ (ts : List Token). run ts (state Clauses [] [] [] done [] total)) (map-append Number (ended c) (flat_map ended cs))
-    ∙ run_append (map Number (ended c)) (map Number (flat_map ended cs)) (state Clauses [] [] [] done [] total)
-    ∙ ap (λ (r : Result ReadState IcnfFault). r >>= run (map Number (flat_map ended cs))) one
+    ap (λ (ts : List Token). run read_one ts (state Clauses [] [] [] done [] total)) (map-append Number (ended c) (flat_map ended cs))
+    ∙ run_append read_one (map Number (ended c)) (map Number (flat_map ended cs)) (state Clauses [] [] [] done [] total)
+    ∙ ap (λ (r : Result ReadState IcnfFault). r >>= run read_one (map Number (flat_map ended cs))) one
     ∙ rw n (clauses_read cs (done ++ c ∷ []) (total + length c) m w.1 (omega arith) ∙ ap (λ x. Ok (state Clauses [] [] [] x [] ((total + length c) + literal_count cs))) (append_assoc done (c ∷ []) cs))
 
 -- ---- what is spelled is read: a cube
@@ -99,7 +102,7 @@ module _ (cubes : List Cube) (done : List Clause) (total : ℕ) where
 
   -- the free literals at a cube's end
   frees_read : (ls : List Literal) (path : List Place) → AllByRecursion (IsWithin (greatest_in done)) ls → Fresh (literals_of path) ls → length path + length ls ≤ 64
-      → run (map Number (map number_of ls)) (inside path []) ≡ Ok (inside (path ++ map free_place ls) [])
+      → run read_one (map Number (map number_of ls)) (inside path []) ≡ Ok (inside (path ++ map free_place ls) [])
   unfolding run Fresh inside
   frees_read [] path w fresh size = rw (append-nil path) refl
   frees_read (l ∷ ls) path w fresh size =
@@ -109,7 +112,7 @@ module _ (cubes : List Cube) (done : List Clause) (total : ℕ) where
 
   -- the forced literals before them
   places_read : (forced : List Place) (ls : List Literal) (path : List Place) → AllByRecursion (IsWithin (greatest_in done)) (literals_of (forced ++ map free_place ls)) → Fresh (literals_of path) (literals_of (forced ++ map free_place ls)) → length path + length (forced ++ map free_place ls) ≤ 64
-      → run (map Number (map number_of (literals_of (forced ++ map free_place ls)))) (inside path forced) ≡ Ok (inside (path ++ (forced ++ map free_place ls)) [])
+      → run read_one (map Number (map number_of (literals_of (forced ++ map free_place ls)))) (inside path forced) ≡ Ok (inside (path ++ (forced ++ map free_place ls)) [])
   unfolding run Fresh inside
   places_read [] ls path w fresh size =
       let same : literals_of (map free_place ls) ≡ ls = frees_are ls in
@@ -142,22 +145,22 @@ mark_read Complete cubes forced done total h room = absurd h
 abbrev after : Option (List Place) → List Cube → List Clause → ℕ → ReadState
 after o cubes done total = record { clauses = record { done = done; open_clause = []; total = total }; walk = behind_cube o cubes }
 
-last_read : (cubes : List Cube) (path : List Place) (done : List Clause) (total : ℕ) → run (Number (pos 0) ∷ []) (state Inside cubes path [] done [] total) ≡ Ok (after (next_front path) (cubes ++ literals_of path ∷ []) done total)
+last_read : (cubes : List Cube) (path : List Place) (done : List Clause) (total : ℕ) → run read_one (Number (pos 0) ∷ []) (state Inside cubes path [] done [] total) ≡ Ok (after (next_front path) (cubes ++ literals_of path ∷ []) done total)
 unfolding run
 last_read cubes path done total = refl
 
 cube_read : (stage : Stage) (cubes : List Cube) (forced : List Place) (ls : List Literal) (done : List Clause) (total : ℕ) → Enters stage → length cubes < 65536
     → AllByRecursion (IsWithin (greatest_in done)) (literals_of (forced ++ map free_place ls)) → Fresh [] (literals_of (forced ++ map free_place ls)) → length (forced ++ map free_place ls) ≤ 64
-    → run (cube_tokens (literals_of (forced ++ map free_place ls))) (state stage cubes [] forced done [] total)
+    → run read_one (cube_tokens (literals_of (forced ++ map free_place ls))) (state stage cubes [] forced done [] total)
     ≡ Ok (after (next_front (forced ++ map free_place ls)) (cubes ++ literals_of (forced ++ map free_place ls) ∷ []) done total)
 unfolding run inside
 cube_read stage cubes forced ls done total enters room w fresh size =
     let literals = map Number (map number_of (literals_of (forced ++ map free_place ls))) in
     let split : map Number (ended (literals_of (forced ++ map free_place ls))) ≡ literals ++ Number (pos 0) ∷ [] = map_push Number (map number_of (literals_of (forced ++ map free_place ls))) (pos 0) in
     rw (mark_read stage cubes forced done total enters room) (
-    ap (λ (ts : List Token). run ts (state Inside cubes [] forced done [] total)) split
-    ∙ run_append literals (Number (pos 0) ∷ []) (state Inside cubes [] forced done [] total)
-    ∙ ap (λ (r : Result ReadState IcnfFault). r >>= run (Number (pos 0) ∷ [])) (places_read cubes done total forced ls [] w fresh (omega arith))
+    ap (λ (ts : List Token). run read_one ts (state Inside cubes [] forced done [] total)) split
+    ∙ run_append read_one literals (Number (pos 0) ∷ []) (state Inside cubes [] forced done [] total)
+    ∙ ap (λ (r : Result ReadState IcnfFault). r >>= run read_one (Number (pos 0) ∷ [])) (places_read cubes done total forced ls [] w fresh (omega arith))
     ∙ last_read cubes (forced ++ map free_place ls) done total
     )
 
@@ -171,19 +174,19 @@ all_back P (x ∷ xs) ys h = all_back P xs ys h.1
 
 leaf_read : (path : Cube) (stage : Stage) (cubes : List Cube) (forced places : List Place) (ls : List Literal) (done : List Clause) (total : ℕ) → Enters stage → literals_of places ≡ path → places ≡ forced ++ map free_place ls
     → Fresh [] path → length cubes + 1 ≤ 65536 → AllByRecursion (IsWithin (greatest_in done)) path → length path ≤ 64
-    → run (cube_tokens path ++ []) (state stage cubes [] forced done [] total) ≡ Ok (after (next_front places) (cubes ++ path ∷ []) done total)
+    → run read_one (cube_tokens path ++ []) (state stage cubes [] forced done [] total) ≡ Ok (after (next_front places) (cubes ++ path ∷ []) done total)
 leaf_read path stage cubes forced places ls done total enters is from fresh room w short =
     let cube : literals_of (forced ++ map free_place ls) ≡ path = ap literals_of (sym from) ∙ is in
     let w' = subst (λ (c : Cube). AllByRecursion (IsWithin (greatest_in done)) c) (sym cube) w in
     let fresh' = subst (λ (c : Cube). Fresh [] c) (sym cube) fresh in
     let size : length (forced ++ map free_place ls) ≤ 64 = omega (arith, ap length cube, length-map (forced ++ map free_place ls) (λ (p : Place). p.literal)) in
-    ap (λ (ts : List Token). run ts (state stage cubes [] forced done [] total)) (append-nil (cube_tokens path))
-    ∙ subst (λ (c : Cube). run (cube_tokens c) (state stage cubes [] forced done [] total) ≡ Ok (after (next_front (forced ++ map free_place ls)) (cubes ++ c ∷ []) done total)) cube (cube_read stage cubes forced ls done total enters (omega arith) w' fresh' size)
+    ap (λ (ts : List Token). run read_one ts (state stage cubes [] forced done [] total)) (append-nil (cube_tokens path))
+    ∙ subst (λ (c : Cube). run read_one (cube_tokens c) (state stage cubes [] forced done [] total) ≡ Ok (after (next_front (forced ++ map free_place ls)) (cubes ++ c ∷ []) done total)) cube (cube_read stage cubes forced ls done total enters (omega arith) w' fresh' size)
     ∙ ap (λ (q : List Place). Ok (after (next_front q) (cubes ++ path ∷ []) done total)) (sym from)
 
 leaves_read : {path : Cube} {xs : List Cube} → Leaves path xs → (stage : Stage) (cubes : List Cube) (forced places : List Place) (ls : List Literal) (done : List Clause) (total : ℕ) → Enters stage → literals_of places ≡ path
-    → places ≡ forced ++ map free_place ls → Fresh [] path → length cubes + length xs ≤ 65536 → AreWithin (greatest_in done) xs → AllByRecursion (λ c. length c ≤ 64) xs
-    → run (flat_map cube_tokens xs) (state stage cubes [] forced done [] total) ≡ Ok (after (next_front places) (cubes ++ xs) done total)
+    → places ≡ forced ++ map free_place ls → Fresh [] path → length cubes + length xs ≤ 65536 → EachWithin (greatest_in done) xs → AllByRecursion (λ c. length c ≤ 64) xs
+    → run read_one (flat_map cube_tokens xs) (state stage cubes [] forced done [] total) ≡ Ok (after (next_front places) (cubes ++ xs) done total)
 unfolding Enters
 leaves_read (leaf {path = path}) stage cubes forced places ls done total enters is from fresh room w short = leaf_read path stage cubes forced places ls done total enters is from fresh (omega arith) w.0 short.0
 leaves_read (fork {path = path} {left = left} {right = right} x free a b) stage cubes forced places ls done total enters is from fresh room w short =
@@ -195,24 +198,24 @@ leaves_read (fork {path = path} {left = left} {right = right} x free a b) stage 
     let one = leaves_read a stage cubes forced (places ++ free_place x ∷ []) (ls ++ x ∷ []) done total enters first_is first_from (fresh_push path [] x fresh free) (omega arith) (all_front _ left right w) (all_front _ left right short) in
     let last_is : literals_of (places ++ other ∷ []) ≡ path ++ negation x ∷ [] = map_push (λ (q : Place). q.literal) places other ∙ ap (λ (c : Cube). c ++ negation x ∷ []) is in
     let two = leaves_read b Outside (cubes ++ left) (places ++ other ∷ []) (places ++ other ∷ []) [] done total tt last_is (sym (append-nil (places ++ other ∷ []))) (fresh_push path [] (negation x) fresh apart) (omega (arith, length-append cubes left)) (all_back _ left right w) (all_back _ left right short) in
-    ap (λ (ts : List Token). run ts (state stage cubes [] forced done [] total)) (flat_map-append cube_tokens left right)
-    ∙ run_append (flat_map cube_tokens left) (flat_map cube_tokens right) (state stage cubes [] forced done [] total)
-    ∙ ap (λ (r : Result ReadState IcnfFault). r >>= run (flat_map cube_tokens right)) (one ∙ ap (λ (o : Option (List Place)). Ok (after o (cubes ++ left) done total)) (front_open places (free_place x) refl))
+    ap (λ (ts : List Token). run read_one ts (state stage cubes [] forced done [] total)) (flat_map-append cube_tokens left right)
+    ∙ run_append read_one (flat_map cube_tokens left) (flat_map cube_tokens right) (state stage cubes [] forced done [] total)
+    ∙ ap (λ (r : Result ReadState IcnfFault). r >>= run read_one (flat_map cube_tokens right)) (one ∙ ap (λ (o : Option (List Place)). Ok (after o (cubes ++ left) done total)) (front_open places (free_place x) refl))
     ∙ two
     ∙ ap (λ (o : Option (List Place)). Ok (after o ((cubes ++ left) ++ right) done total)) (front_closed places other refl)
     ∙ ap (λ (cs : List Cube). Ok (after (next_front places) cs done total)) (append_assoc cubes left right)
 
-spelled_lines : (n : ℕ) (ls : List (List ℕ)) (f : Cnf) (cubes : List Cube) → IsIcnf f cubes → AreTokens (flat_map words_of ls) f cubes → read_lines n ls start ≡ Ok (f, cubes)
+spelled_lines : (n : ℕ) (ls : List (List ℕ)) (f : Cnf) (cubes : List Cube) → IsIcnf f cubes → AreTokens (flat_map words_of ls) f cubes → read_lines format n ls start ≡ Ok (f, cubes)
 unfolding finish Fresh Enters
 spelled_lines n ls f cubes is are =
     let total = 0 + literal_count f.clauses in
     let top : greatest_in f.clauses ≤ 1000000 = omega (arith, is.formula.vars, is.vars) in
-    let clauses = clauses_read f.clauses [] 0 (omega (arith, is.formula.clauses)) (clauses_within f.vars 1000000 f.clauses top is.formula.within) (omega (arith, is.formula.literals)) in
-    let within = subst (λ v. AreWithin v cubes) is.vars is.within in
+    let clauses = clauses_read f.clauses [] 0 (omega (arith, is.formula.clauses)) (each_within 1000000 f.clauses (clauses_within f.vars 1000000 f.clauses top is.formula.within)) (omega (arith, is.formula.literals)) in
+    let within = each_within (greatest_in f.clauses) cubes (subst (λ v. AreWithin v cubes) is.vars is.within) in
     let tree = leaves_read is.tree.leaves Clauses [] [] [] [] f.clauses total tt refl refl tt (omega (arith, is.tree.count)) within (recursion_from_All (λ c. length c ≤ 64) cubes is.tree.short) in
-    let ran = run_append (map Number (flat_map ended f.clauses)) (flat_map cube_tokens cubes) start ∙ ap (λ (r : Result ReadState IcnfFault). r >>= run (flat_map cube_tokens cubes)) clauses ∙ tree in
+    let ran = run_append read_one (map Number (flat_map ended f.clauses)) (flat_map cube_tokens cubes) start ∙ ap (λ (r : Result ReadState IcnfFault). r >>= run read_one (flat_map cube_tokens cubes)) clauses ∙ tree in
     let formula : record { vars = greatest_in f.clauses; clauses = f.clauses } ≡ f = ap (λ (v : ℕ). let c : Cnf = record { vars = v; clauses = f.clauses } in c) (sym is.vars) in
-    body_lines n ls (map Number (flat_map ended f.clauses) ++ flat_map cube_tokens cubes) start (after None cubes f.clauses total) f cubes are ran (ap (λ (c : Cnf). Ok (c, cubes)) formula)
+    body_lines format token read_one tokens_run n ls (map Number (flat_map ended f.clauses) ++ flat_map cube_tokens cubes) start (after None cubes f.clauses total) (f, cubes) are ran (ap (λ (c : Cnf). Ok (c, cubes)) formula)
 
 -- ---- the header and the whole text
 
@@ -239,19 +242,6 @@ header_is line (p ∷ w ∷ d ∷ more) h e =
     let b = test_is w (codes "inccnf") BadHeader line _ h a.1 in
     absurd (fault≢ok _ _ _ b.1)
 
-row_spelled : (n : ℕ) (more : List (List ℕ)) (f : Cnf) (cubes : List Cube) (ws : List (List ℕ)) → (read_text (n + 1) more ≡ Ok (f, cubes) → IsIcnf f cubes × SpellsLines more f cubes)
-    → by_tokens ws (read_text (n + 1) more) (λ words. read_header (n + 1) words >>= λ h. read_lines (n + 1) more start) ≡ Ok (f, cubes) → IsIcnf f cubes × SpellsRow ws (SpellsLines more f cubes) more f cubes
-row_spelled n more f cubes [] later e = later e
-row_spelled n more f cubes (w ∷ ws) later e =
-    let h = bind_ok (read_header (n + 1) (w ∷ ws)) (λ h. read_lines (n + 1) more start) (f, cubes) e in
-    let body = lines_spelled (n + 1) more f cubes h.2 in
-    (body.0, (header_is (n + 1) (w ∷ ws) h.0 h.1, body.1))
-
-text_spelled : (n : ℕ) (ls : List (List ℕ)) (f : Cnf) (cubes : List Cube) → read_text n ls ≡ Ok (f, cubes) → IsIcnf f cubes × SpellsLines ls f cubes
-unfolding read_text
-text_spelled n [] f cubes e = absurd (fault≢ok _ _ _ e)
-text_spelled n (line ∷ more) f cubes e = row_spelled n more f cubes (words_of line) (λ h. text_spelled (n + 1) more f cubes h) e
-
 spelled_header : (line : ℕ) (ws : List (List ℕ)) → IsHeader ws → read_header line ws ≡ Ok tt
 unfolding read_header
 spelled_header line [] h = absurd h
@@ -259,21 +249,20 @@ spelled_header line (p ∷ []) h = absurd h
 spelled_header line (p ∷ w ∷ []) h = rw (h.0, h.1) refl
 spelled_header line (p ∷ w ∷ d ∷ more) h = absurd h
 
-spelled_row : (n : ℕ) (more : List (List ℕ)) (f : Cnf) (cubes : List Cube) (ws : List (List ℕ)) → IsIcnf f cubes → (SpellsLines more f cubes → read_text (n + 1) more ≡ Ok (f, cubes)) → SpellsRow ws (SpellsLines more f cubes) more f cubes
-    → by_tokens ws (read_text (n + 1) more) (λ words. read_header (n + 1) words >>= λ h. read_lines (n + 1) more start) ≡ Ok (f, cubes)
-spelled_row n more f cubes [] is later s = later s
-spelled_row n more f cubes (w ∷ ws) is later s = rw (spelled_header (n + 1) (w ∷ ws) s.0) (spelled_lines (n + 1) more f cubes is s.1)
-
-spelled_text : (n : ℕ) (ls : List (List ℕ)) (f : Cnf) (cubes : List Cube) → IsIcnf f cubes → SpellsLines ls f cubes → read_text n ls ≡ Ok (f, cubes)
-unfolding read_text
-spelled_text n [] f cubes is s = absurd s
-spelled_text n (line ∷ more) f cubes is s = spelled_row n more f cubes (words_of line) is (λ h. spelled_text (n + 1) more f cubes is h) s
+text_is : (f : Cnf) (cubes : List Cube) (n : ℕ) (ws more : List (List ℕ)) → (format.header n ws >>= read_lines format n more) ≡ Ok (f, cubes) → IsIcnf f cubes × IsHeader ws × AreTokens (flat_map words_of more) f cubes
+text_is f cubes n ws more e =
+    let began = bind_ok (format.header n ws) (read_lines format n more) (f, cubes) e in
+    let h = bind_ok (read_header n ws) (λ h. Ok start) began.0 began.1 in
+    let same : start ≡ began.0 = cc in
+    let body = lines_spelled n more f cubes (ap (read_lines format n more) same ∙ began.2) in
+    (body.0, header_is n ws h.0 h.1, body.1)
 
 pub parse_spells : (text : List ℕ) (f : Cnf) (cubes : List Cube) → parse text ≡ Ok (f, cubes) → Spells text f cubes
-parse_spells text f cubes e = text_spelled 0 (lines text) f cubes e
+parse_spells text f cubes e = text_spelled format IsHeader (λ tokens. AreTokens tokens f cubes) (f, cubes) (IsIcnf f cubes) (text_is f cubes) 0 (lines text) e
 
 pub spells_parse : (text : List ℕ) (f : Cnf) (cubes : List Cube) → Spells text f cubes → parse text ≡ Ok (f, cubes)
-spells_parse text f cubes s = spelled_text 0 (lines text) f cubes s.0 s.1
+spells_parse text f cubes s =
+    spelled_text format IsHeader (λ tokens. AreTokens tokens f cubes) (f, cubes) (λ n ws more h b. rw (spelled_header n ws h) (spelled_lines n more f cubes s.0 b)) 0 (lines text) s.1
 
 -- what `read` answers, in the words of the grammar
 pub found_spells : (text : List ℕ) (r : Result (Cnf × List Cube) IcnfFault) → GivesTree r (parse text) → IfOk r (λ p. Spells text p.0 p.1)

@@ -5,12 +5,12 @@ use Rattle.std.proofs.lemmas.Bool.{leb-false, ltb-false, eqb-true, eqb-false}
 use Rattle.std.proofs.lemmas.List.{append-nil, map_push, length-map}
 use Rattle.std.proofs.lemmas.List.Elements.{All-nil, All-push}
 use Rattle.std.proofs.lemmas.Grind.{flat_map-append}
-use Rattle.dimacs.specs.Building.{greatest_in, greatest_of}
-use Rattle.dimacs.specs.Cnf.{Cnf, AreWithin, literal_count}
-use Rattle.dimacs.specs.Literal.{Literal, Clause, IsWithin, var_of, number_of, literal_of_number}
-use Rattle.dimacs.specs.Spelling.{ended}
-use Rattle.dimacs.specs.Words.{words_of}
+use Rattle.dimacs.specs.logic.Cnf.{Cnf, AreWithin, literal_count, greatest_in, greatest_of}
+use Rattle.dimacs.specs.logic.Literal.{Literal, Clause, IsWithin, var_of, number_of, literal_of_number}
+use Rattle.dimacs.specs.text.Spelling.{ended}
+use Rattle.dimacs.specs.text.Words.{words_of}
 use Rattle.dimacs.proofs.LiteralLemmas.{same-true, number_back, literal_size}
+use Rattle.dimacs.proofs.WithinLemmas.{EachWithin, are_within, each_within}
 use Rattle.icnf.specs.declared.fault.IcnfFault.{IcnfFault}
 use Rattle.icnf.specs.declared.fault.Kind.TheVariants.{VariableAboveClauses, AboveLimit, RepeatedVariable, NotATree, CubeTooLong}
 use Rattle.icnf.specs.declared.place.Place.{Place}
@@ -19,10 +19,13 @@ use Rattle.icnf.specs.declared.walk.Stage.TheVariants.{Clauses, Outside, Inside,
 use Rattle.icnf.specs.Leaves.{Cube, Leaves}
 use Rattle.icnf.specs.ReadState.{ReadState}
 use Rattle.icnf.specs.Walk.{literals_of, free_place, next_front, names, fits, advanced_by, behind_cube, Begun}
-use Rattle.icnf.specs.Reading.{Token, Mark, Number, token, read_found, begin_behind, in_clause, in_cube, literal_in_cube, end_cube, read_lines, finish, start, fault}
+use Rattle.icnf.specs.Reading.{Token, Mark, Number, token, read_found, begin_behind, in_clause, in_cube, literal_in_cube, end_cube, finish, format, start, fault}
+use Rattle.dimacs.specs.text.Rows.{read_lines}
+use Rattle.dimacs.proofs.RowLemmas.{bind_ok}
+use Rattle.dimacs.proofs.RowRuns.{run, lines_body}
 use Rattle.icnf.specs.Spelling.{cube_tokens, AreTokens, IsIcnf}
 use Rattle.icnf.proofs.WalkLemmas.{begun_push, names_free, closed, Closed}
-use Rattle.icnf.proofs.RunLemmas.{run, bind_ok, fault≢ok, ok_same, past, lines_body, at_complete}
+use Rattle.icnf.proofs.RunLemmas.{read_one, tokens_run, fault≢ok, ok_same, past, at_complete}
 
 -- ---- what was read
 
@@ -31,7 +34,7 @@ state stage cubes path forced done o total = record { clauses = record { done = 
 
 -- clauses within the limits
 record Part (done : List Clause) (o : Clause) (total : ℕ) : Type 0 where
-  clauses : AllByRecursion (AllByRecursion (IsWithin 1000000)) done
+  clauses : EachWithin 1000000 done
   last : AllByRecursion (IsWithin 1000000) o
   count : length done ≤ 4000000
   limit : total ≤ 50000000
@@ -39,7 +42,7 @@ record Part (done : List Clause) (o : Clause) (total : ℕ) : Type 0 where
 
 -- cubes within the limits
 record Cubes (vars : ℕ) (cubes : List Cube) : Type 0 where
-  inside : AreWithin vars cubes
+  inside : EachWithin vars cubes
   short : All (λ c. length c ≤ 64) cubes
   count : length cubes ≤ 65536
 
@@ -261,13 +264,13 @@ step_good (Number z) (between h begun small) c e = absurd (fault≢ok _ _ _ e)
 step_good (Number z) (within {cubes = cubes} {path = path} {forced = forced} {done = d} {total = n} h begun small room near short) c e = cube_step cubes path d n h small room near short z forced c begun e
 step_good (Number z) (whole h leaves small) c e = absurd (fault≢ok _ _ _ e)
 
-run_good : (ts : List Token) (s c : ReadState) → Good s → run ts s ≡ Ok c → Good c × (content c ≡ content s ++ ts)
+run_good : (ts : List Token) (s c : ReadState) → Good s → run read_one ts s ≡ Ok c → Good c × (content c ≡ content s ++ ts)
 unfolding run
 run_good [] s c g e =
     let same = ok_same s c e in
     subst (λ (x : ReadState). Good x × (content x ≡ content s ++ [])) same (g, sym (append-nil (content s)))
 run_good (t ∷ ts) s c g e =
-    let first = bind_ok (read_found 0 (Some t) s) (run ts) c e in
+    let first = bind_ok (read_found 0 (Some t) s) (run read_one ts) c e in
     let step = step_good t g first.0 first.1 in
     let rest = run_good ts first.0 c step.good first.2 in
     (rest.0, rest.1 ∙ ap (λ x. x ++ ts) step.content ∙ append_assoc (content s) (t ∷ []) ts)
@@ -278,17 +281,23 @@ clause_greatest : (vars : ℕ) (c : Clause) → AllByRecursion (IsWithin vars) c
 clause_greatest vars [] h = omega arith
 clause_greatest vars (l ∷ c) h = omega (arith, h.0.1, clause_greatest vars c h.1)
 
+each_greatest : (vars : ℕ) (cs : List Clause) → EachWithin vars cs → greatest_in cs ≤ vars
+each_greatest vars [] h = omega arith
+each_greatest vars (c ∷ cs) h = omega (arith, clause_greatest vars c h.0, each_greatest vars cs h.1)
+
 pub clauses_greatest : (vars : ℕ) (cs : List Clause) → AreWithin vars cs → greatest_in cs ≤ vars
-clauses_greatest vars [] h = omega arith
-clauses_greatest vars (c ∷ cs) h = omega (arith, clause_greatest vars c h.0, clauses_greatest vars cs h.1)
+clauses_greatest vars cs h = each_greatest vars cs (each_within vars cs h)
 
 clause_within : (m n : ℕ) (c : Clause) → greatest_of c ≤ n → AllByRecursion (IsWithin m) c → AllByRecursion (IsWithin n) c
 clause_within m n [] le h = tt
 clause_within m n (l ∷ c) le h = ((h.0.0, omega arith), clause_within m n c (omega arith) h.1)
 
+each_up_to : (m n : ℕ) (cs : List Clause) → greatest_in cs ≤ n → EachWithin m cs → EachWithin n cs
+each_up_to m n [] le h = tt
+each_up_to m n (c ∷ cs) le h = (clause_within m n c (omega arith) h.0, each_up_to m n cs (omega arith) h.1)
+
 pub clauses_within : (m n : ℕ) (cs : List Clause) → greatest_in cs ≤ n → AreWithin m cs → AreWithin n cs
-clauses_within m n [] le h = tt
-clauses_within m n (c ∷ cs) le h = (clause_within m n c (omega arith) h.0, clauses_within m n cs (omega arith) h.1)
+clauses_within m n cs le h = are_within n cs (each_up_to m n cs le (each_within m cs h))
 
 -- ---- the end
 
@@ -316,21 +325,21 @@ good_start = among (record { clauses = tt; last = tt; count = omega arith; limit
 whole_spelled : (s : ReadState) (tokens : List (List ℕ)) (f : Cnf) (cubes : List Cube) → Whole s → f ≡ record { vars = greatest_in s.clauses.done; clauses = s.clauses.done } → cubes ≡ s.walk.cubes
     → map token tokens ≡ map Some (content s) → IsIcnf f cubes × AreTokens tokens f cubes
 whole_spelled s tokens f cubes w ef ec are =
-    let top = clauses_greatest 1000000 s.clauses.done w.part.clauses in
+    let top = each_greatest 1000000 s.clauses.done w.part.clauses in
     rw (ef, ec) (
       record {
-        formula = record { vars = top; clauses = w.part.count; literals = omega (arith, w.part.sizes, w.part.limit); within = clauses_within 1000000 (greatest_in s.clauses.done) s.clauses.done (omega arith) w.part.clauses };
+        formula = record { vars = top; clauses = w.part.count; literals = omega (arith, w.part.sizes, w.part.limit); within = clauses_within 1000000 (greatest_in s.clauses.done) s.clauses.done (omega arith) (are_within 1000000 s.clauses.done w.part.clauses) };
         vars = refl;
         tree = record { leaves = w.leaves; count = w.cubes.count; short = w.cubes.short };
-        within = w.cubes.inside;
+        within = are_within (greatest_in s.clauses.done) s.walk.cubes w.cubes.inside;
       },
       are ∙ ap (map Some) w.tokens,
     )
 
-pub lines_spelled : (n : ℕ) (ls : List (List ℕ)) (f : Cnf) (cubes : List Cube) → read_lines n ls start ≡ Ok (f, cubes) → IsIcnf f cubes × AreTokens (flat_map words_of ls) f cubes
+pub lines_spelled : (n : ℕ) (ls : List (List ℕ)) (f : Cnf) (cubes : List Cube) → read_lines format n ls start ≡ Ok (f, cubes) → IsIcnf f cubes × AreTokens (flat_map words_of ls) f cubes
 unfolding content numbers open_tokens finish
 lines_spelled n ls f cubes e =
-    let b = lines_body n ls start f cubes e in
+    let b = lines_body format token read_one tokens_run n ls start (f, cubes) e in
     let r = run_good b.read start b.end good_start b.ran in
     let last = at_complete 0 b.end.walk.stage b.end f cubes b.finished in
     whole_spelled b.end (flat_map words_of ls) f cubes (whole_is r.0 last.0) last.1 last.2 (b.are ∙ ap (map Some) (sym r.1))

@@ -3,7 +3,7 @@ use Rattle.std.proofs.Common.{◌≡◌, ◌≢◌, ℕ, ◌+◌, ◌<◌, ◌�
 use Rattle.std.proofs.lemmas.Bool.{eqb-false}
 use Rattle.std.proofs.lemmas.List.{append-nil, take_all, drop_all, take_more, drop_more}
 use Rattle.std.proofs.lemmas.List.Elements.{All-nil, All-cons}
-use Rattle.dimacs.specs.Literal.{Literal, Pos, negation, var_of}
+use Rattle.dimacs.specs.logic.Literal.{Literal, Pos, negation, var_of}
 use Rattle.dimacs.proofs.LiteralLemmas.{negation-negation, var_of-negation}
 use Rattle.icnf.specs.declared.place.Place.{Place}
 use Rattle.icnf.specs.declared.walk.Stage.{Stage}

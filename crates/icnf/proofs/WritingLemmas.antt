@@ -4,15 +4,16 @@ use Rattle.std.specs.Fmt.{signed_decimal}
 use Rattle.std.specs.List.{flat_map, AllByRecursion}
 use Rattle.std.proofs.lemmas.Slice.Eq.{bytes_eq-Decides}
 use Rattle.std.proofs.lemmas.List.{map-append}
-use Rattle.dimacs.specs.Building.{greatest_in}
-use Rattle.dimacs.specs.Cnf.{Cnf, IsFormula, AreWithin}
-use Rattle.dimacs.specs.Literal.{Clause, IsWithin}
-use Rattle.dimacs.specs.Words.{words, words_of, lines}
-use Rattle.dimacs.specs.Spelling.{ended, clause_text, clause_line}
+use Rattle.dimacs.specs.logic.Cnf.{Cnf, IsFormula, AreWithin, greatest_in}
+use Rattle.dimacs.specs.logic.Literal.{Clause, IsWithin}
+use Rattle.dimacs.specs.text.Rows.{AreRows}
+use Rattle.dimacs.specs.text.Words.{words, words_of, lines}
+use Rattle.dimacs.specs.text.Spelling.{ended, clause_text, clause_line}
 use Rattle.dimacs.proofs.WritingLemmas.{IsInk, number_text, text_ink, clause_plain, no_end, lines_line, words_of_clause, clause_words, clause_small, words_plain}
+use Rattle.dimacs.proofs.WithinLemmas.{EachWithin, each_within}
 use Rattle.icnf.specs.Leaves.{Cube, IsTree}
 use Rattle.icnf.specs.Reading.{Token, Mark, Number, token}
-use Rattle.icnf.specs.Spelling.{cube_tokens, AreTokens, SpellsRow, SpellsLines, IsIcnf, Spells, cube_line, spelling, formula_of}
+use Rattle.icnf.specs.Spelling.{cube_tokens, AreTokens, IsHeader, IsIcnf, Spells, cube_line, spelling, formula_of}
 use Rattle.icnf.proofs.StateLemmas.{clauses_greatest, clauses_within}
 
 -- ---- tokens
@@ -42,7 +43,7 @@ clause_line_words vars c rest v h =
     ap (λ t. flat_map words_of (lines t)) regroup ∙ ap (flat_map words_of) (lines_line (clause_text c) rest (no_end (clause_text c) (clause_plain vars c v h)))
     ∙ ap (λ ws. ws ++ flat_map words_of (lines rest)) (words_of_clause vars c v h)
 
-clauses_tokens : (vars : ℕ) (cs : List Clause) (rest : List ℕ) (ts : List Token) → vars ≤ 1000000 → AreWithin vars cs → map token (flat_map words_of (lines rest)) ≡ map Some ts
+clauses_tokens : (vars : ℕ) (cs : List Clause) (rest : List ℕ) (ts : List Token) → vars ≤ 1000000 → EachWithin vars cs → map token (flat_map words_of (lines rest)) ≡ map Some ts
     → map token (flat_map words_of (lines (flat_map clause_line cs ++ rest))) ≡ map Some (map Number (flat_map ended cs) ++ ts)
 clauses_tokens vars [] rest ts v h e = e
 clauses_tokens vars (c ∷ cs) rest ts v h e =
@@ -65,7 +66,7 @@ cube_line_words vars c rest v h =
     ap (λ t. flat_map words_of (lines t)) regroup ∙ ap (flat_map words_of) (lines_line (codes "a " ++ clause_text c) rest plain)
     ∙ ap (λ ws. ws ++ flat_map words_of (lines rest)) (cube_words vars c v h)
 
-cubes_tokens : (vars : ℕ) (cs : List Cube) → vars ≤ 1000000 → AreWithin vars cs → map token (flat_map words_of (lines (flat_map cube_line cs))) ≡ map Some (flat_map cube_tokens cs)
+cubes_tokens : (vars : ℕ) (cs : List Cube) → vars ≤ 1000000 → EachWithin vars cs → map token (flat_map words_of (lines (flat_map cube_line cs))) ≡ map Some (flat_map cube_tokens cs)
 unfolding words
 cubes_tokens vars [] v h = refl
 cubes_tokens vars (c ∷ cs) v h =
@@ -92,13 +93,13 @@ writing_spells f cubes is tree near =
     let plain : AllByRecursion (λ b. eqb b 10 ≡ false) (codes "p inccnf") = (refl, (refl, (refl, (refl, (refl, (refl, (refl, (refl, tt)))))))) in
     let l : lines (spelling f.clauses cubes) ≡ codes "p inccnf" ∷ lines body = lines_line (codes "p inccnf") body plain in
     let tokens : AreTokens (flat_map words_of (lines body)) (formula_of f.clauses) cubes =
-    clauses_tokens f.vars f.clauses (flat_map cube_line cubes) (flat_map cube_tokens cubes) is.vars is.within (cubes_tokens (greatest_in f.clauses) cubes small near) in
-    let row : SpellsRow (words_of (codes "p inccnf")) (SpellsLines (lines body) (formula_of f.clauses) cubes) (lines body) (formula_of f.clauses) cubes =
-    subst (λ (ws : List (List ℕ)). SpellsRow ws (SpellsLines (lines body) (formula_of f.clauses) cubes) (lines body) (formula_of f.clauses) cubes) (sym header_words) ((refl, refl), tokens) in
+    clauses_tokens f.vars f.clauses (flat_map cube_line cubes) (flat_map cube_tokens cubes) is.vars (each_within f.vars f.clauses is.within)
+    (cubes_tokens (greatest_in f.clauses) cubes small (each_within (greatest_in f.clauses) cubes near)) in
+    let rows : AreRows IsHeader (λ ts. AreTokens ts (formula_of f.clauses) cubes) (codes "p inccnf" ∷ lines body) = rw header_words ((refl, refl), tokens) in
     let icnf : IsIcnf (formula_of f.clauses) cubes = record {
       formula = record { vars = small; clauses = is.clauses; literals = is.literals; within = clauses_within f.vars (greatest_in f.clauses) f.clauses (omega arith) is.within };
       vars = refl;
       tree = tree;
       within = near;
     } in
-    (icnf, subst (λ (ls : List (List ℕ)). SpellsLines ls (formula_of f.clauses) cubes) (sym l) row)
+    (icnf, subst (λ (ls : List (List ℕ)). AreRows IsHeader (λ ts. AreTokens ts (formula_of f.clauses) cubes) ls) (sym l) rows)

@@ -1,6 +1,6 @@
 -- Splitting trees, by the cubes of their leaves.
 use Rattle.std.specs.Prelude.{◌≢◌, ℕ, zero, suc, ◌≤◌, List, [], ◌∷◌, ◌++◌, length, All}
-use Rattle.dimacs.specs.Literal.{Literal, Pos, Neg, negation, var_of}
+use Rattle.dimacs.specs.logic.Literal.{Literal, Pos, Neg, negation, var_of}
 
 -- a cube: the literals of a path, from the root on
 abbrev pub Cube : Type 0

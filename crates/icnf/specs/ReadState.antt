@@ -1,7 +1,8 @@
 -- What was read of an iCNF text behind its header.
 use Rattle.std.specs.Prelude.{◌≡◌, ◌≤◌, max, [], ⊤}
-use Rattle.dimacs.specs.Building.{Building, greatest_in, greatest_of}
-use Rattle.dimacs.specs.Literal.{Clause}
+use Rattle.dimacs.specs.layout.Building.{Building}
+use Rattle.dimacs.specs.logic.Cnf.{greatest_in, greatest_of}
+use Rattle.dimacs.specs.logic.Literal.{Clause}
 use Rattle.icnf.specs.declared.walk.Stage.{Stage}
 use Rattle.icnf.specs.declared.walk.Stage.TheVariants.{Clauses, Outside, Inside, Complete}
 use Rattle.icnf.specs.Walk.{WalkState}

@@ -1,10 +1,10 @@
 -- The formula and the tree of a text, or its first fault.
-use Rattle.std.specs.Prelude.{◌≡◌, ℕ, ◌+◌, ◌==◌, not, nat_lt, nat_le, List, [], ◌∷◌, ◌++◌, length, ℤ, nat_abs, Option, Some, None, Result, Ok, Err, codes, bytes_eq, if◌then◌else◌}
-use Rattle.dimacs.specs.Building.{greatest_in}
-use Rattle.dimacs.specs.Cnf.{Cnf}
-use Rattle.dimacs.specs.Literal.{Literal, Clause, literal_of_number, var_of}
-use Rattle.dimacs.specs.Numbers.{number}
-use Rattle.dimacs.specs.Words.{lines, words_of}
+use Rattle.std.specs.Prelude.{ℕ, ◌+◌, ◌==◌, not, nat_lt, nat_le, List, [], ◌∷◌, ◌++◌, length, ℤ, nat_abs, Option, Some, None, Result, Ok, Err, codes, bytes_eq, if◌then◌else◌}
+use Rattle.dimacs.specs.logic.Cnf.{Cnf, greatest_in}
+use Rattle.dimacs.specs.logic.Literal.{Literal, Clause, literal_of_number, var_of}
+use Rattle.dimacs.specs.text.Numbers.{number}
+use Rattle.dimacs.specs.text.Rows.{Format, Answers, read_text, ◌>>=◌}
+use Rattle.dimacs.specs.text.Words.{lines}
 use Rattle.icnf.specs.declared.fault.IcnfFault.{IcnfFault}
 use Rattle.icnf.specs.declared.fault.Kind.{Kind}
 use Rattle.icnf.specs.declared.fault.Kind.TheVariants.{NoHeader, BadHeader, BadToken, VariableAboveClauses, ClauseNotEnded, AboveLimit, NoMemory, ClauseBehindCube, RepeatedVariable, NotATree, CubeTooLong}
@@ -20,11 +20,6 @@ no_memory = record { kind = NoMemory; line = 0 }
 
 abbrev pub fault : {A : Type 0} → Kind → ℕ → Result A IcnfFault
 fault kind line = Err (record { kind = kind; line = line })
-
-infixl 10 ◌>>=◌
-abbrev pub ◌>>=◌ : {A B : Type 0} → Result A IcnfFault → (A → Result B IcnfFault) → Result B IcnfFault
-(Ok x) >>= f = f x
-(Err e) >>= f = Err e
 
 -- a token: the word a, or a number
 pub data Token : Type 0 where
@@ -99,11 +94,6 @@ read_found line (Some (Number z)) s = read_number line z s.walk.stage s
 unfoldable pub read_token : ℕ → List ℕ → ReadState → Result ReadState IcnfFault
 read_token line word s = read_found line (token word) s
 
--- the tokens of a line
-unfoldable pub read_words : ℕ → List (List ℕ) → ReadState → Result ReadState IcnfFault
-read_words line [] s = Ok s
-read_words line (word ∷ more) s = read_token line word s >>= read_words line more
-
 -- the end of a text of that many lines, where no clause is open
 abbrev pub end_behind : ℕ → Clause → Result (Cnf × List Cube) IcnfFault
 end_behind n [] = fault NotATree n
@@ -118,11 +108,6 @@ finish_at n Complete s = Ok (record { vars = greatest_in s.clauses.done; clauses
 -- the end of a text of that many lines
 unfoldable pub finish : ℕ → ReadState → Result (Cnf × List Cube) IcnfFault
 finish n s = finish_at n s.walk.stage s
-
--- the lines behind n lines
-unfoldable pub read_lines : ℕ → List (List ℕ) → ReadState → Result (Cnf × List Cube) IcnfFault
-read_lines n [] s = finish n s
-read_lines n (line ∷ more) s = read_words (n + 1) (words_of line) s >>= read_lines (n + 1) more
 
 -- the header's two tokens
 abbrev pub header_end : ℕ → List (List ℕ) → Result (Unit {0}) IcnfFault
@@ -141,33 +126,19 @@ read_header line (word ∷ more) = if bytes_eq word (codes "p") then header_two 
 abbrev pub start : ReadState
 start = record { clauses = record { done = []; open_clause = []; total = 0 }; walk = record { stage = Clauses; cubes = []; path = []; forced = [] } }
 
--- one of two readings, by whether there is a token
-abbrev pub by_tokens : List (List ℕ) → Result (Cnf × List Cube) IcnfFault → (List (List ℕ) → Result (Cnf × List Cube) IcnfFault) → Result (Cnf × List Cube) IcnfFault
-by_tokens [] blank header = blank
-by_tokens (word ∷ more) blank header = header (word ∷ more)
-
--- the first line with a token is the header
-unfoldable pub read_text : ℕ → List (List ℕ) → Result (Cnf × List Cube) IcnfFault
-read_text n [] = fault NoHeader n
-read_text n (line ∷ more) = by_tokens (words_of line) (read_text (n + 1) more) (λ words. read_header (n + 1) words >>= λ h. read_lines (n + 1) more start)
+-- iCNF: the first line with a token is the header, and behind it are clauses, and then cubes
+abbrev pub format : Format ReadState (Cnf × List Cube) IcnfFault
+format = record {
+  no_header = λ n. record { kind = NoHeader; line = n };
+  header = λ line words. read_header line words >>= λ h. Ok start;
+  token = read_token;
+  finish = finish;
+}
 
 -- the formula and the cubes of a text, or its first fault
 abbrev pub parse : List ℕ → Result (Cnf × List Cube) IcnfFault
-parse text = read_text 0 (lines text)
+parse text = read_text format 0 (lines text)
 
--- want of memory has line 0
-abbrev pub UnlessMemory : Kind → ℕ → Type 0 → Type 0
-UnlessMemory NoMemory line P = line ≡ 0
-UnlessMemory _ line P = P
-
--- a call gives what reading gives, unless memory ran out
-abbrev pub Fails : {A : Type 0} → IcnfFault → Result A IcnfFault → Type 0
-Fails f expected = UnlessMemory f.kind f.line (expected ≡ Err f)
-
-abbrev pub Gives : ReadState → Result (Unit {0}) IcnfFault → Result ReadState IcnfFault → Type 0
-Gives new (Ok _) expected = expected ≡ Ok new
-Gives new (Err f) expected = Fails f expected
-
+-- a call answers what reading gives, unless memory ran out
 abbrev pub GivesTree : Result (Cnf × List Cube) IcnfFault → Result (Cnf × List Cube) IcnfFault → Type 0
-GivesTree (Ok found) expected = expected ≡ Ok found
-GivesTree (Err f) expected = Fails f expected
+GivesTree result expected = Answers no_memory result expected

@@ -1,6 +1,6 @@
 -- Cubes that lie in one list of literals.
 use Rattle.std.specs.Prelude.{ℕ, ◌+◌, ◌*◌, ◌≤◌, List, length, map, slice_range, All}
-use Rattle.dimacs.specs.Literal.{Literal}
+use Rattle.dimacs.specs.logic.Literal.{Literal}
 use Rattle.icnf.specs.declared.span.Span.{Span}
 use Rattle.icnf.specs.Leaves.{Cube}
 

@@ -1,11 +1,11 @@
 -- The iCNF grammar, by cases on lines and tokens.
 use Rattle.std.specs.Prelude.{◌≡◌, ℕ, List, [], ◌∷◌, ◌++◌, map, Some, codes}
 use Rattle.std.specs.List.{flat_map}
-use Rattle.dimacs.specs.Building.{greatest_in}
-use Rattle.dimacs.specs.Cnf.{Cnf, IsFormula, AreWithin}
-use Rattle.dimacs.specs.Literal.{Clause}
-use Rattle.dimacs.specs.Spelling.{ended, clause_line}
-use Rattle.dimacs.specs.Words.{lines, words_of}
+use Rattle.dimacs.specs.logic.Cnf.{Cnf, IsFormula, AreWithin, greatest_in}
+use Rattle.dimacs.specs.logic.Literal.{Clause}
+use Rattle.dimacs.specs.text.Spelling.{ended, clause_line}
+use Rattle.dimacs.specs.text.Rows.{AreRows}
+use Rattle.dimacs.specs.text.Words.{lines}
 use Rattle.icnf.specs.Leaves.{Cube, IsTree}
 use Rattle.icnf.specs.Reading.{Token, Mark, Number, token}
 
@@ -22,15 +22,6 @@ abbrev pub IsHeader : List (List ℕ) → Type 0
 IsHeader (p ∷ inccnf ∷ []) = (p ≡ codes "p") × (inccnf ≡ codes "inccnf")
 IsHeader _ = ⊥
 
--- a line without a token is passed over; the first other one is the header, and the clauses and the cubes stand behind it
-abbrev pub SpellsRow : List (List ℕ) → Type 0 → List (List ℕ) → Cnf → List Cube → Type 0
-SpellsRow [] later more f cubes = later
-SpellsRow (word ∷ words) later more f cubes = IsHeader (word ∷ words) × AreTokens (flat_map words_of more) f cubes
-
-abbrev pub SpellsLines : List (List ℕ) → Cnf → List Cube → Type 0
-SpellsLines [] f cubes = ⊥
-SpellsLines (line ∷ more) f cubes = SpellsRow (words_of line) (SpellsLines more f cubes) more f cubes
-
 -- the formula and the tree are within the limits, the formula has no variable above the greatest of its clauses, nor has the tree
 pub record IsIcnf (f : Cnf) (cubes : List Cube) : Type 0 where
   pub formula : IsFormula f
@@ -38,9 +29,9 @@ pub record IsIcnf (f : Cnf) (cubes : List Cube) : Type 0 where
   pub tree : IsTree cubes
   pub within : AreWithin f.vars cubes
 
--- the text spells the formula and the tree
+-- the text spells the formula and the tree: the first line with a token is the header, and the clauses and the cubes stand behind it
 abbrev pub Spells : List ℕ → Cnf → List Cube → Type 0
-Spells text f cubes = IsIcnf f cubes × SpellsLines (lines text) f cubes
+Spells text f cubes = IsIcnf f cubes × AreRows IsHeader (λ tokens. AreTokens tokens f cubes) (lines text)
 
 -- a cube's line
 abbrev pub cube_line : Cube → List ℕ

@@ -1,15 +1,18 @@
 //! The part of an iCNF text behind its header: clauses, and then cubes.
 
 ghost use Rattle.std.specs.Prelude.{◌≡◌, ◌≢◌, ℤ, ◌+◌, ◌<◌, ◌≤◌, [], ◌∷◌, ◌++◌, length, OnOk, IfOk, bytes_eq, codes};
-ghost use Rattle.dimacs.specs.Capped.{capped};
-ghost use Rattle.dimacs.specs.Literal.{var_of};
-ghost use Rattle.dimacs.specs.Words.{words, words_of};
-ghost use Rattle.icnf.specs.Reading.{Gives, start, begin, read_mark, in_clause, end_cube, literal_in_cube, in_cube, read_number, read_token, read_words, finish};
+ghost use Rattle.dimacs.specs.layout.Capped.{capped};
+ghost use Rattle.dimacs.specs.logic.Literal.{var_of};
+ghost use Rattle.dimacs.specs.text.Words.{words, words_of};
+ghost use Rattle.icnf.specs.Reading.{format, no_memory, start, begin, read_mark, in_clause, end_cube, literal_in_cube, in_cube, read_number, read_token, finish};
+ghost use Rattle.dimacs.specs.text.Rows.{Gives, read_words};
 
 use crate::fault::{IcnfFault, Kind};
+use crate::header::read_header;
 use crate::tree::Tree;
 use crate::walk::{Stage, Walk};
 use dimacs::number::{Number, signed};
+use dimacs::rows::Rows;
 use dimacs::words::{is_comment, next_word};
 use dimacs::{Builder, Formula, Lit};
 use std::alloc::{AllocError, Global};
@@ -40,7 +43,7 @@ fn is_mark(word: &[u8]) -> bool
 
 impl Body {
     /// Nothing read yet.
-    pub(crate) fn new(alloc: Global) -> Result<Body, AllocError>
+    fn new(alloc: Global) -> Result<Body, AllocError>
         ensures { IfOk result (λ b. b ≡ start) }
     {
         Ok(Body {
@@ -53,7 +56,7 @@ impl Body {
     fn begin(&mut self, line: u64) -> Result<(), IcnfFault>
         requires missing { self.old.walk.stage ≢ Stage.Complete }
         requires closed { self.old.clauses.open_clause ≡ [] }
-        ensures { Gives self.new result (begin line self.old) }
+        ensures { Gives no_memory self.new result (begin line self.old) }
     {
         if self.walk.cubes() >= 65_536 {
             return Err(IcnfFault {
@@ -67,7 +70,7 @@ impl Body {
 
     /// Reads an `a`.
     fn read_mark(&mut self, line: u64) -> Result<(), IcnfFault>
-        ensures { Gives self.new result (read_mark line self.old.walk.stage self.old) }
+        ensures { Gives no_memory self.new result (read_mark line self.old.walk.stage self.old) }
     {
         match self.walk.stage() {
             Stage::Clauses if !self.clauses.is_open() => self.begin(line),
@@ -107,7 +110,7 @@ impl Body {
     /// Reads a number in a clause.
     fn in_clause(&mut self, line: u64, number: Number) -> Result<(), IcnfFault>
         requires { self.old.walk.stage ≡ Stage.Clauses }
-        ensures { (z : ℤ) → number ≡ capped z → Gives self.new result (in_clause line z self.old) }
+        ensures { (z : ℤ) → number ≡ capped z → Gives no_memory self.new result (in_clause line z self.old) }
     {
         if self.clauses.len() >= 4_000_000 {
             return Err(IcnfFault {
@@ -132,7 +135,7 @@ impl Body {
     /// Ends a cube.
     fn end_cube(&mut self, line: u64) -> Result<(), IcnfFault>
         requires { self.old.walk.stage ≡ Stage.Inside }
-        ensures { Gives self.new result (end_cube line self.old.walk.forced self.old) }
+        ensures { Gives no_memory self.new result (end_cube line self.old.walk.forced self.old) }
     {
         if !self.walk.may_end() {
             return Err(IcnfFault {
@@ -147,7 +150,7 @@ impl Body {
     /// Reads a literal in a cube.
     fn literal_in_cube(&mut self, line: u64, literal: Lit) -> Result<(), IcnfFault>
         requires { self.old.walk.stage ≡ Stage.Inside }
-        ensures { Gives self.new result (literal_in_cube line literal self.old) }
+        ensures { Gives no_memory self.new result (literal_in_cube line literal self.old) }
     {
         if self.walk.names(literal) {
             return Err(IcnfFault {
@@ -174,7 +177,7 @@ impl Body {
     /// Reads a number in a cube.
     fn in_cube(&mut self, line: u64, number: Number) -> Result<(), IcnfFault>
         requires { self.old.walk.stage ≡ Stage.Inside }
-        ensures { (z : ℤ) → number ≡ capped z → Gives self.new result (in_cube line z self.old) }
+        ensures { (z : ℤ) → number ≡ capped z → Gives no_memory self.new result (in_cube line z self.old) }
     {
         if number.size == 0 {
             return self.end_cube(line);
@@ -190,7 +193,7 @@ impl Body {
 
     /// Reads a number.
     fn read_number(&mut self, line: u64, number: Number) -> Result<(), IcnfFault>
-        ensures { (z : ℤ) → number ≡ capped z → Gives self.new result (read_number line z self.old.walk.stage self.old) }
+        ensures { (z : ℤ) → number ≡ capped z → Gives no_memory self.new result (read_number line z self.old.walk.stage self.old) }
     {
         match self.walk.stage() {
             Stage::Clauses => self.in_clause(line, number),
@@ -204,7 +207,7 @@ impl Body {
 
     /// Reads a token.
     fn read_token(&mut self, line: u64, word: &[u8]) -> Result<(), IcnfFault>
-        ensures { Gives self.new result (read_token line word.now self.old) }
+        ensures { Gives no_memory self.new result (read_token line word.now self.old) }
     {
         if is_mark(word) {
             return self.read_mark(line);
@@ -218,19 +221,8 @@ impl Body {
         self.read_number(line, number)
     }
 
-    /// Reads the tokens of a line.
-    #[tactic(auto, unfolding(crate::specs::Reading::read_words))]
-    pub(crate) fn read_line(&mut self, line: u64, text: &[u8]) -> Result<(), IcnfFault>
-        ensures { Gives self.new result (read_words line (words_of text.now) self.old) }
-    {
-        if is_comment(text) {
-            return Ok(());
-        }
-        self.read_words(line, text)
-    }
-
     fn read_words(&mut self, line: u64, text: &[u8]) -> Result<(), IcnfFault>
-        ensures { Gives self.new result (read_words line (words text.now) self.old) }
+        ensures { Gives no_memory self.new result (read_words format line (words text.now) self.old) }
     {
         let mut rest = text;
         while let Some((word, after)) = next_word(rest) {
@@ -239,12 +231,41 @@ impl Body {
         }
         Ok(())
     }
+}
 
-    /// The formula and the tree, at the end of a text of that many lines.
+impl Rows for Body {
+    ghost use Rattle.icnf.specs.Reading as reading;
+
+    type Value = (Formula, Tree);
+
+    type Fault = IcnfFault;
+
+    ghost format = { reading.format };
+
+    ghost no_memory = { reading.no_memory };
+
+    fn no_header(lines: u64) -> IcnfFault {
+        IcnfFault {
+            kind: Kind::NoHeader,
+            line: lines,
+        }
+    }
+
+    fn begin(alloc: Global, line: u64, header: &[u8]) -> Result<Body, IcnfFault> {
+        read_header(line, header)?;
+        Ok(Body::new(alloc)?)
+    }
+
+    #[tactic(auto, unfolding(dimacs::specs::text::Rows::read_words))]
+    fn read_line(&mut self, line: u64, text: &[u8]) -> Result<(), IcnfFault> {
+        if is_comment(text) {
+            return Ok(());
+        }
+        self.read_words(line, text)
+    }
+
     #[tactic(auto, unfolding(crate::specs::Reading::finish))]
-    pub(crate) fn finish(self, lines: u64) -> Result<(Formula, Tree), IcnfFault>
-        ensures { result ≡ finish lines self }
-    {
+    fn finish(self, lines: u64) -> Result<(Formula, Tree), IcnfFault> {
         let Body { clauses, walk } = self;
         let kind = match walk.stage() {
             Stage::Complete => {

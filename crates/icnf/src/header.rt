@@ -1,7 +1,7 @@
 //! The header line, one token a function.
 
 ghost use Rattle.std.specs.Prelude.{◌≡◌, bytes_eq};
-ghost use Rattle.dimacs.specs.Words.{words};
+ghost use Rattle.dimacs.specs.text.Words.{words};
 ghost use Rattle.icnf.specs.Reading.{read_header, header_two, header_end};
 
 use crate::fault::{IcnfFault, Kind};

@@ -1,8 +1,7 @@
 //! Laws of the definitions.
 
 ghost use Rattle.std.specs.Prelude.{◌≡◌, ℕ, List, Ok};
-ghost use Rattle.dimacs.specs.Building.{greatest_in};
-ghost use Rattle.dimacs.specs.Cnf.{Cnf, IsFormula, AreWithin};
+ghost use Rattle.dimacs.specs.logic.Cnf.{Cnf, IsFormula, AreWithin, greatest_in};
 ghost use Rattle.icnf.specs.Leaves.{Cube, IsTree};
 ghost use Rattle.icnf.specs.Reading.{parse};
 ghost use Rattle.icnf.specs.Spelling.{Spells, formula_of, spelling};

@@ -3,7 +3,7 @@
 //! Behind a cube the next one is forced up to the deepest place whose other branch is still missing, and free from there.
 
 ghost use Rattle.std.specs.Prelude.{◌≡◌, ◌≢◌, ◌<◌, ◌≤◌, [], ◌∷◌, ◌++◌, length, true, false, MatchBool, OnOk, Some, None, vec_len};
-ghost use Rattle.dimacs.specs.Literal.{var_of};
+ghost use Rattle.dimacs.specs.logic.Literal.{var_of};
 ghost use Rattle.icnf.specs.Spans.{cubes_in, AreSpans};
 ghost use Rattle.icnf.specs.Walk.{names, fits, advanced, ended_cube, next_front, literals_of};
 

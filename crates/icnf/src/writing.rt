@@ -2,9 +2,8 @@
 
 ghost use Rattle.std.specs.Prelude.{◌≡◌, ◌++◌, OnOk, OnErr, codes};
 ghost use Rattle.std.specs.List.{flat_map};
-ghost use Rattle.dimacs.specs.Building.{greatest_in};
-ghost use Rattle.dimacs.specs.Cnf.{AreWithin};
-ghost use Rattle.dimacs.specs.Spelling.{Begins, clause_line};
+ghost use Rattle.dimacs.specs.logic.Cnf.{AreWithin, greatest_in};
+ghost use Rattle.dimacs.specs.text.Spelling.{Begins, clause_line};
 ghost use Rattle.icnf.specs.Spelling.{Spells, cube_line, formula_of, spelling};
 
 use crate::tree::Tree;

@@ -5,8 +5,8 @@ use Rattle.std.specs.Ordering.{nat_cmp}
 use Rattle.std.specs.FinMap.{get, insert, remove, empty, len, empty_of_len, get-empty, len-empty, len-insert, len-remove}
 use Rattle.std.proofs.lemmas.Cmp.{nat_cmp_total}
 use Rattle.std.proofs.lemmas.Bool.{true≢false}
-use Rattle.dimacs.specs.Literal.{Clause}
-use Rattle.dimacs.specs.ClauseMap.{ClauseMap}
+use Rattle.dimacs.specs.logic.Literal.{Clause}
+use Rattle.dimacs.specs.logic.ClauseMap.{ClauseMap}
 
 pub counted_none : (M : ClauseMap) → M ≡ empty → 0 ≡ len M
 counted_none M is = sym (ap (λ (m : ClauseMap). len m) is ∙ len-empty nat_cmp Clause)

@@ -3,8 +3,8 @@ use mathlib.Core.Path.{fun_ext}
 use Rattle.std.proofs.Common.{◌≡◌, ℕ, ◌+◌, Bool, true, false, List, ◌∷◌, ◌++◌, Ok, refl, sym, ◌∙◌, ap, length}
 use Rattle.std.specs.List.{slice_split, All}
 use Rattle.std.proofs.lemmas.List.Splits.{slice_split_none, slice_split_at}
-use Rattle.dimacs.specs.Cnf.{Cnf}
-use Rattle.dimacs.specs.ClauseMap.{ClauseMap, map_of}
+use Rattle.dimacs.specs.logic.Cnf.{Cnf}
+use Rattle.dimacs.specs.logic.ClauseMap.{ClauseMap, map_of}
 use Rattle.lrat_text.specs.Log.{Cube, AreLogSteps, Closes}
 use Rattle.lrat_text.specs.Reading.{step_in}
 use Rattle.lrat_text.specs.declared.step.Step.{Step}

@@ -7,10 +7,10 @@ use Rattle.std.specs.FinMap.{get, remove}
 use Rattle.std.proofs.lemmas.Bool.{true≢false, both_ways, eqb-true, eq-eqb}
 use Rattle.std.proofs.lemmas.Bool.Decides.{nat_tests}
 use Rattle.std.proofs.lemmas.List.Elements.{All-from_recursion, recursion_from_All}
-use Rattle.dimacs.specs.ClauseMap.{ClauseMap, live_in}
-use Rattle.dimacs.specs.Literal.{Literal, Clause, negation, has}
-use Rattle.dimacs.specs.Propagation.{Rup, negations}
-use Rattle.dimacs.specs.Rat.{Group}
+use Rattle.dimacs.specs.logic.ClauseMap.{ClauseMap, live_in}
+use Rattle.dimacs.specs.logic.Literal.{Literal, Clause, negation, has}
+use Rattle.dimacs.specs.logic.Propagation.{Rup, negations}
+use Rattle.dimacs.specs.logic.Rat.{Group}
 use Rattle.dimacs.proofs.Members.{has-Contains, Contains-has}
 use Rattle.lrat_text.specs.Log.{Cube, after_step, top_after, IsLogStep, AreLogSteps, Negates, EndsAt}
 use Rattle.lrat_text.specs.Reading.{step_in}

@@ -9,8 +9,8 @@ use Rattle.std.specs.BTreeMap.{is_at}
 use Rattle.std.specs.Cmp.{nat_cmp_total}
 use Rattle.std.proofs.lemmas.List.{append_assoc, append-nil, drop_all, take_all, length-take-le}
 use Rattle.std.proofs.lemmas.List.Elements.{All-take, All-drop}
-use Rattle.dimacs.specs.Literal.{Literal, Clause, var_of}
-use Rattle.dimacs.specs.Flat.{parts}
+use Rattle.dimacs.specs.logic.Literal.{Literal, Clause, var_of}
+use Rattle.dimacs.specs.layout.Flat.{parts}
 use Rattle.lrat_check.specs.declared.slot.Slot.{Slot}
 use Rattle.lrat_check.specs.declared.store.Far.{Far}
 use Rattle.lrat_check.specs.Store.{clause_at, entries_of, near_entries, live_of, numbered, numbered_entries, place_of, ArePlaced, IsStore}

@@ -2,7 +2,7 @@
 use Rattle.std.proofs.Common.{◌≡◌, ℕ, ◌<◌, ◌≤◌, Bool, true, false, ◌||◌, List, [], ◌∷◌, Result, Ok, cond, refl, sym, ◌∙◌, ap, eqb, arith}
 use Rattle.std.specs.Bool.{OnTrue, OnFalse}
 use Rattle.std.proofs.lemmas.Bool.{ne_eqb}
-use Rattle.dimacs.specs.Rat.{Group}
+use Rattle.dimacs.specs.logic.Rat.{Group}
 use Rattle.lrat_check.specs.Faults.{is_named}
 use Rattle.lrat_check.specs.Rising.{IsRising}
 use Rattle.lrat_check.proofs.Named.{named_more}

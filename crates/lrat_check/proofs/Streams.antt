@@ -2,7 +2,7 @@
 use Rattle.std.proofs.Common.{◌≡◌, ◌⊎◌, ℕ, ◌+◌, ◌==◌, false, List, [], ◌∷◌, ◌++◌, Result, Ok, Err, inl, inr, refl, sym, ◌∙◌, ap, subst, append_assoc}
 use Rattle.std.proofs.lemmas.List.{append-nil}
 use Rattle.std.proofs.lemmas.List.Elements.{All-append}
-use Rattle.dimacs.specs.Cnf.{Cnf}
+use Rattle.dimacs.specs.logic.Cnf.{Cnf}
 use Rattle.lrat_text.specs.Lines.{IsCut, IsOpen}
 use Rattle.lrat_text.specs.Reading.{step_in}
 use Rattle.lrat_check.specs.declared.checking.CheckFault.{CheckFault}

@@ -2,11 +2,11 @@
 use Rattle.std.specs.Prelude.{ℕ, ◌+◌, Bool, false, ◌==◌, nat_le, List, [], ◌∷◌, Option, Some, None, Result, Ok, Err, is_some, length, if◌then◌else◌}
 use Rattle.std.specs.FinMap.{get, remove}
 use Rattle.std.specs.List.{list_all, slice_split}
-use Rattle.dimacs.specs.ClauseMap.{ClauseMap, map_of}
-use Rattle.dimacs.specs.Cnf.{Cnf}
-use Rattle.dimacs.specs.Literal.{Clause, negation, has}
-use Rattle.dimacs.specs.Propagation.{negations}
-use Rattle.dimacs.specs.Rat.{Group}
+use Rattle.dimacs.specs.logic.ClauseMap.{ClauseMap, map_of}
+use Rattle.dimacs.specs.logic.Cnf.{Cnf}
+use Rattle.dimacs.specs.logic.Literal.{Clause, negation, has}
+use Rattle.dimacs.specs.logic.Propagation.{negations}
+use Rattle.dimacs.specs.logic.Rat.{Group}
 use Rattle.lrat_text.specs.Faults.{fault_number}
 use Rattle.lrat_text.specs.Log.{Cube}
 use Rattle.lrat_text.specs.Reading.{step_in}

@@ -1,6 +1,6 @@
 -- Checking a text that comes in pieces.
 use Rattle.std.specs.Prelude.{◌≡◌, ◌⊎◌, ℕ, List, ◌++◌, Option, Some, None, Result, Ok, Err}
-use Rattle.dimacs.specs.Cnf.{Cnf}
+use Rattle.dimacs.specs.logic.Cnf.{Cnf}
 use Rattle.lrat_text.specs.Lines.{IsOpen}
 use Rattle.lrat_check.specs.Checking.{check_text, check_of, no_memory}
 use Rattle.lrat_check.specs.State.{State}

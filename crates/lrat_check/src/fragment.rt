@@ -3,9 +3,9 @@
 ghost use Rattle.std.specs.Prelude.{◌≡◌, ◌⊎◌, ◌+◌, ◌<◌, ◌≤◌, length, false, Some, None, Ok, Err, OnOk, IfOk, IfErr, vec_len};
 ghost use Rattle.std.specs.FinMap.{insert};
 ghost use Rattle.std.specs.List.{list_all};
-ghost use Rattle.dimacs.specs.Literal.{negation, has};
+ghost use Rattle.dimacs.specs.logic.Literal.{negation, has};
 ghost use Rattle.lrat_check.specs.declared.fault.StepFault.TheVariants.{NoMemory};
-ghost use Rattle.dimacs.specs.ClauseMap.{map_of};
+ghost use Rattle.dimacs.specs.logic.ClauseMap.{map_of};
 ghost use Rattle.lrat_text.specs.Log.{Closes};
 ghost use Rattle.lrat_text.specs.Steps.{step_of};
 ghost use Rattle.lrat_check.specs.Checking.{GivesCheck, no_memory};

@@ -1,8 +1,8 @@
 //! Theorems on the checker's definitions. There is nothing to run: each contract is a theorem.
 
 ghost use Rattle.std.specs.Prelude.{◌≡◌, ℕ, List, None, Ok};
-ghost use Rattle.dimacs.specs.ClauseMap.{ClauseMap};
-ghost use Rattle.dimacs.specs.Cnf.{Cnf};
+ghost use Rattle.dimacs.specs.logic.ClauseMap.{ClauseMap};
+ghost use Rattle.dimacs.specs.logic.Cnf.{Cnf};
 ghost use Rattle.lrat_text.specs.Log.{Cube, Closes};
 ghost use Rattle.lrat_text.specs.Proof.{Accepts, TakesStep};
 ghost use Rattle.lrat_text.specs.declared.step.Step.{Step};

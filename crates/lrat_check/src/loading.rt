@@ -1,7 +1,7 @@
 //! Clauses that are live from the beginning. Their literals are taken over as they lie, clause after clause.
 
 ghost use Rattle.std.specs.Prelude.{◌≡◌, IfOk, length, vec_len};
-ghost use Rattle.dimacs.specs.Flat.{parts, ArePlaces};
+ghost use Rattle.dimacs.specs.layout.Flat.{parts, ArePlaces};
 ghost use Rattle.lrat_check.specs.Marks.{AllAtMost};
 ghost use Rattle.lrat_check.specs.Store.{near_entries, numbered, numbered_entries, ArePlaced};
 ghost use Rattle.lrat_check.specs.Table.{AllFit};

@@ -156,7 +156,7 @@ pub struct StreamChecker {
 
 impl Model for StreamChecker {
     ghost use Rattle.lrat_check.specs.Stream.{Progress, progress_of, IsProgress};
-    ghost use Rattle.dimacs.specs.Codes.{clause_map_code};
+    ghost use Rattle.dimacs.specs.layout.Codes.{clause_map_code};
     ghost use Rattle.std.specs.Coded.{codes};
 
     ghost Value = { Progress };

@@ -7,10 +7,10 @@ use Rattle.std.proofs.lemmas.List.Elements.{All-contains}
 use Rattle.std.proofs.lemmas.Map.Keys.{IsDistinct-cons}
 use Rattle.std.proofs.lemmas.Map.Steps.{length-le_from_distinct_below}
 use Rattle.std.proofs.Math.Nat.{pow-le-pow_right}
-use Rattle.dimacs.specs.Literal.{Literal, Pos, Neg, Clause, IsWithin, IsTautology, has}
-use Rattle.dimacs.specs.Cnf.{Cnf}
-use Rattle.dimacs.specs.ClauseMap.{ClauseMap, live_in, map_of}
-use Rattle.dimacs.specs.Words.{lines}
+use Rattle.dimacs.specs.logic.Literal.{Literal, Pos, Neg, Clause, IsWithin, IsTautology, has}
+use Rattle.dimacs.specs.logic.Cnf.{Cnf}
+use Rattle.dimacs.specs.logic.ClauseMap.{ClauseMap, live_in, map_of}
+use Rattle.dimacs.specs.text.Words.{lines}
 use Rattle.dimacs.proofs.Members.{has-Contains, Contains-has}
 use Rattle.lrat_text.specs.Grammar.{LineSpells}
 use Rattle.lrat_text.specs.Lines.{AllRead}

@@ -6,7 +6,7 @@ use Rattle.std.proofs.Math.Seq.{drop-append_seam}
 use Rattle.std.proofs.Math.ListN.{set}
 use Rattle.std.proofs.lemmas.Option.{slice_get_read}
 use Rattle.lrat_text.specs.declared.groups.Head.{Head}
-use Rattle.dimacs.specs.Rat.{Group}
+use Rattle.dimacs.specs.logic.Rat.{Group}
 use Rattle.lrat_text.specs.Groups.{groups_from, AreHeads, start_at}
 use Rattle.lrat_text.specs.GroupLists.{with_hint}
 

@@ -7,9 +7,9 @@ use Rattle.std.proofs.lemmas.List.Elements.{All-from_recursion, recursion_from_A
 use Rattle.std.proofs.lemmas.List.Splits.{slice_split_at, slice_split_none, join_with_byte-slice_split}
 use Rattle.std.proofs.Math.Seq.{get_or-append_right}
 use Rattle.std.proofs.lemmas.Fmt.{decimal_nonempty}
-use Rattle.dimacs.specs.Literal.{Literal, Pos, Neg, IsWithin}
-use Rattle.dimacs.specs.Rat.{Group}
-use Rattle.dimacs.specs.Words.{is_some_byte, lines}
+use Rattle.dimacs.specs.logic.Literal.{Literal, Pos, Neg, IsWithin}
+use Rattle.dimacs.specs.logic.Rat.{Group}
+use Rattle.dimacs.specs.text.Words.{is_some_byte, lines}
 use Rattle.lrat_text.specs.declared.step.Step.{Step}
 use Rattle.lrat_text.specs.declared.step.Step.TheVariants.{Add, Delete}
 use Rattle.lrat_text.specs.Grammar.{tokens, IsTrimmed, IsClauseNumber, IsGroup, IsStep, literal_token, group_tokens, step_tokens, SpellsStep, LineSpells}

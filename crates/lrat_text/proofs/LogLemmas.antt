@@ -1,9 +1,9 @@
 -- A log that closes the empty cube refutes the formula.
 use Rattle.std.proofs.Common.{◌≡◌, ℕ, ◌<◌, inl, inr, List, [], ◌∷◌, ◌++◌, length, refl, sym, subst, arith}
 use Rattle.std.specs.Prelude.{Contains}
-use Rattle.dimacs.specs.Literal.{Literal, Clause, negation}
-use Rattle.dimacs.specs.Cnf.{Cnf}
-use Rattle.dimacs.specs.ClauseMap.{ClauseMap, map_of}
+use Rattle.dimacs.specs.logic.Literal.{Literal, Clause, negation}
+use Rattle.dimacs.specs.logic.Cnf.{Cnf}
+use Rattle.dimacs.specs.logic.ClauseMap.{ClauseMap, map_of}
 use Rattle.lrat_text.specs.Log.{after_step, top_after, IsLogStep, AreLogSteps, Negates, Closes}
 use Rattle.lrat_text.specs.Proof.{TakesStep, AddsEmpty, Refutation, Accepts}
 use Rattle.lrat_text.specs.declared.step.Step.{Step}

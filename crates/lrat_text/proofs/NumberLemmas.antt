@@ -9,8 +9,8 @@ use Rattle.std.proofs.lemmas.Bool.Decides.{nat_tests}
 use Rattle.std.proofs.lemmas.Slice.Eq.{bytes_eq-Decides}
 use Rattle.std.proofs.lemmas.Str.Parse.{IsNumeralModel, numerals_by_fold}
 use Rattle.std.proofs.lemmas.Fmt.{decimal_by_steps, first_decimal, decimal_nonempty, decimal_digit, decimal-digits_value}
-use Rattle.dimacs.specs.Numbers.{number, natural, digits_from, negated, positive}
-use Rattle.dimacs.specs.Literal.{Neg}
+use Rattle.dimacs.specs.text.Numbers.{number, natural, digits_from, negated, positive}
+use Rattle.dimacs.specs.logic.Literal.{Neg}
 use Rattle.lrat_text.specs.declared.token.Token.{Token}
 use Rattle.lrat_text.specs.declared.token.Token.TheVariants.{Letter, Zero, Plus, Minus, LargePlus, LargeMinus}
 use Rattle.lrat_text.specs.Grammar.{IsClauseNumber, literal_token}

@@ -1,6 +1,6 @@
 -- Steps behind other steps.
 use Rattle.std.proofs.Common.{◌≡◌, ℕ, List, [], ◌∷◌, ◌++◌, refl, sym, ◌∙◌, ap, subst, append_assoc}
-use Rattle.dimacs.specs.ClauseMap.{ClauseMap}
+use Rattle.dimacs.specs.logic.ClauseMap.{ClauseMap}
 use Rattle.lrat_text.specs.Grammar.{LineSpells}
 use Rattle.lrat_text.specs.Log.{after_step, top_after, AreLogSteps}
 use Rattle.lrat_text.specs.Runs.{after_steps, top_of, text_of}

@@ -4,8 +4,8 @@ use Rattle.std.specs.List.{AllByRecursion, flat_map}
 use Rattle.std.proofs.lemmas.Bool.Decides.{nat_tests}
 use Rattle.std.proofs.lemmas.List.{append-nil, map-append}
 use Rattle.std.proofs.lemmas.List.Elements.{recursion_from_All}
-use Rattle.dimacs.specs.Literal.{Literal, Pos, Neg, IsWithin}
-use Rattle.dimacs.specs.Rat.{Group}
+use Rattle.dimacs.specs.logic.Literal.{Literal, Pos, Neg, IsWithin}
+use Rattle.dimacs.specs.logic.Rat.{Group}
 use Rattle.lrat_text.specs.declared.step.Step.{Step}
 use Rattle.lrat_text.specs.declared.step.Step.TheVariants.{Add, Delete}
 use Rattle.lrat_text.specs.declared.token.Token.{Token}

@@ -7,8 +7,8 @@ use Rattle.std.proofs.lemmas.List.{take_all, drop_all}
 use Rattle.std.proofs.lemmas.List.Elements.{All-from_get_or}
 use Rattle.std.proofs.lemmas.List.Sums.{passes_at_first, fails_before_first, prefix_len_stops}
 use Rattle.std.proofs.lemmas.List.Splits.{slice_split-cons_yes, slice_split_first, slice_split_none}
-use Rattle.dimacs.specs.Words.{is_some_byte}
-use Rattle.dimacs.specs.Numbers.{natural, number, positive, negated}
+use Rattle.dimacs.specs.text.Words.{is_some_byte}
+use Rattle.dimacs.specs.text.Numbers.{natural, number, positive, negated}
 use Rattle.lrat_text.specs.declared.token.Token.{Token}
 use Rattle.lrat_text.specs.declared.token.Token.TheVariants.{Letter}
 use Rattle.lrat_text.specs.Grammar.{tokens}

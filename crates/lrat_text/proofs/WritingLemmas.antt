@@ -5,8 +5,8 @@ use Rattle.std.proofs.lemmas.List.{append-nil, take_more, flat_map_more}
 use Rattle.std.proofs.lemmas.List.Folds.{flat_map-map}
 use Rattle.std.proofs.lemmas.Grind.{flat_map-append}
 use Rattle.std.proofs.lemmas.Option.{slice_get_within, get_or_from_slice_get}
-use Rattle.dimacs.specs.Literal.{Literal}
-use Rattle.dimacs.specs.Rat.{Group}
+use Rattle.dimacs.specs.logic.Literal.{Literal}
+use Rattle.dimacs.specs.logic.Rat.{Group}
 use Rattle.lrat_text.specs.declared.step.Step.TheVariants.{Add, Delete}
 use Rattle.lrat_text.specs.Grammar.{literal_token, group_tokens}
 use Rattle.lrat_text.specs.Writing.{line_of, group_text, lemma_text, reasons_text, deletion_text}

@@ -2,9 +2,9 @@
 use Rattle.std.specs.Prelude.{◌≡◌, ℕ, ◌-◌, ◌≤◌, ◌<◌, ◌^◌, ◌==◌, List, [], ◌∷◌, ◌++◌, length, slice_index, map, codes, decimal, Contains, All}
 use Rattle.std.specs.List.{slice_split, filter, flat_map}
 use Rattle.std.specs.Fmt.{signed_decimal}
-use Rattle.dimacs.specs.Literal.{Literal, IsWithin, number_of}
-use Rattle.dimacs.specs.Words.{is_some_byte}
-use Rattle.dimacs.specs.Rat.{Group}
+use Rattle.dimacs.specs.logic.Literal.{Literal, IsWithin, number_of}
+use Rattle.dimacs.specs.text.Words.{is_some_byte}
+use Rattle.dimacs.specs.logic.Rat.{Group}
 use Rattle.lrat_text.specs.declared.step.Step.{Step}
 use Rattle.lrat_text.specs.declared.step.Step.TheVariants.{Add, Delete}
 

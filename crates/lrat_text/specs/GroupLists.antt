@@ -1,6 +1,6 @@
 -- Lists of groups.
 use Rattle.std.specs.Prelude.{ℕ, List, [], ◌∷◌, ◌++◌}
-use Rattle.dimacs.specs.Rat.{Group}
+use Rattle.dimacs.specs.logic.Rat.{Group}
 
 -- one hint more in the last group
 abbrev pub with_hint : ℕ → List Group → List Group

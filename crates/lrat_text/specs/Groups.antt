@@ -1,7 +1,7 @@
 -- Groups whose hints lie one after the other in one list.
 use Rattle.std.specs.Prelude.{◌≡◌, ℕ, zero, suc, ◌≤◌, List, [], ◌∷◌, slice_range}
 use Rattle.lrat_text.specs.declared.groups.Head.{Head}
-use Rattle.dimacs.specs.Rat.{Group}
+use Rattle.dimacs.specs.logic.Rat.{Group}
 
 -- the groups of which the first one's hints begin at start
 abbrev pub groups_from : ℕ → List Head → List ℕ → List Group

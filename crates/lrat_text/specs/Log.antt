@@ -2,10 +2,10 @@
 use Rattle.std.specs.Prelude.{◌≡◌, ℕ, ◌+◌, ◌<◌, List, [], ◌∷◌, ◌++◌, length, IsSome, nat_eq, All, Contains}
 use Rattle.std.specs.List.{IsDistinct}
 use Rattle.std.specs.FinMap.{get, insert, len}
-use Rattle.dimacs.specs.Literal.{Literal, Clause, IsWithin, negation}
-use Rattle.dimacs.specs.Cnf.{Cnf}
-use Rattle.dimacs.specs.ClauseMap.{ClauseMap, Live, map_of, live_in}
-use Rattle.dimacs.specs.Propagation.{Rup}
+use Rattle.dimacs.specs.logic.Literal.{Literal, Clause, IsWithin, negation}
+use Rattle.dimacs.specs.logic.Cnf.{Cnf}
+use Rattle.dimacs.specs.logic.ClauseMap.{ClauseMap, Live, map_of, live_in}
+use Rattle.dimacs.specs.logic.Propagation.{Rup}
 use Rattle.lrat_text.specs.Grammar.{LineSpells}
 use Rattle.lrat_text.specs.Proof.{without}
 use Rattle.lrat_text.specs.declared.step.Step.{Step}

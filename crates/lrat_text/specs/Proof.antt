@@ -2,10 +2,10 @@
 use Rattle.std.specs.Prelude.{◌≡◌, ℕ, ◌<◌, not, List, [], ◌∷◌, ◌⊎◌, IsSome, nat_eq, All, length}
 use Rattle.std.specs.List.{list_any, IsDistinct}
 use Rattle.std.specs.FinMap.{get, insert, retain_keys}
-use Rattle.dimacs.specs.Cnf.{Cnf}
-use Rattle.dimacs.specs.ClauseMap.{ClauseMap, map_of, live_in}
-use Rattle.dimacs.specs.Propagation.{Rup}
-use Rattle.dimacs.specs.Rat.{Rat}
+use Rattle.dimacs.specs.logic.Cnf.{Cnf}
+use Rattle.dimacs.specs.logic.ClauseMap.{ClauseMap, map_of, live_in}
+use Rattle.dimacs.specs.logic.Propagation.{Rup}
+use Rattle.dimacs.specs.logic.Rat.{Rat}
 use Rattle.lrat_text.specs.Grammar.{LineSpells}
 use Rattle.lrat_text.specs.declared.step.Step.{Step}
 use Rattle.lrat_text.specs.declared.step.Step.TheVariants.{Add, Delete}

@@ -1,8 +1,8 @@
 -- The step that a line spells, or its first fault.
 use Rattle.std.specs.Prelude.{◌≡◌, ℕ, zero, suc, ◌+◌, ◌-◌, ◌^◌, Bool, not, ◌&&◌, ◌==◌, nat_lt, nat_le, List, [], ◌∷◌, ◌++◌, length, slice_index, slice_range, drop, position, map, codes, bytes_eq, ℤ, pos, negsuc, Option, Some, None, Result, Ok, Err, if◌then◌else◌}
-use Rattle.dimacs.specs.Literal.{Literal, Pos, Neg}
-use Rattle.dimacs.specs.Numbers.{number}
-use Rattle.dimacs.specs.Rat.{Group}
+use Rattle.dimacs.specs.logic.Literal.{Literal, Pos, Neg}
+use Rattle.dimacs.specs.text.Numbers.{number}
+use Rattle.dimacs.specs.logic.Rat.{Group}
 use Rattle.lrat_text.specs.Grammar.{tokens}
 use Rattle.lrat_text.specs.GroupLists.{with_hint}
 use Rattle.lrat_text.specs.declared.fault.TextFault.{TextFault}

@@ -1,6 +1,6 @@
 -- Steps one after the other: what they leave, and the text that they make.
 use Rattle.std.specs.Prelude.{ℕ, List, [], ◌∷◌, ◌++◌}
-use Rattle.dimacs.specs.ClauseMap.{ClauseMap}
+use Rattle.dimacs.specs.logic.ClauseMap.{ClauseMap}
 use Rattle.lrat_text.specs.Log.{after_step, top_after}
 use Rattle.lrat_text.specs.Writing.{line_of}
 use Rattle.lrat_text.specs.declared.step.Step.{Step}

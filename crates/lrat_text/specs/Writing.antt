@@ -1,8 +1,8 @@
 -- The line that is written for a step.
 use Rattle.std.specs.Prelude.{◌≡◌, ℕ, List, [], ◌∷◌, ◌++◌, decimal, codes}
 use Rattle.std.specs.List.{join_with_byte, flat_map}
-use Rattle.dimacs.specs.Literal.{Literal}
-use Rattle.dimacs.specs.Rat.{Group}
+use Rattle.dimacs.specs.logic.Literal.{Literal}
+use Rattle.dimacs.specs.logic.Rat.{Group}
 use Rattle.lrat_text.specs.Grammar.{step_tokens, literal_token}
 use Rattle.lrat_text.specs.declared.step.Step.{Step}
 

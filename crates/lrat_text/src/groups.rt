@@ -31,7 +31,7 @@ fn start_of(heads: &[Head], i: usize) -> usize
 
 impl Model for Groups {
     ghost use Rattle.std.specs.Prelude.{◌≡◌, List, vec_len};
-    ghost use Rattle.dimacs.specs.Rat.{Group};
+    ghost use Rattle.dimacs.specs.logic.Rat.{Group};
 
     ghost Value = { List Group };
 

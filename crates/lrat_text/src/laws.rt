@@ -1,9 +1,9 @@
 //! Laws of lines, as contracts of calls that do nothing.
 
 ghost use Rattle.std.specs.Prelude.{◌≡◌, ℕ, ◌^◌, ◌≤◌, List, [], Ok, Contains};
-ghost use Rattle.dimacs.specs.ClauseMap.{map_of};
-ghost use Rattle.dimacs.specs.Cnf.{Cnf};
-ghost use Rattle.dimacs.specs.Words.{lines};
+ghost use Rattle.dimacs.specs.logic.ClauseMap.{map_of};
+ghost use Rattle.dimacs.specs.logic.Cnf.{Cnf};
+ghost use Rattle.dimacs.specs.text.Words.{lines};
 ghost use Rattle.lrat_text.specs.Grammar.{SpellsStep, LineSpells, IsStep, IsClauseNumber};
 ghost use Rattle.lrat_text.specs.Lines.{AllRead};
 ghost use Rattle.lrat_text.specs.Log.{Closes, IsLog, IsHonest, AreFresh, additions};

@@ -16,8 +16,8 @@ pub struct Literals {
 impl Model for Literals {
     ghost use Rattle.std.specs.Prelude.{List};
     ghost use Rattle.std.specs.Coded.{coded_list};
-    ghost use Rattle.dimacs.specs.Literal.{Literal};
-    ghost use Rattle.dimacs.specs.Codes.{literal_code};
+    ghost use Rattle.dimacs.specs.logic.Literal.{Literal};
+    ghost use Rattle.dimacs.specs.layout.Codes.{literal_code};
 
     ghost Value = { List Literal };
 

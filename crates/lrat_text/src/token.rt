@@ -3,7 +3,7 @@
 ghost use Rattle.std.specs.Prelude.{◌≡◌, ℕ, ◌<◌, ◌≤◌, ◌^◌, ◌==◌, length, min, take, Option, IfSome};
 ghost use Rattle.std.specs.List.{prefix_len, position_or_len};
 ghost use Rattle.std.specs.Option.{option_map, option_and_then};
-ghost use Rattle.dimacs.specs.Numbers.{digits_from, natural as natural_of, positive, negated};
+ghost use Rattle.dimacs.specs.text.Numbers.{digits_from, natural as natural_of, positive, negated};
 ghost use Rattle.lrat_text.specs.Reading.{number_token, token_of, line_tokens};
 ghost use Rattle.lrat_text.specs.Tokens.{is_space, IsCounted, tokens_from};
 

@@ -2,12 +2,12 @@
 use Rattle.std.proofs.Common.{◌≡◌, ◌≢◌, ◌⊎◌, ℕ, List, cond, Result, Ok, Err, None, inl, inr, refl, sym, ap, subst, ◌∙◌}
 use Rattle.std.specs.Prelude.{IfOk, OnOk, is_ok}
 use Rattle.std.specs.declared.alloc.AllocError.{AllocError}
-use Rattle.dimacs.specs.Cnf.{Cnf}
-use Rattle.dimacs.specs.Reading.{parse, UnlessMemory, Fails}
-use Rattle.dimacs.specs.Spelling.{Spells}
+use Rattle.dimacs.specs.logic.Cnf.{Cnf}
+use Rattle.dimacs.specs.text.Reading.{parse, no_memory as input_no_memory}
+use Rattle.dimacs.specs.text.Rows.{Fails}
+use Rattle.dimacs.specs.text.Spelling.{Spells}
 use Rattle.dimacs.specs.declared.fault.DimacsFault.{DimacsFault}
-use Rattle.dimacs.specs.declared.fault.Kind.{Kind}
-use Rattle.dimacs.specs.declared.fault.Kind.TheVariants.{NoHeader, BadHeader, BadToken, VariableAboveHeader, ClauseNotEnded, TooFewClauses, TooManyClauses, AboveLimit, NoMemory}
+use Rattle.dimacs.specs.declared.fault.Kind.TheVariants.{NoMemory}
 use Rattle.dimacs.proofs.SpellingLemmas.{parse_spells, spells_parse}
 use Rattle.lrat_text.specs.Proof.{Accepts}
 use Rattle.lrat_text.proofs.SpellingLemmas.{found_spells, spelled_found}
@@ -61,25 +61,18 @@ proof_report input proof F answer (Ok report) read gives text status none other 
 -- ---- the input's fault
 
 -- a fault that is not want of memory is the input's
-fault_stands : (kind : Kind) (line : ℕ) (P : Type 0) → UnlessMemory kind line P → kind ≢ NoMemory → P
-fault_stands NoMemory line P is other = absurd (other refl)
-fault_stands NoHeader line P is other = is
-fault_stands BadHeader line P is other = is
-fault_stands BadToken line P is other = is
-fault_stands VariableAboveHeader line P is other = is
-fault_stands ClauseNotEnded line P is other = is
-fault_stands TooFewClauses line P is other = is
-fault_stands TooManyClauses line P is other = is
-fault_stands AboveLimit line P is other = is
+fault_stands : (fault : DimacsFault) (expected : Result Cnf DimacsFault) → Fails input_no_memory fault expected → fault.kind ≢ NoMemory → expected ≡ Err fault
+fault_stands fault expected (inl none) other = absurd (other (ap (λ (f : DimacsFault). f.kind) none))
+fault_stands fault expected (inr is) other = is
 
 unspelled : {P : Type 0} (input : List ℕ) (fault : DimacsFault) (F : Cnf) → parse input ≡ Err fault → Spells input F → P
 unspelled input fault F read spells = let other : parse input ≡ Ok F = spells_parse input F spells in absurd cc
 
-pub input_report : (input proof : List ℕ) (fault : DimacsFault) (result : Result Report AllocError) → Fails fault (parse input)
+pub input_report : (input proof : List ℕ) (fault : DimacsFault) (result : Result Report AllocError) → Fails input_no_memory fault (parse input)
     → IfOk result (λ r. r.stdout.items ≡ input_fault_text fault) → IfOk result (λ r. r.status ≡ 1) → IfOk result (λ r. r.proof ≡ None) → OnOk result (fault.kind ≢ NoMemory) → IfOk result (IsCheckReport input proof)
 input_report input proof fault (Err e) fails text status none other = tt
 input_report input proof fault (Ok report) fails text status none other =
-    let read : parse input ≡ Err fault = fault_stands fault.kind fault.line (parse input ≡ Err fault) fails other in
+    let read : parse input ≡ Err fault = fault_stands fault (parse input) fails other in
     record {
       verified = (
         λ zero. absurd (let no : 1 ≡ 0 = sym status ∙ zero in cc),

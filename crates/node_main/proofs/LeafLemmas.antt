@@ -1,11 +1,10 @@
 -- Leaves that are closed one after the other.
 use Rattle.std.proofs.Common.{◌≡◌, ℕ, ◌+◌, ◌<◌, List, [], ◌∷◌, ◌++◌, map, length, get_or, take, subst, sym}
 use Rattle.std.specs.Prelude.{All, nat_eq}
-use Rattle.std.specs.List.{AllByRecursion, IsDistinct}
+use Rattle.std.specs.List.{IsDistinct}
 use Rattle.std.proofs.lemmas.List.{take_more}
-use Rattle.std.proofs.lemmas.List.Elements.{All-from_recursion}
-use Rattle.dimacs.specs.Cnf.{Cnf, AreWithin}
-use Rattle.dimacs.specs.Literal.{IsWithin, var_of}
+use Rattle.dimacs.specs.logic.Cnf.{Cnf, AreWithin}
+use Rattle.dimacs.specs.logic.Literal.{IsWithin, var_of}
 use Rattle.icnf.specs.Leaves.{Cube, Leaves}
 use Rattle.icnf.proofs.DistinctLemmas.{leaves_distinct}
 use Rattle.lrat_text.specs.Log.{Closes}
@@ -35,4 +34,4 @@ leaf_distinct leaves i q h l e = subst (λ (c : Cube). IsDistinct nat_eq (map va
 
 pub leaf_within : (vars : ℕ) (leaves : List Cube) (i : ℕ) (q : Cube) → AreWithin vars leaves → i < length leaves → q ≡ get_or leaves i [] → All (IsWithin vars) q
 leaf_within vars leaves i q h l e =
-    All-from_recursion (IsWithin vars) q (subst (AllByRecursion (IsWithin vars)) (sym e) (All-from_recursion (AllByRecursion (IsWithin vars)) leaves h i [] l))
+    subst (All (IsWithin vars)) (sym e) (h i [] l)

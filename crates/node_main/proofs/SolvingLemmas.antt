@@ -4,10 +4,10 @@ use Rattle.std.specs.Prelude.{All, ◌⊎◌}
 use Rattle.std.proofs.Math.Seq.{take-append_seam}
 use Rattle.std.proofs.lemmas.List.{get_or_append_left}
 use Rattle.cube_solve.specs.Outcome.{IsModel, allowed}
-use Rattle.dimacs.specs.Answer.{Lines, satisfied_lines}
-use Rattle.dimacs.specs.Base.{pure_literals, base_of}
-use Rattle.dimacs.specs.Cnf.{Cnf, Sat, member_of}
-use Rattle.dimacs.specs.Literal.{Clause, IsTrueIn}
+use Rattle.dimacs.specs.text.Answer.{Lines, satisfied_lines}
+use Rattle.dimacs.specs.logic.Base.{pure_literals, base_of}
+use Rattle.dimacs.specs.logic.Cnf.{Cnf, Sat, assignment_of}
+use Rattle.dimacs.specs.logic.Literal.{Clause, IsTrueIn}
 use Rattle.dimacs.specs.declared.answer.Answer.TheVariants.{Unknown}
 use Rattle.icnf.specs.Leaves.{Cube}
 use Rattle.node_main.specs.Solving.{Decides, IsRefused, IsTooLong, IsUndecided, MeetsLimit}
@@ -34,7 +34,7 @@ base_satisfied a F h = all_first (IsTrueIn a) F.clauses (map (λ l. l ∷ []) (p
 pub told_model : {E : Type 0} (r : Result Report E) (F : Cnf) (leaves : List Cube) (o : Options) (q : Cube) (values : List Bool) → IsModel (base_of F) q values
     → IfOk r (λ x. x.stdout.items ≡ satisfied_lines values o.witness) → IfOk r (λ x. x.status ≡ 10) → IfOk r (λ x. x.proof ≡ None) → IfOk r (Decides F leaves o)
 told_model (Ok x) F leaves o q values model text status proof =
-    inl (record { status = status; values = values; whole = model.whole; satisfies = base_satisfied (member_of values) F model.base; text = text; proof = proof })
+    inl (record { status = status; values = values; whole = model.whole; satisfies = base_satisfied (assignment_of values) F model.base; text = text; proof = proof })
 told_model (Err e) F leaves o q values model text status proof = tt
 
 pub told_unknown : {E : Type 0} (r : Result Report E) (F : Cnf) (leaves : List Cube) (o : Options) → MeetsLimit (base_of F) leaves o.limit ⊎ IsTooLong F leaves

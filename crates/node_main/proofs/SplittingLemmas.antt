@@ -1,20 +1,15 @@
 -- Cubes within a formula's variables.
-use Rattle.std.proofs.Common.{◌≡◌, ℕ, ◌≤◌, List, [], ◌∷◌, subst, arith}
-use Rattle.std.specs.List.{AllByRecursion}
-use Rattle.dimacs.specs.Building.{greatest_in}
-use Rattle.dimacs.specs.Cnf.{Cnf, IsFormula, AreWithin}
-use Rattle.dimacs.specs.Literal.{Clause, IsWithin}
+use Rattle.std.proofs.Common.{◌≡◌, ℕ, ◌≤◌, List, subst, arith}
+use Rattle.std.specs.List.{All}
+use Rattle.std.proofs.lemmas.List.Elements.{All-weaker}
+use Rattle.dimacs.specs.logic.Cnf.{Cnf, IsFormula, AreWithin, greatest_in}
+use Rattle.dimacs.specs.logic.Literal.{Clause, IsWithin}
 use Rattle.icnf.specs.Leaves.{Cube}
 use Rattle.icnf.specs.Spelling.{Spells}
 use Rattle.icnf.proofs.StateLemmas.{clauses_greatest}
 
-literals_within : (m n : ℕ) (q : Cube) → m ≤ n → AllByRecursion (IsWithin m) q → AllByRecursion (IsWithin n) q
-literals_within m n [] h w = tt
-literals_within m n (l ∷ q) h w = let top = w.0.1 in ((w.0.0, omega arith), literals_within m n q h w.1)
-
 within_more : (m n : ℕ) (leaves : List Cube) → m ≤ n → AreWithin m leaves → AreWithin n leaves
-within_more m n [] h w = tt
-within_more m n (q ∷ leaves) h w = (literals_within m n q h w.0, within_more m n leaves h w.1)
+within_more m n leaves h w = All-weaker (All (IsWithin m)) (All (IsWithin n)) (λ q. All-weaker (IsWithin m) (IsWithin n) (λ l at. (at.0, omega (arith, at.1))) q) leaves w
 
 -- no variable of the cubes is above the greatest of the clauses
 pub within_formula : (F : Cnf) (leaves : List Cube) → IsFormula F → AreWithin (greatest_in F.clauses) leaves → AreWithin F.vars leaves

@@ -1,7 +1,7 @@
 -- What `cubes` prints.
 use Rattle.std.specs.Prelude.{◌≡◌, ℕ, List, Result, Ok, Err}
 use Rattle.cube_split.specs.Splitting.{IsTreeOf}
-use Rattle.dimacs.specs.Cnf.{Cnf}
+use Rattle.dimacs.specs.logic.Cnf.{Cnf}
 use Rattle.dimacs.specs.declared.fault.DimacsFault.{DimacsFault}
 use Rattle.icnf.specs.Leaves.{Cube}
 use Rattle.icnf.specs.Spelling.{Spells, formula_of, spelling}

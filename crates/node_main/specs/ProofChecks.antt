@@ -1,8 +1,9 @@
 -- A check of a proof that comes in pieces.
 use Rattle.std.specs.Prelude.{◌≡◌, ◌↔◌, ◌⊎◌, ℕ, List, Result, Ok, Err, None}
-use Rattle.dimacs.specs.Cnf.{Cnf}
-use Rattle.dimacs.specs.Reading.{parse, Fails}
-use Rattle.dimacs.specs.Spelling.{Spells}
+use Rattle.dimacs.specs.logic.Cnf.{Cnf}
+use Rattle.dimacs.specs.text.Reading.{parse, no_memory}
+use Rattle.dimacs.specs.text.Rows.{Fails}
+use Rattle.dimacs.specs.text.Spelling.{Spells}
 use Rattle.dimacs.specs.declared.fault.DimacsFault.{DimacsFault}
 use Rattle.lrat_text.specs.Proof.{Accepts}
 use Rattle.lrat_check.specs.Stream
@@ -14,7 +15,7 @@ use Rattle.node_main.specs.declared.report.Report.{Report}
 -- formula, or why there is none: the input's fault, or want of memory.
 abbrev pub HasTaken : List ℕ → Result Progress DimacsFault → List ℕ → Type 0
 HasTaken input (Ok p) proof = (F : Cnf) × (parse input ≡ Ok F) × Stream.HasTaken F p proof
-HasTaken input (Err fault) proof = Fails fault (parse input)
+HasTaken input (Err fault) proof = Fails no_memory fault (parse input)
 
 -- no text of the proof is kept but the line that is begun
 abbrev pub KeepsNoLine : Result Progress DimacsFault → Type 0

@@ -1,7 +1,7 @@
 -- What is printed of faults, and of a check.
 use Rattle.std.specs.Prelude.{ℕ, List, ◌++◌, Result, Ok, Err, codes, decimal}
-use Rattle.dimacs.specs.Cnf.{Cnf}
-use Rattle.dimacs.specs.Faults.{number_of_kind}
+use Rattle.dimacs.specs.logic.Cnf.{Cnf}
+use Rattle.dimacs.specs.text.Faults.{number_of_kind}
 use Rattle.dimacs.specs.declared.fault.DimacsFault.{DimacsFault}
 use Rattle.icnf.specs.Faults.{number_of_kind as number_of_cubes_kind}
 use Rattle.icnf.specs.declared.fault.IcnfFault.{IcnfFault}

@@ -1,7 +1,7 @@
 -- How the search under the leaves of a tree ends. Nothing here is to be believed.
 use Rattle.std.specs.Prelude.{ℕ, List, map}
 use Rattle.cube_solve.specs.Outcome.{IsModel}
-use Rattle.dimacs.specs.Cnf.{Cnf}
+use Rattle.dimacs.specs.logic.Cnf.{Cnf}
 use Rattle.icnf.specs.Leaves.{Cube}
 use Rattle.proof_join.specs.Joining.{AllClose}
 use Rattle.node_main.specs.Solving.{MeetsLimit}

@@ -2,11 +2,11 @@
 use Rattle.std.specs.Prelude.{◌≡◌, ℕ, ◌^◌, ◌≤◌, ◌⊎◌, Bool, List, [], length, Option, Err, None, IsSome, IfSome, Contains, codes, if◌then◌else◌}
 use Rattle.cube_solve.specs.Conflicts.{MeetsConflict}
 use Rattle.cube_solve.specs.Outcome.{IsFresh}
-use Rattle.dimacs.specs.Answer.{Lines, satisfied_lines}
-use Rattle.dimacs.specs.Base.{pure_literals, base_of}
-use Rattle.dimacs.specs.Cnf.{Cnf, Sat, member_of}
-use Rattle.dimacs.specs.Reading.{parse}
-use Rattle.dimacs.specs.Spelling.{Spells}
+use Rattle.dimacs.specs.text.Answer.{Lines, satisfied_lines}
+use Rattle.dimacs.specs.logic.Base.{pure_literals, base_of}
+use Rattle.dimacs.specs.logic.Cnf.{Cnf, Sat, assignment_of}
+use Rattle.dimacs.specs.text.Reading.{parse}
+use Rattle.dimacs.specs.text.Spelling.{Spells}
 use Rattle.dimacs.specs.declared.answer.Answer.TheVariants.{Unsatisfiable, Unknown}
 use Rattle.dimacs.specs.declared.fault.DimacsFault.{DimacsFault}
 use Rattle.icnf.specs.Leaves.{Cube}
@@ -31,7 +31,7 @@ pub record IsSatisfied (F : Cnf) (options : Options) (r : Report) : Type 0 where
   pub status : r.status ≡ 10
   pub values : List Bool
   pub whole : length values ≡ F.vars
-  pub satisfies : Sat (member_of values) F
+  pub satisfies : Sat (assignment_of values) F
   pub text : r.stdout.items ≡ satisfied_lines values options.witness
   pub proof : r.proof ≡ None
 

@@ -1,7 +1,7 @@
 -- How a formula is split, and which cubes are refused.
 use Rattle.std.specs.Prelude.{◌≡◌, ◌≢◌, ℕ, List, Option, Some, None, Err}
 use Rattle.cube_split.specs.Splitting.{IsTreeOf}
-use Rattle.dimacs.specs.Cnf.{Cnf, AreWithin}
+use Rattle.dimacs.specs.logic.Cnf.{Cnf, AreWithin}
 use Rattle.icnf.specs.Leaves.{Cube}
 use Rattle.icnf.specs.Reading.{parse}
 use Rattle.icnf.specs.Spelling.{Spells}

@@ -1,9 +1,9 @@
 //! The run of `check`.
 
 ghost use Rattle.std.specs.Prelude.{◌≡◌, ◌↔◌, ◌⊎◌, IfOk, None};
-ghost use Rattle.dimacs.specs.Cnf.{Cnf};
-ghost use Rattle.dimacs.specs.Spelling.{Spells};
-ghost use Rattle.dimacs.specs.Reading.{parse};
+ghost use Rattle.dimacs.specs.logic.Cnf.{Cnf};
+ghost use Rattle.dimacs.specs.text.Spelling.{Spells};
+ghost use Rattle.dimacs.specs.text.Reading.{parse};
 ghost use Rattle.lrat_text.specs.Proof.{Accepts};
 ghost use Rattle.node_main.specs.Reports.{check_text, input_fault_text};
 

@@ -1,7 +1,7 @@
 //! A check of a proof that comes in pieces.
 
 ghost use Rattle.std.specs.Prelude.{◌≡◌, ◌≢◌, ◌++◌, [], ℕ, List, Ok, Err, None, IfOk, OnOk, is_ok, if◌then◌else◌};
-ghost use Rattle.dimacs.specs.Reading.{GivesFormula, parse};
+ghost use Rattle.dimacs.specs.text.Reading.{GivesFormula, parse};
 ghost use Rattle.lrat_check.specs.Checking.{no_memory};
 ghost use Rattle.node_main.specs.ProofChecks.{HasTaken, IsCheckReport, KeepsNoLine};
 ghost use Rattle.node_main.specs.Reports.{answer_text, input_fault_text};
@@ -75,7 +75,7 @@ pub struct ProofCheck {
 impl Model for ProofCheck {
     ghost use Rattle.std.specs.Prelude.{Result};
     ghost use Rattle.std.specs.Coded.{codes};
-    ghost use Rattle.dimacs.specs.Codes.{clause_map_code};
+    ghost use Rattle.dimacs.specs.layout.Codes.{clause_map_code};
     ghost use Rattle.dimacs.specs.declared.fault.DimacsFault.{DimacsFault};
     ghost use Rattle.lrat_check.specs.Stream.{Progress};
 

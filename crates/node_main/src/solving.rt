@@ -1,10 +1,10 @@
 //! The run of `solve`, in one process: the leaves of the formula's tree, one after the other.
 
 ghost use Rattle.std.specs.Prelude.{◌≡◌, ◌≤◌, ◌⊎◌, IfOk, None, Err, map, option_map};
-ghost use Rattle.dimacs.specs.Answer.{Lines};
-ghost use Rattle.dimacs.specs.Base.{pure_literals, base_of};
-ghost use Rattle.dimacs.specs.Cnf.{AreWithin};
-ghost use Rattle.dimacs.specs.Reading.{parse};
+ghost use Rattle.dimacs.specs.text.Answer.{Lines};
+ghost use Rattle.dimacs.specs.logic.Base.{pure_literals, base_of};
+ghost use Rattle.dimacs.specs.logic.Cnf.{AreWithin};
+ghost use Rattle.dimacs.specs.text.Reading.{parse};
 ghost use Rattle.proof_join.specs.Joining.{AllClose};
 ghost use Rattle.node_main.specs.Reports.{input_fault_text};
 ghost use Rattle.node_main.specs.Searching.{Ends};

@@ -4,12 +4,12 @@ use Rattle.std.specs.List.{All, Contains}
 use Rattle.std.specs.FinMap.{get}
 use Rattle.std.proofs.lemmas.List.Elements.{All-nil, All-cons, Contains-append_left}
 use Rattle.std.proofs.lemmas.List.{append-nil}
-use Rattle.dimacs.specs.Base.{pure_literals, base_of}
-use Rattle.dimacs.specs.ClauseMap.{ClauseMap, map_of, live_in}
-use Rattle.dimacs.specs.Cnf.{Cnf, IsFormula}
-use Rattle.dimacs.specs.Literal.{Literal, Clause, IsTautology, negation, var_of}
-use Rattle.dimacs.specs.Propagation.{Rup}
-use Rattle.dimacs.specs.Words
+use Rattle.dimacs.specs.logic.Base.{pure_literals, base_of}
+use Rattle.dimacs.specs.logic.ClauseMap.{ClauseMap, map_of, live_in}
+use Rattle.dimacs.specs.logic.Cnf.{Cnf, IsFormula}
+use Rattle.dimacs.specs.logic.Literal.{Literal, Clause, IsTautology, negation, var_of}
+use Rattle.dimacs.specs.logic.Propagation.{Rup}
+use Rattle.dimacs.specs.text.Words
 use Rattle.dimacs.proofs.Members.{Contains-nil}
 use Rattle.icnf.specs.Leaves.{Cube, IsFree, Leaves}
 use Rattle.lrat_text.specs.Grammar.{LineSpells, SpellsStep, IsStep}

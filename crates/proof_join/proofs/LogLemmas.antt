@@ -5,9 +5,9 @@ use Rattle.std.specs.List.{All, Contains, list_any}
 use Rattle.std.specs.FinMap.{get, insert}
 use Rattle.std.proofs.lemmas.Bool.{ne_eqb}
 use Rattle.std.proofs.lemmas.List.Elements.{All-weaker, All-contains, Contains-append_left, Contains-append_right}
-use Rattle.dimacs.specs.ClauseMap.{ClauseMap, live_in}
-use Rattle.dimacs.specs.Literal.{Literal, Clause}
-use Rattle.dimacs.specs.Rat.{Group}
+use Rattle.dimacs.specs.logic.ClauseMap.{ClauseMap, live_in}
+use Rattle.dimacs.specs.logic.Literal.{Literal, Clause}
+use Rattle.dimacs.specs.logic.Rat.{Group}
 use Rattle.dimacs.proofs.Members.{Contains-head, Contains-cons, Contains-cons_cases, Contains-nil}
 use Rattle.lrat_text.specs.Log.{after_step, top_after, IsLogStep, AreLogSteps}
 use Rattle.lrat_text.specs.Proof.{without, AddsEmpty, Refutation}

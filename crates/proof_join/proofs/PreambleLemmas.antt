@@ -8,11 +8,11 @@ use Rattle.std.specs.Option.{unwrap_or}
 use Rattle.std.proofs.lemmas.List.Filters.{length-filter_both}
 use Rattle.std.proofs.lemmas.List.{length-map, map-append, append-nil}
 use Rattle.std.proofs.lemmas.List.Elements.{All-nil, All-cons, All-head, All-tail}
-use Rattle.dimacs.specs.Base.{is_pure, numbers_from, pure_literals, base_of}
-use Rattle.dimacs.specs.Rat.{Rat}
-use Rattle.dimacs.specs.ClauseMap.{ClauseMap, map_of, live_in}
-use Rattle.dimacs.specs.Cnf.{Cnf, IsFormula}
-use Rattle.dimacs.specs.Literal.{Literal, Pos, Neg, Clause, IsWithin}
+use Rattle.dimacs.specs.logic.Base.{is_pure, numbers_from, pure_literals, base_of}
+use Rattle.dimacs.specs.logic.Rat.{Rat}
+use Rattle.dimacs.specs.logic.ClauseMap.{ClauseMap, map_of, live_in}
+use Rattle.dimacs.specs.logic.Cnf.{Cnf, IsFormula}
+use Rattle.dimacs.specs.logic.Literal.{Literal, Pos, Neg, Clause, IsWithin}
 use Rattle.lrat_text.specs.Grammar.{LineSpells, SpellsStep, IsStep, IsClauseNumber, IsGroup}
 use Rattle.lrat_text.specs.Log.{after_step, top_after}
 use Rattle.lrat_text.specs.Proof.{AddsEmpty, Refutation}

@@ -4,8 +4,8 @@ use Rattle.std.specs.Prelude.{nat_eq, ◌==◌}
 use Rattle.std.specs.List.{All, Contains, slice_split}
 use Rattle.std.proofs.lemmas.Bool.{cases_lt, both_ways, eq-eqb}
 use Rattle.std.proofs.lemmas.List.Elements.{All-head, All-tail, All-weaker, All-map, Contains-append_right, All-contains, All-contains_itself}
-use Rattle.dimacs.specs.Literal.{Literal, Clause, IsWithin}
-use Rattle.dimacs.specs.Rat.{Group}
+use Rattle.dimacs.specs.logic.Literal.{Literal, Clause, IsWithin}
+use Rattle.dimacs.specs.logic.Rat.{Group}
 use Rattle.dimacs.proofs.Members.{Contains-head, Contains-cons}
 use Rattle.lrat_text.specs.Grammar.{LineSpells, SpellsStep, IsStep, IsClauseNumber, IsGroup}
 use Rattle.lrat_text.specs.Lines.{AllRead}
@@ -17,7 +17,7 @@ use Rattle.lrat_text.specs.declared.step.Step.{Step}
 use Rattle.lrat_text.specs.declared.step.Step.TheVariants.{Add, Delete}
 use Rattle.lrat_text.proofs.LineLemmas.{spelled_read}
 use Rattle.lrat_text.proofs.SpellingLemmas.{spelled_found}
-use Rattle.dimacs.specs.Words
+use Rattle.dimacs.specs.text.Words
 use Rattle.proof_join.specs.Numbering.{behind, renumbered, renumbered_group}
 use Rattle.lrat_text.specs.Runs.{text_of, top_of}
 use Rattle.proof_join.specs.Steps.{with_step, steps_of, steps_in, IsLow, AreLow, IsCut, Writes, last_of}

@@ -4,7 +4,7 @@ use Rattle.std.specs.List.{All, Contains}
 use Rattle.std.proofs.Math.Seq.{drop-append_seam, take-append_seam, get_or-append_seam}
 use Rattle.std.proofs.lemmas.List.{append-nil, get_or-drop, length-map, get_or-map}
 use Rattle.std.proofs.lemmas.List.Elements.{All-nil, All-cons, All-contains, Contains-append_right}
-use Rattle.dimacs.specs.Literal.{Literal, Clause, IsWithin, negation, has}
+use Rattle.dimacs.specs.logic.Literal.{Literal, Clause, IsWithin, negation, has}
 use Rattle.dimacs.proofs.Members.{Contains-head}
 use Rattle.icnf.specs.Leaves.{Cube}
 use Rattle.lrat_text.specs.Grammar.{LineSpells, IsStep, IsClauseNumber}

@@ -4,10 +4,10 @@ use Rattle.std.specs.List.{All, Contains, filter}
 use Rattle.std.specs.FinMap.{get}
 use Rattle.std.proofs.lemmas.List.{map-append}
 use Rattle.std.proofs.lemmas.List.Elements.{All-weaker, All-contains, All-contains_itself, Contains-append_cases, Contains-append_left, Contains-append_right}
-use Rattle.dimacs.specs.ClauseMap.{ClauseMap, map_of, live_in}
-use Rattle.dimacs.specs.Cnf.{Cnf}
-use Rattle.dimacs.specs.Literal.{Literal, Clause, IsTautology, IsWithin, negation, has, var_of}
-use Rattle.dimacs.specs.Rat.{Group}
+use Rattle.dimacs.specs.logic.ClauseMap.{ClauseMap, map_of, live_in}
+use Rattle.dimacs.specs.logic.Cnf.{Cnf}
+use Rattle.dimacs.specs.logic.Literal.{Literal, Clause, IsTautology, IsWithin, negation, has, var_of}
+use Rattle.dimacs.specs.logic.Rat.{Group}
 use Rattle.dimacs.proofs.LiteralLemmas.{negation-negation, var_of-negation}
 use Rattle.dimacs.proofs.Members.{Contains-head, Contains-cons_cases, Contains-nil, Contains-filter, has-Contains}
 use Rattle.std.proofs.lemmas.Bool.{or_cases}

@@ -5,10 +5,10 @@ use Rattle.std.specs.List.{All, Contains}
 use Rattle.std.specs.FinMap.{get}
 use Rattle.std.proofs.lemmas.List.{append-nil, take_more, length-take-le, take-append-drop}
 use Rattle.std.proofs.lemmas.List.Elements.{All-nil, All-cons, All-weaker, All-contains_itself}
-use Rattle.dimacs.specs.Base.{pure_literals, base_of}
-use Rattle.dimacs.specs.ClauseMap.{ClauseMap, map_of, live_in}
-use Rattle.dimacs.specs.Cnf.{Cnf, IsFormula}
-use Rattle.dimacs.specs.Literal.{Literal, IsWithin}
+use Rattle.dimacs.specs.logic.Base.{pure_literals, base_of}
+use Rattle.dimacs.specs.logic.ClauseMap.{ClauseMap, map_of, live_in}
+use Rattle.dimacs.specs.logic.Cnf.{Cnf, IsFormula}
+use Rattle.dimacs.specs.logic.Literal.{Literal, IsWithin}
 use Rattle.icnf.specs.Leaves.{Cube, Leaves}
 use Rattle.lrat_text.specs.Grammar.{LineSpells, IsStep, IsClauseNumber, IsGroup}
 use Rattle.lrat_text.specs.Log.{after_step, top_after, IsLogStep, AreLogSteps, EndsAt, Negates, Closes}

@@ -1,10 +1,10 @@
 -- One proof of the fragments that close the leaves of a splitting tree.
 use Rattle.std.specs.Prelude.{◌≡◌, ℕ, ◌+◌, not, ◌||◌, List, [], ◌∷◌, ◌++◌, length, map, filter, All, if◌then◌else◌}
-use Rattle.dimacs.specs.Base.{pure_literals}
-use Rattle.dimacs.specs.ClauseMap.{ClauseMap, map_of, live_in}
-use Rattle.dimacs.specs.Cnf.{Cnf}
-use Rattle.dimacs.specs.Literal.{Literal, Clause, negation, has, var_of}
-use Rattle.dimacs.specs.Rat.{Rat}
+use Rattle.dimacs.specs.logic.Base.{pure_literals}
+use Rattle.dimacs.specs.logic.ClauseMap.{ClauseMap, map_of, live_in}
+use Rattle.dimacs.specs.logic.Cnf.{Cnf}
+use Rattle.dimacs.specs.logic.Literal.{Literal, Clause, negation, has, var_of}
+use Rattle.dimacs.specs.logic.Rat.{Rat}
 use Rattle.icnf.specs.Leaves.{Cube, IsFree}
 use Rattle.lrat_text.specs.Grammar.{LineSpells, IsStep}
 use Rattle.lrat_text.specs.Log.{Closes}

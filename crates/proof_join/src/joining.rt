@@ -1,8 +1,8 @@
 //! Joins the fragments of a tree's leaves.
 
 ghost use Rattle.std.specs.Prelude.{◌≡◌, ℕ, ◌+◌, ◌^◌, ◌<◌, ◌≤◌, ◌++◌, List, [], map, length, slice_index_or, All, OnOk, IfOk, IfErr};
-ghost use Rattle.dimacs.specs.Base.{pure_literals, base_of};
-ghost use Rattle.dimacs.specs.Literal.{IsWithin};
+ghost use Rattle.dimacs.specs.logic.Base.{pure_literals, base_of};
+ghost use Rattle.dimacs.specs.logic.Literal.{IsWithin};
 ghost use Rattle.lrat_text.specs.Proof.{Accepts};
 ghost use Rattle.proof_join.specs.Joining.{AllClose, Joined, cubes, part, unit_steps};
 ghost use Rattle.lrat_text.specs.Runs.{text_of};

@@ -1,7 +1,7 @@
 //! The clauses that stand for subtrees.
 
 ghost use Rattle.std.specs.Prelude.{◌≡◌, ◌+◌, ◌^◌, ◌<◌, ◌≤◌, ◌++◌, ◌∷◌, [], ◌||◌, true, false, List, map, filter, length, take, All, OnOk, IfOk};
-ghost use Rattle.dimacs.specs.Literal.{Clause, IsWithin, negation, has};
+ghost use Rattle.dimacs.specs.logic.Literal.{Clause, IsWithin, negation, has};
 ghost use Rattle.lrat_text.specs.declared.step.Step.{Step};
 ghost use Rattle.proof_join.specs.Joining.{leaf_part, resolvent};
 ghost use Rattle.lrat_text.specs.Runs.{text_of};

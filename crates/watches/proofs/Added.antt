@@ -6,7 +6,7 @@ use Rattle.std.specs.Cmp.{nat_cmp_total}
 use Rattle.std.proofs.lemmas.Map.Views.{tells_apart}
 use Rattle.std.proofs.lemmas.Map.Lookups.{exact_unsigned}
 use Rattle.std.proofs.lemmas.Bool.{cases_eq}
-use Rattle.dimacs.specs.Literal.{Clause}
+use Rattle.dimacs.specs.logic.Literal.{Clause}
 use Rattle.clause_arena.specs.declared.reference.Ref.{Ref}
 use Rattle.clause_arena.specs.Clauses.{Clauses, Stands}
 use Rattle.watches.specs.Law.{AreSame}

@@ -1,6 +1,6 @@
 -- A chain that is emptied: its places wait.
 use Rattle.std.proofs.Common.{◌≡◌, ◌≢◌, ℕ, suc, ◌+◌, ◌<◌, ◌≤◌, inl, List, [], ◌∷◌, ◌++◌, length, get_or, refl, ap, sym, subst, arith}
-use Rattle.dimacs.specs.Literal.{Literal, IsWithin, negation, index_of}
+use Rattle.dimacs.specs.logic.Literal.{Literal, IsWithin, negation, index_of}
 use Rattle.dimacs.proofs.LiteralLemmas.{index_below}
 use Rattle.clause_arena.specs.declared.reference.Ref.{Ref}
 use Rattle.clause_arena.specs.Clauses.{Clauses}

@@ -4,7 +4,7 @@ use Rattle.std.proofs.lemmas.List.Folds.{list_any-append}
 use Rattle.std.proofs.lemmas.List.Elements.{All-head, All-tail}
 use Rattle.std.proofs.lemmas.List.{get_or_append_left}
 use Rattle.std.proofs.lemmas.Bool.{false≢true, or_right, le-leb, leb-true}
-use Rattle.dimacs.specs.Literal.{Literal, same, negation}
+use Rattle.dimacs.specs.logic.Literal.{Literal, same, negation}
 use Rattle.dimacs.proofs.LiteralLemmas.{same-itself}
 use Rattle.watches.specs.declared.trail.Assigned.{Assigned}
 use Rattle.watches.specs.Trails.{holds, up_to}

@@ -1,8 +1,8 @@
 -- The same clauses, each perhaps in another order: what follows from them is the same.
 use Rattle.std.proofs.Common.{◌≡◌, ℕ, List, [], ◌∷◌, ◌++◌, Option, Some, None, refl, sym, ◌∙◌, subst}
 use Rattle.std.specs.FinMap.{get}
-use Rattle.dimacs.specs.Literal.{Literal, Clause}
-use Rattle.dimacs.specs.Propagation.{Assumed, IsUnit}
+use Rattle.dimacs.specs.logic.Literal.{Literal, Clause}
+use Rattle.dimacs.specs.logic.Propagation.{Assumed, IsUnit}
 use Rattle.clause_arena.specs.Clauses.{Clauses, live_of}
 use Rattle.watches.specs.declared.trail.Assigned.{Assigned}
 use Rattle.watches.specs.Trails.{TrailValue, holds}

@@ -2,7 +2,7 @@
 use Rattle.std.proofs.Common.{◌≡◌, subst, get_or}
 use Rattle.std.specs.List.{All}
 use Rattle.std.proofs.lemmas.List.Elements.{Contains-get_or}
-use Rattle.dimacs.specs.Literal.{Literal, Clause}
+use Rattle.dimacs.specs.logic.Literal.{Literal, Clause}
 use Rattle.clause_arena.specs.declared.reference.Ref.{Ref}
 use Rattle.clause_arena.specs.Clauses.{Clauses, Stands}
 use Rattle.watches.specs.Law.{AreSame}

@@ -1,8 +1,8 @@
 -- A place of a clause of two or more literals, of which its own is false.
 use Rattle.std.proofs.Common.{◌≡◌, ℕ, ◌-◌, ◌/◌, ◌%◌, ◌<◌, ◌≤◌, ◌⊎◌, inl, inr, true, false, List, length, get_or, Some, None, refl, ap, sym, ◌∙◌, subst, arith, Contains, All}
 use Rattle.std.proofs.lemmas.Bool.{cases_eq, cases_lt}
-use Rattle.dimacs.specs.Literal.{Literal, Clause, Pos, IsWithin, negation}
-use Rattle.dimacs.specs.Propagation.{IsFalse, IsUnit}
+use Rattle.dimacs.specs.logic.Literal.{Literal, Clause, Pos, IsWithin, negation}
+use Rattle.dimacs.specs.logic.Propagation.{IsFalse, IsUnit}
 use Rattle.clause_arena.specs.declared.reference.Ref.{Ref}
 use Rattle.clause_arena.specs.Clauses.{Clauses, Stands, live_of}
 use Rattle.watches.specs.Trails.{TrailValue, holds, present}

@@ -4,7 +4,7 @@ use Rattle.std.specs.List.{IsDistinct}
 use Rattle.std.specs.FinMap.{insert}
 use Rattle.std.proofs.lemmas.Bool.{cases_eq}
 use Rattle.std.proofs.lemmas.List.{get_or_default}
-use Rattle.dimacs.specs.Literal.{Literal, Clause, IsWithin, negation, same, index_of}
+use Rattle.dimacs.specs.logic.Literal.{Literal, Clause, IsWithin, negation, same, index_of}
 use Rattle.dimacs.proofs.LiteralLemmas.{index_apart, index_below, same_or_not}
 use Rattle.clause_arena.specs.declared.reference.Ref.{Ref}
 use Rattle.clause_arena.specs.Clauses.{Clauses, Stands}

@@ -4,7 +4,7 @@ use Rattle.std.specs.List.{IsDistinct}
 use Rattle.std.proofs.lemmas.Bool.{cases_order, false≢true, or_right, eq-eqb, le-leb}
 use Rattle.std.proofs.lemmas.List.{get_or_default, get_or-map, length-map}
 use Rattle.std.proofs.lemmas.Map.Keys.{apart_from_distinct}
-use Rattle.dimacs.specs.Literal.{Literal, negation, same, var_of}
+use Rattle.dimacs.specs.logic.Literal.{Literal, negation, same, var_of}
 use Rattle.dimacs.proofs.LiteralLemmas.{same-is}
 use Rattle.watches.specs.declared.trail.Assigned.{Assigned}
 use Rattle.watches.specs.Trails.{up_to, variables}

@@ -3,7 +3,7 @@ use Rattle.std.proofs.Common.{◌≡◌, ◌≢◌, ℕ, ◌+◌, ◌*◌, ◌-�
 use Rattle.std.specs.FinMap.{get}
 use Rattle.std.proofs.lemmas.Bool.{cases_eq, cases_lt, false≢true}
 use Rattle.std.proofs.lemmas.List.{get_or-map, length-map}
-use Rattle.dimacs.specs.Literal.{Literal, Clause, IsWithin, negation, index_of}
+use Rattle.dimacs.specs.logic.Literal.{Literal, Clause, IsWithin, negation, index_of}
 use Rattle.dimacs.proofs.LiteralLemmas.{negation-negation, same_or_not}
 use Rattle.clause_arena.specs.declared.reference.Ref.{Ref}
 use Rattle.clause_arena.specs.Clauses.{Clauses, Stands, live_of}

@@ -5,7 +5,7 @@ use Rattle.std.proofs.lemmas.Bool.{cases_eq, cases_order, false≢true}
 use Rattle.std.proofs.lemmas.List.Edits.{swapped_from_swap, Swapped, length-swap}
 use Rattle.std.proofs.lemmas.List.{get_or_default}
 use Rattle.std.proofs.lemmas.Map.Keys.{apart_from_distinct}
-use Rattle.dimacs.specs.Literal.{Literal, Clause, same}
+use Rattle.dimacs.specs.logic.Literal.{Literal, Clause, same}
 use Rattle.dimacs.proofs.LiteralLemmas.{same-is}
 use Rattle.watches.specs.Law.{IsReordered}
 

@@ -4,8 +4,8 @@ use Rattle.std.specs.List.{All}
 use Rattle.std.specs.FinMap.{get}
 use Rattle.std.proofs.lemmas.List.{append-nil, get_or-map, length-map}
 use Rattle.std.proofs.lemmas.Bool.{cases_eq}
-use Rattle.dimacs.specs.Literal.{Clause}
-use Rattle.dimacs.specs.ClauseMap.{Live}
+use Rattle.dimacs.specs.logic.Literal.{Clause}
+use Rattle.dimacs.specs.logic.ClauseMap.{Live}
 use Rattle.clause_arena.specs.declared.reference.Ref.{Ref}
 use Rattle.clause_arena.specs.Clauses.{Clauses, Stands, live_of}
 use Rattle.watches.specs.declared.trail.Assigned.{Assigned}

@@ -2,7 +2,7 @@
 use Rattle.std.proofs.Common.{◌≡◌, ℕ, ◌<◌, ◌⊎◌, true, false, List, get_or, Option, Some}
 use Rattle.std.specs.List.{Contains}
 use Rattle.std.specs.Option.{IfSome}
-use Rattle.dimacs.specs.Literal.{Literal, Clause, negation}
+use Rattle.dimacs.specs.logic.Literal.{Literal, Clause, negation}
 use Rattle.watches.specs.declared.trail.Assigned.{Assigned}
 use Rattle.watches.specs.Trails.{holds}
 

@@ -9,7 +9,7 @@ use Rattle.std.proofs.lemmas.List.Elements.{All-push, All-head, All-tail, All-fr
 use Rattle.std.proofs.Math.Bool.{or-false}
 use Rattle.std.proofs.lemmas.Bool.{cases_eq, false≢true, eq-eqb, ne_eqb, eqb-true, eqb-false, or_right}
 use Rattle.std.proofs.lemmas.Cmp.{nat_eq_equiv}
-use Rattle.dimacs.specs.Literal.{Literal, IsWithin, negation, same, var_of, index_of}
+use Rattle.dimacs.specs.logic.Literal.{Literal, IsWithin, negation, same, var_of, index_of}
 use Rattle.dimacs.proofs.LiteralLemmas.{same-true, same-itself, same-is, same_or_not, same-false, negation-negation, negation_apart, var_of-negation, IsWithin-negation, twins, index_below, index_apart}
 use Rattle.watches.specs.declared.trail.Assigned.{Assigned}
 use Rattle.watches.specs.declared.truth.Truth.{Truth}

@@ -7,8 +7,8 @@ use Rattle.std.proofs.lemmas.Bool.{cases_eq, cases_lt, false≢true, ne_eqb, eqb
 use Rattle.std.proofs.lemmas.List.Elements.{All-push, recursion_from_All}
 use Rattle.std.proofs.lemmas.Map.Keys.{IsDistinct-cons}
 use Rattle.std.proofs.lemmas.Map.Steps.{length-le_from_distinct_below}
-use Rattle.dimacs.specs.Literal.{Literal, Clause, Pos, IsWithin, negation, same, index_of}
-use Rattle.dimacs.specs.Propagation.{IsFalse, IsUnit}
+use Rattle.dimacs.specs.logic.Literal.{Literal, Clause, Pos, IsWithin, negation, same, index_of}
+use Rattle.dimacs.specs.logic.Propagation.{IsFalse, IsUnit}
 use Rattle.dimacs.proofs.LiteralLemmas.{index_apart, index_below, same-true, same-itself, negation-negation, negation_apart}
 use Rattle.clause_arena.specs.declared.reference.Ref.{Ref}
 use Rattle.clause_arena.specs.Clauses.{Clauses, Stands, live_of}

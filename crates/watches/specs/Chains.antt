@@ -1,6 +1,6 @@
 -- Chains of places in one store. The first `base` places are the heads of the chains; 0 ends a chain.
 use Rattle.std.specs.Prelude.{◌≡◌, ◌≢◌, ℕ, ◌+◌, ◌-◌, ◌%◌, ◌<◌, ◌≤◌, ◌⊎◌, ◌==◌, if◌then◌else◌, List, [], ◌∷◌, length, slice_index_or}
-use Rattle.dimacs.specs.Literal.{Literal, Pos}
+use Rattle.dimacs.specs.logic.Literal.{Literal, Pos}
 use Rattle.watches.specs.declared.watched.places.Place.{Place}
 
 -- what stands beyond the end

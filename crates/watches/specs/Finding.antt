@@ -1,7 +1,7 @@
 -- What a test of one clause finds.
 use Rattle.std.specs.Prelude.{List}
-use Rattle.dimacs.specs.Literal.{Clause}
-use Rattle.dimacs.specs.Propagation.{IsFalse, IsUnit}
+use Rattle.dimacs.specs.logic.Literal.{Clause}
+use Rattle.dimacs.specs.logic.Propagation.{IsFalse, IsUnit}
 use Rattle.watches.specs.declared.trail.Assigned.{Assigned}
 use Rattle.watches.specs.declared.finding.Finding.{Finding}
 use Rattle.watches.specs.declared.finding.Finding.TheVariants as finding

@@ -1,9 +1,9 @@
 -- What propagation of units may do, and what it owes: over a relation from the numbers of clauses to clauses, so that the
 -- trail, the trail cut to a level, a checker and an arena speak of the same things (Handbook of Satisfiability, chapter 4).
 use Rattle.std.specs.Prelude.{◌≡◌, ◌≢◌, ℕ, List, [], ◌∷◌, ◌++◌, Some, None, Contains, ◌↔◌, length}
-use Rattle.dimacs.specs.Literal.{Literal, Clause}
-use Rattle.dimacs.specs.ClauseMap.{Live}
-use Rattle.dimacs.specs.Propagation.{Assumed, IsFalse, IsUnit}
+use Rattle.dimacs.specs.logic.Literal.{Literal, Clause}
+use Rattle.dimacs.specs.logic.ClauseMap.{Live}
+use Rattle.dimacs.specs.logic.Propagation.{Assumed, IsFalse, IsUnit}
 use Rattle.std.specs.FinMap.{get}
 use Rattle.clause_arena.specs.Clauses.{Clauses}
 use Rattle.watches.specs.declared.trail.Assigned.{Assigned}

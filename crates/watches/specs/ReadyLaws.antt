@@ -7,7 +7,7 @@ use Rattle.std.proofs.Common.{ap, sym, subst, ◌∙◌, arith, inl, inr, length
 use Rattle.std.proofs.lemmas.Bool.{false≢true}
 use Rattle.std.proofs.lemmas.List.{get_or_append_left}
 use Rattle.std.proofs.lemmas.List.Folds.{list_any-append}
-use Rattle.dimacs.specs.Literal.{Literal, IsWithin}
+use Rattle.dimacs.specs.logic.Literal.{Literal, IsWithin}
 use Rattle.clause_arena.specs.declared.reference.Ref.{Ref}
 use Rattle.clause_arena.specs.Clauses.{Clauses}
 use Rattle.watches.specs.declared.trail.Assigned.{Assigned}

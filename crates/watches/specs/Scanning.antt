@@ -1,7 +1,7 @@
 -- What a propagator needs of a clause.
 use Rattle.std.specs.Prelude.{ℕ, List, map}
 use Rattle.std.specs.List.{All}
-use Rattle.dimacs.specs.Literal.{Clause, IsWithin}
+use Rattle.dimacs.specs.logic.Literal.{Clause, IsWithin}
 use Rattle.clause_arena.specs.declared.reference.Ref.{Ref}
 use Rattle.clause_arena.specs.Clauses.{Clauses, Stands}
 

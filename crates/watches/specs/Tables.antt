@@ -1,7 +1,7 @@
 -- How a trail is kept: its entries, the truth of each literal by its index, and the place of each variable's entry.
 use Rattle.std.specs.Prelude.{◌≡◌, ℕ, ◌+◌, ◌*◌, ◌<◌, ◌≤◌, List, length, slice_index, slice_index_or, if◌then◌else◌, nat_eq, All}
 use Rattle.std.specs.List.{IsDistinct}
-use Rattle.dimacs.specs.Literal.{Literal, IsWithin, var_of, index_of, negation}
+use Rattle.dimacs.specs.logic.Literal.{Literal, IsWithin, var_of, index_of, negation}
 use Rattle.watches.specs.Trails.{holds, variables}
 use Rattle.watches.specs.declared.trail.Assigned.{Assigned}
 use Rattle.watches.specs.declared.truth.Truth.{Truth}

@@ -1,8 +1,8 @@
 -- The trail of a search: literals in the order in which they became true (Handbook of Satisfiability, chapter 4).
 use Rattle.std.specs.Prelude.{◌≡◌, ℕ, ◌<◌, ◌≤◌, max, true, false, ◌&&◌, nat_eq, nat_le, List, [], ◌∷◌, length, map, slice_index_or, All}
 use Rattle.std.specs.List.{list_any, IsDistinct}
-use Rattle.dimacs.specs.Literal.{Literal, IsWithin, negation, same, var_of}
-use Rattle.dimacs.specs.Propagation.{Assumed}
+use Rattle.dimacs.specs.logic.Literal.{Literal, IsWithin, negation, same, var_of}
+use Rattle.dimacs.specs.logic.Propagation.{Assumed}
 use Rattle.watches.specs.declared.trail.Assigned.{Assigned}
 use Rattle.watches.specs.declared.truth.Truth.{Truth}
 use Rattle.watches.specs.declared.truth.Truth.TheVariants.{Free, True, False}

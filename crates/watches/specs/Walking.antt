@@ -1,6 +1,6 @@
 -- What holds on the way along one chain.
 use Rattle.std.specs.Prelude.{◌≡◌, ℕ, ◌+◌, zero, suc, ◌≤◌, ◌==◌, if◌then◌else◌, true, List, ◌++◌, length, All, Contains}
-use Rattle.dimacs.specs.Literal.{Literal, Clause, IsWithin, negation, index_of}
+use Rattle.dimacs.specs.logic.Literal.{Literal, Clause, IsWithin, negation, index_of}
 use Rattle.clause_arena.specs.declared.reference.Ref.{Ref}
 use Rattle.clause_arena.specs.Clauses.{Clauses, Stands, live_of}
 use Rattle.watches.specs.declared.trail.Assigned.{Assigned}

@@ -1,6 +1,6 @@
 -- What holds of two watched literals a clause.
 use Rattle.std.specs.Prelude.{◌≡◌, ◌≢◌, ℕ, ◌+◌, ◌*◌, ◌-◌, ◌/◌, ◌%◌, ◌<◌, ◌≤◌, ◌⊎◌, true, false, List, length, slice_index_or, Option, Some, None, All, Contains}
-use Rattle.dimacs.specs.Literal.{Literal, Clause, IsWithin, negation, index_of}
+use Rattle.dimacs.specs.logic.Literal.{Literal, Clause, IsWithin, negation, index_of}
 use Rattle.clause_arena.specs.declared.reference.Ref.{Ref}
 use Rattle.clause_arena.specs.Clauses.{Clauses, Stands}
 use Rattle.watches.specs.declared.trail.Assigned.{Assigned}

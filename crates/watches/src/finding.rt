@@ -1,7 +1,7 @@
 //! The test of one clause.
 
 ghost use Rattle.std.specs.Prelude.{◌≡◌, All};
-ghost use Rattle.dimacs.specs.Literal.{IsWithin};
+ghost use Rattle.dimacs.specs.logic.Literal.{IsWithin};
 ghost use Rattle.watches.specs.Finding.{Finds};
 
 use crate::trail::Trail;

@@ -3,7 +3,7 @@
 ghost use Rattle.std.specs.Prelude.{◌≡◌, ◌≢◌, ℕ, ◌+◌, ◌<◌, ◌≤◌, List, [], ◌∷◌, ◌++◌, All, Contains, OnOk, OnErr, IfSome, IfNone, None};
 ghost use Rattle.std.specs.List.{IsDistinct};
 ghost use Rattle.std.specs.FinMap as fin;
-ghost use Rattle.dimacs.specs.Literal.{Clause, IsWithin, same};
+ghost use Rattle.dimacs.specs.logic.Literal.{Clause, IsWithin, same};
 ghost use Rattle.clause_arena.specs.Clauses.{Clauses, Stands, IsLive, live_of};
 ghost use Rattle.clause_arena.specs.Compaction.{IsCompacted};
 ghost use Rattle.watches.specs.Trails.{TrailValue};

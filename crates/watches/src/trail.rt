@@ -1,7 +1,7 @@
 //! The trail: literals in the order in which they became true.
 
 ghost use Rattle.std.specs.Prelude.{◌≡◌, ℕ, ◌+◌, ◌-◌, ◌<◌, ◌≤◌, true, false, List, [], ◌∷◌, ◌++◌, length, All, Contains, IfOk, slice_index_or};
-ghost use Rattle.dimacs.specs.Literal.{Literal, IsWithin, negation};
+ghost use Rattle.dimacs.specs.logic.Literal.{Literal, IsWithin, negation};
 ghost use Rattle.watches.specs.Trails.{TrailValue, IsTrailValue, IsTruth, holds, present};
 ghost use Rattle.watches.specs.declared.trail.Assigned.{Assigned};
 

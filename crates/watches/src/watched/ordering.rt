@@ -2,7 +2,7 @@
 
 ghost use Rattle.std.specs.Prelude.{◌≡◌, ◌≢◌, ℕ, ◌+◌, ◌<◌, ◌≤◌, All, length};
 ghost use Rattle.std.specs.FinMap as fin;
-ghost use Rattle.dimacs.specs.Literal.{Clause, IsWithin};
+ghost use Rattle.dimacs.specs.logic.Literal.{Clause, IsWithin};
 ghost use Rattle.clause_arena.specs.Clauses.{Stands, IsLive};
 ghost use Rattle.watches.specs.Law.{AreSame};
 

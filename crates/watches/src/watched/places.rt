@@ -2,7 +2,7 @@
 
 ghost use Rattle.std.specs.Prelude.{◌≡◌, ◌≢◌, ℕ, ◌+◌, ◌-◌, ◌/◌, ◌^◌, ◌<◌, ◌≤◌, length};
 ghost use Rattle.std.specs.Vec.{vec_capacity};
-ghost use Rattle.dimacs.specs.Literal.{Literal};
+ghost use Rattle.dimacs.specs.logic.Literal.{Literal};
 ghost use Rattle.watches.specs.Chains.{next_of, literal_at, twin, Relinks, AppendsTwo};
 ghost use Rattle.watches.specs.Watching.{owner};
 

@@ -2,7 +2,7 @@
 
 ghost use Rattle.std.specs.Prelude.{◌≡◌, ℕ, ◌+◌, ◌*◌, ◌%◌, ◌^◌, ◌<◌, ◌≤◌, true, false, [], All, List, length, slice_index_or};
 ghost use Rattle.std.specs.Vec.{vec_capacity};
-ghost use Rattle.dimacs.specs.Literal.{Literal};
+ghost use Rattle.dimacs.specs.logic.Literal.{Literal};
 ghost use Rattle.watches.specs.Scanning.{IsHere};
 ghost use Rattle.watches.specs.Watching.{IsWatching};
 ghost use Rattle.watches.specs.Ready.{AreNamed, AreWatches, attached_of};

@@ -1,7 +1,7 @@
 //! Another literal to watch.
 
 ghost use Rattle.std.specs.Prelude.{◌≡◌, ℕ, ◌<◌, ◌≤◌, All, length};
-ghost use Rattle.dimacs.specs.Literal.{IsWithin};
+ghost use Rattle.dimacs.specs.logic.Literal.{IsWithin};
 ghost use Rattle.watches.specs.Watching.{FindsWatch};
 
 use crate::trail::Trail;

@@ -2,7 +2,7 @@
 
 ghost use Rattle.std.specs.Prelude.{◌≡◌, true, ℕ, ◌+◌, ◌^◌, ◌<◌, ◌≤◌, All, List, length, IfSome, IfNone};
 ghost use Rattle.clause_arena.specs.Clauses.{live_of};
-ghost use Rattle.dimacs.specs.Literal.{negation};
+ghost use Rattle.dimacs.specs.logic.Literal.{negation};
 ghost use Rattle.watches.specs.Trails.{holds};
 ghost use Rattle.watches.specs.Law.{Grows, IsConflict, AreSame, live_among};
 ghost use Rattle.watches.specs.Scanning.{numbers};

@@ -1,7 +1,7 @@
 //! The walk along one chain.
 
 ghost use Rattle.std.specs.Prelude.{◌≡◌, ◌≢◌, ℕ, ◌+◌, ◌^◌, ◌<◌, ◌≤◌, All, List, length, slice_index_or, IfSome, IfNone};
-ghost use Rattle.dimacs.specs.Literal.{index_of, negation};
+ghost use Rattle.dimacs.specs.logic.Literal.{index_of, negation};
 ghost use Rattle.clause_arena.specs.Clauses.{live_of};
 ghost use Rattle.watches.specs.Trails.{IsTrailValue};
 ghost use Rattle.watches.specs.Law.{Grows, IsConflict, AreSame, live_among};

@@ -1,8 +1,8 @@
 use Rattle.std.proofs.Common.{◌≡◌, subst, sym}
 use Rattle.std.proofs.lemmas.Result.{on_ok_weaker}
 use Rattle.clause_arena.specs.Clauses.{live_of}
-use Rattle.dimacs.specs.Literal.{var_of}
-use Rattle.dimacs.specs.Propagation.{Rup}
+use Rattle.dimacs.specs.logic.Literal.{var_of}
+use Rattle.dimacs.specs.logic.Propagation.{Rup}
 use Rattle.conflict_analysis.specs.Walks.{met, waiting, is_present}
 use Rattle.conflict_analysis.proofs.Concluding.{begins, some_waits, follows, asserting, lemma_within}
 use Rattle.conflict_analysis.proofs.Meeting.{lists_none}

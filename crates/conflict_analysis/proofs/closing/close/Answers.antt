@@ -1,7 +1,7 @@
 use Rattle.std.proofs.Common.{◌≡◌, inl, inr, arith, subst}
 use Rattle.std.specs.List.{Contains}
 use Rattle.clause_arena.specs.Clauses.{live_of}
-use Rattle.dimacs.specs.Literal.{var_of}
+use Rattle.dimacs.specs.logic.Literal.{var_of}
 use Rattle.conflict_analysis.specs.Walks.{met}
 use Rattle.conflict_analysis.proofs.Closed.{closes}
 use Rattle.clause_arena.proofs.ClauseLaws.{live_once}

@@ -2,7 +2,7 @@ use Rattle.std.proofs.Common.{◌≡◌, ◌++◌, ◌∷◌, [], take, arith, s
 use Rattle.std.proofs.lemmas.List.{length-set}
 use Rattle.std.proofs.lemmas.Result.{IfOk-weaker}
 use Rattle.clause_arena.specs.Clauses.{live_of}
-use Rattle.dimacs.specs.Literal.{negation}
+use Rattle.dimacs.specs.logic.Literal.{negation}
 use Rattle.watches.specs.declared.trail.Assigned.{Assigned}
 use Rattle.conflict_analysis.specs.Traces.{AreNegated, AreOutside, AreFalseOr}
 use Rattle.conflict_analysis.proofs.Assuming.{built_front, distinct_front, outside_front, false_but_one, negates_assumption}

@@ -1,7 +1,7 @@
 use Rattle.std.proofs.Common.{◌≡◌, inl, inr, length, arith, sym, ◌∙◌, ap, subst, true}
 use Rattle.std.proofs.lemmas.Result.{IfOk-weaker}
 use Rattle.clause_arena.specs.Clauses.{live_of}
-use Rattle.dimacs.specs.Literal.{negation}
+use Rattle.dimacs.specs.logic.Literal.{negation}
 use Rattle.dimacs.proofs.LiteralLemmas.{negation-negation}
 use Rattle.watches.specs.Trails.{holds}
 use Rattle.conflict_analysis.specs.Lemmas.{IsClosing, IsDecision}

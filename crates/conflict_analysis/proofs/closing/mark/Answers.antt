@@ -1,7 +1,7 @@
 use Rattle.std.proofs.Common.{◌≡◌, ◌<◌, inl, inr, arith, sym, ◌∙◌, ap, subst, length}
 use Rattle.std.specs.List.{Contains}
 use Rattle.std.proofs.lemmas.List.{take_all}
-use Rattle.dimacs.specs.Literal.{var_of}
+use Rattle.dimacs.specs.logic.Literal.{var_of}
 use Rattle.conflict_analysis.proofs.Fronts.{Contains-take_more}
 use Rattle.conflict_analysis.proofs.Tracing.{mark_one, mark_here, mark_stays}
 use Rattle.conflict_analysis.proofs.closing.mark.Goals as goal

@@ -1,6 +1,6 @@
 use Rattle.std.proofs.Common.{◌≡◌, true, take}
 use Rattle.std.specs.List.{Contains}
-use Rattle.dimacs.specs.Literal.{Literal, var_of}
+use Rattle.dimacs.specs.logic.Literal.{Literal, var_of}
 use Rattle.conflict_analysis.specs.Walks.{met, HasMet}
 use Rattle.conflict_analysis.proofs.closing.mark.Given as goal
 

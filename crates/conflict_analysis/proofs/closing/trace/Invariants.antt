@@ -1,6 +1,6 @@
 use Rattle.std.proofs.Common.{◌≤◌, length}
 use Rattle.std.specs.List.{Contains}
-use Rattle.dimacs.specs.Literal.{Literal}
+use Rattle.dimacs.specs.logic.Literal.{Literal}
 use Rattle.clause_arena.specs.Clauses.{live_of}
 use Rattle.conflict_analysis.specs.Walks.{met, HasMet}
 use Rattle.conflict_analysis.specs.Traces.{AreTraced, AreNegated}

@@ -2,7 +2,7 @@ use Rattle.std.proofs.Common.{◌≡◌, take, ◌∙◌, subst, true}
 use Rattle.std.specs.List.{Contains}
 use Rattle.std.proofs.lemmas.Bool.{eq-eqb}
 use Rattle.clause_arena.specs.Clauses.{live_of}
-use Rattle.dimacs.specs.Literal.{var_of}
+use Rattle.dimacs.specs.logic.Literal.{var_of}
 use Rattle.watches.specs.Law.{IsImplied}
 use Rattle.conflict_analysis.specs.Walks.{met}
 use Rattle.conflict_analysis.proofs.Building.{implied_by, reason_known}

@@ -2,7 +2,7 @@ use Rattle.std.proofs.Common.{◌≡◌, [], ◌∷◌, ap, sym, ◌∙◌, subs
 use Rattle.std.specs.FinMap.{get, insert, empty, get-empty}
 use Rattle.std.specs.Ordering.{nat_cmp}
 use Rattle.clause_arena.specs.Clauses.{Clauses, live_of}
-use Rattle.dimacs.specs.Literal.{Neg, same}
+use Rattle.dimacs.specs.logic.Literal.{Neg, same}
 use Rattle.conflict_analysis.specs.Built.{AreInside}
 use Rattle.conflict_analysis.proofs.Small.{first, second, pair_distinct, small_fresh, small_first, small_second, small_inside}
 use Rattle.conflict_analysis.proofs.tests.two_clauses.Goals as goal

@@ -3,7 +3,7 @@ use Rattle.std.proofs.Common.{◌≡◌, inl, inr, List, ◌++◌, ◌∷◌, []
 use Rattle.std.proofs.lemmas.List.{take-append-drop}
 use Rattle.std.proofs.lemmas.Result.{on_ok_weaker}
 use Rattle.clause_arena.specs.Clauses.{live_of}
-use Rattle.dimacs.specs.Literal.{Pos, negation, var_of}
+use Rattle.dimacs.specs.logic.Literal.{Pos, negation, var_of}
 use Rattle.watches.specs.Law.{IsImplied}
 use Rattle.watches.specs.declared.trail.Assigned.{Assigned}
 use Rattle.conflict_analysis.specs.Walks.{met, waiting, is_present, HasMet, IsKnown, AreWalked, IsLevelled}

@@ -2,7 +2,7 @@ use Rattle.std.proofs.Common.{◌≡◌, ℕ, ◌≤◌, ◌||◌, [], ◌∷◌
 use Rattle.std.proofs.lemmas.Bool.{eqb-true, or_left, or_cases, false_from_ne_true}
 use Rattle.std.proofs.lemmas.List.Elements.{All-contains, All-set}
 use Rattle.std.proofs.lemmas.List.{length-set}
-use Rattle.dimacs.specs.Literal.{IsWithin, negation, var_of}
+use Rattle.dimacs.specs.logic.Literal.{IsWithin, negation, var_of}
 use Rattle.dimacs.proofs.LiteralLemmas.{var_of-negation}
 use Rattle.watches.specs.Trails.{holds}
 use Rattle.conflict_analysis.specs.Walks.{met, AreListed}

@@ -1,7 +1,7 @@
 use Rattle.std.proofs.Common.{◌≡◌, inl, inr, true, sym, ◌∙◌, subst}
 use Rattle.std.specs.List.{Contains}
 use Rattle.std.proofs.lemmas.List.{take_all}
-use Rattle.dimacs.specs.Literal.{var_of}
+use Rattle.dimacs.specs.logic.Literal.{var_of}
 use Rattle.conflict_analysis.specs.Walks.{met}
 use Rattle.conflict_analysis.proofs.Fronts.{Contains-take_more}
 use Rattle.conflict_analysis.proofs.HasMet.{met_further}

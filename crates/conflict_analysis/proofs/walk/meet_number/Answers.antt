@@ -1,7 +1,7 @@
 use Rattle.std.proofs.Common.{arith, subst}
 use Rattle.std.specs.List.{Contains}
 use Rattle.std.proofs.lemmas.List.Elements.{All-contains}
-use Rattle.dimacs.specs.Literal.{IsWithin}
+use Rattle.dimacs.specs.logic.Literal.{IsWithin}
 use Rattle.conflict_analysis.proofs.Finding.{found_lives}
 use Rattle.conflict_analysis.proofs.walk.meet_number.Goals as goal
 

@@ -1,7 +1,7 @@
 use Rattle.std.proofs.Common.{ℕ, [], ◌∷◌, sym, subst, ap, ◌∙◌}
 use Rattle.std.specs.Prelude.{max, min}
 use Rattle.std.specs.List.{Contains}
-use Rattle.dimacs.specs.Literal.{Literal}
+use Rattle.dimacs.specs.logic.Literal.{Literal}
 use Rattle.cube_solve.specs.Order.{IsOrderBut}
 use Rattle.cube_solve.specs.State.{IsAssuming}
 use Rattle.cube_solve.proofs.AssumingLemmas.{assuming_assumed, assuming_decided}

@@ -3,8 +3,8 @@ use Rattle.std.specs.List.{Contains}
 use Rattle.std.specs.Option.{IfNone}
 use Rattle.std.proofs.lemmas.Option.{IfSome_then}
 use Rattle.clause_arena.specs.Clauses.{live_of}
-use Rattle.dimacs.specs.ClauseMap.{Live}
-use Rattle.dimacs.specs.Literal.{Clause}
+use Rattle.dimacs.specs.logic.ClauseMap.{Live}
+use Rattle.dimacs.specs.logic.Literal.{Clause}
 use Rattle.watches.specs.Law.{IsQuiet, live_among}
 use Rattle.watches.specs.declared.trail.Assigned.{Assigned}
 use Rattle.cube_solve.proofs.AssumingLemmas.{assuming_grows}

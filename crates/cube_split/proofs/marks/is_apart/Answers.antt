@@ -1,7 +1,7 @@
 use Rattle.std.proofs.Common.{◌≡◌, ◌<◌, false, true, ap, subst, sym, not, length, get_or, List}
 use Rattle.std.specs.List.{list_any}
 use Rattle.std.proofs.lemmas.List.{take_all}
-use Rattle.dimacs.specs.Literal.{Literal, index_of}
+use Rattle.dimacs.specs.logic.Literal.{Literal, index_of}
 use Rattle.cube_split.proofs.MarkLemmas.{apart_more, not_apart}
 use Rattle.cube_split.proofs.marks.is_apart.Goals as goal
 

@@ -1,5 +1,5 @@
 use Rattle.std.proofs.Common.{Bool, not, ◌&&◌, take}
-use Rattle.dimacs.specs.Literal.{Literal, has}
+use Rattle.dimacs.specs.logic.Literal.{Literal, has}
 use Rattle.cube_split.specs.Marks.{AreMarked}
 use Rattle.cube_split.proofs.marks.unmark.Given as goal
 

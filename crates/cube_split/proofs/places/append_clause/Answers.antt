@@ -1,5 +1,5 @@
 use Rattle.std.proofs.Common.{rules, arith, ◌≡◌, ◌+◌, ◌<◌, sym, refl, subst, length, take}
-use Rattle.dimacs.specs.Literal.{Literal, var_of, index_of}
+use Rattle.dimacs.specs.logic.Literal.{Literal, var_of, index_of}
 use Rattle.cube_split.specs.Choice.{has_variable}
 use Rattle.cube_split.proofs.PlaceLemmas.{begun_more, first_of}
 use Rattle.cube_split.proofs.places.append_clause.Goals as goal

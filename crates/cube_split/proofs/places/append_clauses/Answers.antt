@@ -1,6 +1,6 @@
 use Rattle.std.proofs.Common.{arith, ◌≡◌, ℕ, ◌<◌, ◌∙◌, refl, ap, subst, length}
 use Rattle.std.proofs.lemmas.List.Elements.{All-weaker, All-nil}
-use Rattle.dimacs.specs.Literal.{Clause, IsWithin, var_of, index_of}
+use Rattle.dimacs.specs.logic.Literal.{Clause, IsWithin, var_of, index_of}
 use Rattle.dimacs.proofs.BaseLemmas.{count_take}
 use Rattle.cube_split.specs.Places.{ArePlaced}
 use Rattle.cube_split.specs.declared.places.Place.{Place}

@@ -1,6 +1,6 @@
 use Rattle.std.proofs.Common.{arith, ◌<◌, length, take}
 use Rattle.std.proofs.lemmas.List.{take_all}
-use Rattle.dimacs.specs.Base.{occurs}
+use Rattle.dimacs.specs.logic.Base.{occurs}
 use Rattle.cube_split.proofs.PureLemmas.{occurs_more}
 use Rattle.cube_split.proofs.pure.mark_occurring.Goals as goal
 

@@ -1,5 +1,5 @@
 use Rattle.std.proofs.Common.{take}
-use Rattle.dimacs.specs.Base.{occurs}
+use Rattle.dimacs.specs.logic.Base.{occurs}
 use Rattle.cube_split.specs.Marks.{AreMarked}
 use Rattle.cube_split.proofs.pure.mark_occurring.Given as goal
 

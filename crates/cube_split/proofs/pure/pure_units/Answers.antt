@@ -1,7 +1,7 @@
 use Rattle.std.proofs.Common.{rules, arith, sym, ap, ◌≡◌, ◌∙◌, suc, ◌+◌, ◌-◌, ◌&&◌, ◌∷◌, ◌++◌, [], Bool, not, List}
 use Rattle.std.proofs.lemmas.List.{append-nil}
-use Rattle.dimacs.specs.Base.{occurs, pure_literals}
-use Rattle.dimacs.specs.Literal.{Literal, negation}
+use Rattle.dimacs.specs.logic.Base.{occurs, pure_literals}
+use Rattle.dimacs.specs.logic.Literal.{Literal, negation}
 use Rattle.cube_split.proofs.PureLemmas.{pure_more, pure_within}
 use Rattle.cube_split.proofs.pure.pure_units.Goals as goal
 use Rattle.cube_split.proofs.pure.pure_units.Goals.{in-Some+in_ok-push, in_default}

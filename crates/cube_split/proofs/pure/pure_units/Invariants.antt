@@ -1,7 +1,7 @@
 use Rattle.std.proofs.Common.{◌≡◌, ◌-◌, ◌+◌, ◌≤◌, ◌&&◌, ◌∷◌, [], not, List, vec_len}
 use Rattle.std.specs.List.{filter, flat_map}
-use Rattle.dimacs.specs.Base.{occurs, numbers_from}
-use Rattle.dimacs.specs.Literal.{Clause, Pos, Neg, negation}
+use Rattle.dimacs.specs.logic.Base.{occurs, numbers_from}
+use Rattle.dimacs.specs.logic.Literal.{Clause, Pos, Neg, negation}
 use Rattle.cube_split.specs.Marks.{AreMarked}
 use Rattle.cube_split.proofs.pure.pure_units.Given as goal
 

@@ -1,6 +1,6 @@
 use Rattle.std.proofs.Common.{rules, arith, ◌≡◌, ℕ, ◌+◌, ◌-◌, ◌^◌, ◌≤◌, ◌∷◌, ◌++◌, [], vec_len, length, length-append, ap, suc, List}
-use Rattle.dimacs.specs.Cnf.{Cnf}
-use Rattle.dimacs.specs.Literal.{Literal, Pos, Neg, var_of}
+use Rattle.dimacs.specs.logic.Cnf.{Cnf}
+use Rattle.dimacs.specs.logic.Literal.{Literal, Pos, Neg, var_of}
 use Rattle.icnf.specs.Leaves.{Cube, IsFree}
 use Rattle.cube_split.specs.Splitting.{AppendsSplit}
 use Rattle.cube_split.specs.Walking.{StandsAt}

@@ -1,5 +1,5 @@
 use Rattle.std.proofs.Common.{Bool, take}
-use Rattle.dimacs.specs.Literal.{Literal}
+use Rattle.dimacs.specs.logic.Literal.{Literal}
 use Rattle.cube_split.specs.Marks.{AreMarked}
 use Rattle.cube_split.specs.Walking.{IsClosedBy}
 use Rattle.cube_split.proofs.walk.closed_by_units.Given as goal

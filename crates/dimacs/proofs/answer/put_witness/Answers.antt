@@ -1,6 +1,6 @@
 use Rattle.std.proofs.Common.{◌++◌, [], List, ℕ, ap, sym, ◌∙◌, arith}
 use Rattle.std.proofs.lemmas.Result.{on_ok_weaker}
-use Rattle.dimacs.specs.Answer.{filled}
+use Rattle.dimacs.specs.text.Answer.{filled}
 use Rattle.dimacs.proofs.AnswerLemmas.{items_end}
 use Rattle.dimacs.proofs.answer.put_witness.Goals as goal
 

@@ -2,8 +2,8 @@ use Rattle.std.proofs.Common.{arith, ◌≡◌, ℕ, ◌+◌, ◌<◌, ◌≤◌
 use Rattle.std.specs.Prelude.{slice_index_or}
 use Rattle.std.proofs.lemmas.Bool.{cases_lt, both_ways}
 use Rattle.std.proofs.lemmas.List.{get_or_default}
-use Rattle.dimacs.specs.Cnf.{member_of, Sat}
-use Rattle.dimacs.specs.Literal.{Clause, IsTrueIn}
+use Rattle.dimacs.specs.logic.Cnf.{assignment_of, Sat}
+use Rattle.dimacs.specs.logic.Literal.{Clause, IsTrueIn}
 use Rattle.dimacs.proofs.assignment.satisfies.Goals as goal
 
 -- a fact of the clauses below i, and of the clause at i, whatever stands for a clause that is missing
@@ -20,9 +20,9 @@ one_more a clauses C i here is below holds k d h = ⊎_elim
 pub returns-then-not-clause_holds : goal.returns-then-not-clause_holds
 returns-then-not-clause_holds c =
     let here : c.loop-i.i < length c.args.formula.now.clauses = omega arith in
-    let fails : Sat (member_of c.args.assignment.now) c.args.formula.now → ⊥ = λ sat.
+    let fails : Sat (assignment_of c.args.assignment.now) c.args.formula.now → ⊥ = λ sat.
     both_ways c.clause_holds.result c.if-not-clause_holds.true (c.clause_holds.ensures.1
-    (subst (λ (x : Clause). IsTrueIn (member_of c.args.assignment.now) x) (sym c.clause.ensures.clause) (sat c.loop-i.i [] here))) in
+    (subst (λ (x : Clause). IsTrueIn (assignment_of c.args.assignment.now) x) (sym c.clause.ensures.clause) (sat c.loop-i.i [] here))) in
     (λ t. absurd (both_ways false refl t), λ sat. absurd (fails sat))
 
 pub loop-i-preserved : goal.loop-i-preserved

@@ -1,7 +1,7 @@
 use Rattle.std.proofs.Common.{arith, refl, length, take, drop, ◌-◌}
 use Rattle.std.specs.List.{position_or_len}
 use Rattle.std.proofs.lemmas.Bool.Decides.{nat_tests}
-use Rattle.dimacs.specs.Words.{is_white}
+use Rattle.dimacs.specs.text.Words.{is_white}
 use Rattle.dimacs.proofs.WordLemmas.{words_none, words_next, position_in}
 use Rattle.dimacs.proofs.number.next_number.Goals as goal
 

@@ -1,6 +1,6 @@
 use Rattle.std.proofs.Common.{sym, arith, rules, length}
 use Rattle.std.proofs.lemmas.List.Sums.{prefix_len_is}
-use Rattle.dimacs.specs.Words.{is_white}
+use Rattle.dimacs.specs.text.Words.{is_white}
 use Rattle.dimacs.proofs.words.white_len.Goals as goal
 
 pub returns-then-not-is_white-clause-value : goal.returns-then-not-is_white-clause-value

@@ -1,6 +1,6 @@
 use Rattle.std.proofs.Common.{sym, arith, rules, length}
 use Rattle.std.proofs.lemmas.List.Sums.{position_or_len_is}
-use Rattle.dimacs.specs.Words.{is_white}
+use Rattle.dimacs.specs.text.Words.{is_white}
 use Rattle.dimacs.proofs.words.word_len.Goals as goal
 
 pub returns-then-is_white-clause-value : goal.returns-then-is_white-clause-value

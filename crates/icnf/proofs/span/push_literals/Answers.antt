@@ -1,5 +1,5 @@
 use Rattle.std.proofs.Common.{arith, rules, ◌≡◌, ◌++◌, ◌∷◌, [], ◌∙◌, ap, List, length, length-append}
-use Rattle.dimacs.specs.Literal.{Literal}
+use Rattle.dimacs.specs.logic.Literal.{Literal}
 use Rattle.icnf.specs.declared.span.Span.{Span}
 use Rattle.icnf.specs.Spans.{cubes_in}
 use Rattle.icnf.proofs.SpanLemmas.{cubes_push}

@@ -1,6 +1,6 @@
 use Rattle.std.proofs.Common.{◌≡◌, ◌++◌, take}
 use Rattle.std.specs.List.{flat_map}
-use Rattle.dimacs.specs.Spelling.{clause_line}
+use Rattle.dimacs.specs.text.Spelling.{clause_line}
 use Rattle.icnf.proofs.writing.put_clauses.Given as goal
 
 abbrev pub invariant-loop-i : goal.invariant-loop-i

@@ -1,5 +1,5 @@
 use Rattle.std.proofs.Common.{◌≡◌, ℕ, Bool, false, Result, ◌∙◌, ap, length, subst}
-use Rattle.dimacs.specs.ClauseMap.{ClauseMap, map_of}
+use Rattle.dimacs.specs.logic.ClauseMap.{ClauseMap, map_of}
 use Rattle.lrat_text.specs.Log.{Closes}
 use Rattle.lrat_check.specs.Checking.{GivesCheck}
 use Rattle.lrat_check.specs.Fragments.{fragment_of, fragment_text}

@@ -1,6 +1,6 @@
 use Rattle.std.proofs.Common.{◌≡◌, ◌+◌, ◌-◌, ◌++◌, ◌∷◌, [], Some, refl, sym, ◌∙◌, ap, subst, arith, drop, get_or}
 use Rattle.std.specs.List.{enumerate_from}
-use Rattle.dimacs.specs.Flat.{parts}
+use Rattle.dimacs.specs.layout.Flat.{parts}
 use Rattle.lrat_check.specs.declared.slot.Slot.{Slot}
 use Rattle.lrat_check.specs.Store.{near_entries, ArePlaced}
 use Rattle.lrat_check.proofs.Parts.{slots_more, slots_all}

@@ -1,6 +1,6 @@
 use Rattle.std.proofs.Common.{◌≡◌, ◌+◌, ◌++◌, drop, vec_len}
 use Rattle.std.specs.List.{enumerate_from}
-use Rattle.dimacs.specs.Flat.{parts}
+use Rattle.dimacs.specs.layout.Flat.{parts}
 use Rattle.lrat_check.specs.Store.{near_entries, numbered_entries, ArePlaced}
 use Rattle.lrat_check.proofs.loading.slots_of.Given as goal
 

@@ -1,6 +1,6 @@
 use Rattle.std.proofs.Common.{◌<◌, length, ◌∙◌, sym, ap, arith}
-use Rattle.dimacs.specs.Literal.{Literal}
-use Rattle.dimacs.specs.Propagation.{Assumed}
+use Rattle.dimacs.specs.logic.Literal.{Literal}
+use Rattle.dimacs.specs.logic.Propagation.{Assumed}
 use Rattle.lrat_check.specs.Marks.{assumed_by}
 use Rattle.lrat_check.proofs.Free.{status-more, status-more_false, none_true-more}
 use Rattle.lrat_check.proofs.propagation.classify_any.Goals as goal

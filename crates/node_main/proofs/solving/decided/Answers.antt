@@ -2,8 +2,8 @@ use Rattle.std.proofs.Common.{◌≡◌, ◌∙◌, ◌⊎◌, inr, subst, sym}
 use Rattle.std.specs.Prelude.{IfOk}
 use Rattle.std.proofs.lemmas.Result.{IfOk-weaker}
 use Rattle.cube_solve.specs.Outcome.{IsModel}
-use Rattle.dimacs.specs.Base.{base_of}
-use Rattle.dimacs.specs.Cnf.{Cnf, IsFormula}
+use Rattle.dimacs.specs.logic.Base.{base_of}
+use Rattle.dimacs.specs.logic.Cnf.{Cnf, IsFormula}
 use Rattle.node_main.specs.Searching.{Ends}
 use Rattle.node_main.specs.Solving.{IsRefuted, IsUndecided}
 use Rattle.node_main.specs.declared.solving.Ending.TheVariants.{Model}

@@ -1,6 +1,6 @@
 use Rattle.std.proofs.Common.{rules, ◌≡◌, ◌≢◌, ℕ, ◌+◌, ◌-◌, ◌<◌, ◌≤◌, ◌++◌, ◌∙◌, List, [], map, length, All, OnOk, Err, arith, ap, sym, subst, take}
 use Rattle.std.proofs.lemmas.List.{length-map, length-take-le}
-use Rattle.dimacs.specs.Literal.{Literal, Clause}
+use Rattle.dimacs.specs.logic.Literal.{Literal, Clause}
 use Rattle.icnf.specs.Leaves.{Cube}
 use Rattle.lrat_text.specs.declared.step.Step.{Step}
 use Rattle.proof_join.specs.Joining.{Closed, leaf, cubes, part, leaf_part}

@@ -1,7 +1,7 @@
 use Rattle.std.proofs.Common.{◌≡◌, ℕ, ◌+◌, ◌<◌, ◌≤◌, ◌++◌, ◌∙◌, List, [], map, length, All, arith, ap, sym, subst}
 use Rattle.std.proofs.lemmas.List.{append-nil}
-use Rattle.dimacs.specs.Base.{pure_literals, base_of}
-use Rattle.dimacs.specs.Literal.{Literal, IsWithin}
+use Rattle.dimacs.specs.logic.Base.{pure_literals, base_of}
+use Rattle.dimacs.specs.logic.Literal.{Literal, IsWithin}
 use Rattle.proof_join.specs.Joining.{Closed, part, unit_steps}
 use Rattle.lrat_text.specs.Runs.{text_of}
 use Rattle.proof_join.specs.Steps.{IsFragment, Writes}

@@ -1,7 +1,7 @@
 use Rattle.std.proofs.Common.{rules, ◌≡◌, ◌+◌, ◌≤◌, ◌<◌, ◌∙◌, List, [], All, ℕ, ap, sym, subst, arith}
 use Rattle.std.proofs.lemmas.List.Elements.{All-nil}
-use Rattle.dimacs.specs.Literal.{Clause, IsWithin}
-use Rattle.dimacs.specs.Rat.{Group}
+use Rattle.dimacs.specs.logic.Literal.{Clause, IsWithin}
+use Rattle.dimacs.specs.logic.Rat.{Group}
 use Rattle.lrat_text.specs.Grammar.{IsClauseNumber, IsGroup}
 use Rattle.proof_join.specs.Joining.{resolvent}
 use Rattle.proof_join.proofs.SubtreeLemmas.{two_numbers}

@@ -1,5 +1,5 @@
 use Rattle.std.proofs.Common.{◌≡◌, ◌+◌, ◌≤◌, ◌∙◌, [], All, ℕ, ap, sym, subst, arith}
-use Rattle.dimacs.specs.Literal.{IsWithin}
+use Rattle.dimacs.specs.logic.Literal.{IsWithin}
 use Rattle.proof_join.specs.Numbering.{last_clause}
 use Rattle.proof_join.specs.Steps.{clause_of, steps_in}
 use Rattle.proof_join.proofs.SubtreeLemmas.{ends_clause, ends_small}

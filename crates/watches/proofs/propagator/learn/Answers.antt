@@ -1,7 +1,7 @@
 use Rattle.std.proofs.Common.{ℕ, ap, sym, subst, ◌∙◌, List}
 use Rattle.std.specs.List.{All, Contains}
 use Rattle.std.specs.FinMap as fin
-use Rattle.dimacs.specs.Literal.{IsWithin}
+use Rattle.dimacs.specs.logic.Literal.{IsWithin}
 use Rattle.clause_arena.specs.Clauses.{Clauses}
 use Rattle.watches.proofs.Added.{others, stands, still, live_again, same_again, on_err}
 use Rattle.watches.specs.Law.{AreSame}

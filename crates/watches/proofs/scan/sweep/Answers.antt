@@ -2,8 +2,8 @@ use Rattle.std.proofs.Common.{sym, ap, subst, get_or, Some}
 use Rattle.std.specs.List.{All, Contains}
 use Rattle.std.proofs.lemmas.List.Elements.{All-contains}
 use Rattle.std.proofs.lemmas.List.{get_or_default}
-use Rattle.dimacs.specs.Literal.{IsWithin}
-use Rattle.dimacs.specs.Propagation.{IsFalse, IsUnit}
+use Rattle.dimacs.specs.logic.Literal.{IsWithin}
+use Rattle.dimacs.specs.logic.Propagation.{IsFalse, IsUnit}
 use Rattle.watches.specs.Law.{IsCalm}
 use Rattle.watches.specs.Trails.{holds}
 use Rattle.watches.proofs.Swept.{none, among, standing, lives, calm, swept_calm, swept_push, swept_all}

@@ -1,6 +1,6 @@
 use Rattle.std.proofs.Common.{arith, ◌<◌, sym, subst, length, take}
 use Rattle.std.proofs.lemmas.List.{take_all}
-use Rattle.dimacs.specs.Literal.{Literal, var_of}
+use Rattle.dimacs.specs.logic.Literal.{Literal, var_of}
 use Rattle.cube_split.proofs.CountLemmas.{count_none, count_fits, count_met, count_last}
 use Rattle.cube_split.proofs.tally.Tally.count_clause.Goals as goal
 

@@ -2,7 +2,7 @@ use Rattle.std.proofs.Common.{arith, sym, ◌≡◌, ◌∙◌, ◌<◌, not, �
 use Rattle.std.specs.List.{list_any, count_by}
 use Rattle.std.proofs.lemmas.List.{take_all}
 use Rattle.std.proofs.lemmas.List.Elements.{All-weaker}
-use Rattle.dimacs.specs.Literal.{Clause, IsWithin, var_of, index_of}
+use Rattle.dimacs.specs.logic.Literal.{Clause, IsWithin, var_of, index_of}
 use Rattle.cube_split.specs.Choice.{has_variable}
 use Rattle.cube_split.proofs.CountLemmas.{all_none, all_counted, all_passed, index_below}
 use Rattle.cube_split.proofs.tally.Tally.count_clauses.Goals as goal

@@ -1,6 +1,6 @@
 use Rattle.std.proofs.Common.{arith, ◌≡◌, ◌<◌, refl, length}
 use Rattle.std.proofs.lemmas.List.{with_items_is}
-use Rattle.dimacs.specs.Literal.{index_of}
+use Rattle.dimacs.specs.logic.Literal.{index_of}
 use Rattle.cube_split.proofs.WalkLemmas.{entered_by, walk_counted, index_fits}
 use Rattle.cube_split.proofs.walk.Walk.enter.Goals as goal
 

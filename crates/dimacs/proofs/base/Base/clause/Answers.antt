@@ -1,5 +1,5 @@
 use Rattle.std.proofs.Common.{arith, ap, length}
-use Rattle.dimacs.specs.Cnf.{Cnf}
+use Rattle.dimacs.specs.logic.Cnf.{Cnf}
 use Rattle.dimacs.proofs.FlatLemmas.{length_parts}
 use Rattle.dimacs.proofs.base.Base.clause.Goals as goal
 

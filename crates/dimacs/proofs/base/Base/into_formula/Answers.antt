@@ -1,9 +1,9 @@
 use Rattle.std.proofs.Common.{◌≡◌, ◌∙◌, ◌<◌, ◌≤◌, ◌+◌, ℕ, List, refl, ap, arith, length, get_or, take}
 use Rattle.std.proofs.lemmas.List.{get_or-take, get_or_read, length-take-le}
 use Rattle.std.proofs.lemmas.List.Elements.{All-take}
-use Rattle.dimacs.specs.Cnf.{Cnf, literal_count}
-use Rattle.dimacs.specs.Flat.{Fills, parts}
-use Rattle.dimacs.specs.Literal.{Clause, IsWithin, Literal}
+use Rattle.dimacs.specs.logic.Cnf.{Cnf, literal_count}
+use Rattle.dimacs.specs.layout.Flat.{Fills, parts}
+use Rattle.dimacs.specs.logic.Literal.{Clause, IsWithin, Literal}
 use Rattle.dimacs.proofs.FlatLemmas.{length_parts}
 use Rattle.dimacs.proofs.FrontLemmas.{all_filled, fills_front, front_count, front_parts}
 use Rattle.dimacs.proofs.base.Base.into_formula.Goals as goal

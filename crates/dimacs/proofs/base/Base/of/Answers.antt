@@ -1,5 +1,5 @@
 use Rattle.std.proofs.Common.{arith, ◌<◌, length, ap, length-take}
-use Rattle.dimacs.specs.Cnf.{Cnf, literal_count}
+use Rattle.dimacs.specs.logic.Cnf.{Cnf, literal_count}
 use Rattle.dimacs.proofs.BaseLemmas.{count_take}
 use Rattle.dimacs.proofs.base.Base.of.Goals as goal
 

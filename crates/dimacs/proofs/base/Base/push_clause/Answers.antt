@@ -1,6 +1,6 @@
 use Rattle.std.proofs.Common.{arith, ap}
-use Rattle.dimacs.specs.Cnf.{Cnf, literal_count}
-use Rattle.dimacs.specs.Flat.{parts}
+use Rattle.dimacs.specs.logic.Cnf.{Cnf, literal_count}
+use Rattle.dimacs.specs.layout.Flat.{parts}
 use Rattle.dimacs.proofs.FlatPush.{fills_count}
 use Rattle.dimacs.proofs.BaseLemmas.{pushed}
 use Rattle.dimacs.proofs.base.Base.push_clause.Goals as goal

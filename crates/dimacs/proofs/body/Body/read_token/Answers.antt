@@ -1,15 +1,15 @@
-use Rattle.std.proofs.Common.{arith, ap, ◌∙◌, sym, Ok}
+use Rattle.std.proofs.Common.{arith, ap, ◌∙◌, sym, Ok, inr}
 use Rattle.std.proofs.lemmas.Bool.{leb-true, leb-false}
-use Rattle.dimacs.specs.BodyState.{BodyState}
+use Rattle.dimacs.specs.text.BodyState.{BodyState}
 use Rattle.dimacs.proofs.TokenLemmas.{token_bad, token_full, token_end, token_above, token_many, token_push}
 use Rattle.dimacs.proofs.body.Body.read_token.Goals as goal
 
 pub returns-in_default : goal.returns-in_default
-returns-in_default c = λ word e. rw c.at.ensures (token_bad c.args.line word c.args.self.now (sym e ∙ c.in_default.is))
+returns-in_default c = λ word e. rw c.at.ensures (inr (token_bad c.args.line word c.args.self.now (sym e ∙ c.in_default.is)))
 
 pub returns-then-is_full : goal.returns-then-is_full
 returns-then-is_full c = λ word e.
-    rw c.at-then-is_full.ensures (token_full c.args.line word c.args.self.now c.in-Some.number (sym e ∙ c.in-Some.is) (leb-true _ _ (sym c.is_full.ensures ∙ c.if-is_full.true)))
+    rw c.at-then-is_full.ensures (inr (token_full c.args.line word c.args.self.now c.in-Some.number (sym e ∙ c.in-Some.is) (leb-true _ _ (sym c.is_full.ensures ∙ c.if-is_full.true))))
 
 pub returns-then-number-eq0 : goal.returns-then-number-eq0
 returns-then-number-eq0 c = λ word e.
@@ -19,13 +19,13 @@ returns-then-number-eq0 c = λ word e.
 pub returns-then-number-self : goal.returns-then-number-self
 returns-then-number-self c = λ word e.
     let vars = ap (λ (s : BodyState). s.vars) c.self.view_is in
-    rw c.at-then-number-self.ensures (token_above c.args.line word c.args.self.now c.in-Some.number (sym e ∙ c.in-Some.is) (leb-false _ _ (sym c.is_full.ensures ∙ c.if-is_full.false)) (omega arith) (omega (arith, vars)))
+    rw c.at-then-number-self.ensures (inr (token_above c.args.line word c.args.self.now c.in-Some.number (sym e ∙ c.in-Some.is) (leb-false _ _ (sym c.is_full.ensures ∙ c.if-is_full.false)) (omega arith) (omega (arith, vars))))
 
 pub returns-then-literals-ge50000000 : goal.returns-then-literals-ge50000000
 returns-then-literals-ge50000000 c = λ word e.
     let vars = ap (λ (s : BodyState). s.vars) c.self.view_is in
     let total = ap (λ (s : BodyState). s.total) c.self.view_is in
-    rw c.at-then-literals-ge50000000.ensures (token_many c.args.line word c.args.self.now c.in-Some.number (sym e ∙ c.in-Some.is) (leb-false _ _ (sym c.is_full.ensures ∙ c.if-is_full.false)) (omega arith) (omega (arith, vars)) (omega (arith, vars, c.self.invariant.0)) (omega (arith, total)))
+    rw c.at-then-literals-ge50000000.ensures (inr (token_many c.args.line word c.args.self.now c.in-Some.number (sym e ∙ c.in-Some.is) (leb-false _ _ (sym c.is_full.ensures ∙ c.if-is_full.false)) (omega arith) (omega (arith, vars)) (omega (arith, vars, c.self.invariant.0)) (omega (arith, total))))
 
 pub returns : goal.returns
 returns c = λ word e.

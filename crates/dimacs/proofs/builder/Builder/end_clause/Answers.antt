@@ -1,5 +1,5 @@
 use Rattle.std.proofs.Common.{arith, length, ap}
-use Rattle.dimacs.specs.Building.{Building}
+use Rattle.dimacs.specs.layout.Building.{Building}
 use Rattle.dimacs.proofs.FlatLemmas.{length_parts}
 use Rattle.dimacs.proofs.BuilderLemmas.{builder_end, laid_end}
 use Rattle.dimacs.proofs.builder.Builder.end_clause.Goals as goal

@@ -1,6 +1,6 @@
 use Rattle.std.proofs.Common.{ap, subst, ◌∙◌, sym}
-use Rattle.dimacs.specs.Building.{Building}
-use Rattle.dimacs.specs.Cnf.{AreWithin}
+use Rattle.dimacs.specs.layout.Building.{Building}
+use Rattle.dimacs.specs.logic.Cnf.{AreWithin}
 use Rattle.dimacs.proofs.BuilderLemmas.{closed_fills, closed_within}
 use Rattle.dimacs.proofs.builder.Builder.finish.Goals as goal
 

@@ -1,6 +1,7 @@
 use Rattle.std.proofs.Common.{ap, max, ◌∙◌}
-use Rattle.dimacs.specs.Building.{Building, greatest_of, greatest_in}
-use Rattle.dimacs.specs.Literal.{IsWithin}
+use Rattle.dimacs.specs.layout.Building.{Building}
+use Rattle.dimacs.specs.logic.Cnf.{greatest_of, greatest_in}
+use Rattle.dimacs.specs.logic.Literal.{IsWithin}
 use Rattle.dimacs.proofs.BuilderLemmas.{greatest_is}
 use Rattle.dimacs.proofs.FormulaLemmas.{parts_within}
 use Rattle.dimacs.proofs.builder.Builder.greatest.Goals as goal

@@ -1,5 +1,5 @@
 use Rattle.std.proofs.Common.{arith, ap}
-use Rattle.dimacs.specs.Building.{Building}
+use Rattle.dimacs.specs.layout.Building.{Building}
 use Rattle.dimacs.proofs.BuilderLemmas.{builder_push, laid_push}
 use Rattle.dimacs.proofs.builder.Builder.push.Goals as goal
 

@@ -1,6 +1,6 @@
 use Rattle.std.proofs.Common.{arith, ◌<◌, ◌≤◌, ◌∙◌, ap, length}
 use Rattle.std.proofs.lemmas.List.{length-take}
-use Rattle.dimacs.specs.Literal.{var_of}
+use Rattle.dimacs.specs.logic.Literal.{var_of}
 use Rattle.icnf.specs.Spans.{cubes_in}
 use Rattle.icnf.specs.Walk.{WalkState, names}
 use Rattle.icnf.proofs.WalkLemmas.{advanced_on, advanced_end, walked_push}

@@ -1,9 +1,9 @@
 use Rattle.std.proofs.Common.{ap, sym, ◌∙◌, length}
 use Rattle.std.specs.FinMap.{len}
-use Rattle.dimacs.specs.ClauseMap.{ClauseMap}
-use Rattle.dimacs.specs.Cnf.{Cnf}
-use Rattle.dimacs.specs.Flat.{parts}
-use Rattle.dimacs.specs.Literal.{Clause}
+use Rattle.dimacs.specs.logic.ClauseMap.{ClauseMap}
+use Rattle.dimacs.specs.logic.Cnf.{Cnf}
+use Rattle.dimacs.specs.layout.Flat.{parts}
+use Rattle.dimacs.specs.logic.Literal.{Clause}
 use Rattle.lrat_check.proofs.Parts.{len-numbered}
 use Rattle.lrat_check.proofs.checker.Checker.of.Goals as goal
 

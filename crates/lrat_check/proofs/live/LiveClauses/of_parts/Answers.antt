@@ -1,5 +1,5 @@
 use Rattle.std.proofs.Common.{List, subst}
-use Rattle.dimacs.specs.Literal.{Literal}
+use Rattle.dimacs.specs.logic.Literal.{Literal}
 use Rattle.lrat_check.specs.Store.{ArePlaced, IsStore}
 use Rattle.lrat_check.specs.Table.{FitsTable}
 use Rattle.lrat_check.proofs.Parts.{store_near, near_fits}

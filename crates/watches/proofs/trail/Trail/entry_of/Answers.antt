@@ -1,7 +1,7 @@
 use Rattle.std.proofs.Common.{◌≡◌, ◌<◌, ap, sym, subst, ◌∙◌, length, arith, true, get_or}
 use Rattle.std.specs.List.{Contains}
 use Rattle.std.proofs.lemmas.List.{get_or_read}
-use Rattle.dimacs.specs.Literal.{var_of}
+use Rattle.dimacs.specs.logic.Literal.{var_of}
 use Rattle.watches.specs.Trails.{holds}
 use Rattle.watches.specs.declared.trail.Assigned.{Assigned}
 use Rattle.watches.proofs.TrailLemmas.{holds_within, place_of}

@@ -1,6 +1,6 @@
 use Rattle.std.proofs.Common.{◌≡◌, ◌*◌, ◌+◌, ap, sym, ◌∙◌, arith, rules, replicate, get_or}
 use Rattle.std.proofs.lemmas.List.{get_or-replicate}
-use Rattle.dimacs.specs.Literal.{index_of}
+use Rattle.dimacs.specs.logic.Literal.{index_of}
 use Rattle.dimacs.proofs.LiteralLemmas.{index_below}
 use Rattle.watches.specs.declared.truth.Truth.TheVariants.{Free}
 use Rattle.watches.specs.Tables.{truth_of}

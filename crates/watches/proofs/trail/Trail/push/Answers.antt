@@ -2,7 +2,7 @@ use Rattle.std.proofs.Common.{◌≡◌, ℕ, ◌<◌, ◌≤◌, ◌∷◌, ◌
 use Rattle.std.proofs.lemmas.List.{length-set}
 use Rattle.std.proofs.lemmas.List.Elements.{All-push}
 use Rattle.std.specs.List.{All}
-use Rattle.dimacs.specs.Literal.{IsWithin, negation, var_of, index_of}
+use Rattle.dimacs.specs.logic.Literal.{IsWithin, negation, var_of, index_of}
 use Rattle.watches.specs.declared.trail.Assigned.{Assigned}
 use Rattle.watches.specs.declared.truth.Truth.TheVariants.{Free, True, False}
 use Rattle.watches.specs.Trails.{holds}

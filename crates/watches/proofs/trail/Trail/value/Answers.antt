@@ -1,6 +1,6 @@
 use Rattle.std.proofs.Common.{◌≡◌, ◌<◌, sym, ap, ◌∙◌, subst, arith, length, get_or}
 use Rattle.std.proofs.lemmas.List.{get_or_read}
-use Rattle.dimacs.specs.Literal.{IsWithin, index_of}
+use Rattle.dimacs.specs.logic.Literal.{IsWithin, index_of}
 use Rattle.dimacs.proofs.LiteralLemmas.{index_below}
 use Rattle.watches.specs.declared.truth.Truth.TheVariants.{Free}
 use Rattle.watches.specs.Trails.{IsTruth}

@@ -1,6 +1,6 @@
 use Rattle.std.proofs.Common.{◌≡◌, ◌≤◌, ◌++◌, ◌∷◌, [], Bool, true, List, length, get_or, refl, sym, ap, subst, ◌∙◌, arith}
 use Rattle.std.specs.List.{Contains, IsDistinct}
-use Rattle.dimacs.specs.Literal.{Literal, Clause, IsWithin, same}
+use Rattle.dimacs.specs.logic.Literal.{Literal, Clause, IsWithin, same}
 use Rattle.clause_arena.specs.declared.reference.Ref.{Ref}
 use Rattle.watches.specs.declared.watched.places.Place.{Place}
 use Rattle.watches.specs.Scanning.{numbers}

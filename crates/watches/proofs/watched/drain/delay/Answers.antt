@@ -1,5 +1,5 @@
 use Rattle.std.proofs.Common.{◌≡◌, ◌+◌, ◌<◌, length, sym, ap, subst, ◌∙◌, arith}
-use Rattle.dimacs.specs.Literal.{IsWithin, negation}
+use Rattle.dimacs.specs.logic.Literal.{IsWithin, negation}
 use Rattle.dimacs.proofs.LiteralLemmas.{negation-negation, IsWithin-negation}
 use Rattle.watches.specs.declared.trail.Assigned.{Assigned}
 use Rattle.watches.specs.Chains.{next_of, Relinks}

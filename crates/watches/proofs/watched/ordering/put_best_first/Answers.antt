@@ -1,4 +1,4 @@
-use Rattle.dimacs.specs.Literal.{IsWithin}
+use Rattle.dimacs.specs.logic.Literal.{IsWithin}
 use Rattle.watches.proofs.LawLemmas.{same_trans}
 use Rattle.watches.proofs.OrderingLemmas.{all_same}
 use Rattle.watches.proofs.watched.ordering.put_best_first.Goals as goal

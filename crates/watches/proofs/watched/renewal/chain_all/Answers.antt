@@ -1,7 +1,7 @@
 use Rattle.std.proofs.Common.{◌≡◌, ◌≤◌, [], List, length, get_or, take, sym, ap, subst, ◌∙◌, arith}
 use Rattle.std.specs.List.{IsDistinct}
 use Rattle.std.proofs.lemmas.List.{take_more, take_all, get_or-take, length-take-le}
-use Rattle.dimacs.specs.Literal.{Literal, Clause, same}
+use Rattle.dimacs.specs.logic.Literal.{Literal, Clause, same}
 use Rattle.clause_arena.specs.declared.reference.Ref.{Ref}
 use Rattle.watches.specs.Watching.{IsWatching, no_clause}
 use Rattle.watches.proofs.AttachLemmas.{appends, some_watching}

@@ -1,5 +1,5 @@
 use Rattle.std.proofs.Common.{◌≡◌, ℕ, ◌<◌, ◌≤◌, true, get_or}
-use Rattle.dimacs.specs.Literal.{Literal, negation}
+use Rattle.dimacs.specs.logic.Literal.{Literal, negation}
 use Rattle.watches.specs.Trails.{holds}
 use Rattle.watches.proofs.watched.replacement.find_watch.Given as goal
 

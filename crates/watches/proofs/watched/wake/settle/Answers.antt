@@ -1,5 +1,5 @@
 use Rattle.std.proofs.Common.{◌≡◌, ℕ, ◌<◌, ◌≤◌, List, sym, ap, subst, ◌∙◌, arith}
-use Rattle.dimacs.specs.Literal.{IsWithin, index_of}
+use Rattle.dimacs.specs.logic.Literal.{IsWithin, index_of}
 use Rattle.clause_arena.specs.declared.reference.Ref.{Ref}
 use Rattle.clause_arena.specs.Clauses.{Clauses}
 use Rattle.watches.specs.Trails.{TrailValue, holds}

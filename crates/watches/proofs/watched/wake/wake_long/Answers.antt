@@ -1,5 +1,5 @@
 use Rattle.std.proofs.Common.{◌≡◌, ℕ, ◌<◌, ◌≤◌, ◌∷◌, [], List, sym, subst, ◌∙◌, arith, Some, true}
-use Rattle.dimacs.specs.Literal.{IsWithin, negation, index_of}
+use Rattle.dimacs.specs.logic.Literal.{IsWithin, negation, index_of}
 use Rattle.clause_arena.specs.declared.reference.Ref.{Ref}
 use Rattle.clause_arena.specs.Clauses.{Clauses, live_of}
 use Rattle.watches.specs.Trails.{TrailValue, holds}

@@ -1,7 +1,7 @@
 use Rattle.std.proofs.Common.{◌≡◌, sym, ap, subst, ◌∙◌, arith, Some, All, Contains, true}
 use Rattle.std.proofs.lemmas.List.Elements.{All-contains}
-use Rattle.dimacs.specs.Literal.{Literal, IsWithin}
-use Rattle.dimacs.specs.Propagation.{IsFalse, IsUnit}
+use Rattle.dimacs.specs.logic.Literal.{Literal, IsWithin}
+use Rattle.dimacs.specs.logic.Propagation.{IsFalse, IsUnit}
 use Rattle.clause_arena.specs.declared.reference.Ref.{Ref}
 use Rattle.clause_arena.specs.Clauses.{live_of, Stands}
 use Rattle.clause_arena.proofs.ClauseLaws.{stands_once}

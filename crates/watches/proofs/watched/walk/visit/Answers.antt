@@ -1,5 +1,5 @@
 use Rattle.std.proofs.Common.{sym, ap, subst, ◌∙◌, arith, Some}
-use Rattle.dimacs.specs.Literal.{IsWithin}
+use Rattle.dimacs.specs.logic.Literal.{IsWithin}
 use Rattle.clause_arena.specs.Clauses.{live_of, Stands}
 use Rattle.watches.specs.Trails.{holds}
 use Rattle.watches.specs.declared.trail.Assigned.{Assigned}

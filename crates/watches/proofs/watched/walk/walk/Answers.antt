@@ -1,6 +1,6 @@
 use Rattle.std.proofs.lemmas.List.{get_or_append_left}
 use Rattle.std.proofs.Common.{◌≡◌, ◌<◌, length, length-append, refl, get_or, sym, ap, subst, ◌∙◌, arith, true}
-use Rattle.dimacs.specs.Literal.{IsWithin, negation, index_of}
+use Rattle.dimacs.specs.logic.Literal.{IsWithin, negation, index_of}
 use Rattle.dimacs.proofs.LiteralLemmas.{negation-negation, IsWithin-negation}
 use Rattle.clause_arena.specs.Clauses.{live_of}
 use Rattle.watches.specs.declared.trail.Assigned.{Assigned}

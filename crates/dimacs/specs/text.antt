@@ -1,0 +1,9 @@
+-- Formulas as texts: the grammar, the first fault, what is written, and the answer lines.
+pub mod Answer
+pub mod BodyState
+pub mod Faults
+pub mod Numbers
+pub mod Reading
+pub mod Rows
+pub mod Spelling
+pub mod Words

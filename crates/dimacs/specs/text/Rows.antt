@@ -1,0 +1,56 @@
+-- Texts of lines of tokens, of which the first line with a token is a header: how they are read, up to the first fault, and how they are spelled.
+use Rattle.std.specs.Prelude.{◌≡◌, ℕ, ◌+◌, List, [], ◌∷◌, ◌⊎◌, Result, Ok, Err}
+use Rattle.std.specs.List.{flat_map}
+use Rattle.dimacs.specs.text.Words.{words_of}
+
+infixl 10 ◌>>=◌
+abbrev pub ◌>>=◌ : {A B E : Type 0} → Result A E → (A → Result B E) → Result B E
+(Ok x) >>= f = f x
+(Err e) >>= f = Err e
+
+-- a format, each part by the number of its line: the fault of a text that ends without a header, what the header's tokens begin,
+-- what a token behind it makes of what was read, and what was read where the text ends
+pub record Format (State Value Fault : Type 0) : Type 0 where
+  pub no_header : ℕ → Fault
+  pub header : ℕ → List (List ℕ) → Result State Fault
+  pub token : ℕ → List ℕ → State → Result State Fault
+  pub finish : ℕ → State → Result Value Fault
+
+-- the tokens of a line
+unfoldable pub read_words : {State Value Fault : Type 0} → Format State Value Fault → ℕ → List (List ℕ) → State → Result State Fault
+read_words format line [] s = Ok s
+read_words format line (word ∷ more) s = format.token line word s >>= read_words format line more
+
+-- the lines behind n lines
+unfoldable pub read_lines : {State Value Fault : Type 0} → Format State Value Fault → ℕ → List (List ℕ) → State → Result Value Fault
+read_lines format n [] s = format.finish n s
+read_lines format n (line ∷ more) s = read_words format (n + 1) (words_of line) s >>= read_lines format (n + 1) more
+
+-- one of two, by whether there is a token
+abbrev pub by_tokens {ℓ} : {A : Type ℓ} → List (List ℕ) → A → (List (List ℕ) → A) → A
+by_tokens [] blank row = blank
+by_tokens (word ∷ more) blank row = row (word ∷ more)
+
+-- a line without a token is passed over; the first other one is the header
+unfoldable pub read_text : {State Value Fault : Type 0} → Format State Value Fault → ℕ → List (List ℕ) → Result Value Fault
+read_text format n [] = Err (format.no_header n)
+read_text format n (line ∷ more) = by_tokens (words_of line) (read_text format (n + 1) more) (λ header. format.header (n + 1) header >>= read_lines format (n + 1) more)
+
+-- the same, as it is spelled: the first line with a token is a header, and the tokens of the lines behind it are a body
+abbrev pub AreRows : (List (List ℕ) → Type 0) → (List (List ℕ) → Type 0) → List (List ℕ) → Type 0
+AreRows IsHeader IsBody [] = ⊥
+AreRows IsHeader IsBody (line ∷ more) = by_tokens (words_of line) (AreRows IsHeader IsBody more) (λ header. IsHeader header × IsBody (flat_map words_of more))
+
+-- a fault is want of memory, or the one that is expected
+abbrev pub Fails : {A Fault : Type 0} → Fault → Fault → Result A Fault → Type 0
+Fails no_memory fault expected = (fault ≡ no_memory) ⊎ (expected ≡ Err fault)
+
+-- a call answers what is expected, unless memory ran out
+abbrev pub Answers : {A Fault : Type 0} → Fault → Result A Fault → Result A Fault → Type 0
+Answers no_memory (Ok x) expected = expected ≡ Ok x
+Answers no_memory (Err fault) expected = Fails no_memory fault expected
+
+-- a call leaves what is expected, unless memory ran out
+abbrev pub Gives : {State Fault : Type 0} → Fault → State → Result (Unit {0}) Fault → Result State Fault → Type 0
+Gives no_memory new (Ok _) expected = expected ≡ Ok new
+Gives no_memory new (Err fault) expected = Fails no_memory fault expected

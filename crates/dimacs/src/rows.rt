@@ -1,0 +1,74 @@
+//! Texts of lines of tokens, of which the first line with a token is a header.
+
+ghost use Rattle.std.specs.Prelude.{◌≡◌, ◌+◌, ◌<◌, ◌^◌};
+ghost use Rattle.dimacs.specs.text.Rows.{Answers, Format, Gives, read_lines, read_text, read_words};
+ghost use Rattle.dimacs.specs.text.Words.{left_len, lines, lines_left, words, words_of};
+
+use crate::words::{is_blank, next_line};
+use std::alloc::Global;
+
+/// What was read of such a text, from its header on.
+pub trait Rows: Sized + Drop {
+    /// What a whole text is.
+    type Value: Drop;
+
+    /// Why a text is none.
+    type Fault: Drop;
+
+    /// How such texts are read.
+    ghost format: { Format Self Self.Value Self.Fault };
+
+    /// The fault where memory is refused.
+    ghost no_memory: { Self.Fault };
+
+    /// The fault of a text of that many lines that has no header.
+    fn no_header(lines: u64) -> Self::Fault
+        ensures { result ≡ format.no_header lines };
+
+    /// Reads the header.
+    fn begin(alloc: Global, line: u64, header: &[u8]) -> Result<Self, Self::Fault>
+        ensures { Answers no_memory result (format.header line (words header.now)) };
+
+    /// Reads the tokens of a line behind the header.
+    fn read_line(&mut self, line: u64, text: &[u8]) -> Result<(), Self::Fault>
+        ensures { Gives no_memory self.new result (read_words format line (words_of text.now) self.old) };
+
+    /// What the text is, at its end behind that many lines.
+    fn finish(self, lines: u64) -> Result<Self::Value, Self::Fault>
+        ensures { Answers no_memory result (format.finish lines self) };
+}
+
+/// Reads the lines behind the header.
+fn read_lines<R: Rows>(rows: R, lines: u64, rest: Option<&[u8]>) -> Result<R::Value, R::Fault>
+    requires { lines + left_len rest < 2 ^ 64 }
+    ensures { Answers R.no_memory result (read_lines R.format lines (lines_left rest.entry) rows) }
+{
+    let mut rows = rows;
+    let mut lines = lines;
+    let mut rest = rest;
+    while let Some(text) = rest {
+        let (line, after) = next_line(text);
+        lines += 1;
+        rows.read_line(lines, line)?;
+        rest = after;
+    }
+    rows.finish(lines)
+}
+
+/// Reads a text, or answers its first fault.
+pub fn read_text<R: Rows>(alloc: Global, bytes: &[u8]) -> Result<R::Value, R::Fault>
+    ensures { Answers R.no_memory result (read_text R.format 0 (lines bytes.now)) }
+{
+    let mut lines = 0;
+    let mut rest = Some(bytes);
+    while let Some(text) = rest {
+        let (line, after) = next_line(text);
+        lines += 1;
+        rest = after;
+        if !is_blank(line) {
+            let rows = R::begin(alloc, lines, line)?;
+            return read_lines(rows, lines, after);
+        }
+    }
+    Err(R::no_header(lines))
+}
