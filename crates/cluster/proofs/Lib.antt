@@ -1,4 +1,2 @@
 pub mod AgreementLemmas
-pub mod Judging
 pub mod ScheduleLemmas
-pub mod Truths

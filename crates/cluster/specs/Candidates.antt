@@ -1,17 +1,15 @@
 -- Candidates: bytes that offer a node a verdict, and what it makes of them.
-use Rattle.std.specs.Prelude.{◌≡◌, ℕ, Bool, true, false, List, ◌∷◌, ◌⊎◌, map, length, Result, Ok, Err}
+use Rattle.std.specs.Prelude.{◌≡◌, ℕ, List, ◌∷◌, ◌⊎◌, map, length, Result, Ok, Err}
 use Rattle.dimacs.specs.logic.Cnf.{Cnf}
+use Rattle.lrat_check.specs.Judging.{value_byte}
 use Rattle.lrat_check.specs.Verdicts.{Right}
+use Rattle.lrat_check.specs.declared.judging.Judged.{Judged}
+use Rattle.lrat_check.specs.declared.judging.Judged.TheVariants as judged
 use Rattle.lrat_check.specs.declared.verdict.Verdict.{Verdict}
 use Rattle.lrat_check.specs.declared.verdict.Verdict.TheVariants.{Nothing, Model, Proof}
 use Rattle.lrat_check.specs.declared.verdict.Reaction.{Reaction}
 use Rattle.lrat_check.specs.declared.verdict.Reaction.TheVariants as reaction
 use Rattle.cluster.specs.Nodes.{NodeState, fresh, holding}
-
--- the byte of a truth value
-abbrev pub value_byte : Bool → ℕ
-value_byte false = 0
-value_byte true = 1
 
 -- the bytes offer a verdict on the formula: 1 and the text of a proof, or 2 and one byte for each variable
 abbrev pub Offers : List ℕ → Cnf → Verdict → Type 0
@@ -43,6 +41,12 @@ Delivers old bytes reaction.Taken new = ⊥
 Delivers old bytes reaction.Finished new = ⊥
 
 -- what a node of the formula that holds nothing makes of the bytes: the verdict that it takes, or what it answers
-abbrev pub Judges : Cnf → List ℕ → Result Verdict Reaction → Type 0
-Judges F bytes (Ok v) = Delivers (fresh F) bytes reaction.Verdict (holding F v)
-Judges F bytes (Err answer) = Delivers (fresh F) bytes answer (fresh F)
+abbrev pub Weighs : Cnf → List ℕ → Result Verdict Reaction → Type 0
+Weighs F bytes (Ok v) = Delivers (fresh F) bytes reaction.Verdict (holding F v)
+Weighs F bytes (Err answer) = Delivers (fresh F) bytes answer (fresh F)
+
+-- what it makes of evidence of a kind that was judged
+abbrev pub made_of : Judged → ℕ → Result Verdict Reaction
+made_of (judged.Right v) kind = Ok v
+made_of judged.Wrong kind = Err (reaction.Refused kind)
+made_of judged.NoMemory kind = Err reaction.NoMemory

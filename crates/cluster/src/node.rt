@@ -6,7 +6,7 @@ ghost use Rattle.cluster.specs.Nodes.{NodeState, fresh};
 ghost use Rattle.cluster.specs.Candidates.{Delivers};
 ghost use Rattle.cluster.specs.OpenSchedule.{Reacts};
 
-use crate::candidate::judge;
+use crate::candidate::weigh;
 use crate::event::OpenEvent;
 use dimacs::Formula;
 use lrat_check::{Reaction, Verdict};
@@ -65,7 +65,7 @@ impl Node {
         let Verdict::Nothing = self.verdict else {
             return Reaction::Ignored;
         };
-        match judge(alloc, &self.formula, bytes) {
+        match weigh(alloc, &self.formula, bytes) {
             Ok(verdict) => {
                 self.verdict = verdict;
                 Reaction::Verdict

@@ -5,28 +5,38 @@ ghost use Rattle.dimacs.specs.text.Faults.{number_of_kind};
 ghost use Rattle.dimacs.specs.text.Reading.{no_memory};
 
 use std::alloc::{AllocError, AllocFailed};
+use thiserror::Error;
 
 /// What is wrong. The first token that is wrong decides, and of several faults of one token the one that is tested first:
 /// in the header from left to right, behind it `BadToken`, `TooManyClauses`, `VariableAboveHeader`, `AboveLimit`.
-#[derive(Clone, Copy, Debug, PartialEq, Eq)]
+#[derive(Clone, Copy, Debug, PartialEq, Eq, Error)]
 pub enum Kind {
     /// There is no token, or the first one is not `p`.
+    #[error("there is no header")]
     NoHeader,
     /// A token of the header's line is not the one that must stand there, is missing, or is a fifth.
+    #[error("the header is not `p cnf VARIABLES CLAUSES`")]
     BadHeader,
     /// A token behind the header is no number.
+    #[error("a token is no number")]
     BadToken,
     /// A literal's variable is above the header's number of variables.
+    #[error("a variable is above the header's number")]
     VariableAboveHeader,
     /// The text ends within a clause.
+    #[error("the text ends within a clause")]
     ClauseNotEnded,
     /// The text ends before the header's number of clauses.
+    #[error("the text ends before the last clause")]
     TooFewClauses,
     /// A number stands behind the last of the header's number of clauses.
+    #[error("a clause stands behind the last")]
     TooManyClauses,
     /// More than 1,000,000 variables, 4,000,000 clauses or 50,000,000 literals.
+    #[error("the formula is above a limit")]
     AboveLimit,
     /// Memory was refused.
+    #[error("no memory")]
     NoMemory,
 }
 
@@ -51,7 +61,8 @@ impl Kind {
 
 /// The first fault of a text, and its line, from 1: the line of the token; of a missing token of the header, the header's
 /// line; at the end of the text, the number of line ends plus 1. Want of memory has line 0.
-#[derive(Clone, Copy, Debug, PartialEq, Eq)]
+#[derive(Clone, Copy, Debug, PartialEq, Eq, Error)]
+#[error("line {line}: {kind}")]
 pub struct DimacsFault {
     pub kind: Kind,
     pub line: u64,

@@ -4,19 +4,25 @@ ghost use Rattle.std.specs.Prelude.{◌≡◌};
 ghost use Rattle.frames.specs.declared.fault.FrameFault.TheVariants.{NoMemory};
 
 use std::alloc::{AllocError, AllocFailed};
+use thiserror::Error;
 
 /// What is wrong with a stream, in the order of the tests.
-#[derive(Clone, Copy, Debug, PartialEq, Eq)]
+#[derive(Clone, Copy, Debug, PartialEq, Eq, Error)]
 pub enum FrameFault {
     /// One of the first two bytes of a frame is not 0x43.
+    #[error("a frame does not begin with its mark")]
     BadMark,
     /// The kind is not 1 to 9.
+    #[error("there is no such kind of frame")]
     BadKind,
     /// The length is not possible for the kind.
+    #[error("the length is not possible for the kind")]
     BadLength,
     /// The payload is whole, and a field is not right.
+    #[error("a field is not right")]
     BadField,
     /// Memory was refused.
+    #[error("no memory")]
     NoMemory,
 }
 

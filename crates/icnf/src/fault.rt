@@ -5,33 +5,45 @@ ghost use Rattle.icnf.specs.Faults.{number_of_kind};
 ghost use Rattle.icnf.specs.Reading.{no_memory};
 
 use std::alloc::{AllocError, AllocFailed};
+use thiserror::Error;
 
 /// What is wrong. The first token that is wrong decides, and of several faults of one token the one that stands first
 /// here, but that the fault `AboveLimit` of a 65,537th cube comes behind `NotATree`.
-#[derive(Clone, Copy, Debug, PartialEq, Eq)]
+#[derive(Clone, Copy, Debug, PartialEq, Eq, Error)]
 pub enum Kind {
     /// There is no token, or the first one is not `p`.
+    #[error("there is no header")]
     NoHeader,
     /// The header's line is not `p inccnf`.
+    #[error("the header is not `p inccnf`")]
     BadHeader,
     /// A token is neither a number nor `a`, or is an `a` within a clause or a cube.
+    #[error("a token is neither a number nor a mark")]
     BadToken,
     /// A number stands outside a cube, behind the first cube.
+    #[error("a clause stands behind a cube")]
     ClauseBehindCube,
     /// A variable above 1,000,000, or more than 4,000,000 clauses, 50,000,000 literals of clauses or 65,536 cubes.
+    #[error("the text is above a limit")]
     AboveLimit,
     /// A cube has a variable above the greatest of the clauses.
+    #[error("a cube's variable is above those of the clauses")]
     VariableAboveClauses,
     /// A cube has two literals of one variable.
+    #[error("a cube has a variable twice")]
     RepeatedVariable,
     /// The cubes are not the leaves of one tree: another literal, an end or a cube that cannot come here, or leaves
     /// that are missing at the end of the text.
+    #[error("the cubes are not the leaves of one tree")]
     NotATree,
     /// A cube has more than 64 literals.
+    #[error("a cube has more than 64 literals")]
     CubeTooLong,
     /// The text ends within a clause or a cube.
+    #[error("the text ends within a clause or a cube")]
     ClauseNotEnded,
     /// Memory was refused.
+    #[error("no memory")]
     NoMemory,
 }
 
@@ -58,7 +70,8 @@ impl Kind {
 
 /// The first fault of a text, and its line, from 1: the line of the token; of a missing token of the header, the header's
 /// line; at the end of the text, the number of line ends plus 1. Want of memory has line 0.
-#[derive(Clone, Copy, Debug, PartialEq, Eq)]
+#[derive(Clone, Copy, Debug, PartialEq, Eq, Error)]
+#[error("line {line}: {kind}")]
 pub struct IcnfFault {
     pub kind: Kind,
     pub line: u64,

@@ -11,6 +11,7 @@ pub mod Fragments
 pub mod FragmentLines
 pub mod Free
 pub mod Lines
+pub mod JudgingLemmas
 pub mod Loop
 pub mod Named
 pub mod Pairs
@@ -26,6 +27,7 @@ pub mod Streams
 pub mod Tables
 pub mod Taken
 pub mod Truth
+pub mod TruthBytes
 pub mod Walks
 pub mod Slots
 pub mod FarSlots

@@ -3,6 +3,7 @@ pub mod Faults
 pub mod Fragments
 pub mod FragmentFaults
 pub mod Holding
+pub mod Judging
 pub mod Marks
 pub mod Numbers
 pub mod Rising

@@ -1,14 +1,16 @@
 //! The lines of a proof's text, and what is answered at its end.
 
-ghost use Rattle.std.specs.Prelude.{◌≡◌, ◌⊎◌, None, OnOk, IfErr};
+ghost use Rattle.std.specs.Prelude.{◌≡◌, ◌==◌, ◌⊎◌, None, OnOk, IfErr};
 ghost use Rattle.lrat_check.specs.Checking.{no_memory, check_end, text_refusal, GoesOn, Stops, step_refusal};
 
 use crate::checker::Checker;
 use crate::fault::StepFault;
 use lrat_text::{StepBuffer, TextFault, read_line};
+use thiserror::Error;
 
 /// Why a text is not an accepted proof.
-#[derive(Clone, Copy, Debug, PartialEq, Eq)]
+#[derive(Clone, Copy, Debug, PartialEq, Eq, Error)]
+#[error("line {line}: fault {number}")]
 pub struct CheckFault {
     /// 1 where a line spells no step, 2 to 12 the step's fault, 13 where no line adds the empty clause, 14 for want of memory.
     pub number: u8,
@@ -16,6 +18,15 @@ pub struct CheckFault {
     pub line: u64,
     /// The text fault's number, 1 to 4, at 1; else 0.
     pub text: u8,
+}
+
+impl CheckFault {
+    /// Whether it is want of memory, and says nothing of the text.
+    pub fn is_no_memory(self) -> bool
+        ensures { result ≡ (self.number == 14) }
+    {
+        self.number == 14
+    }
 }
 
 /// The fault of a growth that was refused.

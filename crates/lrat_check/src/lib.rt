@@ -10,6 +10,7 @@ mod counts;
 mod fault;
 mod fragment;
 mod groups;
+mod judging;
 mod laws;
 mod lemma;
 mod live;
@@ -28,6 +29,7 @@ pub use checker::Checker;
 pub use checking::CheckFault;
 pub use fault::StepFault;
 pub use fragment::check_fragment;
+pub use judging::{Judged, judge_proof, judge_values};
 pub use laws::{
     fragment_fault_is_exact, proof_fault_is_exact, right_verdicts_agree, soundness,
     step_fault_is_exact,

@@ -5,19 +5,25 @@ ghost use Rattle.lrat_text.specs.Faults.{fault_number};
 ghost use Rattle.lrat_text.specs.declared.fault.TextFault.TheVariants.{NoMemory};
 
 use std::alloc::{AllocError, AllocFailed};
+use thiserror::Error;
 
 /// The first fault of a line.
-#[derive(Clone, Copy, Debug, PartialEq, Eq)]
+#[derive(Clone, Copy, Debug, PartialEq, Eq, Error)]
 pub enum TextFault {
     /// The line is empty, a space stands at its beginning or end, or a token cannot stand where it does.
+    #[error("a token cannot stand where it does")]
     BadToken,
     /// No LF follows the line.
+    #[error("the line has no end")]
     LineNotEnded,
     /// The line ends before its last `0`.
+    #[error("the line ends before its last `0`")]
     MissingZero,
     /// A clause number above 2^48 - 1, or a variable above 2,000,000.
+    #[error("a number is above its limit")]
     NumberTooLarge,
     /// A growth was refused.
+    #[error("no memory")]
     NoMemory,
 }
 

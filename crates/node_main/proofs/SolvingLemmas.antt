@@ -11,7 +11,7 @@ use Rattle.dimacs.specs.logic.Literal.{Clause, IsTrueIn}
 use Rattle.dimacs.specs.declared.answer.Answer.TheVariants.{Unknown}
 use Rattle.icnf.specs.Leaves.{Cube}
 use Rattle.node_main.specs.Solving.{Decides, IsRefused, IsTooLong, IsUndecided, MeetsLimit}
-use Rattle.node_main.specs.declared.options.Options.{Options}
+use Rattle.node_main.specs.declared.commands.solve.options.Options.{Options}
 use Rattle.node_main.specs.declared.report.Report.{Report}
 
 -- a text that is printed unless `quiet`

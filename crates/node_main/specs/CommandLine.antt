@@ -7,7 +7,7 @@ use Rattle.clap.specs.declared.error.kind.ErrorKind.{ErrorKind}
 use Rattle.clap.specs.declared.error.kind.ErrorKind.TheVariants as kind
 use Rattle.node_main.specs.Program.{program}
 use Rattle.node_main.specs.Solving.{AreOptions}
-use Rattle.node_main.specs.declared.options.Options.{Options}
+use Rattle.node_main.specs.declared.commands.solve.options.Options.{Options}
 use Rattle.node_main.specs.declared.request.Request.{Request}
 use Rattle.node_main.specs.declared.request.Request.TheVariants.{Check, Cubes, Solve}
 use Rattle.node_main.specs.declared.request.UsageFault.{UsageFault}

@@ -1,7 +1,7 @@
 -- What is printed where there is no report.
 use Rattle.std.specs.Prelude.{ℕ, Bool, true, false, List, [], codes}
-use Rattle.node_main.specs.declared.refusal.Refusal.{Refusal}
-use Rattle.node_main.specs.declared.refusal.Refusal.TheVariants.{Usage, Input, Cubes, Proof, Writing, NoMemory}
+use Rattle.node_main.specs.declared.report.Refusal.{Refusal}
+use Rattle.node_main.specs.declared.report.Refusal.TheVariants.{Usage, Input, Cubes, Proof, Writing, NoMemory}
 
 -- the line of a refusal
 abbrev pub loud_text : Refusal → List ℕ

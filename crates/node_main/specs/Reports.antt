@@ -29,3 +29,7 @@ answer_text (Err f) = codes "s NOT VERIFIED\nc " ++ fault_text f.line f.number
 abbrev pub check_text : Result Cnf DimacsFault → List ℕ → List ℕ
 check_text (Ok F) proof = answer_text (check_of F proof)
 check_text (Err f) proof = input_fault_text f
+
+-- what is printed of cubes whose clauses are not the formula's
+abbrev pub other_formula_text : List ℕ
+other_formula_text = codes "c cubes of another formula\n"

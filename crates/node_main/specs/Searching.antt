@@ -5,8 +5,8 @@ use Rattle.dimacs.specs.logic.Cnf.{Cnf}
 use Rattle.icnf.specs.Leaves.{Cube}
 use Rattle.proof_join.specs.Joining.{AllClose}
 use Rattle.node_main.specs.Solving.{MeetsLimit}
-use Rattle.node_main.specs.declared.solving.Ending.{Ending}
-use Rattle.node_main.specs.declared.solving.Ending.TheVariants.{Closed, Limit, Model}
+use Rattle.node_main.specs.declared.commands.solve.deciding.Ending.{Ending}
+use Rattle.node_main.specs.declared.commands.solve.deciding.Ending.TheVariants.{Closed, Limit, Model}
 
 -- a leaf has a model, a leaf met the limit, or a fragment closes each
 abbrev pub Ends : Cnf → ℕ → List Cube → Ending → Type 0

@@ -1,5 +1,5 @@
 -- What `solve` reports: one of four ends, by its status.
-use Rattle.std.specs.Prelude.{◌≡◌, ℕ, ◌^◌, ◌≤◌, ◌⊎◌, Bool, List, [], length, Option, Err, None, IsSome, IfSome, Contains, codes, if◌then◌else◌}
+use Rattle.std.specs.Prelude.{◌≡◌, ℕ, ◌^◌, ◌≤◌, ◌⊎◌, Bool, List, [], length, Option, Err, None, IsSome, IfSome, Contains, if◌then◌else◌}
 use Rattle.cube_solve.specs.Conflicts.{MeetsConflict}
 use Rattle.cube_solve.specs.Outcome.{IsFresh}
 use Rattle.dimacs.specs.text.Answer.{Lines, satisfied_lines}
@@ -13,12 +13,12 @@ use Rattle.icnf.specs.Leaves.{Cube}
 use Rattle.lrat_text.specs.Log.{IsHonest}
 use Rattle.lrat_text.specs.Proof.{Accepts}
 use Rattle.proof_join.specs.Joining.{AllClose, Joined, unit_steps}
-use Rattle.node_main.specs.Reports.{input_fault_text, cubes_fault_text}
+use Rattle.node_main.specs.Reports.{input_fault_text, cubes_fault_text, other_formula_text}
 use Rattle.node_main.specs.Splitting.{Splits}
-use Rattle.node_main.specs.declared.options.Options.{Options}
+use Rattle.node_main.specs.declared.commands.solve.options.Options.{Options}
 use Rattle.node_main.specs.declared.report.Report.{Report}
-use Rattle.node_main.specs.declared.splitting.Split.{Split}
-use Rattle.node_main.specs.declared.splitting.Split.TheVariants.{By, Faulty, OtherFormula}
+use Rattle.node_main.specs.declared.commands.solve.splitting.Split.{Split}
+use Rattle.node_main.specs.declared.commands.solve.splitting.Split.TheVariants.{By, Faulty, OtherFormula}
 
 -- the limit is from 1 to 1,000,000,000, and the depth at most 16
 pub record AreOptions (options : Options) : Type 0 where
@@ -80,7 +80,7 @@ Decides F leaves options r = IsSatisfied F options r ⊎ IsRefuted F options r �
 abbrev pub Answers : Cnf → Options → Report → Split → Type 0
 Answers F options r (By leaves) = Decides F leaves options r
 Answers F options r (Faulty fault) = IsRefused (cubes_fault_text fault) options r
-Answers F options r OtherFormula = IsRefused (codes "c cubes of another formula\n") options r
+Answers F options r OtherFormula = IsRefused other_formula_text options r
 
 -- what is reported of an input, and of the cubes that are handed in with it
 abbrev pub Solves : List ℕ → Option (List ℕ) → Options → Report → Type 0

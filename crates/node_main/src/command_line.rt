@@ -1,16 +1,34 @@
 //! Reads the words of a command line.
 
-ghost use Rattle.std.specs.Prelude.{◌≡◌, ℕ, List, Option, IfOk, IfErr, IfSome, IfNone, map, option_map};
-ghost use Rattle.clap.specs.Words.{found_of, kind_of, rows_of};
-ghost use Rattle.node_main.specs.CommandLine.{AreTaken, AsksFor, AsksForCheck, AsksForCubes, AsksForSolve, IsInRange, IsNumber, IsRefusal, NamesCubes, NamesFiles, NamesNumber, NamesOptions, NamesSolve, StandsFor};
-ghost use Rattle.node_main.specs.declared.options.Options.{Options};
+ghost use Rattle.std.specs.Prelude.{◌≡◌, ℕ, List, Option, IfOk, IfErr, map};
+ghost use Rattle.clap.specs.Words.{app_of, kind_of};
+ghost use Rattle.node_main.specs.CommandLine.{AreTaken, AsksFor, AsksForCheck, AsksForCubes, AsksForSolve, IsInRange, IsRefusal, StandsFor};
+ghost use Rattle.node_main.specs.Program.{program};
+ghost use Rattle.node_main.specs.declared.commands.solve.options.Options.{Options};
 
-use crate::options::Options;
-use crate::program::satcluster;
+use crate::commands::check::{self, check_request};
+use crate::commands::cubes::{self, cubes_request};
+use crate::commands::solve::{self, solve_request};
 use crate::request::{Request, UsageFault};
 use clap::error::ErrorKind;
-use clap::{ArgMatches, Error};
-use std::alloc::Global;
+use clap::{Command, Error};
+use std::alloc::{AllocError, Global};
+
+/// The program with its commands.
+fn satcluster<'a>(alloc: Global) -> Result<Command<'a>, AllocError>
+    ensures { IfOk result (λ c. app_of c ≡ program) }
+{
+    let solve = solve::words(alloc)?;
+    let check = check::words(alloc)?;
+    let cubes = cubes::words(alloc)?;
+    Command::new(alloc, "satcluster")
+        .about("Decides propositional formulas, with proofs that anyone can check")
+        .after_help("Status: that of the command; 0 for help, 1 where the words are refused")
+        .subcommand_required(true)
+        .subcommand(solve)?
+        .subcommand(check)?
+        .subcommand(cubes)
+}
 
 /// The fault that an error of the parser stands for.
 fn fault_of(alloc: Global, error: &Error) -> UsageFault
@@ -23,85 +41,6 @@ fn fault_of(alloc: Global, error: &Error) -> UsageFault
         },
         ErrorKind::OutOfMemory => UsageFault::NoMemory,
         _ => UsageFault::Usage,
-    }
-}
-
-/// What `check` is to work on.
-fn check_request<'a>(matches: &ArgMatches<'a>) -> Option<(&'a str, &'a str)>
-    ensures found { IfSome result (λ files. NamesFiles (rows_of (found_of matches.now)) files.0.now files.1.now) }
-    ensures none { IfNone result ((input proof : List ℕ) → NamesFiles (rows_of (found_of matches.now)) input proof → ⊥) }
-{
-    match (matches.get_str("INPUT"), matches.get_str("PROOF")) {
-        (Some(input), Some(proof)) => Some((input, proof)),
-        _ => None,
-    }
-}
-
-/// The number that a text says, where it is in the range.
-fn number_in(text: &str, low: u64, high: u64) -> Option<u64>
-    ensures some { IfSome result (IsNumber low high text.now) }
-    ensures none { IfNone result ((number : ℕ) → IsNumber low high text.now number → ⊥) }
-{
-    match text.parse::<u64>() {
-        Ok(number) if low <= number && number <= high => Some(number),
-        _ => None,
-    }
-}
-
-/// The number in a range that the words give to an option.
-fn number_of<'a>(matches: &ArgMatches<'a>, name: &str, low: u64, high: u64) -> Option<u64>
-    ensures found { IfSome result (NamesNumber (rows_of (found_of matches.now)) name.now low high) }
-    ensures none { IfNone result ((number : ℕ) → NamesNumber (rows_of (found_of matches.now)) name.now low high number → ⊥) }
-{
-    match matches.get_str(name) {
-        Some(text) => number_in(text, low, high),
-        None => None,
-    }
-}
-
-/// What `cubes` is to work on.
-fn cubes_request<'a>(matches: &ArgMatches<'a>) -> Option<(&'a str, u32)>
-    ensures found { IfSome result (λ r. NamesCubes (rows_of (found_of matches.now)) r.0.now r.1) }
-    ensures none { IfNone result ((input : List ℕ) (depth : ℕ) → NamesCubes (rows_of (found_of matches.now)) input depth → ⊥) }
-{
-    match (matches.get_str("INPUT"), number_of(matches, "depth", 0, 16)) {
-        (Some(input), Some(depth)) => Some((input, depth as u32)),
-        _ => None,
-    }
-}
-
-/// The options that the words give to `solve`.
-fn options_of(matches: &ArgMatches) -> Option<Options>
-    ensures found { IfSome result (NamesOptions (rows_of (found_of matches.now))) }
-    ensures none { IfNone result ((options : Options) → NamesOptions (rows_of (found_of matches.now)) options → ⊥) }
-{
-    let depth = number_of(matches, "depth", 0, 16);
-    let limit = number_of(matches, "limit", 1, 1_000_000_000);
-    match (depth, limit) {
-        (Some(depth), Some(limit)) => Some(Options {
-            depth: depth as u32,
-            limit,
-            quiet: matches.get_flag("quiet"),
-            witness: !matches.get_flag("no-witness"),
-        }),
-        _ => None,
-    }
-}
-
-/// What `solve` is to work on: the input, the cubes, the proof, and how.
-fn solve_request<'a>(
-    matches: &ArgMatches<'a>,
-) -> Option<(&'a str, Option<&'a str>, Option<&'a str>, Options)>
-    ensures found { IfSome result (λ r. NamesSolve (rows_of (found_of matches.now)) r.0.now (option_map (λ t. t.now) r.1) (option_map (λ t. t.now) r.2) r.3) }
-    ensures none { IfNone result ((input : List ℕ) (cubes proof : Option (List ℕ)) (options : Options) → NamesSolve (rows_of (found_of matches.now)) input cubes proof options → ⊥) }
-{
-    match (matches.get_str("INPUT"), options_of(matches)) {
-        (Some(input), Some(options)) => {
-            let cubes = matches.get_str("cubes");
-            let proof = matches.get_str("PROOF");
-            Some((input, cubes, proof, options))
-        }
-        _ => None,
     }
 }
 

@@ -4,24 +4,16 @@
 //! say what is printed.
 #![tactic(auto)]
 
-mod checking;
 mod command_line;
-mod cubing;
-mod options;
-mod program;
-mod proof_check;
-mod refusal;
+mod commands;
 mod report;
 mod request;
-mod solving;
-mod splitting;
+mod words;
 
-pub use checking::run_check;
 pub use command_line::command;
-pub use cubing::run_cubes;
-pub use options::Options;
-pub use proof_check::ProofCheck;
-pub use refusal::Refusal;
-pub use report::Report;
+pub use commands::check::{ProofCheck, run_check};
+pub use commands::cubes::run_cubes;
+pub use commands::solve::options::Options;
+pub use commands::solve::{solve_here, solve_taking};
+pub use report::{Refusal, Report};
 pub use request::{Request, UsageFault};
-pub use solving::{solve_here, solve_taking};

@@ -3,8 +3,9 @@
 ghost use Rattle.std.specs.Prelude.{◌≡◌};
 ghost use Rattle.node_main.specs.declared.request.UsageFault.TheVariants.{NoMemory};
 
-use crate::options::Options;
+use crate::commands::solve::options::Options;
 use std::alloc::AllocError;
+use thiserror::Error;
 
 /// What is to be done, and with which files.
 #[derive(Clone, Copy, Debug, PartialEq, Eq)]
@@ -29,13 +30,16 @@ pub enum Request<'a> {
 }
 
 /// Why a command line gives no request.
-#[derive(Debug, Drop)]
+#[derive(Debug, Drop, Error)]
 pub enum UsageFault {
     /// Help was asked for: the text to print.
+    #[error("{0}")]
     Help(String),
     /// The words are refused.
+    #[error("the words are refused")]
     Usage,
     /// A growth was refused.
+    #[error("no memory")]
     NoMemory,
 }
 

@@ -1,0 +1,34 @@
+use Rattle.std.proofs.Common.{◌≡◌, ◌∙◌, ◌⊎◌, inr, subst, sym}
+use Rattle.std.specs.Prelude.{IfOk}
+use Rattle.std.proofs.lemmas.Result.{IfOk-weaker}
+use Rattle.cube_solve.specs.Outcome.{IsModel}
+use Rattle.dimacs.specs.logic.Base.{base_of}
+use Rattle.dimacs.specs.logic.Cnf.{Cnf, IsFormula}
+use Rattle.node_main.specs.Searching.{Ends}
+use Rattle.node_main.specs.Solving.{IsRefuted, IsUndecided}
+use Rattle.node_main.specs.declared.commands.solve.deciding.Ending.TheVariants.{Model}
+use Rattle.node_main.proofs.SolvingLemmas.{front_again, told_model}
+use Rattle.node_main.proofs.commands.solve.deciding.decided.Goals as goal
+
+pub returns-in-Model : goal.returns-in-Model
+returns-in-Model c =
+    let F = c.args.formula in
+    let leaves = c.args.tree.now in
+    let base : c.in_ok-base.base ≡ base_of F = c.in_ok-base.ensures.base c.in_ok-preamble.ensures.units in
+    let ends : Ends c.in_ok-base.base c.args.options.now.limit leaves (Model c.in-Model.values) =
+    subst (Ends c.in_ok-base.base c.args.options.now.limit leaves) c.in-Model.is c.in_ok-values.ensures in
+    told_model c.answered.result F leaves c.args.options.now ends.0 c.in-Model.values (subst (λ (B : Cnf). IsModel B ends.0 c.in-Model.values) base ends.1)
+    c.answered.ensures.text c.answered.ensures.status c.answered.ensures.proof
+
+pub into_formula-formula-requires-clause-formula : goal.into_formula-formula-requires-clause-formula
+into_formula-formula-requires-clause-formula c =
+    subst IsFormula (sym (front_again c.args.formula c.in_ok-base.base c.len-clauses.result (c.in_ok-base.ensures.base c.in_ok-preamble.ensures.units) c.len-clauses.ensures)) c.vars.ensures.valid
+
+pub returns : goal.returns
+returns c =
+    let leaves = c.args.tree.now in
+    let o = c.args.options.now in
+    let same : c.into_formula-formula.result ≡ c.args.formula =
+    c.into_formula-formula.ensures ∙ front_again c.args.formula c.in_ok-base.base c.len-clauses.result (c.in_ok-base.ensures.base c.in_ok-preamble.ensures.units) c.len-clauses.ensures in
+    IfOk-weaker c.refuted.result _ _ (λ r h. inr h)
+    (subst (λ (F : Cnf). IfOk c.refuted.result (λ r. IsRefuted F o r ⊎ IsUndecided F leaves o r)) same c.refuted.ensures)
