@@ -34,6 +34,8 @@ mod profile;
 #[cfg(test)]
 mod propagators;
 #[cfg(test)]
+mod searches;
+#[cfg(test)]
 mod solving;
 #[cfg(test)]
 mod steps;

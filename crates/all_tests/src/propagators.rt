@@ -1,6 +1,7 @@
 //! The search over both propagators.
 
 use crate::checks::FOUR;
+use crate::searches::EIGHT;
 use cube_solve::{Outcome, solve_by};
 use dimacs::{Base, Formula, read, satisfies};
 use lrat_check::check_fragment;
@@ -15,10 +16,7 @@ const FORMULAS: [(&[u8], bool); 5] = [
     (b"p cnf 0 0\n", true),
     (b"p cnf 2 2\n1 0\n-2 0\n", true),
     (b"p cnf 3 3\n1 2 0\n-2 3 0\n-1 -3 0\n", true),
-    (
-        b"p cnf 3 8\n1 2 3 0\n1 2 -3 0\n1 -2 3 0\n1 -2 -3 0\n-1 2 3 0\n-1 2 -3 0\n-1 -2 3 0\n-1 -2 -3 0\n",
-        false,
-    ),
+    (EIGHT, false),
 ];
 
 /// The outcome of a search is the formula's, and is accepted by `satisfies` or by `check_fragment`.

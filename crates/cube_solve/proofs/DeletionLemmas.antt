@@ -15,8 +15,9 @@ use Rattle.dimacs.specs.logic.Literal.{Clause}
 use Rattle.dimacs.proofs.Members.{Contains-head, Contains-cons, Contains-cons_cases, Contains-nil}
 use Rattle.clause_arena.specs.Clauses.{Clauses, live_of}
 use Rattle.lrat_text.specs.Grammar.{LineSpells}
-use Rattle.lrat_text.specs.Log.{Cube, additions}
+use Rattle.lrat_text.specs.Log.{additions}
 use Rattle.lrat_text.specs.Proof.{without}
+use Rattle.lrat_text.specs.Runs.{after_steps}
 use Rattle.lrat_text.specs.Writing.{line_text}
 use Rattle.lrat_text.specs.declared.step.Step.{Step}
 use Rattle.lrat_text.specs.declared.step.Step.TheVariants.{Add, Delete}
@@ -24,11 +25,9 @@ use Rattle.lrat_text.proofs.ClauseMapLemmas.{apart_test, none_some, numbered_bet
 use Rattle.lrat_text.proofs.LineLemmas.{written_spells, written_one_line}
 use Rattle.watches.specs.Trails.{TrailValue}
 use Rattle.watches.proofs.TrailLemmas.{head_alone}
-use Rattle.cube_solve.specs.Conflicts.{after_steps}
 use Rattle.cube_solve.specs.Forgetting.{AreRising, AreLemmas, AreLess, Forgets, IsKept}
 use Rattle.cube_solve.specs.Learning.{IsLearnt, IsSearch}
 use Rattle.cube_solve.specs.Levels.{AreTwins, AreLinked}
-use Rattle.cube_solve.specs.State.{IsAssuming}
 use Rattle.cube_solve.proofs.LogLemmas.{spells_push, log_push, fresh_push, after_push, top_push}
 
 -- ---- members of a list of numbers
@@ -170,11 +169,10 @@ module _ (B : Cnf) (n : ℕ) (old new : Live) (before text : List ℕ) (l : IsLe
   }
 
 -- ---- a search that kept pace
-search_less : (B : Cnf) (q : Cube) (n : ℕ) (m k : Clauses) (t u : TrailValue) (a : ℕ) (before text : List ℕ) (ids : List ℕ) → IsSearch B q n m t a before → AreLess (live_of m) ids (live_of k)
-    → ((j : ℕ) → Contains ids j → length B.clauses < j) → u.vars ≡ t.vars → IsAssuming q u.entries a → IsLearnt B text n (live_of k) → IsSearch B q n k u a text
-search_less B q n m k t u a before text ids h less above v assumes learnt = record {
+search_less : (B : Cnf) (n : ℕ) (m k : Clauses) (t u : TrailValue) (before text : List ℕ) (ids : List ℕ) → IsSearch B n m t before → AreLess (live_of m) ids (live_of k)
+    → ((j : ℕ) → Contains ids j → length B.clauses < j) → u.vars ≡ t.vars → IsLearnt B text n (live_of k) → IsSearch B n k u text
+search_less B n m k t u before text ids h less above v learnt = record {
   vars = v ∙ h.vars;
-  assuming = assumes;
   below = λ j D i. h.below j D (less.was j D i).1;
   kept = λ j C i.
       let d = h.kept j C i in
@@ -196,11 +194,11 @@ learnt_same B n old new text less l = record {
       (record { stays = λ n C h k. h; was = λ n C h. (Contains-nil n, h) }) less;
 }
 
-pub search_kept : (B : Cnf) (q : Cube) (n : ℕ) (m k : Clauses) (t u : TrailValue) (a : ℕ) (before text : List ℕ) → IsSearch B q n m t a before → IsKept (length B.clauses + 1) (live_of m) (live_of k) before text
-    → u.vars ≡ t.vars → IsAssuming q u.entries a → IsSearch B q n k u a text
-search_kept B q n m k t u a before text h c v assumes = elim c [
-  | inl same ↦ search_less B q n m k t u a before text [] h same.0 (λ j i. absurd (Contains-nil j i)) v assumes
+pub search_kept : (B : Cnf) (n : ℕ) (m k : Clauses) (t u : TrailValue) (before text : List ℕ) → IsSearch B n m t before → IsKept (length B.clauses + 1) (live_of m) (live_of k) before text
+    → u.vars ≡ t.vars → IsSearch B n k u text
+search_kept B n m k t u before text h c v = elim c [
+  | inl same ↦ search_less B n m k t u before text [] h same.0 (λ j i. absurd (Contains-nil j i)) v
       (subst (λ x. IsLearnt B x n (live_of k)) (sym same.1) (learnt_same B n (live_of m) (live_of k) before same.0 h.learnt))
-  | inr f ↦ search_less B q n m k t u a before text f.ids h f.less (λ j i. let b = All-contains (λ x. length B.clauses + 1 ≤ x) f.ids j (f.lemmas).behind i in omega arith) v assumes
+  | inr f ↦ search_less B n m k t u before text f.ids h f.less (λ j i. let b = All-contains (λ x. length B.clauses + 1 ≤ x) f.ids j (f.lemmas).behind i in omega arith) v
       (learnt_less B n (live_of m) (live_of k) before text h.learnt f h.kept)
 ]

@@ -14,6 +14,7 @@ use Rattle.dimacs.proofs.Members.{Contains-head, Contains-cons, Contains-cons_ca
 use Rattle.clause_arena.specs.Clauses.{Clauses, live_of}
 use Rattle.lrat_text.specs.Grammar.{LineSpells, IsClauseNumber}
 use Rattle.lrat_text.specs.Log.{Cube, Closes, IsHonest}
+use Rattle.lrat_text.specs.Runs.{after_steps, top_of}
 use Rattle.lrat_text.specs.Writing.{line_text}
 use Rattle.lrat_text.specs.declared.step.Step.{Step}
 use Rattle.lrat_text.specs.declared.step.Step.TheVariants.{Add}
@@ -27,9 +28,8 @@ use Rattle.conflict_analysis.specs.Built.{AreBuilt}
 use Rattle.conflict_analysis.specs.Lemmas.{IsDecision, NegatesAssumptions}
 use Rattle.conflict_analysis.specs.declared.closing.Closing.TheVariants as closing
 use Rattle.conflict_analysis.proofs.Concluding.{above_cut}
-use Rattle.cube_solve.specs.Conflicts.{AllHold, MeetsConflict, after_steps}
-use Rattle.cube_solve.specs.Ends.{Satisfies}
-use Rattle.cube_solve.specs.Learning.{top_of, AreBelow, IsLearnt, IsWritten, Learns, IsSearch}
+use Rattle.cube_solve.specs.Conflicts.{AllHold, MeetsConflict}
+use Rattle.cube_solve.specs.Learning.{AreBelow, IsLearnt, IsWritten, Learns, IsSearch}
 use Rattle.cube_solve.specs.Levels.{AreLinked, IsAdded}
 use Rattle.cube_solve.specs.Outcome.{IsModel, IsBrief, IsFresh}
 use Rattle.cube_solve.specs.State.{IsState, IsAssuming, IsTotal}
@@ -116,14 +116,9 @@ learnt_more B vars n id old new before text v is number below l g =
     }
 
 -- ---- a search
-pub search_begins : (B : Cnf) (q : Cube) (m : Clauses) (t : TrailValue) (text : List ℕ) → AreLinked (live_in (map_of B)) (live_of m) → t.vars ≡ B.vars → t.entries ≡ [] → text ≡ []
-    → IsSearch B q 0 m t 0 text
-search_begins B q m t text h v none empty = record {
+pub search_begins : (B : Cnf) (m : Clauses) (t : TrailValue) (text : List ℕ) → AreLinked (live_in (map_of B)) (live_of m) → t.vars ≡ B.vars → text ≡ [] → IsSearch B 0 m t text
+search_begins B m t text h v empty = record {
   vars = v;
-  assuming = record {
-    decided = λ e i. absurd (Contains-nil e (subst (λ xs. Contains xs e) none i));
-    full = inl (let p : present t.entries ≡ 0 = ap present none in omega arith);
-  };
   below = λ n D i.
       let c = h.back n D i in
       let b = numbered_between B.clauses n c.0 c.1 in
@@ -133,11 +128,9 @@ search_begins B q m t text h v none empty = record {
   learnt = subst (λ x. IsLearnt B x 0 (live_of m)) (sym empty) (learnt_none B (live_of m) h);
 }
 
-pub search_same : (B : Cnf) (q : Cube) (n : ℕ) (m k : Clauses) (t u : TrailValue) (a b : ℕ) (text : List ℕ) → IsSearch B q n m t a text → AreSame m k → u.vars ≡ t.vars → IsAssuming q u.entries b
-    → IsSearch B q n k u b text
-search_same B q n m k t u a b text h s v assumes = record {
+pub search_same : (B : Cnf) (n : ℕ) (m k : Clauses) (t u : TrailValue) (text : List ℕ) → IsSearch B n m t text → AreSame m k → u.vars ≡ t.vars → IsSearch B n k u text
+search_same B n m k t u text h s v = record {
   vars = v ∙ h.vars;
-  assuming = assumes;
   below = λ j D i. let c = same_back m k s j D i in h.below j c.0 c.1;
   kept = λ j C i. let d = h.kept j C i in let e = same_forth m k s j d.0 d.1 in (e.0, e.1, twins_trans C d.0 e.0 d.2 e.2);
   learnt = record {
@@ -151,11 +144,10 @@ search_same B q n m k t u a b text h s v assumes = record {
   };
 }
 
-pub search_learns : (B : Cnf) (q : Cube) (n id : ℕ) (m k : Clauses) (t u : TrailValue) (a : ℕ) (before text : List ℕ) → id ≡ length B.clauses + 1 + n → IsClauseNumber id
-    → IsSearch B q n m t a before → Learns t.vars id (live_of m) (live_of k) before text → u.vars ≡ t.vars → IsAssuming q u.entries a → IsSearch B q (n + 1) k u a text
-search_learns B q n id m k t u a before text is number h g v assumes = record {
+pub search_learns : (B : Cnf) (n id : ℕ) (m k : Clauses) (t u : TrailValue) (before text : List ℕ) → id ≡ length B.clauses + 1 + n → IsClauseNumber id
+    → IsSearch B n m t before → Learns t.vars id (live_of m) (live_of k) before text → u.vars ≡ t.vars → IsSearch B (n + 1) k u text
+search_learns B n id m k t u before text is number h g v = record {
   vars = v ∙ h.vars;
-  assuming = assumes;
   below = λ j D i. elim ((g.added).only j D i) [
     | inl o ↦ (let b = h.below j o.0 o.1 in let up = b.1 in (b.0, omega arith))
     | inr o ↦ (let e = o.0 in let low = number.0 in (omega arith, omega arith))
@@ -164,20 +156,10 @@ search_learns B q n id m k t u a before text is number h g v assumes = record {
   learnt = learnt_more B t.vars n id (live_of m) (live_of k) before text h.vars is number (λ j C i. let b = h.below j C i in let up = b.1 in (b.0, omega arith)) h.learnt g;
 }
 
--- behind a restart
-pub search_cut : (B : Cnf) (q : Cube) (n : ℕ) (m : Clauses) (t u : TrailValue) (a : ℕ) (text : List ℕ) → IsSearch B q n m t a text → u.vars ≡ t.vars → IsAssuming q u.entries a → IsSearch B q n m u a text
-search_cut B q n m t u a text h v assumes = record {
-  vars = v ∙ h.vars;
-  assuming = assumes;
-  below = h.below;
-  kept = h.kept;
-  learnt = h.learnt;
-}
-
 -- ---- the ends
-pub limited : (B : Cnf) (q : Cube) (limit n number : ℕ) (att : List ℕ) (m : Clauses) (t : TrailValue) (a : ℕ) (text : List ℕ) → IsSearch B q n m t a text → IsState att m t → IsTrailValue t
+pub limited : (B : Cnf) (q : Cube) (limit n number : ℕ) (att : List ℕ) (m : Clauses) (t : TrailValue) (a : ℕ) (text : List ℕ) → IsSearch B n m t text → IsAssuming q t.entries a → IsState att m t → IsTrailValue t
     → IsConflict (live_of m) t.entries number → a < present t.entries → n ≡ limit → IsHonest B limit text × IsFresh B text × MeetsConflict B q text
-limited B q limit n number att m t a text h s v c above e =
+limited B q limit n number att m t a text h assumes s v c above e =
     let l = h.learnt in
     let back = linked_turned (live_in (after_steps (map_of B) l.steps)) (live_of m) l.linked in
     let d = decision_above (live_of m) a [] t.entries s.built (omega arith) above in
@@ -192,10 +174,10 @@ limited B q limit n number att m t a text h s v c above e =
           within = subst (λ vars. All (λ x. IsWithin vars x.literal) t.entries) h.vars v.within;
           built = built_same (live_of m) (live_in (after_steps (map_of B) l.steps)) back.forth [] t.entries s.built;
           quiet = quiet_fewer (live_of m) (live_in (after_steps (map_of B) l.steps)) t.entries back.back s.quiet;
-          cube = assuming_all q t.entries a h.assuming above;
+          cube = assuming_all q t.entries a assumes above;
           decision = (d.0).literal;
           decided = (d.0, d.1, refl, d.2);
-          outside = λ i. both_ways (up_to t.entries a (d.0).literal) (above_cut t.entries d.0 a v.apart d.1 d.3) (assuming_up_to q t.entries a h.assuming above (d.0).literal i);
+          outside = λ i. both_ways (up_to t.entries a (d.0).literal) (above_cut t.entries d.0 a v.apart d.1 d.3) (assuming_up_to q t.entries a assumes above (d.0).literal i);
           number = number;
           conflict = (f.0, f.1, λ k i. c.2 k ((f.2 k).1 i));
         };
@@ -217,9 +199,15 @@ calm_is_true : (t : TrailValue) (C : Clause) → ((l : Literal) → Contains C l
     → (l : Literal) × Contains C l × (holds t.entries l ≡ true) × IsWithin t.vars l
 calm_is_true t C b h k = elim (true_or_false t C b h) [ inl y ↦ y | inr f ↦ absurd (k.0 f) ]
 
-pub satisfied : (B : Cnf) (q : Cube) (n : ℕ) (att : List ℕ) (m : Clauses) (t : TrailValue) (a : ℕ) (text : List ℕ) → IsSearch B q n m t a text → IsState att m t
+-- each clause of the base has a literal on the trail, and so has the cube all of its own
+pub record Satisfies (B : Cnf) (q : Cube) (t : TrailValue) : Type 0 where
+  pub vars : t.vars ≡ B.vars
+  pub clauses : (n : ℕ) (C : Clause) → live_in (map_of B) n C → (l : Literal) × Contains C l × (holds t.entries l ≡ true) × IsWithin t.vars l
+  pub cube : AllHold t.entries q
+
+pub satisfied : (B : Cnf) (q : Cube) (n : ℕ) (att : List ℕ) (m : Clauses) (t : TrailValue) (text : List ℕ) → IsSearch B n m t text → IsState att m t
     → AllCalm (live_of m) (holds t.entries) → AllHold t.entries q → IsTotal t → Satisfies B q t
-satisfied B q n att m t a text h s calm all total = record {
+satisfied B q n att m t text h s calm all total = record {
   vars = h.vars;
   clauses = λ j C i.
       let d = h.kept j C i in
@@ -245,8 +233,8 @@ pub false_assumption : (q : Cube) (live : Live) (es : List Assigned) (a : ℕ) (
     → holds es (negation x) ≡ true → ¬ (IsDecision es (negation x))
 false_assumption q live es a x d h b i f k = cube_sound q d x i (decision_in_cube q es a (negation x) h (assuming_below q es a x i (false_beside live es x b f) h) k)
 
-pub below_next : (B : Cnf) (q : Cube) (n id : ℕ) (m k : Clauses) (t : TrailValue) (a : ℕ) (text : List ℕ) → id ≡ length B.clauses + 1 + n → IsSearch B q n m t a text → AreSame m k → AreBelow id (live_of k)
-below_next B q n id m k t a text is h s = λ j D i.
+pub below_next : (B : Cnf) (n id : ℕ) (m k : Clauses) (t : TrailValue) (text : List ℕ) → id ≡ length B.clauses + 1 + n → IsSearch B n m t text → AreSame m k → AreBelow id (live_of k)
+below_next B n id m k t text is h s = λ j D i.
     let c = same_back m k s j D i in
     let b = h.below j c.0 c.1 in
     let up = b.1 in

@@ -1,10 +1,11 @@
 -- Why a search ends at its limit: at a conflict that is not the cube's alone, so that a lemma would have to be learnt.
-use Rattle.std.specs.Prelude.{◌≡◌, ℕ, ◌<◌, true, List, [], ◌∷◌, All, Contains}
+use Rattle.std.specs.Prelude.{◌≡◌, ℕ, ◌<◌, true, List, [], All, Contains}
 use Rattle.dimacs.specs.logic.Cnf.{Cnf}
-use Rattle.dimacs.specs.logic.ClauseMap.{ClauseMap, Live, map_of, live_in}
+use Rattle.dimacs.specs.logic.ClauseMap.{Live, map_of, live_in}
 use Rattle.dimacs.specs.logic.Literal.{Literal, IsWithin}
 use Rattle.lrat_text.specs.Grammar.{LineSpells}
-use Rattle.lrat_text.specs.Log.{Cube, after_step}
+use Rattle.lrat_text.specs.Log.{Cube}
+use Rattle.lrat_text.specs.Runs.{after_steps}
 use Rattle.lrat_text.specs.declared.step.Step.{Step}
 use Rattle.watches.specs.Law.{AllCalm, IsConflict}
 use Rattle.watches.specs.Trails.{holds, up_to, present}
@@ -33,11 +34,6 @@ pub record IsOpenConflict (live : Live) (vars : ℕ) (q : Cube) : Type 0 where
   pub outside : ¬ (Contains q decision)
   pub number : ℕ
   pub conflict : IsConflict live trail number
-
--- the live clauses after steps
-abbrev pub after_steps : ClauseMap → List Step → ClauseMap
-after_steps M [] = M
-after_steps M (step ∷ steps) = after_steps (after_step M step) steps
 
 -- the text spells steps over the base, and the clauses that are live after them meet such a conflict
 pub record MeetsConflict (B : Cnf) (q : Cube) (text : List ℕ) : Type 0 where

@@ -1,10 +1,11 @@
 pub mod Conflicts
-pub mod Ends
 pub mod Forgetting
 pub mod Learning
 pub mod Levels
 pub mod Marks
 pub mod Order
 pub mod Outcome
+pub mod Pace
 pub mod State
+pub mod Steady
 pub mod Steps

@@ -1,19 +1,18 @@
 //! Propagation and decisions, down to a conflict or a model.
 
-ghost use Rattle.std.specs.Prelude.{◌≡◌, ℕ, ◌+◌, ◌<◌, ◌≤◌, ◌∷◌, [], ◌++◌, length, All, IfSome, IfNone};
+ghost use Rattle.std.specs.Prelude.{◌≡◌, ◌+◌, ◌<◌, ◌≤◌, ◌∷◌, [], ◌++◌, length, All, IfSome, IfNone};
 ghost use Rattle.clause_arena.specs.Clauses.{live_of};
 ghost use Rattle.conflict_analysis.specs.Built.{IsDecided};
-ghost use Rattle.decide_heap.specs.Decisions.{Decisions};
 ghost use Rattle.dimacs.specs.logic.Literal.{IsWithin};
 ghost use Rattle.lrat_text.specs.Log.{Cube};
 ghost use Rattle.watches.specs.Law.{AreSame, IsConflict, IsQuiet};
 ghost use Rattle.watches.specs.declared.trail.Assigned.{Assigned};
-ghost use Rattle.cube_solve.specs.Order.{IsOrder};
 ghost use Rattle.cube_solve.specs.State.{IsState, IsAssuming};
+ghost use Rattle.cube_solve.specs.Steady.{IsSteady};
 ghost use Rattle.cube_solve.specs.Steps.{IsFound, IsFree};
 
-use crate::order::Order;
-use crate::picking::{Next, pick};
+use crate::decision::{Next, pick};
+use crate::state::State;
 use clause_arena::Arena;
 use dimacs::Lit;
 use watches::{Assigned, Propagator, Trail};
@@ -26,24 +25,6 @@ pub(crate) enum Found {
     Clause(u64),
     /// This literal of the cube is false.
     Assumption(Lit),
-}
-
-/// Propagates until the clause of the number is false, or nothing more follows.
-fn settle<P: Propagator>(propagator: &mut P, arena: &mut Arena, trail: &mut Trail) -> Option<u64>
-    requires ready { P.is_ready propagator.old arena.old trail.old }
-    requires state { IsState (P.attached propagator.old) arena.old trail.old }
-    ensures ready { P.is_ready propagator.new arena.new trail.new }
-    ensures state { IsState (P.attached propagator.new) arena.new trail.new }
-    ensures attached { P.attached propagator.new ≡ P.attached propagator.old }
-    ensures clauses { AreSame arena.old arena.new }
-    ensures vars { trail.new.vars ≡ trail.old.vars }
-    ensures longer { length trail.old.entries ≤ length trail.new.entries }
-    ensures order { (d : Decisions) → IsOrder trail.old d → IsOrder trail.new d }
-    ensures assuming { (q : Cube) (assumed : ℕ) → IsAssuming q trail.old.entries assumed → IsAssuming q trail.new.entries assumed }
-    ensures conflict { IfSome result (IsConflict (live_of arena.new) trail.new.entries) }
-    ensures quiet { IfNone result (IsQuiet (live_of arena.new) trail.new.entries) }
-{
-    propagator.propagate(arena, trail)
 }
 
 /// Opens a level with a literal, where nothing is left to propagate.
@@ -71,47 +52,51 @@ fn open_level<P: Propagator>(propagator: &P, arena: &Arena, trail: &mut Trail, l
     });
 }
 
-/// Propagates and decides until a clause or an assumption is false, or each variable has a value.
-pub(crate) fn descend<P: Propagator>(
-    propagator: &mut P,
-    arena: &mut Arena,
-    trail: &mut Trail,
-    order: &mut Order,
-    cube: &[Lit],
-    assumed: &mut u32,
-) -> Found
-    requires ready { P.is_ready propagator.old arena.old trail.old }
-    requires state { IsState (P.attached propagator.old) arena.old trail.old }
-    requires order { IsOrder trail.old order.old }
-    requires assumed { IsAssuming cube.now trail.old.entries assumed.old }
-    requires limit { trail.old.vars ≤ 2000000 }
-    requires cube { All (IsWithin trail.old.vars) cube.now }
-    ensures ready { P.is_ready propagator.new arena.new trail.new }
-    ensures state { IsState (P.attached propagator.new) arena.new trail.new }
-    ensures order { IsOrder trail.new order.new }
-    ensures assumed { IsAssuming cube.now trail.new.entries assumed.new }
-    ensures attached { P.attached propagator.new ≡ P.attached propagator.old }
-    ensures clauses { AreSame arena.old arena.new }
-    ensures vars { trail.new.vars ≡ trail.old.vars }
-    ensures found { IsFound arena.new trail.new cube.now result }
-{
-    'descending: loop {
-        match settle(propagator, arena, trail) {
-            Some(number) => return Found::Clause(number),
-            None => {}
-        }
-        let level = trail.level();
-        match pick(trail, cube, *assumed, order) {
-            Next::Assume(literal) => {
-                open_level(propagator, arena, trail, literal);
-                *assumed = (*assumed).max(trail.level());
+impl<P: Propagator> State<'_, P> {
+    /// Propagates until the clause of the number is false, or nothing more follows.
+    fn settle(&mut self) -> Option<u64>
+        requires { IsSteady P.is_ready P.attached self.old }
+        ensures steady { IsSteady P.is_ready P.attached self.new }
+        ensures clauses { AreSame self.old.arena self.new.arena }
+        ensures vars { self.new.trail.vars ≡ self.old.trail.vars }
+        ensures longer { length self.old.trail.entries ≤ length self.new.trail.entries }
+        ensures assuming { (q : Cube) → IsAssuming q self.old.trail.entries self.old.assumed → IsAssuming q self.new.trail.entries self.new.assumed }
+        ensures conflict { IfSome result (IsConflict (live_of self.new.arena) self.new.trail.entries) }
+        ensures quiet { IfNone result (IsQuiet (live_of self.new.arena) self.new.trail.entries) }
+    {
+        self.propagator.propagate(&mut self.arena, &mut self.trail)
+    }
+
+    /// Propagates and decides until a clause or an assumption is false, or each variable has a value.
+    pub(crate) fn descend(&mut self, cube: &[Lit]) -> Found
+        requires steady { IsSteady P.is_ready P.attached self.old }
+        requires assuming { IsAssuming cube.now self.old.trail.entries self.old.assumed }
+        requires limit { self.old.trail.vars ≤ 2000000 }
+        requires cube { All (IsWithin self.old.trail.vars) cube.now }
+        ensures steady { IsSteady P.is_ready P.attached self.new }
+        ensures assuming { IsAssuming cube.now self.new.trail.entries self.new.assumed }
+        ensures clauses { AreSame self.old.arena self.new.arena }
+        ensures vars { self.new.trail.vars ≡ self.old.trail.vars }
+        ensures found { IsFound self.new.arena self.new.trail cube.now result }
+    {
+        'descending: loop {
+            match self.settle() {
+                Some(number) => return Found::Clause(number),
+                None => {}
             }
-            Next::Decide(literal) => {
-                *assumed = level.min(*assumed);
-                open_level(propagator, arena, trail, literal);
+            let level = self.trail.level();
+            match pick(&self.trail, cube, self.assumed, &mut self.order) {
+                Next::Assume(literal) => {
+                    open_level(self.propagator, &self.arena, &mut self.trail, literal);
+                    self.assumed = self.assumed.max(self.trail.level());
+                }
+                Next::Decide(literal) => {
+                    self.assumed = level.min(self.assumed);
+                    open_level(self.propagator, &self.arena, &mut self.trail, literal);
+                }
+                Next::Fails(literal) => return Found::Assumption(literal),
+                Next::Done => return Found::Model,
             }
-            Next::Fails(literal) => return Found::Assumption(literal),
-            Next::Done => return Found::Model,
         }
     }
 }

@@ -6,20 +6,18 @@
 //! [`solve`], each by its clause. It ends for every limit.
 #![tactic(auto)]
 
+mod decision;
 mod descent;
 mod forgetting;
 mod loading;
+mod log;
+mod model;
 mod order;
 mod outcome;
 mod pace;
-mod picking;
-mod reading;
 mod search;
 mod solving;
-mod writing;
+mod state;
 
 pub use outcome::Outcome;
 pub use solving::{solve, solve_by};
-
-#[cfg(test)]
-mod tests;

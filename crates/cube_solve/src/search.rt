@@ -1,130 +1,58 @@
 //! The loop of the search: descend to a conflict, learn a lemma from it, and descend again.
 
-ghost use Rattle.std.specs.Prelude.{◌≡◌, ℕ, ◌+◌, ◌<◌, ◌≤◌, ◌^◌, List, [], ◌++◌, length, map, nat_eq, All, IfOk, OnOk};
+ghost use Rattle.std.specs.Prelude.{◌≡◌, ℕ, ◌+◌, ◌<◌, ◌≤◌, ◌^◌, [], ◌∷◌, ◌++◌, map, nat_eq, All, IfOk, OnOk};
 ghost use Rattle.std.specs.List.{IsDistinct};
-ghost use Rattle.dimacs.specs.logic.ClauseMap.{map_of, live_in};
-ghost use Rattle.dimacs.specs.logic.Cnf.{Cnf};
 ghost use Rattle.dimacs.specs.logic.Literal.{Clause, IsWithin, var_of};
-ghost use Rattle.clause_arena.specs.Clauses.{Clauses, live_of};
+ghost use Rattle.clause_arena.specs.Clauses.{live_of};
 ghost use Rattle.lrat_text.specs.Grammar.{IsClauseNumber};
 ghost use Rattle.lrat_text.specs.Log.{Cube};
 ghost use Rattle.watches.specs.Law.{IsConflict};
 ghost use Rattle.watches.specs.Trails.{present};
-ghost use Rattle.watches.specs.declared.trail.Assigned.{Assigned};
-ghost use Rattle.conflict_analysis.specs.Built.{AreBuilt, AreInside};
 ghost use Rattle.conflict_analysis.specs.Lemmas.{IsClosing, NegatesAssumptions};
-ghost use Rattle.cube_solve.specs.Ends.{IsEnd};
 ghost use Rattle.cube_solve.specs.Forgetting.{AreRising, AreLemmas, IsKept};
-ghost use Rattle.cube_solve.specs.Learning.{AreBelow, IsWritten, Learns, IsSearch};
-ghost use Rattle.cube_solve.specs.Levels.{AreLinked};
-ghost use Rattle.cube_solve.specs.Order.{IsOrder, AreWaiting};
-ghost use Rattle.cube_solve.specs.State.{IsState, IsAssuming};
+ghost use Rattle.cube_solve.specs.Learning.{AreBelow, IsWritten, Learns};
+ghost use Rattle.cube_solve.specs.Order.{AreWaiting};
+ghost use Rattle.cube_solve.specs.Outcome.{IsOutcome};
+ghost use Rattle.cube_solve.specs.State.{IsAssuming};
+ghost use Rattle.cube_solve.specs.Steady.{IsSteady, IsSearching};
 
-use crate::descent::{Found, descend};
-use crate::forgetting::forget;
+use crate::descent::Found;
+use crate::log::Log;
+use crate::model::read_model;
 use crate::order::Order;
+use crate::outcome::Outcome;
 use crate::pace::Pace;
-use crate::writing::Log;
-use clause_arena::Arena;
+use crate::state::State;
 use conflict_analysis::{Analyser, Closing, Lemma, close_cube};
 use dimacs::{Base, Lit};
 use std::alloc::{AllocError, Global};
-use watches::{Propagator, Trail, learn};
+use watches::{Propagator, learn};
 
-/// How a search ended, with the log of its lemmas.
-pub(crate) enum End {
-    /// The trail satisfies the base and the cube.
-    Model,
-    /// The log closes the cube.
-    Refuted(Vec<u8>),
-    /// The log has as many lemmas as the limit allows.
-    Limit(Vec<u8>),
+/// A search: what it works on, and what it has learnt.
+pub(crate) struct Search<'a, P> {
+    pub(crate) alloc: Global,
+    pub(crate) state: State<'a, P>,
+    /// The numbers of the live lemmas, rising.
+    pub(crate) lemmas: Vec<u64>,
+    pub(crate) log: Log,
+    analyser: Analyser,
+    /// The lemma of the last conflict, whose room the next one takes.
+    lemma: Lemma,
+    pace: Pace,
 }
 
-/// Writes the lemma that closes the cube.
-fn close(
-    alloc: Global,
-    arena: &Arena,
-    trail: &Trail,
-    closing: Closing,
-    id: u64,
-    log: &mut Log,
-) -> Result<(), AllocError>
-    requires built { AreBuilt (live_of arena.now) [] trail.now.entries }
-    requires inside { AreInside (live_of arena.now) trail.now.vars }
-    requires closing { IsClosing (live_of arena.now) trail.now.entries closing }
-    requires limit { trail.now.vars ≤ 2000000 }
-    requires id { IsClauseNumber id }
-    requires numbers { AreBelow id (live_of arena.now) }
-    ensures { OnOk result ((lits : Clause) × IsWritten (live_of arena.now) trail.now.vars id lits log.old log.new × NegatesAssumptions trail.now.entries closing lits) }
-{
-    let lemma = close_cube(alloc, arena, trail, closing)?;
-    log.write(id, &lemma)?;
-    Ok(())
-}
-
-/// Goes back to a level: the variables above it wait again.
-fn go_back<P: Propagator>(propagator: &mut P, trail: &mut Trail, order: &mut Order, level: u32)
-    requires order { IsOrder trail.old order.old }
-    ensures ready { (m : Clauses) → P.is_ready propagator.old m trail.old → P.is_ready propagator.new m trail.new }
-    ensures attached { P.attached propagator.new ≡ P.attached propagator.old }
-    ensures order { IsOrder trail.new order.new }
-    ensures vars { trail.new.vars ≡ trail.old.vars }
-    ensures front { (gone : List Assigned) × (trail.old.entries ≡ trail.new.entries ++ gone) × All (λ e. level < e.level) gone }
-    ensures kept { All (λ e. e.level ≤ level) trail.new.entries }
-{
-    order.put_back(trail, level);
-    propagator.undo(trail, level);
-}
-
-/// Learns the lemma of a conflict, in the room of another one: it is written, and joins the clauses behind a return to its level.
-fn learn_from<P: Propagator>(
-    propagator: &mut P,
-    analyser: &mut Analyser,
-    lemma: &mut Lemma,
-    arena: &mut Arena,
-    trail: &mut Trail,
-    order: &mut Order,
-    conflict: u64,
-    id: u64,
-    log: &mut Log,
-) -> Result<(), AllocError>
-    requires ready { P.is_ready propagator.old arena.old trail.old }
-    requires state { IsState (P.attached propagator.old) arena.old trail.old }
-    requires order { IsOrder trail.old order.old }
-    requires conflict { IsConflict (live_of arena.old) trail.old.entries conflict }
-    requires above { 0 < present trail.old.entries }
-    requires limit { trail.old.vars ≤ 2000000 }
-    requires id { IsClauseNumber id }
-    requires numbers { AreBelow id (live_of arena.old) }
-    ensures ready { OnOk result (P.is_ready propagator.new arena.new trail.new) }
-    ensures state { OnOk result (IsState (P.attached propagator.new) arena.new trail.new) }
-    ensures order { OnOk result (IsOrder trail.new order.new) }
-    ensures learns { OnOk result (Learns trail.old.vars id (live_of arena.old) (live_of arena.new) log.old log.new) }
-    ensures vars { OnOk result (trail.new.vars ≡ trail.old.vars) }
-    ensures assuming { OnOk result ((q : Cube) (assumed : ℕ) → IsAssuming q trail.old.entries assumed → IsAssuming q trail.new.entries assumed) }
-{
-    analyser.analyse_into(arena, trail, conflict, lemma)?;
-    log.write(id, lemma)?;
-    order.bump(analyser.met());
-    go_back(propagator, trail, order, lemma.level);
-    learn(propagator, arena, trail, id, &lemma.lits)?;
-    Ok(())
-}
-
-/// Goes back to the literals that no decision led to.
-fn restart<P: Propagator>(propagator: &mut P, arena: &Arena, trail: &mut Trail, order: &mut Order)
-    requires ready { P.is_ready propagator.old arena.now trail.old }
-    requires state { IsState (P.attached propagator.old) arena.now trail.old }
-    requires order { IsOrder trail.old order.old }
-    ensures ready { P.is_ready propagator.new arena.now trail.new }
-    ensures state { IsState (P.attached propagator.new) arena.now trail.new }
-    ensures order { IsOrder trail.new order.new }
-    ensures vars { trail.new.vars ≡ trail.old.vars }
-    ensures assuming { (q : Cube) (assumed : ℕ) → IsAssuming q trail.old.entries assumed → IsAssuming q trail.new.entries assumed }
-{
-    let _ = arena;
-    go_back(propagator, trail, order, 0);
+impl<P> Drop for Search<'_, P> {
+    fn drop(self) {
+        let Search {
+            alloc: _,
+            state: _,
+            lemmas: _,
+            log: _,
+            analyser: _,
+            lemma: _,
+            pace: _,
+        } = self;
+    }
 }
 
 /// Halves the scores when it is time.
@@ -136,151 +64,170 @@ fn halve_in_time(pace: &Pace, order: &mut Order)
     }
 }
 
-/// Counts a conflict; halves the scores, restarts and forgets lemmas when it is time.
-fn keep_pace<P: Propagator>(
-    alloc: Global,
-    propagator: &mut P,
-    arena: &mut Arena,
-    trail: &mut Trail,
-    order: &mut Order,
-    pace: &mut Pace,
-    lemmas: &mut Vec<u64>,
-    top: u64,
-    log: &mut Log,
-) -> Result<(), AllocError>
-    requires ready { P.is_ready propagator.old arena.old trail.old }
-    requires state { IsState (P.attached propagator.old) arena.old trail.old }
-    requires order { IsOrder trail.old order.old }
-    requires rising { AreRising lemmas.old.items }
-    requires top { IsClauseNumber top }
-    requires numbers { AreBelow (top + 1) (live_of arena.old) }
-    ensures ready { OnOk result (P.is_ready propagator.new arena.new trail.new) }
-    ensures state { OnOk result (IsState (P.attached propagator.new) arena.new trail.new) }
-    ensures order { OnOk result (IsOrder trail.new order.new) }
-    ensures vars { OnOk result (trail.new.vars ≡ trail.old.vars) }
-    ensures assuming { OnOk result ((q : Cube) (assumed : ℕ) → IsAssuming q trail.old.entries assumed → IsAssuming q trail.new.entries assumed) }
-    ensures lemmas { OnOk result ((first : ℕ) → AreLemmas first (live_of arena.old) lemmas.old.items → AreLemmas first (live_of arena.new) lemmas.new.items) }
-    ensures kept { OnOk result ((first : ℕ) → AreLemmas first (live_of arena.old) lemmas.old.items → IsKept first (live_of arena.old) (live_of arena.new) log.old log.new) }
-{
-    pace.count();
-    halve_in_time(pace, order);
-    if !pace.restarts() {
-        return Ok(());
+impl<'a, P: Propagator> Search<'a, P> {
+    /// A search over a base, before its first step.
+    pub(crate) fn new(
+        alloc: Global,
+        propagator: &'a mut P,
+        base: &Base,
+    ) -> Result<Search<'a, P>, AllocError>
+        requires { P.attached propagator.old ≡ [] }
+        ensures searching { IfOk result (IsSearching P.is_ready P.attached base.now 0) }
+        ensures assuming { IfOk result (λ s. (q : Cube) → IsAssuming q s.state.trail.entries s.state.assumed) }
+    {
+        let state = State::new(alloc, propagator, base)?;
+        Ok(Search {
+            alloc,
+            state,
+            lemmas: Vec::new(alloc),
+            log: Log::new(alloc),
+            analyser: Analyser::new(alloc),
+            lemma: Lemma::new(alloc),
+            pace: Pace::new(),
+        })
     }
-    restart(propagator, arena, trail, order);
-    if lemmas.len() <= 2000 {
-        return Ok(());
+
+    /// The log as text.
+    fn into_text(self) -> Vec<u8>
+        ensures { result.items ≡ self.entry.log }
+    {
+        let Search {
+            alloc: _,
+            state: _,
+            lemmas: _,
+            log,
+            analyser: _,
+            lemma: _,
+            pace: _,
+        } = self;
+        log.into_text()
     }
-    forget(alloc, propagator, arena, trail, lemmas, top, log)
-}
 
-/// Learns the lemma of a conflict, whose number is behind those of the base, and keeps pace.
-fn turn<P: Propagator>(
-    alloc: Global,
-    propagator: &mut P,
-    analyser: &mut Analyser,
-    lemma: &mut Lemma,
-    arena: &mut Arena,
-    trail: &mut Trail,
-    order: &mut Order,
-    pace: &mut Pace,
-    lemmas: &mut Vec<u64>,
-    conflict: u64,
-    first: u64,
-    id: u64,
-    log: &mut Log,
-) -> Result<(), AllocError>
-    requires ready { P.is_ready propagator.old arena.old trail.old }
-    requires state { IsState (P.attached propagator.old) arena.old trail.old }
-    requires order { IsOrder trail.old order.old }
-    requires conflict { IsConflict (live_of arena.old) trail.old.entries conflict }
-    requires above { 0 < present trail.old.entries }
-    requires limit { trail.old.vars ≤ 2000000 }
-    requires id { IsClauseNumber id }
-    requires behind { first ≤ id }
-    requires numbers { AreBelow id (live_of arena.old) }
-    requires lemmas { AreLemmas first (live_of arena.old) lemmas.old.items }
-    ensures ready { OnOk result (P.is_ready propagator.new arena.new trail.new) }
-    ensures state { OnOk result (IsState (P.attached propagator.new) arena.new trail.new) }
-    ensures order { OnOk result (IsOrder trail.new order.new) }
-    ensures lemmas { OnOk result (AreLemmas first (live_of arena.new) lemmas.new.items) }
-    ensures search { OnOk result ((B : Cnf) (q : Cube) (n assumed : ℕ) → length B.clauses + 1 ≡ first → first + n ≡ id → IsSearch B q n arena.old trail.old assumed log.old → IsSearch B q (n + 1) arena.new trail.new assumed log.new) }
-{
-    learn_from(
-        propagator, analyser, lemma, arena, trail, order, conflict, id, log,
-    )?;
-    lemmas.push(id)?;
-    keep_pace(
-        alloc, propagator, arena, trail, order, pace, lemmas, id, log,
-    )?;
-    Ok(())
-}
+    /// The log, ended by the lemma that closes the cube.
+    fn close(mut self, closing: Closing, id: u64) -> Result<Vec<u8>, AllocError>
+        requires steady { IsSteady P.is_ready P.attached self.state }
+        requires closing { IsClosing (live_of self.state.arena) self.state.trail.entries closing }
+        requires limit { self.state.trail.vars ≤ 2000000 }
+        requires id { IsClauseNumber id }
+        requires numbers { AreBelow id (live_of self.state.arena) }
+        ensures { IfOk result (λ text. (lits : Clause) × IsWritten (live_of self.entry.state.arena) self.entry.state.trail.vars id lits self.entry.log text.items × NegatesAssumptions self.entry.state.trail.entries closing lits) }
+    {
+        let lemma = close_cube(self.alloc, &self.state.arena, &self.state.trail, closing)?;
+        self.log.write(id, &lemma)?;
+        Ok(self.into_text())
+    }
 
-/// Searches for an assignment under the cube, with at most `limit` lemmas.
-pub(crate) fn run<P: Propagator>(
-    alloc: Global,
-    propagator: &mut P,
-    arena: &mut Arena,
-    trail: &mut Trail,
-    order: &mut Order,
-    base: &Base,
-    cube: &[Lit],
-    limit: u64,
-) -> Result<End, AllocError>
-    requires ready { P.is_ready propagator.old arena.old trail.old }
-    requires state { IsState (P.attached propagator.old) arena.old trail.old }
-    requires order { IsOrder trail.old order.old }
-    requires empty { trail.old.entries ≡ [] }
-    requires vars { trail.old.vars ≡ base.now.vars }
-    requires linked { AreLinked (live_in (map_of base.now)) (live_of arena.old) }
-    requires distinct { IsDistinct nat_eq (map var_of cube.now) }
-    requires within { All (IsWithin base.now.vars) cube.now }
-    requires limit { limit ≤ 2 ^ 47 }
-    ensures { IfOk result (IsEnd base.now cube.now limit trail.new) }
-{
-    let mut analyser = Analyser::new(alloc);
-    let mut lemma = Lemma::new(alloc);
-    let mut log = Log::new(alloc);
-    let mut lemmas = Vec::new(alloc);
-    let mut pace = Pace::new();
-    let _vars = base.vars(); // with it comes the bound of the number of clauses
-    let first = base.len() as u64 + 1;
-    let mut assumed = 0;
-    let mut learnt = 0;
-    'turns: loop {
-        match descend(propagator, arena, trail, order, cube, &mut assumed) {
-            Found::Model => return Ok(End::Model),
-            Found::Assumption(literal) => {
-                let closing = Closing::Assumption(literal);
-                close(alloc, arena, trail, closing, first + learnt, &mut log)?;
-                return Ok(End::Refuted(log.into_text()));
-            }
-            Found::Clause(number) => {
-                if trail.level() <= assumed {
-                    let closing = Closing::Clause(number);
-                    close(alloc, arena, trail, closing, first + learnt, &mut log)?;
-                    return Ok(End::Refuted(log.into_text()));
+    /// Learns the lemma of a conflict: it is written, and joins the clauses behind a return to its level.
+    fn learn_from(&mut self, conflict: u64, id: u64) -> Result<(), AllocError>
+        requires steady { IsSteady P.is_ready P.attached self.old.state }
+        requires conflict { IsConflict (live_of self.old.state.arena) self.old.state.trail.entries conflict }
+        requires above { 0 < present self.old.state.trail.entries }
+        requires limit { self.old.state.trail.vars ≤ 2000000 }
+        requires id { IsClauseNumber id }
+        requires numbers { AreBelow id (live_of self.old.state.arena) }
+        ensures steady { OnOk result (IsSteady P.is_ready P.attached self.new.state) }
+        ensures learns { OnOk result (Learns self.old.state.trail.vars id (live_of self.old.state.arena) (live_of self.new.state.arena) self.old.log self.new.log) }
+        ensures lemmas { OnOk result (self.new.lemmas.items ≡ self.old.lemmas.items ++ id ∷ []) }
+        ensures vars { OnOk result (self.new.state.trail.vars ≡ self.old.state.trail.vars) }
+        ensures assuming { OnOk result ((q : Cube) → IsAssuming q self.old.state.trail.entries self.old.state.assumed → IsAssuming q self.new.state.trail.entries self.new.state.assumed) }
+    {
+        let state = &mut self.state;
+        self.analyser
+            .analyse_into(&state.arena, &state.trail, conflict, &mut self.lemma)?;
+        self.log.write(id, &self.lemma)?;
+        state.order.bump(self.analyser.met());
+        state.go_back(self.lemma.level);
+        learn(
+            state.propagator,
+            &mut state.arena,
+            &state.trail,
+            id,
+            &self.lemma.lits,
+        )?;
+        self.lemmas.push(id)?;
+        Ok(())
+    }
+
+    /// Counts a conflict; halves the scores, restarts and forgets lemmas when it is time.
+    fn keep_pace(&mut self, top: u64) -> Result<(), AllocError>
+        requires steady { IsSteady P.is_ready P.attached self.old.state }
+        requires rising { AreRising self.old.lemmas.items }
+        requires top { IsClauseNumber top }
+        requires numbers { AreBelow (top + 1) (live_of self.old.state.arena) }
+        ensures steady { OnOk result (IsSteady P.is_ready P.attached self.new.state) }
+        ensures vars { OnOk result (self.new.state.trail.vars ≡ self.old.state.trail.vars) }
+        ensures assuming { OnOk result ((q : Cube) → IsAssuming q self.old.state.trail.entries self.old.state.assumed → IsAssuming q self.new.state.trail.entries self.new.state.assumed) }
+        ensures lemmas { OnOk result ((first : ℕ) → AreLemmas first (live_of self.old.state.arena) self.old.lemmas.items → AreLemmas first (live_of self.new.state.arena) self.new.lemmas.items) }
+        ensures kept { OnOk result ((first : ℕ) → AreLemmas first (live_of self.old.state.arena) self.old.lemmas.items → IsKept first (live_of self.old.state.arena) (live_of self.new.state.arena) self.old.log self.new.log) }
+    {
+        self.pace.count();
+        halve_in_time(&self.pace, &mut self.state.order);
+        if !self.pace.restarts() {
+            return Ok(());
+        }
+        self.state.go_back(0);
+        if self.lemmas.len() <= 2000 {
+            return Ok(());
+        }
+        self.forget(top)?;
+        Ok(())
+    }
+
+    /// Learns the lemma of a conflict after others, and keeps pace.
+    fn turn(&mut self, base: &Base, conflict: u64, learnt: u64) -> Result<(), AllocError>
+        requires searching { IsSearching P.is_ready P.attached base.now learnt self.old }
+        requires conflict { IsConflict (live_of self.old.state.arena) self.old.state.trail.entries conflict }
+        requires above { 0 < present self.old.state.trail.entries }
+        requires limit { learnt < 2 ^ 47 }
+        ensures searching { OnOk result (IsSearching P.is_ready P.attached base.now (learnt + 1) self.new) }
+        ensures assuming { OnOk result ((q : Cube) → IsAssuming q self.old.state.trail.entries self.old.state.assumed → IsAssuming q self.new.state.trail.entries self.new.state.assumed) }
+    {
+        let _vars = base.vars(); // with it comes the bound of the number of clauses
+        let id = base.len() as u64 + 1 + learnt;
+        self.learn_from(conflict, id)?;
+        self.keep_pace(id)?;
+        Ok(())
+    }
+
+    /// Searches for an assignment under the cube, with at most `limit` lemmas.
+    pub(crate) fn run(
+        mut self,
+        base: &Base,
+        cube: &[Lit],
+        limit: u64,
+    ) -> Result<Outcome, AllocError>
+        requires searching { IsSearching P.is_ready P.attached base.now 0 self }
+        requires assuming { IsAssuming cube.now self.state.trail.entries self.state.assumed }
+        requires distinct { IsDistinct nat_eq (map var_of cube.now) }
+        requires within { All (IsWithin base.now.vars) cube.now }
+        ensures { IfOk result (IsOutcome base.now cube.now limit) }
+    {
+        let _vars = base.vars(); // with it comes the bound of the number of clauses
+        let most = limit.min(1 << 47);
+        let mut learnt = 0;
+        'turns: loop {
+            let id = base.len() as u64 + 1 + learnt;
+            match self.state.descend(cube) {
+                Found::Model => {
+                    let values = read_model(self.alloc, &self.state.trail)?;
+                    return Ok(Outcome::Model(values));
                 }
-                if learnt == limit {
-                    let _entries = trail.entries(); // of the base's variables, no two of one
-                    return Ok(End::Limit(log.into_text()));
+                Found::Assumption(literal) => {
+                    let text = self.close(Closing::Assumption(literal), id)?;
+                    return Ok(Outcome::Refuted(text));
                 }
-                turn(
-                    alloc,
-                    propagator,
-                    &mut analyser,
-                    &mut lemma,
-                    arena,
-                    trail,
-                    order,
-                    &mut pace,
-                    &mut lemmas,
-                    number,
-                    first,
-                    first + learnt,
-                    &mut log,
-                )?;
-                learnt += 1;
+                Found::Clause(number) => {
+                    if self.state.trail.level() <= self.state.assumed {
+                        let text = self.close(Closing::Clause(number), id)?;
+                        return Ok(Outcome::Refuted(text));
+                    }
+                    if learnt == most {
+                        let _entries = self.state.trail.entries(); // of the base's variables, no two of one
+                        return Ok(Outcome::Limit(self.into_text()));
+                    }
+                    self.turn(base, number, learnt)?;
+                    learnt += 1;
+                }
             }
         }
     }

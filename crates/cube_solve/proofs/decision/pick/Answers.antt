@@ -1,0 +1,11 @@
+use Rattle.std.proofs.Common.{arith}
+use Rattle.cube_solve.proofs.AssumingLemmas.{assuming_all, all_hold}
+use Rattle.cube_solve.proofs.decision.pick.Goals as goal
+
+pub returns-then-level-assumed-clause-next : goal.returns-then-level-assumed-clause-next
+returns-then-level-assumed-clause-next c =
+    c.decide.ensures.next c.args.cube.now (assuming_all c.args.cube.now c.args.trail.now.entries c.args.assumed c.requires.assumed (omega arith))
+
+pub returns-clause-next : goal.returns-clause-next
+returns-clause-next c =
+    c.decide-2.ensures.next c.args.cube.now (all_hold c.args.trail.now.entries c.args.cube.now c.loop-literal.literal-index c.loop-literal-test.false c.loop-literal.invariant)

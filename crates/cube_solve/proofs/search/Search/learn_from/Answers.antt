@@ -1,0 +1,91 @@
+use Rattle.std.proofs.Common.{◌≡◌, ℕ, ◌-◌, List, [], ◌∷◌, ◌++◌, None, ◌∙◌, ap, subst, arith}
+use Rattle.std.specs.List.{Contains}
+use Rattle.std.specs.FinMap.{get, insert}
+use Rattle.dimacs.specs.logic.Literal.{Clause}
+use Rattle.clause_arena.specs.Clauses.{Clauses, live_of}
+use Rattle.watches.specs.Law.{AreSame}
+use Rattle.watches.specs.Trails.{present}
+use Rattle.cube_solve.specs.Learning.{AreBelow}
+use Rattle.cube_solve.specs.Levels.{IsAdded}
+use Rattle.cube_solve.proofs.BuiltLemmas.{sound}
+use Rattle.cube_solve.proofs.ClauseLemmas.{is_added}
+use Rattle.cube_solve.proofs.LevelLemmas.{is_fresh}
+use Rattle.cube_solve.proofs.LogLemmas.{lemma_limits}
+use Rattle.cube_solve.proofs.MapLemmas.{not_live}
+use Rattle.cube_solve.proofs.OrderLemmas.{order_same}
+use Rattle.cube_solve.proofs.StateLemmas.{state_learned}
+use Rattle.cube_solve.proofs.search.Search.learn_from.Goals as goal
+
+-- nothing is live under a number that is to come
+to_come : (m b : Clauses) (id : ℕ) → b ≡ m → AreBelow id (live_of m) → get b id ≡ None
+to_come m b id e below = ap (λ (x : Clauses). get x id) e ∙ not_live m id (λ D h. let b = below id D h in let up = b.1 in omega arith)
+
+-- the clause that joined is the lemma; going back left the clauses as they were
+joined : (m b k : Clauses) (id : ℕ) (lits given : Clause) → AreBelow id (live_of m) → b ≡ m → given ≡ lits → (place : ℕ) × AreSame (insert b id (place, given)) k → IsAdded (live_of m) id lits (live_of k)
+joined m b k id lits given below e f s =
+    is_added m k id s.0 lits (not_live m id (λ D h. let b = below id D h in let up = b.1 in omega arith))
+    (subst (λ (C : Clause). AreSame (insert m id (s.0, C)) k) f (subst (λ (x : Clauses). AreSame (insert x id (s.0, given)) k) e s.1))
+
+pub analyse_into-requires-clause-here : goal.analyse_into-requires-clause-here
+analyse_into-requires-clause-here g c = λ C h f. (((c.requires.steady).state).quiet (present c.args.self.now.state.trail.entries - 1) (let a = c.requires.above in omega arith) c.args.conflict C h).0 f
+
+pub write-requires : goal.write-requires
+write-requires g c =
+    lemma_limits (live_of c.args.self.now.state.arena) c.args.self.now.state.trail.vars c.args.id c.analyse_into.new.lemma.lits.items c.analyse_into.new.lemma.hints.items
+    c.requires.id c.requires.numbers c.requires.limit c.in_ok-analyse_into.ensures.within c.in_ok-analyse_into.ensures.rup
+
+pub bump-requires : goal.bump-requires
+bump-requires g c = rw (c.met.ensures, ((c.requires.steady).order).vars) (c.in_ok-analyse_into.ensures.met).within
+
+pub go_back-requires : goal.go_back-requires
+go_back-requires g c = record {
+  ready = (c.requires.steady).ready;
+  state = (c.requires.steady).state;
+  order = order_same c.args.self.now.state.trail c.args.self.now.state.order c.bump.new.self c.bump.ensures (c.requires.steady).order;
+}
+
+pub learn-requires-clause-fresh : goal.learn-requires-clause-fresh
+learn-requires-clause-fresh g c = to_come c.args.self.now.state.arena c.go_back.new.self.arena c.args.id c.go_back.ensures.arena c.requires.numbers
+
+pub learn-requires-clause-apart : goal.learn-requires-clause-apart
+learn-requires-clause-apart g c = λ i.
+    let d = ((c.requires.steady).state).all_live c.args.id (subst (λ (xs : List ℕ). Contains xs c.args.id) c.go_back.ensures.attached i) in
+    let b = c.requires.numbers c.args.id d.0 d.1 in
+    let up = b.1 in
+    omega arith
+
+pub returns-clause-steady : goal.returns-clause-steady
+returns-clause-steady g c =
+    let s = c.args.self.now.state in
+    let b = c.go_back in
+    let e = c.in_ok-analyse_into.ensures in
+    let lits = c.analyse_into.new.lemma.lits.items in
+    record {
+      ready = c.in_ok-learn.ensures.ready;
+      state = state_learned s.arena c.learn.new.arena c.args.id lits
+          (joined s.arena b.new.self.arena c.learn.new.arena c.args.id lits c.deref.result.now c.requires.numbers b.ensures.arena c.deref.ensures.value c.in_ok-learn.ensures.clauses)
+          _ _ s.trail b.new.self.trail c.analyse_into.new.lemma.level (c.in_ok-learn.ensures.ok ∙ ap (λ (xs : List ℕ). xs ++ c.args.id ∷ []) b.ensures.attached)
+          (c.requires.steady).state e.asserting e.within b.ensures.vars b.ensures.front b.ensures.kept;
+      order = (b.ensures.steady).order;
+    }
+
+pub returns-clause-learns : goal.returns-clause-learns
+returns-clause-learns g c =
+    let m = c.args.self.now.state.arena in
+    let es = c.args.self.now.state.trail.entries in
+    let lits = c.analyse_into.new.lemma.lits.items in
+    let hints = c.analyse_into.new.lemma.hints.items in
+    let e = c.in_ok-analyse_into.ensures in
+    let s = (c.requires.steady).state in
+    record {
+      lits = lits;
+      written = record {
+        hints = hints;
+        rup = e.rup;
+        within = e.within;
+        limits = lemma_limits (live_of m) c.args.self.now.state.trail.vars c.args.id lits hints c.requires.id c.requires.numbers c.requires.limit e.within e.rup;
+        text = c.in_ok-write.ensures;
+      };
+      is_new = is_fresh (live_of m) es lits c.analyse_into.new.lemma.level (sound (live_of m) es s.built) s.quiet e.asserting;
+      added = joined m c.go_back.new.self.arena c.learn.new.arena c.args.id lits c.deref.result.now c.requires.numbers c.go_back.ensures.arena c.deref.ensures.value c.in_ok-learn.ensures.clauses;
+    }

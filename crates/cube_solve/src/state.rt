@@ -1,0 +1,82 @@
+//! What a search works on.
+
+ghost use Rattle.std.specs.Prelude.{◌≡◌, ◌<◌, ◌≤◌, List, [], ◌++◌, All, IfOk};
+ghost use Rattle.clause_arena.specs.Clauses.{live_of};
+ghost use Rattle.dimacs.specs.logic.ClauseMap.{map_of, live_in};
+ghost use Rattle.lrat_text.specs.Log.{Cube};
+ghost use Rattle.watches.specs.declared.trail.Assigned.{Assigned};
+ghost use Rattle.cube_solve.specs.Levels.{AreLinked};
+ghost use Rattle.cube_solve.specs.State.{IsAssuming};
+ghost use Rattle.cube_solve.specs.Steady.{IsSteady};
+
+use crate::loading::load;
+use crate::order::Order;
+use clause_arena::Arena;
+use dimacs::Base;
+use std::alloc::{AllocError, Global};
+use watches::{Propagator, Trail};
+
+/// The clauses, each attached to the propagator, the literals that are true, and the variables that wait to be decided.
+pub(crate) struct State<'a, P> {
+    pub(crate) propagator: &'a mut P,
+    pub(crate) arena: Arena,
+    pub(crate) trail: Trail,
+    pub(crate) order: Order,
+    /// How many levels, from the first on, are those of assumptions.
+    pub(crate) assumed: u32,
+}
+
+impl<P> Drop for State<'_, P> {
+    fn drop(self) {
+        let State {
+            propagator: _,
+            arena: _,
+            trail: _,
+            order: _,
+            assumed: _,
+        } = self;
+    }
+}
+
+impl<'a, P: Propagator> State<'a, P> {
+    /// The clauses of the base under their numbers, from 1, and no literal.
+    pub(crate) fn new(
+        alloc: Global,
+        propagator: &'a mut P,
+        base: &Base,
+    ) -> Result<State<'a, P>, AllocError>
+        requires { P.attached propagator.old ≡ [] }
+        ensures steady { IfOk result (IsSteady P.is_ready P.attached) }
+        ensures vars { IfOk result (λ s. s.trail.vars ≡ base.now.vars) }
+        ensures assuming { IfOk result (λ s. (q : Cube) → IsAssuming q s.trail.entries s.assumed) }
+        ensures linked { IfOk result (λ s. AreLinked (live_in (map_of base.now)) (live_of s.arena)) }
+    {
+        propagator.reserve(base.vars())?;
+        let mut arena = Arena::new(alloc);
+        let trail = Trail::new(alloc, base.vars())?;
+        let order = Order::new(alloc, base.vars())?;
+        load(alloc, base, propagator, &mut arena, &trail)?;
+        Ok(State {
+            propagator,
+            arena,
+            trail,
+            order,
+            assumed: 0,
+        })
+    }
+
+    /// Goes back to a level: the variables above it wait again.
+    pub(crate) fn go_back(&mut self, level: u32)
+        requires { IsSteady P.is_ready P.attached self.old }
+        ensures steady { IsSteady P.is_ready P.attached self.new }
+        ensures attached { P.attached self.new.propagator.now ≡ P.attached self.old.propagator.now }
+        ensures arena { self.new.arena ≡ self.old.arena }
+        ensures vars { self.new.trail.vars ≡ self.old.trail.vars }
+        ensures front { (gone : List Assigned) × (self.old.trail.entries ≡ self.new.trail.entries ++ gone) × All (λ e. level < e.level) gone }
+        ensures kept { All (λ e. e.level ≤ level) self.new.trail.entries }
+        ensures assuming { (q : Cube) → IsAssuming q self.old.trail.entries self.old.assumed → IsAssuming q self.new.trail.entries self.new.assumed }
+    {
+        self.order.put_back(&self.trail, level);
+        self.propagator.undo(&mut self.trail, level);
+    }
+}
