@@ -8,6 +8,8 @@ mod candidates;
 #[cfg(test)]
 mod checks;
 #[cfg(test)]
+mod conflicts;
+#[cfg(test)]
 mod cubes;
 #[cfg(test)]
 mod deciding;

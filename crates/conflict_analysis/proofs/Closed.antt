@@ -11,7 +11,7 @@ use Rattle.watches.specs.Trails.{holds, variables}
 use Rattle.watches.specs.declared.trail.Assigned.{Assigned}
 use Rattle.watches.proofs.TrailLemmas.{consistent}
 use Rattle.conflict_analysis.specs.Traces.{AreTraced, AreNegated, AreOutside, AreFalseOr, reason_of}
-use Rattle.conflict_analysis.specs.Walks.{IsSettled, number_of, resolved_of}
+use Rattle.conflict_analysis.specs.Walks.{IsSettled, reason_number, resolved_of}
 use Rattle.conflict_analysis.proofs.Entries.{holds_from_entry, one_entry}
 use Rattle.conflict_analysis.proofs.Concluding.{hints_agree, settled_front}
 use Rattle.conflict_analysis.proofs.Following.{either, walk_is_rup}
@@ -63,18 +63,18 @@ module _ (live : Live) (es : List Assigned) (apart : IsDistinct eqb (variables e
       clash true h n = false≢true n
       clash false h n = false≢true h
 
-  hint_is : (e : Assigned) → Contains es e → reason_of seen e ≡ cond (resolved e.literal) (Some (number_of e.reason)) None
+  hint_is : (e : Assigned) → Contains es e → reason_of seen e ≡ cond (resolved e.literal) (Some (reason_number e.reason)) None
   hint_is e c = go (seen (var_of e.literal)) refl
     where
-      go : (b : Bool) → seen (var_of e.literal) ≡ b → cond b e.reason None ≡ cond (resolved e.literal) (Some (number_of e.reason)) None
-      go false m = sym (ap (λ x. cond x (Some (number_of e.reason)) None) (and_right (holds es e.literal) _ (and_left (seen (var_of e.literal)) (not (negations lits e.literal)) m)))
+      go : (b : Bool) → seen (var_of e.literal) ≡ b → cond b e.reason None ≡ cond (resolved e.literal) (Some (reason_number e.reason)) None
+      go false m = sym (ap (λ x. cond x (Some (reason_number e.reason)) None) (and_right (holds es e.literal) _ (and_left (seen (var_of e.literal)) (not (negations lits e.literal)) m)))
       go true m = elim (cases_Bool (negations lits e.literal)) [
-        | inl k ↦ kept_decided e c k ∙ sym (ap (λ x. cond x (Some (number_of e.reason)) None) (and_right (holds es e.literal) _ (and_right (seen (var_of e.literal)) (not (negations lits e.literal)) (ap not k))))
+        | inl k ↦ kept_decided e c k ∙ sym (ap (λ x. cond x (Some (reason_number e.reason)) None) (and_right (holds es e.literal) _ (and_right (seen (var_of e.literal)) (not (negations lits e.literal)) (ap not k))))
         | inr n ↦
             let r : resolved e.literal ≡ true = and_from (holds es e.literal) _ (holds_from_entry es e c) (and_from (seen (var_of e.literal)) (not (negations lits e.literal)) m (ap not n)) in
             let s = settled_entry c.0 e c.1 (subst (λ (x : Assigned). resolved x.literal ≡ true) (sym c.2) r) in
             let q : e.reason ≡ Some s.number = subst (λ (x : Assigned). x.reason ≡ Some s.number) c.2 s.reason in
-            q ∙ ap Some (sym (ap number_of q)) ∙ sym (ap (λ x. cond x (Some (number_of e.reason)) None) r)
+            q ∙ ap Some (sym (ap reason_number q)) ∙ sym (ap (λ x. cond x (Some (reason_number e.reason)) None) r)
       ]
 
   pub closes : (C : Clause) (number : ℕ) → live number C → AreFalseOr es first C → ((k : Literal) → Contains C k → seen (var_of k) ≡ true)

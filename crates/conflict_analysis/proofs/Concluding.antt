@@ -14,8 +14,8 @@ use Rattle.watches.specs.Trails.{holds, up_to, present, variables}
 use Rattle.watches.specs.declared.trail.Assigned.{Assigned}
 use Rattle.watches.proofs.TrailLemmas.{consistent}
 use Rattle.watches.proofs.Present.{le_present}
-use Rattle.conflict_analysis.specs.Lemmas.{IsAsserting}
-use Rattle.conflict_analysis.specs.Walks.{waiting, is_present, is_lower, number_of, hints_of, resolved_of, HasLevel, IsSettled, IsWalk, AreWalked, IsLevelled}
+use Rattle.conflict_analysis.specs.Lemmas.{IsAsserting, AreInTrailOrder}
+use Rattle.conflict_analysis.specs.Walks.{waiting, is_present, is_lower, reason_number, hints_of, resolved_of, HasLevel, IsSettled, AreCounted, AreWalked, IsLevelled}
 use Rattle.conflict_analysis.proofs.Entries.{one_if, holds_from_entry, entry_from_holds, one_entry, waiting_some, waiting_cons}
 use Rattle.conflict_analysis.proofs.Following.{AreClosed, either, walk_is_rup}
 
@@ -25,24 +25,24 @@ hints_of-append test [] ys = refl
 hints_of-append test (x ∷ xs) ys = go (hints_of-append test xs ys) (test x.literal)
   where
     go : hints_of test (xs ++ ys) ≡ hints_of test xs ++ hints_of test ys → (b : Bool)
-        → cond b (number_of x.reason ∷ hints_of test (xs ++ ys)) (hints_of test (xs ++ ys)) ≡ cond b (number_of x.reason ∷ hints_of test xs) (hints_of test xs) ++ hints_of test ys
-    go h true = ap (λ ns. number_of x.reason ∷ ns) h
+        → cond b (reason_number x.reason ∷ hints_of test (xs ++ ys)) (hints_of test (xs ++ ys)) ≡ cond b (reason_number x.reason ∷ hints_of test xs) (hints_of test xs) ++ hints_of test ys
+    go h true = ap (λ ns. reason_number x.reason ∷ ns) h
     go h false = h
 
 hints_none : (test : Literal → Bool) (xs : List Assigned) → ((e : Assigned) → Contains xs e → test e.literal ≡ true → ⊥) → hints_of test xs ≡ []
 hints_none test [] h = refl
 hints_none test (x ∷ xs) h =
-    ap (λ b. cond b (number_of x.reason ∷ hints_of test xs) (hints_of test xs)) (false_from_ne_true (test x.literal) (h x (Contains-head x xs)))
+    ap (λ b. cond b (reason_number x.reason ∷ hints_of test xs) (hints_of test xs)) (false_from_ne_true (test x.literal) (h x (Contains-head x xs)))
     ∙ hints_none test xs (λ e i. h e (Contains-cons x e xs i))
 
-pub hints_agree : (test : Literal → Bool) (hint : Assigned → Option ℕ) (xs : List Assigned) → ((e : Assigned) → Contains xs e → hint e ≡ cond (test e.literal) (Some (number_of e.reason)) None)
+pub hints_agree : (test : Literal → Bool) (hint : Assigned → Option ℕ) (xs : List Assigned) → ((e : Assigned) → Contains xs e → hint e ≡ cond (test e.literal) (Some (reason_number e.reason)) None)
     → filter_map hint xs ≡ hints_of test xs
 hints_agree test hint [] h = refl
 hints_agree test hint (x ∷ xs) h = filter_map-append hint (x ∷ []) xs ∙ go (hints_agree test hint xs (λ e i. h e (Contains-cons x e xs i))) (test x.literal) (h x (Contains-head x xs))
   where
-    go : filter_map hint xs ≡ hints_of test xs → (b : Bool) → hint x ≡ cond b (Some (number_of x.reason)) None
-        → filter_map hint (x ∷ []) ++ filter_map hint xs ≡ cond b (number_of x.reason ∷ hints_of test xs) (hints_of test xs)
-    go h true q = ap (λ o. cons_option o [] ++ filter_map hint xs) q ∙ ap (λ ns. number_of x.reason ∷ ns) h
+    go : filter_map hint xs ≡ hints_of test xs → (b : Bool) → hint x ≡ cond b (Some (reason_number x.reason)) None
+        → filter_map hint (x ∷ []) ++ filter_map hint xs ≡ cond b (reason_number x.reason ∷ hints_of test xs) (hints_of test xs)
+    go h true q = ap (λ o. cons_option o [] ++ filter_map hint xs) q ∙ ap (λ ns. reason_number x.reason ∷ ns) h
     go h false q = ap (λ o. cons_option o [] ++ filter_map hint xs) q ∙ h
 
 -- ---- what is settled place by place is closed
@@ -88,7 +88,7 @@ above_cut es e k apart i l = false_from_ne_true (up_to es k e.literal) (λ t.
     omega (arith, l, b))
 
 module _ (live : Live) (es : List Assigned) (apart : IsDistinct eqb (variables es)) (seen : ℕ → Bool) (i level : ℕ) (lits : Clause) (hints : List ℕ)
-    (w : IsWalk es (take i es) seen 0 0) (walked : AreWalked live es i seen lits hints) (levels : IsLevelled es 0 lits level) where
+    (w : AreCounted es (take i es) seen 0 0) (walked : AreWalked live es i seen lits hints) (levels : IsLevelled es 0 lits level) where
   abbrev resolved : Literal → Bool
   resolved = resolved_of es seen lits
 
@@ -134,6 +134,20 @@ module _ (live : Live) (es : List Assigned) (apart : IsDistinct eqb (variables e
       ∙ sym (ap (λ ns. ns ++ hints_of resolved (drop i es)) (hints_none resolved (take i es) unresolved))
       ∙ sym (hints_of-append resolved (take i es) (drop i es))
       ∙ ap (hints_of resolved) (take-append-drop i es)
+
+  -- what is resolved has its reason for a hint
+  reasons : (e : Assigned) → Contains es e → cond (resolved e.literal) e.reason None ≡ cond (resolved e.literal) (Some (reason_number e.reason)) None
+  reasons e c = go (resolved e.literal) refl
+    where
+      go : (b : Bool) → resolved e.literal ≡ b → cond b e.reason None ≡ cond b (Some (reason_number e.reason)) None
+      go false r = refl
+      go true r =
+          let s = settled_entry c.0 e c.1 (subst (λ (x : Assigned). resolved x.literal ≡ true) (sym c.2) r) in
+          let q : e.reason ≡ Some s.number = subst (λ (x : Assigned). x.reason ≡ Some s.number) c.2 s.reason in
+          q ∙ ap Some (sym (ap reason_number q))
+
+  pub ordered : (number : ℕ) → AreInTrailOrder es number (reverse hints ++ number ∷ [])
+  ordered number = (resolved, ap (λ ns. ns ++ number ∷ []) (hints_are ∙ sym (hints_agree resolved (λ e. cond (resolved e.literal) e.reason None) es reasons)))
 
   -- ---- the lemma
   pub follows : (C : Clause) (number : ℕ) → live number C → IsFalse (holds es) C → ((k : Literal) → Contains C k → seen (var_of k) ≡ true)
@@ -197,7 +211,7 @@ none_distinct : IsDistinct same []
 unfolding IsDistinct
 none_distinct = tt
 
-pub begins : (es : List Assigned) (f : ℕ → Bool) → ((v : ℕ) → f v ≡ false) → IsWalk es es f 0 0
+pub begins : (es : List Assigned) (f : ℕ → Bool) → ((v : ℕ) → f v ≡ false) → AreCounted es es f 0 0
 begins es f none = record {
   opened = sym (zero_waiting (is_present es) es);
   remaining = sym (zero_waiting (is_lower es) es);

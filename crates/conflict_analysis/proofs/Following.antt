@@ -13,7 +13,7 @@ use Rattle.dimacs.proofs.Members.{has-Contains}
 use Rattle.watches.specs.Trails.{holds}
 use Rattle.watches.specs.declared.trail.Assigned.{Assigned}
 use Rattle.watches.proofs.TrailLemmas.{holds_push}
-use Rattle.conflict_analysis.specs.Walks.{IsSettled, number_of, hints_of, resolved_of}
+use Rattle.conflict_analysis.specs.Walks.{IsSettled, reason_number, hints_of, resolved_of}
 
 -- each resolved entry behind the front is settled
 abbrev pub AreClosed : Live → (ℕ → Bool) → (Literal → Bool) → List Assigned → List Assigned → Type 0
@@ -96,11 +96,11 @@ module _ (live : Live) (es : List Assigned) (seen : ℕ → Bool) (lits : Clause
       go (λ α' is'. walk (front ++ e ∷ []) rest (w ∙ sym (append_assoc front (e ∷ []) rest)) h.1 α' is') (resolved e.literal) refl
     where
       go : ((α' : Literal → Bool) → ((l : Literal) → α' l ≡ known (front ++ e ∷ []) l) → (β : Literal → Bool) × Leads live α' (hints_of resolved rest) β × ((l : Literal) → β l ≡ known es l))
-          → (b : Bool) → resolved e.literal ≡ b → (β : Literal → Bool) × Leads live α (cond b (number_of e.reason ∷ hints_of resolved rest) (hints_of resolved rest)) β × ((l : Literal) → β l ≡ known es l)
+          → (b : Bool) → resolved e.literal ≡ b → (β : Literal → Bool) × Leads live α (cond b (reason_number e.reason ∷ hints_of resolved rest) (hints_of resolved rest)) β × ((l : Literal) → β l ≡ known es l)
       go next true r =
           let i = h.0 r in
           let u = unit_now front rest e w α is r i in
-          let number : number_of e.reason ≡ i.number = ap number_of i.reason in
+          let number : reason_number e.reason ≡ i.number = ap reason_number i.reason in
           let n = next (with_literal α e.literal) (λ l. ap (λ b. same l e.literal || b) (is l) ∙ known_join front e l r) in
           (n.0, (i.clause, e.literal, subst (λ x. live x i.clause) (sym number) i.lives, u, n.1), n.2)
       go next false r = next α (λ l. is l ∙ sym (known_skip front e l r))

@@ -3,13 +3,15 @@ pub mod Building
 pub mod Fronts
 pub mod Closed
 pub mod Concluding
+pub mod Concluded
 pub mod Entries
 pub mod Finding
 pub mod HasMet
 pub mod Walking
 pub mod Meeting
+pub mod OneMore
+pub mod OnePast
 pub mod Settling
-pub mod Small
 pub mod Stamps
 pub mod Tracing
 pub mod Following

@@ -12,15 +12,15 @@ use Rattle.watches.specs.declared.trail.Assigned.{Assigned}
 use Rattle.std.proofs.lemmas.Map.Keys.{IsDistinct-push}
 use Rattle.std.specs.Cmp.{nat_eq_equiv}
 use Rattle.std.proofs.lemmas.Map.Views.{Contains-from_any}
-use Rattle.conflict_analysis.specs.Walks.{met, waiting, is_present, is_lower, IsFront, IsWalk, AreListed}
+use Rattle.conflict_analysis.specs.Seen.{met}
+use Rattle.conflict_analysis.specs.Walks.{waiting, is_present, is_lower, IsFront, AreCounted, AreListed}
 use Rattle.conflict_analysis.proofs.Entries.{one_if, entry_from_holds, one_entry, distinct_left, waiting_one}
 
--- a variable gets the present stamp
-pub met_set : (stamps : List ℕ) (stamp u v : ℕ) → u < length stamps → met (set stamps u stamp) stamp v ≡ (met stamps stamp v || eqb v u)
-met_set stamps stamp u v h = elim (cases_eq v u) [
-  | inl e ↦ ap (λ x. eqb x stamp) (ap (λ w. get_or (set stamps u stamp) w 0) e ∙ get_or-set_same stamps u stamp 0 h) ∙ eq-eqb stamp stamp refl
-      ∙ sym (or_right (met stamps stamp v) (eqb v u) (eq-eqb v u e))
-  | inr n ↦ ap (λ x. eqb x stamp) (get_or-set_other stamps u v stamp 0 n) ∙ sym (none (met stamps stamp v) (eqb v u) (ne_eqb v u n))
+-- a variable was met once it is in
+pub met_set : (seen : List Bool) (u v : ℕ) → u < length seen → met (set seen u true) v ≡ (met seen v || eqb v u)
+met_set seen u v h = elim (cases_eq v u) [
+  | inl e ↦ ap (λ w. get_or (set seen u true) w false) e ∙ get_or-set_same seen u true false h ∙ sym (or_right (met seen v) (eqb v u) (eq-eqb v u e))
+  | inr n ↦ get_or-set_other seen u v true false n ∙ sym (none (met seen v) (eqb v u) (ne_eqb v u n))
 ]
   where
     none : (a b : Bool) → b ≡ false → (a || b) ≡ a
@@ -74,14 +74,14 @@ module _ (es front : List Assigned) (apart : IsDistinct eqb (variables es)) (is_
   count at = waiting_one front f g at e front_apart in_front (ap f var ∙ new) (λ v. grown v ∙ ap (λ w. f v || eqb v w) (sym var))
 
   -- of the present level
-  pub meets_present : (o n : ℕ) → IsWalk es front f o n → e.level ≡ present es → IsWalk es front g (o + 1) n
+  pub meets_present : (o n : ℕ) → AreCounted es front f o n → e.level ≡ present es → AreCounted es front g (o + 1) n
   meets_present o n w z = record {
     opened = let c = count (is_present es) in let b = w.opened in let x : one_if (is_present es e.level) ≡ 1 = ap one_if (eq-eqb e.level (present es) z) in omega (arith, c, b, x);
     remaining = let c = count (is_lower es) in let b = w.remaining in let x : one_if (is_lower es e.level) ≡ 0 = ap (λ t. one_if (not t)) (eq-eqb e.level (present es) z) in omega (arith, c, b, x);
   }
 
   -- of a lower one
-  pub meets_lower : (o n : ℕ) → IsWalk es front f o n → (e.level ≡ present es → ⊥) → IsWalk es front g o (n + 1)
+  pub meets_lower : (o n : ℕ) → AreCounted es front f o n → (e.level ≡ present es → ⊥) → AreCounted es front g o (n + 1)
   meets_lower o n w z = record {
     opened = let c = count (is_present es) in let b = w.opened in let x : one_if (is_present es e.level) ≡ 0 = ap one_if (ne_eqb e.level (present es) z) in omega (arith, c, b, x);
     remaining = let c = count (is_lower es) in let b = w.remaining in let x : one_if (is_lower es e.level) ≡ 1 = ap (λ t. one_if (not t)) (ne_eqb e.level (present es) z) in omega (arith, c, b, x);

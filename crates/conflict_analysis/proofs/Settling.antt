@@ -6,7 +6,8 @@ use Rattle.dimacs.specs.logic.Literal.{Literal, var_of}
 use Rattle.watches.specs.Law.{IsImplied}
 use Rattle.watches.specs.Trails.{variables}
 use Rattle.watches.specs.declared.trail.Assigned.{Assigned}
-use Rattle.conflict_analysis.specs.Walks.{met, HasMet, IsSettled}
+use Rattle.conflict_analysis.specs.Seen.{met}
+use Rattle.conflict_analysis.specs.Walks.{HasMet, IsSettled}
 use Rattle.conflict_analysis.proofs.Building.{behind}
 
 -- it stays settled when more is met
@@ -16,9 +17,9 @@ settled_grows live front f g e h s = record { number = s.number; clause = s.clau
 pub settled_implied : (live : Live) (front : List Assigned) (f : ℕ → Bool) (e : Assigned) → (i : IsImplied live front e) → ((k : Literal) → Contains i.clause k → f (var_of k) ≡ true) → IsSettled live front f e
 settled_implied live front f e i all = record { number = i.number; clause = i.clause; reason = i.reason; lives = i.lives; unit = i.unit; all = all }
 
-module _ (live : Live) (es : List Assigned) (apart : IsDistinct eqb (variables es)) (i : ℕ) (stamp : ℕ) (old new : List ℕ) (more : HasMet (take i es) stamp old new) where
+module _ (live : Live) (es : List Assigned) (apart : IsDistinct eqb (variables es)) (i : ℕ) (old new : List Bool) (more : HasMet (take i es) old new) where
   -- what is met now behind the front was met before
-  pub was_met : (k : ℕ) (d : Assigned) → i ≤ k → k < length es → met new stamp (var_of (get_or es k d).literal) ≡ true → met old stamp (var_of (get_or es k d).literal) ≡ true
+  pub was_met : (k : ℕ) (d : Assigned) → i ≤ k → k < length es → met new (var_of (get_or es k d).literal) ≡ true → met old (var_of (get_or es k d).literal) ≡ true
   was_met k d le l m = elim (more.only (var_of (get_or es k d).literal) m) [
     | inl t ↦ t
     | inr (e, c, q) ↦ absurd (behind es i k d e apart c le l q)

@@ -20,7 +20,7 @@ use Rattle.clause_arena.specs.Clauses.{Clauses, live_of}
 use Rattle.clause_arena.proofs.ClauseLaws.{live_once}
 use Rattle.watches.specs.Law.{IsImplied}
 use Rattle.conflict_analysis.specs.Built.{AreBuilt}
-use Rattle.conflict_analysis.specs.Walks.{waiting, is_present, IsKnown, IsSettled, AreWalked, HasLevel, IsLevelled, hints_of, resolved_of, number_of}
+use Rattle.conflict_analysis.specs.Walks.{waiting, is_present, IsKnown, IsSettled, AreWalked, HasLevel, IsLevelled, hints_of, resolved_of, reason_number}
 use Rattle.conflict_analysis.proofs.Building.{behind, built_at, not_decided, implied_by, reason_known}
 use Rattle.conflict_analysis.proofs.Entries.{holds_from_entry, waiting_some, waiting_found}
 use Rattle.conflict_analysis.proofs.Settling.{settled_grows}
@@ -48,8 +48,8 @@ ok_both P Q (Err e) p q = tt
 hints_same : (s t : Literal → Bool) (xs : List Assigned) → ((e : Assigned) → Contains xs e → s e.literal ≡ t e.literal) → hints_of s xs ≡ hints_of t xs
 hints_same s t [] h = refl
 hints_same s t (x ∷ xs) h =
-    ap (λ b. cond b (number_of x.reason ∷ hints_of s xs) (hints_of s xs)) (h x (Contains-head x xs))
-    ∙ ap (λ ns. cond (t x.literal) (number_of x.reason ∷ ns) ns) (hints_same s t xs (λ e c. h e (Contains-cons x e xs c)))
+    ap (λ b. cond b (reason_number x.reason ∷ hints_of s xs) (hints_of s xs)) (h x (Contains-head x xs))
+    ∙ ap (λ ns. cond (t x.literal) (reason_number x.reason ∷ ns) ns) (hints_same s t xs (λ e c. h e (Contains-cons x e xs c)))
 
 -- an entry of the rest has its place behind the front
 place_of : (es : List Assigned) (j : ℕ) (e : Assigned) → Contains (drop j es) e → (k : ℕ) × (j ≤ k) × (k < length es) × (get_or es k e ≡ e)
@@ -83,8 +83,8 @@ module _ (live : Live) (es : List Assigned) (apart : IsDistinct eqb (variables e
       two_places r.0 d (let l = r.1 in omega (arith, l)) r.2 (ap var_of (sym (r.3 d ∙ negation-negation entry.literal))))
 
   -- the hints of the entry and the rest
-  hints_here : (test : Literal → Bool) (b : Bool) → test entry.literal ≡ b → hints_of test (drop i es) ≡ cond b (number_of entry.reason ∷ hints_of test rest) (hints_of test rest)
-  hints_here test b q = ap (hints_of test) (drop_more es i d below) ∙ ap (λ x. cond x (number_of entry.reason ∷ hints_of test rest) (hints_of test rest)) q
+  hints_here : (test : Literal → Bool) (b : Bool) → test entry.literal ≡ b → hints_of test (drop i es) ≡ cond b (reason_number entry.reason ∷ hints_of test rest) (hints_of test rest)
+  hints_here test b q = ap (hints_of test) (drop_more es i d below) ∙ ap (λ x. cond x (reason_number entry.reason ∷ hints_of test rest) (hints_of test rest)) q
 
   -- an entry that was not met
   pub skips : (f : ℕ → Bool) (lits : Clause) (hints : List ℕ) → AreWalked live es (i + 1) f lits hints → f (var_of entry.literal) ≡ false → AreWalked live es i f lits hints
@@ -156,7 +156,7 @@ module _ (live : Live) (es : List Assigned) (apart : IsDistinct eqb (variables e
         named =
             ap (λ ns. ns ++ n ∷ []) (w.named ∙ ap reverse (hints_same (resolved_of es f lits) (resolved_of es g lits) rest same_seen))
             ∙ sym (reverse-append (n ∷ []) (hints_of (resolved_of es g lits) rest))
-            ∙ ap reverse (sym (hints_here (resolved_of es g lits) true resolved ∙ ap (λ o. number_of o ∷ hints_of (resolved_of es g lits) rest) r));
+            ∙ ap reverse (sym (hints_here (resolved_of es g lits) true resolved ∙ ap (λ o. reason_number o ∷ hints_of (resolved_of es g lits) rest) r));
         distinct = w.distinct;
       }
     where

@@ -1,11 +1,13 @@
 -- What a conflict teaches: a lemma with one literal of the present level, or the negations of assumptions.
-use Rattle.std.specs.Prelude.{◌≡◌, ◌≢◌, ℕ, ◌-◌, ◌<◌, ◌≤◌, true, false, List, ◌⊎◌, None, nat_eq, All, Contains}
-use Rattle.std.specs.List.{IsDistinct}
+use Rattle.std.specs.Prelude.{◌≡◌, ◌≢◌, ℕ, ◌-◌, ◌<◌, ◌≤◌, Bool, true, false, if◌then◌else◌, List, [], ◌∷◌, ◌++◌, ◌⊎◌, None, nat_eq, All, Contains}
+use Rattle.std.specs.List.{IsDistinct, filter_map}
 use Rattle.dimacs.specs.logic.ClauseMap.{Live}
-use Rattle.dimacs.specs.logic.Literal.{Literal, Clause, negation}
-use Rattle.dimacs.specs.logic.Propagation.{IsFalse}
+use Rattle.dimacs.specs.logic.Literal.{Literal, Clause, IsWithin, negation, same}
+use Rattle.dimacs.specs.logic.Propagation.{IsFalse, Rup}
 use Rattle.watches.specs.Law.{IsConflict}
-use Rattle.watches.specs.Trails.{holds, up_to, present}
+use Rattle.watches.specs.Trails.{TrailValue, holds, up_to, present}
+use Rattle.conflict_analysis.specs.Built.{AreBuilt, AreInside}
+use Rattle.conflict_analysis.specs.declared.lemma.Lemma.{Lemma}
 use Rattle.watches.specs.declared.trail.Assigned.{Assigned}
 use Rattle.conflict_analysis.specs.declared.closing.Closing.{Closing}
 use Rattle.conflict_analysis.specs.declared.closing.Closing.TheVariants as closing
@@ -23,6 +25,37 @@ pub record IsAsserting (entries : List Assigned) (lits : Clause) (level : ℕ) :
   pub below : level < present entries
   pub others : (k : Literal) → Contains lits k → k ≢ literal → up_to entries level (negation k) ≡ true
   pub reached : (level ≡ 0) ⊎ ((k : Literal) × Contains lits k × (k ≢ literal) × ((j : ℕ) → j < level → up_to entries j (negation k) ≡ false))
+
+-- the hints are the reasons of some entries, in trail order, and the false clause behind them
+abbrev pub AreInTrailOrder : List Assigned → ℕ → List ℕ → Type 0
+AreInTrailOrder entries number hints =
+    (used : Literal → Bool) × (hints ≡ filter_map (λ e. if used e.literal then e.reason else None) entries ++ number ∷ [])
+
+-- a false clause whose lemma can be asked for
+pub record IsPresentConflict (live : Live) (t : TrailValue) (number : ℕ) : Type 0 where
+  -- each entry was decided, or implied by a live clause, when it came
+  pub built : AreBuilt live [] t.entries
+  -- live clauses have variables of the trail alone
+  pub inside : AreInside live t.vars
+  -- the clause of this number is live, and false
+  pub conflict : IsConflict live t.entries number
+  -- it is false only since the present level
+  pub here : IsPresent live t.entries number
+  -- which is above 0
+  pub above : 0 < present t.entries
+
+-- what a lemma of that clause is
+pub record IsLemmaOf (live : Live) (t : TrailValue) (number : ℕ) (lemma : Lemma) : Type 0 where
+  -- its hints lead from the negations of its literals to a clause that is false, over the live clauses
+  pub rup : Rup live lemma.lits.items lemma.hints.items
+  -- they are reasons in trail order, with the false clause last
+  pub ordered : AreInTrailOrder t.entries number lemma.hints.items
+  -- its literals are false, exactly one of them of the present level; its level is the greatest of the others, 0 where there is none
+  pub asserting : IsAsserting t.entries lemma.lits.items lemma.level
+  -- no literal comes twice
+  pub distinct : IsDistinct same lemma.lits.items
+  -- each is of a variable of the trail
+  pub within : All (IsWithin t.vars) lemma.lits.items
 
 -- variables from 1 to `vars`, no one twice
 pub record AreApart (vars : ℕ) (listed : List ℕ) : Type 0 where

@@ -1,4 +1,5 @@
 pub mod Built
 pub mod Lemmas
+pub mod Seen
 pub mod Traces
 pub mod Walks

@@ -5,18 +5,16 @@ use Rattle.dimacs.specs.logic.ClauseMap.{Live}
 use Rattle.dimacs.specs.logic.Literal.{Literal, Clause, negation, var_of, same}
 use Rattle.dimacs.specs.logic.Propagation.{IsUnit, negations}
 use Rattle.watches.specs.declared.trail.Assigned.{Assigned}
-use Rattle.watches.specs.Trails.{holds, present}
+use Rattle.watches.specs.Trails.{TrailValue, IsTrailValue, holds, present}
+use Rattle.conflict_analysis.specs.Seen.{met}
+use Rattle.conflict_analysis.specs.declared.lemma.Lemma.{Lemma}
+use Rattle.conflict_analysis.specs.declared.walk.Walk.{Walk}
 
--- a variable was met: it has the present stamp
-abbrev pub met : List ℕ → ℕ → ℕ → Bool
-met stamps stamp v = slice_index_or stamps v 0 == stamp
-
--- stamps before and after entries of the front were met
-pub record HasMet (front : List Assigned) (stamp : ℕ) (old new : List ℕ) : Type 0 where
+-- what was seen before and after entries of the front were met
+pub record HasMet (front : List Assigned) (old new : List Bool) : Type 0 where
   pub sized : length new ≡ length old
-  pub grows : (v : ℕ) → met old stamp v ≡ true → met new stamp v ≡ true
-  pub only : (v : ℕ) → met new stamp v ≡ true → (met old stamp v ≡ true) ⊎ ((e : Assigned) × Contains front e × (var_of e.literal ≡ v))
-  pub bounded : All (λ s. s ≤ stamp) old → All (λ s. s ≤ stamp) new
+  pub grows : (v : ℕ) → met old v ≡ true → met new v ≡ true
+  pub only : (v : ℕ) → met new v ≡ true → (met old v ≡ true) ⊎ ((e : Assigned) × Contains front e × (var_of e.literal ≡ v))
 
 -- the variables that were met, no one twice
 pub record AreListed (vars : ℕ) (seen : ℕ → Bool) (listed : List ℕ) : Type 0 where
@@ -28,6 +26,14 @@ pub record AreListed (vars : ℕ) (seen : ℕ → Bool) (listed : List ℕ) : Ty
 -- a literal that can be met: its variable was, or its negation is still to be walked
 abbrev pub IsKnown : List Assigned → (ℕ → Bool) → Literal → Type 0
 IsKnown front seen l = (seen (var_of l) ≡ true) ⊎ (holds front (negation l) ≡ true)
+
+-- literals that can be met
+abbrev pub AreKnown : List Assigned → (ℕ → Bool) → Clause → Type 0
+AreKnown front seen C = (k : Literal) → Contains C k → IsKnown front seen k
+
+-- literals that were met
+abbrev pub AreMet : (ℕ → Bool) → Clause → Type 0
+AreMet seen C = (k : Literal) → Contains C k → seen (var_of k) ≡ true
 
 -- how many met entries have a level of which a test holds
 abbrev pub waiting : (ℕ → Bool) → (ℕ → Bool) → List Assigned → ℕ
@@ -45,10 +51,19 @@ is_lower entries level = not (level == present entries)
 abbrev pub IsFront : List Assigned → List Assigned → Type 0
 IsFront front entries = (rest : List Assigned) × (entries ≡ front ++ rest)
 
--- of the present level `open` met entries are still to be walked, and of lower levels `rest`
-pub record IsWalk (entries front : List Assigned) (seen : ℕ → Bool) (open_ rest : ℕ) : Type 0 where
-  pub opened : open_ ≡ waiting seen (is_present entries) front
+-- of the present level `pending` met entries are still to be walked, and of lower levels `rest`
+pub record AreCounted (entries front : List Assigned) (seen : ℕ → Bool) (pending rest : ℕ) : Type 0 where
+  pub opened : pending ≡ waiting seen (is_present entries) front
   pub remaining : rest ≡ waiting seen (is_lower entries) front
+
+-- a walk down a trail that has this front still before it
+pub record IsWalk (t : TrailValue) (front : List Assigned) (w : Walk) : Type 0 where
+  pub valid : IsTrailValue t
+  pub before : IsFront front t.entries
+  pub room : t.vars < length w.seen
+  pub level : w.present ≡ present t.entries
+  pub counted : AreCounted t.entries front (met w.seen) w.pending w.rest
+  pub listed : AreListed t.vars (met w.seen) w.met.items
 
 -- the entry of this place was implied by a live clause, of which each literal was met
 pub record IsSettled (live : Live) (front : List Assigned) (seen : ℕ → Bool) (e : Assigned) : Type 0 where
@@ -59,13 +74,14 @@ pub record IsSettled (live : Live) (front : List Assigned) (seen : ℕ → Bool)
   pub unit : IsUnit (holds front) clause e.literal
   pub all : (k : Literal) → Contains clause k → seen (var_of k) ≡ true
 
-abbrev pub number_of : Option ℕ → ℕ
-number_of o = unwrap_or o 0
+-- the number of a reason, 0 where there is none
+abbrev pub reason_number : Option ℕ → ℕ
+reason_number o = unwrap_or o 0
 
 -- the reasons of the entries that are resolved, in trail order
 abbrev pub hints_of : (Literal → Bool) → List Assigned → List ℕ
 hints_of resolved [] = []
-hints_of resolved (e ∷ es) = if resolved e.literal then number_of e.reason ∷ hints_of resolved es else hints_of resolved es
+hints_of resolved (e ∷ es) = if resolved e.literal then reason_number e.reason ∷ hints_of resolved es else hints_of resolved es
 
 -- what was met on the trail, and is not kept
 abbrev pub resolved_of : List Assigned → (ℕ → Bool) → Clause → Literal → Bool
@@ -86,13 +102,26 @@ HasLevel entries l level = (e : Assigned) × Contains entries e × (e.literal �
 -- the first literal is the implication point's negation, and none of the present level waits; the others are of lower levels, of
 -- which `level` is the greatest. Until the point is found, some entry of the present level waits
 abbrev pub IsLevelled : List Assigned → ℕ → Clause → ℕ → Type 0
-IsLevelled entries open_ [] level = (0 < open_) × (level ≡ 0)
-IsLevelled entries open_ (p ∷ lits) level =
-    (open_ ≡ 0) × HasLevel entries p (present entries)
+IsLevelled entries pending [] level = (0 < pending) × (level ≡ 0)
+IsLevelled entries pending (p ∷ lits) level =
+    (pending ≡ 0) × HasLevel entries p (present entries)
     × ((l : Literal) → Contains lits l → (n : ℕ) × HasLevel entries l n × (n < present entries) × (n ≤ level))
     × ((level ≡ 0) ⊎ ((l : Literal) × Contains lits l × HasLevel entries l level))
 
 -- the reason by which an entry is resolved: of the present level all are but the last one left
-abbrev pub IsChoice : List Assigned → ℕ → Option ℕ → ℕ → Option ℕ → Type 0
-IsChoice entries level reason open_ (Some number) = (reason ≡ Some number) × (level ≡ present entries → 0 < open_)
-IsChoice entries level reason open_ None = level ≡ present entries → (open_ ≡ 0) ⊎ (reason ≡ None)
+abbrev pub IsChoice : List Assigned → Assigned → ℕ → Option ℕ → Type 0
+IsChoice entries e pending (Some number) = (e.reason ≡ Some number) × (e.level ≡ present entries → 0 < pending)
+IsChoice entries e pending None = e.level ≡ present entries → (pending ≡ 0) ⊎ (e.reason ≡ None)
+
+-- a walk that has come down to place i, and the lemma so far
+pub record IsUnderWay (live : Live) (t : TrailValue) (i : ℕ) (w : Walk) (lemma : Lemma) : Type 0 where
+  pub walk : IsWalk t (take i t.entries) w
+  pub walked : AreWalked live t.entries i (met w.seen) lemma.lits.items lemma.hints.items
+  pub levels : IsLevelled t.entries w.pending lemma.lits.items lemma.level
+
+-- a walk that has nothing left before it, and its lemma
+pub record HasEnded (live : Live) (t : TrailValue) (w : Walk) (lemma : Lemma) : Type 0 where
+  pub place : ℕ
+  pub way : IsUnderWay live t place w lemma
+  pub none_present : w.pending ≡ 0
+  pub none_lower : w.rest ≡ 0

@@ -6,7 +6,8 @@ ghost use Rattle.clause_arena.specs.Clauses.{live_of};
 ghost use Rattle.dimacs.specs.logic.Literal.{Literal, Clause, IsWithin, negation, var_of};
 ghost use Rattle.dimacs.specs.logic.Propagation.{Rup};
 ghost use Rattle.conflict_analysis.specs.Built.{AreBuilt, AreInside, AreSized};
-ghost use Rattle.conflict_analysis.specs.Walks.{met, HasMet, IsKnown};
+ghost use Rattle.conflict_analysis.specs.Seen.{met};
+ghost use Rattle.conflict_analysis.specs.Walks.{HasMet, AreKnown, AreMet};
 ghost use Rattle.conflict_analysis.specs.Lemmas.{IsClosing, NegatesAssumptions};
 ghost use Rattle.conflict_analysis.specs.declared.closing.Closing.TheVariants as closing;
 ghost use Rattle.conflict_analysis.specs.Traces.{AreTraced, AreNegated, AreOutside, AreFalseOr};
@@ -15,6 +16,7 @@ ghost use Rattle.watches.specs.declared.trail.Assigned.{Assigned};
 
 use crate::hints::met_reasons;
 use crate::lemma::Lemma;
+use crate::seen::Seen;
 use clause_arena::Arena;
 use dimacs::Lit;
 use std::alloc::{AllocError, Global};
@@ -30,28 +32,27 @@ pub enum Closing {
 }
 
 /// Marks the variables of a clause.
-fn mark(front: &[Assigned], stamps: &mut [u64], stamp: u64, clause: &[Lit])
-    requires known { (k : Literal) → Contains clause.now k → IsKnown front.now (met stamps.old stamp) k }
-    requires sized { (k : Literal) → Contains clause.now k → var_of k < length stamps.old }
-    ensures all { (k : Literal) → Contains clause.now k → met stamps.new stamp (var_of k) ≡ true }
-    ensures stamps { HasMet front.now stamp stamps.old stamps.new }
+fn mark(front: &[Assigned], seen: &mut Seen, clause: &[Lit])
+    requires known { AreKnown front.now (met seen.old) clause.now }
+    requires sized { (k : Literal) → Contains clause.now k → var_of k < length seen.old }
+    ensures all { AreMet (met seen.new) clause.now }
+    ensures seen { HasMet front.now seen.old seen.new }
 {
-    let _ = front;
     for literal in clause {
-        stamps[literal.var().number() as usize] = stamp;
+        seen.insert(literal.var());
     }
 }
 
 /// Marks the variables of the clause of a number.
-fn mark_number(arena: &Arena, front: &[Assigned], stamps: &mut [u64], stamp: u64, number: u64)
-    requires sized { (C : Clause) → live_of arena.now number C → (k : Literal) → Contains C k → var_of k < length stamps.old }
-    requires known { (C : Clause) → live_of arena.now number C → (k : Literal) → Contains C k → IsKnown front.now (met stamps.old stamp) k }
+fn mark_number(arena: &Arena, front: &[Assigned], seen: &mut Seen, number: u64)
+    requires sized { (C : Clause) → live_of arena.now number C → (k : Literal) → Contains C k → var_of k < length seen.old }
+    requires known { (C : Clause) → live_of arena.now number C → AreKnown front.now (met seen.old) C }
     requires live { (C : Clause) × live_of arena.now number C }
-    ensures all { (C : Clause) → live_of arena.now number C → (k : Literal) → Contains C k → met stamps.new stamp (var_of k) ≡ true }
-    ensures stamps { HasMet front.now stamp stamps.old stamps.new }
+    ensures all { (C : Clause) → live_of arena.now number C → AreMet (met seen.new) C }
+    ensures seen { HasMet front.now seen.old seen.new }
 {
     if let Some(at) = arena.find(number) {
-        mark(front, stamps, stamp, arena.clause(at));
+        mark(front, seen, arena.clause(at));
     }
 }
 
@@ -60,27 +61,26 @@ fn trace_one(
     arena: &Arena,
     entries: &[Assigned],
     i: usize,
-    stamps: &mut [u64],
-    stamp: u64,
+    seen: &mut Seen,
     lits: &mut Vec<Lit>,
 ) -> Result<(), AllocError>
     requires built { AreBuilt (live_of arena.now) [] entries.now }
     requires apart { IsDistinct nat_eq (variables entries.now) }
-    requires clauses { AreSized (live_of arena.now) (length stamps.old) }
-    requires room { (e : Assigned) → Contains entries.now e → var_of e.literal < length stamps.old }
+    requires clauses { AreSized (live_of arena.now) (length seen.old) }
+    requires room { (e : Assigned) → Contains entries.now e → var_of e.literal < length seen.old }
     requires within { i < length entries.now }
-    requires traced { AreTraced (live_of arena.now) entries.now (i + 1) (met stamps.old stamp) lits.old.items }
-    ensures traced { OnOk result (AreTraced (live_of arena.now) entries.now i (met stamps.new stamp) lits.new.items) }
+    requires traced { AreTraced (live_of arena.now) entries.now (i + 1) (met seen.old) lits.old.items }
+    ensures traced { OnOk result (AreTraced (live_of arena.now) entries.now i (met seen.new) lits.new.items) }
     ensures negated { OnOk result (AreNegated entries.now lits.old.items lits.new.items) }
     ensures kept { OnOk result ((l : Literal) → Contains lits.old.items l → Contains lits.new.items l) }
-    ensures stamps { HasMet (take i entries.now) stamp stamps.old stamps.new }
+    ensures seen { OnOk result (HasMet (take i entries.now) seen.old seen.new) }
 {
     let entry = entries[i];
-    if stamps[entry.literal.var().number() as usize] != stamp {
+    if !seen.has(entry.literal.var()) {
         return Ok(());
     }
     match entry.reason {
-        Some(number) => mark_number(arena, &entries[..i], stamps, stamp, number),
+        Some(number) => mark_number(arena, &entries[..i], seen, number),
         None => lits.push(entry.literal.negate())?,
     }
     Ok(())
@@ -90,23 +90,22 @@ fn trace_one(
 fn trace(
     arena: &Arena,
     entries: &[Assigned],
-    stamps: &mut [u64],
-    stamp: u64,
+    seen: &mut Seen,
     lits: &mut Vec<Lit>,
 ) -> Result<(), AllocError>
     requires built { AreBuilt (live_of arena.now) [] entries.now }
     requires apart { IsDistinct nat_eq (variables entries.now) }
-    requires clauses { AreSized (live_of arena.now) (length stamps.old) }
-    requires room { (e : Assigned) → Contains entries.now e → var_of e.literal < length stamps.old }
-    ensures traced { OnOk result (AreTraced (live_of arena.now) entries.now 0 (met stamps.new stamp) lits.new.items) }
+    requires clauses { AreSized (live_of arena.now) (length seen.old) }
+    requires room { (e : Assigned) → Contains entries.now e → var_of e.literal < length seen.old }
+    ensures traced { OnOk result (AreTraced (live_of arena.now) entries.now 0 (met seen.new) lits.new.items) }
     ensures negated { OnOk result (AreNegated entries.now lits.old.items lits.new.items) }
     ensures kept { OnOk result ((l : Literal) → Contains lits.old.items l → Contains lits.new.items l) }
-    ensures stamps { HasMet entries.now stamp stamps.old stamps.new }
+    ensures seen { OnOk result (HasMet entries.now seen.old seen.new) }
 {
     let mut i = entries.len();
     while i > 0 {
         i -= 1;
-        trace_one(arena, entries, i, stamps, stamp, lits)?;
+        trace_one(arena, entries, i, seen, lits)?;
     }
     Ok(())
 }
@@ -116,26 +115,25 @@ fn close(
     alloc: Global,
     arena: &Arena,
     entries: &[Assigned],
-    stamps: &mut [u64],
-    stamp: u64,
+    seen: &mut Seen,
     first: Vec<Lit>,
     number: u64,
 ) -> Result<Lemma, AllocError>
     requires built { AreBuilt (live_of arena.now) [] entries.now }
     requires apart { IsDistinct nat_eq (variables entries.now) }
-    requires clauses { AreSized (live_of arena.now) (length stamps.old) }
-    requires room { (e : Assigned) → Contains entries.now e → var_of e.literal < length stamps.old }
+    requires clauses { AreSized (live_of arena.now) (length seen.old) }
+    requires room { (e : Assigned) → Contains entries.now e → var_of e.literal < length seen.old }
     requires live { (C : Clause) × live_of arena.now number C × AreFalseOr entries.now first.items C }
     requires first { AreOutside entries.now first.items }
-    requires known { (l : Literal) → Contains first.items l → met stamps.old stamp (var_of l) ≡ true }
+    requires known { (l : Literal) → Contains first.items l → met seen.old (var_of l) ≡ true }
     ensures rup { IfOk result (λ lemma. Rup (live_of arena.now) lemma.lits.items lemma.hints.items) }
     ensures negated { IfOk result (λ lemma. AreNegated entries.now first.items lemma.lits.items) }
     ensures level { IfOk result (λ lemma. lemma.level ≡ 0) }
 {
-    mark_number(arena, entries, stamps, stamp, number);
+    mark_number(arena, entries, seen, number);
     let mut lits = first;
-    trace(arena, entries, stamps, stamp, &mut lits)?;
-    let mut hints = met_reasons(alloc, entries, stamps, stamp)?;
+    trace(arena, entries, seen, &mut lits)?;
+    let mut hints = met_reasons(alloc, entries, seen)?;
     hints.push(number)?;
     Ok(Lemma {
         lits,
@@ -162,14 +160,13 @@ fn close_assumption(
     alloc: Global,
     arena: &Arena,
     entries: &[Assigned],
-    stamps: &mut [u64],
-    stamp: u64,
+    seen: &mut Seen,
     literal: Lit,
 ) -> Result<Lemma, AllocError>
     requires built { AreBuilt (live_of arena.now) [] entries.now }
     requires apart { IsDistinct nat_eq (variables entries.now) }
-    requires clauses { AreSized (live_of arena.now) (length stamps.old) }
-    requires room { (e : Assigned) → Contains entries.now e → var_of e.literal < length stamps.old }
+    requires clauses { AreSized (live_of arena.now) (length seen.old) }
+    requires room { (e : Assigned) → Contains entries.now e → var_of e.literal < length seen.old }
     requires closing { IsClosing (live_of arena.now) entries.now (closing.Assumption literal) }
     ensures rup { IfOk result (λ lemma. Rup (live_of arena.now) lemma.lits.items lemma.hints.items) }
     ensures negates { IfOk result (λ lemma. NegatesAssumptions entries.now (closing.Assumption literal) lemma.lits.items) }
@@ -181,16 +178,8 @@ fn close_assumption(
     let number = entry.reason.unwrap();
     let mut first = Vec::new(alloc);
     first.push(negation)?;
-    stamps[negation.var().number() as usize] = stamp;
-    close(
-        alloc,
-        arena,
-        &entries[..place],
-        stamps,
-        stamp,
-        first,
-        number,
-    )
+    seen.insert(negation.var());
+    close(alloc, arena, &entries[..place], seen, first, number)
 }
 
 /// The lemma that closes the cube where a clause or an assumption is false: it follows by its hints, in trail order, by
@@ -210,21 +199,9 @@ pub fn close_cube(
     ensures level { IfOk result (λ lemma. lemma.level ≡ 0) }
 {
     let entries = trail.entries();
-    let mut stamps = vec![in alloc; 0; trail.vars() as usize + 1]?;
+    let mut seen = Seen::with_room(alloc, trail.vars())?;
     match closing {
-        Closing::Clause(number) => {
-            close(
-                alloc,
-                arena,
-                entries,
-                &mut stamps,
-                1,
-                Vec::new(alloc),
-                number,
-            )
-        }
-        Closing::Assumption(literal) => {
-            close_assumption(alloc, arena, entries, &mut stamps, 1, literal)
-        }
+        Closing::Clause(number) => close(alloc, arena, entries, &mut seen, Vec::new(alloc), number),
+        Closing::Assumption(literal) => close_assumption(alloc, arena, entries, &mut seen, literal),
     }
 }

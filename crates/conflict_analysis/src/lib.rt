@@ -9,11 +9,9 @@ mod analyser;
 mod closing;
 mod hints;
 mod lemma;
+mod seen;
 mod walk;
 
 pub use analyser::{Analyser, analyse};
 pub use closing::{Closing, close_cube};
 pub use lemma::Lemma;
-
-#[cfg(test)]
-mod tests;

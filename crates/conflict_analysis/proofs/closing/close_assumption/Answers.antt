@@ -1,4 +1,4 @@
-use Rattle.std.proofs.Common.{◌≡◌, ◌++◌, ◌∷◌, [], take, arith, sym, ◌∙◌, ap, subst}
+use Rattle.std.proofs.Common.{◌≡◌, ◌++◌, ◌∷◌, [], true, length, take, arith, sym, ◌∙◌, ap, subst}
 use Rattle.std.proofs.lemmas.List.{length-set}
 use Rattle.std.proofs.lemmas.Result.{IfOk-weaker}
 use Rattle.clause_arena.specs.Clauses.{live_of}
@@ -17,7 +17,7 @@ pub close-requires-clause-apart : goal.close-requires-clause-apart
 close-requires-clause-apart c = distinct_front c.args.entries.now c.place_of-place.result c.requires.apart
 
 pub close-requires-clause-clauses : goal.close-requires-clause-clauses
-close-requires-clause-clauses c = λ n C h k i. let a = c.requires.clauses n C h k i in let s = length-set c.args.stamps.now c.number.result c.args.stamp in omega (arith, a, s)
+close-requires-clause-clauses c = λ n C h k i. let a = c.requires.clauses n C h k i in let s : length c.insert.new.self ≡ length c.args.seen.now = ap length c.insert.ensures ∙ length-set c.args.seen.now c.var.result true in omega (arith, a, s)
 
 pub close-requires-clause-live : goal.close-requires-clause-live
 close-requires-clause-live c =

@@ -10,10 +10,10 @@ use Rattle.conflict_analysis.proofs.Assuming.{sized_from, within_from, negates_d
 use Rattle.conflict_analysis.proofs.closing.close_cube.Goals as goal
 
 pub close-requires-clause-clauses : goal.close-requires-clause-clauses
-close-requires-clause-clauses c = sized_from (live_of c.args.arena.now) c.args.trail.now.vars (length c.deref_mut.result.now) c.requires.inside (let a = c.deref_mut.ensures.len in let b = c.in_ok-stamps.ensures.len in let v = c.vars.ensures in omega (arith, a, b, v))
+close-requires-clause-clauses c = sized_from (live_of c.args.arena.now) c.args.trail.now.vars (length c.in_ok-seen.seen) c.requires.inside (let a = c.in_ok-seen.ensures in let v = c.vars.ensures in omega (arith, a, v))
 
 pub close_assumption-requires-clause-clauses : goal.close_assumption-requires-clause-clauses
-close_assumption-requires-clause-clauses c = sized_from (live_of c.args.arena.now) c.args.trail.now.vars (length c.deref_mut-in-Assumption.result.now) c.requires.inside (let a = c.deref_mut-in-Assumption.ensures.len in let b = c.in_ok-stamps.ensures.len in let v = c.vars.ensures in omega (arith, a, b, v))
+close_assumption-requires-clause-clauses c = sized_from (live_of c.args.arena.now) c.args.trail.now.vars (length c.in_ok-seen.seen) c.requires.inside (let a = c.in_ok-seen.ensures in let v = c.vars.ensures in omega (arith, a, v))
 
 pub returns-in-Clause-clause-negates : goal.returns-in-Clause-clause-negates
 returns-in-Clause-clause-negates c = IfOk-weaker c.close.result _ _ (λ lemma h. rw c.in-Clause.is (negates_decisions c.args.trail.now.entries lemma.lits.items (subst (λ xs. AreNegated c.args.trail.now.entries xs lemma.lits.items) c.new.ensures.items (subst (λ es. AreNegated es c.new.result.items lemma.lits.items) c.entries-entries.ensures.entries h)))) c.close.ensures.negated

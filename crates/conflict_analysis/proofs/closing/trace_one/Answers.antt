@@ -1,10 +1,9 @@
-use Rattle.std.proofs.Common.{◌≡◌, take, ◌∙◌, subst, true}
+use Rattle.std.proofs.Common.{◌≡◌, take, ap, sym, ◌∙◌, subst, true}
 use Rattle.std.specs.List.{Contains}
-use Rattle.std.proofs.lemmas.Bool.{eq-eqb}
 use Rattle.clause_arena.specs.Clauses.{live_of}
 use Rattle.dimacs.specs.logic.Literal.{var_of}
 use Rattle.watches.specs.Law.{IsImplied}
-use Rattle.conflict_analysis.specs.Walks.{met}
+use Rattle.conflict_analysis.specs.Seen.{met}
 use Rattle.conflict_analysis.proofs.Building.{implied_by, reason_known}
 use Rattle.clause_arena.proofs.ClauseLaws.{live_once}
 use Rattle.conflict_analysis.proofs.Settling.{settled_implied}
@@ -18,8 +17,8 @@ implied c = implied_at (live_of c.args.arena.now) c.args.entries.now c.requires.
 lives : (c : In-Some) → live_of c.args.arena.now c.in-Some.number (implied c).clause
 lives c = implied_by (live_of c.args.arena.now) (take c.args.i c.args.entries.now) c.index-entries-i.result c.in-Some.number (implied c) c.in-Some.is
 
-here : (c : In-Some) → met c.args.stamps.now c.args.stamp (var_of c.index-entries-i.result.literal) ≡ true
-here c = subst (λ v. met c.args.stamps.now c.args.stamp v ≡ true) (c.number.ensures.value ∙ c.var.ensures) (eq-eqb _ _ c.if-stamps-number.false)
+here : (c : In-Some) → met c.args.seen.now (var_of c.index-entries-i.result.literal) ≡ true
+here c = ap (met c.args.seen.now) (sym c.var.ensures) ∙ sym c.has.ensures ∙ c.if-not-has.false
 
 pub mark_number-requires-clause-sized : goal.mark_number-requires-clause-sized
 mark_number-requires-clause-sized c = λ C h k i. c.requires.clauses c.in-Some.number C h k i
@@ -31,10 +30,10 @@ pub mark_number-requires-clause-known : goal.mark_number-requires-clause-known
 mark_number-requires-clause-known c = λ C h k i.
     let b = (goal.at.mark_number-requires-clause-known c).In-Some in
     let e : C ≡ (implied b).clause = live_once c.args.arena.now c.in-Some.number C (implied b).clause h (lives b) in
-    reason_known (take c.args.i c.args.entries.now) (met c.args.stamps.now c.args.stamp) c.index-entries-i.result (implied b).clause (implied b).unit (here b) k (subst (λ X. Contains X k) e i)
+    reason_known (take c.args.i c.args.entries.now) (met c.args.seen.now) c.index-entries-i.result (implied b).clause (implied b).unit (here b) k (subst (λ X. Contains X k) e i)
 
 pub returns-in-Some-clause-traced : goal.returns-in-Some-clause-traced
 returns-in-Some-clause-traced c =
     let b = (goal.at.returns-in-Some-clause-traced c).In-Some in
-    traces (live_of c.args.arena.now) c.args.entries.now c.requires.apart c.args.i c.args.stamp c.args.stamps.now c.mark_number.new.stamps c.args.lits.now.items c.index-entries-i.result c.mark_number.ensures.stamps c.index-entries-i.is c.requires.traced
-    (settled_implied (live_of c.args.arena.now) (take c.args.i c.args.entries.now) (met c.mark_number.new.stamps c.args.stamp) c.index-entries-i.result (implied b) (λ k i. c.mark_number.ensures.all (implied b).clause (lives b) k i))
+    traces (live_of c.args.arena.now) c.args.entries.now c.requires.apart c.args.i c.args.seen.now c.mark_number.new.seen c.args.lits.now.items c.index-entries-i.result c.mark_number.ensures.seen c.index-entries-i.is c.requires.traced
+    (settled_implied (live_of c.args.arena.now) (take c.args.i c.args.entries.now) (met c.mark_number.new.seen) c.index-entries-i.result (implied b) (λ k i. c.mark_number.ensures.all (implied b).clause (lives b) k i))

@@ -26,13 +26,19 @@ joined m b k id lits given below e f s =
     is_added m k id s.0 lits (not_live m id (λ D h. let b = below id D h in let up = b.1 in omega arith))
     (subst (λ (C : Clause). AreSame (insert m id (s.0, C)) k) f (subst (λ (x : Clauses). AreSame (insert x id (s.0, given)) k) e s.1))
 
-pub analyse_into-requires-clause-here : goal.analyse_into-requires-clause-here
-analyse_into-requires-clause-here g c = λ C h f. (((c.requires.steady).state).quiet (present c.args.self.now.state.trail.entries - 1) (let a = c.requires.above in omega arith) c.args.conflict C h).0 f
+pub analyse_into-requires : goal.analyse_into-requires
+analyse_into-requires g c = record {
+  built = ((c.requires.steady).state).built;
+  inside = ((c.requires.steady).state).inside;
+  conflict = c.requires.conflict;
+  here = λ C h f. (((c.requires.steady).state).quiet (present c.args.self.now.state.trail.entries - 1) (let a = c.requires.above in omega arith) c.args.conflict C h).0 f;
+  above = c.requires.above;
+}
 
 pub write-requires : goal.write-requires
 write-requires g c =
     lemma_limits (live_of c.args.self.now.state.arena) c.args.self.now.state.trail.vars c.args.id c.analyse_into.new.lemma.lits.items c.analyse_into.new.lemma.hints.items
-    c.requires.id c.requires.numbers c.requires.limit c.in_ok-analyse_into.ensures.within c.in_ok-analyse_into.ensures.rup
+    c.requires.id c.requires.numbers c.requires.limit c.in_ok-analyse_into.ensures.lemma.within c.in_ok-analyse_into.ensures.lemma.rup
 
 pub bump-requires : goal.bump-requires
 bump-requires g c = rw (c.met.ensures, ((c.requires.steady).order).vars) (c.in_ok-analyse_into.ensures.met).within
@@ -58,7 +64,7 @@ pub returns-clause-steady : goal.returns-clause-steady
 returns-clause-steady g c =
     let s = c.args.self.now.state in
     let b = c.go_back in
-    let e = c.in_ok-analyse_into.ensures in
+    let e = c.in_ok-analyse_into.ensures.lemma in
     let lits = c.analyse_into.new.lemma.lits.items in
     record {
       ready = c.in_ok-learn.ensures.ready;
@@ -75,7 +81,7 @@ returns-clause-learns g c =
     let es = c.args.self.now.state.trail.entries in
     let lits = c.analyse_into.new.lemma.lits.items in
     let hints = c.analyse_into.new.lemma.hints.items in
-    let e = c.in_ok-analyse_into.ensures in
+    let e = c.in_ok-analyse_into.ensures.lemma in
     let s = (c.requires.steady).state in
     record {
       lits = lits;

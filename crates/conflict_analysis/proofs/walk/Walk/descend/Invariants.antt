@@ -1,0 +1,13 @@
+use Rattle.std.proofs.Common.{◌≤◌, length}
+use Rattle.clause_arena.specs.Clauses.{live_of}
+use Rattle.conflict_analysis.specs.Walks.{HasMet, IsUnderWay}
+use Rattle.conflict_analysis.proofs.walk.Walk.descend.Given as goal
+
+abbrev pub invariant-loop-self : goal.invariant-loop-self
+invariant-loop-self l =
+    (l.i ≤ length l.trail.entries)
+    × IsUnderWay (live_of l.arena) l.trail l.i l.self l.lemma
+    × HasMet l.trail.entries l.fn.self.seen l.self.seen
+
+abbrev pub decreases-loop-self : goal.decreases-loop-self
+decreases-loop-self l = l.i

@@ -1,0 +1,75 @@
+use Rattle.std.specs.Prelude.{max}
+use Rattle.std.proofs.Common.{◌≡◌, ◌++◌, ◌∷◌, [], ℕ, inl, inr, true, take, get_or, List, ap, sym, ◌∙◌, subst, refl, None}
+use Rattle.std.proofs.lemmas.Result.{on_ok_weaker}
+use Rattle.dimacs.specs.logic.Literal.{Pos, negation, var_of}
+use Rattle.watches.specs.declared.trail.Assigned.{Assigned}
+use Rattle.conflict_analysis.specs.Seen.{met}
+use Rattle.conflict_analysis.specs.Walks.{AreKnown, HasMet, IsWalk}
+use Rattle.conflict_analysis.proofs.OnePast.{past_unmet, reason_can_be_met, reason_lives, past_resolved, past_kept}
+use Rattle.conflict_analysis.proofs.Walking.{ok_both}
+use Rattle.conflict_analysis.proofs.walk.Walk.look.Goals as goal
+use Rattle.conflict_analysis.proofs.walk.Walk.look.Goals.{After-index-entries-i}
+
+default : Assigned
+default = record { literal = Pos 1; level = 0; reason = None }
+
+pub returns-then-not-pass-clause-way : goal.returns-then-not-pass-clause-way
+returns-then-not-pass-clause-way c =
+    past_unmet c.args.arena.now c.args.trail.now c.args.i c.requires.within c.requires.built default c.args.self.now c.pass.new.self c.args.lemma.now
+    c.requires.way c.pass.ensures.walk c.pass.ensures.seen (c.pass.ensures.lower default) (sym (c.pass.ensures.here default) ∙ c.if-not-pass.true) c.if-not-pass.ensures.passed
+
+-- the entry, by its place
+entry_is : (es xs : List Assigned) (i : ℕ) (e : Assigned) → xs ≡ es → e ≡ get_or xs i e → e ≡ get_or es i e
+entry_is es xs i e q h = subst (λ ys. e ≡ get_or ys i e) q h
+
+is : (c : After-index-entries-i) → c.index-entries-i.result ≡ get_or c.args.trail.now.entries c.args.i c.index-entries-i.result
+is c = entry_is c.args.trail.now.entries c.entries-entries.result.now c.args.i c.index-entries-i.result c.entries-entries.ensures.entries c.index-entries-i.is
+
+seen : (c : After-index-entries-i) → met c.args.self.now.seen (var_of (get_or c.args.trail.now.entries c.args.i c.index-entries-i.result).literal) ≡ true
+seen c = sym (c.pass.ensures.here c.index-entries-i.result) ∙ c.if-not-pass.false
+
+pub choose-requires-clause-known : goal.choose-requires-clause-known
+choose-requires-clause-known c = λ n r C h k j.
+    subst (λ xs. AreKnown (take c.args.i xs) (met c.pass.new.self.seen) C) (sym c.entries-entries.ensures.entries)
+    (reason_can_be_met c.args.arena.now c.args.trail.now c.args.i c.requires.within c.requires.built c.index-entries-i.result c.args.self.now c.pass.new.self c.args.lemma.now
+    c.requires.way c.pass.ensures.walk c.pass.ensures.seen (c.pass.ensures.lower c.index-entries-i.result) (seen c) n (ap (λ (x : Assigned). x.reason) (sym (is c)) ∙ r) C h) k j
+
+pub meet_number-requires-clause-live : goal.meet_number-requires-clause-live
+meet_number-requires-clause-live c =
+    let b = (goal.at.meet_number-requires-clause-live c).After-index-entries-i in
+    reason_lives c.args.arena.now c.args.trail.now c.args.i c.requires.within c.requires.built c.index-entries-i.result c.args.self.now c.pass.new.self c.args.lemma.now
+    c.requires.way c.pass.ensures.walk c.pass.ensures.seen (c.pass.ensures.lower c.index-entries-i.result) c.in-Some.number (ap (λ (x : Assigned). x.reason) (sym (is b)) ∙ c.in-Some.ensures.0)
+
+pub meet_number-requires-clause-known : goal.meet_number-requires-clause-known
+meet_number-requires-clause-known c = λ C h k j.
+    let b = (goal.at.meet_number-requires-clause-known c).After-index-entries-i in
+    subst (λ xs. AreKnown (take c.args.i xs) (met c.pass.new.self.seen) C) (sym c.entries-entries.ensures.entries)
+    (reason_can_be_met c.args.arena.now c.args.trail.now c.args.i c.requires.within c.requires.built c.index-entries-i.result c.args.self.now c.pass.new.self c.args.lemma.now
+    c.requires.way c.pass.ensures.walk c.pass.ensures.seen (c.pass.ensures.lower c.index-entries-i.result) (seen b) c.in-Some.number (ap (λ (x : Assigned). x.reason) (sym (is b)) ∙ c.in-Some.ensures.0) C h) k j
+
+pub returns-in_ok-push-in-Some-clause-way : goal.returns-in_ok-push-in-Some-clause-way
+returns-in_ok-push-in-Some-clause-way c =
+    let b = (goal.at.returns-in_ok-push-in-Some-clause-way c).After-index-entries-i in
+    let e = c.in_ok-meet_number-in-Some.ensures in
+    let q = is b in
+    past_resolved c.args.arena.now c.args.trail.now c.args.i c.requires.within c.requires.built c.index-entries-i.result c.args.self.now c.pass.new.self c.args.lemma.now
+    c.requires.way c.pass.ensures.walk c.pass.ensures.seen (c.pass.ensures.lower c.index-entries-i.result) (seen b) c.in-Some.number (ap (λ (x : Assigned). x.reason) (sym q) ∙ c.in-Some.ensures.0)
+    (λ l. c.in-Some.ensures.1 (ap (λ (x : Assigned). x.level) q ∙ l)) c.meet_number.new.self
+    (subst (λ xs. IsWalk c.args.trail.now (take c.args.i xs) c.meet_number.new.self) c.entries-entries.ensures.entries e.walk)
+    (subst (λ xs. HasMet (take c.args.i xs) c.pass.new.self.seen c.meet_number.new.self.seen) c.entries-entries.ensures.entries e.seen)
+    e.all _ refl c.in_ok-push-in-Some.ensures.items refl
+
+pub returns-in-None-clause-way : goal.returns-in-None-clause-way
+returns-in-None-clause-way c =
+    let b = (goal.at.returns-in-None-clause-way c).After-index-entries-i in
+    let q = is b in
+    let level = ap (λ (x : Assigned). x.level) q in
+    let lits = c.args.lemma.now.lits.items in
+    let p = (c.pass.ensures.walk).level in
+    on_ok_weaker c.keep.result (λ k.
+    past_kept c.args.arena.now c.args.trail.now c.args.i c.requires.within c.requires.built c.index-entries-i.result c.args.self.now c.pass.new.self c.args.lemma.now
+    c.requires.way c.pass.ensures.walk c.pass.ensures.seen (c.pass.ensures.lower c.index-entries-i.result) (seen b)
+    (λ l. elim (c.in-None.ensures (level ∙ l)) [ inl z ↦ inl z | inr r ↦ inr (ap (λ (x : Assigned). x.reason) (sym q) ∙ r) ])
+    c.keep.new.self (k.0 ∙ ap (λ (x : Assigned). lits ++ negation x.literal ∷ []) q) c.keep.ensures.hints
+    (λ l. k.1.0 (level ∙ l ∙ sym p)) (λ n. k.1.1 (λ l. n (sym level ∙ l ∙ p)) ∙ ap (λ m. max c.args.lemma.now.level m) level))
+    (ok_both _ _ c.keep.result c.keep.ensures.lits (ok_both _ _ c.keep.result c.keep.ensures.same c.keep.ensures.lower))

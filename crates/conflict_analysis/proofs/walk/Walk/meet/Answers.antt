@@ -1,0 +1,39 @@
+use Rattle.std.proofs.Common.{◌≡◌, [], ◌∷◌, ◌++◌, true, false, refl, sym, ◌∙◌, ap, set}
+use Rattle.dimacs.specs.logic.Literal.{negation, var_of}
+use Rattle.conflict_analysis.specs.Seen.{met}
+use Rattle.conflict_analysis.proofs.OneMore.{meets_here, meets_below, meets_only}
+use Rattle.conflict_analysis.proofs.walk.Walk.meet.Goals as goal
+use Rattle.conflict_analysis.proofs.walk.Walk.meet.Goals.{In_ok-push}
+
+new : (c : In_ok-push) → met c.args.self.now.seen (var_of c.args.literal) ≡ false
+new c = ap (met c.args.self.now.seen) (sym c.var-var.ensures) ∙ sym c.has.ensures ∙ c.if-has.false
+
+is : (c : In_ok-push) → c.entry_of-entry.result.literal ≡ negation c.args.literal
+is c = c.entry_of-entry.ensures.literal ∙ c.negate.ensures
+
+listed : (c : In_ok-push) → c.push.new.self.items ≡ c.args.self.now.met.items ++ var_of c.args.literal ∷ []
+listed c = c.in_ok-push.ensures.items ∙ ap (λ v. c.args.self.now.met.items ++ v ∷ []) c.var-var.ensures
+
+pub returns-then-entry-self-clause-walk : goal.returns-then-entry-self-clause-walk
+returns-then-entry-self-clause-walk c =
+    let b = (goal.at.returns-then-entry-self-clause-walk c).In_ok-push in
+    meets_here c.args.trail.now c.args.front.now c.args.self.now c.args.literal c.entry_of-entry.result c.requires.walk c.requires.within c.requires.known (new b) c.entry_of-entry.ensures.member (is b)
+    _ (c.insert.ensures ∙ ap (λ v. set c.args.self.now.seen v true) c.var-var.ensures) refl refl refl (listed b) c.if-entry-self.true
+
+pub returns-else-entry-self-clause-walk : goal.returns-else-entry-self-clause-walk
+returns-else-entry-self-clause-walk c =
+    let b = (goal.at.returns-else-entry-self-clause-walk c).In_ok-push in
+    meets_below c.args.trail.now c.args.front.now c.args.self.now c.args.literal c.entry_of-entry.result c.requires.walk c.requires.within c.requires.known (new b) c.entry_of-entry.ensures.member (is b)
+    _ (c.insert.ensures ∙ ap (λ v. set c.args.self.now.seen v true) c.var-var.ensures) refl refl refl (listed b) c.if-entry-self.false
+
+pub returns-then-entry-self-clause-seen : goal.returns-then-entry-self-clause-seen
+returns-then-entry-self-clause-seen c =
+    let b = (goal.at.returns-then-entry-self-clause-seen c).In_ok-push in
+    meets_only c.args.trail.now c.args.front.now c.args.self.now c.args.literal c.entry_of-entry.result c.requires.walk c.requires.within c.requires.known (new b) c.entry_of-entry.ensures.member (is b)
+    _ (c.insert.ensures ∙ ap (λ v. set c.args.self.now.seen v true) c.var-var.ensures)
+
+pub returns-else-entry-self-clause-seen : goal.returns-else-entry-self-clause-seen
+returns-else-entry-self-clause-seen c =
+    let b = (goal.at.returns-else-entry-self-clause-seen c).In_ok-push in
+    meets_only c.args.trail.now c.args.front.now c.args.self.now c.args.literal c.entry_of-entry.result c.requires.walk c.requires.within c.requires.known (new b) c.entry_of-entry.ensures.member (is b)
+    _ (c.insert.ensures ∙ ap (λ v. set c.args.self.now.seen v true) c.var-var.ensures)

@@ -1,0 +1,23 @@
+use Rattle.std.proofs.Common.{◌≡◌, inl, inr, true, sym, ◌∙◌, subst}
+use Rattle.std.specs.List.{Contains}
+use Rattle.std.proofs.lemmas.List.{take_all}
+use Rattle.dimacs.specs.logic.Literal.{var_of}
+use Rattle.conflict_analysis.specs.Seen.{met}
+use Rattle.conflict_analysis.proofs.Fronts.{Contains-take_more}
+use Rattle.conflict_analysis.proofs.HasMet.{met_further}
+use Rattle.conflict_analysis.proofs.walk.Walk.meet_clause.Goals as goal
+
+pub loop-literal-preserved : goal.loop-literal-preserved
+loop-literal-preserved c =
+    let i = c.loop-literal.invariant in
+    let e = c.in_ok-meet.ensures in (
+      e.walk,
+      λ k h. elim (Contains-take_more c.args.clause.now c.loop-literal.literal-index c.literal-item.result k c.loop-literal-test.true h) [
+        | inl t ↦ e.seen.grows (var_of k) (i.1 k t)
+        | inr q ↦ let p = c.literal-item.is in subst (λ x. met c.meet.new.self.seen (var_of x) ≡ true) (p ∙ q) e.here
+      ],
+      met_further c.args.front.now c.args.self.now.seen c.loop-literal.self.seen c.meet.new.self.seen i.2 e.seen,
+    )
+
+pub returns-clause-all : goal.returns-clause-all
+returns-clause-all c = λ k h. (c.loop-literal.invariant).1 k (subst (λ xs. Contains xs k) (sym (take_all c.loop-literal.literal-index c.args.clause.now c.loop-literal-test.false)) h)

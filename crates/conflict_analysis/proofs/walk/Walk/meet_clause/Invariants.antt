@@ -1,0 +1,11 @@
+use Rattle.std.proofs.Common.{take}
+use Rattle.conflict_analysis.specs.Seen.{met}
+use Rattle.conflict_analysis.specs.Walks.{AreMet, HasMet, IsWalk}
+use Rattle.conflict_analysis.proofs.walk.Walk.meet_clause.Given as goal
+
+-- the literals so far were met
+abbrev pub invariant-loop-literal : goal.invariant-loop-literal
+invariant-loop-literal l =
+    IsWalk l.trail l.front l.self
+    × AreMet (met l.self.seen) (take l.literal-index l.clause)
+    × HasMet l.front l.fn.self.seen l.self.seen

@@ -1,0 +1,101 @@
+//! The variables that were met.
+
+ghost use Rattle.std.specs.Prelude.{◌≡◌, ℕ, ◌<◌, ◌≤◌, true, false, [], length, slice_set, All, IfOk, OnOk};
+ghost use Rattle.conflict_analysis.specs.Seen.{met};
+
+use dimacs::Var;
+use std::alloc::{AllocError, Global};
+use std::marker::Model;
+
+/// A set of variables. One is in it where its stamp is the present one, so that a new stamp empties it.
+#[derive(Drop)]
+pub(crate) struct Seen {
+    stamps: Vec<u64>,
+    stamp: u64,
+}
+
+impl Model for Seen {
+    ghost use Rattle.std.specs.Prelude.{Bool, List, ◌≤◌, All};
+    ghost use Rattle.conflict_analysis.specs.Seen.{stamped};
+
+    ghost Value = { List Bool };
+
+    ghost view = { λ s. stamped s.stamps.items s.stamp };
+
+    ghost invariant = { λ s. All (λ x. x ≤ s.stamp) s.stamps.items };
+}
+
+impl Seen {
+    /// Without room for a variable.
+    pub(crate) fn new(alloc: Global) -> Seen
+        ensures { result ≡ [] }
+    {
+        Seen {
+            stamps: Vec::new(alloc),
+            stamp: 0,
+        }
+    }
+
+    /// With room for the variables from 1 to `vars`, of which none is in.
+    pub(crate) fn with_room(alloc: Global, vars: u32) -> Result<Seen, AllocError>
+        ensures { IfOk result (λ seen. vars < length seen) }
+    {
+        Ok(Seen {
+            stamps: vec![in alloc; 0; vars as usize + 1]?,
+            stamp: 1,
+        })
+    }
+
+    /// Takes all out, and has room for the variables from 1 to `vars`.
+    pub(crate) fn restart(&mut self, vars: u32) -> Result<(), AllocError>
+        ensures room { OnOk result (vars < length self.new) }
+        ensures none { OnOk result ((v : ℕ) → met self.new v ≡ false) }
+    {
+        make_room(&mut self.stamps, vars as usize + 1)?;
+        if self.stamp == u64::MAX {
+            clear(&mut self.stamps);
+            self.stamp = 0;
+        }
+        self.stamp += 1;
+        Ok(())
+    }
+
+    /// Whether a variable is in.
+    #[inline(always)]
+    pub(crate) fn has(&self, var: Var) -> bool
+        requires { var < length self.now }
+        ensures { result ≡ met self.now var }
+    {
+        self.stamps[var.number() as usize] == self.stamp
+    }
+
+    /// Puts a variable in.
+    #[inline(always)]
+    pub(crate) fn insert(&mut self, var: Var)
+        requires { var < length self.old }
+        ensures { self.new ≡ slice_set self.old var true }
+    {
+        self.stamps[var.number() as usize] = self.stamp;
+    }
+}
+
+/// Makes at least so many places. The new ones have no stamp.
+fn make_room(stamps: &mut Vec<u64>, places: usize) -> Result<(), AllocError>
+    ensures room { OnOk result (places ≤ length stamps.new.items) }
+    ensures bounded { (n : ℕ) → All (λ s. s ≤ n) stamps.old.items → All (λ s. s ≤ n) stamps.new.items }
+{
+    while stamps.len() < places {
+        stamps.push(0)?;
+    }
+    Ok(())
+}
+
+/// Takes each stamp away.
+fn clear(stamps: &mut Vec<u64>)
+    ensures len { length stamps.new.items ≡ length stamps.old.items }
+    ensures cleared { All (λ s. s ≤ 0) stamps.new.items }
+{
+    for i in 0..stamps.len() {
+        stamps[i] = 0;
+    }
+}
