@@ -31,4 +31,4 @@ pub mod TruthBytes
 pub mod Walks
 pub mod Slots
 pub mod FarSlots
-pub mod Holders
+pub mod Held

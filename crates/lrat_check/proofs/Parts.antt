@@ -12,21 +12,21 @@ use Rattle.std.proofs.lemmas.List.Elements.{All-take, All-drop}
 use Rattle.dimacs.specs.logic.Literal.{Literal, Clause, var_of}
 use Rattle.dimacs.specs.layout.Flat.{parts}
 use Rattle.lrat_check.specs.declared.slot.Slot.{Slot}
-use Rattle.lrat_check.specs.declared.store.Far.{Far}
+use Rattle.lrat_check.specs.declared.slot_tables.Far.{Far}
 use Rattle.lrat_check.specs.Store.{clause_at, entries_of, near_entries, live_of, numbered, numbered_entries, place_of, ArePlaced, IsStore}
 use Rattle.lrat_check.specs.Table.{FitsTable, AllFit}
 use Rattle.lrat_check.proofs.Counted.{counted_none, counted_new}
 use Rattle.lrat_check.proofs.Formula.{clauses_more, find-past}
 use Rattle.lrat_check.proofs.Slots.{near_at, get-live_of, placed_at, no_slot, no_place}
 
-entries_of-push : (words : List Literal) (number : ℕ → ℕ) (slots : List (Option Slot)) (n : ℕ) (s : Slot)
-    → entries_of words number n (slots ++ Some s ∷ []) ≡ entries_of words number n slots ++ (number (n + length slots), clause_at words s) ∷ []
-entries_of-push words number [] n s = ap (λ k. (number k, clause_at words s) ∷ []) (omega arith)
-entries_of-push words number (None ∷ slots) n s =
-    entries_of-push words number slots (n + 1) s ∙ ap (λ k. entries_of words number (n + 1) slots ++ (number k, clause_at words s) ∷ []) (omega arith)
-entries_of-push words number (Some v ∷ slots) n s =
-    ap (λ (es : List (ℕ × Clause)). (number n, clause_at words v) ∷ es)
-    (entries_of-push words number slots (n + 1) s ∙ ap (λ k. entries_of words number (n + 1) slots ++ (number k, clause_at words s) ∷ []) (omega arith))
+entries_of-push : (literals : List Literal) (number : ℕ → ℕ) (slots : List (Option Slot)) (n : ℕ) (s : Slot)
+    → entries_of literals number n (slots ++ Some s ∷ []) ≡ entries_of literals number n slots ++ (number (n + length slots), clause_at literals s) ∷ []
+entries_of-push literals number [] n s = ap (λ k. (number k, clause_at literals s) ∷ []) (omega arith)
+entries_of-push literals number (None ∷ slots) n s =
+    entries_of-push literals number slots (n + 1) s ∙ ap (λ k. entries_of literals number (n + 1) slots ++ (number k, clause_at literals s) ∷ []) (omega arith)
+entries_of-push literals number (Some v ∷ slots) n s =
+    ap (λ (es : List (ℕ × Clause)). (number n, clause_at literals v) ∷ es)
+    (entries_of-push literals number slots (n + 1) s ∙ ap (λ k. entries_of literals number (n + 1) slots ++ (number k, clause_at literals s) ∷ []) (omega arith))
 
 -- the part at a place, and those behind it
 parts_next : (xs : List Literal) (places : List ℕ) (i : ℕ) → i + 1 < length places
@@ -60,13 +60,13 @@ pub slots_all : (xs : List Literal) (places : List ℕ) (es : List (ℕ × Claus
 slots_all xs places es i le lt = ap (λ cs. es ++ enumerate_from (i + 1) cs) (one_place xs places i le lt) ∙ append-nil es
 
 -- the clauses of a table alone
-pub live_near : (words : List Literal) (near : List (Option Slot)) (far : Far) (F : List Clause) → far.slots.items ≡ [] → near_entries words near ≡ numbered_entries F → live_of words near far ≡ numbered F
-live_near words near far F none same =
-    ap (λ (es : List (ℕ × Clause)). from_entries {R = nat_cmp} (near_entries words near ++ es)) (ap (entries_of words (λ p. get_or far.numbers.items p 0) 0) none)
-    ∙ ap (λ (es : List (ℕ × Clause)). from_entries {R = nat_cmp} es) (append-nil (near_entries words near) ∙ same)
+pub live_near : (literals : List Literal) (near : List (Option Slot)) (far : Far) (F : List Clause) → far.slots.items ≡ [] → near_entries literals near ≡ numbered_entries F → live_of literals near far ≡ numbered F
+live_near literals near far F none same =
+    ap (λ (es : List (ℕ × Clause)). from_entries {R = nat_cmp} (near_entries literals near ++ es)) (ap (entries_of literals (λ p. get_or far.numbers.items p 0) 0) none)
+    ∙ ap (λ (es : List (ℕ × Clause)). from_entries {R = nat_cmp} es) (append-nil (near_entries literals near) ∙ same)
 
-pub store_near : (words : List Literal) (near : List (Option Slot)) (far : Far) → ArePlaced words near → far.places.entries ≡ [] → far.numbers.items ≡ [] → far.slots.items ≡ [] → IsStore words near far
-store_near words near far placed places numbers slots = record {
+pub store_near : (literals : List Literal) (near : List (Option Slot)) (far : Far) → ArePlaced literals near → far.places.entries ≡ [] → far.numbers.items ≡ [] → far.slots.items ≡ [] → IsStore literals near far
+store_near literals near far placed places numbers slots = record {
   near_placed = placed;
   far_placed = λ q s is. absurd (no_slot s (sym (ap (λ xs. get_or xs q None) slots) ∙ is));
   level = ap length numbers ∙ sym (ap length slots);
@@ -80,18 +80,18 @@ store_near words near far placed places numbers slots = record {
 no_clause : (C : Clause) → None ≡ Some C → ⊥
 no_clause C e = cc
 
--- a table that fits all words fits each clause
-pub near_fits : (words : List Literal) (near : List (Option Slot)) (far : Far) (places : ℕ) → IsStore words near far → far.slots.items ≡ [] → FitsTable places words → AllFit places (live_of words near far)
-near_fits words near far places store none fits id C is = at (place_of far id) refl
+-- a table that fits all literals fits each clause
+pub near_fits : (literals : List Literal) (near : List (Option Slot)) (far : Far) (places : ℕ) → IsStore literals near far → far.slots.items ≡ [] → FitsTable places literals → AllFit places (live_of literals near far)
+near_fits literals near far places store none fits id C is = at (place_of far id) refl
   where
-    at_slot : (o : Option Slot) → option_or (option_map (clause_at words) o) None ≡ Some C → FitsTable places C
+    at_slot : (o : Option Slot) → option_or (option_map (clause_at literals) o) None ≡ Some C → FitsTable places C
     at_slot None e = absurd (no_clause C e)
     at_slot (Some s) e =
-        let same : clause_at words s ≡ C = cc in
-        subst (λ D. FitsTable places D) same (All-take (λ l. 2 * var_of l + 1 < places) s.len (drop s.place words) (All-drop (λ l. 2 * var_of l + 1 < places) s.place words fits))
+        let same : clause_at literals s ≡ C = cc in
+        subst (λ D. FitsTable places D) same (All-take (λ l. 2 * var_of l + 1 < places) s.len (drop s.place literals) (All-drop (λ l. 2 * var_of l + 1 < places) s.place literals fits))
 
     at : (o : Option ℕ) → place_of far id ≡ o → FitsTable places C
-    at None e = at_slot (get_or near id None) (sym (get-live_of words near far id store ∙ ap (λ o. option_or (near_at words near id) (placed_at words far.slots.items o)) e) ∙ is)
+    at None e = at_slot (get_or near id None) (sym (get-live_of literals near far id store ∙ ap (λ o. option_or (near_at literals near id) (placed_at literals far.slots.items o)) e) ∙ is)
     at (Some p) e = absurd (omega (arith, (store.found id p e).1, ap length none))
 
 -- the next number is not live yet

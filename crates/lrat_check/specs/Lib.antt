@@ -14,3 +14,6 @@ pub mod Table
 pub mod Verdicts
 pub mod Cell
 pub mod Store
+pub mod Statuses
+pub mod Changes
+pub mod Holders

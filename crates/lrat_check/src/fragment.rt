@@ -8,18 +8,19 @@ ghost use Rattle.lrat_check.specs.declared.fault.StepFault.TheVariants.{NoMemory
 ghost use Rattle.dimacs.specs.logic.ClauseMap.{map_of};
 ghost use Rattle.lrat_text.specs.Log.{Closes};
 ghost use Rattle.lrat_text.specs.Steps.{step_of};
+ghost use Rattle.lrat_check.specs.Changes.{NoneNew};
 ghost use Rattle.lrat_check.specs.Checking.{GivesCheck, no_memory};
 ghost use Rattle.lrat_check.specs.Faults.{live_after, removed, top_after};
 ghost use Rattle.lrat_check.specs.FragmentFaults.{FragmentGoesOn, FragmentStops, fragment_fault_number, fragment_refusal, number_in};
 ghost use Rattle.lrat_check.specs.Fragments.{closes, fragment_end, fragment_of, fragment_text, fragment_step_fault, own_addition_fault, own_deletion_fault, own_lemma_fault};
-ghost use Rattle.lrat_check.specs.Marks.{IsUnused, IsWithin, AllAtMost};
+ghost use Rattle.lrat_check.specs.Marks.{IsUnused, AllAtMost};
 ghost use Rattle.lrat_check.specs.Table.{FitsTable, AllFit};
 
 use crate::checking::{CheckFault, out_of_memory, step_refused, text_refused};
 use crate::fault::StepFault;
 use crate::live::LiveClauses;
 use crate::loading::load;
-use crate::marks::{assume_negations, fresh, make_room};
+use crate::marks::{Marks, assume_negations};
 use crate::propagation::follow;
 use dimacs::{Base, Lit, has_literal};
 use lrat_text::{Groups, StepBuffer, StepRef, cut_line, read_line};
@@ -81,34 +82,28 @@ fn test_rup(
 /// The same, with room made for the lemma, under a new stamp.
 fn test_own(
     clauses: &LiveClauses,
-    marks: &mut Vec<u64>,
-    stamp: &mut u64,
+    marks: &mut Marks,
     lits: &[Lit],
     hints: &[u64],
     groups: &Groups,
 ) -> Result<(), FragmentFault>
-    requires table { AllFit (vec_len marks.old) clauses.now }
-    requires most { AllAtMost stamp.old marks.old.items }
+    requires { AllFit (vec_len marks.old.table) clauses.now }
     ensures took { OnOk result (own_lemma_fault clauses.now lits.now hints.now groups.now ≡ None) }
     ensures refused { IfErr result (λ f. (f ≡ FragmentFault.Step NoMemory) ⊎ (own_lemma_fault clauses.now lits.now hints.now groups.now ≡ Some (fragment_fault_number f))) }
-    ensures fits { OnOk result (FitsTable (vec_len marks.new) lits.now) }
-    ensures longer { vec_len marks.old ≤ vec_len marks.new }
-    ensures most { AllAtMost stamp.new marks.new.items }
+    ensures fits { OnOk result (FitsTable (vec_len marks.new.table) lits.now) }
+    ensures longer { vec_len marks.old.table ≤ vec_len marks.new.table }
 {
-    match make_room(marks, lits) {
-        Ok(()) => {}
-        Err(_) => return Err(FragmentFault::Step(StepFault::NoMemory)),
+    match marks.begin(lits, 0) {
+        Ok(base) => test_rup(clauses, &mut marks.table, base, lits, hints, groups),
+        Err(_) => Err(FragmentFault::Step(StepFault::NoMemory)),
     }
-    let base = fresh(marks, *stamp, 0);
-    *stamp = base;
-    test_rup(clauses, marks, base, lits, hints, groups)
 }
 
 /// Takes out the clauses of these numbers, from the left, until one is the base's or not live.
 fn delete_own(clauses: &mut LiveClauses, base: u64, ids: &[u64]) -> Result<(), FragmentFault>
     ensures fault { number_in result ≡ own_deletion_fault base clauses.old ids.now }
     ensures ok { OnOk result (clauses.new ≡ removed clauses.old ids.now) }
-    ensures fewer { IsWithin clauses.old clauses.new }
+    ensures fewer { NoneNew clauses.old clauses.new }
 {
     for id in ids {
         if *id <= base {
@@ -137,13 +132,11 @@ fn negates(cube: &[Lit], lits: &[Lit]) -> bool
 #[derive(Drop)]
 pub(crate) struct FragmentChecker {
     clauses: LiveClauses,
-    marks: Vec<u64>,
-    stamp: u64,
+    marks: Marks,
     top: u64,
     base: u64,
     closed: bool,
-    ghost fits: { AllFit (vec_len marks) clauses },
-    ghost most: { AllAtMost stamp marks.items },
+    ghost fits: { AllFit (vec_len marks.table) clauses },
 }
 
 impl FragmentChecker {
@@ -164,14 +157,7 @@ impl FragmentChecker {
         if id <= self.top || id - self.top > 1 {
             return Err(FragmentFault::Step(StepFault::NumberNotRising));
         }
-        match test_own(
-            &self.clauses,
-            &mut self.marks,
-            &mut self.stamp,
-            lits,
-            hints,
-            groups,
-        ) {
+        match test_own(&self.clauses, &mut self.marks, lits, hints, groups) {
             Ok(()) => {}
             Err(fault) => return Err(fault),
         }
@@ -231,7 +217,6 @@ fn begin(alloc: Global, base: &Base) -> Result<FragmentChecker, AllocError>
     Ok(FragmentChecker {
         clauses,
         marks,
-        stamp: 0,
         top,
         base: top,
         closed: false,

@@ -2,13 +2,12 @@
 
 ghost use Rattle.std.specs.Prelude.{◌≡◌, IfOk, length, vec_len};
 ghost use Rattle.dimacs.specs.layout.Flat.{parts, ArePlaces};
-ghost use Rattle.lrat_check.specs.Marks.{AllAtMost};
 ghost use Rattle.lrat_check.specs.Store.{near_entries, numbered, numbered_entries, ArePlaced};
 ghost use Rattle.lrat_check.specs.Table.{AllFit};
 
 use crate::live::LiveClauses;
+use crate::marks::Marks;
 use crate::slot::{Cell, Slot};
-use crate::table::grow;
 use dimacs::Lit;
 use std::alloc::{AllocError, Global};
 
@@ -36,19 +35,17 @@ pub(crate) fn slots_of(
     Ok(near)
 }
 
-/// The clauses that begin at these places, numbered from 1, and a table of marks for their literals.
+/// The clauses that begin at these places, numbered from 1, and the marks of their literals.
 pub(crate) fn load(
     alloc: Global,
     literals: Vec<Lit>,
     places: &[u32],
-) -> Result<(LiveClauses, Vec<u64>), AllocError>
+) -> Result<(LiveClauses, Marks), AllocError>
     requires { ArePlaces places.now (vec_len literals) }
     ensures clauses { IfOk result (λ r. r.0 ≡ numbered (parts literals.items places.now)) }
-    ensures fits { IfOk result (λ r. AllFit (vec_len r.1) r.0) }
-    ensures most { IfOk result (λ r. AllAtMost 0 r.1.items) }
+    ensures fits { IfOk result (λ r. AllFit (vec_len r.1.table) r.0) }
 {
     let clauses = LiveClauses::of_parts(alloc, literals, places)?;
-    let mut marks = Vec::new(alloc);
-    grow(&mut marks, clauses.places(), 0)?;
+    let marks = Marks::new(alloc, clauses.places())?;
     Ok((clauses, marks))
 }

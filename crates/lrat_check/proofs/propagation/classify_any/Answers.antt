@@ -2,6 +2,7 @@ use Rattle.std.proofs.Common.{◌<◌, length, ◌∙◌, sym, ap, arith}
 use Rattle.dimacs.specs.logic.Literal.{Literal}
 use Rattle.dimacs.specs.logic.Propagation.{Assumed}
 use Rattle.lrat_check.specs.Marks.{assumed_by}
+use Rattle.lrat_check.specs.Statuses.{status_in}
 use Rattle.lrat_check.proofs.Free.{status-more, status-more_false, none_true-more}
 use Rattle.lrat_check.proofs.propagation.classify_any.Goals as goal
 use Rattle.lrat_check.proofs.propagation.classify_any.Goals.{then-not-is_assumed, else-not-is_assumed}
@@ -15,12 +16,12 @@ loop-l-preserved c =
       none_true = none_true-more α c.args.clause.now c.loop-l.l-index l below c.l-item.is c.if-is_assumed.ensures c.loop-l.invariant.none_true;
       seen_is = elim c.if-not-is_assumed.branch [
         | then-not-is_assumed w ↦
-            w.seen-is ∙ w.with_free-seen.ensures
-            ∙ status-more α c.args.clause.now c.loop-l.l-index l c.loop-l.seen below c.l-item.is
+            ap status_in w.seen-is ∙ w.with_free-seen.ensures
+            ∙ status-more α c.args.clause.now c.loop-l.l-index l (status_in c.loop-l.seen) below c.l-item.is
             (sym w.if-not-is_assumed.true ∙ c.is_assumed-in-loop-l.ensures ∙ ap α c.negate.ensures) c.loop-l.invariant.seen_is
         | else-not-is_assumed w ↦
-            w.seen-is
-            ∙ status-more_false α c.args.clause.now c.loop-l.l-index l c.loop-l.seen below c.l-item.is
+            ap status_in w.seen-is
+            ∙ status-more_false α c.args.clause.now c.loop-l.l-index l (status_in c.loop-l.seen) below c.l-item.is
             (sym w.if-not-is_assumed.false ∙ c.is_assumed-in-loop-l.ensures ∙ ap α c.negate.ensures) c.loop-l.invariant.seen_is
       ];
     }

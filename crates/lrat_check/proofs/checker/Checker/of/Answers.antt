@@ -10,7 +10,6 @@ use Rattle.lrat_check.proofs.checker.Checker.of.Goals as goal
 pub invariant_of-result : goal.invariant_of-result
 invariant_of-result c = (
   c.in_ok-clauses.ensures.fits,
-  c.in_ok-clauses.ensures.most,
   c.len-top.ensures
       ∙ ap (length {A = Clause}) (ap (λ (f : Cnf). f.clauses) c.into_parts-literals.ensures.value ∙ ap (parts c.into_parts-literals.result.1.items) (sym c.deref.ensures.value))
       ∙ len-numbered (parts c.into_parts-literals.result.1.items c.deref.result.now)

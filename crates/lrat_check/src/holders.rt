@@ -1,0 +1,82 @@
+//! How many live clauses hold each literal: they are counted when that is first asked for, and kept from then on, so that a
+//! proof without RAT lemmas has no counts.
+
+ghost use Rattle.std.specs.Prelude.{◌≡◌, ◌≤◌, OnOk, slice_index, vec_len};
+ghost use Rattle.std.specs.Bool.{OnTrue};
+ghost use Rattle.dimacs.specs.logic.ClauseMap.{ClauseMap};
+ghost use Rattle.dimacs.specs.logic.Literal.{index_of};
+ghost use Rattle.lrat_check.specs.Holders.{AreCounted};
+ghost use Rattle.lrat_check.specs.Table.{AllFit, CountsAll};
+
+use crate::counts::count_live;
+use crate::store::Store;
+use crate::table::grow;
+use dimacs::Lit;
+use std::alloc::{AllocError, Global};
+
+/// The counts of the live clauses that hold each literal, once they are asked for.
+#[derive(Drop)]
+pub(crate) struct Holders {
+    /// Whether there are counts.
+    pub(crate) counting: bool,
+    pub(crate) counts: Vec<usize>,
+    /// Which literals of a clause were met, while it is counted.
+    pub(crate) seen: Vec<bool>,
+}
+
+impl Holders {
+    /// No counts.
+    pub(crate) fn new(alloc: Global) -> Holders
+        ensures { (M : ClauseMap) → AreCounted M result }
+    {
+        Holders {
+            counting: false,
+            counts: Vec::new(alloc),
+            seen: Vec::new(alloc),
+        }
+    }
+
+    /// Counts the live clauses, unless they are counted already.
+    pub(crate) fn count_all(&mut self, store: &Store, places: usize) -> Result<(), AllocError>
+        requires fits { AllFit places store.now.live }
+        requires counted { AreCounted store.now.live self.old }
+        ensures ok { OnOk result (CountsAll self.new.counts.items store.now.live) }
+        ensures counted { AreCounted store.now.live self.new }
+    {
+        if self.counting {
+            return Ok(());
+        }
+        self.counts.clear();
+        self.seen.clear();
+        grow(&mut self.counts, places, 0)?;
+        grow(&mut self.seen, places.max(self.counts.len()), false)?;
+        count_live(store, &mut self.counts, &mut self.seen);
+        self.counting = true;
+        Ok(())
+    }
+
+    /// How often a literal is counted.
+    pub(crate) fn of(&self, l: Lit) -> usize
+        ensures { result ≡ slice_index self.now.counts.items (index_of l) }
+    {
+        let place = l.index();
+        if place < self.counts.len() {
+            self.counts[place]
+        } else {
+            0
+        }
+    }
+
+    /// Makes at least so many places in the counts, where there are any.
+    pub(crate) fn make_places(&mut self, places: usize) -> Result<(), AllocError>
+        ensures fits { OnOk result (OnTrue self.new.counting (places ≤ vec_len self.new.counts)) }
+        ensures counted { (M : ClauseMap) → AreCounted M self.old → AreCounted M self.new }
+    {
+        if self.counting {
+            let needed = places.max(self.counts.len());
+            grow(&mut self.seen, needed, false)?;
+            grow(&mut self.counts, needed, 0)?;
+        }
+        Ok(())
+    }
+}
