@@ -1,64 +1,55 @@
 -- A proof's text that is taken in pieces.
-use Rattle.std.proofs.Common.{◌≡◌, ◌⊎◌, ℕ, ◌+◌, ◌==◌, false, List, [], ◌∷◌, ◌++◌, Result, Ok, Err, inl, inr, refl, sym, ◌∙◌, ap, subst, append_assoc}
+use Rattle.std.proofs.Common.{◌≡◌, ◌⊎◌, ℕ, ◌+◌, List, [], ◌∷◌, ◌++◌, Result, Ok, Err, inl, inr, refl, sym, ◌∙◌, ap, subst, append_assoc}
+use Rattle.std.specs.List.{All}
 use Rattle.std.proofs.lemmas.List.{append-nil}
-use Rattle.std.proofs.lemmas.List.Elements.{All-append}
+use Rattle.std.proofs.lemmas.List.Elements.{All-head, All-tail}
 use Rattle.dimacs.specs.logic.Cnf.{Cnf}
 use Rattle.lrat_text.specs.Lines.{IsCut, IsOpen}
-use Rattle.lrat_text.specs.Reading.{step_in}
+use Rattle.lrat_text.specs.Taking.{TakesAll, HandsOn, Stops as PieceStops, ended}
+use Rattle.lrat_text.specs.declared.lines.PieceFault.{PieceFault}
+use Rattle.lrat_text.specs.declared.lines.PieceFault.TheVariants.{NoMemory as NoPlace, Line}
 use Rattle.lrat_check.specs.declared.checking.CheckFault.{CheckFault}
+use Rattle.lrat_check.specs.declared.checking.LineChecker.{LineChecker}
+use Rattle.lrat_check.specs.Lines.{Takes, Refuses}
 use Rattle.lrat_check.specs.State.{State}
-use Rattle.lrat_check.specs.Checking.{check_text, check_of, check_end, check_line, no_memory, GivesCheck, GoesOn, Stops}
+use Rattle.lrat_check.specs.Checking.{check_text, check_of, check_end, piece_refusal, no_memory, GivesCheck, Stops}
 use Rattle.lrat_check.specs.Stream.{Progress, Within, Failed, check_more, answer_in, LeadsTo, Reaches, HasTaken, TakesPiece}
 use Rattle.lrat_check.proofs.Lines.{check_text-line, check_text-end}
 use Rattle.lrat_check.proofs.Passing.{gives}
 
 -- ---- where lines lead
 
--- the bytes that are begun, a text without an LF, an LF, and what follows
-cut_at : (begun text later more : List ℕ) → begun ++ ((text ++ 10 ∷ later) ++ more) ≡ (begun ++ text) ++ 10 ∷ (later ++ more)
-cut_at begun text later more = ap (λ (x : List ℕ). begun ++ x) (append_assoc text (10 ∷ later) more) ∙ sym (append_assoc begun text (10 ∷ (later ++ more)))
+-- lines that are passed, one after the other
+leads_all : (lines : List (List ℕ)) (s t : LineChecker) → All IsOpen lines → TakesAll Takes s lines t → (more : List ℕ)
+    → check_text s.checker.refuted s.checker.live s.checker.top s.line (ended lines ++ more) ≡ check_text t.checker.refuted t.checker.live t.checker.top t.line more
+leads_all [] s t each e more = ap (λ (c : LineChecker). check_text c.checker.refuted c.checker.live c.checker.top c.line more) e
+leads_all (line ∷ lines) s t each (m, (goes, follows), later) more =
+    ap (check_text s.checker.refuted s.checker.live s.checker.top s.line) (append_assoc line (10 ∷ ended lines) more)
+    ∙ check_text-line s.checker.refuted s.checker.live s.checker.top s.line line (ended lines ++ more) (All-head IsOpen line lines each)
+    ∙ goes.1 (λ refuted M top. check_text refuted M top (s.line + 1) (ended lines ++ more))
+    ∙ ap (λ n. check_text m.checker.refuted m.checker.live m.checker.top n (ended lines ++ more)) (sym follows)
+    ∙ leads_all lines m t (All-tail IsOpen line lines each) later more
 
--- the begun line is ended by a text of the piece, and given to the checker
-module _ (old : State) (line : ℕ) (begun text later piece given : List ℕ) (cut : IsCut piece text later) (no_lf : IsOpen begun) (whole : given ≡ begun ++ text) where
-  ended : (more : List ℕ)
-      → check_more (Within old line begun) (piece ++ more) ≡ check_line old.refuted old.live old.top line (step_in given) (λ refuted M top. check_text refuted M top (line + 1) (later ++ more))
-  ended more =
-      ap (λ (p : List ℕ). check_text old.refuted old.live old.top line (begun ++ (p ++ more))) cut.0
-      ∙ ap (check_text old.refuted old.live old.top line) (cut_at begun text later more)
-      ∙ check_text-line old.refuted old.live old.top line (begun ++ text) (later ++ more) (All-append (λ b. (b == 10) ≡ false) begun text no_lf cut.1)
-      ∙ ap (λ (l : List ℕ). check_line old.refuted old.live old.top line (step_in l) (λ refuted M top. check_text refuted M top (line + 1) (later ++ more))) (sym whole)
+-- the begun line and a piece
+pub hands_lead : (s : LineChecker) (begun piece : List ℕ) (t : LineChecker) (rest : List ℕ) → HandsOn Takes s (begun ++ piece) t rest → LeadsTo (Within s.checker s.line begun) piece (Within t.checker t.line rest)
+hands_lead s begun piece t rest h = λ more.
+    ap (check_text s.checker.refuted s.checker.live s.checker.top s.line) (sym (append_assoc begun piece more) ∙ ap (λ (x : List ℕ). x ++ more) h.whole ∙ append_assoc (ended h.lines) rest more)
+    ∙ leads_all h.lines s t h.one_by_one h.taken (rest ++ more)
 
-  -- a line that is passed
-  pub leads_line : (new : State) (next : ℕ) → next ≡ line + 1 → GoesOn old line given new → LeadsTo (Within old line begun) piece (Within new next later)
-  leads_line new next follows goes = λ more.
-      ended more
-      ∙ goes.1 (λ refuted M top. check_text refuted M top (line + 1) (later ++ more))
-      ∙ ap (λ n. check_text new.refuted new.live new.top n (later ++ more)) (sym follows)
+-- a line that is refused
+refused_leads : (s : LineChecker) (rest line later : List ℕ) (fault : CheckFault) → IsCut rest line later → Stops s.checker s.line line fault → LeadsTo (Within s.checker s.line []) rest (Failed fault)
+refused_leads s rest line later fault cut stops = λ more.
+    ap (λ (x : List ℕ). check_text s.checker.refuted s.checker.live s.checker.top s.line (x ++ more)) cut.0
+    ∙ ap (check_text s.checker.refuted s.checker.live s.checker.top s.line) (append_assoc line (10 ∷ later) more)
+    ∙ check_text-line s.checker.refuted s.checker.live s.checker.top s.line line (later ++ more) cut.1
+    ∙ stops (λ refuted M top. check_text refuted M top (s.line + 1) (later ++ more))
 
-  -- a line that is refused
-  pub leads_stop : (fault : CheckFault) → Stops old line given fault → LeadsTo (Within old line begun) piece (Failed fault)
-  leads_stop fault stops = λ more. ended more ∙ stops (λ refuted M top. check_text refuted M top (line + 1) (later ++ more))
-
-  pub stops_there : (fault : CheckFault) → (fault ≡ no_memory) ⊎ Stops old line given fault → (fault ≡ no_memory) ⊎ LeadsTo (Within old line begun) piece (Failed fault)
-  stops_there fault (inl none) = inl none
-  stops_there fault (inr stops) = inr (leads_stop fault stops)
-
--- what is begun behind the lines of a piece may as well be a piece of its own
-pub leads_on : (a c : Progress) (s : State) (line : ℕ) (piece rest : List ℕ) → LeadsTo a piece (Within s line rest) → LeadsTo (Within s line []) rest c → LeadsTo a piece c
-leads_on a c s line piece rest f g = λ more. f more ∙ g more
-
-pub fails_on : (a : Progress) (s : State) (line : ℕ) (piece rest : List ℕ) (fault : CheckFault) → LeadsTo a piece (Within s line rest)
-    → (fault ≡ no_memory) ⊎ LeadsTo (Within s line []) rest (Failed fault) → (fault ≡ no_memory) ⊎ LeadsTo a piece (Failed fault)
-fails_on a s line piece rest fault f (inl none) = inl none
-fails_on a s line piece rest fault f (inr g) = inr (leads_on a (Failed fault) s line piece rest f g)
-
--- one piece after another
-pub leads_then : (a b c : Progress) (p q : List ℕ) → LeadsTo a p b → LeadsTo b q c → LeadsTo a (p ++ q) c
-leads_then a b c p q f g = λ more. ap (check_more a) (append_assoc p q more) ∙ f (q ++ more) ∙ g more
-
--- a piece without an LF
-pub leads_begun : (s : State) (line : ℕ) (begun piece : List ℕ) → LeadsTo (Within s line begun) piece (Within s line (begun ++ piece))
-leads_begun s line begun piece = λ more. ap (check_text s.refuted s.live s.top line) (sym (append_assoc begun piece more))
+pub stops_lead : (s : LineChecker) (begun piece : List ℕ) (t : LineChecker) (fault : PieceFault CheckFault) → PieceStops Takes Refuses s (begun ++ piece) t fault
+    → (piece_refusal fault ≡ no_memory) ⊎ LeadsTo (Within s.checker s.line begun) piece (Failed (piece_refusal fault))
+stops_lead s begun piece t NoPlace stops = inl refl
+stops_lead s begun piece t (Line fault) (m, rest, line, later, h, cut, inl none) = inl none
+stops_lead s begun piece t (Line fault) (m, rest, line, later, h, cut, inr stops) =
+    inr (λ more. hands_lead s begun piece m rest h more ∙ refused_leads m rest line later fault cut stops more)
 
 -- ---- pieces
 

@@ -1,19 +1,20 @@
 -- The first fault of a fragment, which closes a cube over a base.
 use Rattle.std.specs.Prelude.{ℕ, ◌+◌, Bool, false, ◌==◌, nat_le, List, [], ◌∷◌, Option, Some, None, Result, Ok, Err, is_some, length, if◌then◌else◌}
 use Rattle.std.specs.FinMap.{get, remove}
-use Rattle.std.specs.List.{list_all, slice_split}
+use Rattle.std.specs.List.{list_all}
 use Rattle.dimacs.specs.logic.ClauseMap.{ClauseMap, map_of}
 use Rattle.dimacs.specs.logic.Cnf.{Cnf}
 use Rattle.dimacs.specs.logic.Literal.{Clause, negation, has}
 use Rattle.dimacs.specs.logic.Propagation.{negations}
 use Rattle.dimacs.specs.logic.Rat.{Group}
+use Rattle.dimacs.specs.text.Words.{lines}
 use Rattle.lrat_text.specs.Faults.{fault_number}
 use Rattle.lrat_text.specs.Log.{Cube}
 use Rattle.lrat_text.specs.Reading.{step_in}
 use Rattle.lrat_text.specs.declared.fault.TextFault.{TextFault}
 use Rattle.lrat_text.specs.declared.step.Step.{Step}
 use Rattle.lrat_text.specs.declared.step.Step.TheVariants.{Add, Delete}
-use Rattle.lrat_check.specs.Checking.{refused, by_pieces}
+use Rattle.lrat_check.specs.Checking.{refused, text_end, by_pieces}
 use Rattle.lrat_check.specs.Faults.{Walk, Through, Conflict, Fault, walk, is_tautology, some_group, live_after, top_after}
 use Rattle.lrat_check.specs.Numbers.{step_fault_number}
 use Rattle.lrat_check.specs.declared.checking.CheckFault.{CheckFault}
@@ -48,10 +49,9 @@ abbrev pub closes : Cube → Step → Bool
 closes q (Add id lits hints groups) = list_all (λ l. has q (negation l)) lits
 closes q (Delete ids) = false
 
--- behind the last LF stands nothing, and the last step closes the cube
+-- the last step closes the cube
 abbrev pub fragment_end : Bool → ℕ → List ℕ → Result (Unit {0}) CheckFault
-fragment_end closed line [] = if closed then Ok tt else refused 17 line 0
-fragment_end closed line (b ∷ bs) = refused 1 line 2
+fragment_end = text_end 17
 
 -- a step that has no fault leads to the next line
 abbrev pub fragment_step : ℕ → Option ℕ → Result (Unit {0}) CheckFault → Result (Unit {0}) CheckFault
@@ -70,7 +70,7 @@ fragment_pieces b q closed M top line piece (next ∷ pieces) =
 
 -- the first fault of a text that begins with the line of this number
 unfoldable pub fragment_text : ℕ → Cube → Bool → ClauseMap → ℕ → ℕ → List ℕ → Result (Unit {0}) CheckFault
-fragment_text b q closed M top line text = by_pieces (fragment_pieces b q closed M top line) (slice_split (λ c. c == 10) text)
+fragment_text b q closed M top line text = by_pieces (fragment_pieces b q closed M top line) (lines text)
 
 -- the first fault of a fragment over a base
 abbrev pub fragment_of : Cnf → Cube → List ℕ → Result (Unit {0}) CheckFault

@@ -1,9 +1,11 @@
 pub mod Checking
 pub mod Faults
+pub mod FragmentLines
 pub mod Fragments
 pub mod FragmentFaults
 pub mod Holding
 pub mod Judging
+pub mod Lines
 pub mod Marks
 pub mod Numbers
 pub mod Rising

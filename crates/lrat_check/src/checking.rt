@@ -1,11 +1,11 @@
 //! The lines of a proof's text, and what is answered at its end.
 
-ghost use Rattle.std.specs.Prelude.{◌≡◌, ◌==◌, ◌⊎◌, None, OnOk, IfErr};
-ghost use Rattle.lrat_check.specs.Checking.{no_memory, check_end, text_refusal, GoesOn, Stops, step_refusal};
+ghost use Rattle.std.specs.Prelude.{◌≡◌, ◌==◌, ◌⊎◌, ◌+◌, None, OnOk, IfErr, MatchResult};
+ghost use Rattle.lrat_check.specs.Checking.{no_memory, piece_refusal, text_end, text_refusal, GoesOn, Stops, step_refusal};
 
 use crate::checker::Checker;
 use crate::fault::StepFault;
-use lrat_text::{StepBuffer, TextFault, read_line};
+use lrat_text::{PieceFault, StepBuffer, TakesLines, TextFault, read_line};
 use thiserror::Error;
 
 /// Why a text is not an accepted proof.
@@ -89,9 +89,64 @@ pub(crate) fn take_line(
     }
 }
 
-/// What is answered at the end of a text, behind its last LF.
-pub(crate) fn finish(checker: &Checker, line: u64, rest: &[u8]) -> Result<(), CheckFault>
-    ensures { result ≡ check_end checker.now.refuted line rest.now }
+/// The number of the next line; none where it has no room in 64 bits.
+pub(crate) fn next_line(line: u64) -> Result<u64, CheckFault>
+    ensures { MatchResult result (λ next. next ≡ line + 1) (λ fault. fault ≡ no_memory) }
+{
+    match line.checked_add(1) {
+        Some(next) => Ok(next),
+        None => Err(out_of_memory()),
+    }
+}
+
+/// What is handed the lines of a proof, one after the other.
+#[derive(Drop)]
+pub(crate) struct LineChecker {
+    pub(crate) checker: Checker,
+    pub(crate) buffer: StepBuffer,
+    /// The number of the next line.
+    pub(crate) line: u64,
+}
+
+impl TakesLines for LineChecker {
+    ghost use Rattle.lrat_check.specs.Lines.{MayTake, Takes, Refuses};
+
+    type Fault = CheckFault;
+
+    ghost may_take = { MayTake };
+
+    ghost takes = { Takes };
+
+    ghost refuses = { Refuses };
+
+    fn take_line(&mut self, line: &[u8]) -> Result<(), CheckFault> {
+        match take_line(&mut self.checker, &mut self.buffer, self.line, line) {
+            Ok(()) => {}
+            Err(fault) => return Err(fault),
+        }
+        match next_line(self.line) {
+            Ok(next) => {
+                self.line = next;
+                Ok(())
+            }
+            Err(fault) => Err(fault),
+        }
+    }
+}
+
+/// The fault of a piece that was not taken to its end.
+pub(crate) fn piece_refused(fault: PieceFault<CheckFault>) -> CheckFault
+    ensures { result ≡ piece_refusal fault }
+{
+    match fault {
+        PieceFault::NoMemory => out_of_memory(),
+        PieceFault::Line(fault) => fault,
+    }
+}
+
+/// What is answered at the end of a text, behind its last LF, where it shows what it is to show, or has the fault of this number.
+pub(crate) fn finish(number: u8, shown: bool, line: u64, rest: &[u8]) -> Result<(), CheckFault>
+    ensures { result ≡ text_end number shown line rest.now }
 {
     if !rest.is_empty() {
         return Err(CheckFault {
@@ -100,11 +155,11 @@ pub(crate) fn finish(checker: &Checker, line: u64, rest: &[u8]) -> Result<(), Ch
             text: 2,
         });
     }
-    if checker.refuted() {
+    if shown {
         return Ok(());
     }
     Err(CheckFault {
-        number: 13,
+        number,
         line,
         text: 0,
     })

@@ -12,19 +12,22 @@ ghost use Rattle.lrat_check.specs.Changes.{NoneNew};
 ghost use Rattle.lrat_check.specs.Checking.{GivesCheck, no_memory};
 ghost use Rattle.lrat_check.specs.Faults.{live_after, removed, top_after};
 ghost use Rattle.lrat_check.specs.FragmentFaults.{FragmentGoesOn, FragmentStops, fragment_fault_number, fragment_refusal, number_in};
-ghost use Rattle.lrat_check.specs.Fragments.{closes, fragment_end, fragment_of, fragment_text, fragment_step_fault, own_addition_fault, own_deletion_fault, own_lemma_fault};
+ghost use Rattle.lrat_check.specs.Fragments.{closes, fragment_of, fragment_text, fragment_step_fault, own_addition_fault, own_deletion_fault, own_lemma_fault};
 ghost use Rattle.lrat_check.specs.Marks.{IsUnused, AllAtMost};
 ghost use Rattle.lrat_check.specs.Table.{FitsTable, AllFit};
 
-use crate::checking::{CheckFault, out_of_memory, step_refused, text_refused};
+use crate::checking::{CheckFault, finish, next_line, out_of_memory, step_refused, text_refused};
 use crate::fault::StepFault;
 use crate::live::LiveClauses;
 use crate::loading::load;
 use crate::marks::{Marks, assume_negations};
 use crate::propagation::follow;
 use dimacs::{Base, Lit, has_literal};
-use lrat_text::{Groups, StepBuffer, StepRef, cut_line, read_line};
+use lrat_text::{Groups, StepBuffer, StepRef, TakesLines, read_line, take_lines};
 use std::alloc::{AllocError, Global};
+
+/// The fault of a text whose last step does not close the cube.
+const NOT_CLOSED: u8 = 17;
 
 /// The first fault of a step of a fragment.
 #[derive(Clone, Copy, Debug, PartialEq, Eq)]
@@ -259,47 +262,56 @@ fn take_line(
     }
 }
 
-/// What is answered at the end of a text, behind its last LF.
-fn finish(closed: bool, line: u64, rest: &[u8]) -> Result<(), CheckFault>
-    ensures { result ≡ fragment_end closed line rest.now }
-{
-    if !rest.is_empty() {
-        return Err(CheckFault {
-            number: 1,
-            line,
-            text: 2,
-        });
-    }
-    if closed {
-        return Ok(());
-    }
-    Err(CheckFault {
-        number: 17,
-        line,
-        text: 0,
-    })
+/// What is handed the lines of a fragment, one after the other.
+#[derive(Drop)]
+struct FragmentLines<'a> {
+    checker: FragmentChecker,
+    buffer: StepBuffer,
+    cube: &'a [Lit],
+    /// The number of the next line.
+    line: u64,
 }
 
-/// Checks line by line.
-fn check_lines(
-    checker: &mut FragmentChecker,
-    buffer: &mut StepBuffer,
-    cube: &[Lit],
-    fragment: &[u8],
-) -> Result<(), CheckFault>
-    ensures { GivesCheck result (fragment_text checker.old.base cube.now checker.old.closed checker.old.clauses checker.old.top 1 fragment.now) }
-{
-    let mut rest = fragment;
-    let mut line = 1;
-    while let Some((text, later)) = cut_line(rest) {
-        match take_line(checker, buffer, cube, line, text) {
+impl<'a> TakesLines for FragmentLines<'a> {
+    ghost use Rattle.lrat_check.specs.FragmentLines.{MayTake, Takes, Refuses};
+
+    type Fault = CheckFault;
+
+    ghost may_take = { MayTake };
+
+    ghost takes = { Takes };
+
+    ghost refuses = { Refuses };
+
+    fn take_line(&mut self, line: &[u8]) -> Result<(), CheckFault> {
+        match take_line(
+            &mut self.checker,
+            &mut self.buffer,
+            self.cube,
+            self.line,
+            line,
+        ) {
             Ok(()) => {}
             Err(fault) => return Err(fault),
         }
-        rest = later;
-        line += 1;
+        match next_line(self.line) {
+            Ok(next) => {
+                self.line = next;
+                Ok(())
+            }
+            Err(fault) => Err(fault),
+        }
     }
-    finish(checker.closed, line, rest)
+}
+
+/// Checks line by line.
+fn check_lines(lines: &mut FragmentLines<'_>, fragment: &[u8]) -> Result<(), CheckFault>
+    ensures { GivesCheck result (fragment_text lines.old.checker.base lines.old.cube.now lines.old.checker.closed lines.old.checker.clauses lines.old.checker.top lines.old.line fragment.now) }
+{
+    match take_lines(lines, fragment) {
+        Ok(rest) => finish(NOT_CLOSED, lines.checker.closed, lines.line, rest),
+        Err(fault) => Err(fault),
+    }
 }
 
 /// Whether the text is a fragment that closes the cube over the base; else its first fault.
@@ -315,9 +327,14 @@ pub fn check_fragment(
     // the first fault, and its line
     ensures exact { GivesCheck result (fragment_of base.now cube.now fragment.now) }
 {
-    let Ok(mut checker) = begin(alloc, base) else {
+    let Ok(checker) = begin(alloc, base) else {
         return Err(out_of_memory());
     };
-    let mut buffer = StepBuffer::new(alloc);
-    check_lines(&mut checker, &mut buffer, cube, fragment)
+    let mut lines = FragmentLines {
+        checker,
+        buffer: StepBuffer::new(alloc),
+        cube,
+        line: 1,
+    };
+    check_lines(&mut lines, fragment)
 }

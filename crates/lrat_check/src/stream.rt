@@ -1,6 +1,6 @@
 //! Checks the text of a proof, whole or in any pieces.
 
-ghost use Rattle.std.specs.Prelude.{◌≡◌, ◌⊎◌, ◌+◌, ◌++◌, [], None, Ok, Err, OnOk, IfOk, MatchResult, MatchOption};
+ghost use Rattle.std.specs.Prelude.{◌≡◌, ◌⊎◌, [], None, Ok, Err, OnOk, IfOk, MatchResult};
 ghost use Rattle.lrat_text.specs.Lines.{IsOpen};
 ghost use Rattle.lrat_text.specs.Pieces.{joined};
 ghost use Rattle.lrat_text.specs.Proof.{Accepts};
@@ -8,149 +8,38 @@ ghost use Rattle.lrat_check.specs.Checking.{no_memory, GivesCheck, check_of};
 ghost use Rattle.lrat_check.specs.Stream.{Within, Failed, check_more, LeadsTo, HasTaken, TakesPiece, IsWithinLine};
 
 use crate::checker::Checker;
-use crate::checking::{CheckFault, finish, out_of_memory, take_line};
+use crate::checking::{CheckFault, LineChecker, finish, out_of_memory, piece_refused};
 use dimacs::Formula;
-use lrat_text::{StepBuffer, cut_line, reading_is_spelling};
+use lrat_text::{LineBuffer, StepBuffer, reading_is_spelling};
 use std::alloc::{AllocError, Global};
 use std::marker::Model;
 
-/// The number of the next line; none where it has no room in 64 bits.
-fn next_line(line: u64) -> Result<u64, CheckFault>
-    ensures { MatchResult result (λ next. next ≡ line + 1) (λ fault. fault ≡ no_memory) }
-{
-    match line.checked_add(1) {
-        Some(next) => Ok(next),
-        None => Err(out_of_memory()),
-    }
-}
-
-/// Puts bytes behind those of the line that is begun.
-fn keep(begun: &mut Vec<u8>, bytes: &[u8]) -> Result<(), CheckFault>
-    ensures { MatchResult result (λ _. begun.new.items ≡ begun.old.items ++ bytes.now) (λ fault. fault ≡ no_memory) }
-{
-    match begun.extend_from_slice(bytes) {
-        Ok(()) => Ok(()),
-        Err(_) => Err(out_of_memory()),
-    }
-}
-
-/// Takes the whole lines at the front of a piece, and answers what follows the last LF.
-fn take_lines<'a>(
-    checker: &mut Checker,
-    buffer: &mut StepBuffer,
-    line: &mut u64,
-    piece: &'a [u8],
-) -> Result<&'a [u8], CheckFault>
-    requires { checker.old.fault ≡ None }
-    ensures { MatchResult result
-        (λ rest. (checker.new.fault ≡ None) × IsOpen rest.now × LeadsTo (Within checker.old line.old []) piece.now (Within checker.new line.new rest.now))
-        (λ fault. (fault ≡ no_memory) ⊎ LeadsTo (Within checker.old line.old []) piece.now (Failed fault)) }
-{
-    let mut rest = piece;
-    while let Some((text, later)) = cut_line(rest) {
-        match take_line(checker, buffer, *line, text) {
-            Ok(()) => {}
-            Err(fault) => return Err(fault),
-        }
-        match next_line(*line) {
-            Ok(next) => *line = next,
-            Err(fault) => return Err(fault),
-        }
-        rest = later;
-    }
-    Ok(rest)
-}
-
-/// Ends the line that is begun, and takes it: answers what follows its LF, none where the piece has no LF.
-fn end_line<'a>(
-    checker: &mut Checker,
-    buffer: &mut StepBuffer,
-    line: &mut u64,
-    begun: &mut Vec<u8>,
-    piece: &'a [u8],
-) -> Result<Option<&'a [u8]>, CheckFault>
-    requires fine { checker.old.fault ≡ None }
-    requires open { IsOpen begun.old.items }
-    ensures { MatchResult result
-        (λ found. (checker.new.fault ≡ None) × MatchOption found
-        (IsOpen begun.new.items × LeadsTo (Within checker.old line.old begun.old.items) piece.now (Within checker.new line.new begun.new.items))
-        (λ rest. LeadsTo (Within checker.old line.old begun.old.items) piece.now (Within checker.new line.new rest.now)))
-        (λ fault. (fault ≡ no_memory) ⊎ LeadsTo (Within checker.old line.old begun.old.items) piece.now (Failed fault)) }
-{
-    let Some((text, later)) = cut_line(piece) else {
-        return match keep(begun, piece) {
-            Ok(()) => Ok(None),
-            Err(fault) => Err(fault),
-        };
-    };
-    match keep(begun, text) {
-        Ok(()) => {}
-        Err(fault) => return Err(fault),
-    }
-    match take_line(checker, buffer, *line, begun) {
-        Ok(()) => {}
-        Err(fault) => return Err(fault),
-    }
-    match next_line(*line) {
-        Ok(next) => *line = next,
-        Err(fault) => return Err(fault),
-    }
-    Ok(Some(later))
-}
-
-/// Takes a piece that begins a line, and keeps what follows its last LF.
-fn take_apart(
-    checker: &mut Checker,
-    buffer: &mut StepBuffer,
-    line: &mut u64,
-    begun: &mut Vec<u8>,
-    piece: &[u8],
-) -> Result<(), CheckFault>
-    requires { checker.old.fault ≡ None }
-    ensures { MatchResult result
-        (λ _. (checker.new.fault ≡ None) × IsOpen begun.new.items × LeadsTo (Within checker.old line.old []) piece.now (Within checker.new line.new begun.new.items))
-        (λ fault. (fault ≡ no_memory) ⊎ LeadsTo (Within checker.old line.old []) piece.now (Failed fault)) }
-{
-    match take_lines(checker, buffer, line, piece) {
-        Ok(rest) => {
-            begun.clear();
-            keep(begun, rest)
-        }
-        Err(fault) => Err(fault),
-    }
-}
+/// The fault of a text of which no line adds the empty clause.
+const NOT_REFUTED: u8 = 13;
 
 /// Takes a piece behind the line that is begun.
 fn take_piece(
-    checker: &mut Checker,
-    buffer: &mut StepBuffer,
-    line: &mut u64,
-    begun: &mut Vec<u8>,
+    begun: &mut LineBuffer,
+    lines: &mut LineChecker,
     piece: &[u8],
 ) -> Result<(), CheckFault>
-    requires fine { checker.old.fault ≡ None }
-    requires open { IsOpen begun.old.items }
-    ensures { MatchResult result
-        (λ _. (checker.new.fault ≡ None) × IsOpen begun.new.items × LeadsTo (Within checker.old line.old begun.old.items) piece.now (Within checker.new line.new begun.new.items))
-        (λ fault. (fault ≡ no_memory) ⊎ LeadsTo (Within checker.old line.old begun.old.items) piece.now (Failed fault)) }
+    requires { lines.old.checker.fault ≡ None }
+    ensures taken { MatchResult result
+        (λ _. (lines.new.checker.fault ≡ None) × LeadsTo (Within lines.old.checker lines.old.line begun.old) piece.now (Within lines.new.checker lines.new.line begun.new))
+        (λ fault. (fault ≡ no_memory) ⊎ LeadsTo (Within lines.old.checker lines.old.line begun.old) piece.now (Failed fault)) }
+    ensures open { IsOpen begun.new }
 {
-    if begun.is_empty() {
-        return take_apart(checker, buffer, line, begun, piece);
-    }
-    match end_line(checker, buffer, line, begun, piece) {
-        Ok(None) => Ok(()),
-        Ok(Some(rest)) => take_apart(checker, buffer, line, begun, rest),
-        Err(fault) => Err(fault),
+    match begun.feed(piece, lines) {
+        Ok(()) => Ok(()),
+        Err(fault) => Err(piece_refused(fault)),
     }
 }
 
 /// What checks a proof's text that comes in pieces. It keeps no text but the line that is begun.
 #[derive(Drop)]
 pub struct StreamChecker {
-    checker: Checker,
-    buffer: StepBuffer,
-    begun: Vec<u8>,
-    line: u64,
+    lines: LineChecker,
+    begun: LineBuffer,
     fault: Option<CheckFault>,
 }
 
@@ -163,9 +52,9 @@ impl Model for StreamChecker {
 
     ghost coded = { Prim.hlevel (codes, clause_map_code) };
 
-    ghost view = { λ s. progress_of s.fault s.checker s.line s.begun.items };
+    ghost view = { λ s. progress_of s.fault s.lines.checker s.lines.line s.begun };
 
-    ghost invariant = { λ s. IsProgress s.fault s.checker s.begun.items };
+    ghost invariant = { λ s. IsProgress s.fault s.lines.checker s.begun };
 }
 
 impl StreamChecker {
@@ -182,10 +71,12 @@ impl StreamChecker {
     {
         let checker = Checker::of(alloc, formula)?;
         Ok(StreamChecker {
-            checker,
-            buffer: StepBuffer::new(alloc),
-            begun: Vec::new(alloc),
-            line: 1,
+            lines: LineChecker {
+                checker,
+                buffer: StepBuffer::new(alloc),
+                line: 1,
+            },
+            begun: LineBuffer::new(alloc),
             fault: None,
         })
     }
@@ -198,13 +89,7 @@ impl StreamChecker {
         if let Some(fault) = self.fault {
             return Err(fault);
         }
-        match take_piece(
-            &mut self.checker,
-            &mut self.buffer,
-            &mut self.line,
-            &mut self.begun,
-            piece,
-        ) {
+        match take_piece(&mut self.begun, &mut self.lines, piece) {
             Ok(()) => Ok(()),
             Err(fault) => {
                 self.fault = Some(fault);
@@ -220,7 +105,12 @@ impl StreamChecker {
         if let Some(fault) = self.fault {
             return Err(fault);
         }
-        finish(&self.checker, self.line, &self.begun)
+        finish(
+            NOT_REFUTED,
+            self.lines.checker.refuted(),
+            self.lines.line,
+            self.begun.as_slice(),
+        )
     }
 }
 

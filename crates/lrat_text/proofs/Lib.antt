@@ -8,9 +8,9 @@ pub mod NextLemmas
 pub mod NumberLemmas
 pub mod PieceLemmas
 pub mod ReadStepLemmas
-pub mod ReadingLemmas
 pub mod RunLemmas
 pub mod SpelledStepLemmas
 pub mod SpellingLemmas
+pub mod TakingLemmas
 pub mod TokenLemmas
 pub mod WritingLemmas

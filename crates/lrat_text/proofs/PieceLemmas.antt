@@ -1,19 +1,23 @@
 -- A text of lines in pieces.
-use Rattle.std.proofs.Common.{◌≡◌, ◌≢◌, ◌==◌, ℕ, ◌+◌, ◌<◌, true, false, List, [], ◌∷◌, ◌++◌, length, take, drop, get_or, refl, sym, ap, subst, ◌∙◌, append_assoc, inl, inr, Result, Ok, Err, Contains}
+use Rattle.std.proofs.Common.{◌≡◌, ◌≢◌, ◌==◌, ℕ, ◌+◌, ◌<◌, false, List, [], ◌∷◌, ◌++◌, length, take, drop, get_or, refl, sym, ap, subst, ◌∙◌, append_assoc, inl, inr, Result, Ok, Err, Contains}
 use Rattle.std.specs.Global.{Vec}
 use Rattle.std.specs.Prelude.{MatchResult}
+use Rattle.std.specs.List.{All}
 use Rattle.std.proofs.lemmas.List.{append-nil, take_more, take-append-drop}
 use Rattle.std.proofs.lemmas.Bool.{true≢false, eq-eqb}
-use Rattle.std.proofs.lemmas.List.Elements.{All-append, All-contains}
+use Rattle.std.proofs.lemmas.List.Elements.{All-contains, All-head, All-tail}
 use Rattle.std.proofs.lemmas.List.Concat.{flat_map-cons}
+use Rattle.std.proofs.Math.Seq.{take-append_seam}
 use Rattle.std.proofs.lemmas.Grind.{flat_map-append}
 use Rattle.lrat_text.specs.declared.fault.TextFault.{TextFault}
 use Rattle.lrat_text.specs.declared.fault.TextFault.TheVariants.{BadToken, LineNotEnded, MissingZero, NumberTooLarge, NoMemory}
 use Rattle.lrat_text.specs.declared.step.Step.{Step}
-use Rattle.lrat_text.specs.Grammar.{LineSpells, SpellsStep}
-use Rattle.lrat_text.specs.Reading.{step_in, Fails}
+use Rattle.lrat_text.specs.Grammar.{LineSpells}
 use Rattle.lrat_text.specs.Lines.{IsOpen, IsCut}
-use Rattle.lrat_text.specs.Pieces.{Splits, Breaks, Progress, Within, Failed, HasTaken, TakesPiece, HasFault, answer_in, end_in, joined}
+use Rattle.lrat_text.specs.Taking.{TakesAll, HandsOn, Refuses, Stops, ended as ended_by}
+use Rattle.lrat_text.specs.declared.lines.PieceFault.{PieceFault}
+use Rattle.lrat_text.specs.declared.lines.PieceFault.TheVariants.{NoMemory as NoPlace, Line}
+use Rattle.lrat_text.specs.Pieces.{AppendsStep, AppendsNone, Splits, Breaks, Progress, Within, Failed, HasTaken, TakesPiece, HasFault, answer_in, end_in, joined}
 
 pub none_of : (xs : List ℕ) → length xs ≡ 0 → xs ≡ []
 none_of [] e = refl
@@ -28,9 +32,6 @@ pub spells_append : (ss ts : List Step) (a b : List ℕ) → LineSpells a ss →
 spells_append [] ts a b p q = subst (λ (x : List ℕ). LineSpells (x ++ b) ts) (sym p) q
 spells_append (step ∷ ss) ts a b (line, rest, split, none, spells, more) q =
     (line, rest ++ b, ap (λ (x : List ℕ). x ++ b) split ∙ append_assoc line (10 ∷ rest) b, none, spells, spells_append ss ts rest b more q)
-
-pub splits_none : (text : List ℕ) → Splits text [] text
-splits_none text = record { lines = []; whole = refl; spelled = refl }
 
 -- the rest of one is the next
 pub splits_on : (a : List ℕ) (ss : List Step) (r : List ℕ) (ts : List Step) (s : List ℕ) → Splits a ss r → Splits r ts s → Splits a (ss ++ ts) s
@@ -54,32 +55,6 @@ cut_more a line later more p = (ap (λ (x : List ℕ). x ++ more) p.0 ∙ append
 -- what follows a fault changes nothing
 pub breaks_more : (a : List ℕ) (ss : List Step) (f : TextFault) (more : List ℕ) → Breaks a ss f → Breaks (a ++ more) ss f
 breaks_more a ss f more (rest, line, later, p, is, e) = (rest ++ more, line, later ++ more, splits_more a ss rest more p, cut_more rest line later more is, e)
-
--- ---- one line
-
--- the line that is begun, ended by a text of the piece
-pub cut_begun : (begun piece text later : List ℕ) → IsOpen begun → IsCut piece text later → IsCut (begun ++ piece) (begun ++ text) later
-cut_begun begun piece text later none p =
-    (ap (λ (x : List ℕ). begun ++ x) p.0 ∙ sym (append_assoc begun text (10 ∷ later)), All-append (λ b. (b == 10) ≡ false) begun text none p.1)
-
-pub splits_line : (a line later : List ℕ) (step : Step) → IsCut a line later → SpellsStep line step → Splits a (step ∷ []) later
-splits_line a line later step p spells =
-    record {
-      lines = line ++ 10 ∷ [];
-      whole = p.0 ∙ sym (append_assoc line (10 ∷ []) later);
-      spelled = (line, [], refl, no_lf_to line p.1, spells, refl);
-    }
-
-pub breaks_line : (a line later : List ℕ) (f : TextFault) → IsCut a line later → step_in line ≡ Err f → Breaks a [] f
-breaks_line a line later f p e = (a, line, later, splits_none a, p, e)
-
--- what read_line says of a fault
-pub fault_of : (f : TextFault) (expected : Result Step TextFault) → Fails f expected → f ≢ NoMemory → expected ≡ Err f
-fault_of BadToken e is other = is
-fault_of LineNotEnded e is other = is
-fault_of MissingZero e is other = is
-fault_of NumberTooLarge e is other = is
-fault_of NoMemory e is other = absurd (other refl)
 
 -- ---- pieces
 
@@ -108,6 +83,40 @@ takes_fault begun piece fault before after new steps breaks = record {
   answers = refl;
   history = λ bytes given taken. breaks_on (bytes ++ piece) given (begun ++ piece) new fault (splits_more bytes given begun piece taken.0) breaks;
 }
+
+-- ---- the lines of a piece, whose steps are appended
+
+appended : (lines : List (List ℕ)) (s t : Vec Step) → TakesAll AppendsStep s lines t → (new : List Step) × (t.items ≡ s.items ++ new)
+appended [] s t e = ([], ap (λ (v : Vec Step). v.items) (sym e) ∙ sym (append-nil s.items))
+appended (line ∷ lines) s t (m, (step, is, spells), later) =
+    let r = appended lines m t later in
+    (step ∷ r.0, r.1 ∙ ap (λ (x : List Step). x ++ r.0) is ∙ append_assoc s.items (step ∷ []) r.0)
+
+spelled : (lines : List (List ℕ)) (s t : Vec Step) → All IsOpen lines → TakesAll AppendsStep s lines t → (new : List Step) × (t.items ≡ s.items ++ new) × LineSpells (ended_by lines) new
+spelled [] s t each e = ([], ap (λ (v : Vec Step). v.items) (sym e) ∙ sym (append-nil s.items), refl)
+spelled (line ∷ lines) s t each (m, (step, is, spells), later) =
+    let r = spelled lines m t (All-tail IsOpen line lines each) later in (
+      step ∷ r.0,
+      r.1 ∙ ap (λ (x : List Step). x ++ r.0) is ∙ append_assoc s.items (step ∷ []) r.0,
+      (line, ended_by lines, refl, no_lf_to line (All-head IsOpen line lines each), spells, r.2),
+    )
+
+pub splits_by : (s : Vec Step) (text : List ℕ) (t : Vec Step) (rest : List ℕ) → HandsOn AppendsStep s text t rest → (new : List Step) × (t.items ≡ s.items ++ new) × Splits text new rest
+splits_by s text t rest h =
+    let r = spelled h.lines s t h.one_by_one h.taken in
+    (r.0, r.1, record { lines = ended_by h.lines; whole = h.whole; spelled = r.2 })
+
+pub breaks_by : (s : Vec Step) (text : List ℕ) (t : Vec Step) (fault : TextFault) → fault ≢ NoMemory → Refuses AppendsStep AppendsNone s text t fault → (new : List Step) × (t.items ≡ s.items ++ new) × Breaks text new fault
+breaks_by s text t fault other (m, rest, line, later, h, cut, none) =
+    let r = splits_by s text m rest h in
+    (r.0, none.0 ∙ r.1, (rest, line, later, r.2, cut, none.1 other))
+
+-- so what was there before is got back
+pub cut_back : (s : Vec Step) (text : List ℕ) (t : Vec Step) (fault : PieceFault TextFault) → Stops AppendsStep AppendsNone s text t fault → take (length s.items) t.items ≡ s.items
+cut_back s text t NoPlace (lines, taken) = let r = appended lines s t taken in ap (take (length s.items)) r.1 ∙ take-append_seam s.items r.0
+cut_back s text t (Line fault) (m, rest, line, later, h, cut, none) =
+    let r = appended h.lines s m h.taken in
+    ap (take (length s.items)) (none.0 ∙ r.1) ∙ take-append_seam s.items r.0
 
 -- ---- a whole text
 

@@ -1,4 +1,5 @@
 -- The grammar of LRAT lines (Cruz-Filipe, Heule, Hunt, Kaufmann and Schneider-Kamp 2017), in the profile of docs/LRAT.md.
+-- This is what is to be believed of lines; which fault a line has that spells no step stands in Reading.
 use Rattle.std.specs.Prelude.{◌≡◌, ℕ, ◌-◌, ◌≤◌, ◌<◌, ◌^◌, ◌==◌, List, [], ◌∷◌, ◌++◌, length, slice_index, map, codes, decimal, Contains, All}
 use Rattle.std.specs.List.{slice_split, filter, flat_map}
 use Rattle.std.specs.Fmt.{signed_decimal}
@@ -8,15 +9,23 @@ use Rattle.dimacs.specs.logic.Rat.{Group}
 use Rattle.lrat_text.specs.declared.step.Step.{Step}
 use Rattle.lrat_text.specs.declared.step.Step.TheVariants.{Add, Delete}
 
+-- the byte between two tokens
+abbrev pub space : ℕ
+space = 32
+
+-- the byte that ends a line
+abbrev pub lf : ℕ
+lf = 10
+
 -- the tokens of a line: the longest runs of bytes that are no space
 abbrev pub tokens : List ℕ → List (List ℕ)
-tokens line = filter is_some_byte (slice_split (λ b. b == 32) line)
+tokens line = filter is_some_byte (slice_split (λ b. b == space) line)
 
 -- a line that is not empty, and has no space at its beginning or end
 pub record IsTrimmed (line : List ℕ) : Type 0 where
   pub some : 0 < length line
-  pub first : slice_index line 0 ≡ 32 → ⊥
-  pub last : slice_index line (length line - 1) ≡ 32 → ⊥
+  pub first : slice_index line 0 ≡ space → ⊥
+  pub last : slice_index line (length line - 1) ≡ space → ⊥
 
 -- a clause number: from 1 to 2^48 - 1
 abbrev pub IsClauseNumber : ℕ → Type 0
@@ -37,7 +46,7 @@ literal_token l = signed_decimal (number_of l)
 
 -- a candidate's number behind a minus, and its hints
 abbrev pub group_tokens : Group → List (List ℕ)
-group_tokens g = (45 ∷ decimal g.0) ∷ map decimal g.1
+group_tokens g = (codes "-" ++ decimal g.0) ∷ map decimal g.1
 
 -- an addition is its number, the literals, 0, the hints, the groups, 0;
 -- a deletion is a number, which is not used, the letter d, the numbers of the clauses, 0
@@ -58,4 +67,4 @@ pub record SpellsStep (line : List ℕ) (step : Step) : Type 0 where
 abbrev pub LineSpells : List ℕ → List Step → Type 0
 LineSpells text [] = text ≡ []
 LineSpells text (step ∷ steps) =
-    (line : List ℕ) × (rest : List ℕ) × (text ≡ line ++ 10 ∷ rest) × ¬ (Contains line 10) × SpellsStep line step × LineSpells rest steps
+    (line : List ℕ) × (rest : List ℕ) × (text ≡ line ++ lf ∷ rest) × ¬ (Contains line lf) × SpellsStep line step × LineSpells rest steps

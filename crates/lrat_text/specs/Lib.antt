@@ -1,14 +1,15 @@
+pub mod Buffer
 pub mod Faults
 pub mod Grammar
 pub mod GroupLists
 pub mod Groups
 pub mod Lines
 pub mod Log
-pub mod Parts
 pub mod Pieces
 pub mod Proof
 pub mod Reading
 pub mod Runs
 pub mod Steps
+pub mod Taking
 pub mod Tokens
 pub mod Writing

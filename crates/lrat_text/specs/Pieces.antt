@@ -2,7 +2,7 @@
 use Rattle.std.specs.Prelude.{◌≡◌, ◌≢◌, ◌⊎◌, ℕ, List, [], ◌∷◌, ◌++◌, Option, Some, None, Result, Ok, Err}
 use Rattle.std.specs.Global.{Vec}
 use Rattle.std.specs.List.{flat_map}
-use Rattle.lrat_text.specs.Grammar.{LineSpells}
+use Rattle.lrat_text.specs.Grammar.{LineSpells, SpellsStep}
 use Rattle.lrat_text.specs.Lines.{IsOpen, IsCut}
 use Rattle.lrat_text.specs.Reading.{step_in}
 use Rattle.lrat_text.specs.declared.fault.TextFault.{TextFault}
@@ -18,6 +18,14 @@ pub record Splits (text : List ℕ) (steps : List Step) (rest : List ℕ) : Type
 -- behind the lines that spell the steps stands a line with this fault
 abbrev pub Breaks : List ℕ → List Step → TextFault → Type 0
 Breaks text steps fault = (rest : List ℕ) × (line : List ℕ) × (later : List ℕ) × Splits text steps rest × IsCut rest line later × (step_in line ≡ Err fault)
+
+-- the step of a line is appended
+abbrev pub AppendsStep : Vec Step → List ℕ → Vec Step → Type 0
+AppendsStep old line new = (step : Step) × (new.items ≡ old.items ++ step ∷ []) × SpellsStep line step
+
+-- or none is, for the line's fault or want of memory
+abbrev pub AppendsNone : Vec Step → List ℕ → Vec Step → TextFault → Type 0
+AppendsNone old line new fault = (new.items ≡ old.items) × (fault ≢ NoMemory → step_in line ≡ Err fault)
 
 -- what a reader keeps of a text: the bytes of the line that is begun, or the fault that it met
 pub data Progress : Type 0 where

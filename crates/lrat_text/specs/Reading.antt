@@ -1,9 +1,10 @@
--- The step that a line spells, or its first fault.
+-- The step that a line spells, or its first fault, as a computation from left to right. Of it is to be believed only which fault
+-- comes first: that a step is read exactly where the line spells it follows from Grammar, by the law `reading_is_spelling`.
 use Rattle.std.specs.Prelude.{◌≡◌, ℕ, zero, suc, ◌+◌, ◌-◌, ◌^◌, Bool, not, ◌&&◌, ◌==◌, nat_lt, nat_le, List, [], ◌∷◌, ◌++◌, length, slice_index, slice_range, drop, position, map, codes, bytes_eq, ℤ, pos, negsuc, Option, Some, None, Result, Ok, Err, if◌then◌else◌}
 use Rattle.dimacs.specs.logic.Literal.{Literal, Pos, Neg}
 use Rattle.dimacs.specs.text.Numbers.{number}
 use Rattle.dimacs.specs.logic.Rat.{Group}
-use Rattle.lrat_text.specs.Grammar.{tokens}
+use Rattle.lrat_text.specs.Grammar.{lf, space, tokens}
 use Rattle.lrat_text.specs.GroupLists.{with_hint}
 use Rattle.lrat_text.specs.declared.fault.TextFault.{TextFault}
 use Rattle.lrat_text.specs.declared.fault.TextFault.TheVariants.{BadToken, LineNotEnded, MissingZero, NumberTooLarge, NoMemory}
@@ -95,7 +96,7 @@ first_in (Other ∷ ts) = Err BadToken
 
 -- whether a line has a byte, and no space at its beginning or end
 abbrev pub is_trimmed : List ℕ → Bool
-is_trimmed line = nat_lt 0 (length line) && not (slice_index line 0 == 32) && not (slice_index line (length line - 1) == 32)
+is_trimmed line = nat_lt 0 (length line) && not (slice_index line 0 == space) && not (slice_index line (length line - 1) == space)
 
 -- the step that a line without its LF spells, or its first fault
 unfoldable pub step_in : List ℕ → Result Step TextFault
@@ -113,7 +114,7 @@ line_at bytes at (Some n) = with_place (at + n + 1) (step_in (slice_range bytes 
 
 -- the step of the line at a place and the place behind it, nothing at the end, or the line's first fault
 abbrev pub next_of : List ℕ → ℕ → Result (Option (Step × ℕ)) TextFault
-next_of bytes at = if nat_le (length bytes) at then Ok None else line_at bytes at (position (λ b. b == 10) (drop at bytes))
+next_of bytes at = if nat_le (length bytes) at then Ok None else line_at bytes at (position (λ b. b == lf) (drop at bytes))
 
 -- what a call answers is the fault, unless memory ran out
 abbrev pub Fails : {A : Type 0} → TextFault → Result A TextFault → Type 0
@@ -126,6 +127,6 @@ GivesStep step (Ok _) expected = expected ≡ Ok step
 GivesStep step (Err f) expected = Fails f expected
 
 -- a call gives what reading gives
-abbrev pub GivesNext : Result (Option (Step × ℕ)) TextFault → Result (Option (Step × ℕ)) TextFault → Type 0
-GivesNext (Ok next) expected = expected ≡ Ok next
-GivesNext (Err f) expected = Fails f expected
+abbrev pub Gives : {A : Type 0} → Result A TextFault → Result A TextFault → Type 0
+Gives (Ok found) expected = expected ≡ Ok found
+Gives (Err f) expected = Fails f expected

@@ -1,12 +1,13 @@
--- Bytes of tokens.
-use Rattle.std.specs.Prelude.{ℕ, length, ◌+◌, ◌-◌, ◌^◌, ◌≤◌, ◌<◌, Bool, ◌==◌, List, [], ◌∷◌, Option, Some, None}
+-- Tokens as the code meets them. Nothing here is to be believed.
+use Rattle.std.specs.Prelude.{ℕ, length, ◌+◌, ◌^◌, ◌≤◌, ◌<◌, Bool, ◌==◌, List, [], ◌∷◌, Option, Some, None}
 use Rattle.std.specs.Borrow.{Bor}
+use Rattle.lrat_text.specs.Grammar.{space}
 use Rattle.lrat_text.specs.Reading.{line_tokens}
 use Rattle.lrat_text.specs.declared.token.Token.{Token}
 use Rattle.lrat_text.specs.declared.token.Token.TheVariants.{Letter, Zero, Plus, Minus, LargePlus, LargeMinus, Other}
 
 abbrev pub is_space : ℕ → Bool
-is_space b = b == 32
+is_space b = b == space
 
 -- a number that is not large is from 1 to 2^48 - 1
 abbrev pub IsCounted : Token → Type 0

@@ -1,28 +1,28 @@
 -- The line that is written for a step.
-use Rattle.std.specs.Prelude.{◌≡◌, ℕ, List, [], ◌∷◌, ◌++◌, decimal, codes}
+use Rattle.std.specs.Prelude.{◌≡◌, ℕ, List, ◌++◌, decimal, codes}
 use Rattle.std.specs.List.{join_with_byte, flat_map}
 use Rattle.dimacs.specs.logic.Literal.{Literal}
 use Rattle.dimacs.specs.logic.Rat.{Group}
-use Rattle.lrat_text.specs.Grammar.{step_tokens, literal_token}
+use Rattle.lrat_text.specs.Grammar.{space, step_tokens, literal_token}
 use Rattle.lrat_text.specs.declared.step.Step.{Step}
 
 -- the tokens of a step with single spaces between them
 abbrev pub line_text : ℕ → Step → List ℕ
-line_text top step = join_with_byte 32 (step_tokens top step)
+line_text top step = join_with_byte space (step_tokens top step)
 
 -- the line, with its LF
 abbrev pub line_of : ℕ → Step → List ℕ
-line_of top step = line_text top step ++ 10 ∷ []
+line_of top step = line_text top step ++ codes "\n"
 
 -- a token behind a space
 abbrev pub number_text : ℕ → List ℕ
-number_text n = 32 ∷ decimal n
+number_text n = codes " " ++ decimal n
 
 abbrev pub literal_text : Literal → List ℕ
-literal_text l = 32 ∷ literal_token l
+literal_text l = codes " " ++ literal_token l
 
 abbrev pub group_text : Group → List ℕ
-group_text g = 32 ∷ 45 ∷ decimal g.0 ++ flat_map number_text g.1
+group_text g = codes " -" ++ decimal g.0 ++ flat_map number_text g.1
 
 -- an addition up to its hints, and from there on
 abbrev pub lemma_text : ℕ → List Literal → List ℕ

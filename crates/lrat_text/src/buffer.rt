@@ -1,23 +1,24 @@
-//! Steps that are read into buffers, which are used again from line to line.
+//! The step that was read last, in vectors that are used again from line to line.
 
-ghost use Rattle.std.specs.Prelude.{◌≡◌, [], Ok, OnOk};
-ghost use Rattle.lrat_text.specs.Reading.{step_in, GivesStep, is_trimmed};
-ghost use Rattle.lrat_text.specs.Grammar.{SpellsStep};
-ghost use Rattle.lrat_text.specs.declared.step.Step.{Step};
+ghost use Rattle.std.specs.Prelude.{◌≡◌, []};
 ghost use Rattle.lrat_text.specs.Steps.{step_of};
 ghost use Rattle.lrat_text.specs.declared.step.Step.TheVariants as owned;
 
-use crate::fault::TextFault;
 use crate::groups::Groups;
-use crate::parts::Parts;
 use crate::step::{ClauseNumbers, Literals, Step, StepRef};
+use dimacs::Lit;
 use std::alloc::Global;
 use std::marker::Model;
 
 /// The step that was read last. Once its vectors are large enough, reading takes no memory.
 #[derive(Drop)]
 pub struct StepBuffer {
-    parts: Parts,
+    pub(crate) is_deletion: bool,
+    pub(crate) id: u64,
+    pub(crate) literals: Vec<Lit>,
+    /// The hints of an addition, or the numbers of a deletion.
+    pub(crate) numbers: Vec<u64>,
+    pub(crate) groups: Groups,
 }
 
 impl Model for StepBuffer {
@@ -25,9 +26,9 @@ impl Model for StepBuffer {
 
     ghost Value = { Step };
 
-    ghost use Rattle.lrat_text.specs.Parts.{parts_step};
+    ghost use Rattle.lrat_text.specs.Buffer.{step_held};
 
-    ghost view = { λ b. parts_step b.parts };
+    ghost view = { step_held };
 }
 
 impl StepBuffer {
@@ -36,13 +37,11 @@ impl StepBuffer {
         ensures { result ≡ owned.Delete [] }
     {
         StepBuffer {
-            parts: Parts {
-                is_deletion: true,
-                id: 0,
-                literals: Vec::new(alloc),
-                numbers: Vec::new(alloc),
-                groups: Groups::new(alloc),
-            },
+            is_deletion: true,
+            id: 0,
+            literals: Vec::new(alloc),
+            numbers: Vec::new(alloc),
+            groups: Groups::new(alloc),
         }
     }
 
@@ -50,16 +49,14 @@ impl StepBuffer {
     pub fn as_ref(&self) -> StepRef<'_>
         ensures { step_of result ≡ self.now }
     {
-        if self.parts.is_deletion {
-            StepRef::Delete {
-                ids: &self.parts.numbers,
-            }
+        if self.is_deletion {
+            StepRef::Delete { ids: &self.numbers }
         } else {
             StepRef::Add {
-                id: self.parts.id,
-                lits: &self.parts.literals,
-                hints: &self.parts.numbers,
-                groups: &self.parts.groups,
+                id: self.id,
+                lits: &self.literals,
+                hints: &self.numbers,
+                groups: &self.groups,
             }
         }
     }
@@ -68,14 +65,13 @@ impl StepBuffer {
     pub(crate) fn into_step(self) -> Step
         ensures { result ≡ self }
     {
-        let StepBuffer { parts } = self;
-        let Parts {
+        let StepBuffer {
             is_deletion,
             id,
             literals,
             numbers,
             groups,
-        } = parts;
+        } = self;
         if is_deletion {
             Step::Delete {
                 ids: ClauseNumbers::from_vec(numbers),
@@ -89,41 +85,4 @@ impl StepBuffer {
             }
         }
     }
-
-    #[tactic(auto, unfolding(crate::specs::Reading::step_in))]
-    fn read(&mut self, line: &[u8]) -> Result<(), TextFault>
-        ensures { GivesStep self.new result (step_in line.now) }
-    {
-        if is_trimmed(line) {
-            self.parts.read(line)
-        } else {
-            Err(TextFault::BadToken)
-        }
-    }
-}
-
-/// Whether a line has a byte, and no space at its beginning or end.
-fn is_trimmed(line: &[u8]) -> bool
-    ensures { result ≡ is_trimmed line.now }
-{
-    if line.is_empty() {
-        return false;
-    }
-    line[0] != b' ' && line[line.len() - 1] != b' '
-}
-
-/// Reads a line without its LF. After a fault the buffer holds some step.
-///
-/// The first fault is `BadToken` where the line is empty or has a space at its beginning or end; then, from left to
-/// right, `BadToken` at a token that cannot stand there, and `NumberTooLarge` at a number that could but is above its
-/// limit; then `MissingZero`. `NoMemory` comes only where a vector could not grow.
-pub fn read_line(buffer: &mut StepBuffer, line: &[u8]) -> Result<(), TextFault>
-    // What is read is the step that the line spells.
-    ensures found { OnOk result (SpellsStep line.now buffer.new) }
-    // What the line spells is read, unless memory runs out.
-    ensures only { (step : Step) → SpellsStep line.now step → GivesStep buffer.new result (Ok step) }
-    // Which step it is, or which fault.
-    ensures exact { GivesStep buffer.new result (step_in line.now) }
-{
-    buffer.read(line)
 }

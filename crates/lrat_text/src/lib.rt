@@ -5,20 +5,23 @@ mod buffer;
 mod fault;
 mod groups;
 mod laws;
-mod parts;
+mod line;
+mod lines;
 mod reader;
 mod reading;
 mod step;
 mod token;
 mod writing;
 
-pub use buffer::{StepBuffer, read_line};
+pub use buffer::StepBuffer;
 pub use fault::TextFault;
 pub use groups::Groups;
 pub use laws::{
     a_text_spells_one_list, closing_the_empty_cube_is_accepted, fresh_logs_are_short,
     putting_is_spelling, reading_is_spelling, text_is_lines,
 };
+pub use line::read_line;
+pub use lines::{LineBuffer, PieceFault, TakesLines, take_lines};
 pub use reader::{StepReader, read_pieces};
 pub use reading::{cut_line, next};
 pub use step::{ClauseNumbers, Literals, Step, StepRef};

@@ -1,23 +1,15 @@
 //! The lines of a text, one after the other.
 
-ghost use Rattle.std.specs.Prelude.{◌≡◌, ◌<◌, ◌≤◌, ◌==◌, ℕ, length, position, IfSome, IfOk, MatchOption, Ok, Some};
+ghost use Rattle.std.specs.Prelude.{◌≡◌, ℕ, IfSome, IfOk, MatchOption, Ok, Some};
 ghost use Rattle.lrat_text.specs.Lines.{IsCut, IsLineBetween, IsOpen};
 ghost use Rattle.lrat_text.specs.declared.step.Step.{Step};
-ghost use Rattle.lrat_text.specs.Reading.{next_of, GivesNext};
+ghost use Rattle.lrat_text.specs.Reading.{next_of, Gives};
 
-use crate::buffer::{StepBuffer, read_line};
 use crate::fault::TextFault;
+use crate::line::read_step;
 use crate::step::Step;
 use memchr::memchr;
 use std::alloc::Global;
-
-/// How many bytes stand before the first LF.
-fn line_len(text: &[u8]) -> Option<usize>
-    ensures value { result ≡ position (λ b. b == 10) text.now }
-    ensures within { IfSome result (λ n. n < length text.now) }
-{
-    memchr(b'\n', text)
-}
 
 /// The line before the first LF, and what follows that LF; `None` where the text has no LF.
 pub fn cut_line(text: &[u8]) -> Option<(&[u8], &[u8])>
@@ -31,18 +23,18 @@ pub fn cut_line(text: &[u8]) -> Option<(&[u8], &[u8])>
 
 /// Reads the line at a place.
 fn line_step(alloc: Global, bytes: &[u8], at: usize) -> Result<Option<(Step, usize)>, TextFault>
-    ensures { GivesNext result (next_of bytes.now at) }
+    ensures { Gives result (next_of bytes.now at) }
 {
     if at >= bytes.len() {
         return Ok(None);
     }
-    let Some(len) = line_len(&bytes[at..]) else {
+    let Some((line, _)) = cut_line(&bytes[at..]) else {
         return Err(TextFault::LineNotEnded);
     };
-    let end = at + len;
-    let mut buffer = StepBuffer::new(alloc);
-    read_line(&mut buffer, &bytes[at..end])?;
-    Ok(Some((buffer.into_step(), end + 1)))
+    match read_step(alloc, line) {
+        Ok(step) => Ok(Some((step, at + line.len() + 1))),
+        Err(fault) => Err(fault),
+    }
 }
 
 /// Reads the line at a place, and gives the place behind it; `None` at the end of the text and beyond.
@@ -52,9 +44,9 @@ pub fn next(alloc: Global, bytes: &[u8], at: usize) -> Result<Option<(Step, usiz
     // What is read is the line's step.
     ensures found { IfOk result (λ o. IfSome o (λ p. IsLineBetween bytes.now at p.1 p.0)) }
     // The line's step is read, unless memory runs out.
-    ensures only { (step : Step) (place : ℕ) → IsLineBetween bytes.now at place step → GivesNext result (Ok (Some (step, place))) }
+    ensures only { (step : Step) (place : ℕ) → IsLineBetween bytes.now at place step → Gives result (Ok (Some (step, place))) }
     // Which step it is, or which fault.
-    ensures exact { GivesNext result (next_of bytes.now at) }
+    ensures exact { Gives result (next_of bytes.now at) }
 {
     line_step(alloc, bytes, at)
 }

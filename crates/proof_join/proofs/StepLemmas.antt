@@ -1,16 +1,15 @@
 -- Steps of a text, one after the other, under other numbers.
-use Rattle.std.proofs.Common.{◌≡◌, ℕ, ◌+◌, ◌-◌, ◌^◌, ◌<◌, ◌≤◌, Bool, true, false, List, [], ◌∷◌, ◌++◌, map, length, Result, Ok, Err, refl, sym, ◌∙◌, ap, subst, arith, append_assoc, length-append, inl, inr}
+use Rattle.std.proofs.Common.{◌≡◌, ℕ, ◌+◌, ◌-◌, ◌^◌, ◌<◌, ◌≤◌, false, List, [], ◌∷◌, ◌++◌, map, length, Result, Ok, Err, refl, sym, ◌∙◌, ap, subst, arith, append_assoc, length-append, inl, inr}
 use Rattle.std.specs.Prelude.{nat_eq, ◌==◌}
-use Rattle.std.specs.List.{All, Contains, slice_split}
+use Rattle.std.specs.List.{All, Contains}
 use Rattle.std.proofs.lemmas.Bool.{cases_lt, both_ways, eq-eqb}
 use Rattle.std.proofs.lemmas.List.Elements.{All-head, All-tail, All-weaker, All-map, Contains-append_right, All-contains, All-contains_itself}
-use Rattle.dimacs.specs.logic.Literal.{Literal, Clause, IsWithin}
+use Rattle.dimacs.specs.logic.Literal.{Clause}
 use Rattle.dimacs.specs.logic.Rat.{Group}
 use Rattle.dimacs.proofs.Members.{Contains-head, Contains-cons}
-use Rattle.lrat_text.specs.Grammar.{LineSpells, SpellsStep, IsStep, IsClauseNumber, IsGroup}
-use Rattle.lrat_text.specs.Lines.{AllRead}
+use Rattle.lrat_text.specs.Grammar.{LineSpells, SpellsStep, IsStep, IsClauseNumber}
+use Rattle.lrat_text.specs.Lines.{AllRead, IsCut, IsOpen}
 use Rattle.lrat_text.specs.Log.{top_after}
-use Rattle.lrat_text.specs.Reading.{step_in}
 use Rattle.lrat_text.specs.Writing.{line_text, line_of}
 use Rattle.lrat_text.specs.declared.fault.TextFault.{TextFault}
 use Rattle.lrat_text.specs.declared.step.Step.{Step}
@@ -18,9 +17,9 @@ use Rattle.lrat_text.specs.declared.step.Step.TheVariants.{Add, Delete}
 use Rattle.lrat_text.proofs.LineLemmas.{spelled_read}
 use Rattle.lrat_text.proofs.SpellingLemmas.{spelled_found}
 use Rattle.dimacs.specs.text.Words
-use Rattle.proof_join.specs.Numbering.{behind, renumbered, renumbered_group}
+use Rattle.proof_join.specs.Numbering.{behind, renumbered}
 use Rattle.lrat_text.specs.Runs.{text_of, top_of}
-use Rattle.proof_join.specs.Steps.{with_step, steps_of, steps_in, IsLow, AreLow, IsCut, Writes, last_of}
+use Rattle.proof_join.specs.Steps.{with_step, steps_of, steps_in, IsLow, Writes, last_of}
 use Rattle.proof_join.specs.declared.fault.JoinFault.{JoinFault}
 use Rattle.proof_join.specs.declared.fault.JoinFault.TheVariants.{TooLong, NoMemory}
 use Rattle.proof_join.proofs.NumberLemmas.{behind_low, behind_high}
@@ -100,7 +99,7 @@ next_line text line rest cut h = at (steps_in text) refl h
         }
 
 -- and where no LF is left, there is no step
-pub no_line : (text : List ℕ) → All (λ n. (n == 10) ≡ false) text → LineSpells text (steps_in text) → steps_in text ≡ []
+pub no_line : (text : List ℕ) → IsOpen text → LineSpells text (steps_in text) → steps_in text ≡ []
 no_line text none h = at (steps_in text) refl h
   where
     at : (steps : List Step) → steps_in text ≡ steps → LineSpells text steps → steps_in text ≡ []

@@ -1,17 +1,16 @@
 //! Lines under other numbers.
 
-ghost use Rattle.std.specs.Prelude.{◌≡◌, ◌+◌, ◌-◌, ◌^◌, ◌<◌, ◌≤◌, ◌++◌, ◌==◌, false, map, length, All, OnOk, IfOk, MatchOption};
+ghost use Rattle.std.specs.Prelude.{◌≡◌, ◌+◌, ◌-◌, ◌^◌, ◌<◌, ◌≤◌, ◌++◌, map, length, All, OnOk, IfOk};
 ghost use Rattle.lrat_text.specs.Grammar.{IsStep, IsClauseNumber};
 ghost use Rattle.lrat_text.specs.Log.{top_after};
 ghost use Rattle.lrat_text.specs.Steps.{step_of};
 ghost use Rattle.lrat_text.specs.Writing.{line_of};
 ghost use Rattle.proof_join.specs.Numbering.{behind, renumbered};
 ghost use Rattle.lrat_text.specs.Runs.{text_of, top_of};
-ghost use Rattle.proof_join.specs.Steps.{IsCut, IsLow, IsOwn, Writes, last_of, steps_in};
+ghost use Rattle.proof_join.specs.Steps.{IsLow, IsOwn, Writes, last_of, steps_in};
 
 use crate::fault::JoinFault;
-use lrat_text::{StepBuffer, StepRef, put_ref, read_line};
-use memchr::memchr;
+use lrat_text::{StepBuffer, StepRef, cut_line, put_ref, read_line};
 use std::alloc::AllocError;
 
 /// Appends a step's line, where the text stays below 2^32 bytes.
@@ -108,16 +107,6 @@ fn put_renumbered(
     }
 }
 
-/// The line before the first LF, and what follows it.
-fn cut(text: &[u8]) -> Option<(&[u8], &[u8])>
-    ensures { MatchOption result (All (λ b. (b == 10) ≡ false) text.now) (λ p. IsCut text.now p.0.now p.1.now) }
-{
-    match memchr(b'\n', text) {
-        Some(end) => Some((&text[..end], &text[end + 1..])),
-        None => None,
-    }
-}
-
 /// Appends a fragment, whose numbers behind `base` go on behind `begun`, and tells the number of the last addition.
 pub(crate) fn put_fragment(
     out: &mut Vec<u8>,
@@ -137,7 +126,7 @@ pub(crate) fn put_fragment(
 {
     let mut rest = fragment;
     let mut top = begun;
-    while let Some((line, later)) = cut(rest) {
+    while let Some((line, later)) = cut_line(rest) {
         match read_line(buffer, line) {
             Ok(()) => {}
             Err(_) => return Err(JoinFault::NoMemory),

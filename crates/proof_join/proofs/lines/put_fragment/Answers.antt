@@ -1,4 +1,4 @@
-use Rattle.std.proofs.Common.{rules, ◌≡◌, ◌+◌, ◌-◌, ◌^◌, ◌<◌, ◌≤◌, ◌++◌, ◌∷◌, ◌∙◌, map, length, List, [], ℕ, Ok, Err, ap, sym, subst, arith, append_assoc, length-append}
+use Rattle.std.proofs.Common.{◌≡◌, ◌+◌, ◌-◌, ◌++◌, ◌∷◌, ◌∙◌, map, length, List, [], ℕ, Err, ap, sym, subst, arith}
 use Rattle.std.proofs.lemmas.List.{append-nil}
 use Rattle.lrat_text.specs.Steps.{step_of}
 use Rattle.lrat_text.specs.Log.{top_after}
@@ -6,7 +6,7 @@ use Rattle.lrat_text.specs.Writing.{line_of}
 use Rattle.lrat_text.specs.declared.step.Step.{Step}
 use Rattle.proof_join.specs.Numbering.{behind, renumbered}
 use Rattle.lrat_text.specs.Runs.{text_of, top_of}
-use Rattle.proof_join.specs.Steps.{IsCut, IsLow, AreLow, Writes, last_of, steps_in}
+use Rattle.proof_join.specs.Steps.{IsLow, AreLow, Writes, last_of, steps_in}
 use Rattle.proof_join.proofs.StepLemmas.{next_line, read_same, no_line, writes_longer, longer, top_on, text_on, last_on, top_of_on, line_some}
 use Rattle.proof_join.proofs.lines.put_fragment.Goals as goal
 
