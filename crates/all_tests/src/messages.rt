@@ -2,7 +2,7 @@
 
 use dimacs::{Lit, Var};
 use frames::{
-    Attempt, Chunk, Cube, Finding, Frame, FrameFault, Outcome, Reader, Worker, encode, len,
+    Attempt, Chunk, Cube, Finding, Frame, FrameFault, Outcome, Reader, WorkerNumber, encode, len,
 };
 use std::alloc::Global;
 use std::process::Abort;
@@ -149,19 +149,19 @@ fn fields_are_written_in_their_places(rt: HostRuntime) -> Result<(), Fail> {
     let attempt = Attempt {
         session: 1,
         job: 1,
-        worker: Worker::new(1),
+        worker: WorkerNumber::new(1),
         incarnation: 1,
     };
     let outcome = Outcome::Decided(Finding::Assignment { length: 2 });
     assert!(rt; is_spelled(&Frame::Done { attempt, outcome }, &DONE));
     let want = Frame::Want {
         session: 1,
-        worker: Worker::new(2),
+        worker: WorkerNumber::new(2),
         offset: 4000,
     };
     assert!(rt; is_spelled(&want, &WANT));
     let idle = Frame::Idle {
-        worker: Worker::new(64),
+        worker: WorkerNumber::new(64),
         incarnation: 7,
     };
     assert!(rt; is_spelled(&idle, &IDLE));
@@ -176,7 +176,7 @@ fn the_longest_frames_are_read(rt: HostRuntime) -> Result<(), Fail> {
     let attempt = Attempt {
         session: u64::MAX,
         job: 0,
-        worker: Worker::new(3),
+        worker: WorkerNumber::new(3),
         incarnation: 9,
     };
     let piece = Frame::Piece {

@@ -8,7 +8,7 @@ use dimacs::{Lit, Var};
 use std::alloc::{AllocError, Global};
 use std::process::Abort;
 use std::test::Fail;
-use watches::{Assigned, Propagator, Scan, Trail, Truth, Watched, learn};
+use watches::{Assigned, Propagator, Scan, Trail, Truth, Watched, add_clause};
 
 fn pos(number: u32) -> Lit
     requires low { 1 ≤ number }
@@ -60,7 +60,7 @@ fn learn_pair<P: Propagator>(
     let other = second.index();
     assert!(rt; row != other);
     match arena.find(number) {
-        None => learn(propagator, arena, trail, number, &[first, second]),
+        None => add_clause(propagator, arena, trail, number, &[first, second]),
         Some(_) => panic!(rt; "{number} is live"),
     }
 }

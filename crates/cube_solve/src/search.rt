@@ -26,7 +26,7 @@ use crate::state::State;
 use conflict_analysis::{Analyser, Closing, Lemma, close_cube};
 use dimacs::{Base, Lit};
 use std::alloc::{AllocError, Global};
-use watches::{Propagator, learn};
+use watches::{Propagator, add_clause};
 
 /// A search: what it works on, and what it has learnt.
 pub(crate) struct Search<'a, P> {
@@ -137,7 +137,7 @@ impl<'a, P: Propagator> Search<'a, P> {
         self.log.write(id, &self.lemma)?;
         state.order.bump(self.analyser.met());
         state.go_back(self.lemma.level);
-        learn(
+        add_clause(
             state.propagator,
             &mut state.arena,
             &state.trail,

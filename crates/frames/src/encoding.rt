@@ -13,7 +13,7 @@ use crate::cube::Cube;
 use crate::frame::{Attempt, Frame, Kind};
 use crate::head::{HEAD, MARK};
 use crate::numbers::{put_u16, put_u32, put_u64};
-use crate::worker::Worker;
+use crate::worker::WorkerNumber;
 use dimacs::Lit;
 
 /// How many bytes the payload has, at most 4,032.
@@ -149,7 +149,7 @@ fn put_verdict(out: &mut [u8], at: usize, session: u64, finding: &Finding) -> us
     put_finding(out, at, finding)
 }
 
-fn put_want(out: &mut [u8], at: usize, session: u64, worker: Worker, offset: u32) -> usize
+fn put_want(out: &mut [u8], at: usize, session: u64, worker: WorkerNumber, offset: u32) -> usize
     requires { at + 16 ≤ length out.old }
     ensures { Puts out.old at (payload (Frame.Want session worker offset)) out.new result }
 {
@@ -176,7 +176,7 @@ fn put_part(
     put(out, at, bytes.as_slice())
 }
 
-fn put_idle(out: &mut [u8], at: usize, worker: Worker, incarnation: u64) -> usize
+fn put_idle(out: &mut [u8], at: usize, worker: WorkerNumber, incarnation: u64) -> usize
     requires { at + 12 ≤ length out.old }
     ensures { Puts out.old at (payload (Frame.Idle worker incarnation)) out.new result }
 {

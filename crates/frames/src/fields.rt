@@ -13,18 +13,18 @@ use crate::cube::Cube;
 use crate::fault::FrameFault;
 use crate::frame::Attempt;
 use crate::numbers::{u32_at, u64_at};
-use crate::worker::Worker;
+use crate::worker::WorkerNumber;
 use dimacs::{Lit, Var};
 use std::alloc::Global;
 
 /// The number of a worker, and the rest.
-pub(crate) fn worker_at(bytes: &[u8]) -> Option<(Worker, &[u8])>
+pub(crate) fn worker_at(bytes: &[u8]) -> Option<(WorkerNumber, &[u8])>
     requires { 4 ≤ length bytes.now }
     ensures { MatchOption result (NoneStandsAt (to_be_bytes w32) IsWorker bytes.now) (λ r. StandsAt (to_be_bytes w32) IsWorker bytes.now r.0 r.1.now) }
 {
     let (number, rest) = u32_at(bytes);
     if 1 <= number && number <= 64 {
-        Some((Worker::new(number), rest))
+        Some((WorkerNumber::new(number), rest))
     } else {
         None
     }

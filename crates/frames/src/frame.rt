@@ -6,7 +6,7 @@ ghost use Rattle.frames.specs.Spelling.{kind_number, kind_at, kind_of, may_have}
 use crate::answer::{Answer, Finding, Outcome};
 use crate::chunk::Chunk;
 use crate::cube::Cube;
-use crate::worker::Worker;
+use crate::worker::WorkerNumber;
 
 /// One worker at one job: a number of a job is never given twice in a session, and a worker that starts anew has
 /// another incarnation.
@@ -14,7 +14,7 @@ use crate::worker::Worker;
 pub struct Attempt {
     pub session: u64,
     pub job: u64,
-    pub worker: Worker,
+    pub worker: WorkerNumber,
     pub incarnation: u64,
 }
 
@@ -52,7 +52,7 @@ pub enum Frame {
     /// To the coordinator: send the verdict's bytes, from this one on.
     Want {
         session: u64,
-        worker: Worker,
+        worker: WorkerNumber,
         offset: u32,
     },
     /// To a worker: bytes of a verdict, from this one on.
@@ -64,7 +64,7 @@ pub enum Frame {
     },
     /// To the coordinator: this worker has nothing to do.
     Idle {
-        worker: Worker,
+        worker: WorkerNumber,
         incarnation: u64,
     },
     /// To a worker: there is nothing to do.

@@ -14,12 +14,12 @@ pub fn no_spelling_begins_another()
 {}
 
 /// The bytes of a stream settle its frames and its end.
-pub fn one_reading()
+pub fn streams_are_read_one_way()
     ensures same { (bytes : List ℕ) (fs gs : List Frame) (d e : End) → Stream bytes fs d → Stream bytes gs e → (fs ≡ gs) × (d ≡ e) }
 {}
 
 /// Each value of the type has right fields.
-pub fn right_fields(frame: &Frame)
+pub fn fields_are_right(frame: &Frame)
     ensures { IsRight frame.now }
 {
     match frame {

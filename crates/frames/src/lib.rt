@@ -23,6 +23,6 @@ pub use encoding::{encode, len};
 pub use fault::FrameFault;
 pub use frame::{Attempt, Frame, Kind};
 pub use head::Head;
-pub use laws::{no_spelling_begins_another, one_reading, right_fields};
+pub use laws::{fields_are_right, no_spelling_begins_another, streams_are_read_one_way};
 pub use reader::{Reader, read_pieces};
-pub use worker::Worker;
+pub use worker::WorkerNumber;

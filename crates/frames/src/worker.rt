@@ -6,11 +6,11 @@ use std::marker::Model;
 
 /// The number of a worker, 1 to 64.
 #[derive(Clone, Copy, Debug, PartialEq, Eq)]
-pub struct Worker {
+pub struct WorkerNumber {
     number: u32,
 }
 
-impl Model for Worker {
+impl Model for WorkerNumber {
     ghost use Rattle.std.specs.Prelude.{ℕ, ◌≤◌};
 
     ghost Value = { ℕ };
@@ -22,14 +22,14 @@ impl Model for Worker {
     ghost inverse = { λ n. record { number = n } };
 }
 
-impl Worker {
+impl WorkerNumber {
     /// The worker of this number.
-    pub fn new(number: u32) -> Worker
+    pub fn new(number: u32) -> WorkerNumber
         requires above { 1 ≤ number }
         requires below { number ≤ 64 }
         ensures { result ≡ number }
     {
-        Worker { number }
+        WorkerNumber { number }
     }
 
     /// Its number, 1 to 64.

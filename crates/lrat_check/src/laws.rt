@@ -13,7 +13,7 @@ ghost use Rattle.lrat_check.specs.Soundness.{Soundness};
 ghost use Rattle.lrat_check.specs.Verdicts.{Agreement};
 
 /// A formula with an accepted proof has no satisfying assignment.
-pub fn soundness()
+pub fn accepted_proofs_are_sound()
     ensures { Soundness }
 {}
 

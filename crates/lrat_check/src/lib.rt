@@ -1,7 +1,7 @@
 //! The checker of LRAT proofs (Cruz-Filipe, Heule, Hunt, Kaufmann and Schneider-Kamp 2017), in the profile of docs/LRAT.md.
 //!
 //! A proof that `check` takes is one that the definition `Accepts` of `lrat_text` accepts, and no assignment satisfies a
-//! formula with an accepted proof: `soundness`. So nothing of the code here has to be believed, nor of what finds proofs.
+//! formula with an accepted proof: `accepted_proofs_are_sound`. So nothing of the code here has to be believed, nor of what finds proofs.
 #![tactic(auto)]
 
 mod checker;
@@ -33,7 +33,7 @@ pub use fault::StepFault;
 pub use fragment::check_fragment;
 pub use judging::{Judged, judge_proof, judge_values};
 pub use laws::{
-    fragment_fault_is_exact, proof_fault_is_exact, right_verdicts_agree, soundness,
+    accepted_proofs_are_sound, fragment_fault_is_exact, proof_fault_is_exact, right_verdicts_agree,
     step_fault_is_exact,
 };
 pub use stream::{StreamChecker, check, check_pieces};

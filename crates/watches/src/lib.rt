@@ -15,7 +15,7 @@ mod truth;
 mod watched;
 
 pub use finding::{Finding, test_clause};
-pub use propagator::{Propagator, learn};
+pub use propagator::{Propagator, add_clause};
 pub use scan::Scan;
 pub use trail::{Assigned, Trail};
 pub use truth::Truth;

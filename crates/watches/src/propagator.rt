@@ -82,7 +82,7 @@ pub trait Propagator {
 }
 
 /// Adds a clause and attaches it. Want of memory leaves the clauses as they were, each perhaps in another order.
-pub fn learn<P: Propagator>(
+pub fn add_clause<P: Propagator>(
     propagator: &mut P,
     arena: &mut Arena,
     trail: &Trail,

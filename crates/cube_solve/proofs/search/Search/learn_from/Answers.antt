@@ -50,11 +50,11 @@ go_back-requires g c = record {
   order = order_same c.args.self.now.state.trail c.args.self.now.state.order c.bump.new.self c.bump.ensures (c.requires.steady).order;
 }
 
-pub learn-requires-clause-fresh : goal.learn-requires-clause-fresh
-learn-requires-clause-fresh g c = to_come c.args.self.now.state.arena c.go_back.new.self.arena c.args.id c.go_back.ensures.arena c.requires.numbers
+pub add_clause-requires-clause-fresh : goal.add_clause-requires-clause-fresh
+add_clause-requires-clause-fresh g c = to_come c.args.self.now.state.arena c.go_back.new.self.arena c.args.id c.go_back.ensures.arena c.requires.numbers
 
-pub learn-requires-clause-apart : goal.learn-requires-clause-apart
-learn-requires-clause-apart g c = λ i.
+pub add_clause-requires-clause-apart : goal.add_clause-requires-clause-apart
+add_clause-requires-clause-apart g c = λ i.
     let d = ((c.requires.steady).state).all_live c.args.id (subst (λ (xs : List ℕ). Contains xs c.args.id) c.go_back.ensures.attached i) in
     let b = c.requires.numbers c.args.id d.0 d.1 in
     let up = b.1 in
@@ -67,10 +67,10 @@ returns-clause-steady g c =
     let e = c.in_ok-analyse_into.ensures.lemma in
     let lits = c.analyse_into.new.lemma.lits.items in
     record {
-      ready = c.in_ok-learn.ensures.ready;
-      state = state_learned s.arena c.learn.new.arena c.args.id lits
-          (joined s.arena b.new.self.arena c.learn.new.arena c.args.id lits c.deref.result.now c.requires.numbers b.ensures.arena c.deref.ensures.value c.in_ok-learn.ensures.clauses)
-          _ _ s.trail b.new.self.trail c.analyse_into.new.lemma.level (c.in_ok-learn.ensures.ok ∙ ap (λ (xs : List ℕ). xs ++ c.args.id ∷ []) b.ensures.attached)
+      ready = c.in_ok-add_clause.ensures.ready;
+      state = state_learned s.arena c.add_clause.new.arena c.args.id lits
+          (joined s.arena b.new.self.arena c.add_clause.new.arena c.args.id lits c.deref.result.now c.requires.numbers b.ensures.arena c.deref.ensures.value c.in_ok-add_clause.ensures.clauses)
+          _ _ s.trail b.new.self.trail c.analyse_into.new.lemma.level (c.in_ok-add_clause.ensures.ok ∙ ap (λ (xs : List ℕ). xs ++ c.args.id ∷ []) b.ensures.attached)
           (c.requires.steady).state e.asserting e.within b.ensures.vars b.ensures.front b.ensures.kept;
       order = (b.ensures.steady).order;
     }
@@ -93,5 +93,5 @@ returns-clause-learns g c =
         text = c.in_ok-write.ensures;
       };
       is_new = is_fresh (live_of m) es lits c.analyse_into.new.lemma.level (sound (live_of m) es s.built) s.quiet e.asserting;
-      added = joined m c.go_back.new.self.arena c.learn.new.arena c.args.id lits c.deref.result.now c.requires.numbers c.go_back.ensures.arena c.deref.ensures.value c.in_ok-learn.ensures.clauses;
+      added = joined m c.go_back.new.self.arena c.add_clause.new.arena c.args.id lits c.deref.result.now c.requires.numbers c.go_back.ensures.arena c.deref.ensures.value c.in_ok-add_clause.ensures.clauses;
     }

@@ -6,7 +6,7 @@ use Rattle.clause_arena.specs.Clauses.{Clauses}
 use Rattle.watches.proofs.Added.{others, stands, still, live_again, same_again, on_err}
 use Rattle.watches.specs.Law.{AreSame}
 use Rattle.watches.proofs.Swept.{same_clause, AreSame-refl}
-use Rattle.watches.proofs.propagator.learn.Goals as goal
+use Rattle.watches.proofs.propagator.add_clause.Goals as goal
 
 pub attach-requires-clause-live : goal.attach-requires-clause-live
 attach-requires-clause-live g c = (c.args.literals.now, stands c.args.arena.now c.add.new.self c.in_ok-at.at c.args.number c.args.literals.now c.in_ok-at.ensures.ok)
