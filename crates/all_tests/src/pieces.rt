@@ -3,7 +3,7 @@
 use crate::checks::FOUR;
 use dimacs::{Formula, read};
 use lrat_check::{CheckFault, Checker, StreamChecker, check, check_pieces};
-use lrat_text::{Step, StepReader, TextFault, read_pieces};
+use lrat_text::{LineBuffer, Step, StepReader, TextFault, read_pieces, take_lines};
 use node_main::ProofCheck;
 use std::alloc::{AllocError, Global};
 use std::test::Fail;
@@ -102,6 +102,24 @@ fn a_reader_takes_bytes(rt: HostRuntime) -> Result<(), Fail> {
     begun.feed(b"5 2", &mut steps)?;
     assert_eq!(&rt; begun.finish(), Err(TextFault::LineNotEnded));
     assert_eq!(&rt; steps.len(), 2);
+    Ok(())
+}
+
+#[test]
+fn lines_are_handed_on(rt: HostRuntime) -> Result<(), Fail> {
+    let alloc = rt.alloc();
+    let mut steps: Vec<Step> = Vec::new(alloc);
+    let rest = take_lines(&mut steps, b"5 2 0 1 2 0\n6 0 5 3 4 0\n7 0")?;
+    assert_eq!(&rt; steps.len(), 2);
+    assert_eq!(&rt; rest, b"7 0".as_slice());
+    let mut begun = LineBuffer::new(alloc);
+    assert!(&rt; begun.feed(b"5 2 0", &mut steps).is_ok());
+    assert_eq!(&rt; begun.as_slice(), b"5 2 0".as_slice());
+    assert!(&rt; begun.feed(b" 1 2 0\n6", &mut steps).is_ok());
+    assert_eq!(&rt; begun.as_slice(), b"6".as_slice());
+    assert!(&rt; begun.feed(b" x\n", &mut steps).is_err());
+    assert_eq!(&rt; begun.as_slice(), b"6".as_slice());
+    assert_eq!(&rt; steps.len(), 3);
     Ok(())
 }
 

@@ -9,11 +9,11 @@ use Rattle.dimacs.specs.logic.Literal.{Literal, Clause, IsWithin, negation, var_
 use Rattle.dimacs.proofs.LiteralLemmas.{same_or_not, negation-negation, negation_apart, var_of-negation, IsWithin-negation}
 use Rattle.dimacs.proofs.Members.{Contains-head, Contains-cons_cases, Contains-nil}
 use Rattle.watches.specs.Law.{IsImplied}
-use Rattle.watches.specs.Trails.{holds, variables}
+use Rattle.watches.specs.Trails.{TrailValue, IsTrailValue, holds, variables}
 use Rattle.watches.specs.declared.trail.Assigned.{Assigned}
 use Rattle.conflict_analysis.specs.Built.{AreBuilt, AreInside, AreSized}
 use Rattle.conflict_analysis.specs.Lemmas.{IsDecision}
-use Rattle.conflict_analysis.specs.Traces.{AreNegated, AreOutside, AreFalseOr}
+use Rattle.conflict_analysis.specs.Traces.{IsTraceable, AreNegated, AreOutside, AreFalseOr}
 use Rattle.conflict_analysis.proofs.Building.{behind}
 use Rattle.conflict_analysis.proofs.Fronts.{Contains-take}
 use Rattle.conflict_analysis.proofs.Entries.{distinct_left, entry_from_holds, holds_from_entry}
@@ -22,10 +22,10 @@ built_prefix : (live : Live) (front xs ys : List Assigned) → AreBuilt live fro
 built_prefix live front [] ys b = tt
 built_prefix live front (e ∷ xs) ys b = (b.0, built_prefix live (front ++ e ∷ []) xs ys b.1)
 
-pub built_front : (live : Live) (es : List Assigned) (i : ℕ) → AreBuilt live [] es → AreBuilt live [] (take i es)
+built_front : (live : Live) (es : List Assigned) (i : ℕ) → AreBuilt live [] es → AreBuilt live [] (take i es)
 built_front live es i b = built_prefix live [] (take i es) (drop i es) (subst (AreBuilt live []) (sym (take-append-drop i es)) b)
 
-pub distinct_front : (es : List Assigned) (i : ℕ) → IsDistinct eqb (variables es) → IsDistinct eqb (variables (take i es))
+distinct_front : (es : List Assigned) (i : ℕ) → IsDistinct eqb (variables es) → IsDistinct eqb (variables (take i es))
 distinct_front es i d = distinct_left (take i es) (drop i es) (subst (λ xs. IsDistinct eqb (variables xs)) (sym (take-append-drop i es)) d)
 
 one_of : (k l : Literal) → Contains (k ∷ []) l → k ≡ l
@@ -60,8 +60,26 @@ negates_assumption es i a lits h = λ l c. elim (h l c) [
 pub negates_decisions : (es : List Assigned) (lits : Clause) → AreNegated es [] lits → (l : Literal) → Contains lits l → IsDecision es (negation l)
 negates_decisions es lits h = λ l c. elim (h l c) [ inl f ↦ absurd (Contains-nil l f) | inr d ↦ d ]
 
-pub sized_from : (live : Live) (vars n : ℕ) → AreInside live vars → vars < n → AreSized live n
+sized_from : (live : Live) (vars n : ℕ) → AreInside live vars → vars < n → AreSized live n
 sized_from live vars n h l = λ m C c k i. let w = All-contains (IsWithin vars) C k (h m C c) i in let b = w.1 in omega (arith, b, l)
+
+-- a trail can be traced
+pub traceable : (live : Live) (t : TrailValue) (es : List Assigned) (n : ℕ) → es ≡ t.entries → IsTrailValue t → AreBuilt live [] t.entries → AreInside live t.vars → t.vars < n → IsTraceable live es n
+traceable live t es n is valid built inside l = subst (λ xs. IsTraceable live xs n) (sym is) (record {
+  built = built;
+  apart = valid.apart;
+  clauses = sized_from live t.vars n inside l;
+  room = λ e c. let w = All-contains (λ x. IsWithin t.vars x.literal) t.entries e valid.within c in let b = w.1 in omega (arith, b, l);
+})
+
+-- and so can a front of one
+pub traceable_front : (live : Live) (es : List Assigned) (i m n : ℕ) → n ≡ m → IsTraceable live es m → IsTraceable live (take i es) n
+traceable_front live es i m n q h = subst (IsTraceable live (take i es)) (sym q) (record {
+  built = built_front live es i h.built;
+  apart = distinct_front es i h.apart;
+  clauses = h.clauses;
+  room = λ e c. h.room e (Contains-take es i e c);
+})
 
 -- literals of variables of the trail
 pub within_from : (vars : ℕ) (es : List Assigned) (lits : Clause) → All (λ e. IsWithin vars e.literal) es → ((l : Literal) → Contains lits l → (holds es (negation l) ≡ true) ⊎ (holds es l ≡ true)) → All (IsWithin vars) lits

@@ -52,8 +52,8 @@ hints_same s t (x ∷ xs) h =
     ∙ ap (λ ns. cond (t x.literal) (reason_number x.reason ∷ ns) ns) (hints_same s t xs (λ e c. h e (Contains-cons x e xs c)))
 
 -- an entry of the rest has its place behind the front
-place_of : (es : List Assigned) (j : ℕ) (e : Assigned) → Contains (drop j es) e → (k : ℕ) × (j ≤ k) × (k < length es) × (get_or es k e ≡ e)
-place_of es j e c = (
+pub place_behind : (es : List Assigned) (j : ℕ) (e : Assigned) → Contains (drop j es) e → (k : ℕ) × (j ≤ k) × (k < length es) × (get_or es k e ≡ e)
+place_behind es j e c = (
   j + c.0,
   omega arith,
   (let l = c.1 in let n = length-drop j es in omega (arith, l, n)),
@@ -135,7 +135,7 @@ module _ (live : Live) (es : List Assigned) (apart : IsDistinct eqb (variables e
 
       same_kept : (e : Assigned) → Contains rest e → negations (lits ++ negation entry.literal ∷ []) e.literal ≡ negations lits e.literal
       same_kept e c =
-          let r = place_of es (i + 1) e c in
+          let r = place_behind es (i + 1) e c in
           let apart_here : same (negation e.literal) (negation entry.literal) ≡ false = same-false (negation e.literal) (negation entry.literal) (λ q.
           two_places r.0 e (let l = r.1 in omega (arith, l)) r.2 (ap var_of (sym (negation-negation entry.literal) ∙ ap negation (sym q) ∙ negation-negation e.literal) ∙ ap (λ (y : Assigned). var_of y.literal) (sym r.3))) in
           list_any-append (same (negation e.literal)) lits (negation entry.literal ∷ [])
@@ -171,7 +171,7 @@ module _ (live : Live) (es : List Assigned) (apart : IsDistinct eqb (variables e
 
       same_seen : (e : Assigned) → Contains rest e → resolved_of es f lits e.literal ≡ resolved_of es g lits e.literal
       same_seen e c =
-          let p = place_of es (i + 1) e c in
+          let p = place_behind es (i + 1) e c in
           ap (λ b. holds es e.literal && (b && not (negations lits e.literal))) (both (f (var_of e.literal)) (g (var_of e.literal)) (grows (var_of e.literal)) (λ t.
           subst (λ (x : Assigned). f (var_of x.literal) ≡ true) p.3 (was p.0 e (let l = p.1 in omega (arith, l)) p.2 (subst (λ (x : Assigned). g (var_of x.literal) ≡ true) (sym p.3) t))))
 

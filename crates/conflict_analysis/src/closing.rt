@@ -1,20 +1,18 @@
 //! The closing of a cube: what is false follows from assumptions alone.
 
 ghost use Rattle.std.specs.Prelude.{◌≡◌, nat_eq, ◌+◌, ◌<◌, true, [], length, take, slice_index_or, Some, All, Contains, IfOk, OnOk};
-ghost use Rattle.std.specs.List.{IsDistinct};
 ghost use Rattle.clause_arena.specs.Clauses.{live_of};
 ghost use Rattle.dimacs.specs.logic.Literal.{Literal, Clause, IsWithin, negation, var_of};
 ghost use Rattle.dimacs.specs.logic.Propagation.{Rup};
-ghost use Rattle.conflict_analysis.specs.Built.{AreBuilt, AreInside, AreSized};
+ghost use Rattle.conflict_analysis.specs.Built.{AreBuilt, AreInside};
 ghost use Rattle.conflict_analysis.specs.Seen.{met};
 ghost use Rattle.conflict_analysis.specs.Walks.{HasMet, AreKnown, AreMet};
 ghost use Rattle.conflict_analysis.specs.Lemmas.{IsClosing, NegatesAssumptions};
 ghost use Rattle.conflict_analysis.specs.declared.closing.Closing.TheVariants as closing;
-ghost use Rattle.conflict_analysis.specs.Traces.{AreTraced, AreNegated, AreOutside, AreFalseOr};
-ghost use Rattle.watches.specs.Trails.{holds, variables};
+ghost use Rattle.conflict_analysis.specs.Traces.{IsTraceable, IsTracing, AreNegated, AreOutside, AreFalseOr};
+ghost use Rattle.watches.specs.Trails.{holds};
 ghost use Rattle.watches.specs.declared.trail.Assigned.{Assigned};
 
-use crate::hints::met_reasons;
 use crate::lemma::Lemma;
 use crate::seen::Seen;
 use clause_arena::Arena;
@@ -56,23 +54,18 @@ fn mark_number(arena: &Arena, front: &[Assigned], seen: &mut Seen, number: u64)
     }
 }
 
-/// Passes an entry, the last of a front: meets its reason, or keeps its negation where it was decided.
+/// Passes an entry, the last of a front. Where it was met its reason is named and met, or its negation kept where it was
+/// decided.
 fn trace_one(
     arena: &Arena,
     entries: &[Assigned],
     i: usize,
     seen: &mut Seen,
-    lits: &mut Vec<Lit>,
+    lemma: &mut Lemma,
 ) -> Result<(), AllocError>
-    requires built { AreBuilt (live_of arena.now) [] entries.now }
-    requires apart { IsDistinct nat_eq (variables entries.now) }
-    requires clauses { AreSized (live_of arena.now) (length seen.old) }
-    requires room { (e : Assigned) → Contains entries.now e → var_of e.literal < length seen.old }
+    requires front { IsTraceable (live_of arena.now) entries.now (length seen.old) }
     requires within { i < length entries.now }
-    requires traced { AreTraced (live_of arena.now) entries.now (i + 1) (met seen.old) lits.old.items }
-    ensures traced { OnOk result (AreTraced (live_of arena.now) entries.now i (met seen.new) lits.new.items) }
-    ensures negated { OnOk result (AreNegated entries.now lits.old.items lits.new.items) }
-    ensures kept { OnOk result ((l : Literal) → Contains lits.old.items l → Contains lits.new.items l) }
+    ensures way { OnOk result ((first : Clause) → IsTracing (live_of arena.now) entries.now first (i + 1) seen.old lemma.old → IsTracing (live_of arena.now) entries.now first i seen.new lemma.new) }
     ensures seen { OnOk result (HasMet (take i entries.now) seen.old seen.new) }
 {
     let entry = entries[i];
@@ -80,66 +73,60 @@ fn trace_one(
         return Ok(());
     }
     match entry.reason {
-        Some(number) => mark_number(arena, &entries[..i], seen, number),
-        None => lits.push(entry.literal.negate())?,
+        Some(number) => {
+            mark_number(arena, &entries[..i], seen, number);
+            lemma.hints.push(number)?;
+            Ok(())
+        }
+        None => {
+            lemma.lits.push(entry.literal.negate())?;
+            Ok(())
+        }
     }
-    Ok(())
 }
 
-/// Walks down from the end of a front to its beginning.
+/// Walks down from the end of a front to its beginning; the hints come the last first.
 fn trace(
     arena: &Arena,
     entries: &[Assigned],
     seen: &mut Seen,
-    lits: &mut Vec<Lit>,
+    lemma: &mut Lemma,
 ) -> Result<(), AllocError>
-    requires built { AreBuilt (live_of arena.now) [] entries.now }
-    requires apart { IsDistinct nat_eq (variables entries.now) }
-    requires clauses { AreSized (live_of arena.now) (length seen.old) }
-    requires room { (e : Assigned) → Contains entries.now e → var_of e.literal < length seen.old }
-    ensures traced { OnOk result (AreTraced (live_of arena.now) entries.now 0 (met seen.new) lits.new.items) }
-    ensures negated { OnOk result (AreNegated entries.now lits.old.items lits.new.items) }
-    ensures kept { OnOk result ((l : Literal) → Contains lits.old.items l → Contains lits.new.items l) }
+    requires front { IsTraceable (live_of arena.now) entries.now (length seen.old) }
+    requires hints { lemma.old.hints.items ≡ [] }
+    requires level { lemma.old.level ≡ 0 }
+    ensures way { OnOk result (IsTracing (live_of arena.now) entries.now lemma.old.lits.items 0 seen.new lemma.new) }
     ensures seen { OnOk result (HasMet entries.now seen.old seen.new) }
 {
     let mut i = entries.len();
     while i > 0 {
         i -= 1;
-        trace_one(arena, entries, i, seen, lits)?;
+        trace_one(arena, entries, i, seen, lemma)?;
     }
     Ok(())
 }
 
-/// The lemma of the first literals and of negations of decisions, from a clause that is false but for the first.
+/// Closes a lemma of first literals by negations of decisions, from a clause that is false but for the first.
 fn close(
-    alloc: Global,
     arena: &Arena,
     entries: &[Assigned],
     seen: &mut Seen,
-    first: Vec<Lit>,
     number: u64,
-) -> Result<Lemma, AllocError>
-    requires built { AreBuilt (live_of arena.now) [] entries.now }
-    requires apart { IsDistinct nat_eq (variables entries.now) }
-    requires clauses { AreSized (live_of arena.now) (length seen.old) }
-    requires room { (e : Assigned) → Contains entries.now e → var_of e.literal < length seen.old }
-    requires live { (C : Clause) × live_of arena.now number C × AreFalseOr entries.now first.items C }
-    requires first { AreOutside entries.now first.items }
-    requires known { (l : Literal) → Contains first.items l → met seen.old (var_of l) ≡ true }
-    ensures rup { IfOk result (λ lemma. Rup (live_of arena.now) lemma.lits.items lemma.hints.items) }
-    ensures negated { IfOk result (λ lemma. AreNegated entries.now first.items lemma.lits.items) }
-    ensures level { IfOk result (λ lemma. lemma.level ≡ 0) }
+    lemma: &mut Lemma,
+) -> Result<(), AllocError>
+    requires front { IsTraceable (live_of arena.now) entries.now (length seen.old) }
+    requires hints { lemma.old.hints.items ≡ [] }
+    requires level { lemma.old.level ≡ 0 }
+    requires live { (C : Clause) × live_of arena.now number C × AreFalseOr entries.now lemma.old.lits.items C }
+    requires first { AreOutside entries.now lemma.old.lits.items }
+    requires known { AreMet (met seen.old) lemma.old.lits.items }
+    ensures rup { OnOk result (Rup (live_of arena.now) lemma.new.lits.items lemma.new.hints.items) }
+    ensures negated { OnOk result (AreNegated entries.now lemma.old.lits.items lemma.new.lits.items) }
+    ensures level { OnOk result (lemma.new.level ≡ 0) }
 {
     mark_number(arena, entries, seen, number);
-    let mut lits = first;
-    trace(arena, entries, seen, &mut lits)?;
-    let mut hints = met_reasons(alloc, entries, seen)?;
-    hints.push(number)?;
-    Ok(Lemma {
-        lits,
-        hints,
-        level: 0,
-    })
+    trace(arena, entries, seen, lemma)?;
+    lemma.conclude(number)
 }
 
 /// Where the entry of a literal stands.
@@ -155,35 +142,34 @@ fn place_of(entries: &[Assigned], literal: Lit) -> usize
     i
 }
 
-/// The lemma of an assumption of which the negation was implied.
+/// Closes an empty lemma by an assumption of which the negation was implied.
 fn close_assumption(
-    alloc: Global,
     arena: &Arena,
     entries: &[Assigned],
     seen: &mut Seen,
     literal: Lit,
-) -> Result<Lemma, AllocError>
-    requires built { AreBuilt (live_of arena.now) [] entries.now }
-    requires apart { IsDistinct nat_eq (variables entries.now) }
-    requires clauses { AreSized (live_of arena.now) (length seen.old) }
-    requires room { (e : Assigned) → Contains entries.now e → var_of e.literal < length seen.old }
+    lemma: &mut Lemma,
+) -> Result<(), AllocError>
+    requires front { IsTraceable (live_of arena.now) entries.now (length seen.old) }
     requires closing { IsClosing (live_of arena.now) entries.now (closing.Assumption literal) }
-    ensures rup { IfOk result (λ lemma. Rup (live_of arena.now) lemma.lits.items lemma.hints.items) }
-    ensures negates { IfOk result (λ lemma. NegatesAssumptions entries.now (closing.Assumption literal) lemma.lits.items) }
-    ensures level { IfOk result (λ lemma. lemma.level ≡ 0) }
+    requires lits { lemma.old.lits.items ≡ [] }
+    requires hints { lemma.old.hints.items ≡ [] }
+    requires level { lemma.old.level ≡ 0 }
+    ensures rup { OnOk result (Rup (live_of arena.now) lemma.new.lits.items lemma.new.hints.items) }
+    ensures negates { OnOk result (NegatesAssumptions entries.now (closing.Assumption literal) lemma.new.lits.items) }
+    ensures level { OnOk result (lemma.new.level ≡ 0) }
 {
     let negation = literal.negate();
     let place = place_of(entries, negation);
     let entry = entries[place];
     let number = entry.reason.unwrap();
-    let mut first = Vec::new(alloc);
-    first.push(negation)?;
+    lemma.lits.push(negation)?;
     seen.insert(negation.var());
-    close(alloc, arena, &entries[..place], seen, first, number)
+    close(arena, &entries[..place], seen, number, lemma)
 }
 
-/// The lemma that closes the cube where a clause or an assumption is false: it follows by its hints, in trail order, by
-/// reverse unit propagation; its literals are negations of decisions, and of the assumption that is false. Its level is 0.
+/// The lemma that closes the cube where a clause or an assumption is false: it follows by its hints by reverse unit
+/// propagation; its literals are negations of decisions, and of the assumption that is false. Its level is 0.
 pub fn close_cube(
     alloc: Global,
     arena: &Arena,
@@ -200,8 +186,15 @@ pub fn close_cube(
 {
     let entries = trail.entries();
     let mut seen = Seen::with_room(alloc, trail.vars())?;
+    let mut lemma = Lemma::new(alloc);
     match closing {
-        Closing::Clause(number) => close(alloc, arena, entries, &mut seen, Vec::new(alloc), number),
-        Closing::Assumption(literal) => close_assumption(alloc, arena, entries, &mut seen, literal),
+        Closing::Clause(number) => {
+            close(arena, entries, &mut seen, number, &mut lemma)?;
+            Ok(lemma)
+        }
+        Closing::Assumption(literal) => {
+            close_assumption(arena, entries, &mut seen, literal, &mut lemma)?;
+            Ok(lemma)
+        }
     }
 }

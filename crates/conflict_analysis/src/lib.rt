@@ -7,7 +7,6 @@
 
 mod analyser;
 mod closing;
-mod hints;
 mod lemma;
 mod seen;
 mod walk;

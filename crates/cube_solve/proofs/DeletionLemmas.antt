@@ -25,7 +25,7 @@ use Rattle.lrat_text.proofs.ClauseMapLemmas.{apart_test, none_some, numbered_bet
 use Rattle.lrat_text.proofs.LineLemmas.{written_spells, written_one_line}
 use Rattle.watches.specs.Trails.{TrailValue}
 use Rattle.watches.proofs.TrailLemmas.{head_alone}
-use Rattle.cube_solve.specs.Forgetting.{AreRising, AreLemmas, AreLess, Forgets, IsKept}
+use Rattle.cube_solve.specs.Forgetting.{AreRising, AreLemmas, AreLess, Forgets, MayForget}
 use Rattle.cube_solve.specs.Learning.{IsLearnt, IsSearch}
 use Rattle.cube_solve.specs.Levels.{AreTwins, AreLinked}
 use Rattle.cube_solve.proofs.LogLemmas.{spells_push, log_push, fresh_push, after_push, top_push}
@@ -194,7 +194,7 @@ learnt_same B n old new text less l = record {
       (record { stays = λ n C h k. h; was = λ n C h. (Contains-nil n, h) }) less;
 }
 
-pub search_kept : (B : Cnf) (n : ℕ) (m k : Clauses) (t u : TrailValue) (before text : List ℕ) → IsSearch B n m t before → IsKept (length B.clauses + 1) (live_of m) (live_of k) before text
+pub search_kept : (B : Cnf) (n : ℕ) (m k : Clauses) (t u : TrailValue) (before text : List ℕ) → IsSearch B n m t before → MayForget (length B.clauses + 1) (live_of m) (live_of k) before text
     → u.vars ≡ t.vars → IsSearch B n k u text
 search_kept B n m k t u before text h c v = elim c [
   | inl same ↦ search_less B n m k t u before text [] h same.0 (λ j i. absurd (Contains-nil j i)) v

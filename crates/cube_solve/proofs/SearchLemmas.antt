@@ -1,11 +1,11 @@
 -- What each turn makes of a search, and what its ends come to.
-use Rattle.std.proofs.Common.{◌≡◌, ℕ, ◌+◌, ◌<◌, ◌≤◌, ◌⊎◌, inl, inr, Bool, true, false, eqb, List, [], ◌∷◌, ◌++◌, length, map, get_or, refl, sym, ◌∙◌, ap, subst, arith, None}
+use Rattle.std.proofs.Common.{◌≡◌, ℕ, ◌+◌, ◌^◌, ◌<◌, ◌≤◌, ◌⊎◌, inl, inr, Bool, true, false, eqb, List, [], ◌∷◌, ◌++◌, length, map, get_or, refl, sym, ◌∙◌, ap, subst, arith, None}
 use Rattle.std.specs.List.{All, Contains, IsDistinct, list_any}
 use Rattle.std.specs.FinMap.{get, insert}
 use Rattle.std.proofs.lemmas.Bool.{both_ways, cases_Bool, or_left, or_right, eq-eqb}
 use Rattle.std.proofs.lemmas.List.Elements.{All-contains}
 use Rattle.std.proofs.lemmas.Map.Keys.{IsDistinct-tail}
-use Rattle.dimacs.specs.logic.Cnf.{Cnf, assignment_of}
+use Rattle.dimacs.specs.logic.Cnf.{Cnf, IsBase, assignment_of}
 use Rattle.dimacs.specs.logic.ClauseMap.{ClauseMap, Live, live_in, map_of}
 use Rattle.dimacs.specs.logic.Literal.{Literal, Clause, IsWithin, negation, var_of, literal_true}
 use Rattle.dimacs.specs.logic.Propagation.{IsFalse}
@@ -232,6 +232,13 @@ closes_assumption q live es a x lits h b i f d l j = elim (d l j) [
 pub false_assumption : (q : Cube) (live : Live) (es : List Assigned) (a : ℕ) (x : Literal) → IsDistinct eqb (map var_of q) → IsAssuming q es a → AreBuilt live [] es → Contains q x
     → holds es (negation x) ≡ true → ¬ (IsDecision es (negation x))
 false_assumption q live es a x d h b i f k = cube_sound q d x i (decision_in_cube q es a (negation x) h (assuming_below q es a x i (false_beside live es x b f) h) k)
+
+-- the number of the next lemma, by the length of the base that was read
+pub next_number : (B : Cnf) (len n : ℕ) → IsBase B → len ≡ length B.clauses → n ≤ 2 ^ 47 → IsClauseNumber (len + 1 + n)
+next_number B len n valid is few = (omega arith, (let b = valid.clauses in omega arith))
+
+pub next_below : (B : Cnf) (len n : ℕ) (m : Clauses) (t : TrailValue) (text : List ℕ) → len ≡ length B.clauses → IsSearch B n m t text → AreBelow (len + 1 + n) (live_of m)
+next_below B len n m t text is h = subst (λ (k : ℕ). AreBelow (k + 1 + n) (live_of m)) (sym is) h.below
 
 pub below_next : (B : Cnf) (n id : ℕ) (m k : Clauses) (t : TrailValue) (text : List ℕ) → id ≡ length B.clauses + 1 + n → IsSearch B n m t text → AreSame m k → AreBelow id (live_of k)
 below_next B n id m k t text is h s = λ j D i.

@@ -48,5 +48,5 @@ pub record Forgets (first : ℕ) (old new : Live) (before text : List ℕ) : Typ
   pub less : AreLess old ids new
 
 -- all stayed as it was, or lemmas went out
-abbrev pub IsKept : ℕ → Live → Live → List ℕ → List ℕ → Type 0
-IsKept first old new before text = (AreLess old [] new × (text ≡ before)) ⊎ Forgets first old new before text
+abbrev pub MayForget : ℕ → Live → Live → List ℕ → List ℕ → Type 0
+MayForget first old new before text = (AreLess old [] new × (text ≡ before)) ⊎ Forgets first old new before text

@@ -3,14 +3,14 @@ use Rattle.std.specs.Prelude.{ℕ, ◌+◌, ◌*◌, ◌/◌, ◌%◌, ◌^◌, 
 use Rattle.cube_solve.specs.declared.pace.Pace.{Pace}
 
 -- the next term: the number is halved, and the term doubled, as long as the number is even; then comes the next number, from 1 again
-abbrev pub advanced : Pace → Pace
-advanced p = cond (eqb (p.rest % 2) 0)
+abbrev pub next_term : Pace → Pace
+next_term p = cond (eqb (p.rest % 2) 0)
     (record p { rest = p.rest / 2; term = (p.term * 2) % 2 ^ 64 })
     (record p { number = (p.number + 1) % 2 ^ 64; rest = (p.number + 1) % 2 ^ 64; term = 1 })
 
 -- the next restart comes after 100 times the next term
 abbrev pub restarted : Pace → Pace
-restarted p = let q = advanced p in record q { restart = (p.conflicts + (q.term * 100) % 2 ^ 64) % 2 ^ 64 }
+restarted p = let q = next_term p in record q { restart = (p.conflicts + (q.term * 100) % 2 ^ 64) % 2 ^ 64 }
 
 -- after how many conflicts the next restarts come
 abbrev pub restarts : ℕ → Pace → List ℕ

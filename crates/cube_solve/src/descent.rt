@@ -9,7 +9,7 @@ ghost use Rattle.watches.specs.Law.{AreSame, IsConflict, IsQuiet};
 ghost use Rattle.watches.specs.declared.trail.Assigned.{Assigned};
 ghost use Rattle.cube_solve.specs.State.{IsState, IsAssuming};
 ghost use Rattle.cube_solve.specs.Steady.{IsSteady};
-ghost use Rattle.cube_solve.specs.Steps.{IsFound, IsFree};
+ghost use Rattle.cube_solve.specs.Steps.{IsFound, IsUnassigned};
 
 use crate::decision::{Next, pick};
 use crate::state::State;
@@ -32,7 +32,7 @@ fn open_level<P: Propagator>(propagator: &P, arena: &Arena, trail: &mut Trail, l
     requires ready { P.is_ready propagator.now arena.now trail.old }
     requires state { IsState (P.attached propagator.now) arena.now trail.old }
     requires quiet { IsQuiet (live_of arena.now) trail.old.entries }
-    requires free { IsFree trail.old literal }
+    requires free { IsUnassigned trail.old literal }
     requires limit { trail.old.vars ≤ 2000000 }
     ensures ready { P.is_ready propagator.now arena.now trail.new }
     ensures state { IsState (P.attached propagator.now) arena.now trail.new }

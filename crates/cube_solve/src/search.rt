@@ -9,10 +9,10 @@ ghost use Rattle.lrat_text.specs.Log.{Cube};
 ghost use Rattle.watches.specs.Law.{IsConflict};
 ghost use Rattle.watches.specs.Trails.{present};
 ghost use Rattle.conflict_analysis.specs.Lemmas.{IsClosing, NegatesAssumptions};
-ghost use Rattle.cube_solve.specs.Forgetting.{AreRising, AreLemmas, IsKept};
+ghost use Rattle.cube_solve.specs.Forgetting.{AreRising, AreLemmas, MayForget};
 ghost use Rattle.cube_solve.specs.Learning.{AreBelow, IsWritten, Learns};
 ghost use Rattle.cube_solve.specs.Order.{AreWaiting};
-ghost use Rattle.cube_solve.specs.Outcome.{IsOutcome};
+ghost use Rattle.cube_solve.specs.Outcome.{IsRightOutcome};
 ghost use Rattle.cube_solve.specs.State.{IsAssuming};
 ghost use Rattle.cube_solve.specs.Steady.{IsSteady, IsSearching};
 
@@ -158,7 +158,7 @@ impl<'a, P: Propagator> Search<'a, P> {
         ensures vars { OnOk result (self.new.state.trail.vars ≡ self.old.state.trail.vars) }
         ensures assuming { OnOk result ((q : Cube) → IsAssuming q self.old.state.trail.entries self.old.state.assumed → IsAssuming q self.new.state.trail.entries self.new.state.assumed) }
         ensures lemmas { OnOk result ((first : ℕ) → AreLemmas first (live_of self.old.state.arena) self.old.lemmas.items → AreLemmas first (live_of self.new.state.arena) self.new.lemmas.items) }
-        ensures kept { OnOk result ((first : ℕ) → AreLemmas first (live_of self.old.state.arena) self.old.lemmas.items → IsKept first (live_of self.old.state.arena) (live_of self.new.state.arena) self.old.log self.new.log) }
+        ensures kept { OnOk result ((first : ℕ) → AreLemmas first (live_of self.old.state.arena) self.old.lemmas.items → MayForget first (live_of self.old.state.arena) (live_of self.new.state.arena) self.old.log self.new.log) }
     {
         self.pace.count();
         halve_in_time(&self.pace, &mut self.state.order);
@@ -200,7 +200,7 @@ impl<'a, P: Propagator> Search<'a, P> {
         requires assuming { IsAssuming cube.now self.state.trail.entries self.state.assumed }
         requires distinct { IsDistinct nat_eq (map var_of cube.now) }
         requires within { All (IsWithin base.now.vars) cube.now }
-        ensures { IfOk result (IsOutcome base.now cube.now limit) }
+        ensures { IfOk result (IsRightOutcome base.now cube.now limit) }
     {
         let _vars = base.vars(); // with it comes the bound of the number of clauses
         let most = limit.min(1 << 47);

@@ -3,7 +3,7 @@
 ghost use Rattle.std.specs.Prelude.{◌≡◌, [], map, nat_eq, All, IfOk};
 ghost use Rattle.std.specs.List.{IsDistinct};
 ghost use Rattle.dimacs.specs.logic.Literal.{IsWithin, var_of};
-ghost use Rattle.cube_solve.specs.Outcome.{IsOutcome};
+ghost use Rattle.cube_solve.specs.Outcome.{IsRightOutcome};
 
 use crate::outcome::Outcome;
 use crate::search::Search;
@@ -22,7 +22,7 @@ pub fn solve_by<P: Propagator>(
     requires none { P.attached propagator.old ≡ [] }
     requires distinct { IsDistinct nat_eq (map var_of cube.now) }
     requires within { All (IsWithin base.now.vars) cube.now }
-    ensures { IfOk result (IsOutcome base.now cube.now limit) }
+    ensures { IfOk result (IsRightOutcome base.now cube.now limit) }
 {
     let search = Search::new(alloc, propagator, base)?;
     search.run(base, cube, limit)
@@ -37,7 +37,7 @@ pub fn solve_by<P: Propagator>(
 pub fn solve(alloc: Global, base: &Base, cube: &[Lit], limit: u64) -> Result<Outcome, AllocError>
     requires distinct { IsDistinct nat_eq (map var_of cube.now) }
     requires within { All (IsWithin base.now.vars) cube.now }
-    ensures { IfOk result (IsOutcome base.now cube.now limit) }
+    ensures { IfOk result (IsRightOutcome base.now cube.now limit) }
 {
     let mut watched = Watched::new(alloc);
     solve_by(alloc, &mut watched, base, cube, limit)

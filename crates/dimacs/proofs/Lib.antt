@@ -11,11 +11,13 @@ pub mod HeaderLemmas
 pub mod LiteralLemmas
 pub mod Members
 pub mod NumberLemmas
+pub mod RowFaults
 pub mod RowLemmas
 pub mod RowRuns
 pub mod RunLemmas
 pub mod SpellingLemmas
 pub mod TokenLemmas
+pub mod ToldLemmas
 pub mod WithinLemmas
 pub mod WordLemmas
 pub mod WritingLemmas

@@ -5,8 +5,8 @@ ghost use Rattle.std.specs.Option.{option_map};
 ghost use Rattle.dimacs.specs.layout.Capped.{capped};
 ghost use Rattle.dimacs.specs.logic.Literal.{IsWithin};
 ghost use Rattle.dimacs.specs.text.Numbers.{number};
-ghost use Rattle.dimacs.specs.text.Words.{words_of, words};
-ghost use Rattle.dimacs.specs.text.Reading.{read_token, finish, format, no_memory};
+ghost use Rattle.dimacs.specs.text.Words.{words};
+ghost use Rattle.dimacs.specs.text.Reading.{read_token, format, no_memory};
 ghost use Rattle.dimacs.specs.text.Rows.{Gives, read_words};
 
 use crate::builder::Builder;

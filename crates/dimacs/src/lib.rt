@@ -30,7 +30,7 @@ pub use builder::Builder;
 pub use examples::{worked_answers, worked_bases, worked_propagation};
 pub use fault::{DimacsFault, Kind};
 pub use formula::Formula;
-pub use laws::{reading_is_spelling, writing_is_spelling};
+pub use laws::{no_text_wants_memory, reading_is_spelling, writing_is_spelling};
 pub use literal::{Lit, Var, has_literal};
 pub use reading::read;
 pub use writing::{put_clause, write};

@@ -5,5 +5,6 @@ pub mod RunLemmas
 pub mod SpanLemmas
 pub mod SpellingLemmas
 pub mod StateLemmas
+pub mod ToldLemmas
 pub mod WalkLemmas
 pub mod WritingLemmas

@@ -3,8 +3,8 @@
 ghost use Rattle.std.specs.Prelude.{◌≡◌, ◌≢◌, ℤ, ◌+◌, ◌<◌, ◌≤◌, [], ◌∷◌, ◌++◌, length, OnOk, IfOk, bytes_eq, codes};
 ghost use Rattle.dimacs.specs.layout.Capped.{capped};
 ghost use Rattle.dimacs.specs.logic.Literal.{var_of};
-ghost use Rattle.dimacs.specs.text.Words.{words, words_of};
-ghost use Rattle.icnf.specs.Reading.{format, no_memory, start, begin, read_mark, in_clause, end_cube, literal_in_cube, in_cube, read_number, read_token, finish};
+ghost use Rattle.dimacs.specs.text.Words.{words};
+ghost use Rattle.icnf.specs.Reading.{format, no_memory, start, begin, read_mark, in_clause, end_cube, literal_in_cube, in_cube, read_number, read_token};
 ghost use Rattle.dimacs.specs.text.Rows.{Gives, read_words};
 
 use crate::fault::{IcnfFault, Kind};

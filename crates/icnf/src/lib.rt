@@ -15,7 +15,7 @@ mod writing;
 
 pub use builder::TreeBuilder;
 pub use fault::{IcnfFault, Kind};
-pub use laws::{reading_is_spelling, writing_is_spelling};
+pub use laws::{no_text_wants_memory, reading_is_spelling, writing_is_spelling};
 pub use reading::read;
 pub use tree::Tree;
 pub use writing::write;

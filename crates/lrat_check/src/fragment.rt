@@ -18,12 +18,13 @@ ghost use Rattle.lrat_check.specs.Table.{FitsTable, AllFit};
 
 use crate::checking::{CheckFault, finish, next_line, out_of_memory, step_refused, text_refused};
 use crate::fault::StepFault;
+use crate::lemma::Lemma;
 use crate::live::LiveClauses;
 use crate::loading::load;
 use crate::marks::{Marks, assume_negations};
 use crate::propagation::follow;
 use dimacs::{Base, Lit, has_literal};
-use lrat_text::{Groups, StepBuffer, StepRef, TakesLines, read_line, take_lines};
+use lrat_text::{StepBuffer, StepRef, TakesLines, read_line, take_lines};
 use std::alloc::{AllocError, Global};
 
 /// The fault of a text whose last step does not close the cube.
@@ -58,24 +59,22 @@ fn test_rup(
     clauses: &LiveClauses,
     marks: &mut [u64],
     stamp: u64,
-    lits: &[Lit],
-    hints: &[u64],
-    groups: &Groups,
+    lemma: Lemma<'_>,
 ) -> Result<(), FragmentFault>
     requires table { AllFit (length marks.old) clauses.now }
-    requires fits { FitsTable (length marks.old) lits.now }
+    requires fits { FitsTable (length marks.old) lemma.lits.now }
     requires unused { IsUnused stamp marks.old }
     requires most { AllAtMost stamp marks.old }
-    ensures fault { number_in result ≡ own_lemma_fault clauses.now lits.now hints.now groups.now }
+    ensures fault { number_in result ≡ own_lemma_fault clauses.now lemma.entry.lits.now lemma.entry.hints.now lemma.entry.groups.now }
     ensures most { AllAtMost stamp marks.new }
 {
-    if assume_negations(marks, stamp, lits) {
+    if assume_negations(marks, stamp, lemma.lits) {
         return Err(FragmentFault::Step(StepFault::Tautology));
     }
-    if !groups.is_empty() {
+    if !lemma.groups.is_empty() {
         return Err(FragmentFault::NotRup);
     }
-    match follow(clauses, marks, stamp, stamp, hints, false) {
+    match follow(clauses, marks, stamp, stamp, lemma.hints, false) {
         Ok(true) => Ok(()),
         Ok(false) => Err(FragmentFault::NotRup),
         Err(fault) => Err(FragmentFault::Step(fault)),
@@ -83,21 +82,15 @@ fn test_rup(
 }
 
 /// The same, with room made for the lemma, under a new stamp.
-fn test_own(
-    clauses: &LiveClauses,
-    marks: &mut Marks,
-    lits: &[Lit],
-    hints: &[u64],
-    groups: &Groups,
-) -> Result<(), FragmentFault>
+fn test_own(clauses: &LiveClauses, marks: &mut Marks, lemma: Lemma<'_>) -> Result<(), FragmentFault>
     requires { AllFit (vec_len marks.old.table) clauses.now }
-    ensures took { OnOk result (own_lemma_fault clauses.now lits.now hints.now groups.now ≡ None) }
-    ensures refused { IfErr result (λ f. (f ≡ FragmentFault.Step NoMemory) ⊎ (own_lemma_fault clauses.now lits.now hints.now groups.now ≡ Some (fragment_fault_number f))) }
-    ensures fits { OnOk result (FitsTable (vec_len marks.new.table) lits.now) }
+    ensures took { OnOk result (own_lemma_fault clauses.now lemma.entry.lits.now lemma.entry.hints.now lemma.entry.groups.now ≡ None) }
+    ensures refused { IfErr result (λ f. (f ≡ FragmentFault.Step NoMemory) ⊎ (own_lemma_fault clauses.now lemma.entry.lits.now lemma.entry.hints.now lemma.entry.groups.now ≡ Some (fragment_fault_number f))) }
+    ensures fits { OnOk result (FitsTable (vec_len marks.new.table) lemma.entry.lits.now) }
     ensures longer { vec_len marks.old.table ≤ vec_len marks.new.table }
 {
-    match marks.begin(lits, 0) {
-        Ok(base) => test_rup(clauses, &mut marks.table, base, lits, hints, groups),
+    match marks.begin(lemma.lits, 0) {
+        Ok(base) => test_rup(clauses, &mut marks.table, base, lemma),
         Err(_) => Err(FragmentFault::Step(StepFault::NoMemory)),
     }
 }
@@ -144,27 +137,21 @@ pub(crate) struct FragmentChecker {
 
 impl FragmentChecker {
     /// Adds the next lemma, where it follows by its hints alone.
-    fn add(
-        &mut self,
-        id: u64,
-        lits: &[Lit],
-        hints: &[u64],
-        groups: &Groups,
-    ) -> Result<(), FragmentFault>
-        ensures took { OnOk result (own_addition_fault self.old.clauses self.old.top id lits.now hints.now groups.now ≡ None) }
-        ensures clauses { OnOk result (self.new.clauses ≡ insert self.old.clauses id lits.now) }
+    fn add(&mut self, id: u64, lemma: Lemma<'_>) -> Result<(), FragmentFault>
+        ensures took { OnOk result (own_addition_fault self.old.clauses self.old.top id lemma.entry.lits.now lemma.entry.hints.now lemma.entry.groups.now ≡ None) }
+        ensures clauses { OnOk result (self.new.clauses ≡ insert self.old.clauses id lemma.entry.lits.now) }
         ensures top { OnOk result (self.new.top ≡ id) }
         ensures base { OnOk result (self.new.base ≡ self.old.base) }
-        ensures refused { IfErr result (λ f. (f ≡ FragmentFault.Step NoMemory) ⊎ (own_addition_fault self.old.clauses self.old.top id lits.now hints.now groups.now ≡ Some (fragment_fault_number f))) }
+        ensures refused { IfErr result (λ f. (f ≡ FragmentFault.Step NoMemory) ⊎ (own_addition_fault self.old.clauses self.old.top id lemma.entry.lits.now lemma.entry.hints.now lemma.entry.groups.now ≡ Some (fragment_fault_number f))) }
     {
         if id <= self.top || id - self.top > 1 {
             return Err(FragmentFault::Step(StepFault::NumberNotRising));
         }
-        match test_own(&self.clauses, &mut self.marks, lits, hints, groups) {
+        match test_own(&self.clauses, &mut self.marks, lemma) {
             Ok(()) => {}
             Err(fault) => return Err(fault),
         }
-        match self.clauses.insert(id, lits) {
+        match self.clauses.insert(id, lemma.lits) {
             Ok(_) => {}
             Err(_) => return Err(FragmentFault::Step(StepFault::NoMemory)),
         }
@@ -188,7 +175,12 @@ impl FragmentChecker {
                 hints,
                 groups,
             } => {
-                match self.add(id, lits, hints, groups) {
+                let lemma = Lemma {
+                    lits,
+                    hints,
+                    groups,
+                };
+                match self.add(id, lemma) {
                     Ok(()) => {}
                     Err(fault) => return Err(fault),
                 }

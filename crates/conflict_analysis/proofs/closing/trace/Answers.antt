@@ -1,10 +1,19 @@
-use Rattle.std.proofs.Common.{◌-◌, arith}
-use Rattle.conflict_analysis.proofs.HasMet.{met_further, met_in_front}
-use Rattle.conflict_analysis.proofs.Tracing.{negated_further}
+use Rattle.std.proofs.Common.{◌-◌, arith, sym, subst}
+use Rattle.clause_arena.specs.Clauses.{live_of}
+use Rattle.conflict_analysis.specs.Traces.{IsTraceable, IsTracing}
+use Rattle.conflict_analysis.proofs.HasMet.{met_further, met_in_front, met_none}
+use Rattle.conflict_analysis.proofs.Tracing.{tracing_begins}
 use Rattle.conflict_analysis.proofs.closing.trace.Goals as goal
 
-pub trace_one-requires-clause-clauses : goal.trace_one-requires-clause-clauses
-trace_one-requires-clause-clauses c = λ n C h k i. let a = c.requires.clauses n C h k i in let s = ((c.loop-i.invariant).1).sized in omega (arith, a, s)
+pub loop-i-init : goal.loop-i-init
+loop-i-init c = (
+  omega arith,
+  met_none c.args.entries.now c.args.seen.now,
+  tracing_begins (live_of c.args.arena.now) c.args.entries.now c.args.seen.now c.args.lemma.now c.requires.hints c.requires.level,
+)
+
+pub trace_one-requires-clause-front : goal.trace_one-requires-clause-front
+trace_one-requires-clause-front c = subst (IsTraceable (live_of c.args.arena.now) c.args.entries.now) (sym (c.loop-i.invariant).1.sized) c.requires.front
 
 pub loop-i-preserved : goal.loop-i-preserved
 loop-i-preserved c =
@@ -12,7 +21,5 @@ loop-i-preserved c =
     let e = c.in_ok-trace_one.ensures in (
       (let b = i.0 in omega (arith, b)),
       met_further c.args.entries.now c.args.seen.now c.loop-i.seen c.trace_one.new.seen i.1 (met_in_front c.args.entries.now (c.loop-i.i - 1) c.loop-i.seen c.trace_one.new.seen e.seen),
-      e.traced,
-      negated_further c.args.entries.now c.args.lits.now.items c.loop-i.lits.items c.trace_one.new.lits.items i.3 e.negated,
-      λ k h. e.kept k (i.4 k h),
+      e.way c.args.lemma.now.lits.items (subst (λ n. IsTracing (live_of c.args.arena.now) c.args.entries.now c.args.lemma.now.lits.items n c.loop-i.seen c.loop-i.lemma) (omega (arith, c.loop-i-test.true)) i.2),
     )

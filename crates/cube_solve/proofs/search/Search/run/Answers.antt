@@ -1,10 +1,9 @@
 use Rattle.std.proofs.Common.{◌+◌, length, arith}
 use Rattle.clause_arena.specs.Clauses.{live_of}
-use Rattle.lrat_text.specs.Grammar.{IsClauseNumber}
 use Rattle.cube_solve.specs.Outcome.{allowed}
 use Rattle.cube_solve.proofs.ForgettingLemmas.{lemmas_same}
 use Rattle.cube_solve.proofs.OutcomeLemmas.{ends_in_model, ends_refuted, ends_at_limit}
-use Rattle.cube_solve.proofs.SearchLemmas.{closed, limited, satisfied, model_read, search_same, below_next, closes_assumption, closes_clause, false_assumption}
+use Rattle.cube_solve.proofs.SearchLemmas.{closed, limited, satisfied, model_read, search_same, below_next, next_number, closes_assumption, closes_clause, false_assumption}
 use Rattle.cube_solve.proofs.search.Search.run.Goals as goal
 
 pub returns-in-Model : goal.returns-in-Model
@@ -43,7 +42,7 @@ returns-in-Assumption g c =
     let s = search_same B c.turns.learnt old.state.arena new.arena old.state.trail new.trail old.log (c.turns.invariant.searching).learnt c.descend.ensures.clauses c.descend.ensures.vars in
     let e = c.in_ok-text-in-Assumption.ensures in
     let id = c.len.result + 1 + c.turns.learnt in
-    let number : IsClauseNumber id = (omega arith, (let n = c.len.ensures in let b = (c.vars-vars.ensures.valid).clauses in let w = c.turns.invariant.within in let l = c.min-most.ensures in omega arith)) in
+    let number = next_number B c.len.result c.turns.learnt c.vars-vars.ensures.valid c.len.ensures (let w = c.turns.invariant.within in let l = c.min-most.ensures in omega arith) in
     ends_refuted B q c.args.limit c.in_ok-text-in-Assumption.text
     (closed B new.trail.vars c.turns.learnt id (live_of new.arena) e.0 old.log c.in_ok-text-in-Assumption.text.items (let n = c.len.ensures in omega arith) number s.learnt e.1 q (allowed c.args.limit)
     (let w = c.turns.invariant.within in let l = c.min-most.ensures in omega arith)
@@ -64,7 +63,7 @@ returns-then-level-self g c =
     let s = search_same B c.turns.learnt old.state.arena new.arena old.state.trail new.trail old.log (c.turns.invariant.searching).learnt c.descend.ensures.clauses c.descend.ensures.vars in
     let e = c.in_ok-text-in-Clause.ensures in
     let id = c.len.result + 1 + c.turns.learnt in
-    let number : IsClauseNumber id = (omega arith, (let n = c.len.ensures in let b = (c.vars-vars.ensures.valid).clauses in let w = c.turns.invariant.within in let l = c.min-most.ensures in omega arith)) in
+    let number = next_number B c.len.result c.turns.learnt c.vars-vars.ensures.valid c.len.ensures (let w = c.turns.invariant.within in let l = c.min-most.ensures in omega arith) in
     ends_refuted B q c.args.limit c.in_ok-text-in-Clause.text
     (closed B new.trail.vars c.turns.learnt id (live_of new.arena) e.0 old.log c.in_ok-text-in-Clause.text.items (let n = c.len.ensures in omega arith) number s.learnt e.1 q (allowed c.args.limit)
     (let w = c.turns.invariant.within in let l = c.min-most.ensures in omega arith)

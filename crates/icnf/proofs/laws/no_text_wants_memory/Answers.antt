@@ -1,0 +1,5 @@
+use Rattle.icnf.proofs.ToldLemmas.{parse_told}
+use Rattle.icnf.proofs.laws.no_text_wants_memory.Goals as goal
+
+pub returns : goal.returns
+returns c = λ text. parse_told text
