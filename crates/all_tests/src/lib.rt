@@ -1,32 +1,20 @@
-//! Worked examples, and whatever crosses crates.
+//! Worked examples of the checker, the search and all above them, and whatever crosses crates.
 #![tactic(auto)]
 
-#[cfg(test)]
-mod arenas;
 #[cfg(test)]
 mod candidates;
 #[cfg(test)]
 mod checks;
 #[cfg(test)]
-mod conflicts;
-#[cfg(test)]
 mod cubes;
 #[cfg(test)]
-mod deciding;
-#[cfg(test)]
 mod deletions;
-#[cfg(test)]
-mod formulas;
 #[cfg(test)]
 mod fragments;
 #[cfg(test)]
 mod joining;
 #[cfg(test)]
 mod leaves;
-#[cfg(test)]
-mod lines;
-#[cfg(test)]
-mod messages;
 #[cfg(test)]
 mod nodes;
 #[cfg(test)]
@@ -40,14 +28,6 @@ mod searches;
 #[cfg(test)]
 mod solving;
 #[cfg(test)]
-mod steps;
-#[cfg(test)]
 mod taking;
-#[cfg(test)]
-mod trails;
-#[cfg(test)]
-mod trees;
-#[cfg(test)]
-mod units;
 #[cfg(test)]
 mod words;

@@ -47,8 +47,8 @@ length-gathered ws (e ∷ es) =
 
 -- ---- an arena whose gaps are closed
 module _ (ws : List Literal) (index : Slots) (arena : IsArena ws index) where
-  abbrev words : List Literal
-  words = gathered ws (refs_of index)
+  abbrev literals : List Literal
+  literals = gathered ws (refs_of index)
 
   abbrev moves : List (Ref × Ref)
   moves = moves_from 0 (refs_of index)
@@ -56,8 +56,8 @@ module _ (ws : List Literal) (index : Slots) (arena : IsArena ws index) where
   abbrev after : Slots
   after = moved_by index moves
 
-  literals-words : literals_in (contents ws index) ≡ length words
-  literals-words =
+  literals-literals : literals_in (contents ws index) ≡ length literals
+  literals-literals =
       ap (sum_by (λ (e : ℕ × (ℕ × Clause)). length e.1.1)) (entries-from_entries (map (entry_at ws) (entries index)) (sorted_entries ws (entries index) (entries_sorted index)))
       ∙ length-gathered ws (entries index)
 
@@ -67,12 +67,12 @@ module _ (ws : List Literal) (index : Slots) (arena : IsArena ws index) where
       ∙ ap (option_or (find nat_cmp q (packed 0 (entries index)))) (get-entries index q)
       ∙ packed_over (entries index) 0 q
 
-  came : (q : ℕ) (t : Slot) → get after q ≡ Some t → CameFrom ws words (entries index) q t
+  came : (q : ℕ) (t : Slot) → get after q ≡ Some t → CameFrom ws literals (entries index) q t
   came q t is =
       carried ws (entries index) [] 0 refl (all_placed ws (entries index) (entries_sorted index) (λ k s e. arena.placed k s (get-entries index k ∙ e)))
       q t (sym (get-after q) ∙ is)
 
-  pub arena-compacted : IsArena words after
+  pub arena-compacted : IsArena literals after
   arena-compacted = record {
     placed = λ n s e. (came n s e).carried.within;
     distinct = λ n s e.
@@ -84,25 +84,25 @@ module _ (ws : List Literal) (index : Slots) (arena : IsArena ws index) where
   abbrev clause_of : ℕ × Clause → Clause
   clause_of c = c.1
 
-  kept_at : (n : ℕ) (o : Option Slot) → get after n ≡ o → option_map clause_of (option_map (value_at words) o) ≡ option_map clause_of (option_map (value_at ws) (get index n))
+  kept_at : (n : ℕ) (o : Option Slot) → get after n ≡ o → option_map clause_of (option_map (value_at literals) o) ≡ option_map clause_of (option_map (value_at ws) (get index n))
   kept_at n None e =
       ap (λ o. option_map clause_of (option_map (value_at ws) o)) (sym (get-entries index n ∙ unpacked_none (entries index) 0 n (sym (get-after n) ∙ e)))
   kept_at n (Some t) e =
       let from = came n t e in
       ap Some from.carried.literals ∙ ap (λ o. option_map clause_of (option_map (value_at ws) o)) (sym (get-entries index n ∙ from.found))
 
-  kept : (n : ℕ) → literals_of (contents words after) n ≡ literals_of (contents ws index) n
+  kept : (n : ℕ) → literals_of (contents literals after) n ≡ literals_of (contents ws index) n
   kept n =
-      ap (option_map clause_of) (get-contents words after n) ∙ kept_at n (get after n) refl ∙ ap (option_map clause_of) (sym (get-contents ws index n))
+      ap (option_map clause_of) (get-contents literals after n) ∙ kept_at n (get after n) refl ∙ ap (option_map clause_of) (sym (get-contents ws index n))
 
-  closed : (n p : ℕ) (C : Clause) → get (contents words after) n ≡ Some (p, C) → p + length C ≤ literals_in (contents ws index)
+  closed : (n p : ℕ) (C : Clause) → get (contents literals after) n ≡ Some (p, C) → p + length C ≤ literals_in (contents ws index)
   closed n p C e =
-      let f = slot_found words (get after n) p C (sym (get-contents words after n) ∙ e) in
+      let f = slot_found literals (get after n) p C (sym (get-contents literals after n) ∙ e) in
       let within = (came n f.slot f.is).carried.within in
-      omega (arith, literals-words, length-clause_at words f.slot within, ap length f.literals, f.place)
+      omega (arith, literals-literals, length-clause_at literals f.slot within, ap length f.literals, f.place)
 
   -- a move that is told
-  moved_by_told : (from to : Ref) → IsTold (entries index) 0 from to → HasMoved (contents ws index) (contents words after) from to
+  moved_by_told : (from to : Ref) → IsTold (entries index) 0 from to → HasMoved (contents ws index) (contents literals after) from to
   moved_by_told from to h =
       let at = get-entries index from.number ∙ h.before in
       let is = get-after from.number ∙ h.after in
@@ -114,7 +114,7 @@ module _ (ws : List Literal) (index : Slots) (arena : IsArena ws index) where
         number = h.number;
         before = (get-contents ws index from.number ∙ ap (option_map (value_at ws)) at, sym long);
         after = (
-          ap (get (contents words after)) h.number ∙ get-contents words after from.number ∙ ap (option_map (value_at words)) is
+          ap (get (contents literals after)) h.number ∙ get-contents literals after from.number ∙ ap (option_map (value_at literals)) is
               ∙ ap (λ (C : Clause). Some (to.place, C)) (origin.carried.literals ∙ ap (clause_at ws) same_slot),
           origin.carried.len ∙ ap (λ (s : Slot). s.len) same_slot ∙ sym long,
         );
@@ -122,15 +122,15 @@ module _ (ws : List Literal) (index : Slots) (arena : IsArena ws index) where
       }
 
   -- a clause that has moved
-  told_by_moved : (from to : Ref) → HasMoved (contents ws index) (contents words after) from to → IsTold (entries index) 0 from to
+  told_by_moved : (from to : Ref) → HasMoved (contents ws index) (contents literals after) from to → IsTold (entries index) 0 from to
   told_by_moved from to h = record {
     number = h.number;
     before = sym (get-entries index from.number) ∙ (here ws index (contents ws index) refl arena from h.literals h.before).slot;
-    after = sym (get-after from.number) ∙ ap (get after) (sym h.number) ∙ (here words after (contents words after) refl arena-compacted to h.literals h.after).slot;
+    after = sym (get-after from.number) ∙ ap (get after) (sym h.number) ∙ (here literals after (contents literals after) refl arena-compacted to h.literals h.after).slot;
     elsewhere = h.elsewhere;
   }
 
-  pub compacted : IsCompacted (contents ws index) (contents words after) moves
+  pub compacted : IsCompacted (contents ws index) (contents literals after) moves
   compacted = record {
     kept = kept;
     told = λ from to h. moved_by_told from to (told_has_moved (entries index) 0 from to (entries_sorted index) h);

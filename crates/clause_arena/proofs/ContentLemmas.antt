@@ -1,4 +1,4 @@
--- What slots have in the words, and what a clause more and a clause less change of it.
+-- What slots have in the literals, and what a clause more and a clause less change of it.
 use Rattle.std.proofs.Common.{◌≡◌, ℕ, ◌⊎◌, inl, inr, Bool, true, false, List, [], ◌∷◌, ◌++◌, Option, Some, None, cond, refl, sym, ◌∙◌, ap, subst, length, map, take, drop, arith, length-drop, length-append}
 use Rattle.std.specs.Option.{option_map}
 use Rattle.std.specs.List.{IsDistinct}
@@ -105,7 +105,7 @@ arena-empty ws = record {
   apart = λ n m k s t e. absurd (none_at n s e);
 }
 
--- ---- words that come behind
+-- ---- literals that come behind
 clause_kept : (ws more : List Literal) (s : Slot) → IsPlaced ws s → clause_at (ws ++ more) s ≡ clause_at ws s
 clause_kept ws more s within =
     ap (take s.len) (drop-append-le s.place ws more (omega arith)) ∙ take-append-le s.len (drop s.place ws) more (omega (arith, length-drop s.place ws))

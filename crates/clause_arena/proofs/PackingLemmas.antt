@@ -122,15 +122,15 @@ all_placed ws (e ∷ es) sorted h = (
 )
 
 -- a slot that carries the literals of another
-pub record IsCarried (ws words : List Literal) (s t : Slot) : Type 0 where
+pub record IsCarried (ws others : List Literal) (s t : Slot) : Type 0 where
   pub len : t.len ≡ s.len
-  pub within : IsPlaced words t
-  pub literals : clause_at words t ≡ clause_at ws s
+  pub within : IsPlaced others t
+  pub literals : clause_at others t ≡ clause_at ws s
 
-pub record CameFrom (ws words : List Literal) (es : List (ℕ × Slot)) (q : ℕ) (t : Slot) : Type 0 where
+pub record CameFrom (ws literals : List Literal) (es : List (ℕ × Slot)) (q : ℕ) (t : Slot) : Type 0 where
   pub slot : Slot
   pub found : find nat_cmp q es ≡ Some slot
-  pub carried : IsCarried ws words slot t
+  pub carried : IsCarried ws literals slot t
 
 carried_here : (ws front more : List Literal) (p : ℕ) (s : Slot) → p ≡ length front → IsPlaced ws s → IsCarried ws (front ++ (clause_at ws s ++ more)) s (slot_from p s)
 carried_here ws front more p s at placed =
@@ -162,7 +162,7 @@ carried ws (e ∷ es) front p at placed q t is =
           record {
             slot = rest.slot;
             found = ap (λ b. cond b (Some e.1) (find nat_cmp q es)) z ∙ rest.found;
-            carried = subst (λ words. IsCarried ws words rest.slot t) (append_assoc front (clause_at ws e.1) more) rest.carried;
+            carried = subst (λ literals. IsCarried ws literals rest.slot t) (append_assoc front (clause_at ws e.1) more) rest.carried;
           }
     ] refl is
 

@@ -45,7 +45,7 @@ swap_part ws m n i j f hi hj =
     ∙ ap (λ s. set s j (get_or ws (m + i) d)) (take_set n (drop m ws) i _ hi)
     ∙ rw (← x, ← y) (swap_is (take n (drop m ws)) i j d (omega arith) (omega arith))
 
--- the words after a swap inside the slot of a number
+-- the literals after a swap inside the slot of a number
 module _ (ws : List Literal) (index : Slots) (arena : IsArena ws index) (number : ℕ) (s : Slot) (there : get index number ≡ Some s) (i j : ℕ) (hi : i < s.len) (hj : j < s.len) where
   abbrev after : List Literal
   after = swap ws (s.place + i) (s.place + j)

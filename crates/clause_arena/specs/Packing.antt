@@ -17,8 +17,8 @@ refs_of index = map ref_of (entries index)
 
 -- their literals one after the other
 abbrev pub gathered : List Literal → List Ref → List Literal
-gathered words [] = []
-gathered words (at ∷ refs) = clause_at words (slot_of at) ++ gathered words refs
+gathered literals [] = []
+gathered literals (at ∷ refs) = clause_at literals (slot_of at) ++ gathered literals refs
 
 -- a clause that comes to a place, told where it is another
 abbrev pub move_of : ℕ → Ref → List (Ref × Ref)

@@ -10,9 +10,9 @@ ghost use Rattle.clause_arena.specs.Compaction.{IsCompacted};
 
 use crate::compaction::gather;
 use crate::index::Index;
+use crate::literals::{exchange, literals_at};
 use crate::reference::Ref;
 use crate::slots::Slot;
-use crate::words::{exchange, literals_at};
 use dimacs::Lit;
 use std::alloc::{AllocError, Global};
 use std::marker::Model;
@@ -20,7 +20,7 @@ use std::marker::Model;
 /// Clauses by their numbers. Only `add` and `compact` take memory.
 #[derive(Drop)]
 pub struct Arena {
-    words: Vec<Lit>,
+    literals: Vec<Lit>,
     index: Index,
 }
 
@@ -32,9 +32,9 @@ impl Model for Arena {
 
     ghost coded = { clauses_code };
 
-    ghost view = { λ a. contents a.words.items a.index };
+    ghost view = { λ a. contents a.literals.items a.index };
 
-    ghost invariant = { λ a. IsArena a.words.items a.index };
+    ghost invariant = { λ a. IsArena a.literals.items a.index };
 }
 
 impl Arena {
@@ -43,7 +43,7 @@ impl Arena {
         ensures { result ≡ empty }
     {
         Arena {
-            words: Vec::new(alloc),
+            literals: Vec::new(alloc),
             index: Index::new(alloc),
         }
     }
@@ -55,13 +55,13 @@ impl Arena {
         ensures ok { IfOk result (λ at. (at.number ≡ number) × (at.len ≡ length literals.now) × (self.new ≡ insert self.old number (at.place, literals.now))) }
         ensures err { OnErr result (self.new ≡ self.old) }
     {
-        let place = self.words.len();
+        let place = self.literals.len();
         let len = literals.len();
-        self.words.extend_from_slice(literals)?;
+        self.literals.extend_from_slice(literals)?;
         match self.index.insert(number, Slot { place, len }) {
             Ok(()) => Ok(Ref { number, place, len }),
             Err(error) => {
-                self.words.truncate(place);
+                self.literals.truncate(place);
                 Err(error)
             }
         }
@@ -75,7 +75,7 @@ impl Arena {
         ensures len { length result.now ≡ at.len }
         ensures distinct { IsDistinct same result.now }
     {
-        literals_at(&self.words, at)
+        literals_at(&self.literals, at)
     }
 
     /// Where the live clause of a number stands; None where the number is not live.
@@ -102,7 +102,7 @@ impl Arena {
         requires j_in { j < at.len }
         ensures { (C : Clause) → Stands self.old at C → self.new ≡ insert self.old at.number (at.place, swap C i j) }
     {
-        exchange(&mut self.words, at, i, j);
+        exchange(&mut self.literals, at, i, j);
     }
 
     /// Takes out a live clause. The room of its literals stays a gap until the next `compact`.
@@ -120,14 +120,14 @@ impl Arena {
         ensures err { OnErr result (self.new ≡ self.old) }
         ensures untold { OnErr result (moved.new.items ≡ moved.old.items) }
     {
-        let alloc = *self.words.allocator();
+        let alloc = *self.literals.allocator();
         let mut refs = Vec::new(alloc);
         self.index.list(&mut refs)?;
         let before = moved.len();
-        match gather(alloc, &self.words, &refs, moved) {
+        match gather(alloc, &self.literals, &refs, moved) {
             Ok(fresh) => {
                 self.index.move_all(&moved[before..]);
-                self.words = fresh;
+                self.literals = fresh;
                 Ok(())
             }
             Err(error) => {

@@ -5,8 +5,8 @@ ghost use Rattle.clause_arena.specs.declared.reference.Ref.{Ref};
 ghost use Rattle.clause_arena.specs.Contents.{clause_at, slot_of, IsPlaced};
 ghost use Rattle.clause_arena.specs.Packing.{gathered, move_of, moves_from};
 
+use crate::literals::literals_at;
 use crate::reference::Ref;
-use crate::words::literals_at;
 use dimacs::Lit;
 use std::alloc::{AllocError, Global};
 
@@ -23,18 +23,18 @@ fn room_for(refs: &[Ref]) -> usize
 
 /// Appends the literals of a clause, and tells the move where its place is another one now.
 fn carry(
-    words: &[Lit],
+    literals: &[Lit],
     at: Ref,
     fresh: &mut Vec<Lit>,
     moved: &mut Vec<(Ref, Ref)>,
 ) -> Result<(), AllocError>
-    requires { IsPlaced words.now (slot_of at) }
-    ensures words { OnOk result (fresh.new.items ≡ fresh.old.items ++ clause_at words.now (slot_of at)) }
+    requires { IsPlaced literals.now (slot_of at) }
+    ensures literals { OnOk result (fresh.new.items ≡ fresh.old.items ++ clause_at literals.now (slot_of at)) }
     ensures moves { OnOk result (moved.new.items ≡ moved.old.items ++ move_of (vec_len fresh.old) at) }
     ensures err { OnErr result (moved.new.items ≡ moved.old.items) }
 {
     let place = fresh.len();
-    fresh.extend_from_slice(literals_at(words, at))?;
+    fresh.extend_from_slice(literals_at(literals, at))?;
     if place != at.place {
         moved.push((
             at,
@@ -52,18 +52,18 @@ fn carry(
 /// be told already.
 pub(crate) fn gather(
     alloc: Global,
-    words: &[Lit],
+    literals: &[Lit],
     refs: &[Ref],
     moved: &mut Vec<(Ref, Ref)>,
 ) -> Result<Vec<Lit>, AllocError>
-    requires { (i : ℕ) (d : Ref) → i < length refs.now → IsPlaced words.now (slot_of (slice_index_or refs.now i d)) }
-    ensures words { IfOk result (λ fresh. fresh.items ≡ gathered words.now refs.now) }
+    requires { (i : ℕ) (d : Ref) → i < length refs.now → IsPlaced literals.now (slot_of (slice_index_or refs.now i d)) }
+    ensures literals { IfOk result (λ fresh. fresh.items ≡ gathered literals.now refs.now) }
     ensures moves { OnOk result (moved.new.items ≡ moved.old.items ++ moves_from 0 refs.now) }
     ensures err { OnErr result (take (vec_len moved.old) moved.new.items ≡ moved.old.items) }
 {
     let mut fresh = Vec::with_capacity(alloc, room_for(refs))?;
     for at in refs {
-        carry(words, *at, &mut fresh, moved)?;
+        carry(literals, *at, &mut fresh, moved)?;
     }
     Ok(fresh)
 }

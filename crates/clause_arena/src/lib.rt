@@ -9,9 +9,9 @@
 mod arena;
 mod compaction;
 mod index;
+mod literals;
 mod reference;
 mod slots;
-mod words;
 
 pub use arena::Arena;
 pub use reference::Ref;

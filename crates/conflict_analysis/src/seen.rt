@@ -36,7 +36,7 @@ impl Seen {
         }
     }
 
-    /// With room for the variables from 1 to `vars`, of which none is in.
+    /// With room for the variables from 1 to `vars`.
     pub(crate) fn with_room(alloc: Global, vars: u32) -> Result<Seen, AllocError>
         ensures { IfOk result (λ seen. vars < length seen) }
     {

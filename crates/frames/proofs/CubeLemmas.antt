@@ -3,12 +3,13 @@ use Rattle.std.proofs.Common.{◌≡◌, ◌<◌, Bool, true, false, not, eqb, l
 use Rattle.std.specs.Prelude.{nat_eq, ◌&&◌, ◌||◌}
 use Rattle.std.specs.List.{AllByRecursion, IsDistinct, list_any}
 use Rattle.std.proofs.lemmas.Bool.{ltb-true, leb-true}
+use Rattle.std.proofs.lemmas.List.Elements.{All-from_recursion, recursion_from_All}
 use Rattle.dimacs.specs.logic.Literal.{Literal, var_of, IsWithin}
 use Rattle.frames.specs.Cubes.{IsCube, names, takes}
 
 pub empty_cube : IsCube []
 unfolding IsDistinct
-empty_cube = record { short = omega arith; within = tt; distinct = tt }
+empty_cube = record { short = omega arith; within = All-from_recursion (IsWithin 2000000) [] tt; distinct = tt }
 
 pub all_more : {A : Type 0} (P : A → Type 0) (xs : List A) (x : A) → AllByRecursion P xs → P x → AllByRecursion P (xs ++ x ∷ [])
 all_more P [] x h p = (p, tt)
@@ -44,6 +45,6 @@ cube_more xs l cube above taken =
     let room : length xs < 64 = ltb-true _ _ a.0 in
     record {
       short = omega (arith, length-append xs (l ∷ []));
-      within = all_more (IsWithin 2000000) xs l cube.within (above, leb-true _ _ b.0);
+      within = All-from_recursion (IsWithin 2000000) (xs ++ l ∷ []) (all_more (IsWithin 2000000) xs l (recursion_from_All (IsWithin 2000000) xs cube.within) (above, leb-true _ _ b.0));
       distinct = apart_more xs l (not_true _ b.1) cube.distinct;
     }

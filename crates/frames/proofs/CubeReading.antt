@@ -1,10 +1,11 @@
 -- A cube is read literal by literal.
 use Rattle.std.proofs.Common.{◌≡◌, ℕ, ◌^◌, ◌<◌, Bool, true, false, not, eqb, ltb, leb, List, [], ◌∷◌, ◌++◌, length, map, refl, sym, ap, subst, ◌∙◌, arith, append_assoc, length-append}
-use Rattle.std.specs.Prelude.{nat_eq, ◌&&◌, ◌||◌}
+use Rattle.std.specs.Prelude.{All, nat_eq, ◌&&◌, ◌||◌}
 use Rattle.std.specs.Int.{w32, to_be_bytes, cast_unsigned}
 use Rattle.std.specs.List.{flat_map, AllByRecursion, IsDistinct, list_any}
 use Rattle.std.proofs.lemmas.Bool.{lt-ltb, le-leb}
 use Rattle.std.proofs.lemmas.List.Concat.{flat_map-cons}
+use Rattle.std.proofs.lemmas.List.Elements.{recursion_from_All}
 use Rattle.dimacs.specs.logic.Literal.{Literal, var_of, number_of, IsWithin}
 use Rattle.frames.specs.Cubes.{IsCube, names, takes}
 use Rattle.frames.specs.Spelling.{literal_bytes}
@@ -39,13 +40,13 @@ within_at (d ∷ ds) l tail h = within_at ds l tail h.1
 
 next : (bytes : List ℕ) (done : List Literal) (rest : List ℕ) (word : ℕ) (after : List ℕ) (cube : List Literal) → bytes ≡ flat_map literal_bytes done ++ rest → IsCube done → rest ≡ to_be_bytes w32 word ++ after → word < 2 ^ 32 → IsCube cube → bytes ≡ flat_map literal_bytes cube → Next done word cube
 next bytes done rest word after cube e hd r fits hc same =
-    let b = behind done rest cube hd.within hc.within (sym e ∙ same) in
+    let b = behind done rest cube (recursion_from_All (IsWithin 2000000) done hd.within) (recursion_from_All (IsWithin 2000000) cube hc.within) (sym e ∙ same) in
     from b.tail b.cube_is (sym r ∙ b.rest_is)
   where
     from : (tail : List Literal) → cube ≡ done ++ tail → to_be_bytes w32 word ++ after ≡ flat_map literal_bytes tail → Next done word cube
     from [] c t = absurd cc
     from (l ∷ tail) c t =
-        let within : IsWithin 2000000 l = within_at done l tail (subst (AllByRecursion (IsWithin 2000000)) c hc.within) in
+        let within : IsWithin 2000000 l = within_at done l tail (recursion_from_All (IsWithin 2000000) (done ++ l ∷ tail) (subst (All (IsWithin 2000000)) c hc.within)) in
         let s = same_32 word (cast_unsigned w32 (number_of l)) after (flat_map literal_bytes tail) fits (word_fits l within) (t ∙ flat_map-cons literal_bytes l tail) in
         record { literal = l; tail = tail; cube_is = c; is_word = (within, sym s.value) }
 
@@ -57,7 +58,7 @@ no_literal bytes done rest word after e hd r fits none cube hc same =
 -- a cube's literal is one that the cube before it takes
 taken : (done : List Literal) (l : Literal) (tail : List Literal) → IsCube (done ++ l ∷ tail) → takes done l ≡ true
 unfolding IsDistinct
-taken done l tail cube = and_true (ltb (length done) 64) (leb (var_of l) 2000000 && not (list_any (names (var_of l)) done)) (lt-ltb _ _ (omega (arith, cube.short, length-append done (l ∷ tail)))) (and_true (leb (var_of l) 2000000) (not (list_any (names (var_of l)) done)) (le-leb _ _ (within_at done l tail cube.within).1) (ap not (apart done l tail cube.distinct)))
+taken done l tail cube = and_true (ltb (length done) 64) (leb (var_of l) 2000000 && not (list_any (names (var_of l)) done)) (lt-ltb _ _ (omega (arith, cube.short, length-append done (l ∷ tail)))) (and_true (leb (var_of l) 2000000) (not (list_any (names (var_of l)) done)) (le-leb _ _ (within_at done l tail (recursion_from_All (IsWithin 2000000) (done ++ l ∷ tail) cube.within)).1) (ap not (apart done l tail cube.distinct)))
   where
     and_true : (a b : Bool) → a ≡ true → b ≡ true → (a && b) ≡ true
     and_true true b p q = q

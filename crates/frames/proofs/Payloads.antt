@@ -6,6 +6,8 @@ use Rattle.std.specs.List.{flat_map}
 use Rattle.std.proofs.lemmas.Nat.{from_be_bytes-to_be_bytes_2}
 use Rattle.std.proofs.lemmas.Bool.{le-leb}
 use Rattle.std.proofs.lemmas.List.{take_at, drop_at, append-nil}
+use Rattle.std.proofs.lemmas.List.Elements.{recursion_from_All}
+use Rattle.dimacs.specs.logic.Literal.{IsWithin}
 use Rattle.frames.specs.declared.answer.Outcome.{Outcome}
 use Rattle.frames.specs.declared.answer.Outcome.TheVariants.{Decided, Limit}
 use Rattle.frames.specs.declared.fault.FrameFault.TheVariants.{BadLength}
@@ -81,7 +83,7 @@ same_payload (Task s j l c) (Task s' j' l' c') r r' k e =
     let x = same_64 s s' (to_be_bytes w64 j ++ (to_be_bytes w64 l ++ flat_map literal_bytes c)) (to_be_bytes w64 j' ++ (to_be_bytes w64 l' ++ flat_map literal_bytes c')) r.0 r'.0 e in
     let y = same_64 j j' (to_be_bytes w64 l ++ flat_map literal_bytes c) (to_be_bytes w64 l' ++ flat_map literal_bytes c') r.1 r'.1 x.rest in
     let z = same_64 l l' (flat_map literal_bytes c) (flat_map literal_bytes c') r.2 r'.2 y.rest in
-    let w = same_literals c c' r.3.within r'.3.within z.rest in
+    let w = same_literals c c' (recursion_from_All (IsWithin 2000000) c r.3.within) (recursion_from_All (IsWithin 2000000) c' r'.3.within) z.rest in
     ap (λ n. Task n j l c) x.value ∙ ap (λ n. Task s' n l c) y.value ∙ ap (λ n. Task s' j' n c) z.value ∙ ap (Task s' j' l') w
 same_payload (Done a o) (Done a' o') r r' k e =
     let x = same_attempt a a' (outcome_bytes o) (outcome_bytes o') r.0 r'.0 e in

@@ -1,12 +1,12 @@
 -- Cubes: what a task takes as given.
-use Rattle.std.specs.Prelude.{ℕ, ◌≤◌, Bool, not, ◌&&◌, ◌==◌, nat_eq, nat_lt, nat_le, List, length, map}
-use Rattle.std.specs.List.{AllByRecursion, IsDistinct, list_any}
+use Rattle.std.specs.Prelude.{ℕ, ◌≤◌, Bool, not, ◌&&◌, ◌==◌, nat_eq, nat_lt, nat_le, List, length, map, All}
+use Rattle.std.specs.List.{IsDistinct, list_any}
 use Rattle.dimacs.specs.logic.Literal.{Literal, var_of, IsWithin}
 
 -- at most 64 literals, of variables from 1 to 2,000,000, no variable twice
 pub record IsCube (literals : List Literal) : Type 0 where
   pub short : length literals ≤ 64
-  pub within : AllByRecursion (IsWithin 2000000) literals
+  pub within : All (IsWithin 2000000) literals
   pub distinct : IsDistinct nat_eq (map var_of literals)
 
 -- whether a literal is of this variable

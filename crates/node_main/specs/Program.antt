@@ -1,5 +1,6 @@
 -- The rules of the program's words, as `clap` takes them.
 use Rattle.std.specs.Prelude.{ℕ, Bool, true, false, [], ◌∷◌, Some, codes}
+use Rattle.std.specs.Str.{byte}
 use Rattle.clap.specs.Simple.{on_top}
 use Rattle.clap.specs.Words.{App, Rule, Text, new_app, new_rule, with_rule, with_subcommand}
 use Rattle.clap.specs.declared.builder.ArgAction.TheVariants.{Set, SetTrue}
@@ -34,20 +35,13 @@ check_app = with_rule (with_rule (new_app (codes "check")) (file_rule (codes "IN
 abbrev pub cubes_app : App
 cubes_app = with_rule (with_rule (new_app (codes "cubes")) (number_rule (codes "depth") 0 16 (codes "4"))) (file_rule (codes "INPUT") true)
 
--- `q` and `n`
-abbrev pub letter_q : ℕ
-letter_q = 113
-
-abbrev pub letter_n : ℕ
-letter_n = 110
-
 -- `solve [--depth D] [--limit L] [--cubes FILE] [-q] [-n] INPUT [PROOF]`: D from 0 to 16, else 4, and L from 1 to
 -- 1,000,000,000, else 100,000
 abbrev pub solve_app : App
 solve_app =
     with_rule (with_rule (with_rule (with_rule (with_rule (with_rule (with_rule (new_app (codes "solve"))
     (number_rule (codes "depth") 0 16 (codes "4"))) (number_rule (codes "limit") 1 1000000000 (codes "100000")))
-    (named_file_rule (codes "cubes"))) (flag_rule (codes "quiet") letter_q)) (flag_rule (codes "no-witness") letter_n))
+    (named_file_rule (codes "cubes"))) (flag_rule (codes "quiet") (byte "q"))) (flag_rule (codes "no-witness") (byte "n")))
     (file_rule (codes "INPUT") true)) (file_rule (codes "PROOF") false)
 
 -- the program, of which a command has to be named

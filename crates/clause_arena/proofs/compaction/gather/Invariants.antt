@@ -4,6 +4,6 @@ use Rattle.clause_arena.proofs.compaction.gather.Given as goal
 
 abbrev pub invariant-loop-at : goal.invariant-loop-at
 invariant-loop-at l =
-    (l.fresh.items ++ gathered l.words (drop l.at-index l.refs) ≡ gathered l.words l.refs)
+    (l.fresh.items ++ gathered l.literals (drop l.at-index l.refs) ≡ gathered l.literals l.refs)
     × (l.moved.items ++ moves_from (vec_len l.fresh) (drop l.at-index l.refs) ≡ l.initial.moved.items ++ moves_from 0 l.refs)
     × (take (vec_len l.initial.moved) l.moved.items ≡ l.initial.moved.items)

@@ -14,7 +14,7 @@ gather-requires c =
     let P : List Ref → Type 0 = λ xs. (i : ℕ) (d : Ref) → i < length xs → IsPlaced c.deref.result.now (slot_of (get_or xs i d)) in
     subst P (sym refs)
     (subst (λ ws. (i : ℕ) (d : Ref) → i < length (refs_of c.self.inside.index) → IsPlaced ws (slot_of (get_or (refs_of c.self.inside.index) i d))) (sym c.deref.ensures.value)
-    (refs_placed c.self.inside.words.items c.self.inside.index c.self.invariant))
+    (refs_placed c.self.inside.literals.items c.self.inside.index c.self.invariant))
 
 pub move_all-requires : goal.move_all-requires
 move_all-requires c =
@@ -23,7 +23,7 @@ move_all-requires c =
     let is = lent c.deref-in-Ok.result.now c.args.moved.now.items (moves_from 0 (refs_of c.self.inside.index)) c.len-before.result before
     (c.deref-in-Ok.ensures.value ∙ c.in-Ok.ensures.moves ∙ ap (λ xs. c.args.moved.now.items ++ moves_from 0 xs) refs) in
     let P : List (Ref × Ref) → Type 0 = λ xs. (i : ℕ) (d : Ref × Ref) → i < length xs → IsSome (get c.self.inside.index (get_or xs i d).1.number) in
-    subst P (sym is) (moves_live c.self.inside.words.items c.self.inside.index c.self.invariant)
+    subst P (sym is) (moves_live c.self.inside.literals.items c.self.inside.index c.self.invariant)
 
 pub invariant_of-self : goal.invariant_of-self
 invariant_of-self c =
@@ -31,11 +31,11 @@ invariant_of-self c =
     let before : c.len-before.result ≡ length c.args.moved.now.items = omega arith in
     let is = lent c.deref-in-Ok.result.now c.args.moved.now.items (moves_from 0 (refs_of c.self.inside.index)) c.len-before.result before
     (c.deref-in-Ok.ensures.value ∙ c.in-Ok.ensures.moves ∙ ap (λ xs. c.args.moved.now.items ++ moves_from 0 xs) refs) in
-    let words = c.in-Ok.ensures.words ∙ ap (λ ws. gathered ws c.deref-2.result.now) c.deref.ensures.value ∙ ap (gathered c.self.inside.words.items) refs in
+    let literals = c.in-Ok.ensures.literals ∙ ap (λ ws. gathered ws c.deref-2.result.now) c.deref.ensures.value ∙ ap (gathered c.self.inside.literals.items) refs in
     let index = c.move_all.ensures ∙ ap (moved_by c.self.inside.index) is in
-    subst (λ ws. IsArena ws c.move_all.new.self) (sym words)
-    (subst (λ m. IsArena (gathered c.self.inside.words.items (refs_of c.self.inside.index)) m) (sym index)
-    (arena-compacted c.self.inside.words.items c.self.inside.index c.self.invariant))
+    subst (λ ws. IsArena ws c.move_all.new.self) (sym literals)
+    (subst (λ m. IsArena (gathered c.self.inside.literals.items (refs_of c.self.inside.index)) m) (sym index)
+    (arena-compacted c.self.inside.literals.items c.self.inside.index c.self.invariant))
 
 pub returns-in-Ok-clause-ok : goal.returns-in-Ok-clause-ok
 returns-in-Ok-clause-ok c =
@@ -43,12 +43,12 @@ returns-in-Ok-clause-ok c =
     let before : c.len-before.result ≡ length c.args.moved.now.items = omega arith in
     let told = c.in-Ok.ensures.moves ∙ ap (λ xs. c.args.moved.now.items ++ moves_from 0 xs) refs in
     let is = lent c.deref-in-Ok.result.now c.args.moved.now.items (moves_from 0 (refs_of c.self.inside.index)) c.len-before.result before (c.deref-in-Ok.ensures.value ∙ told) in
-    let words = c.in-Ok.ensures.words ∙ ap (λ ws. gathered ws c.deref-2.result.now) c.deref.ensures.value ∙ ap (gathered c.self.inside.words.items) refs in
+    let literals = c.in-Ok.ensures.literals ∙ ap (λ ws. gathered ws c.deref-2.result.now) c.deref.ensures.value ∙ ap (gathered c.self.inside.literals.items) refs in
     let index = c.move_all.ensures ∙ ap (moved_by c.self.inside.index) is in
-    let new = ap (λ ws. contents ws c.move_all.new.self) words ∙ ap (contents (gathered c.self.inside.words.items (refs_of c.self.inside.index))) index in (
+    let new = ap (λ ws. contents ws c.move_all.new.self) literals ∙ ap (contents (gathered c.self.inside.literals.items (refs_of c.self.inside.index))) index in (
       moves_from 0 (refs_of c.self.inside.index),
       told,
       subst (λ (m : Clauses). IsCompacted m (contents c.in-Ok.fresh.items c.move_all.new.self) (moves_from 0 (refs_of c.self.inside.index))) c.self.view_is
-          (subst (λ (m : Clauses). IsCompacted (contents c.self.inside.words.items c.self.inside.index) m (moves_from 0 (refs_of c.self.inside.index))) (sym new)
-          (compacted c.self.inside.words.items c.self.inside.index c.self.invariant)),
+          (subst (λ (m : Clauses). IsCompacted (contents c.self.inside.literals.items c.self.inside.index) m (moves_from 0 (refs_of c.self.inside.index))) (sym new)
+          (compacted c.self.inside.literals.items c.self.inside.index c.self.invariant)),
     )

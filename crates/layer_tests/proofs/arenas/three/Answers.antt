@@ -2,7 +2,7 @@ use Rattle.std.proofs.Common.{◌≡◌, ◌≢◌, ℕ, ◌+◌, [], ◌∷◌,
 use Rattle.std.specs.List.{IsDistinct}
 use Rattle.std.proofs.lemmas.Bool.{ne_eqb}
 use Rattle.dimacs.specs.logic.Literal.{Literal, Pos, Neg, same}
-use Rattle.all_tests.proofs.arenas.three.Goals as goal
+use Rattle.layer_tests.proofs.arenas.three.Goals as goal
 
 apart : (a b : ℕ) (x y z : Literal) → x ≡ Pos a → y ≡ Neg (a + 1) → z ≡ Pos b → a ≢ b → IsDistinct same (x ∷ y ∷ z ∷ [])
 unfolding IsDistinct

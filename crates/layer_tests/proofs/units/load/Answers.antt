@@ -1,7 +1,7 @@
 use Rattle.std.proofs.Common.{ℕ, ◌+◌, ◌<◌, sym, subst, arith, List}
 use Rattle.std.specs.List.{All, Contains}
 use Rattle.watches.proofs.NumberLemmas.{all_next, there_next}
-use Rattle.all_tests.proofs.units.load.Goals as goal
+use Rattle.layer_tests.proofs.units.load.Goals as goal
 
 pub loop-first-preserved : goal.loop-first-preserved
 loop-first-preserved g c = record {

@@ -1,5 +1,5 @@
-use Rattle.all_tests.proofs.SmallConflict.{is_present_conflict}
-use Rattle.all_tests.proofs.conflicts.a_decision_that_implies_a_conflict_is_refused.Goals as goal
+use Rattle.layer_tests.proofs.SmallConflict.{is_present_conflict}
+use Rattle.layer_tests.proofs.conflicts.a_decision_that_implies_a_conflict_is_refused.Goals as goal
 
 pub analyse-requires : goal.analyse-requires
 analyse-requires g c =

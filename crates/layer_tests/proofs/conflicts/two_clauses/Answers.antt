@@ -4,9 +4,9 @@ use Rattle.std.specs.Ordering.{nat_cmp}
 use Rattle.clause_arena.specs.Clauses.{Clauses, live_of}
 use Rattle.dimacs.specs.logic.Literal.{Neg, same}
 use Rattle.conflict_analysis.specs.Built.{AreInside}
-use Rattle.all_tests.proofs.SmallConflict.{first, second, pair_distinct, small_fresh, small_first, small_second, small_inside}
-use Rattle.all_tests.proofs.conflicts.two_clauses.Goals as goal
-use Rattle.all_tests.proofs.conflicts.two_clauses.Goals.{In_ok-add, In_ok-add-2}
+use Rattle.layer_tests.proofs.SmallConflict.{first, second, pair_distinct, small_fresh, small_first, small_second, small_inside}
+use Rattle.layer_tests.proofs.conflicts.two_clauses.Goals as goal
+use Rattle.layer_tests.proofs.conflicts.two_clauses.Goals.{In_ok-add, In_ok-add-2}
 
 pub add-requires-clause-distinct : goal.add-requires-clause-distinct
 add-requires-clause-distinct c = pair_distinct c.neg.result c.pos.result (ap (λ k. same k c.pos.result) c.neg.ensures ∙ ap (same (Neg 1)) c.pos.ensures)

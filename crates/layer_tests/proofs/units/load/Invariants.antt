@@ -1,6 +1,6 @@
 use Rattle.std.proofs.Common.{◌≡◌, ℕ, ◌+◌, ◌<◌}
 use Rattle.std.specs.List.{All, Contains}
-use Rattle.all_tests.proofs.units.load.Given as goal
+use Rattle.layer_tests.proofs.units.load.Given as goal
 
 abbrev pub invariant-loop-first : goal.invariant-loop-first
 invariant-loop-first g l = record {

@@ -1,0 +1,27 @@
+//! The literals of an arena, one clause after the other.
+
+ghost use Rattle.std.specs.Prelude.{◌≡◌, ◌+◌, ◌≤◌, ◌<◌, length, swap};
+ghost use Rattle.clause_arena.specs.Contents.{clause_at, slot_of, IsPlaced};
+
+use crate::reference::Ref;
+use dimacs::Lit;
+
+/// The literals at a reference.
+#[inline(always)]
+pub(crate) fn literals_at(literals: &[Lit], at: Ref) -> &[Lit]
+    requires { IsPlaced literals.now (slot_of at) }
+    ensures { result.now ≡ clause_at literals.now (slot_of at) }
+{
+    &literals[at.place..at.place + at.len]
+}
+
+/// Exchanges two literals of the clause at a reference.
+#[inline(always)]
+pub(crate) fn exchange(literals: &mut [Lit], at: Ref, i: usize, j: usize)
+    requires placed { IsPlaced literals.old (slot_of at) }
+    requires i_in { i < at.len }
+    requires j_in { j < at.len }
+    ensures { literals.new ≡ swap literals.old (at.place + i) (at.place + j) }
+{
+    literals.swap(at.place + i, at.place + j);
+}
