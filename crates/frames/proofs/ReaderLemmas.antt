@@ -8,7 +8,7 @@ use Rattle.frames.specs.declared.fault.FrameFault.TheVariants.{BadMark, BadKind,
 use Rattle.frames.specs.declared.fault.FrameFault.{FrameFault}
 use Rattle.frames.specs.declared.frame.Frame.{Frame}
 use Rattle.frames.specs.Stream.{Open, Fault, Ends, Splits, StopsBefore, Stream, Progress, Within, Failed, HasTaken, TakesPiece, answer_in, joined}
-use Rattle.frames.proofs.Streams.{splits_then, stream_then, stream_more}
+use Rattle.frames.proofs.Streams.{splits_none, splits_then, stream_then, stream_more}
 
 pub takes_nothing : (fault : FrameFault) (piece : List ℕ) (frames : List Frame) → TakesPiece (Failed fault) piece frames frames (Err fault) (Failed fault)
 takes_nothing fault piece frames = record { appended = []; frames = sym (append-nil frames); answers = refl; history = λ bytes given taken. stream_more bytes given fault piece taken }
@@ -87,5 +87,5 @@ stops_at_once ps before = record {
   few = omega arith;
   appended = [];
   frames = sym (append-nil before);
-  stream = ([], record { whole = refl; right = tt }, refl);
+  stream = ([], splits_none [], refl);
 }

@@ -5,6 +5,7 @@ use Rattle.std.specs.List.{flat_map, AllByRecursion}
 use Rattle.std.proofs.lemmas.List.{take-append-drop, take-append-le, take_at, append-nil}
 use Rattle.std.proofs.lemmas.List.Concat.{flat_map-cons}
 use Rattle.std.proofs.lemmas.Grind.{flat_map-append}
+use Rattle.std.proofs.lemmas.List.Elements.{All-from_recursion, recursion_from_All}
 use Rattle.frames.specs.declared.fault.FrameFault.{FrameFault}
 use Rattle.frames.specs.declared.fault.FrameFault.TheVariants.{BadField}
 use Rattle.frames.specs.declared.frame.Frame.{Frame}
@@ -57,7 +58,7 @@ same_stream (f ∷ fs) (g ∷ gs) r s d e hf hg same p q =
     (ap (λ x. x ∷ fs) one.value ∙ ap (λ (xs : List Frame). g ∷ xs) others.0, others.1)
 
 pub one_stream : (bytes : List ℕ) (fs gs : List Frame) (d e : End) → Stream bytes fs d → Stream bytes gs e → (fs ≡ gs) × (d ≡ e)
-one_stream bytes fs gs d e p q = same_stream fs gs p.0 q.0 d e p.1.right q.1.right (sym p.1.whole ∙ q.1.whole) p.2 q.2
+one_stream bytes fs gs d e p q = same_stream fs gs p.0 q.0 d e (recursion_from_All IsRight fs p.1.right) (recursion_from_All IsRight gs q.1.right) (sym p.1.whole ∙ q.1.whole) p.2 q.2
 
 -- ---- a fault stays
 
@@ -87,10 +88,10 @@ all_append [] gs p q = q
 all_append (f ∷ fs) gs p q = (p.0, all_append fs gs p.1 q)
 
 pub splits_none : (b : List ℕ) → Splits b [] b
-splits_none b = record { whole = refl; right = tt }
+splits_none b = record { whole = refl; right = All-from_recursion IsRight [] tt }
 
 pub splits_one : (b : List ℕ) (f : Frame) (rest : List ℕ) → Begins b f rest → Splits b (f ∷ []) rest
-splits_one b f rest p = record { whole = p.whole ∙ ap (λ (x : List ℕ). x ++ rest) (sym (append-nil (FrameBytes f)) ∙ sym (flat_map-cons FrameBytes f [])); right = (p.right, tt) }
+splits_one b f rest p = record { whole = p.whole ∙ ap (λ (x : List ℕ). x ++ rest) (sym (append-nil (FrameBytes f)) ∙ sym (flat_map-cons FrameBytes f [])); right = All-from_recursion IsRight (f ∷ []) (p.right, tt) }
 
 -- the rest of one stream, with more bytes behind it, is the next
 pub splits_then : (a : List ℕ) (fs : List Frame) (r more : List ℕ) (gs : List Frame) (s : List ℕ) → Splits a fs r → Splits (r ++ more) gs s → Splits (a ++ more) (fs ++ gs) s
@@ -98,7 +99,7 @@ splits_then a fs r more gs s p q =
     record {
       whole = ap (λ (x : List ℕ). x ++ more) p.whole ∙ append_assoc (flat_map FrameBytes fs) r more ∙ ap (λ (x : List ℕ). flat_map FrameBytes fs ++ x) q.whole
           ∙ sym (append_assoc (flat_map FrameBytes fs) (flat_map FrameBytes gs) s) ∙ ap (λ (x : List ℕ). x ++ s) (sym (flat_map-append FrameBytes fs gs));
-      right = all_append fs gs p.right q.right;
+      right = All-from_recursion IsRight (fs ++ gs) (all_append fs gs (recursion_from_All IsRight fs p.right) (recursion_from_All IsRight gs q.right));
     }
 
 pub stream_then : (a : List ℕ) (fs : List Frame) (r more : List ℕ) (gs : List Frame) (e : End) → Splits a fs r → Stream (r ++ more) gs e → Stream (a ++ more) (fs ++ gs) e

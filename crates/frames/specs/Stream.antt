@@ -1,7 +1,7 @@
 -- What a stream of bytes is: frames, and a rest that is open or has met a fault.
-use Rattle.std.specs.Prelude.{◌≡◌, ◌≢◌, ℕ, ◌+◌, ◌<◌, ◌≤◌, List, [], ◌∷◌, ◌++◌, length, take, Option, Some, None, Result, Ok, Err, ◌==◌, if◌then◌else◌}
+use Rattle.std.specs.Prelude.{◌≡◌, ◌≢◌, ℕ, ◌+◌, ◌<◌, ◌≤◌, List, [], ◌∷◌, ◌++◌, length, take, All, Option, Some, None, Result, Ok, Err, ◌==◌, if◌then◌else◌}
 use Rattle.std.specs.Global.{Vec}
-use Rattle.std.specs.List.{flat_map, AllByRecursion}
+use Rattle.std.specs.List.{flat_map}
 use Rattle.std.specs.Int.{w16, from_be_bytes}
 use Rattle.frames.specs.declared.fault.FrameFault.{FrameFault}
 use Rattle.frames.specs.declared.fault.FrameFault.TheVariants.{BadMark, BadKind, BadLength, BadField}
@@ -59,7 +59,7 @@ Ends bytes end = EndsAfter (head_of bytes) bytes end
 -- the bytes are the spellings of right frames, and then a rest
 pub record Splits (bytes : List ℕ) (frames : List Frame) (rest : List ℕ) : Type 0 where
   pub whole : bytes ≡ flat_map FrameBytes frames ++ rest
-  pub right : AllByRecursion IsRight frames
+  pub right : All IsRight frames
 
 -- the bytes are the spellings of the frames, and then a rest that is open or has met a fault
 abbrev pub Stream : List ℕ → List Frame → End → Type 0

@@ -51,6 +51,7 @@ impl Reader {
     /// Takes the next piece of the stream, and appends each frame that is whole now. The faults 1 to 4 come with their
     /// byte, behind the frames before them, and each later call answers the same one and appends nothing. Where memory is
     /// refused nothing has changed, and the piece was not taken.
+    #[tactic(auto, using(crate::proofs::ReaderLemmas::takes_within))]
     pub fn feed(
         &mut self,
         alloc: Global,

@@ -1,4 +1,5 @@
-use Rattle.std.proofs.Common.{◌∙◌, sym, ap, ◌++◌, ◌+◌, take, drop}
+use Rattle.std.proofs.Common.{rules, ◌∙◌, [], sym, ap, ◌++◌, ◌+◌, take, drop}
+use Rattle.std.proofs.lemmas.List.{append-nil}
 use Rattle.frames.specs.Stream.{joined}
 use Rattle.frames.proofs.ReaderLemmas.{joined_split, stops, stops_at_once, stops_before}
 use Rattle.frames.proofs.reader.read_pieces.Goals as goal
@@ -18,3 +19,7 @@ returns-in-Err-clause-memory c none =
     let kept = c.in-Err.ensures.no_memory none in
     stops_before c.args.pieces.now c.loop-piece.piece-index c.loop-piece.reader c.args.frames.now.items c.loop-piece.frames.items c.feed.new.frames.items c.loop-piece.invariant.new
     c.loop-piece-test.true c.loop-piece.invariant.frames kept.1 c.loop-piece.invariant.well c.loop-piece.invariant.taken
+
+-- where there is no room for a reader nothing was read
+pub returns-in_err-reader-clause-stream : goal.returns-in_err-reader-clause-stream
+returns-in_err-reader-clause-stream c = ([], sym (append-nil c.args.frames.now.items), search rules)

@@ -1,12 +1,15 @@
 //! The search under the leaves of a tree, one after the other, and what is reported of it.
 
-ghost use Rattle.std.specs.Prelude.{◌≡◌, ◌≤◌, ◌⊎◌, IfOk, None, map};
+ghost use Rattle.std.specs.Prelude.{◌≡◌, ◌≤◌, [], ◌∷◌, IfOk, IfNone, IfSome, MatchOption, None, map};
+ghost use Rattle.std.specs.Bool.{OnTrue};
 ghost use Rattle.dimacs.specs.text.Answer.{Lines};
 ghost use Rattle.dimacs.specs.logic.Base.{pure_literals, base_of};
 ghost use Rattle.dimacs.specs.logic.Cnf.{AreWithin};
+ghost use Rattle.dimacs.specs.declared.answer.Answer.TheVariants.{Unknown, Unsatisfiable};
+ghost use Rattle.lrat_text.specs.Proof.{Accepts};
 ghost use Rattle.proof_join.specs.Joining.{AllClose};
 ghost use Rattle.node_main.specs.Searching.{Ends};
-ghost use Rattle.node_main.specs.Solving.{AreOptions, Decides, IsRefuted, IsUndecided};
+ghost use Rattle.node_main.specs.Solving.{AreOptions, Decides, IsTooLong};
 
 use crate::commands::solve::options::Options;
 use crate::report::Report;
@@ -14,6 +17,7 @@ use cube_solve::{Outcome, solve};
 use cube_split::{Preamble, preamble};
 use dimacs::{Answer, Assignment, Base, Formula, answer_lines};
 use icnf::Tree;
+use lrat_text::closing_the_empty_cube_is_accepted;
 use proof_join::{JoinFault, join};
 use std::alloc::{AllocError, Global};
 
@@ -56,27 +60,50 @@ fn answered(alloc: Global, answer: Answer, witness: bool, status: u8) -> Result<
     Ok(report)
 }
 
-/// The report of fragments that close all leaves.
-fn refuted(
+/// Whether a tree is its root alone, over a base that has no unit beside the formula.
+fn is_bare(tree: &Tree, preamble: &Preamble) -> bool
+    ensures { OnTrue result ((tree.now ≡ [] ∷ []) × (preamble.now ≡ [])) }
+{
+    tree.leaves() == 1 && tree.cube(0).is_empty() && preamble.units().is_empty()
+}
+
+/// The proof of fragments that close all leaves; none where it would be too long.
+fn proof_of(
     alloc: Global,
     formula: &Formula,
     preamble: &Preamble,
     tree: &Tree,
-    fragments: &[Vec<u8>],
-    options: &Options,
-) -> Result<Report, AllocError>
+    fragments: Vec<Vec<u8>>,
+) -> Result<Option<Vec<u8>>, AllocError>
     requires pure { preamble.now ≡ pure_literals formula.now }
-    requires closed { AllClose (base_of formula.now) tree.now (map (λ v. v.items) fragments.now) }
-    ensures { IfOk result (λ r. IsRefuted formula.now options.now r ⊎ IsUndecided formula.now tree.now options.now r) }
+    requires closed { AllClose (base_of formula.now) tree.now (map (λ v. v.items) fragments.items) }
+    ensures { IfOk result (λ proof. MatchOption proof (IsTooLong formula.now tree.now) (λ text. Accepts formula.now text.items)) }
 {
-    match join(alloc, formula, preamble, tree, fragments) {
-        Ok(proof) => {
-            let mut report = answered(alloc, Answer::Unsatisfiable, options.witness, 20)?;
-            report.proof = Some(proof);
+    let mut fragments = fragments;
+    if is_bare(tree, preamble) {
+        // What closes the root is a proof of the formula as it is.
+        closing_the_empty_cube_is_accepted();
+        return Ok(fragments.pop());
+    }
+    match join(alloc, formula, preamble, tree, &fragments) {
+        Ok(text) => Ok(Some(text)),
+        Err(JoinFault::TooLong) => Ok(None),
+        Err(JoinFault::NoMemory) => Err(AllocError),
+    }
+}
+
+/// The report of a proof, or of one that would be too long.
+fn refuted(alloc: Global, proof: Option<Vec<u8>>, witness: bool) -> Result<Report, AllocError>
+    ensures some { IfSome proof (λ text. IfOk result (λ r. (r.status ≡ 20) × (r.proof ≡ proof) × (r.stdout.items ≡ Lines Unsatisfiable witness))) }
+    ensures none { IfNone proof (IfOk result (λ r. (r.status ≡ 0) × (r.proof ≡ None) × (r.stdout.items ≡ Lines Unknown witness))) }
+{
+    match proof {
+        Some(text) => {
+            let mut report = answered(alloc, Answer::Unsatisfiable, witness, 20)?;
+            report.proof = Some(text);
             Ok(report)
         }
-        Err(JoinFault::TooLong) => answered(alloc, Answer::Unknown, options.witness, 0),
-        Err(JoinFault::NoMemory) => Err(AllocError),
+        None => answered(alloc, Answer::Unknown, witness, 0),
     }
 }
 
@@ -102,7 +129,8 @@ pub(crate) fn decided(
         Ending::Limit => answered(alloc, Answer::Unknown, options.witness, 0),
         Ending::Closed(fragments) => {
             let formula = base.into_formula(clauses);
-            refuted(alloc, &formula, &preamble, tree, &fragments, options)
+            let proof = proof_of(alloc, &formula, &preamble, tree, fragments)?;
+            refuted(alloc, proof, options.witness)
         }
     }
 }

@@ -1,13 +1,13 @@
-use Rattle.std.proofs.Common.{◌≡◌, ◌∙◌, ◌⊎◌, inr, subst, sym}
-use Rattle.std.specs.Prelude.{IfOk}
-use Rattle.std.proofs.lemmas.Result.{IfOk-weaker}
+use Rattle.std.proofs.Common.{◌≡◌, ◌∙◌, subst, sym}
+use Rattle.std.specs.Prelude.{MatchOption}
 use Rattle.cube_solve.specs.Outcome.{IsModel}
 use Rattle.dimacs.specs.logic.Base.{base_of}
 use Rattle.dimacs.specs.logic.Cnf.{Cnf, IsFormula}
 use Rattle.node_main.specs.Searching.{Ends}
-use Rattle.node_main.specs.Solving.{IsRefuted, IsUndecided}
+use Rattle.lrat_text.specs.Proof.{Accepts}
+use Rattle.node_main.specs.Solving.{IsTooLong}
 use Rattle.node_main.specs.declared.commands.solve.deciding.Ending.TheVariants.{Model}
-use Rattle.node_main.proofs.SolvingLemmas.{front_again, told_model}
+use Rattle.node_main.proofs.SolvingLemmas.{front_again, told_model, told_proof}
 use Rattle.node_main.proofs.commands.solve.deciding.decided.Goals as goal
 
 pub returns-in-Model : goal.returns-in-Model
@@ -26,9 +26,8 @@ into_formula-formula-requires-clause-formula c =
 
 pub returns : goal.returns
 returns c =
-    let leaves = c.args.tree.now in
-    let o = c.args.options.now in
     let same : c.into_formula-formula.result ≡ c.args.formula =
     c.into_formula-formula.ensures ∙ front_again c.args.formula c.in_ok-base.base c.len-clauses.result (c.in_ok-base.ensures.base c.in_ok-preamble.ensures.units) c.len-clauses.ensures in
-    IfOk-weaker c.refuted.result _ _ (λ r h. inr h)
-    (subst (λ (F : Cnf). IfOk c.refuted.result (λ r. IsRefuted F o r ⊎ IsUndecided F leaves o r)) same c.refuted.ensures)
+    told_proof c.refuted.result c.args.formula c.args.tree.now c.args.options.now c.in_ok-proof-in-Closed.proof
+    (subst (λ F. MatchOption c.in_ok-proof-in-Closed.proof (IsTooLong F c.args.tree.now) (λ t. Accepts F t.items)) same c.in_ok-proof-in-Closed.ensures)
+    c.refuted.ensures.some c.refuted.ensures.none
