@@ -1,5 +1,6 @@
 pub mod Built
 pub mod Lemmas
+pub mod Minimising
 pub mod Seen
 pub mod Traces
 pub mod Walks

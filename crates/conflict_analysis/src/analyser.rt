@@ -5,6 +5,7 @@ ghost use Rattle.clause_arena.specs.Clauses.{live_of};
 ghost use Rattle.conflict_analysis.specs.Lemmas.{AreApart, IsPresentConflict, IsLemmaOf};
 
 use crate::lemma::Lemma;
+use crate::minimiser::Minimiser;
 use crate::walk::Walk;
 use clause_arena::Arena;
 use dimacs::Var;
@@ -18,6 +19,7 @@ use watches::Trail;
 pub struct Analyser {
     alloc: Global,
     walk: Walk,
+    minimiser: Minimiser,
 }
 
 impl Model for Analyser {
@@ -34,6 +36,7 @@ impl Analyser {
         Analyser {
             alloc,
             walk: Walk::new(alloc),
+            minimiser: Minimiser::new(alloc),
         }
     }
 
@@ -79,7 +82,8 @@ impl Analyser {
         lemma.clear();
         self.walk.begin(trail)?;
         self.walk.meet_number(arena, trail, entries, number)?;
-        self.walk.descend(arena, trail, lemma)?;
+        self.minimiser.begin(trail.vars())?;
+        self.walk.descend(arena, trail, &mut self.minimiser, lemma)?;
         lemma.conclude(number)
     }
 }

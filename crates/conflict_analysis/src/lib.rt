@@ -8,6 +8,7 @@
 mod analyser;
 mod closing;
 mod lemma;
+mod minimiser;
 mod seen;
 mod walk;
 

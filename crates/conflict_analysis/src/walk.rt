@@ -5,17 +5,22 @@ ghost use Rattle.std.specs.Bool.{OnFalse};
 ghost use Rattle.clause_arena.specs.Clauses.{live_of};
 ghost use Rattle.dimacs.specs.logic.Literal.{Literal, Clause, IsWithin, negation, var_of};
 ghost use Rattle.conflict_analysis.specs.Built.{AreBuilt, AreInside};
+ghost use Rattle.conflict_analysis.specs.Minimising.{HasRoom};
 ghost use Rattle.conflict_analysis.specs.Seen.{met};
 ghost use Rattle.conflict_analysis.specs.Walks.{IsKnown, AreKnown, AreMet, IsWalk, HasMet, IsUnderWay, HasEnded, IsChoice};
 ghost use Rattle.watches.specs.Trails.{IsTrailValue, present};
 ghost use Rattle.watches.specs.declared.trail.Assigned.{Assigned};
 
 use crate::lemma::Lemma;
+use crate::minimiser::Minimiser;
 use crate::seen::Seen;
 use clause_arena::Arena;
 use dimacs::{Lit, Var};
 use std::alloc::{AllocError, Global};
 use watches::{Assigned, Trail};
+
+/// How many reasons in a row are looked at to find that an entry follows from others.
+const MOST_REASONS: u32 = 1000;
 
 /// A walk down a trail of the level `present`. Of the entries that were met and are still before it `pending` have that
 /// level, and `rest` a lower one; `met` lists the variables that it has `seen`.
@@ -126,10 +131,12 @@ impl Walk {
         &mut self,
         arena: &Arena,
         trail: &Trail,
+        minimiser: &mut Minimiser,
         lemma: &mut Lemma,
     ) -> Result<(), AllocError>
         requires built { AreBuilt (live_of arena.now) [] trail.now.entries }
         requires inside { AreInside (live_of arena.now) trail.now.vars }
+        requires room { HasRoom trail.now.vars minimiser.old }
         requires walk { IsWalk trail.now trail.now.entries self.old }
         requires waits { 0 < self.old.pending }
         requires lits { lemma.old.lits.items ≡ [] }
@@ -141,7 +148,7 @@ impl Walk {
         let mut i = trail.len();
         while self.pending > 0 || self.rest > 0 {
             i -= 1;
-            self.look(arena, trail, i, lemma)?;
+            self.look(arena, trail, minimiser, i, lemma)?;
         }
         Ok(())
     }
@@ -151,13 +158,16 @@ impl Walk {
         &mut self,
         arena: &Arena,
         trail: &Trail,
+        minimiser: &mut Minimiser,
         i: usize,
         lemma: &mut Lemma,
     ) -> Result<(), AllocError>
         requires built { AreBuilt (live_of arena.now) [] trail.now.entries }
         requires inside { AreInside (live_of arena.now) trail.now.vars }
+        requires room { HasRoom trail.now.vars minimiser.old }
         requires within { i < length trail.now.entries }
         requires way { IsUnderWay (live_of arena.now) trail.now (i + 1) self.old lemma.old }
+        ensures room { HasRoom trail.now.vars minimiser.new }
         ensures way { OnOk result (IsUnderWay (live_of arena.now) trail.now i self.new lemma.new) }
         ensures seen { OnOk result (HasMet (take i trail.now.entries) self.old.seen self.new.seen) }
     {
@@ -167,7 +177,7 @@ impl Walk {
         let entries = trail.entries();
         let entry = &entries[i];
         let front = &entries[..i];
-        match self.choose(arena, trail, front, entry) {
+        match self.choose(arena, trail, minimiser, entry) {
             Some(number) => {
                 self.meet_number(arena, trail, front, number)?;
                 lemma.hints.push(number)?;
@@ -200,66 +210,32 @@ impl Walk {
     }
 
     /// The reason by which an entry that was met is resolved. Of the present level it is each but the last one left, the
-    /// first implication point; of the others those whose reason brings in no literal but of level 0.
+    /// first implication point; of the others those that follow from what was met.
     fn choose(
         &self,
         arena: &Arena,
         trail: &Trail,
-        front: &[Assigned],
+        minimiser: &mut Minimiser,
         entry: &Assigned,
     ) -> Option<u64>
-        requires walk { IsWalk trail.now front.now self.now }
+        requires present { self.now.present ≡ present trail.now.entries }
+        requires met { trail.now.vars < length self.now.seen }
         requires inside { AreInside (live_of arena.now) trail.now.vars }
-        requires known { (n : ℕ) → entry.now.reason ≡ Some n → (C : Clause) → live_of arena.now n C → AreKnown front.now (met self.now.seen) C }
-        ensures { IsChoice trail.now.entries entry.now self.now.pending result }
+        requires room { HasRoom trail.now.vars minimiser.old }
+        ensures room { HasRoom trail.now.vars minimiser.new }
+        ensures choice { IsChoice trail.now.entries entry.now self.now.pending result }
     {
         if entry.level == self.present {
             return if self.pending > 0 { entry.reason } else { None };
         }
-        match entry.reason {
-            Some(number) => {
-                if entry.level == 0 || self.covers(arena, trail, front, number) {
-                    Some(number)
-                } else {
-                    None
-                }
-            }
-            None => None,
+        let number = entry.reason?;
+        if entry.level == 0 {
+            return Some(number);
         }
-    }
-
-    /// Whether each literal of the clause of a number is close.
-    fn covers(&self, arena: &Arena, trail: &Trail, front: &[Assigned], number: u64) -> bool
-        requires walk { IsWalk trail.now front.now self.now }
-        requires inside { AreInside (live_of arena.now) trail.now.vars }
-        requires known { (C : Clause) → live_of arena.now number C → AreKnown front.now (met self.now.seen) C }
-    {
-        match arena.find(number) {
-            Some(at) => self.is_covered(trail, front, arena.clause(at)),
-            None => false,
+        if minimiser.follows(arena, trail, &self.seen, number, MOST_REASONS) {
+            Some(number)
+        } else {
+            None
         }
-    }
-
-    /// Whether each literal of a clause is close.
-    fn is_covered(&self, trail: &Trail, front: &[Assigned], clause: &[Lit]) -> bool
-        requires walk { IsWalk trail.now front.now self.now }
-        requires within { All (IsWithin trail.now.vars) clause.now }
-        requires known { AreKnown front.now (met self.now.seen) clause.now }
-    {
-        for &literal in clause {
-            if !self.is_close(trail, front, literal) {
-                return false;
-            }
-        }
-        true
-    }
-
-    /// Whether a literal was met, or is false since level 0.
-    fn is_close(&self, trail: &Trail, front: &[Assigned], literal: Lit) -> bool
-        requires walk { IsWalk trail.now front.now self.now }
-        requires within { IsWithin trail.now.vars literal }
-        requires known { IsKnown front.now (met self.now.seen) literal }
-    {
-        self.seen.has(literal.var()) || trail.entry_of(literal.negate()).level == 0
     }
 }

@@ -15,6 +15,7 @@ pub mod RowFaults
 pub mod RowLemmas
 pub mod RowRuns
 pub mod RunLemmas
+mod ShortLemmas
 pub mod SpellingLemmas
 pub mod TokenLemmas
 pub mod ToldLemmas

@@ -95,7 +95,7 @@ digits_white text m e lt =
     digits_none text (position_or_len is_white text) 0 first (white_digit (get_or text (position_or_len is_white text) 0) (passes_at_first is_white text 0 first))
 
 -- what a text that begins with a minus is
-minus_front : (text u : List ℕ) → 0 < length text → get_or text 0 45 ≡ 45 → u ≡ take (length text - 1) (drop 1 text) → text ≡ 45 ∷ u
+pub minus_front : (text u : List ℕ) → 0 < length text → get_or text 0 45 ≡ 45 → u ≡ take (length text - 1) (drop 1 text) → text ≡ 45 ∷ u
 minus_front [] u some first e = absurd (omega arith)
 minus_front (b ∷ bs) u some first e =
     let all : take (length (b ∷ bs) - 1) bs ≡ bs = take_all _ bs (omega arith) in

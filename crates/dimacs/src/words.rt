@@ -17,7 +17,7 @@ pub fn next_line(text: &[u8]) -> (&[u8], Option<&[u8]>)
     }
 }
 
-#[inline]
+#[inline(always)]
 pub(crate) fn is_white(byte: u8) -> bool
     ensures { result ≡ is_white byte }
 {
@@ -25,6 +25,7 @@ pub(crate) fn is_white(byte: u8) -> bool
 }
 
 /// How many bytes of white space a text begins with.
+#[inline(always)]
 pub(crate) fn white_len(text: &[u8]) -> usize
     ensures value { result ≡ prefix_len is_white text.now }
     ensures bound { result ≤ length text.now }

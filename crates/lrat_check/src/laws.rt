@@ -10,7 +10,7 @@ ghost use Rattle.lrat_check.specs.Checking.{check_of};
 ghost use Rattle.lrat_check.specs.Faults.{step_fault, live_after, top_after};
 ghost use Rattle.lrat_check.specs.Fragments.{fragment_of};
 ghost use Rattle.lrat_check.specs.Soundness.{Soundness};
-ghost use Rattle.lrat_check.specs.Verdicts.{Agreement};
+ghost use Rattle.lrat_check.specs.Verdicts.{Agreement, Truth};
 
 /// A formula with an accepted proof has no satisfying assignment.
 pub fn accepted_proofs_are_sound()
@@ -20,6 +20,11 @@ pub fn accepted_proofs_are_sound()
 /// Two right verdicts on one formula do not differ.
 pub fn right_verdicts_agree()
     ensures { Agreement }
+{}
+
+/// A right verdict is true of its formula: its assignment satisfies it, or no assignment does.
+pub fn right_verdicts_are_true()
+    ensures { Truth }
 {}
 
 /// A step has no fault exactly where the definition takes it, and then to one end alone.

@@ -34,7 +34,7 @@ pub use fragment::check_fragment;
 pub use judging::{Judged, judge_proof, judge_values};
 pub use laws::{
     accepted_proofs_are_sound, fragment_fault_is_exact, proof_fault_is_exact, right_verdicts_agree,
-    step_fault_is_exact,
+    right_verdicts_are_true, step_fault_is_exact,
 };
 pub use stream::{StreamChecker, check, check_pieces};
 pub use verdict::{ProofText, Reaction, Verdict};

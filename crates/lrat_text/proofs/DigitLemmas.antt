@@ -40,6 +40,9 @@ pub record Digits (text : List ℕ) (i value : ℕ) : Type 0 where
   pub read : digits_from 0 (take i text) ≡ Some number
   pub kept : value ≡ min (2 ^ 48) number
 
+pub digits_begin : (text : List ℕ) → Digits text 0 0
+digits_begin text = record { ink = λ k h. absurd (omega arith); number = 0; read = refl; kept = omega arith }
+
 ink_more : (text : List ℕ) (i : ℕ) → ((k : ℕ) → k < i → is_space (get_or text k 0) ≡ false) → is_space (get_or text i 0) ≡ false → (k : ℕ) → k < i + 1 → is_space (get_or text k 0) ≡ false
 ink_more text i below here k lt = ⊎_elim
     (λ (less : k < i). below k less)

@@ -9,6 +9,7 @@ pub mod NumberLemmas
 pub mod PieceLemmas
 pub mod ReadStepLemmas
 pub mod RunLemmas
+mod ShortLemmas
 pub mod SpelledStepLemmas
 pub mod SpellingLemmas
 pub mod TakingLemmas

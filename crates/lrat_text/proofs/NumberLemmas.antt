@@ -78,7 +78,7 @@ decimal_value n h = decimal_by_steps (λ k ds. digits_from 0 ds ≡ Some k)
     (λ k lt. digits_one 0 k lt ∙ ap Some (omega arith))
     (λ k ds ge e. digits_append ds ((48 + k % 10) ∷ []) 0 (k / 10) e ∙ digits_one (k / 10) (k % 10) (omega arith) ∙ ap Some (omega arith)) n h
 
-natural_is : (ds : List ℕ) (n : ℕ) → digits_from 0 ds ≡ Some n → 0 < length ds → 48 < get_or ds 0 0 → natural ds ≡ Some n
+pub natural_is : (ds : List ℕ) (n : ℕ) → digits_from 0 ds ≡ Some n → 0 < length ds → 48 < get_or ds 0 0 → natural ds ≡ Some n
 natural_is [] n e some first = absurd (omega arith)
 natural_is (b ∷ []) n e some first = e
 natural_is (b ∷ d ∷ ds) n e some first = rw (ne_eqb b 48 (λ same. omega arith)) e
@@ -109,7 +109,7 @@ plus_small : (n : ℕ) → 1 ≤ n → n < 2 ^ 48 → number_token (Some (pos n)
 plus_small zero some small = absurd (omega arith)
 plus_small (suc n) some small = grind (arith, nat_tests)
 
-minus_small : (n : ℕ) → 1 ≤ n → n < 2 ^ 48 → number_token (option_and_then negated (Some n)) ≡ Minus n
+pub minus_small : (n : ℕ) → 1 ≤ n → n < 2 ^ 48 → number_token (option_and_then negated (Some n)) ≡ Minus n
 minus_small zero some small = absurd (omega arith)
 minus_small (suc n) some small = grind (arith, nat_tests)
 

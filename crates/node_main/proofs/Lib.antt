@@ -4,3 +4,4 @@ pub mod RefusalLemmas
 pub mod SolvingLemmas
 pub mod SplittingLemmas
 pub mod WordLemmas
+pub mod TruthLemmas

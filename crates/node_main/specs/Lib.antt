@@ -7,3 +7,4 @@ pub mod Cubing
 pub mod Splitting
 pub mod Searching
 pub mod Solving
+pub mod Truth

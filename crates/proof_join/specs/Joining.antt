@@ -100,17 +100,21 @@ pub record Joined (F : Cnf) (preamble : List Step) (leaves : List Cube) (texts :
   pub spelled : AreSpelled texts (fragments tree)
   pub is : text ≡ joined_text F preamble tree
 
+-- the lines of a preamble of units
+abbrev pub unit_steps : ℕ → List Literal → List Step
+unit_steps top [] = []
+unit_steps top (l ∷ units) = Add (top + 1) (l ∷ []) [] [] ∷ unit_steps (top + 1) units
+
+-- the text joined of a formula over the units of its pure literals
+abbrev pub JoinedUnits : Cnf → List Cube → List (List ℕ) → List ℕ → Type 0
+JoinedUnits F leaves texts text = Joined F (unit_steps (length F.clauses) (pure_literals F)) leaves texts text
+
 -- the fragment at each place closes the cube there
 abbrev pub AllClose : Cnf → List Cube → List (List ℕ) → Type 0
 AllClose B [] [] = Unit {0}
 AllClose B (q ∷ leaves) (text ∷ texts) = Closes B q text × AllClose B leaves texts
 AllClose B [] (text ∷ texts) = ⊥
 AllClose B (q ∷ leaves) [] = ⊥
-
--- the lines of a preamble of units
-abbrev pub unit_steps : ℕ → List Literal → List Step
-unit_steps top [] = []
-unit_steps top (l ∷ units) = Add (top + 1) (l ∷ []) [] [] ∷ unit_steps (top + 1) units
 
 -- each step adds the next number, by a resolution asymmetric tautology
 abbrev pub AreRatSteps : ClauseMap → ℕ → List Step → Type 0

@@ -4,7 +4,7 @@ ghost use Rattle.std.specs.Prelude.{◌≡◌, ℕ, ◌+◌, ◌^◌, ◌<◌, �
 ghost use Rattle.dimacs.specs.logic.Base.{pure_literals, base_of};
 ghost use Rattle.dimacs.specs.logic.Literal.{IsWithin};
 ghost use Rattle.lrat_text.specs.Proof.{Accepts};
-ghost use Rattle.proof_join.specs.Joining.{AllClose, Joined, cubes, part, unit_steps};
+ghost use Rattle.proof_join.specs.Joining.{AllClose, JoinedUnits, cubes, part, unit_steps};
 ghost use Rattle.lrat_text.specs.Runs.{text_of};
 ghost use Rattle.proof_join.specs.Steps.{IsBelow, IsFragment, Writes, steps_each};
 
@@ -110,10 +110,10 @@ pub fn join(
 ) -> Result<Vec<u8>, JoinFault>
     requires pure { preamble.now ≡ pure_literals formula.now }
     requires closed { AllClose (base_of formula.now) tree.now (map (λ v. v.items) fragments.now) }
-    ensures joined { IfOk result (λ text. Joined formula.now (unit_steps (length formula.now.clauses) (pure_literals formula.now)) tree.now (map (λ v. v.items) fragments.now) text.items) }
+    ensures joined { IfOk result (λ text. JoinedUnits formula.now tree.now (map (λ v. v.items) fragments.now) text.items) }
     ensures short { IfOk result (λ text. length text.items < 2 ^ 32) }
     ensures long { IfErr result (λ f. f ≡ JoinFault.TooLong → (text : List ℕ)
-        → Joined formula.now (unit_steps (length formula.now.clauses) (pure_literals formula.now)) tree.now (map (λ v. v.items) fragments.now) text → 2 ^ 32 ≤ length text) }
+        → JoinedUnits formula.now tree.now (map (λ v. v.items) fragments.now) text → 2 ^ 32 ≤ length text) }
     // What is joined is a proof of the formula alone.
     ensures accepted { IfOk result (λ text. Accepts formula.now text.items) }
 {

@@ -11,11 +11,11 @@ use node_main::{
 };
 use proof_file::write_proof;
 use std::alloc::AllocError;
-use std::fs::File;
+use std::fs::{File, OpenFile};
 use std::io::{Read, Write};
 use std::process::ExitCode;
 use std::rt::Runtime;
-use std::{env, fs, io};
+use std::{env, io};
 
 /// How many bytes of a proof are read at a time.
 const PIECE: usize = 1_048_576;
@@ -32,13 +32,26 @@ fn unread(error: io::Error, refusal: Refusal) -> Refusal {
     }
 }
 
+/// The file's bytes. Room for them is taken at once, where the system tells how many they are, and for one more, so that its end
+/// is met with room left: a vector that grows is copied, and each page that it takes anew costs as much as the checking of a line.
+fn read_whole<R: Runtime + AllocGlobal>(rt: &R, path: &str) -> io::Result<Vec<u8>> {
+    let mut file = File::open(rt, path)?;
+    let len = match file.metadata() {
+        Ok(metadata) => metadata.len(),
+        Err(_) => 0,
+    };
+    let mut bytes = Vec::with_capacity(rt.alloc(), (len as usize).saturating_add(1))?;
+    file.read_to_end(&mut bytes)?;
+    Ok(bytes)
+}
+
 /// The file's bytes, or the refusal of a file that cannot be read.
 fn read<R: Runtime + AllocGlobal>(
     rt: &R,
     path: &str,
     refusal: Refusal,
 ) -> Result<Vec<u8>, Refusal> {
-    fs::read(rt, path).map_err(|error| unread(error, refusal))
+    read_whole(rt, path).map_err(|error| unread(error, refusal))
 }
 
 /// The bytes of the file of cubes, where one is named.

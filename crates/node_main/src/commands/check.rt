@@ -9,12 +9,14 @@ ghost use Rattle.lrat_text.specs.Proof.{Accepts};
 ghost use Rattle.node_main.specs.CommandLine.{NamesFiles};
 ghost use Rattle.node_main.specs.Program.{check_app};
 ghost use Rattle.node_main.specs.Reports.{check_text};
+ghost use Rattle.node_main.specs.Truth.{SpellsUnsatisfiable};
 
 mod proof_check;
 
 use crate::report::Report;
 use crate::words::{INPUT, file};
 use clap::{ArgMatches, Command};
+use lrat_check::accepted_proofs_are_sound;
 pub use proof_check::ProofCheck;
 use std::alloc::{AllocError, Global};
 
@@ -52,10 +54,13 @@ pub fn run_check(alloc: Global, input: &[u8], proof: &[u8]) -> Result<Report, Al
     // Exactly where the input spells a formula and the proof is accepted against it.
     ensures verified { IfOk result (λ r. (r.status ≡ 0) ↔ ((F : Cnf) × Spells input.now F × Accepts F proof.now)) }
     ensures status { IfOk result (λ r. (r.status ≡ 0) ⊎ (r.status ≡ 1)) }
+    // So the formula that the input spells is unsatisfiable.
+    ensures truth { IfOk result (λ r. r.status ≡ 0 → SpellsUnsatisfiable input.now) }
     // Which lines are printed, and so which fault, in which line.
     ensures text { IfOk result (λ r. r.stdout.items ≡ check_text (parse input.now) proof.now) }
     ensures proof { IfOk result (λ r. r.proof ≡ None) }
 {
+    accepted_proofs_are_sound();
     let mut check = ProofCheck::new(alloc, input);
     check.feed(proof);
     check.finish()

@@ -7,6 +7,7 @@ ghost use Rattle.node_main.specs.Program.{solve_app};
 ghost use Rattle.node_main.specs.Reports.{input_fault_text};
 ghost use Rattle.node_main.specs.Solving.{Answers, AreOptions, IsRefused, Solves};
 ghost use Rattle.node_main.specs.Splitting.{StaysWithin};
+ghost use Rattle.node_main.specs.Truth.{IsTrueReport};
 
 mod deciding;
 pub(crate) mod options;
@@ -17,6 +18,7 @@ use crate::words::{DEPTH, INPUT, file, flag, named_file, number, number_of};
 use clap::{ArgMatches, Command};
 use deciding::decided;
 use dimacs::{DimacsFault, Formula, Kind};
+use lrat_check::accepted_proofs_are_sound;
 use options::Options;
 use splitting::{Split, split_of, split_taking};
 use std::alloc::{AllocError, Global};
@@ -122,8 +124,10 @@ pub fn solve_here(
     options: &Options,
 ) -> Result<Report, AllocError>
     requires { AreOptions options.now }
-    ensures { IfOk result (Solves input.now (option_map (λ t. t.now) cubes.entry) options.now) }
+    ensures report { IfOk result (Solves input.now (option_map (λ t. t.now) cubes.entry) options.now) }
+    ensures truth { IfOk result (IsTrueReport input.now) }
 {
+    accepted_proofs_are_sound();
     let formula = match dimacs::read(alloc, input) {
         Ok(formula) => formula,
         Err(fault) if fault.kind == Kind::NoMemory => return Err(AllocError),
@@ -141,8 +145,10 @@ pub fn solve_taking(
     options: &Options,
 ) -> Result<Report, AllocError>
     requires { AreOptions options.now }
-    ensures { IfOk result (Solves input.items (option_map (λ v. v.items) cubes) options.now) }
+    ensures report { IfOk result (Solves input.items (option_map (λ v. v.items) cubes) options.now) }
+    ensures truth { IfOk result (IsTrueReport input.items) }
 {
+    accepted_proofs_are_sound();
     let found = dimacs::read(alloc, input.as_slice());
     drop(input);
     let formula = match found {

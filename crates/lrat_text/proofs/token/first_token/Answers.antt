@@ -1,13 +1,13 @@
-use Rattle.std.proofs.Common.{arith}
-use Rattle.lrat_text.proofs.TokenLemmas.{first_minus, first_letter, first_plus}
+use Rattle.lrat_text.proofs.ShortLemmas.{short_plus, short_minus, zero_token}
 use Rattle.lrat_text.proofs.token.first_token.Goals as goal
-use Rattle.lrat_text.proofs.token.first_token.Goals.{else-len-eq1-via-then-len-eq1+else-text-eq100, else-len-eq1-via-else-len-eq1}
 
-pub returns-then-text-eq45-clause-token : goal.returns-then-text-eq45-clause-token
-returns-then-text-eq45-clause-token c = first_minus c.args.text.now _ _ c.requires.some c.if-text-eq45.true (c.minus_token.ensures.token _ c.natural-size.ensures.value)
+pub returns-in-Some-clause-token : goal.returns-in-Some-clause-token
+returns-in-Some-clause-token c = let found = c.in-Some.ensures in short_plus _ c.in-Some.n found.value found.some found.small
 
-pub returns-then-text-eq100-clause-token : goal.returns-then-text-eq100-clause-token
-returns-then-text-eq100-clause-token c = first_letter c.args.text.now _ c.requires.some c.if-len-eq1.true c.if-text-eq100.true
+pub returns-in-Some-short_number-clause-token : goal.returns-in-Some-short_number-clause-token
+returns-in-Some-short_number-clause-token c =
+    let found = c.in-Some-short_number.ensures in
+    short_minus c.args.text.now c.in-Some-short_number.len c.in-Some-short_number.n c.requires.some c.if-text-eq45.true found.value found.some found.small
 
-pub returns-clause-token : goal.returns-clause-token
-returns-clause-token c = first_plus c.args.text.now _ _ c.requires.some c.natural-size-2.ensures.bound c.if-text-eq45.false (λ one d. elim c.else-len-eq1.branch [ else-len-eq1-via-then-len-eq1+else-text-eq100 w ↦ omega arith | else-len-eq1-via-else-len-eq1 w ↦ omega arith ]) (c.plus_token.ensures.token _ c.natural-size-2.ensures.value)
+pub returns-then-begins_with_zero-clause-token : goal.returns-then-begins_with_zero-clause-token
+returns-then-begins_with_zero-clause-token c = zero_token _ c.if-begins_with_zero.ensures.1

@@ -17,6 +17,7 @@ loop-self-init c =
         walked = rw (n, c.requires.lits, c.requires.hints) (nothing_walked (live_of c.args.arena.now) es (met c.args.self.now.seen));
         levels = rw c.requires.lits (c.requires.waits, c.requires.level);
       },
+      c.requires.room,
       met_none es c.args.self.now.seen,
     )
 
@@ -26,5 +27,6 @@ loop-self-preserved c =
     let e = c.in_ok-look.ensures in (
       (let l = i.0 in omega (arith, l)),
       e.way,
-      met_further c.args.trail.now.entries c.args.self.now.seen c.loop-self.self.seen c.look.new.self.seen i.2 (met_in_front c.args.trail.now.entries (c.loop-self.i - 1) c.loop-self.self.seen c.look.new.self.seen e.seen),
+      e.room,
+      met_further c.args.trail.now.entries c.args.self.now.seen c.loop-self.self.seen c.look.new.self.seen i.3 (met_in_front c.args.trail.now.entries (c.loop-self.i - 1) c.loop-self.self.seen c.look.new.self.seen e.seen),
     )

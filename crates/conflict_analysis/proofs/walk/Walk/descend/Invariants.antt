@@ -1,5 +1,6 @@
 use Rattle.std.proofs.Common.{◌≤◌, length}
 use Rattle.clause_arena.specs.Clauses.{live_of}
+use Rattle.conflict_analysis.specs.Minimising.{HasRoom}
 use Rattle.conflict_analysis.specs.Walks.{HasMet, IsUnderWay}
 use Rattle.conflict_analysis.proofs.walk.Walk.descend.Given as goal
 
@@ -7,6 +8,7 @@ abbrev pub invariant-loop-self : goal.invariant-loop-self
 invariant-loop-self l =
     (l.i ≤ length l.trail.entries)
     × IsUnderWay (live_of l.arena) l.trail l.i l.self l.lemma
+    × HasRoom l.trail.vars l.minimiser
     × HasMet l.trail.entries l.fn.self.seen l.self.seen
 
 abbrev pub decreases-loop-self : goal.decreases-loop-self

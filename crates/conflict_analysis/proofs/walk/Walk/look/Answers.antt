@@ -28,24 +28,18 @@ is c = entry_is c.args.trail.now.entries c.entries-entries.result.now c.args.i c
 seen : (c : After-index-entries-i) → met c.args.self.now.seen (var_of (get_or c.args.trail.now.entries c.args.i c.index-entries-i.result).literal) ≡ true
 seen c = sym (c.pass.ensures.here c.index-entries-i.result) ∙ c.if-not-pass.false
 
-pub choose-requires-clause-known : goal.choose-requires-clause-known
-choose-requires-clause-known c = λ n r C h k j.
-    subst (λ xs. AreKnown (take c.args.i xs) (met c.pass.new.self.seen) C) (sym c.entries-entries.ensures.entries)
-    (reason_can_be_met c.args.arena.now c.args.trail.now c.args.i c.requires.within c.requires.built c.index-entries-i.result c.args.self.now c.pass.new.self c.args.lemma.now
-    c.requires.way c.pass.ensures.walk c.pass.ensures.seen (c.pass.ensures.lower c.index-entries-i.result) (seen c) n (ap (λ (x : Assigned). x.reason) (sym (is c)) ∙ r) C h) k j
-
 pub meet_number-requires-clause-live : goal.meet_number-requires-clause-live
 meet_number-requires-clause-live c =
     let b = (goal.at.meet_number-requires-clause-live c).After-index-entries-i in
     reason_lives c.args.arena.now c.args.trail.now c.args.i c.requires.within c.requires.built c.index-entries-i.result c.args.self.now c.pass.new.self c.args.lemma.now
-    c.requires.way c.pass.ensures.walk c.pass.ensures.seen (c.pass.ensures.lower c.index-entries-i.result) c.in-Some.number (ap (λ (x : Assigned). x.reason) (sym (is b)) ∙ c.in-Some.ensures.0)
+    c.requires.way c.pass.ensures.walk c.pass.ensures.seen (c.pass.ensures.lower c.index-entries-i.result) c.in-Some.number (ap (λ (x : Assigned). x.reason) (sym (is b)) ∙ c.in-Some.ensures.choice.0)
 
 pub meet_number-requires-clause-known : goal.meet_number-requires-clause-known
 meet_number-requires-clause-known c = λ C h k j.
     let b = (goal.at.meet_number-requires-clause-known c).After-index-entries-i in
     subst (λ xs. AreKnown (take c.args.i xs) (met c.pass.new.self.seen) C) (sym c.entries-entries.ensures.entries)
     (reason_can_be_met c.args.arena.now c.args.trail.now c.args.i c.requires.within c.requires.built c.index-entries-i.result c.args.self.now c.pass.new.self c.args.lemma.now
-    c.requires.way c.pass.ensures.walk c.pass.ensures.seen (c.pass.ensures.lower c.index-entries-i.result) (seen b) c.in-Some.number (ap (λ (x : Assigned). x.reason) (sym (is b)) ∙ c.in-Some.ensures.0) C h) k j
+    c.requires.way c.pass.ensures.walk c.pass.ensures.seen (c.pass.ensures.lower c.index-entries-i.result) (seen b) c.in-Some.number (ap (λ (x : Assigned). x.reason) (sym (is b)) ∙ c.in-Some.ensures.choice.0) C h) k j
 
 pub returns-in_ok-push-in-Some-clause-way : goal.returns-in_ok-push-in-Some-clause-way
 returns-in_ok-push-in-Some-clause-way c =
@@ -53,8 +47,8 @@ returns-in_ok-push-in-Some-clause-way c =
     let e = c.in_ok-meet_number-in-Some.ensures in
     let q = is b in
     past_resolved c.args.arena.now c.args.trail.now c.args.i c.requires.within c.requires.built c.index-entries-i.result c.args.self.now c.pass.new.self c.args.lemma.now
-    c.requires.way c.pass.ensures.walk c.pass.ensures.seen (c.pass.ensures.lower c.index-entries-i.result) (seen b) c.in-Some.number (ap (λ (x : Assigned). x.reason) (sym q) ∙ c.in-Some.ensures.0)
-    (λ l. c.in-Some.ensures.1 (ap (λ (x : Assigned). x.level) q ∙ l)) c.meet_number.new.self
+    c.requires.way c.pass.ensures.walk c.pass.ensures.seen (c.pass.ensures.lower c.index-entries-i.result) (seen b) c.in-Some.number (ap (λ (x : Assigned). x.reason) (sym q) ∙ c.in-Some.ensures.choice.0)
+    (λ l. c.in-Some.ensures.choice.1 (ap (λ (x : Assigned). x.level) q ∙ l)) c.meet_number.new.self
     (subst (λ xs. IsWalk c.args.trail.now (take c.args.i xs) c.meet_number.new.self) c.entries-entries.ensures.entries e.walk)
     (subst (λ xs. HasMet (take c.args.i xs) c.pass.new.self.seen c.meet_number.new.self.seen) c.entries-entries.ensures.entries e.seen)
     e.all _ refl c.in_ok-push-in-Some.ensures.items refl
@@ -69,7 +63,7 @@ returns-in-None-clause-way c =
     on_ok_weaker c.keep.result (λ k.
     past_kept c.args.arena.now c.args.trail.now c.args.i c.requires.within c.requires.built c.index-entries-i.result c.args.self.now c.pass.new.self c.args.lemma.now
     c.requires.way c.pass.ensures.walk c.pass.ensures.seen (c.pass.ensures.lower c.index-entries-i.result) (seen b)
-    (λ l. elim (c.in-None.ensures (level ∙ l)) [ inl z ↦ inl z | inr r ↦ inr (ap (λ (x : Assigned). x.reason) (sym q) ∙ r) ])
+    (λ l. elim (c.in-None.ensures.choice (level ∙ l)) [ inl z ↦ inl z | inr r ↦ inr (ap (λ (x : Assigned). x.reason) (sym q) ∙ r) ])
     c.keep.new.self (k.0 ∙ ap (λ (x : Assigned). lits ++ negation x.literal ∷ []) q) c.keep.ensures.hints
     (λ l. k.1.0 (level ∙ l ∙ sym p)) (λ n. k.1.1 (λ l. n (sym level ∙ l ∙ p)) ∙ ap (λ m. max c.args.lemma.now.level m) level))
     (ok_both _ _ c.keep.result c.keep.ensures.lits (ok_both _ _ c.keep.result c.keep.ensures.same c.keep.ensures.lower))

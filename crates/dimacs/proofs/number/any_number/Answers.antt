@@ -3,7 +3,7 @@ use Rattle.std.specs.Option.{option_map}
 use Rattle.std.proofs.lemmas.Bool.Decides.{nat_tests}
 use Rattle.dimacs.specs.layout.Capped.{capped}
 use Rattle.dimacs.proofs.NumberLemmas.{minus_number, minus_behind}
-use Rattle.dimacs.proofs.number.leading_number.Goals as goal
+use Rattle.dimacs.proofs.number.any_number.Goals as goal
 
 pub returns-clause-value : goal.returns-clause-value
 returns-clause-value c =

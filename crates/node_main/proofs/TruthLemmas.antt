@@ -1,0 +1,57 @@
+-- What a report says of its formula is true.
+use Rattle.std.proofs.Common.{◌≡◌, ◌⊎◌, ℕ, ◌<◌, arith, List, Option, Some, None, Result, Ok, Err, IfOk, inl, inr, sym, ◌∙◌}
+use Rattle.std.specs.Prelude.{IsSome, IfSome}
+use Rattle.std.specs.Global.{Vec}
+use Rattle.dimacs.specs.logic.Cnf.{Cnf, assignment_of}
+use Rattle.dimacs.specs.text.Spelling.{Spells}
+use Rattle.lrat_text.specs.Proof.{Accepts}
+use Rattle.lrat_check.specs.Soundness.{Soundness, IsUnsatisfiable}
+use Rattle.icnf.specs.Leaves.{Cube}
+use Rattle.node_main.specs.ProofChecks.{IsCheckReport}
+use Rattle.node_main.specs.Solving.{Answers, Decides, IsRefused, IsRefuted}
+use Rattle.node_main.specs.Truth.{SpellsSatisfiable, SpellsUnsatisfiable, IsTrueReport}
+use Rattle.node_main.specs.declared.commands.solve.options.Options.{Options}
+use Rattle.node_main.specs.declared.commands.solve.splitting.Split.{Split}
+use Rattle.node_main.specs.declared.commands.solve.splitting.Split.TheVariants.{By, Faulty, OtherFormula}
+use Rattle.node_main.specs.declared.report.Report.{Report}
+
+-- an accepted proof is there
+refuted : Soundness → (F : Cnf) (proof : Option (Vec ℕ)) → IsSome proof → IfSome proof (λ bytes. Accepts F bytes.items) → IsUnsatisfiable F
+refuted sound F (Some bytes) there accepted = sound F bytes.items accepted
+refuted sound F None there accepted = cc
+
+apart : {m n : ℕ} → m ≡ n → m < n ⊎ n < m → ⊥
+apart e (inl l) = omega (arith, e, l)
+apart e (inr l) = omega (arith, e, l)
+
+-- a report of another status says nothing
+other_true : (input : List ℕ) (r : Report) (status : ℕ) → r.status ≡ status → status < 10 → IsTrueReport input r
+other_true input r status is low =
+    record { satisfiable = λ e. absurd (apart (sym is ∙ e) (inl (omega (arith, low)))); unsatisfiable = λ e. absurd (apart (sym is ∙ e) (inl (omega (arith, low)))) }
+
+refused_true : (input line : List ℕ) (o : Options) (r : Report) → IsRefused line o r → IsTrueReport input r
+refused_true input line o r is = other_true input r 1 is.status (omega arith)
+
+decides_true : Soundness → (input : List ℕ) (F : Cnf) → Spells input F → (leaves : List Cube) (o : Options) (r : Report) → Decides F leaves o r → IsTrueReport input r
+decides_true sound input F spells leaves o r (inl is) =
+    record { satisfiable = λ e. (F, spells, assignment_of is.values, is.satisfies); unsatisfiable = λ e. absurd (apart (sym is.status ∙ e) (inl (omega arith))) }
+decides_true sound input F spells leaves o r (inr (inl is)) =
+    record { satisfiable = λ e. absurd (apart (sym is.status ∙ e) (inr (omega arith))); unsatisfiable = λ e. (F, spells, refuted sound F r.proof is.there is.accepted) }
+decides_true sound input F spells leaves o r (inr (inr is)) = other_true input r 0 is.status (omega arith)
+
+answers_true : Soundness → (input : List ℕ) (F : Cnf) → Spells input F → (o : Options) (r : Report) (split : Split) → Answers F o r split → IsTrueReport input r
+answers_true sound input F spells o r (By leaves) is = decides_true sound input F spells leaves o r is
+answers_true sound input F spells o r (Faulty fault) is = refused_true input _ o r is
+answers_true sound input F spells o r OtherFormula is = refused_true input _ o r is
+
+-- what is reported of a formula that is split is true
+pub answered_true : {E : Type 0} → Soundness → (input : List ℕ) (F : Cnf) → Spells input F → (o : Options) (split : Split) (r : Result Report E)
+    → IfOk r (λ x. Answers F o x split) → IfOk r (IsTrueReport input)
+answered_true sound input F spells o split (Ok r) is = answers_true sound input F spells o r split is
+answered_true sound input F spells o split (Err fault) is = tt
+
+-- what is verified is unsatisfiable
+pub verified_true : {E : Type 0} → Soundness → (input proof : List ℕ) (r : Result Report E)
+    → IfOk r (IsCheckReport input proof) → IfOk r (λ (x : Report). (x.status ≡ 0) → SpellsUnsatisfiable input)
+verified_true sound input proof (Ok x) is = λ zero. let h = is.verified.0 zero in (h.0, h.1, sound h.0 proof h.2)
+verified_true sound input proof (Err fault) is = tt

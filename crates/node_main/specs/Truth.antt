@@ -1,0 +1,19 @@
+-- What is true of the formula that an input spells, whatever text of a proof a reader believes in.
+use Rattle.std.specs.Prelude.{◌≡◌, ℕ, Bool, List}
+use Rattle.dimacs.specs.logic.Cnf.{Cnf, Sat}
+use Rattle.dimacs.specs.text.Spelling.{Spells}
+use Rattle.lrat_check.specs.Soundness.{IsUnsatisfiable}
+use Rattle.node_main.specs.declared.report.Report.{Report}
+
+-- the input spells a formula, and an assignment satisfies it
+abbrev pub SpellsSatisfiable : List ℕ → Type 0
+SpellsSatisfiable input = (F : Cnf) × Spells input F × (a : ℕ → Bool) × Sat a F
+
+-- the input spells a formula, and no assignment satisfies it
+abbrev pub SpellsUnsatisfiable : List ℕ → Type 0
+SpellsUnsatisfiable input = (F : Cnf) × Spells input F × IsUnsatisfiable F
+
+-- a report of `solve` says which it is, by its status
+pub record IsTrueReport (input : List ℕ) (r : Report) : Type 0 where
+  pub satisfiable : r.status ≡ 10 → SpellsSatisfiable input
+  pub unsatisfiable : r.status ≡ 20 → SpellsUnsatisfiable input
