@@ -13,7 +13,7 @@ use Rattle.frames.specs.declared.frame.Kind.{Kind}
 use Rattle.frames.specs.declared.head.Head.{Head}
 use Rattle.frames.specs.declared.head.Head.TheVariants.{Short, Wrong, Whole}
 use Rattle.frames.specs.Spelling.{mark, kind_number, kind_of, payload, FrameBytes, IsRight}
-use Rattle.frames.specs.Stream.{head_of, End, Open, Fault, EndsAfter, Ends, Splits, Stream, Begins}
+use Rattle.frames.specs.Stream.{head_of, End, Open, Fault, EndsAfter, Ends, Splits, Stream, Begins, BeginsNoFrame}
 use Rattle.frames.specs.Reading.{Carries}
 use Rattle.frames.proofs.FieldLemmas.{IsBytes}
 use Rattle.frames.proofs.Payloads.{head_again, same_frame}
@@ -43,6 +43,10 @@ frame_not_ends f rest e right ends = at_end e (subst (λ h. EndsAfter h (FrameBy
     at_end : (e : End) → EndsAfter (Whole (kind_of f) (length (payload f))) (FrameBytes f ++ rest) e → ⊥
     at_end Open p = omega (arith, length-frame f rest)
     at_end (Fault g) p = p.2 f rest right refl
+
+-- where a stream ends, no frame begins
+pub ends_begin_none : (b : List ℕ) (e : End) → Ends b e → BeginsNoFrame b
+ends_begin_none b e ends f rest right is = frame_not_ends f rest e right (subst (λ x. Ends x e) is ends)
 
 same_stream : (fs gs : List Frame) (r s : List ℕ) (d e : End) → AllByRecursion IsRight fs → AllByRecursion IsRight gs → flat_map FrameBytes fs ++ r ≡ flat_map FrameBytes gs ++ s → Ends r d → Ends s e → (fs ≡ gs) × (d ≡ e)
 same_stream [] [] r s d e hf hg same p q = (refl, ends_after_one (head_of r) r d e p (subst (λ b. Ends b e) (sym same) q))

@@ -70,6 +70,10 @@ pub record Begins (bytes : List ℕ) (frame : Frame) (rest : List ℕ) : Type 0 
   pub whole : bytes ≡ FrameBytes frame ++ rest
   pub right : IsRight frame
 
+-- the frame is the first of the bytes, whatever follows it
+abbrev pub BeginsWith : List ℕ → Frame → Type 0
+BeginsWith bytes frame = (rest : List ℕ) × Begins bytes frame rest
+
 -- what a reader keeps of a stream: the rest behind the frames, or the fault that it met
 pub data Progress : Type 0 where
   Within : List ℕ → Progress

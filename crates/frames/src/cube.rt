@@ -42,6 +42,15 @@ impl Cube {
         }
     }
 
+    /// The cube of these literals.
+    pub fn from_slice(alloc: Global, literals: &[Lit]) -> Result<Cube, AllocError>
+        requires { IsCube literals.now }
+        ensures { IfOk result (λ c. c ≡ literals.now) }
+    {
+        let literals = Vec::from_slice(alloc, literals)?;
+        Ok(Cube { literals })
+    }
+
     /// Whether the literal may be put at the end: there is room, its variable is at most 2,000,000 and is not named yet.
     pub fn takes(&self, literal: Lit) -> bool
         ensures { result ≡ takes self.now literal }

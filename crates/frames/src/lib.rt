@@ -24,5 +24,5 @@ pub use fault::FrameFault;
 pub use frame::{Attempt, Frame, Kind};
 pub use head::Head;
 pub use laws::{fields_are_right, no_spelling_begins_another, streams_are_read_one_way};
-pub use reader::{Reader, read_pieces};
+pub use reader::{Reader, first_frame, read_pieces};
 pub use worker::WorkerNumber;

@@ -3,7 +3,7 @@
 ghost use Rattle.std.specs.Prelude.{◌≡◌, ◌≢◌, ◌+◌, ◌≤◌, ◌++◌, List, [], length, take, min, vec_len, vec_capacity, MatchOption, MatchResult, OnErr, IfOk, Ok, Err};
 ghost use Rattle.frames.specs.declared.frame.Frame.{Frame};
 ghost use Rattle.frames.specs.declared.fault.FrameFault.{FrameFault};
-ghost use Rattle.frames.specs.Stream.{Open, Fault, Ends, Begins, Splits, StopsBefore, Stream, Within, Failed, TakesPiece, joined};
+ghost use Rattle.frames.specs.Stream.{Open, Fault, Ends, Begins, BeginsNoFrame, BeginsWith, Splits, StopsBefore, Stream, Within, Failed, TakesPiece, joined};
 ghost use Rattle.frames.specs.Filling.{lacks, Fills};
 
 use crate::decoding::frame_of;
@@ -123,6 +123,19 @@ fn first(alloc: Global, bytes: &[u8]) -> Result<Option<(Frame, &[u8])>, FrameFau
                 Ok(frame) => Ok(Some((frame, rest))),
             }
         }
+    }
+}
+
+/// The first frame of the bytes, where it is whole and its fields are right; what follows it is not looked at.
+#[tactic(auto, using(crate::proofs::Streams::ends_begin_none))]
+pub fn first_frame(alloc: Global, bytes: &[u8]) -> Result<Option<Frame>, AllocError>
+    ensures { IfOk result (λ found. MatchOption found (BeginsNoFrame bytes.now) (BeginsWith bytes.now)) }
+{
+    match first(alloc, bytes) {
+        Ok(Some((frame, _))) => Ok(Some(frame)),
+        Ok(None) => Ok(None),
+        Err(fault) if fault == FrameFault::NoMemory => Err(AllocError),
+        Err(_fault) => Ok(None),
     }
 }
 

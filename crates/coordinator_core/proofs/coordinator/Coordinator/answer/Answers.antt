@@ -1,0 +1,7 @@
+use Rattle.std.proofs.Common.{sym, subst}
+use Rattle.frames.specs.declared.answer.Outcome.{Outcome}
+use Rattle.coordinator_core.specs.Coordinator.{AnswersFirst}
+use Rattle.coordinator_core.proofs.coordinator.Coordinator.answer.Goals as goal
+
+pub returns-in-Decided : goal.returns-in-Decided
+returns-in-Decided c = λ j awaited none. subst (λ (o : Outcome). AnswersFirst c.args.self.now c.args.attempt.now j o c.answer_decided.result c.answer_decided.new.self) (sym c.in-Decided.is) (c.answer_decided.ensures j awaited none)

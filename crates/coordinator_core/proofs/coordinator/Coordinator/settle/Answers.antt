@@ -1,0 +1,7 @@
+use Rattle.std.proofs.Common.{refl}
+use Rattle.coordinator_core.specs.Coordinator.{Gathers}
+use Rattle.coordinator_core.proofs.GatherLemmas.{same_job}
+use Rattle.coordinator_core.proofs.coordinator.Coordinator.settle.Goals as goal
+
+pub returns-in-Waits : goal.returns-in-Waits
+returns-in-Waits c = λ j x is. Gathers.waits (c.in-Waits.ensures j x is) refl (same_job c.args.self.now c.args.worker j x is)

@@ -1,0 +1,5 @@
+pub mod Coordinator
+pub mod Invariant
+pub mod Tables
+pub mod Calls
+pub mod Laws

@@ -1,0 +1,138 @@
+//! Answers of workers, and workers that have nothing to do.
+
+ghost use Rattle.std.specs.Prelude.{◌≡◌, ◌↔◌, IsTrue, None};
+ghost use Rattle.frames.specs.declared.answer.Outcome.TheVariants.{Decided};
+ghost use Rattle.evidence.specs.Evidence.{HasWrongLength};
+ghost use Rattle.coordinator_core.specs.Calls.{Stands};
+ghost use Rattle.coordinator_core.specs.Coordinator.{AnswersFirst, DeliversDone, DeliversIdle, IsAwaited, IsStale};
+ghost use Rattle.coordinator_core.specs.declared.desks.Job.{Job};
+
+use crate::coordinator::Coordinator;
+use crate::desks::Fixed;
+use dimacs::Formula;
+use evidence::Evidence;
+use frames::{Attempt, Finding, Outcome, WorkerNumber};
+use lrat_check::Reaction;
+
+/// What an answer is to the coordinator.
+pub(crate) enum Standing {
+    /// It is of no job that is awaited.
+    Strays,
+    /// It is the first one to its job.
+    First,
+    /// The same incarnation answered before.
+    Again,
+    /// Another incarnation answered before.
+    Anew,
+}
+
+/// Whether a finding is an assignment of another length than the formula has variables.
+fn has_wrong_length(formula: &Formula, finding: &Finding) -> bool
+    ensures { IsTrue result ↔ HasWrongLength formula.now finding.now }
+{
+    match finding {
+        Finding::Refuted { .. } => false,
+        Finding::Assignment { length } => *length != formula.vars(),
+    }
+}
+
+impl Coordinator {
+    /// What an answer of this attempt is.
+    pub(crate) fn standing(&self, attempt: &Attempt) -> Standing
+        ensures { Stands self.now attempt.now result }
+    {
+        if !self.is_deciding() || attempt.session != self.session() {
+            return Standing::Strays;
+        }
+        let Some(job) = self.job_of(attempt.worker) else {
+            return Standing::Strays;
+        };
+        if job.number != attempt.job {
+            return Standing::Strays;
+        }
+        match &job.fixed {
+            None => Standing::First,
+            Some(fixed) if fixed.incarnation == attempt.incarnation => Standing::Again,
+            Some(_) => Standing::Anew,
+        }
+    }
+
+    /// An answer comes.
+    pub(crate) fn deliver_done(&mut self, attempt: &Attempt, outcome: &Outcome) -> Reaction
+        ensures { DeliversDone self.old attempt.now outcome.now result self.new }
+    {
+        match self.standing(attempt) {
+            Standing::Strays => Reaction::Ignored,
+            Standing::Again => Reaction::Ignored,
+            Standing::First => self.answer(attempt, outcome),
+            Standing::Anew => {
+                self.lost(attempt.worker);
+                Reaction::Taken
+            }
+        }
+    }
+
+    /// A job of which nothing is fixed is answered.
+    fn answer(&mut self, attempt: &Attempt, outcome: &Outcome) -> Reaction
+        requires { (j : Job) × IsAwaited self.old attempt.now.session attempt.now.job attempt.now.worker j × (j.fixed ≡ None) }
+        ensures { (j : Job) → IsAwaited self.old attempt.now.session attempt.now.job attempt.now.worker j → j.fixed ≡ None → AnswersFirst self.old attempt.now j outcome.now result self.new }
+    {
+        match outcome {
+            Outcome::Limit => {
+                self.give_up();
+                Reaction::Taken
+            }
+            Outcome::Decided(finding) => self.answer_decided(attempt, finding),
+        }
+    }
+
+    /// It is answered by a finding.
+    fn answer_decided(&mut self, attempt: &Attempt, finding: &Finding) -> Reaction
+        requires { (j : Job) × IsAwaited self.old attempt.now.session attempt.now.job attempt.now.worker j × (j.fixed ≡ None) }
+        ensures { (j : Job) → IsAwaited self.old attempt.now.session attempt.now.job attempt.now.worker j → j.fixed ≡ None → AnswersFirst self.old attempt.now j (Decided finding.now) result self.new }
+    {
+        if has_wrong_length(self.formula(), finding) {
+            self.lost(attempt.worker);
+            return Reaction::Refused(2);
+        }
+        let first = Fixed {
+            incarnation: attempt.incarnation,
+            evidence: Evidence::new(self.alloc(), *finding),
+        };
+        self.fix(attempt.worker, Some(first));
+        match self.settle(attempt.worker) {
+            Reaction::NoMemory => {
+                self.fix(attempt.worker, None);
+                Reaction::NoMemory
+            }
+            reaction => reaction,
+        }
+    }
+
+    /// Whether another incarnation of the worker answered its job.
+    fn is_stale(&self, worker: WorkerNumber, incarnation: u64) -> bool
+        ensures { IsTrue result ↔ ((j : Job) × IsStale self.now worker incarnation j) }
+    {
+        if !self.is_deciding() {
+            return false;
+        }
+        match self.job_of(worker) {
+            None => false,
+            Some(job) => match &job.fixed {
+                None => false,
+                Some(fixed) => fixed.incarnation != incarnation,
+            },
+        }
+    }
+
+    /// A worker has nothing to do.
+    pub(crate) fn deliver_idle(&mut self, worker: WorkerNumber, incarnation: u64) -> Reaction
+        ensures { DeliversIdle self.old worker incarnation result self.new }
+    {
+        if !self.is_stale(worker, incarnation) {
+            return Reaction::Ignored;
+        }
+        self.lost(worker);
+        Reaction::Taken
+    }
+}

@@ -1,0 +1,342 @@
+//! The coordinator: what it keeps, and how it begins.
+
+ghost use Rattle.std.specs.Prelude.{◌≡◌, ◌-◌, ◌≤◌, ◌<◌, ◌^◌, ◌↔◌, IsTrue, length, true, replicate, All, IfOk, OnOk, OnErr, OnSome, IfSome, MatchOption, None, Some};
+ghost use Rattle.dimacs.specs.logic.Cnf.{IsFormula};
+ghost use Rattle.lrat_check.specs.Verdicts.{Right};
+ghost use Rattle.lrat_check.specs.declared.verdict.Verdict.TheVariants.{Nothing};
+ghost use Rattle.evidence.specs.Evidence.{bytes_in};
+ghost use Rattle.evidence.specs.Events.{Lost, Silent};
+ghost use Rattle.evidence.specs.Jobs.{IsInside};
+ghost use Rattle.coordinator_core.specs.Coordinator.{CoordinatorStep, IsDeciding, IsWorker, job_at, new_coordinator, with_job};
+ghost use Rattle.coordinator_core.specs.Invariant.{IsCoordinator, IsJobAt};
+ghost use Rattle.coordinator_core.specs.declared.desks.Job.{Job};
+
+use crate::desks::Job;
+use crate::leaves::LeafTable;
+use cube_split::{Preamble, preamble};
+use dimacs::{Base, Formula};
+use frames::WorkerNumber;
+use icnf::Tree;
+use lrat_check::Verdict;
+use std::alloc::{AllocError, Global};
+use std::marker::Model;
+
+/// What gives the leaves of a tree to workers, checks what they found, and hands out the verdict on its formula.
+pub struct Coordinator {
+    pub(crate) alloc: Global,
+    pub(crate) formula: Formula,
+    pub(crate) preamble: Preamble,
+    pub(crate) base: Base,
+    pub(crate) session: u64,
+    pub(crate) limit: u64,
+    // the tree that it was made with, and the tree as it is
+    pub(crate) planted: Tree,
+    pub(crate) tree: Tree,
+    pub(crate) leaves: LeafTable,
+    // of each worker its job, and the offset of the verdict that it wants
+    pub(crate) jobs: Vec<Option<Job>>,
+    pub(crate) wants: Vec<Option<u32>>,
+    // the number of the next job, while one is left
+    pub(crate) next: Option<u64>,
+    pub(crate) stuck: bool,
+    pub(crate) verdict: Verdict,
+}
+
+impl Model for Coordinator {
+    ghost use Rattle.std.specs.Prelude.{◌≡◌};
+    ghost use Rattle.dimacs.specs.logic.Base.{base_of, pure_literals};
+    ghost use Rattle.coordinator_core.specs.Coordinator.{CoordinatorState};
+    ghost use Rattle.coordinator_core.specs.Invariant.{IsCoordinator};
+    ghost use Rattle.coordinator_core.specs.Tables.{next_of};
+
+    ghost Value = { CoordinatorState };
+
+    ghost view = { λ c. record {
+      formula = c.formula;
+      session = c.session;
+      limit = c.limit;
+      planted = c.planted;
+      tree = c.tree;
+      leaves = c.leaves.states;
+      fragments = c.leaves.fragments;
+      jobs = c.jobs.items;
+      wants = c.wants.items;
+      next = next_of c.next;
+      stuck = c.stuck;
+      verdict = c.verdict;
+    } };
+
+    ghost invariant = { λ c. (c.preamble ≡ pure_literals c.formula) × (c.base ≡ base_of c.formula) × IsCoordinator (record {
+      formula = c.formula;
+      session = c.session;
+      limit = c.limit;
+      planted = c.planted;
+      tree = c.tree;
+      leaves = c.leaves.states;
+      fragments = c.leaves.fragments;
+      jobs = c.jobs.items;
+      wants = c.wants.items;
+      next = next_of c.next;
+      stuck = c.stuck;
+      verdict = c.verdict;
+    }) };
+}
+
+impl Drop for Coordinator {
+    fn drop(self) {
+        let Coordinator {
+            alloc: _,
+            formula: _,
+            preamble: _,
+            base: _,
+            session: _,
+            limit: _,
+            planted: _,
+            tree: _,
+            leaves: _,
+            jobs: _,
+            wants: _,
+            next: _,
+            stuck: _,
+            verdict: _,
+        } = self;
+    }
+}
+
+/// The desks of so many workers, all without a job.
+#[tactic(auto, using(crate::proofs::TableLemmas::rows))]
+fn no_jobs(alloc: Global, workers: usize) -> Result<Vec<Option<Job>>, AllocError>
+    ensures { IfOk result (λ v. v.items ≡ replicate workers None) }
+{
+    let mut jobs = Vec::with_capacity(alloc, workers)?;
+    for _ in 0..workers {
+        jobs.push(None)?;
+    }
+    Ok(jobs)
+}
+
+/// The notes of so many workers, of which none wants the verdict.
+fn no_wants(alloc: Global, workers: usize) -> Result<Vec<Option<u32>>, AllocError>
+    ensures { IfOk result (λ v. v.items ≡ replicate workers None) }
+{
+    Ok(vec![in alloc; None; workers]?)
+}
+
+impl Coordinator {
+    /// A coordinator that begins: all leaves are open, and nothing is held. It asks that the tree's variables are the formula's,
+    /// and for 1 to 64 workers. All that it needs until the first answer comes is reserved here.
+    pub fn new(
+        alloc: Global,
+        formula: Formula,
+        tree: Tree,
+        limit: u64,
+        workers: u32,
+        session: u64,
+    ) -> Result<Coordinator, AllocError>
+        requires inside { All (IsInside formula) tree }
+        requires workers { (1 ≤ workers) × (workers ≤ 64) }
+        ensures { IfOk result (λ c. c ≡ new_coordinator formula tree limit workers session) }
+    {
+        let _ = formula.vars();
+        let preamble = preamble(alloc, &formula)?;
+        let base = preamble.base(alloc, &formula)?;
+        let planted = tree.copy(alloc)?;
+        let leaves = LeafTable::new(alloc, tree.leaves())?;
+        let jobs = no_jobs(alloc, workers as usize)?;
+        let wants = no_wants(alloc, workers as usize)?;
+        Ok(Coordinator {
+            alloc,
+            formula,
+            preamble,
+            base,
+            session,
+            limit,
+            planted,
+            tree,
+            leaves,
+            jobs,
+            wants,
+            next: Some(1),
+            stuck: false,
+            verdict: Verdict::Nothing,
+        })
+    }
+
+    /// Begins anew in another session, with the tree of its making. Want of memory leaves it as it was.
+    pub fn restart(&mut self, session: u64) -> Result<(), AllocError>
+        ensures ok { OnOk result (self.new ≡ new_coordinator self.old.formula self.old.planted self.old.limit (length self.old.jobs) session) }
+        ensures err { OnErr result (self.new ≡ self.old) }
+    {
+        let tree = self.planted.copy(self.alloc)?;
+        let leaves = LeafTable::new(self.alloc, tree.leaves())?;
+        let workers = self.jobs.len();
+        let jobs = no_jobs(self.alloc, workers)?;
+        let wants = no_wants(self.alloc, workers)?;
+        self.session = session;
+        self.tree = tree;
+        self.leaves = leaves;
+        self.jobs = jobs;
+        self.wants = wants;
+        self.next = Some(1);
+        self.stuck = false;
+        self.verdict = Verdict::Nothing;
+        Ok(())
+    }
+
+    /// Whether it gave up: a search met its limit, or the joined proof is too long. Only a restart changes that.
+    #[inline]
+    pub fn stuck(&self) -> bool
+        ensures { result ≡ self.now.stuck }
+    {
+        self.stuck
+    }
+
+    /// Its formula.
+    pub fn formula(&self) -> &Formula
+        ensures { result.now ≡ self.now.formula }
+    {
+        &self.formula
+    }
+
+    /// The number of its session.
+    #[inline]
+    pub fn session(&self) -> u64
+        ensures { result ≡ self.now.session }
+    {
+        self.session
+    }
+
+    /// How many workers it has, 1 to 64.
+    #[inline]
+    pub fn workers(&self) -> u32
+        ensures value { result ≡ length self.now.jobs }
+        ensures above { 1 ≤ result }
+        ensures below { result ≤ 64 }
+    {
+        self.jobs.len() as u32
+    }
+
+    /// The verdict that it holds. It takes no memory.
+    pub fn verdict(&self) -> &Verdict
+        ensures value { result.now ≡ self.now.verdict }
+        ensures right { Right self.now.formula result.now }
+        ensures sound { IsCoordinator self.now }
+    {
+        &self.verdict
+    }
+
+    /// The verdict, for keeps.
+    pub fn into_verdict(self) -> Verdict
+        ensures value { result ≡ self.verdict }
+        ensures right { Right self.formula result }
+    {
+        let Coordinator {
+            alloc: _,
+            formula: _,
+            preamble: _,
+            base: _,
+            session: _,
+            limit: _,
+            planted: _,
+            tree: _,
+            leaves: _,
+            jobs: _,
+            wants: _,
+            next: _,
+            stuck: _,
+            verdict,
+        } = self;
+        verdict
+    }
+
+    /// The link of a worker is lost: the leaf of its job is opened again, if it has one. It takes no memory.
+    pub fn lost(&mut self, worker: WorkerNumber)
+        ensures step { CoordinatorStep self.old (Lost worker) Silent self.new }
+    {
+        let Some(leaf) = self.leaf_of(worker) else {
+            return;
+        };
+        let desk = worker.number() as usize - 1;
+        self.jobs[desk] = None;
+        self.leaves.open(leaf);
+    }
+
+    /// What it takes memory from.
+    #[inline]
+    pub(crate) fn alloc(&self) -> Global {
+        self.alloc
+    }
+
+    /// The job of a worker.
+    pub(crate) fn job_of(&self, worker: WorkerNumber) -> Option<&Job>
+        ensures { MatchOption result (job_at self.now worker ≡ None) (λ j. job_at self.now worker ≡ Some j.now) }
+    {
+        let desk = worker.number() as usize - 1;
+        if desk >= self.jobs.len() {
+            return None;
+        }
+        self.jobs[desk].as_ref()
+    }
+
+    /// The leaf of a worker's job.
+    fn leaf_of(&self, worker: WorkerNumber) -> Option<usize>
+        ensures { MatchOption result (job_at self.now worker ≡ None) (λ leaf. (j : Job) × (job_at self.now worker ≡ Some j) × (j.leaf ≡ leaf)) }
+    {
+        match self.job_of(worker) {
+            None => None,
+            Some(job) => Some(job.leaf),
+        }
+    }
+
+    /// Takes the job of a worker from it.
+    pub(crate) fn take_job(&mut self, worker: WorkerNumber) -> Option<Job>
+        ensures job { result ≡ job_at self.old worker }
+        ensures known { OnSome result (IsWorker self.new worker) }
+        ensures fair { IfSome result (λ j. IsJobAt self.new.leaves (worker - 1) j) }
+        ensures now { self.new ≡ with_job self.old worker None }
+    {
+        let desk = worker.number() as usize - 1;
+        if desk >= self.jobs.len() {
+            return None;
+        }
+        self.jobs[desk].take()
+    }
+
+    /// Gives a worker a job whose leaf is given to it.
+    pub(crate) fn put_job(&mut self, worker: WorkerNumber, job: Job)
+        requires worker { IsWorker self.old worker }
+        requires job { IsJobAt self.old.leaves (worker - 1) job }
+        ensures { self.new ≡ with_job self.old worker (Some job) }
+    {
+        let desk = worker.number() as usize - 1;
+        self.jobs[desk] = Some(job);
+    }
+
+    /// Whether it holds no verdict and is not stuck.
+    pub(crate) fn is_deciding(&self) -> bool
+        ensures { IsTrue result ↔ IsDeciding self.now }
+    {
+        match self.verdict {
+            Verdict::Nothing => !self.stuck,
+            _ => false,
+        }
+    }
+
+    /// Gives up.
+    pub(crate) fn give_up(&mut self)
+        requires { IsDeciding self.old }
+        ensures { self.new ≡ record self.old { stuck = true } }
+    {
+        self.stuck = true;
+    }
+
+    /// Holds a right verdict.
+    pub(crate) fn decide(&mut self, verdict: Verdict)
+        requires deciding { IsDeciding self.old }
+        requires right { Right self.old.formula verdict }
+        requires short { length (bytes_in verdict) < 2 ^ 32 }
+        ensures { self.new ≡ record self.old { verdict = verdict } }
+    {
+        self.verdict = verdict;
+    }
+}

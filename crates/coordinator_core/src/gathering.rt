@@ -1,0 +1,255 @@
+//! The evidence for an answer is gathered, and judged once it is whole.
+
+ghost use Rattle.std.specs.Prelude.{◌≡◌, ◌≢◌, ◌+◌, ◌≤◌, ◌↔◌, ℕ, List, IsTrue, length, take, true, Some, None, OnOk, OnErr};
+ghost use Rattle.frames.specs.Answers.{answer_of, length_of};
+ghost use Rattle.dimacs.specs.logic.Cnf.{IsFormula};
+ghost use Rattle.lrat_check.specs.Judging.{AreValuesOf, Judges};
+ghost use Rattle.frames.specs.declared.answer.Answer.TheVariants as answers;
+ghost use Rattle.evidence.specs.Evidence.{ComeNext, IsComplete, with_bytes};
+ghost use Rattle.coordinator_core.specs.Calls.{IsFixed, HasCome, HasFixed, cut_to, lengthened};
+ghost use Rattle.coordinator_core.specs.Coordinator.{DeliversPiece, EndsAssignment, Gathers, IsOfJob, fixing, job_at, with_job};
+ghost use Rattle.coordinator_core.specs.Invariant.{FitsFixed};
+ghost use Rattle.coordinator_core.specs.declared.desks.Fixed.{Fixed};
+ghost use Rattle.coordinator_core.specs.declared.desks.Job.{Job};
+
+use crate::coordinator::Coordinator;
+use crate::desks::{Fixed, Job};
+use frames::{Answer, Attempt, Chunk, WorkerNumber};
+use lrat_check::{Judged, Reaction, judge_values};
+use std::alloc::AllocError;
+
+/// How far the evidence for an answer has come.
+pub(crate) enum Gathered {
+    /// More bytes are to come.
+    Waits,
+    /// A fragment is whole.
+    Fragment,
+    /// An assignment is whole.
+    Assignment,
+}
+
+/// What is fixed of a job, with more bytes of evidence. Want of memory leaves them as they were.
+fn extended(fixed: Option<Fixed>, more: &[u8]) -> (Option<Fixed>, Result<(), AllocError>)
+    ensures ok { OnOk result.1 (result.0 ≡ lengthened fixed more.now) }
+    ensures err { OnErr result.1 (result.0 ≡ fixed) }
+{
+    match fixed {
+        None => (None, Ok(())),
+        Some(mut fixed) => {
+            let grown = fixed.evidence.extend(more);
+            (Some(fixed), grown)
+        }
+    }
+}
+
+/// What is fixed of a job, with the first `count` bytes of its evidence alone.
+fn shortened(fixed: Option<Fixed>, count: usize) -> Option<Fixed>
+    ensures { result ≡ cut_to count fixed }
+{
+    match fixed {
+        None => None,
+        Some(mut fixed) => {
+            fixed.evidence.bytes.truncate(count);
+            Some(fixed)
+        }
+    }
+}
+
+impl Coordinator {
+    /// Whether so many bytes from an offset on come next in the evidence of the attempt's job.
+    fn comes_next(&self, attempt: &Attempt, offset: u32, count: usize) -> bool
+        requires { count ≤ 4000 }
+        ensures { (more : List ℕ) → length more ≡ count → IsTrue result ↔ ((j : Job) × (x : Fixed) × IsOfJob self.now attempt.now offset more j x) }
+    {
+        if !self.is_deciding() || attempt.session != self.session() {
+            return false;
+        }
+        match self.job_of(attempt.worker) {
+            None => false,
+            Some(job) => {
+                job.number == attempt.job && is_next(job, attempt.incarnation, offset, count)
+            }
+        }
+    }
+
+    /// Sets what is fixed of a worker's job.
+    pub(crate) fn fix(&mut self, worker: WorkerNumber, fixed: Option<Fixed>)
+        requires fits { FitsFixed fixed }
+        ensures { (j : Job) → job_at self.old worker ≡ Some j → self.new ≡ with_job self.old worker (Some (record j { fixed = fixed })) }
+    {
+        if let Some(job) = self.take_job(worker) {
+            let Job { number, leaf, .. } = job;
+            self.put_job(
+                worker,
+                Job {
+                    number,
+                    leaf,
+                    fixed,
+                },
+            );
+        }
+    }
+
+    /// Puts bytes to the evidence of a worker's job. Want of memory leaves all as it was.
+    fn extend(&mut self, worker: WorkerNumber, more: &[u8]) -> Result<(), AllocError>
+        requires fits { (j : Job) (x : Fixed) → job_at self.old worker ≡ Some j → j.fixed ≡ Some x → length x.evidence.bytes + length more.now ≤ length_of x.evidence.finding }
+        ensures ok { OnOk result ((j : Job) → job_at self.old worker ≡ Some j → self.new ≡ with_job self.old worker (Some (record j { fixed = lengthened j.fixed more.now }))) }
+        ensures err { OnErr result (self.new ≡ self.old) }
+    {
+        let Some(job) = self.take_job(worker) else {
+            return Ok(());
+        };
+        let Job {
+            number,
+            leaf,
+            fixed,
+        } = job;
+        let (fixed, grown) = extended(fixed, more);
+        self.put_job(
+            worker,
+            Job {
+                number,
+                leaf,
+                fixed,
+            },
+        );
+        grown
+    }
+
+    /// Takes away all but the first bytes of the evidence of a worker's job.
+    fn shorten(&mut self, worker: WorkerNumber, count: usize)
+        ensures { (j : Job) → job_at self.old worker ≡ Some j → self.new ≡ with_job self.old worker (Some (record j { fixed = cut_to count j.fixed })) }
+    {
+        let Some(job) = self.take_job(worker) else {
+            return;
+        };
+        let Job {
+            number,
+            leaf,
+            fixed,
+        } = job;
+        let fixed = shortened(fixed, count);
+        self.put_job(
+            worker,
+            Job {
+                number,
+                leaf,
+                fixed,
+            },
+        );
+    }
+
+    /// A piece of an answer comes.
+    pub(crate) fn deliver_piece(
+        &mut self,
+        attempt: &Attempt,
+        offset: u32,
+        bytes: &Chunk,
+    ) -> Reaction
+        ensures { DeliversPiece self.old attempt.now offset bytes.now result self.new }
+    {
+        if !self.comes_next(attempt, offset, bytes.len()) {
+            return Reaction::Ignored;
+        }
+        if self.extend(attempt.worker, bytes.as_slice()).is_err() {
+            return Reaction::NoMemory;
+        }
+        match self.settle(attempt.worker) {
+            Reaction::NoMemory => {
+                self.shorten(attempt.worker, offset as usize);
+                Reaction::NoMemory
+            }
+            reaction => reaction,
+        }
+    }
+
+    /// How far the evidence of a worker's job has come.
+    fn gathered(&self, worker: WorkerNumber) -> Gathered
+        ensures { (j : Job) (x : Fixed) → IsFixed self.now worker j x → HasCome x result }
+    {
+        match self.job_of(worker) {
+            None => Gathered::Waits,
+            Some(job) => come(job),
+        }
+    }
+
+    /// Judges the evidence of a worker's job, if it is whole.
+    pub(crate) fn settle(&mut self, worker: WorkerNumber) -> Reaction
+        requires { HasFixed self.old worker }
+        ensures { (j : Job) (x : Fixed) → IsFixed self.old worker j x → Gathers self.old worker j x result self.new }
+    {
+        match self.gathered(worker) {
+            Gathered::Waits => Reaction::Taken,
+            Gathered::Fragment => self.end_fragment(worker),
+            Gathered::Assignment => self.end_assignment(worker),
+        }
+    }
+
+    /// Judges the assignment of a worker's job.
+    fn judge_assignment(&self, worker: WorkerNumber) -> Judged
+        ensures judged { (j : Job) (x : Fixed) → IsFixed self.now worker j x → Judges self.now.formula (AreValuesOf self.now.formula x.evidence.bytes) result }
+        ensures formula { IsFormula self.now.formula }
+    {
+        let _ = self.formula.vars();
+        match self.job_of(worker) {
+            None => Judged::NoMemory,
+            Some(job) => match &job.fixed {
+                None => Judged::NoMemory,
+                Some(fixed) => judge_values(
+                    self.alloc(),
+                    self.formula(),
+                    fixed.evidence.bytes.as_slice(),
+                ),
+            },
+        }
+    }
+
+    /// The assignment of a worker's job is whole.
+    fn end_assignment(&mut self, worker: WorkerNumber) -> Reaction
+        requires whole { (j : Job) × (x : Fixed) × IsFixed self.old worker j x × IsComplete x.evidence × (answer_of x.evidence.finding ≡ answers.Assignment) }
+        ensures { (j : Job) (x : Fixed) → IsFixed self.old worker j x → Gathers self.old worker j x result self.new }
+    {
+        match self.judge_assignment(worker) {
+            Judged::Right(verdict) => {
+                self.decide(verdict);
+                Reaction::Verdict
+            }
+            Judged::Wrong => {
+                self.lost(worker);
+                Reaction::Refused(2)
+            }
+            Judged::NoMemory => Reaction::NoMemory,
+        }
+    }
+}
+
+/// Whether so many bytes from an offset on come next in what this incarnation fixed of a job.
+fn is_next(job: &Job, incarnation: u64, offset: u32, count: usize) -> bool
+    requires { count ≤ 4000 }
+    ensures { (more : List ℕ) → length more ≡ count → IsTrue result ↔ ((x : Fixed) × (job.now.fixed ≡ Some x) × (incarnation ≡ x.incarnation) × ComeNext x.evidence offset more) }
+{
+    match &job.fixed {
+        None => false,
+        Some(fixed) => {
+            fixed.incarnation == incarnation && fixed.evidence.comes_next(offset, count)
+        }
+    }
+}
+
+/// How far the evidence of a job has come.
+fn come(job: &Job) -> Gathered
+    ensures { (x : Fixed) → job.now.fixed ≡ Some x → HasCome x result }
+{
+    match &job.fixed {
+        None => Gathered::Waits,
+        Some(fixed) => {
+            if !fixed.evidence.is_complete() {
+                return Gathered::Waits;
+            }
+            match fixed.evidence.finding.answer() {
+                Answer::Refuted => Gathered::Fragment,
+                Answer::Assignment => Gathered::Assignment,
+            }
+        }
+    }
+}

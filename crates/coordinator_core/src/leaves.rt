@@ -1,0 +1,144 @@
+//! The leaves of a tree: the state of each, and the fragments of those that are closed.
+
+ghost use Rattle.std.specs.Prelude.{◌≡◌, ◌≢◌, ℕ, ◌<◌, ◌↔◌, IsTrue, [], length, map, replicate, position, slice_set, slice_index_or, Some, false, IfOk};
+ghost use Rattle.coordinator_core.specs.Coordinator.{AreClosed, is_open};
+ghost use Rattle.coordinator_core.specs.declared.desks.LeafState.TheVariants.{Open, GivenTo, Closed};
+
+use crate::desks::LeafState;
+use frames::WorkerNumber;
+use std::alloc::{AllocError, Global};
+use std::marker::Model;
+use std::mem;
+
+/// Of each leaf of a tree its state and its fragment. Only making it takes memory.
+#[derive(Drop)]
+pub(crate) struct LeafTable {
+    states: Vec<LeafState>,
+    fragments: Vec<Vec<u8>>,
+    // How many are not closed: that all are is asked at each fragment.
+    unclosed: usize,
+    // Before this place none is open, so that looking for one goes over the closed ones in front once.
+    from: usize,
+}
+
+impl Model for LeafTable {
+    ghost use Rattle.std.specs.Prelude.{map};
+    ghost use Rattle.coordinator_core.specs.Tables.{LeafRows, IsLeafTable};
+
+    ghost Value = { LeafRows };
+
+    ghost view = { λ t. record { states = t.states.items; fragments = map (λ v. v.items) t.fragments.items } };
+
+    ghost invariant = { λ t. IsLeafTable t.states.items (map (λ v. v.items) t.fragments.items) t.unclosed t.from };
+}
+
+#[tactic(auto, using(crate::proofs::TableLemmas::rows))]
+fn no_fragments(alloc: Global, count: usize) -> Result<Vec<Vec<u8>>, AllocError>
+    ensures { IfOk result (λ v. map (λ t. t.items) v.items ≡ replicate count []) }
+{
+    let mut fragments = Vec::with_capacity(alloc, count)?;
+    for _ in 0..count {
+        fragments.push(Vec::new(alloc))?;
+    }
+    Ok(fragments)
+}
+
+/// The first place of an open leaf from a place on.
+fn open_from(states: &[LeafState], from: usize) -> Option<usize>
+    requires { (i : ℕ) → i < from → is_open (slice_index_or states.now i Closed) ≡ false }
+    ensures { result ≡ position is_open states.now }
+{
+    for i in from..states.len() {
+        if let LeafState::Open = states[i] {
+            return Some(i);
+        }
+    }
+    None
+}
+
+impl LeafTable {
+    /// So many leaves, all open.
+    pub(crate) fn new(alloc: Global, count: usize) -> Result<LeafTable, AllocError>
+        ensures { IfOk result (λ t. t ≡ record { states = replicate count Open; fragments = replicate count [] }) }
+    {
+        let states = vec![in alloc; LeafState::Open; count]?;
+        let fragments = no_fragments(alloc, count)?;
+        Ok(LeafTable {
+            states,
+            fragments,
+            unclosed: count,
+            from: 0,
+        })
+    }
+
+    /// The place of the leftmost open leaf.
+    pub(crate) fn first_open(&self) -> Option<usize>
+        ensures { result ≡ position is_open self.now.states }
+    {
+        open_from(&self.states, self.from)
+    }
+
+    /// Whether all are closed.
+    pub(crate) fn are_closed(&self) -> bool
+        ensures { IsTrue result ↔ AreClosed self.now.states }
+    {
+        self.unclosed == 0
+    }
+
+    /// The fragments, empty where a leaf is not closed.
+    pub(crate) fn fragments(&self) -> &[Vec<u8>]
+        ensures { map (λ v. v.items) result.now ≡ self.now.fragments }
+    {
+        &self.fragments
+    }
+
+    /// Gives the leftmost open leaf to a worker.
+    pub(crate) fn give(&mut self, leaf: usize, worker: WorkerNumber)
+        requires { position is_open self.old.states ≡ Some leaf }
+        ensures { self.new ≡ record self.old { states = slice_set self.old.states leaf (GivenTo worker) } }
+    {
+        self.states[leaf] = LeafState::GivenTo(worker);
+        self.from = leaf;
+    }
+
+    /// Opens a leaf that is not closed.
+    pub(crate) fn open(&mut self, leaf: usize)
+        requires inside { leaf < length self.old.states }
+        requires unclosed { slice_index_or self.old.states leaf Closed ≢ Closed }
+        ensures { self.new ≡ record self.old { states = slice_set self.old.states leaf Open } }
+    {
+        self.states[leaf] = LeafState::Open;
+        self.from = self.from.min(leaf);
+    }
+
+    /// Closes a leaf that is not closed with a fragment, and answers what stood in its place.
+    #[tactic(auto, using(crate::proofs::TableLemmas::rows))]
+    pub(crate) fn close(&mut self, leaf: usize, fragment: Vec<u8>) -> Vec<u8>
+        requires inside { leaf < length self.old.states }
+        requires unclosed { slice_index_or self.old.states leaf Closed ≢ Closed }
+        ensures now { self.new ≡ record self.old { states = slice_set self.old.states leaf Closed; fragments = slice_set self.old.fragments leaf fragment.items } }
+        ensures before { result.items ≡ slice_index_or self.old.fragments leaf [] }
+    {
+        self.states[leaf] = LeafState::Closed;
+        self.unclosed -= 1;
+        mem::replace(&mut self.fragments[leaf], fragment)
+    }
+
+    /// Gives a closed leaf back to a worker, with what stood in the place of its fragment, which it answers.
+    #[tactic(auto, using(crate::proofs::TableLemmas::rows))]
+    pub(crate) fn give_back(
+        &mut self,
+        leaf: usize,
+        worker: WorkerNumber,
+        before: Vec<u8>,
+    ) -> Vec<u8>
+        requires inside { leaf < length self.old.states }
+        requires closed { slice_index_or self.old.states leaf Open ≡ Closed }
+        ensures now { self.new ≡ record self.old { states = slice_set self.old.states leaf (GivenTo worker); fragments = slice_set self.old.fragments leaf before.items } }
+        ensures fragment { result.items ≡ slice_index_or self.old.fragments leaf [] }
+    {
+        self.states[leaf] = LeafState::GivenTo(worker);
+        self.unclosed += 1;
+        mem::replace(&mut self.fragments[leaf], before)
+    }
+}

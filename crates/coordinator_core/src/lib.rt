@@ -1,0 +1,20 @@
+//! The coordinator: it gives the leaves of a tree to workers, checks what they found, and hands out the verdict.
+//!
+//! What a layer above may rest on: each call is a step of the written rules (`CoordinatorStep`), for whatever frames come, and what is
+//! held is right for the formula. Where memory is refused, a call answers that and leaves all as it was.
+#![tactic(auto)]
+
+mod answering;
+mod closing;
+mod coordinator;
+mod delivering;
+mod desks;
+mod gathering;
+mod laws;
+mod leaves;
+mod polling;
+mod wanting;
+
+pub use coordinator::Coordinator;
+pub use desks::{Fixed, Job, LeafState};
+pub use laws::coordinators_keep_what_they_hold;

@@ -1,0 +1,54 @@
+-- What a worker keeps: what the code needs of its parts between two events.
+use Rattle.std.specs.Prelude.{◌≡◌, ℕ, ◌<◌, ◌≤◌, ◌^◌, List, length, Option, Some, None}
+use Rattle.dimacs.specs.logic.Base.{base_of}
+use Rattle.dimacs.specs.logic.Cnf.{Cnf}
+use Rattle.lrat_check.specs.Stream.{Progress, HasTaken}
+use Rattle.lrat_check.specs.Verdicts.{Right}
+use Rattle.lrat_check.specs.declared.verdict.Verdict.{Verdict}
+use Rattle.frames.specs.Answers.{length_of}
+use Rattle.frames.specs.declared.answer.Answer.{Answer}
+use Rattle.frames.specs.declared.answer.Answer.TheVariants as answers
+use Rattle.evidence.specs.Jobs.{IsInside}
+use Rattle.worker_core.specs.declared.candidate.Candidate.{Candidate}
+use Rattle.worker_core.specs.declared.work.Work.{Work}
+use Rattle.worker_core.specs.declared.work.Work.TheVariants.{Free, Waiting, Limited, Found}
+
+-- so many bytes bear out an answer, and a frame can say so
+abbrev pub IsLength : Cnf → Answer → ℕ → Type 0
+IsLength F answers.Refuted n = (1 ≤ n) × (n < 2 ^ 32)
+IsLength F answers.Assignment n = n ≡ F.vars
+
+-- what is noted is the place of one of so many bytes
+abbrev pub IsNote : Option ℕ → ℕ → Type 0
+IsNote None n = Unit {0}
+IsNote (Some offset) n = offset < n
+
+-- a task that waits is inside the base; of an answer as many bytes are kept as bear it out
+abbrev pub IsWork : Cnf → Work → Type 0
+IsWork F Free = Unit {0}
+IsWork F (Waiting name cube limit) = IsInside (base_of F) cube
+IsWork F (Limited name) = Unit {0}
+IsWork F (Found name answer bytes noted) = IsLength F answer (length bytes) × IsNote noted (length bytes)
+
+-- the bytes of a candidate are within what was announced
+abbrev pub IsCandidate : Option Candidate → Type 0
+IsCandidate None = Unit {0}
+IsCandidate (Some c) = length c.evidence.bytes ≤ length_of c.evidence.finding
+
+-- a stream, if there is one, has taken these bytes
+abbrev pub Follows : Cnf → Option Progress → List ℕ → Type 0
+Follows F None bytes = Unit {0}
+Follows F (Some stream) bytes = HasTaken F stream bytes
+
+-- it has taken those of the candidate; where there is none, there is no stream
+abbrev pub FollowsCandidate : Cnf → Option Progress → Option Candidate → Type 0
+FollowsCandidate F stream None = stream ≡ None
+FollowsCandidate F stream (Some c) = Follows F stream c.evidence.bytes
+
+-- the base is that of the formula, the verdict is right, and each part is in order
+pub record IsWorker (F base : Cnf) (work : Work) (candidate : Option Candidate) (stream : Option Progress) (verdict : Verdict) : Type 0 where
+  pub base_is : base ≡ base_of F
+  pub right : Right F verdict
+  pub work_is : IsWork F work
+  pub candidate_is : IsCandidate candidate
+  pub follows : FollowsCandidate F stream candidate

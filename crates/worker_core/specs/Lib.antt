@@ -1,0 +1,4 @@
+pub mod Worker
+pub mod Invariant
+pub mod Collecting
+pub mod Laws

@@ -1,0 +1,192 @@
+//! Collecting a candidate's bytes, and judging it once all are there.
+
+ghost use Rattle.std.specs.Prelude.{◌≡◌, ◌≤◌, ◌⊎◌, ◌++◌, ◌↔◌, ℕ, List, length, IsTrue, IfOk, OnOk, Ok, Err};
+ghost use Rattle.dimacs.specs.logic.Cnf.{Cnf};
+ghost use Rattle.lrat_text.specs.Proof.{Accepts};
+ghost use Rattle.lrat_check.specs.Checking.{no_memory};
+ghost use Rattle.frames.specs.Answers.{answer_of};
+ghost use Rattle.frames.specs.declared.answer.Answer.TheVariants as answers;
+ghost use Rattle.evidence.specs.Evidence.{IsComplete};
+ghost use Rattle.worker_core.specs.Collecting.{Becomes, IfNoMemory, IsPartOf, longer};
+ghost use Rattle.worker_core.specs.Invariant.{Follows};
+
+use crate::candidate::Candidate;
+use dimacs::Formula;
+use evidence::Evidence;
+use frames::Answer;
+use lrat_check::{CheckFault, Judged, ProofText, StreamChecker, Verdict, check, judge_values};
+use lrat_text::reading_is_spelling;
+use std::alloc::{AllocError, Global};
+
+/// What a candidate has become with more bytes. Beside one that is kept stands the stream that has taken its bytes, if there is one.
+#[derive(Drop)]
+pub enum Collected {
+    /// More bytes are to come.
+    Waits(Candidate, Option<StreamChecker>),
+    /// All are there, and bear out this verdict, which is right.
+    Right(Verdict),
+    /// All are there, and bear out none that is right.
+    Wrong,
+    /// A growth was refused; the candidate is as it was.
+    NoMemory(Candidate, Option<StreamChecker>),
+}
+
+/// Whether so many bytes of a part come next in a candidate.
+pub(crate) fn is_next(
+    candidate: &Candidate,
+    session: u64,
+    part: Answer,
+    offset: u32,
+    count: usize,
+) -> bool
+    requires { count ≤ 4000 }
+    ensures { (more : List ℕ) → length more ≡ count → IsTrue result ↔ IsPartOf candidate.now session part offset more }
+{
+    candidate.session == session
+        && candidate.evidence.finding.answer() == part
+        && candidate.evidence.comes_next(offset, count)
+}
+
+/// Puts more bytes behind those of a candidate, and judges it once all are there.
+///
+/// A refutation is checked while it comes, by a stream that is made at its first bytes. Where the stream finds no memory it is given
+/// up, and the whole text is checked from its beginning when all of it is there.
+pub(crate) fn collect(
+    alloc: Global,
+    formula: &Formula,
+    candidate: Candidate,
+    stream: Option<StreamChecker>,
+    more: &[u8],
+) -> Collected
+    requires { Follows formula.now stream candidate.evidence.bytes }
+    ensures { Becomes formula.now candidate (longer candidate more.now) result }
+{
+    let Ok(stream) = begun(alloc, formula, &candidate, stream) else {
+        return Collected::NoMemory(candidate, None);
+    };
+    let mut candidate = candidate;
+    let before = candidate.evidence.bytes.len();
+    let Ok(()) = candidate.evidence.extend(more) else {
+        return Collected::NoMemory(candidate, stream);
+    };
+    let Ok(stream) = fed(stream, more) else {
+        candidate.evidence.bytes.truncate(before);
+        return Collected::NoMemory(candidate, None);
+    };
+    match judge(alloc, formula, candidate, stream) {
+        Collected::NoMemory(longer, _) => {
+            let mut candidate = longer;
+            candidate.evidence.bytes.truncate(before);
+            Collected::NoMemory(candidate, None)
+        }
+        collected => collected,
+    }
+}
+
+/// The stream of a candidate that is to get more bytes. It is made at the first bytes of a refutation, which copies the formula.
+fn begun(
+    alloc: Global,
+    formula: &Formula,
+    candidate: &Candidate,
+    stream: Option<StreamChecker>,
+) -> Result<Option<StreamChecker>, AllocError>
+    requires { Follows formula.now stream candidate.now.evidence.bytes }
+    ensures { IfOk result (λ s. Follows formula.now s candidate.now.evidence.bytes) }
+{
+    if stream.is_none()
+        && candidate.evidence.bytes.len() == 0
+        && candidate.evidence.finding.answer() == Answer::Refuted
+    {
+        return Ok(Some(StreamChecker::new(alloc, formula)?));
+    }
+    Ok(stream)
+}
+
+/// The stream with more bytes. A fault of the text stays in it.
+fn fed(stream: Option<StreamChecker>, more: &[u8]) -> Result<Option<StreamChecker>, AllocError>
+    ensures { (F : Cnf) (bytes : List ℕ) → Follows F stream bytes → IfOk result (λ s. Follows F s (bytes ++ more.now)) }
+{
+    let Some(stream) = stream else {
+        return Ok(None);
+    };
+    let mut stream = stream;
+    match stream.feed(more) {
+        Err(fault) if fault.is_no_memory() => Err(AllocError),
+        _ => Ok(Some(stream)),
+    }
+}
+
+/// Judges a candidate once all its bytes are there.
+pub(crate) fn judge(
+    alloc: Global,
+    formula: &Formula,
+    candidate: Candidate,
+    stream: Option<StreamChecker>,
+) -> Collected
+    requires { Follows formula.now stream candidate.evidence.bytes }
+    ensures found { Becomes formula.now candidate candidate result }
+    ensures complete { IfNoMemory result (IsComplete candidate.evidence) }
+{
+    if !candidate.evidence.is_complete() {
+        return Collected::Waits(candidate, stream);
+    }
+    match candidate.evidence.finding.answer() {
+        Answer::Refuted => judge_text(alloc, formula, candidate, stream),
+        Answer::Assignment => judge_assignment(alloc, formula, candidate),
+    }
+}
+
+/// Judges the whole text of a refutation. A right one's bytes become the verdict's.
+fn judge_text(
+    alloc: Global,
+    formula: &Formula,
+    candidate: Candidate,
+    stream: Option<StreamChecker>,
+) -> Collected
+    requires complete { IsComplete candidate.evidence }
+    requires refuted { answer_of candidate.evidence.finding ≡ answers.Refuted }
+    requires follows { Follows formula.now stream candidate.evidence.bytes }
+    ensures { Becomes formula.now candidate candidate result }
+{
+    match check_whole(alloc, formula, stream, candidate.evidence.bytes.as_slice()) {
+        Ok(()) => {
+            let Candidate { evidence, .. } = candidate;
+            let Evidence { bytes, .. } = evidence;
+            Collected::Right(Verdict::Proof(ProofText::from_vec(bytes.into_vec())))
+        }
+        Err(fault) if fault.is_no_memory() => Collected::NoMemory(candidate, None),
+        Err(_) => Collected::Wrong,
+    }
+}
+
+/// Checks a whole text: by the stream that has taken it, or from its beginning where there is none.
+fn check_whole(
+    alloc: Global,
+    formula: &Formula,
+    stream: Option<StreamChecker>,
+    text: &[u8],
+) -> Result<(), CheckFault>
+    requires { Follows formula.now stream text.now }
+    ensures accepted { OnOk result (Accepts formula.now text.now) }
+    ensures complete { Accepts formula.now text.now → (result ≡ Ok tt) ⊎ (result ≡ Err no_memory) }
+{
+    let Some(stream) = stream else {
+        return check(alloc, formula, text);
+    };
+    // The law by which what was read is what the text spells; there is nothing to run.
+    reading_is_spelling();
+    stream.finish()
+}
+
+/// Judges all the bytes of an assignment.
+fn judge_assignment(alloc: Global, formula: &Formula, candidate: Candidate) -> Collected
+    requires complete { IsComplete candidate.evidence }
+    requires assignment { answer_of candidate.evidence.finding ≡ answers.Assignment }
+    ensures { Becomes formula.now candidate candidate result }
+{
+    match judge_values(alloc, formula, candidate.evidence.bytes.as_slice()) {
+        Judged::Right(verdict) => Collected::Right(verdict),
+        Judged::Wrong => Collected::Wrong,
+        Judged::NoMemory => Collected::NoMemory(candidate, None),
+    }
+}

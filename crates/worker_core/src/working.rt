@@ -1,0 +1,78 @@
+//! Work: the search under a task's cube.
+
+ghost use Rattle.std.specs.Prelude.{◌≡◌, map, take, IfOk};
+ghost use Rattle.lrat_check.specs.Judging.{value_byte};
+ghost use Rattle.evidence.specs.Events.{Worked, Reacted};
+ghost use Rattle.worker_core.specs.Worker.{WorkerStep, kept};
+
+use crate::work::Work;
+use crate::worker::Worker;
+use cube_solve::{Outcome, solve};
+use evidence::{Bytes, JobName};
+use frames::Answer;
+use lrat_check::Reaction;
+use std::alloc::{AllocError, Global};
+
+/// The first length that no frame can tell.
+const TOO_LONG: usize = 1 << 32;
+
+impl Worker {
+    /// It is to work: a task that waits is searched to its end, or to its limit.
+    pub fn work(&mut self) -> Reaction
+        ensures step { WorkerStep self.old Worked (Reacted result) self.new }
+    {
+        let Work::Waiting { name, cube, limit } = &self.work else {
+            return Reaction::Ignored;
+        };
+        let name = *name;
+        let Ok(end) = solve(self.alloc, &self.base, cube.as_slice(), *limit) else {
+            return Reaction::NoMemory;
+        };
+        let Ok(work) = keep(self.alloc, name, self.formula.vars(), end) else {
+            return Reaction::NoMemory;
+        };
+        self.work = work;
+        Reaction::Finished
+    }
+}
+
+/// What is kept of the end of a search over so many variables.
+fn keep(alloc: Global, name: JobName, vars: u32, end: Outcome) -> Result<Work, AllocError>
+    ensures { IfOk result (λ work. work ≡ kept name vars end) }
+{
+    match end {
+        Outcome::Model(values) => {
+            let bytes = value_bytes(alloc, vars, values.values())?;
+            Ok(Work::Found {
+                name,
+                answer: Answer::Assignment,
+                bytes: Bytes::from_vec(bytes),
+                noted: None,
+            })
+        }
+        Outcome::Refuted(text) => {
+            if text.len() < TOO_LONG {
+                Ok(Work::Found {
+                    name,
+                    answer: Answer::Refuted,
+                    bytes: Bytes::from_vec(text),
+                    noted: None,
+                })
+            } else {
+                Ok(Work::Limited { name })
+            }
+        }
+        Outcome::Limit(_) => Ok(Work::Limited { name }),
+    }
+}
+
+/// The bytes of the first values, one for each variable.
+fn value_bytes(alloc: Global, vars: u32, values: &[bool]) -> Result<Vec<u8>, AllocError>
+    ensures { IfOk result (λ bytes. bytes.items ≡ map value_byte (take vars values.now)) }
+{
+    values
+        .iter()
+        .take(vars as usize)
+        .map(|value| if *value { 1 } else { 0 })
+        .collect(alloc)
+}
