@@ -1,0 +1,15 @@
+pub mod Told
+pub mod Fronts
+pub mod Places
+pub mod Saying
+pub mod WorkerLemmas
+pub mod WorkLemmas
+pub mod Desks
+pub mod GatheringLemmas
+pub mod PollingLemmas
+pub mod EventLemmas
+pub mod EndingLemmas
+pub mod Moments
+pub mod HoldingLemmas
+pub mod ExampleLemmas
+pub mod ClosedRuns

@@ -1,0 +1,181 @@
+-- What was said once and for all in a closed schedule: a job's name fixes its cube, an attempt at a job fixes one reply,
+-- a session fixes one verdict. Frames and nodes say nothing else. Nobody has to read this to believe the laws.
+use Rattle.std.specs.Prelude.{◌≡◌, ◌≢◌, ℕ, suc, ◌-◌, ◌<◌, ◌≤◌, List, ◌++◌, length, Contains, All, Option, Some, None, slice_get, slice_index_or, ◌⊎◌}
+use Rattle.dimacs.specs.logic.Base.{base_of}
+use Rattle.dimacs.specs.logic.Cnf.{Cnf}
+use Rattle.icnf.specs.Leaves.{Cube}
+use Rattle.lrat_text.specs.Log.{Closes}
+use Rattle.lrat_check.specs.Verdicts.{Right}
+use Rattle.lrat_check.specs.declared.verdict.Verdict.{Verdict}
+use Rattle.lrat_check.specs.declared.verdict.Verdict.TheVariants.{Nothing}
+use Rattle.frames.specs.declared.answer.Answer.{Answer}
+use Rattle.frames.specs.declared.answer.Answer.TheVariants as answers
+use Rattle.frames.specs.declared.answer.Outcome.{Outcome}
+use Rattle.frames.specs.declared.answer.Outcome.TheVariants as told
+use Rattle.frames.specs.declared.frame.Attempt.{Attempt}
+use Rattle.frames.specs.declared.frame.Frame.{Frame}
+use Rattle.frames.specs.declared.frame.Frame.TheVariants.{Task, Done, Fetch, Piece, Verdict as VerdictFrame, Want, Part, Idle, Rest}
+use Rattle.evidence.specs.Evidence.{finding_of, answer_in, bytes_in, finding_in, IsRightEvidence}
+use Rattle.evidence.specs.declared.evidence.Evidence.{Evidence}
+use Rattle.evidence.specs.Jobs.{name_of, attempt_at, IsBefore, IsInside}
+use Rattle.evidence.specs.declared.job.JobName.{JobName}
+use Rattle.worker_core.specs.Worker.{WorkerState, own_attempt}
+use Rattle.worker_core.specs.declared.work.Work.{Work}
+use Rattle.worker_core.specs.declared.work.Work.TheVariants.{Free, Waiting, Limited, Found}
+use Rattle.worker_core.specs.declared.candidate.Candidate.{Candidate}
+use Rattle.coordinator_core.specs.Coordinator.{CoordinatorState, job_name, cube_at}
+use Rattle.coordinator_core.specs.declared.desks.Fixed.{Fixed}
+use Rattle.coordinator_core.specs.declared.desks.Job.{Job}
+use Rattle.coordinator_core.specs.declared.desks.LeafState.TheVariants.{GivenTo}
+use Rattle.coordinator_core.specs.Invariant.{IsCoordinator}
+use Rattle.closed_schedules.specs.ClosedSchedule.{ClosedState}
+use Rattle.closed_schedules.specs.ClosedLaws.{StandsIn}
+
+-- a job of this name has this cube
+pub record Asked : Type 0 where
+  pub name : JobName
+  pub cube : Cube
+
+-- how a search ended: at its limit, or with evidence
+pub data Reply : Type 0 where
+  Met : Reply
+  Shown : Answer → List ℕ → Reply
+
+-- this attempt ended so
+pub record Answered : Type 0 where
+  pub attempt : Attempt
+  pub reply : Reply
+
+-- the coordinator of this session holds this verdict
+pub record Decision : Type 0 where
+  pub session : ℕ
+  pub verdict : Verdict
+
+pub record Told : Type 0 where
+  pub asked : List Asked
+  pub answered : List Answered
+  pub decided : List Decision
+
+abbrev pub asks : JobName → Cube → Asked
+asks name cube = record { name = name; cube = cube }
+
+abbrev pub answers_so : Attempt → Reply → Answered
+answers_so attempt reply = record { attempt = attempt; reply = reply }
+
+abbrev pub decides : ℕ → Verdict → Decision
+decides session v = record { session = session; verdict = v }
+
+-- how a frame tells of a reply
+abbrev pub outcome_of : Reply → Outcome
+outcome_of Met = told.Limit
+outcome_of (Shown answer bytes) = told.Decided (finding_of answer (length bytes))
+
+-- the bytes are the beginning of all
+pub record IsFront (bytes all : List ℕ) : Type 0 where
+  pub rest : List ℕ
+  pub whole : all ≡ bytes ++ rest
+
+-- what a frame says is true
+abbrev pub IsTold : Told → ℕ → Frame → Type 0
+IsTold T limit (Task session job bound cube) = (bound ≡ limit) × Contains T.asked (asks (record { session = session; job = job }) cube)
+IsTold T limit (Done attempt outcome) = (reply : Reply) × Contains T.answered (answers_so attempt reply) × (outcome ≡ outcome_of reply)
+IsTold T limit (Fetch attempt offset) = (answer : Answer) × (bytes : List ℕ) × Contains T.answered (answers_so attempt (Shown answer bytes))
+IsTold T limit (Piece attempt offset bytes) = (answer : Answer) × (all : List ℕ) × Contains T.answered (answers_so attempt (Shown answer all)) × StandsIn all offset bytes
+IsTold T limit (VerdictFrame session finding) = (v : Verdict) × Contains T.decided (decides session v) × (finding ≡ finding_in v)
+IsTold T limit (Part session answer offset bytes) = (v : Verdict) × Contains T.decided (decides session v) × (answer ≡ answer_in v) × StandsIn (bytes_in v) offset bytes
+IsTold T limit (Want session worker offset) = Unit {0}
+IsTold T limit (Idle worker incarnation) = Unit {0}
+IsTold T limit Rest = Unit {0}
+
+-- a reply is true: a fragment closes the cube of its job, an assignment satisfies the formula
+abbrev pub IsTrueReply : Cnf → List Asked → JobName → Reply → Type 0
+IsTrueReply F asked name Met = Unit {0}
+IsTrueReply F asked name (Shown answers.Refuted bytes) = (cube : Cube) × Contains asked (asks name cube) × Closes (base_of F) cube bytes
+IsTrueReply F asked name (Shown answers.Assignment bytes) = (v : Verdict) × IsRightEvidence F answers.Assignment bytes v
+
+-- names fix cubes, attempts fix replies, sessions fix verdicts, and all of these are true
+pub record IsSettled (F : Cnf) (T : Told) : Type 0 where
+  pub one_cube : (name : JobName) (p q : Cube) → Contains T.asked (asks name p) → Contains T.asked (asks name q) → p ≡ q
+  pub inside : (name : JobName) (q : Cube) → Contains T.asked (asks name q) → IsInside (base_of F) q
+  pub one_reply : (attempt : Attempt) (r s : Reply) → Contains T.answered (answers_so attempt r) → Contains T.answered (answers_so attempt s) → r ≡ s
+  pub true_reply : (attempt : Attempt) (r : Reply) → Contains T.answered (answers_so attempt r) → IsTrueReply F T.asked (name_of attempt) r
+  pub one_verdict : (session : ℕ) (v w : Verdict) → Contains T.decided (decides session v) → Contains T.decided (decides session w) → v ≡ w
+  pub decision : (session : ℕ) (v : Verdict) → Contains T.decided (decides session v) → v ≢ Nothing
+  pub right : (session : ℕ) (v : Verdict) → Contains T.decided (decides session v) → Right F v
+
+-- the evidence so far is a front of what was told
+pub record IsFrontOf (e : Evidence) (answer : Answer) (all : List ℕ) : Type 0 where
+  pub finding : e.finding ≡ finding_of answer (length all)
+  pub front : IsFront e.bytes all
+
+-- a noted offset is one of a byte
+abbrev pub IsNote : Option ℕ → List ℕ → Type 0
+IsNote noted bytes = (offset : ℕ) → noted ≡ Some offset → offset < length bytes
+
+-- what a worker has to do was asked, and what it has to tell was told by itself, of the last task that it took
+abbrev pub IsHonestWork : Told → WorkerState → Work → Type 0
+IsHonestWork T w Free = Unit {0}
+IsHonestWork T w (Waiting name cube limit) = (w.last ≡ Some name) × Contains T.asked (asks name cube)
+IsHonestWork T w (Limited name) = (w.last ≡ Some name) × Contains T.answered (answers_so (own_attempt w name) Met)
+IsHonestWork T w (Found name answer bytes noted) =
+    (w.last ≡ Some name) × Contains T.answered (answers_so (own_attempt w name) (Shown answer bytes)) × IsNote noted bytes
+
+-- a job of this name is behind the worker: it was before the last one, or is the last one and does not wait
+abbrev pub IsPassed : Option JobName → JobName → Type 0
+IsPassed last name = (l : JobName) × (last ≡ Some l) × (IsBefore name l ⊎ (name ≡ l))
+
+abbrev pub IsBehind : WorkerState → Work → JobName → Type 0
+IsBehind w Free name = IsPassed w.last name
+IsBehind w (Waiting waits cube limit) name = IsBefore name waits
+IsBehind w (Limited last) name = IsPassed w.last name
+IsBehind w (Found last answer bytes noted) name = IsPassed w.last name
+
+-- what holds of a worker
+pub record IsHonestWorker (T : Told) (w : WorkerState) : Type 0 where
+  pub work : IsHonestWork T w w.work
+  pub behind : (name : JobName) (r : Reply) → Contains T.answered (answers_so (own_attempt w name) r) → IsBehind w w.work name
+  pub candidate : (c : Candidate) → w.candidate ≡ Some c → (v : Verdict) × Contains T.decided (decides c.session v) × IsFrontOf c.evidence (answer_in v) (bytes_in v)
+  pub right : Right w.formula w.verdict
+
+-- a job was asked, its leaf is given to its worker, and what is fixed of it is what that worker told
+pub record IsHonestJob (T : Told) (c : CoordinatorState) (worker : ℕ) (j : Job) : Type 0 where
+  pub asked : Contains T.asked (asks (job_name c j) (cube_at c j.leaf))
+  pub given : slice_get c.leaves j.leaf ≡ Some (GivenTo worker)
+  pub fixed : (x : Fixed) → j.fixed ≡ Some x → (answer : Answer) × (all : List ℕ)
+      × Contains T.answered (answers_so (attempt_at (job_name c j) worker x.incarnation) (Shown answer all)) × IsFrontOf x.evidence answer all
+
+-- the desk of a worker, from worker 1 on
+abbrev pub desk_of : CoordinatorState → ℕ → Option Job
+desk_of c worker = slice_index_or c.jobs (worker - 1) None
+
+-- what holds of a coordinator under closed schedules
+pub record IsHonestCoordinator (T : Told) (c : CoordinatorState) : Type 0 where
+  pub jobs : (worker : ℕ) (j : Job) → 1 ≤ worker → desk_of c worker ≡ Some j → IsHonestJob T c worker j
+  pub next : (name : JobName) (q : Cube) → Contains T.asked (asks name q) → name.session ≡ c.session → name.job < c.next
+  pub decided : c.verdict ≢ Nothing → Contains T.decided (decides c.session c.verdict)
+  pub undecided : (v : Verdict) → Contains T.decided (decides c.session v) → c.verdict ≢ Nothing
+
+-- all numbers that were told are used
+pub record AreUsed (T : Told) (used : List ℕ) : Type 0 where
+  pub asked : (name : JobName) (q : Cube) → Contains T.asked (asks name q) → Contains used name.session
+  pub answered : (attempt : Attempt) (r : Reply) → Contains T.answered (answers_so attempt r) → Contains used attempt.incarnation
+  pub decided : (session : ℕ) (v : Verdict) → Contains T.decided (decides session v) → Contains used session
+
+-- a worker of a closed cluster
+pub record IsMember (F : Cnf) (T : Told) (used : List ℕ) (place : ℕ) (w : WorkerState) : Type 0 where
+  pub formula : w.formula ≡ F
+  pub number : w.number ≡ suc place
+  pub known : Contains used w.incarnation
+  pub honest : IsHonestWorker T w
+
+-- what holds of a closed cluster of a formula, with what was told so far
+pub record IsHonestCluster (F : Cnf) (limit : ℕ) (T : Told) (s : ClosedState) : Type 0 where
+  pub settled : IsSettled F T
+  pub formula : s.coordinator.formula ≡ F
+  pub limit_is : s.coordinator.limit ≡ limit
+  pub session : Contains s.used s.coordinator.session
+  pub coordinator : IsCoordinator s.coordinator
+  pub honest : IsHonestCoordinator T s.coordinator
+  pub workers : (i : ℕ) (w : WorkerState) → slice_get s.workers i ≡ Some w → IsMember F T s.used i w
+  pub frames : All (IsTold T limit) s.frames
+  pub used : AreUsed T s.used

@@ -1,0 +1,236 @@
+-- A worker that works or is polled under closed schedules.
+use Rattle.std.proofs.Common.{◌≡◌, ℕ, ◌+◌, ◌^◌, nat_lt, Bool, true, false, List, [], ◌∷◌, ◌++◌, length, map, take, Contains, Option, Some, None, refl, subst, sym, ap, ◌∙◌, ◌⊎◌, inl, inr, arith}
+use Rattle.std.specs.Prelude.{if◌then◌else◌}
+use Rattle.std.proofs.lemmas.List.{take_all, get_or_append_left, length-append}
+use Rattle.std.proofs.lemmas.List.Elements.{Contains-push, Contains-push_cases}
+use Rattle.dimacs.specs.logic.Base.{base_of, pure_literals}
+use Rattle.dimacs.specs.logic.Cnf.{Cnf, Sat, assignment_of}
+use Rattle.dimacs.specs.logic.Literal.{Clause, IsTrueIn}
+use Rattle.cube_solve.specs.Outcome.{IsModel}
+use Rattle.cube_solve.specs.declared.outcome.Outcome.{Outcome}
+use Rattle.cube_solve.specs.declared.outcome.Outcome.TheVariants as outcome
+use Rattle.icnf.specs.Leaves.{Cube}
+use Rattle.lrat_check.specs.Verdicts.{Right}
+use Rattle.lrat_check.specs.declared.verdict.Verdict.TheVariants.{Model}
+use Rattle.lrat_check.specs.declared.verdict.Reaction.{Reaction}
+use Rattle.frames.specs.declared.answer.Answer.TheVariants as answers
+use Rattle.frames.specs.declared.frame.Attempt.{Attempt}
+use Rattle.lrat_check.specs.Judging.{value_byte}
+use Rattle.evidence.specs.Evidence.{IsRightEvidence}
+use Rattle.evidence.specs.Jobs.{name_of}
+use Rattle.evidence.specs.Events.{chunk}
+use Rattle.evidence.specs.declared.job.JobName.{JobName}
+use Rattle.worker_core.specs.Worker.{WorkerState, WorkerWorks, MayEnd, kept, own_attempt, work_frame, candidate_frame, noted_frame, worker_frame, without_note, worker_after}
+use Rattle.worker_core.specs.declared.work.Work.{Work}
+use Rattle.worker_core.specs.declared.work.Work.TheVariants.{Free, Waiting, Limited, Found}
+use Rattle.worker_core.specs.declared.candidate.Candidate.{Candidate}
+use Rattle.closed_schedules.proofs.Told.{Told, Asked, Answered, Decision, Reply, Met, Shown, IsTold, IsTrueReply, IsSettled, IsHonestWork, IsHonestWorker, IsBehind, IsPassed, IsNote, asks, answers_so}
+use Rattle.evidence.proofs.EvidenceLemmas.{bears_out}
+use Rattle.closed_schedules.proofs.Fronts.{chunk_stands}
+use Rattle.closed_schedules.proofs.Saying.{plain_by, IsMore, as_much, answering, answering_more, not_before_itself}
+use Rattle.closed_schedules.proofs.WorkerLemmas.{IsFine, stays}
+
+-- all that was told beside was told by this worker, and is a reply
+pub record OwnReplies (T : Told) (w : WorkerState) (U : Told) : Type 0 where
+  pub more : IsMore T U
+  pub asked : (a : Asked) → Contains U.asked a → Contains T.asked a
+  pub decided : (d : Decision) → Contains U.decided d → Contains T.decided d
+  pub own : (attempt : Attempt) (r : Reply) → Contains U.answered (answers_so attempt r)
+      → Contains T.answered (answers_so attempt r) ⊎ ((attempt.worker ≡ w.number) × (attempt.incarnation ≡ w.incarnation))
+
+-- what is kept of an end, as a reply
+abbrev reply_of : ℕ → Outcome → Reply
+reply_of vars (outcome.Model values) = Shown answers.Assignment (map value_byte (take vars values))
+reply_of vars (outcome.Refuted text) = if nat_lt (length text.items) (2 ^ 32) then Shown answers.Refuted text.items else Met
+reply_of vars (outcome.Limit text) = Met
+
+abbrev work_for : JobName → Reply → Work
+work_for name Met = Limited name
+work_for name (Shown answer bytes) = Found name answer bytes None
+
+kept_is : (name : JobName) (vars : ℕ) (end : Outcome) → kept name vars end ≡ work_for name (reply_of vars end)
+kept_is name vars (outcome.Model values) = refl
+kept_is name vars (outcome.Refuted text) = go (nat_lt (length text.items) (2 ^ 32))
+  where
+    go : (b : Bool) → (if b then Found name answers.Refuted text.items None else Limited name) ≡ work_for name (if b then Shown answers.Refuted text.items else Met)
+    go true = refl
+    go false = refl
+kept_is name vars (outcome.Limit text) = refl
+
+-- what satisfies the base satisfies the formula
+base_sat : (F : Cnf) (a : ℕ → Bool) → Sat a (base_of F) → Sat a F
+base_sat F a sat k d inside =
+    let units : List Clause = map (λ l. l ∷ []) (pure_literals F) in
+    let long : length (F.clauses ++ units) ≡ length F.clauses + length units = length-append F.clauses units in
+    subst (IsTrueIn a) (get_or_append_left F.clauses units d k inside) (sat k d (omega arith))
+
+model_true : (F : Cnf) (cube : Cube) (values : List Bool) → IsModel (base_of F) cube values → IsRightEvidence F answers.Assignment (map value_byte (take F.vars values)) (Model (take F.vars values))
+model_true F cube values model =
+    let all : take F.vars values ≡ values = take_all F.vars values (omega (arith, model.whole)) in
+    bears_out F answers.Assignment (map value_byte (take F.vars values)) (Model (take F.vars values))
+    (record { some = λ e. cc; answer_is = refl; bytes_are = refl })
+    (subst (λ (k : List Bool). Right F (Model k)) (sym all) (model.whole, base_sat F (assignment_of values) model.base))
+
+reply_true : (F : Cnf) (asked : List Asked) (name : JobName) (cube : Cube) (limit : ℕ) (end : Outcome) → Contains asked (asks name cube) → MayEnd (base_of F) cube limit end
+    → IsTrueReply F asked name (reply_of F.vars end)
+reply_true F asked name cube limit (outcome.Model values) known ends = (Model (take F.vars values), model_true F cube values ends)
+reply_true F asked name cube limit (outcome.Refuted text) known ends = go (nat_lt (length text.items) (2 ^ 32))
+  where
+    go : (b : Bool) → IsTrueReply F asked name (if b then Shown answers.Refuted text.items else Met)
+    go true = (cube, known, ends.0)
+    go false = tt
+reply_true F asked name cube limit (outcome.Limit text) known ends = tt
+
+same_answered : (a b : Attempt) (r s : Reply) → answers_so a r ≡ answers_so b s → (a ≡ b) × (r ≡ s)
+same_answered a b r s e = (ap (λ k. k.attempt) e, ap (λ k. k.reply) e)
+
+-- a worker that waits has not told of its task yet
+not_told : (T : Told) (w : WorkerState) (name : JobName) (cube : Cube) (limit : ℕ) (attempt : Attempt) (r : Reply) → IsHonestWorker T w → w.work ≡ Waiting name cube limit
+    → Contains T.answered (answers_so attempt r) → own_attempt w name ≡ attempt → ⊥
+not_told T w name cube limit attempt r honest waits told same =
+    let own : Contains T.answered (answers_so (own_attempt w name) r) = subst (λ (a : Attempt). Contains T.answered (answers_so a r)) (sym same) told in
+    not_before_itself name (subst (λ (k : Work). IsBehind w k name) waits (honest.behind name r own))
+
+settled_answering : (T : Told) (w : WorkerState) (name : JobName) (cube : Cube) (limit : ℕ) (reply : Reply) → IsSettled w.formula T → IsHonestWorker T w → w.work ≡ Waiting name cube limit
+    → IsTrueReply w.formula T.asked name reply → IsSettled w.formula (answering T (answers_so (own_attempt w name) reply))
+settled_answering T w name cube limit reply settled honest waits is_true = record {
+  one_cube = settled.one_cube;
+  inside = settled.inside;
+  one_reply = λ attempt r s hr hs. one attempt r s (Contains-push_cases T.answered _ _ hr) (Contains-push_cases T.answered _ _ hs);
+  true_reply = λ attempt r h. all_true attempt r (Contains-push_cases T.answered _ _ h);
+  one_verdict = settled.one_verdict;
+  decision = settled.decision;
+  right = settled.right;
+}
+  where
+    one : (attempt : Attempt) (r s : Reply)
+        → Contains T.answered (answers_so attempt r) ⊎ (answers_so (own_attempt w name) reply ≡ answers_so attempt r)
+        → Contains T.answered (answers_so attempt s) ⊎ (answers_so (own_attempt w name) reply ≡ answers_so attempt s) → r ≡ s
+    one attempt r s (inl p) (inl q) = settled.one_reply attempt r s p q
+    one attempt r s (inl p) (inr q) = absurd (not_told T w name cube limit attempt r honest waits p (same_answered _ _ _ _ q).0)
+    one attempt r s (inr p) (inl q) = absurd (not_told T w name cube limit attempt s honest waits q (same_answered _ _ _ _ p).0)
+    one attempt r s (inr p) (inr q) = sym (same_answered _ _ _ _ p).1 ∙ (same_answered _ _ _ _ q).1
+
+    all_true : (attempt : Attempt) (r : Reply)
+        → Contains T.answered (answers_so attempt r) ⊎ (answers_so (own_attempt w name) reply ≡ answers_so attempt r) → IsTrueReply w.formula T.asked (name_of attempt) r
+    all_true attempt r (inl p) = settled.true_reply attempt r p
+    all_true attempt r (inr p) =
+        let at : own_attempt w name ≡ attempt = (same_answered _ _ _ _ p).0 in
+        let same : reply ≡ r = (same_answered _ _ _ _ p).1 in
+        let named : IsTrueReply w.formula T.asked (name_of attempt) reply = subst (λ (a : Attempt). IsTrueReply w.formula T.asked (name_of a) reply) at is_true in
+        subst (IsTrueReply w.formula T.asked (name_of attempt)) same named
+
+none_noted : (bytes : List ℕ) → IsNote None bytes
+none_noted bytes = λ o e. cc
+
+-- it has told of its task, and keeps the reply
+honest_answering : (T : Told) (w : WorkerState) (name : JobName) (cube : Cube) (limit : ℕ) (reply : Reply) → IsHonestWorker T w → w.work ≡ Waiting name cube limit
+    → IsHonestWorker (answering T (answers_so (own_attempt w name) reply)) (record w { work = work_for name reply })
+honest_answering T w name cube limit reply honest waits = record {
+  work = keeps reply;
+  behind = λ n r h. is_behind reply n (reached n r (Contains-push_cases T.answered _ _ h));
+  candidate = honest.candidate;
+  right = honest.right;
+}
+  where
+    was : (w.last ≡ Some name) × Contains T.asked (asks name cube)
+    was = subst (IsHonestWork T w) waits honest.work
+
+    keeps : (r : Reply) → IsHonestWork (answering T (answers_so (own_attempt w name) r)) (record w { work = work_for name r }) (work_for name r)
+    keeps Met = (was.0, Contains-push T.answered (answers_so (own_attempt w name) Met))
+    keeps (Shown answer bytes) = (was.0, Contains-push T.answered (answers_so (own_attempt w name) (Shown answer bytes)), none_noted bytes)
+
+    reached : (n : JobName) (r : Reply)
+        → Contains T.answered (answers_so (own_attempt w n) r) ⊎ (answers_so (own_attempt w name) reply ≡ answers_so (own_attempt w n) r) → IsPassed w.last n
+    reached n r (inl p) = (name, was.0, inl (subst (λ (k : Work). IsBehind w k n) waits (honest.behind n r p)))
+    reached n r (inr p) = (name, was.0, inr (sym (ap name_of (same_answered _ _ _ _ p).0)))
+
+    is_behind : (r : Reply) (n : JobName) → IsPassed w.last n → IsBehind (record w { work = work_for name r }) (work_for name r) n
+    is_behind Met n h = h
+    is_behind (Shown answer bytes) n h = h
+
+-- work leaves a worker honest, and tells at most one reply, its own
+pub work_fine : (T : Told) (w : WorkerState) (answer : Reaction) (new : WorkerState) → IsSettled w.formula T → IsHonestWorker T w → WorkerWorks w answer new
+    → (U : Told) × OwnReplies T w U × IsSettled w.formula U × IsFine U w answer new
+work_fine T w answer new settled honest (WorkerWorks.rests none is same) = (T, nothing_told T w, settled, stays T w answer _ new honest is tt same)
+  where
+    nothing_told : (T : Told) (w : WorkerState) → OwnReplies T w T
+    nothing_told T w = record { more = as_much T; asked = λ a h. h; decided = λ d h. h; own = λ attempt r h. inl h }
+work_fine T w answer new settled honest (WorkerWorks.no_memory name cube limit waits is same) = (T, nothing_told T w, settled, stays T w answer _ new honest is tt same)
+  where
+    nothing_told : (T : Told) (w : WorkerState) → OwnReplies T w T
+    nothing_told T w = record { more = as_much T; asked = λ a h. h; decided = λ d h. h; own = λ attempt r h. inl h }
+work_fine T w answer new settled honest (WorkerWorks.finishes name cube limit waits end ends is now) =
+    let reply : Reply = reply_of w.formula.vars end in
+    let entry : Answered = answers_so (own_attempt w name) reply in
+    let was : IsHonestWork T w (Waiting name cube limit) = subst (IsHonestWork T w) waits honest.work in
+    let is_true : IsTrueReply w.formula T.asked name reply = reply_true w.formula T.asked name cube limit end was.1 ends in
+    let after : new ≡ record w { work = work_for name reply } = now ∙ ap (λ (k : Work). record w { work = k }) (kept_is name w.formula.vars end) in (
+      answering T entry,
+      told entry refl,
+      settled_answering T w name cube limit reply settled honest waits is_true,
+      subst (λ (n : WorkerState). IsFine (answering T entry) w answer n) (sym after) (record {
+        honest = honest_answering T w name cube limit reply honest waits;
+        plain = plain_by answer _ is tt;
+        formula = refl;
+        number = refl;
+        incarnation = refl;
+      }),
+    )
+  where
+    mine : (e : Answered) (attempt : Attempt) (r : Reply) → e.attempt ≡ own_attempt w name → Contains T.answered (answers_so attempt r) ⊎ (e ≡ answers_so attempt r)
+        → Contains T.answered (answers_so attempt r) ⊎ ((attempt.worker ≡ w.number) × (attempt.incarnation ≡ w.incarnation))
+    mine e attempt r at (inl p) = inl p
+    mine e attempt r at (inr p) =
+        let same : attempt ≡ own_attempt w name = sym (ap (λ k. k.attempt) p) ∙ at in
+        inr (ap (λ k. k.worker) same, ap (λ k. k.incarnation) same)
+
+    told : (e : Answered) → e.attempt ≡ own_attempt w name → OwnReplies T w (answering T e)
+    told e at = record {
+      more = answering_more T e;
+      asked = λ a h. h;
+      decided = λ d h. h;
+      own = λ attempt r h. mine e attempt r at (Contains-push_cases T.answered e (answers_so attempt r) h);
+    }
+
+-- what a worker sends is true
+work_told : (T : Told) (limit : ℕ) (w : WorkerState) (k : Work) → IsHonestWork T w k → IsTold T limit (work_frame w k)
+work_told T limit w Free honest = tt
+work_told T limit w (Waiting name cube bound) honest = tt
+work_told T limit w (Limited name) honest = (Met, honest.1, refl)
+work_told T limit w (Found name answer bytes noted) honest = (Shown answer bytes, honest.1, refl)
+
+candidate_told : (T : Told) (limit : ℕ) (w : WorkerState) (o : Option Candidate) → IsHonestWork T w w.work → IsTold T limit (candidate_frame w o)
+candidate_told T limit w (Some c) honest = tt
+candidate_told T limit w None honest = work_told T limit w w.work honest
+
+noted_told : (T : Told) (limit : ℕ) (w : WorkerState) (k : Work) → IsHonestWork T w w.work → IsHonestWork T w k → IsTold T limit (noted_frame w k)
+noted_told T limit w Free honest also = candidate_told T limit w w.candidate honest
+noted_told T limit w (Waiting name cube bound) honest also = candidate_told T limit w w.candidate honest
+noted_told T limit w (Limited name) honest also = candidate_told T limit w w.candidate honest
+noted_told T limit w (Found name answer bytes None) honest also = candidate_told T limit w w.candidate honest
+noted_told T limit w (Found name answer bytes (Some offset)) honest also = (answer, bytes, also.1, chunk_stands bytes offset chunk (also.2 offset refl))
+
+pub poll_told : (T : Told) (limit : ℕ) (w : WorkerState) → IsHonestWorker T w → IsTold T limit (worker_frame w)
+poll_told T limit w honest = noted_told T limit w w.work honest.work honest.work
+
+-- and leaves it honest
+pub poll_honest : (T : Told) (w : WorkerState) → IsHonestWorker T w → IsHonestWorker T (worker_after w)
+poll_honest T w honest = record {
+  work = still w.work honest.work;
+  behind = λ n r h. still_behind w.work n (honest.behind n r h);
+  candidate = honest.candidate;
+  right = honest.right;
+}
+  where
+    still : (k : Work) → IsHonestWork T w k → IsHonestWork T (worker_after w) (without_note k)
+    still Free h = h
+    still (Waiting name cube bound) h = h
+    still (Limited name) h = h
+    still (Found name answer bytes noted) h = (h.0, h.1, none_noted bytes)
+
+    still_behind : (k : Work) (n : JobName) → IsBehind w k n → IsBehind (worker_after w) (without_note k) n
+    still_behind Free n h = h
+    still_behind (Waiting name cube bound) n h = h
+    still_behind (Limited name) n h = h
+    still_behind (Found name answer bytes noted) n h = h

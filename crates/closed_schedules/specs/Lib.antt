@@ -1,0 +1,3 @@
+pub mod ClosedSchedule
+pub mod ClosedLaws
+pub mod Examples

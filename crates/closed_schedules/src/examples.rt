@@ -1,0 +1,28 @@
+//! Worked examples of the definitions, proved.
+
+ghost use Rattle.std.specs.Prelude.{◌≡◌, [], ◌∷◌, true, false, Some};
+ghost use Rattle.lrat_check.specs.declared.verdict.Reaction.TheVariants as reaction;
+ghost use Rattle.lrat_check.specs.declared.verdict.Verdict.TheVariants.{Model};
+ghost use Rattle.frames.specs.declared.answer.Finding.TheVariants as findings;
+ghost use Rattle.frames.specs.declared.answer.Outcome.TheVariants as told;
+ghost use Rattle.frames.specs.declared.frame.Frame.TheVariants.{Task, Done, Piece, Idle};
+ghost use Rattle.coordinator_core.specs.Coordinator.{CoordinatorState, CoordinatorDelivers, coordinator_poll};
+ghost use Rattle.closed_schedules.specs.ClosedSchedule.{ClosedState, verdict_at};
+ghost use Rattle.closed_schedules.specs.ClosedLaws.{IsMoment};
+ghost use Rattle.closed_schedules.specs.Examples.{two, four, begun, Plays, whole_run, restart_run, asked, second, ninth};
+
+/// What small runs come to.
+pub fn worked_closed_runs()
+    // A whole run, at the end of which the coordinator holds the worker's assignment.
+    ensures decided { (s : ClosedState) × Plays begun whole_run s × IsMoment two ([] ∷ []) 100000 1 s × (verdict_at s 0 ≡ Some (Model (true ∷ false ∷ []))) }
+    // A run in which the worker begins anew, at the end of which its leaf was given again under the next number.
+    ensures anew { (s : ClosedState) × Plays begun restart_run s × IsMoment two ([] ∷ []) 100000 1 s
+        × (s.frames ≡ Task 1 1 100000 [] ∷ Done second (told.Decided (findings.Assignment 2)) ∷ Idle 1 3 ∷ Task 1 2 100000 [] ∷ []) }
+    // A fragment that is no log, the bytes of `x` and LF, is refused, and the leaf is given again.
+    ensures no_log { (c d : CoordinatorState) × CoordinatorDelivers (asked four) (Done ninth (told.Decided (findings.Refuted 2))) reaction.Taken c
+        × CoordinatorDelivers c (Piece ninth 0 (120 ∷ 10 ∷ [])) (reaction.Refused 1) d
+        × ((coordinator_poll d 1).frame ≡ Task 1 2 100000 []) }
+    // So is an assignment to three variables where there are two.
+    ensures wrong_length { (d : CoordinatorState) × CoordinatorDelivers (asked two) (Done ninth (told.Decided (findings.Assignment 3))) (reaction.Refused 2) d
+        × ((coordinator_poll d 1).frame ≡ Task 1 2 100000 []) }
+{}

@@ -1,0 +1,15 @@
+-- What links over a carrier have counted.
+use Rattle.std.specs.Prelude.{ℕ}
+use Rattle.links.specs.declared.counted.Counted.{Counted}
+
+-- what they go by
+abbrev pub carrier_of : {C : Type 0} → Counted C → C
+carrier_of links = links.carrier
+
+-- how many calls there were
+abbrev pub calls_of : {C : Type 0} → Counted C → ℕ
+calls_of links = links.tally.calls
+
+-- how many of them were refused
+abbrev pub refusals_of : {C : Type 0} → Counted C → ℕ
+refusals_of links = links.tally.refusals

@@ -1,0 +1,15 @@
+//! Carriers: links that count nothing.
+
+ghost use Rattle.std.specs.Prelude.{◌≤◌, length, IfOk};
+
+use crate::link::{End, LinkFault};
+
+/// Carries bytes, and counts nothing.
+pub trait Carrier {
+    /// Carries bytes from an end to the other one.
+    fn carry(&mut self, from: End, bytes: &[u8]) -> Result<(), LinkFault>;
+
+    /// Puts bytes that came to an end at the front of the room, and answers how many; 0 means that the link has ended.
+    fn fetch(&mut self, at: End, room: &mut [u8]) -> Result<usize, LinkFault>
+        ensures { IfOk result (λ n. n ≤ length room.new) };
+}

@@ -1,0 +1,74 @@
+//! Carriers that fail: put around another one, they show what a run does when links refuse or come in crumbs.
+
+ghost use Rattle.std.specs.Prelude.{◌≤◌, length};
+
+use crate::carrier::Carrier;
+use crate::link::{End, LinkFault};
+
+/// Refuses every call.
+#[derive(Drop)]
+pub struct RefusesAll;
+
+impl Carrier for RefusesAll {
+    fn carry(&mut self, _from: End, _bytes: &[u8]) -> Result<(), LinkFault> {
+        Err(LinkFault)
+    }
+
+    fn fetch(&mut self, _at: End, _room: &mut [u8]) -> Result<usize, LinkFault> {
+        Err(LinkFault)
+    }
+}
+
+/// Refuses one call, and hands the others to a carrier.
+#[derive(Drop)]
+pub struct RefusesAt<C> {
+    /// What the other calls go to.
+    pub carrier: C,
+    /// How many calls are yet to come until the refused one, with that one; 0 once it is over.
+    pub number: u64,
+}
+
+impl<C> RefusesAt<C> {
+    /// Whether the call that comes now is the refused one.
+    fn refuses(&mut self) -> bool {
+        let refuses = self.number == 1;
+        self.number = self.number.saturating_sub(1);
+        refuses
+    }
+}
+
+impl<C: Carrier> Carrier for RefusesAt<C> {
+    fn carry(&mut self, from: End, bytes: &[u8]) -> Result<(), LinkFault> {
+        if self.refuses() {
+            return Err(LinkFault);
+        }
+        self.carrier.carry(from, bytes)
+    }
+
+    fn fetch(&mut self, at: End, room: &mut [u8]) -> Result<usize, LinkFault> {
+        if self.refuses() {
+            return Err(LinkFault);
+        }
+        self.carrier.fetch(at, room)
+    }
+}
+
+/// Hands in what a carrier brings one byte a call.
+#[derive(Drop)]
+pub struct Bytewise<C> {
+    /// Where the bytes come from.
+    pub carrier: C,
+}
+
+impl<C: Carrier> Carrier for Bytewise<C> {
+    fn carry(&mut self, from: End, bytes: &[u8]) -> Result<(), LinkFault> {
+        self.carrier.carry(from, bytes)
+    }
+
+    fn fetch(&mut self, at: End, room: &mut [u8]) -> Result<usize, LinkFault> {
+        if room.is_empty() {
+            return Ok(0);
+        }
+        self.carrier.fetch(at, &mut room[..1])
+    }
+}

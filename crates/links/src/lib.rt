@@ -1,0 +1,22 @@
+//! Links: what carries bytes between a coordinator and its workers.
+//!
+//! What a layer above may rest on: each send and each receive is counted, and so is each that was refused; a receive answers no
+//! more bytes than the room that it was lent. Nothing is promised of the bytes: links may lose them, repeat them, or make them up.
+//! [`Counted`] puts the counts around any [`Carrier`]: sockets of this machine, queues in memory, or one that refuses, ends or lies.
+#![tactic(auto)]
+
+mod carrier;
+mod counted;
+mod failing;
+mod link;
+mod loopback;
+mod memory;
+mod script;
+
+pub use carrier::Carrier;
+pub use counted::Counted;
+pub use failing::{Bytewise, RefusesAll, RefusesAt};
+pub use link::{End, LinkFault, Links};
+pub use loopback::Loopback;
+pub use memory::Memory;
+pub use script::Script;

@@ -1,0 +1,47 @@
+//! What links are.
+
+ghost use Rattle.std.specs.Prelude.{◌≡◌, ◌≤◌, ℕ, length, IfOk};
+ghost use Rattle.links.specs.Counts.{one_more, one_more_if_err};
+
+use thiserror::Error;
+
+/// One of the two ends of a worker's link, by the worker's number, from 1.
+#[derive(Clone, Copy, Debug, PartialEq, Eq)]
+pub enum End {
+    /// The end of the coordinator.
+    Coordinator(u32),
+    /// The end of the worker.
+    Worker(u32),
+}
+
+/// A send or a receive was refused.
+#[derive(Clone, Copy, Debug, PartialEq, Eq, Error)]
+#[error("the link refused")]
+pub struct LinkFault;
+
+/// Links that carry bytes between a coordinator and its workers, and count the calls and the refusals. Both counts stay at
+/// 2^64 - 1.
+pub trait Links {
+    ghost call_count: { Self → ℕ };
+
+    ghost refusal_count: { Self → ℕ };
+
+    /// Sends bytes from an end to the other one.
+    fn send(&mut self, from: End, bytes: &[u8]) -> Result<(), LinkFault>
+        ensures calls { call_count self.new ≡ one_more (call_count self.old) }
+        ensures refusals { refusal_count self.new ≡ one_more_if_err result (refusal_count self.old) };
+
+    /// Puts bytes that came to an end at the front of the room, and answers how many; 0 means that the link has ended.
+    fn receive(&mut self, at: End, room: &mut [u8]) -> Result<usize, LinkFault>
+        ensures bound { IfOk result (λ n. n ≤ length room.new) }
+        ensures calls { call_count self.new ≡ one_more (call_count self.old) }
+        ensures refusals { refusal_count self.new ≡ one_more_if_err result (refusal_count self.old) };
+
+    /// How many sends and receives there were.
+    fn calls(&self) -> u64
+        ensures { result ≡ call_count self.now };
+
+    /// How many of them were refused.
+    fn refusals(&self) -> u64
+        ensures { result ≡ refusal_count self.now };
+}

@@ -1,0 +1,85 @@
+//! Links over TCP on the loopback device.
+
+use crate::carrier::Carrier;
+use crate::link::{End, LinkFault};
+use std::alloc::Global;
+use std::io;
+use std::io::{Read, Write};
+use std::net::{Ipv4Addr, Net, OpenListener, OpenStream, SocketAddr, TcpListener, TcpStream};
+
+/// The two ends of one link.
+#[derive(Drop)]
+struct Pair<S> {
+    coordinator: S,
+    worker: S,
+}
+
+/// The links of workers 1 to n, over sockets of which both ends are in this process. A link of another worker is refused.
+#[derive(Drop)]
+pub struct Loopback<S> {
+    pairs: Vec<Pair<S>>,
+}
+
+/// How many connections are accepted until the worker's own one comes.
+const TRIES: u32 = 128;
+
+/// Connects a worker to the listener. What another process connects meanwhile is dropped. No small packet waits for the next.
+fn connect_pair<R: Net>(
+    net: &R,
+    listener: &R::Listener,
+    at: SocketAddr,
+) -> io::Result<Pair<R::Stream>> {
+    let worker = TcpStream::connect(net, at)?;
+    worker.set_nodelay(true)?;
+    let own = worker.local_addr()?;
+    for _ in 0..TRIES {
+        let (coordinator, from) = listener.accept()?;
+        if from == own {
+            coordinator.set_nodelay(true)?;
+            return Ok(Pair {
+                coordinator,
+                worker,
+            });
+        }
+    }
+    Err(io::Error::from(io::ErrorKind::ConnectionRefused))
+}
+
+impl<S> Loopback<S> {
+    /// Opens a listener at a free port of 127.0.0.1, and connects workers 1 to `workers` to it. An error is that of the listener or
+    /// of a connection.
+    pub fn open<R: Net<Stream = S>>(net: &R, alloc: Global, workers: u32) -> io::Result<Loopback<S>>
+    where
+        S: Drop,
+    {
+        let listener = TcpListener::bind(net, SocketAddr::from((Ipv4Addr::LOCALHOST, 0)))?;
+        let at = listener.local_addr()?;
+        let mut pairs = Vec::new(alloc);
+        for _ in 0..workers {
+            pairs.push(connect_pair(net, &listener, at)?)?;
+        }
+        Ok(Loopback { pairs })
+    }
+
+    fn end(&mut self, end: End) -> Option<&mut S> {
+        let (End::Coordinator(w) | End::Worker(w)) = end;
+        let place = w.checked_sub(1)?;
+        let pair = self.pairs.get_mut(place as usize)?;
+        match end {
+            End::Coordinator(_) => Some(&mut pair.coordinator),
+            End::Worker(_) => Some(&mut pair.worker),
+        }
+    }
+}
+
+impl<S: Read + Write> Carrier for Loopback<S> {
+    fn carry(&mut self, from: End, bytes: &[u8]) -> Result<(), LinkFault> {
+        let stream = self.end(from).ok_or(LinkFault)?;
+        stream.write_all(bytes).map_err(|_| LinkFault)
+    }
+
+    fn fetch(&mut self, at: End, room: &mut [u8]) -> Result<usize, LinkFault> {
+        let stream = self.end(at).ok_or(LinkFault)?;
+        stream.read(room).map_err(|_| LinkFault)
+    }
+}

@@ -1,0 +1,80 @@
+//! Links in memory.
+
+ghost use Rattle.std.specs.Prelude.{◌≤◌, length};
+
+use crate::carrier::Carrier;
+use crate::link::{End, LinkFault};
+use std::alloc::{AllocError, Global};
+use std::collections::VecDeque;
+
+/// What is on its way over one worker's link.
+#[derive(Drop)]
+struct Wire {
+    /// To the worker.
+    down: VecDeque<u8>,
+    /// To the coordinator.
+    up: VecDeque<u8>,
+}
+
+/// The links of workers 1 to n, in memory. A link of another worker is refused; one over which nothing is on its way has ended.
+#[derive(Drop)]
+pub struct Memory {
+    wires: Vec<Wire>,
+}
+
+impl Memory {
+    /// The links of workers 1 to `workers`.
+    pub fn new(alloc: Global, workers: u32) -> Result<Memory, AllocError> {
+        let mut wires = Vec::new(alloc);
+        for _ in 0..workers {
+            wires.push(Wire {
+                down: VecDeque::new(alloc),
+                up: VecDeque::new(alloc),
+            })?;
+        }
+        Ok(Memory { wires })
+    }
+
+    fn wire(&mut self, worker: u32) -> Option<&mut Wire> {
+        let place = worker.checked_sub(1)?;
+        self.wires.get_mut(place as usize)
+    }
+}
+
+/// Takes bytes from the front of a queue into the room, and answers how many.
+fn drain(queue: &mut VecDeque<u8>, room: &mut [u8]) -> usize
+    ensures { result ≤ length room.new }
+{
+    let mut taken = 0;
+    for cell in room.iter_mut() {
+        match queue.pop_front() {
+            Some(byte) => {
+                *cell = byte;
+                taken += 1;
+            }
+            None => break,
+        }
+    }
+    taken
+}
+
+impl Carrier for Memory {
+    fn carry(&mut self, from: End, bytes: &[u8]) -> Result<(), LinkFault> {
+        let queue = match from {
+            End::Coordinator(w) => &mut self.wire(w).ok_or(LinkFault)?.down,
+            End::Worker(w) => &mut self.wire(w).ok_or(LinkFault)?.up,
+        };
+        for byte in bytes {
+            queue.push_back(*byte).map_err(|_| LinkFault)?;
+        }
+        Ok(())
+    }
+
+    fn fetch(&mut self, at: End, room: &mut [u8]) -> Result<usize, LinkFault> {
+        let queue = match at {
+            End::Coordinator(w) => &mut self.wire(w).ok_or(LinkFault)?.up,
+            End::Worker(w) => &mut self.wire(w).ok_or(LinkFault)?.down,
+        };
+        Ok(drain(queue, room))
+    }
+}

@@ -1,0 +1,58 @@
+//! Links that lie.
+
+ghost use Rattle.std.specs.Prelude.{◌≡◌, ◌≤◌, [], length, IfOk};
+ghost use Rattle.links.specs.Scripted.{left_of, sent_of};
+
+use crate::carrier::Carrier;
+use crate::link::{End, LinkFault};
+use std::alloc::{AllocError, Global};
+
+/// Hands in the bytes that it was made with, to whichever end asks, and then ends. What is sent goes nowhere; it is kept to be
+/// looked at.
+#[derive(Drop)]
+pub struct Script {
+    hands: Vec<u8>,
+    at: usize,
+    sent: Vec<u8>,
+}
+
+impl Script {
+    /// Links that hand in these bytes.
+    pub fn new(alloc: Global, hands: &[u8]) -> Result<Script, AllocError>
+        ensures hands { IfOk result (λ s. left_of s ≡ hands.now) }
+        ensures sent { IfOk result (λ s. sent_of s ≡ []) }
+    {
+        Ok(Script {
+            hands: Vec::from_slice(alloc, hands)?,
+            at: 0,
+            sent: Vec::new(alloc),
+        })
+    }
+
+    /// What was sent so far, whoever sent it.
+    pub fn sent(&self) -> &[u8]
+        ensures { result.now ≡ sent_of self.now }
+    {
+        &self.sent
+    }
+}
+
+impl Carrier for Script {
+    fn carry(&mut self, _from: End, bytes: &[u8]) -> Result<(), LinkFault> {
+        self.sent.extend_from_slice(bytes).map_err(|_| LinkFault)
+    }
+
+    fn fetch(&mut self, _at: End, room: &mut [u8]) -> Result<usize, LinkFault> {
+        let left = self.hands.len().saturating_sub(self.at);
+        let count = left.min(room.len());
+        for i in 0..count {
+            room[i] = self
+                .hands
+                .get(self.at.saturating_add(i))
+                .copied()
+                .unwrap_or(0);
+        }
+        self.at = self.at.saturating_add(count);
+        Ok(count)
+    }
+}

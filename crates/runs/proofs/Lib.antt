@@ -1,0 +1,3 @@
+mod Machines
+mod Standings
+mod Servings
