@@ -6,6 +6,8 @@ mod candidates;
 #[cfg(test)]
 mod checks;
 #[cfg(test)]
+mod coordinators;
+#[cfg(test)]
 mod cubes;
 #[cfg(test)]
 mod deletions;
@@ -31,3 +33,5 @@ mod solving;
 mod taking;
 #[cfg(test)]
 mod words;
+#[cfg(test)]
+mod workers;

@@ -1,4 +1,4 @@
-//! How the search goes: the values that it tries again, and the lemmas that it forgets.
+//! How the search goes: the values that it tries again, the literals that its lemmas do without, and the lemmas that it forgets.
 
 use crate::checks::{VERIFIED, prints};
 use node_main::{Options, Report, solve_here};
@@ -51,6 +51,21 @@ fn a_variable_is_decided_with_its_last_value(rt: HostRuntime) -> Result<(), Fail
         b"s SATISFIABLE\nv -1 2 3 4 0\n".as_slice()
     );
     Ok(())
+}
+
+#[test]
+fn a_lemma_does_without_what_follows_by_two_reasons(rt: HostRuntime) -> Result<(), Fail> {
+    // From -1 come 2 and 3, and with -4 the fourth clause is false: -3 follows from 1, by way of 2, which no clause of the
+    // conflict names.
+    let input = b"p cnf 7 8\n1 2 0\n-2 3 0\n4 1 5 0\n4 -3 -5 0\n-4 6 0\n-4 -6 0\n-1 7 0\n-1 -7 0\n";
+    let report = solve(rt.alloc(), input)?;
+    assert_eq!(rt; report.status, 20);
+    let proof = report.proof.ok_or("no proof")?;
+    assert_eq!(rt;
+        proof.as_slice(),
+        b"9 4 1 0 1 2 3 4 0\n10 -4 0 5 6 0\n11 0 10 9 7 8 0\n".as_slice()
+    );
+    prints(&rt, rt.alloc(), input, proof.as_slice(), VERIFIED)
 }
 
 #[test]

@@ -1,92 +1,118 @@
--- What every open schedule keeps: what is held is right, and each node's formula.
-use Rattle.std.proofs.Common.{◌≡◌, ℕ, Option, None, Some, List, [], ◌∷◌, ◌++◌, slice_get, slice_set, get_or, MatchOption, refl, subst, sym, ap, ◌∙◌}
+-- What every open schedule keeps: nodes are sound, and each has its formula.
+use Rattle.std.proofs.Common.{◌≡◌, ℕ, Option, None, Some, List, [], ◌∷◌, ◌++◌, length, Result, Ok, Err, slice_get, slice_set, get_or, MatchOption, refl, subst, sym, ap, ◌∙◌}
 use Rattle.std.proofs.lemmas.List.Elements.{All-set}
 use Rattle.std.proofs.lemmas.Option.{slice_get_within, get_or_from_slice_get}
 use Rattle.std.proofs.Math.Seq.{map-set_same}
-use Rattle.dimacs.specs.logic.Cnf.{Cnf}
 use Rattle.lrat_check.specs.Verdicts.{Right}
 use Rattle.lrat_check.specs.declared.verdict.Reaction.{Reaction}
 use Rattle.lrat_check.specs.declared.verdict.Reaction.TheVariants as reaction
+use Rattle.evidence.specs.Events.{Event, Delivered, Worked, Polled, Given, Reacted, Sent, Ignores, given_by}
+use Rattle.frames.specs.declared.frame.Frame.{Frame}
+use Rattle.worker_core.specs.Worker.{WorkerState, WorkerStep}
+use Rattle.coordinator_core.specs.Coordinator.{CoordinatorState, CoordinatorStep, new_coordinator}
+use Rattle.coordinator_core.specs.Invariant.{IsCoordinator}
 use Rattle.cluster.specs.declared.event.OpenEvent.{OpenEvent}
 use Rattle.cluster.specs.declared.event.OpenEvent.TheVariants.{Deliver, Work, Poll, Restart}
-use Rattle.cluster.specs.Nodes.{NodeState, AreRight, formulas}
-use Rattle.cluster.specs.Candidates.{Delivers}
-use Rattle.cluster.specs.OpenSchedule.{node_of, Reacts, Happens, Runs}
+use Rattle.cluster.specs.declared.node.Node.{Node}
+use Rattle.cluster.specs.declared.node.Node.TheVariants.{Worker, Coordinator}
+use Rattle.cluster.specs.Nodes.{formula_of, IsSound, AreSound, formulas}
+use Rattle.cluster.specs.OpenSchedule.{node_of, NodeStep, Delivers, Works, Polls, Restarts, restarted, answer_to, Reacts, Happens, Runs}
 
--- what a node holds is right
-abbrev IsRight : NodeState → Type 0
-IsRight n = Right n.formula n.verdict
+-- what the machines keep, each by itself
+pub record Keeping : Type 0 where
+  pub worker : (old : WorkerState) (event : Event) (given : Given) (new : WorkerState) → WorkerStep old event given new → Right old.formula old.verdict → Right new.formula new.verdict
+  pub worker_formula : (old : WorkerState) (event : Event) (given : Given) (new : WorkerState) → WorkerStep old event given new → new.formula ≡ old.formula
+  pub coordinator : (old : CoordinatorState) (event : Event) (given : Given) (new : CoordinatorState) → IsCoordinator old → CoordinatorStep old event given new → IsCoordinator new
+  pub coordinator_formula : (old : CoordinatorState) (event : Event) (given : Given) (new : CoordinatorState) → CoordinatorStep old event given new → new.formula ≡ old.formula
+  pub anew : (c : CoordinatorState) (session : ℕ) → IsCoordinator c → IsCoordinator (new_coordinator c.formula c.planted c.limit (length c.jobs) session)
 
--- a node that stays as it was is right as it was
-same_right : (old new : NodeState) → new ≡ old → IsRight old → IsRight new
-same_right old new same right = subst IsRight (sym same) right
+-- a node is as sound as it was, and has its formula
+pub record Keeps (old new : Node) : Type 0 where
+  pub sound : IsSound old → IsSound new
+  pub formula : formula_of new ≡ formula_of old
 
-delivers_right : (old : NodeState) (bytes : List ℕ) (answer : Reaction) (new : NodeState) → Delivers old bytes answer new → IsRight old → IsRight new
-delivers_right old bytes reaction.Verdict new (empty, offers, right, formula) was = subst (λ (F : Cnf). Right F new.verdict) (sym formula) right
-delivers_right old bytes (reaction.Refused kind) new (empty, kind_is, wrong, same) was = same_right old new same was
-delivers_right old bytes reaction.NoMemory new (empty, offered, same) was = same_right old new same was
-delivers_right old bytes reaction.Ignored new (why, same) was = same_right old new same was
-delivers_right old bytes reaction.Taken new never was = absurd never
-delivers_right old bytes reaction.Finished new never was = absurd never
+stays : (old new : Node) → new ≡ old → Keeps old new
+stays old new same = record { sound = λ is. subst IsSound (sym same) is; formula = ap formula_of same }
 
-delivers_formula : (old : NodeState) (bytes : List ℕ) (answer : Reaction) (new : NodeState) → Delivers old bytes answer new → new.formula ≡ old.formula
-delivers_formula old bytes reaction.Verdict new (empty, offers, right, formula) = formula
-delivers_formula old bytes (reaction.Refused kind) new (empty, kind_is, wrong, same) = ap (λ n. n.formula) same
-delivers_formula old bytes reaction.NoMemory new (empty, offered, same) = ap (λ n. n.formula) same
-delivers_formula old bytes reaction.Ignored new (why, same) = ap (λ n. n.formula) same
-delivers_formula old bytes reaction.Taken new never = absurd never
-delivers_formula old bytes reaction.Finished new never = absurd never
+module _ (k : Keeping) where
+  step_keeps : (old : Node) (event : Event) (given : Given) (new : Node) → NodeStep old event given new → Keeps old new
+  step_keeps (Worker w) event given new (v, step, is) = subst (Keeps (Worker w)) (sym is) (record { sound = k.worker w event given v step; formula = k.worker_formula w event given v step })
+  step_keeps (Coordinator c) event given new (d, step, is) =
+      subst (Keeps (Coordinator c)) (sym is) (record { sound = λ valid. k.coordinator c event given d valid step; formula = k.coordinator_formula c event given d step })
 
-reacts_right : (event : OpenEvent) (old : NodeState) (answer : Reaction) (new : NodeState) → Reacts event old answer new → IsRight old → IsRight new
-reacts_right (Deliver node bytes) old answer new step was = delivers_right old bytes answer new step was
-reacts_right (Work node) old answer new (ignored, same) was = same_right old new same was
-reacts_right (Poll node worker) old answer new (ignored, same) was = same_right old new same was
-reacts_right (Restart node number) old answer new (taken, anew) was = subst IsRight (sym anew) tt
+  delivers_keeps : (old : Node) (bytes : List ℕ) (answer : Reaction) (new : Node) → Delivers old bytes answer new → Keeps old new
+  delivers_keeps old bytes answer new (Delivers.begins first is step) = step_keeps old (Delivered first) (Reacted answer) new step
+  delivers_keeps old bytes answer new (Delivers.noise none ignores) = stays old new ignores.1
+  delivers_keeps old bytes answer new (Delivers.no_memory is same) = stays old new same
 
-reacts_formula : (event : OpenEvent) (old : NodeState) (answer : Reaction) (new : NodeState) → Reacts event old answer new → new.formula ≡ old.formula
-reacts_formula (Deliver node bytes) old answer new step = delivers_formula old bytes answer new step
-reacts_formula (Work node) old answer new (ignored, same) = ap (λ n. n.formula) same
-reacts_formula (Poll node worker) old answer new (ignored, same) = ap (λ n. n.formula) same
-reacts_formula (Restart node number) old answer new (taken, anew) = ap (λ n. n.formula) anew
+  works_keeps : (old : Node) (answer : Reaction) (new : Node) → Works old answer new → Keeps old new
+  works_keeps (Worker w) answer new step = step_keeps (Worker w) Worked (Reacted answer) new step
+  works_keeps (Coordinator c) answer new ignores = stays (Coordinator c) new ignores.1
 
--- an event leaves all that is held right
-pub happens_right : (old : List NodeState) (event : OpenEvent) (answer : Reaction) (new : List NodeState) → Happens old event answer new → AreRight old → AreRight new
-happens_right old event answer new happens right = go (slice_get old (node_of event)) refl happens
-  where
-    go : (o : Option NodeState) → slice_get old (node_of event) ≡ o
-        → MatchOption o ((answer ≡ reaction.Ignored) × (new ≡ old)) (λ n. (m : NodeState) × Reacts event n answer m × (new ≡ slice_set old (node_of event) m))
-        → AreRight new
-    go None is (ignored, same) = subst AreRight (sym same) right
-    go (Some n) is (m, step, set) =
-        let was : IsRight n = subst IsRight (get_or_from_slice_get old (node_of event) n n is) (right (node_of event) n (slice_get_within old (node_of event) n is)) in
-        subst AreRight (sym set) (All-set IsRight old (node_of event) m (reacts_right event n answer m step was) right)
+  polls_keeps : (old : Node) (worker : ℕ) (answer : Reaction) (new : Node) → Polls old worker answer new → Keeps old new
+  polls_keeps old worker answer new (Polls.sends sent step is) = step_keeps old (Polled worker) (Sent sent) new step
+  polls_keeps old worker answer new (Polls.strays none ignores) = stays old new ignores.1
+  polls_keeps old worker answer new (Polls.no_memory step is) = step_keeps old (Polled worker) (Reacted reaction.NoMemory) new step
 
--- an event leaves each node its formula
-pub happens_formulas : (old : List NodeState) (event : OpenEvent) (answer : Reaction) (new : List NodeState) → Happens old event answer new → formulas new ≡ formulas old
-happens_formulas old event answer new happens = go (slice_get old (node_of event)) refl happens
-  where
-    go : (o : Option NodeState) → slice_get old (node_of event) ≡ o
-        → MatchOption o ((answer ≡ reaction.Ignored) × (new ≡ old)) (λ n. (m : NodeState) × Reacts event n answer m × (new ≡ slice_set old (node_of event) m))
-        → formulas new ≡ formulas old
-    go None is (ignored, same) = ap formulas same
-    go (Some n) is (m, step, set) =
-        let found : get_or old (node_of event) n ≡ n = get_or_from_slice_get old (node_of event) n n is in
-        let kept : m.formula ≡ (get_or old (node_of event) n).formula = reacts_formula event n answer m step ∙ sym (ap (λ k. k.formula) found) in
-        ap formulas set ∙ map-set_same (λ k. k.formula) old (node_of event) m n kept
+  anew_keeps : (old : Node) (number : ℕ) → Keeps old (restarted old number)
+  anew_keeps (Worker w) number = record { sound = λ is. tt; formula = refl }
+  anew_keeps (Coordinator c) number = record { sound = k.anew c number; formula = refl }
 
--- a run leaves all that is held right
-pub runs_right : (old : List NodeState) (events : List OpenEvent) (new : List NodeState) → Runs old events new → AreRight old → AreRight new
-runs_right old [] new same right = subst AreRight (sym same) right
-runs_right old (event ∷ events) new (answer, mid, happens, runs) right = runs_right mid events new runs (happens_right old event answer mid happens right)
+  restarts_keeps : (old : Node) (number : ℕ) (answer : Reaction) (new : Node) → Restarts old number answer new → Keeps old new
+  restarts_keeps old number answer new (Restarts.anew is now) = subst (Keeps old) (sym now) (anew_keeps old number)
+  restarts_keeps old number answer new (Restarts.no_memory c at is same) = stays old new same
 
--- a run leaves each node its formula
-pub runs_formulas : (old : List NodeState) (events : List OpenEvent) (new : List NodeState) → Runs old events new → formulas new ≡ formulas old
-runs_formulas old [] new same = ap formulas same
-runs_formulas old (event ∷ events) new (answer, mid, happens, runs) = runs_formulas mid events new runs ∙ happens_formulas old event answer mid happens
+  reacts_keeps : (event : OpenEvent) (old : Node) (answer : Reaction) (new : Node) → Reacts event old answer new → Keeps old new
+  reacts_keeps (Deliver node bytes) old answer new step = delivers_keeps old bytes answer new step
+  reacts_keeps (Work node) old answer new step = works_keeps old answer new step
+  reacts_keeps (Poll node worker) old answer new step = polls_keeps old worker answer new step
+  reacts_keeps (Restart node number) old answer new step = restarts_keeps old number answer new step
+
+  -- an event leaves all nodes sound, and each its formula
+  happens_sound : (old : List Node) (event : OpenEvent) (answer : Reaction) (new : List Node) → Happens old event answer new → AreSound old → AreSound new
+  happens_sound old event answer new happens sound = go (slice_get old (node_of event)) refl happens
+    where
+      go : (o : Option Node) → slice_get old (node_of event) ≡ o
+          → MatchOption o (Ignores old answer new) (λ n. (m : Node) × Reacts event n answer m × (new ≡ slice_set old (node_of event) m))
+          → AreSound new
+      go None is ignores = subst AreSound (sym ignores.1) sound
+      go (Some n) is (m, step, set) =
+          let was : IsSound n = subst IsSound (get_or_from_slice_get old (node_of event) n n is) (sound (node_of event) n (slice_get_within old (node_of event) n is)) in
+          subst AreSound (sym set) (All-set IsSound old (node_of event) m ((reacts_keeps event n answer m step).sound was) sound)
+
+  happens_formulas : (old : List Node) (event : OpenEvent) (answer : Reaction) (new : List Node) → Happens old event answer new → formulas new ≡ formulas old
+  happens_formulas old event answer new happens = go (slice_get old (node_of event)) refl happens
+    where
+      go : (o : Option Node) → slice_get old (node_of event) ≡ o
+          → MatchOption o (Ignores old answer new) (λ n. (m : Node) × Reacts event n answer m × (new ≡ slice_set old (node_of event) m))
+          → formulas new ≡ formulas old
+      go None is ignores = ap formulas ignores.1
+      go (Some n) is (m, step, set) =
+          let found : get_or old (node_of event) n ≡ n = get_or_from_slice_get old (node_of event) n n is in
+          let kept : formula_of m ≡ formula_of (get_or old (node_of event) n) = (reacts_keeps event n answer m step).formula ∙ sym (ap formula_of found) in
+          ap formulas set ∙ map-set_same formula_of old (node_of event) m n kept
+
+  -- a run leaves all nodes sound, and each its formula
+  pub runs_sound : (old : List Node) (events : List OpenEvent) (new : List Node) → Runs old events new → AreSound old → AreSound new
+  runs_sound old [] new same sound = subst AreSound (sym same) sound
+  runs_sound old (event ∷ events) new (answer, mid, happens, runs) sound = runs_sound mid events new runs (happens_sound old event answer mid happens sound)
+
+  pub runs_formulas : (old : List Node) (events : List OpenEvent) (new : List Node) → Runs old events new → formulas new ≡ formulas old
+  runs_formulas old [] new same = ap formulas same
+  runs_formulas old (event ∷ events) new (answer, mid, happens, runs) = runs_formulas mid events new runs ∙ happens_formulas old event answer mid happens
 
 -- a run goes on by one event
-pub runs_more : (old : List NodeState) (events : List OpenEvent) (mid : List NodeState) (event : OpenEvent) (answer : Reaction) (new : List NodeState)
+pub runs_more : (old : List Node) (events : List OpenEvent) (mid : List Node) (event : OpenEvent) (answer : Reaction) (new : List Node)
     → Runs old events mid → Happens mid event answer new → Runs old (events ++ event ∷ []) new
-runs_more old [] mid event answer new same happens = (answer, new, subst (λ (k : List NodeState). Happens k event answer new) same happens, refl)
+runs_more old [] mid event answer new same happens = (answer, new, subst (λ (n : List Node). Happens n event answer new) same happens, refl)
 runs_more old (first ∷ events) mid event answer new (first_answer, next, first_happens, runs) happens =
     (first_answer, next, first_happens, runs_more next events mid event answer new runs happens)
+
+-- a run of one event
+pub runs_one : (old : List Node) (event : OpenEvent) (answer : Reaction) (new : List Node) → Happens old event answer new → Runs old (event ∷ []) new
+runs_one old event answer new happens = (answer, new, happens, refl)
+
+-- a poll whose frame goes nowhere
+pub polls_by : {E : Type 0} (old : Node) (number : ℕ) (sent : Result Frame E) (new : Node) → NodeStep old (Polled number) (given_by sent) new → Polls old number (answer_to sent) new
+polls_by old number (Ok frame) new step = Polls.sends frame step refl
+polls_by old number (Err fault) new step = Polls.no_memory step refl

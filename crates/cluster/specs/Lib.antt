@@ -1,4 +1,3 @@
 pub mod Nodes
-pub mod Candidates
 pub mod OpenSchedule
 pub mod Agreement

@@ -1,27 +1,35 @@
--- A node: its formula, and what it knows of it.
+-- A node: a worker or a coordinator, the formula that it was started with, and the verdict that it holds.
 use Rattle.std.specs.Prelude.{List, All, map}
 use Rattle.dimacs.specs.logic.Cnf.{Cnf}
-use Rattle.lrat_check.specs.Verdicts.{Right}
+use Rattle.lrat_check.specs.Verdicts.{Right, IsTrueOf}
 use Rattle.lrat_check.specs.declared.verdict.Verdict.{Verdict}
-use Rattle.lrat_check.specs.declared.verdict.Verdict.TheVariants.{Nothing}
+use Rattle.coordinator_core.specs.Invariant.{IsCoordinator}
+use Rattle.cluster.specs.declared.node.Node.{Node}
+use Rattle.cluster.specs.declared.node.Node.TheVariants.{Worker, Coordinator}
 
--- the formula that a node was started with, and the verdict that it holds
-pub record NodeState : Type 0 where
-  pub formula : Cnf
-  pub verdict : Verdict
+abbrev pub formula_of : Node → Cnf
+formula_of (Worker w) = w.formula
+formula_of (Coordinator c) = c.formula
 
--- a node that holds nothing yet
-abbrev pub fresh : Cnf → NodeState
-fresh F = record { formula = F; verdict = Nothing }
+abbrev pub verdict_of : Node → Verdict
+verdict_of (Worker w) = w.verdict
+verdict_of (Coordinator c) = c.verdict
 
--- a node of this formula that holds this verdict
-abbrev pub holding : Cnf → Verdict → NodeState
-holding F v = record { formula = F; verdict = v }
+-- what every node keeps: the verdict of a worker is right, and a coordinator is one that keeps its own right
+abbrev pub IsSound : Node → Type 0
+IsSound (Worker w) = Right w.formula w.verdict
+IsSound (Coordinator c) = IsCoordinator c
 
--- what each node holds is right for its formula
-abbrev pub AreRight : List NodeState → Type 0
-AreRight nodes = All (λ n. Right n.formula n.verdict) nodes
+abbrev pub AreSound : List Node → Type 0
+AreSound nodes = All IsSound nodes
+
+-- what each node holds is right for its formula, and true of it
+abbrev pub AreRight : List Node → Type 0
+AreRight nodes = All (λ n. Right (formula_of n) (verdict_of n)) nodes
+
+abbrev pub AreTrue : List Node → Type 0
+AreTrue nodes = All (λ n. IsTrueOf (formula_of n) (verdict_of n)) nodes
 
 -- the formula of each node
-abbrev pub formulas : List NodeState → List Cnf
-formulas nodes = map (λ n. n.formula) nodes
+abbrev pub formulas : List Node → List Cnf
+formulas nodes = map formula_of nodes

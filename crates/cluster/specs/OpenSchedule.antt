@@ -1,11 +1,66 @@
 -- Open schedules: any list of events, whatever they bring.
-use Rattle.std.specs.Prelude.{◌≡◌, ℕ, List, [], ◌∷◌, MatchOption, slice_get, slice_set}
+use Rattle.std.specs.Prelude.{◌≡◌, ℕ, List, [], ◌∷◌, length, MatchOption, Result, Ok, Err, slice_get, slice_set}
 use Rattle.lrat_check.specs.declared.verdict.Reaction.{Reaction}
 use Rattle.lrat_check.specs.declared.verdict.Reaction.TheVariants as reaction
+use Rattle.frames.specs.Stream.{BeginsWith, BeginsNoFrame}
+use Rattle.frames.specs.declared.frame.Frame.{Frame}
+use Rattle.evidence.specs.Events.{Event, Delivered, Worked, Polled, Given, Reacted, Sent, Ignores}
+use Rattle.worker_core.specs.Worker.{WorkerState, WorkerStep, new_worker}
+use Rattle.coordinator_core.specs.Coordinator.{CoordinatorState, CoordinatorStep, IsWorker, new_coordinator}
 use Rattle.cluster.specs.declared.event.OpenEvent.{OpenEvent}
 use Rattle.cluster.specs.declared.event.OpenEvent.TheVariants.{Deliver, Work, Poll, Restart}
-use Rattle.cluster.specs.Nodes.{NodeState, fresh}
-use Rattle.cluster.specs.Candidates.{Delivers}
+use Rattle.cluster.specs.declared.node.Node.{Node}
+use Rattle.cluster.specs.declared.node.Node.TheVariants.{Worker, Coordinator}
+
+-- one event at a node, as its own call leaves it
+abbrev pub NodeStep : Node → Event → Given → Node → Type 0
+NodeStep (Worker w) event given new = (v : WorkerState) × WorkerStep w event given v × (new ≡ Worker v)
+NodeStep (Coordinator c) event given new = (d : CoordinatorState) × CoordinatorStep c event given d × (new ≡ Coordinator d)
+
+-- Any bytes come to a node.
+pub data Delivers (old : Node) (bytes : List ℕ) (answer : Reaction) (new : Node) : Type 0 where
+  -- their first frame is delivered; what follows is not looked at
+  begins : (first : Frame) → BeginsWith bytes first → NodeStep old (Delivered first) (Reacted answer) new → Delivers old bytes answer new
+  -- they begin with no frame
+  noise : BeginsNoFrame bytes → Ignores old answer new → Delivers old bytes answer new
+  -- no room to read them
+  no_memory : answer ≡ reaction.NoMemory → new ≡ old → Delivers old bytes answer new
+
+-- A node is to work; only a worker has something to do.
+abbrev pub Works : Node → Reaction → Node → Type 0
+Works (Worker w) answer new = NodeStep (Worker w) Worked (Reacted answer) new
+Works (Coordinator c) answer new = Ignores (Coordinator c) answer new
+
+-- a coordinator has no such worker
+abbrev pub HasNoWorker : Node → ℕ → Type 0
+HasNoWorker (Worker w) worker = ⊥
+HasNoWorker (Coordinator c) worker = ¬ (IsWorker c worker)
+
+abbrev pub MaySendTo : Node → ℕ → Type 0
+MaySendTo (Worker w) worker = Unit {0}
+MaySendTo (Coordinator c) worker = IsWorker c worker
+
+-- what is answered to a poll whose frame goes nowhere
+abbrev pub answer_to : {E : Type 0} → Result Frame E → Reaction
+answer_to (Ok frame) = reaction.Taken
+answer_to (Err fault) = reaction.NoMemory
+
+-- A node is asked what it has to send to a worker; the frame goes nowhere.
+pub data Polls (old : Node) (worker : ℕ) (answer : Reaction) (new : Node) : Type 0 where
+  sends : (sent : Frame) → NodeStep old (Polled worker) (Sent sent) new → answer ≡ reaction.Taken → Polls old worker answer new
+  strays : HasNoWorker old worker → Ignores old answer new → Polls old worker answer new
+  no_memory : NodeStep old (Polled worker) (Reacted reaction.NoMemory) new → answer ≡ reaction.NoMemory → Polls old worker answer new
+
+-- the node as it was made, under another number
+abbrev pub restarted : Node → ℕ → Node
+restarted (Worker w) number = Worker (new_worker w.formula w.number number)
+restarted (Coordinator c) number = Coordinator (new_coordinator c.formula c.planted c.limit (length c.jobs) number)
+
+-- A node begins anew.
+pub data Restarts (old : Node) (number : ℕ) (answer : Reaction) (new : Node) : Type 0 where
+  anew : answer ≡ reaction.Taken → new ≡ restarted old number → Restarts old number answer new
+  -- no room for what a coordinator begins with
+  no_memory : (c : CoordinatorState) → old ≡ Coordinator c → answer ≡ reaction.NoMemory → new ≡ old → Restarts old number answer new
 
 -- the node at which an event happens
 abbrev pub node_of : OpenEvent → ℕ
@@ -14,21 +69,21 @@ node_of (Work node) = node
 node_of (Poll node worker) = node
 node_of (Restart node number) = node
 
--- the event may take its node from old to new with this reaction; a restart gives the new node of its formula
-abbrev pub Reacts : OpenEvent → NodeState → Reaction → NodeState → Type 0
+-- the event may take its node from old to new with this reaction
+abbrev pub Reacts : OpenEvent → Node → Reaction → Node → Type 0
 Reacts (Deliver node bytes) old answer new = Delivers old bytes answer new
-Reacts (Work node) old answer new = (answer ≡ reaction.Ignored) × (new ≡ old)
-Reacts (Poll node worker) old answer new = (answer ≡ reaction.Ignored) × (new ≡ old)
-Reacts (Restart node number) old answer new = (answer ≡ reaction.Taken) × (new ≡ fresh old.formula)
+Reacts (Work node) old answer new = Works old answer new
+Reacts (Poll node worker) old answer new = Polls old worker answer new
+Reacts (Restart node number) old answer new = Restarts old number answer new
 
 -- the event leaves its node as that node reacts, and no other changes; where there is no such node, it is ignored
-abbrev pub Happens : List NodeState → OpenEvent → Reaction → List NodeState → Type 0
+abbrev pub Happens : List Node → OpenEvent → Reaction → List Node → Type 0
 Happens old event answer new =
     MatchOption (slice_get old (node_of event))
-    ((answer ≡ reaction.Ignored) × (new ≡ old))
-    (λ n. (m : NodeState) × Reacts event n answer m × (new ≡ slice_set old (node_of event) m))
+    (Ignores old answer new)
+    (λ n. (m : Node) × Reacts event n answer m × (new ≡ slice_set old (node_of event) m))
 
 -- the events may take the nodes from old to new, one after the other
-abbrev pub Runs : List NodeState → List OpenEvent → List NodeState → Type 0
+abbrev pub Runs : List Node → List OpenEvent → List Node → Type 0
 Runs old [] new = new ≡ old
-Runs old (event ∷ events) new = (answer : Reaction) × (mid : List NodeState) × Happens old event answer mid × Runs mid events new
+Runs old (event ∷ events) new = (answer : Reaction) × (mid : List Node) × Happens old event answer mid × Runs mid events new

@@ -3,7 +3,7 @@
 ghost use Rattle.std.specs.Prelude.{◌≡◌};
 ghost use Rattle.cluster.specs.OpenSchedule.{node_of};
 
-use crate::bytes::Bytes;
+use evidence::Bytes;
 
 /// An event of an open schedule. Nodes are numbered from 0.
 #[derive(Drop)]

@@ -1,14 +1,14 @@
 //! Clusters of nodes under every schedule: what a node holds is right, and no two nodes of one formula disagree.
+//!
+//! What a layer above may rest on: whatever events come to the nodes of an [`OpenCluster`], each verdict is right and true of its
+//! node's formula, and nodes of one formula agree, at one moment or one later.
 #![tactic(auto)]
 
-mod bytes;
-mod candidate;
 mod event;
 mod laws;
 mod node;
 mod open;
 
-pub use bytes::Bytes;
 pub use event::OpenEvent;
 pub use laws::verdicts_agree;
 pub use node::Node;

@@ -1,99 +1,172 @@
-//! A node of an open cluster.
+//! A node of a cluster.
 
-ghost use Rattle.std.specs.Prelude.{◌≡◌};
+ghost use Rattle.std.specs.Prelude.{◌≡◌, MatchBool};
+ghost use Rattle.evidence.specs.Events.{Delivered, Polled, Reacted, given_by};
 ghost use Rattle.lrat_check.specs.Verdicts.{Right};
-ghost use Rattle.cluster.specs.Nodes.{NodeState, fresh};
-ghost use Rattle.cluster.specs.Candidates.{Delivers};
-ghost use Rattle.cluster.specs.OpenSchedule.{Reacts};
+ghost use Rattle.cluster.specs.Nodes.{formula_of, verdict_of, IsSound};
+ghost use Rattle.cluster.specs.OpenSchedule.{NodeStep, Delivers, Works, Polls, Restarts, Reacts, HasNoWorker, MaySendTo, answer_to};
 
-use crate::candidate::weigh;
 use crate::event::OpenEvent;
+use coordinator_core::Coordinator;
 use dimacs::Formula;
+use frames::{Frame, WorkerNumber, first_frame};
 use lrat_check::{Reaction, Verdict};
-use std::alloc::Global;
-use std::marker::Model;
+use std::alloc::{AllocError, Global};
+use worker_core::Worker;
 
-/// A worker that is given whole candidates: its formula, and what it knows of it.
-#[derive(Drop)]
-pub struct Node {
-    formula: Formula,
-    verdict: Verdict,
+/// A node: one of the two machines.
+pub enum Node {
+    /// It searches, and collects the verdict.
+    Worker(Worker),
+    /// It gives out the leaves of a tree, checks what was found, and hands out the verdict.
+    Coordinator(Coordinator),
 }
 
-impl Model for Node {
-    ghost use Rattle.lrat_check.specs.Verdicts.{Right};
-    ghost use Rattle.cluster.specs.Nodes.{NodeState};
-
-    ghost Value = { NodeState };
-
-    ghost view = { λ n. record { formula = n.formula; verdict = n.verdict } };
-
-    ghost invariant = { λ n. Right n.formula n.verdict };
+impl Drop for Node {
+    fn drop(self) {
+        match self {
+            Node::Worker(_) => {}
+            Node::Coordinator(_) => {}
+        }
+    }
 }
 
 impl Node {
-    /// A node of this formula, which holds nothing yet.
-    pub fn candidate(formula: Formula) -> Node
-        ensures { result ≡ fresh formula }
+    /// The formula that it was started with.
+    pub fn formula(&self) -> &Formula
+        ensures { result.now ≡ formula_of self.now }
     {
-        Node {
-            formula,
-            verdict: Verdict::Nothing,
+        match self {
+            Node::Worker(worker) => worker.formula(),
+            Node::Coordinator(coordinator) => coordinator.formula(),
         }
     }
 
-    /// Its formula.
-    pub fn formula(&self) -> &Formula
-        ensures { result.now ≡ self.now.formula }
-    {
-        &self.formula
-    }
-
-    /// What it holds.
+    /// The verdict that it holds. It takes no memory.
     pub fn verdict(&self) -> &Verdict
-        ensures value { result.now ≡ self.now.verdict }
-        ensures right { Right self.now.formula result.now }
+        ensures value { result.now ≡ verdict_of self.now }
+        ensures sound { IsSound self.now }
+        ensures right { Right (formula_of self.now) result.now }
     {
-        &self.verdict
+        match self {
+            Node::Worker(worker) => worker.verdict(),
+            Node::Coordinator(coordinator) => coordinator.verdict(),
+        }
     }
 
-    /// A candidate comes to it, or any other bytes: 1 and the text of a proof, or 2 and a byte for each variable, 1 for
-    /// true. It keeps the first that is right, and takes no other.
+    /// Any bytes come to it: their first whole frame is delivered, and what follows is not looked at.
     pub fn deliver(&mut self, alloc: Global, bytes: &[u8]) -> Reaction
         ensures { Delivers self.old bytes.now result self.new }
     {
-        let Verdict::Nothing = self.verdict else {
-            return Reaction::Ignored;
-        };
-        match weigh(alloc, &self.formula, bytes) {
-            Ok(verdict) => {
-                self.verdict = verdict;
-                Reaction::Verdict
-            }
-            Err(answer) => answer,
+        match first_frame(alloc, bytes) {
+            Ok(Some(frame)) => self.deliver_frame(&frame),
+            Ok(None) => Reaction::Ignored,
+            Err(_) => Reaction::NoMemory,
         }
     }
 
-    /// It begins anew from its formula, and drops its verdict.
-    pub fn restart(&mut self)
-        ensures { self.new ≡ fresh self.old.formula }
+    /// A frame comes to it.
+    fn deliver_frame(&mut self, frame: &Frame) -> Reaction
+        ensures { NodeStep self.old (Delivered frame.now) (Reacted result) self.new }
     {
-        self.verdict = Verdict::Nothing;
+        match self {
+            Node::Worker(worker) => worker.deliver(frame),
+            Node::Coordinator(coordinator) => coordinator.deliver(frame),
+        }
+    }
+
+    /// It is to work; a coordinator has nothing to do.
+    pub fn work(&mut self) -> Reaction
+        ensures { Works self.old result self.new }
+    {
+        match self {
+            Node::Worker(worker) => worker.work(),
+            Node::Coordinator(_) => Reaction::Ignored,
+        }
+    }
+
+    /// It is asked what it has to send, a coordinator to the worker of this number. The frame goes nowhere.
+    pub fn poll(&mut self, number: u32) -> Reaction
+        ensures { Polls self.old number result self.new }
+    {
+        if !self.may_send_to(number) {
+            return Reaction::Ignored;
+        }
+        let sent = self.send_to(number);
+        polled(&sent)
+    }
+
+    /// Whether it can be asked what it has to send to a worker.
+    fn may_send_to(&self, number: u32) -> bool
+        ensures { MatchBool result (MaySendTo self.now number) (HasNoWorker self.now number) }
+    {
+        match self {
+            Node::Worker(_) => true,
+            Node::Coordinator(coordinator) => number >= 1 && number <= coordinator.workers(),
+        }
+    }
+
+    /// What it has to send to a worker.
+    fn send_to(&mut self, number: u32) -> Result<Frame, AllocError>
+        requires { MaySendTo self.old number }
+        ensures { NodeStep self.old (Polled number) (given_by result) self.new }
+    {
+        match self {
+            Node::Worker(worker) => worker.poll(),
+            Node::Coordinator(coordinator) => {
+                // That it has at most 64 workers.
+                let _ = coordinator.workers();
+                coordinator.poll(WorkerNumber::new(number))
+            }
+        }
+    }
+
+    /// It begins anew from its formula, under another number, and drops verdict and work. Where a coordinator finds no
+    /// memory for that, it stays as it was.
+    pub fn restart(&mut self, number: u64) -> Reaction
+        ensures { Restarts self.old number result self.new }
+    {
+        match self {
+            Node::Worker(worker) => {
+                worker.restart(number);
+                Reaction::Taken
+            }
+            Node::Coordinator(coordinator) => match coordinator.restart(number) {
+                Ok(()) => Reaction::Taken,
+                Err(_) => Reaction::NoMemory,
+            },
+        }
     }
 
     /// An event comes to it.
     pub(crate) fn react(&mut self, alloc: Global, event: &OpenEvent) -> Reaction
         ensures reacts { Reacts event.now self.old result self.new }
-        ensures formula { self.new.formula ≡ self.old.formula }
-        ensures right { Right self.old.formula self.old.verdict → Right self.new.formula self.new.verdict }
+        ensures sound { IsSound self.new }
+    {
+        let answer = self.play(alloc, event);
+        // That it is sound is told by a look at it.
+        let _ = self.verdict();
+        answer
+    }
+
+    fn play(&mut self, alloc: Global, event: &OpenEvent) -> Reaction
+        ensures { Reacts event.now self.old result self.new }
     {
         match event {
             OpenEvent::Deliver { bytes, .. } => self.deliver(alloc, bytes.as_slice()),
-            OpenEvent::Work { .. } | OpenEvent::Poll { .. } => Reaction::Ignored,
-            OpenEvent::Restart { .. } => {
-                self.restart();
-                Reaction::Taken
-            }
+            OpenEvent::Work { .. } => self.work(),
+            OpenEvent::Poll { worker, .. } => self.poll(*worker),
+            OpenEvent::Restart { number, .. } => self.restart(*number),
         }
+    }
+}
+
+/// What is answered to a poll whose frame goes nowhere.
+fn polled(sent: &Result<Frame, AllocError>) -> Reaction
+    ensures { result ≡ answer_to sent.now }
+{
+    match sent {
+        Ok(_) => Reaction::Taken,
+        Err(_) => Reaction::NoMemory,
     }
 }

@@ -2,20 +2,27 @@
 
 ghost use Rattle.std.specs.Prelude.{◌≡◌, slice_get};
 ghost use Rattle.std.specs.Option.{option_copied, option_map};
-ghost use Rattle.cluster.specs.Nodes.{NodeState, AreRight, formulas};
+ghost use Rattle.cluster.specs.Agreement.{Agree};
+ghost use Rattle.cluster.specs.Nodes.{AreSound, AreRight, AreTrue, formulas, verdict_of};
 ghost use Rattle.cluster.specs.OpenSchedule.{Happens, Runs};
 
 use crate::event::OpenEvent;
+use crate::laws::verdicts_agree;
 use crate::node::Node;
 use lrat_check::{Reaction, Verdict};
 use std::alloc::Global;
 use std::marker::Model;
 
+impl Drop for OpenCluster {
+    fn drop(self) {
+        let OpenCluster { alloc: _, nodes: _ } = self;
+    }
+}
+
 /// One event at these nodes, and what its node answers.
 fn happen(alloc: Global, nodes: &mut Vec<Node>, event: &OpenEvent) -> Reaction
     ensures happens { Happens nodes.old.items event.now result nodes.new.items }
-    ensures formulas { formulas nodes.new.items ≡ formulas nodes.old.items }
-    ensures right { AreRight nodes.old.items → AreRight nodes.new.items }
+    ensures sound { AreSound nodes.old.items → AreSound nodes.new.items }
 {
     let place = event.node();
     if place >= nodes.len() {
@@ -25,7 +32,6 @@ fn happen(alloc: Global, nodes: &mut Vec<Node>, event: &OpenEvent) -> Reaction
 }
 
 /// Nodes, to which an event happens at a time.
-#[derive(Drop)]
 pub struct OpenCluster {
     alloc: Global,
     nodes: Vec<Node>,
@@ -33,34 +39,39 @@ pub struct OpenCluster {
 
 impl Model for OpenCluster {
     ghost use Rattle.std.specs.Prelude.{List};
-    ghost use Rattle.cluster.specs.Nodes.{NodeState, AreRight};
+    ghost use Rattle.cluster.specs.declared.node.Node.{Node};
+    ghost use Rattle.cluster.specs.Nodes.{AreSound};
 
-    ghost Value = { List NodeState };
+    ghost Value = { List Node };
 
     ghost view = { λ c. c.nodes.items };
 
-    ghost invariant = { λ c. AreRight c.nodes.items };
+    ghost invariant = { λ c. AreSound c.nodes.items };
 }
 
 impl OpenCluster {
     /// A cluster of these nodes, numbered from 0. What comes to them is stored by `alloc`.
     pub fn new(alloc: Global, nodes: Vec<Node>) -> OpenCluster
         ensures holds { result ≡ nodes.items }
-        ensures right { AreRight result }
+        ensures sound { AreSound result }
     {
-        // That what a node holds is right is told by a look at it: one look at each tells it of all.
+        // That a node is sound is told by a look at it: one look at each tells it of all.
         for node in &nodes {
             let _ = node.verdict();
         }
         OpenCluster { alloc, nodes }
     }
 
-    /// One event, and what its node answers.
+    /// One event, and what its node answers. What the nodes hold stays right, and agrees with all that they held before.
     pub fn step(&mut self, event: &OpenEvent) -> Reaction
         ensures happens { Happens self.old event.now result self.new }
         ensures formulas { formulas self.new ≡ formulas self.old }
         ensures right { AreRight self.new }
+        ensures truth { AreTrue self.new }
+        ensures agree { Agree self.old self.new }
+        ensures sound { AreSound self.new }
     {
+        verdicts_agree();
         happen(self.alloc, &mut self.nodes, event)
     }
 
@@ -69,16 +80,20 @@ impl OpenCluster {
         ensures runs { Runs self.old events.now self.new }
         ensures formulas { formulas self.new ≡ formulas self.old }
         ensures right { AreRight self.new }
+        ensures truth { AreTrue self.new }
+        ensures agree { Agree self.old self.new }
+        ensures sound { AreSound self.new }
     {
+        verdicts_agree();
         for event in events {
             let _ = happen(self.alloc, &mut self.nodes, event);
         }
     }
 
-    /// What a node holds; None where there is no such node.
+    /// The verdict that a node holds; None where there is no such node. It takes no memory.
     pub fn verdict(&self, node: usize) -> Option<&Verdict>
-        ensures holds { option_copied result ≡ option_map (λ n. n.verdict) (slice_get self.now node) }
-        ensures right { AreRight self.now }
+        ensures holds { option_copied result ≡ option_map verdict_of (slice_get self.now node) }
+        ensures sound { AreSound self.now }
     {
         Some(self.nodes.get(node)?.verdict())
     }

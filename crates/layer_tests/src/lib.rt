@@ -4,6 +4,8 @@
 #[cfg(test)]
 mod arenas;
 #[cfg(test)]
+mod carriers;
+#[cfg(test)]
 mod conflicts;
 #[cfg(test)]
 mod deciding;

@@ -1,10 +1,22 @@
 use Rattle.cluster.proofs.AgreementLemmas.{moments_agree}
-use Rattle.cluster.proofs.ScheduleLemmas.{runs_right, runs_formulas}
+use Rattle.cluster.proofs.ScheduleLemmas.{Keeping, runs_sound, runs_formulas}
 use Rattle.cluster.proofs.laws.verdicts_agree.Goals as goal
 
-pub returns : goal.returns
-returns c = record {
-  right = λ start later events right runs. runs_right start events later runs right;
-  formulas = λ start later events runs. runs_formulas start events later runs;
-  agree = moments_agree c.right_verdicts_agree.ensures;
+-- what the machines' laws say
+keeping : goal.After-coordinators_keep_what_they_hold → Keeping
+keeping c = record {
+  worker = λ old event given new step right. c.workers_keep_what_they_hold.ensures.right old event given new step right;
+  worker_formula = λ old event given new step. (c.workers_keep_what_they_hold.ensures.itself old event given new step).formula;
+  coordinator = λ old event given new sound step. c.coordinators_keep_what_they_hold.ensures.sound old event given new step sound;
+  coordinator_formula = λ old event given new step. (c.coordinators_keep_what_they_hold.ensures.itself old event given new step).formula;
+  anew = λ k session sound. c.coordinators_keep_what_they_hold.ensures.anew k session sound;
 }
+
+pub returns-clause-sound : goal.returns-clause-sound
+returns-clause-sound c = λ start later events sound runs. runs_sound (keeping c) start events later runs sound
+
+pub returns-clause-formulas : goal.returns-clause-formulas
+returns-clause-formulas c = λ start later events sound runs. runs_formulas (keeping c) start events later runs
+
+pub returns-clause-agree : goal.returns-clause-agree
+returns-clause-agree c = moments_agree (keeping c) c.right_verdicts_agree.ensures
