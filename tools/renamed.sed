@@ -1,4 +1,4 @@
-# Brings over code that was written against older names: sed -E -i -f tools/renamed.sed FILE.. Goes once the machines and links stand.
+# Brings over code that was written against older names: sed -E -i -f tools/renamed.sed FILE.. Goes once nothing more is brought over.
 s/Rattle\.dimacs\.specs\.(Base|ClauseMap|Cnf|Examples|Literal|Propagation|Rat)\b/Rattle.dimacs.specs.logic.\1/g
 s/Rattle\.dimacs\.specs\.(Answer|BodyState|Faults|Numbers|Reading|Rows|Spelling|Words)\b/Rattle.dimacs.specs.text.\1/g
 s/Rattle\.dimacs\.specs\.(Building|Capped|Codes|Flat)\b/Rattle.dimacs.specs.layout.\1/g

@@ -1,0 +1,225 @@
+#!/usr/bin/env python3
+"""Writes docs/READING.md: what a reader has to believe, counted from the contracts of public calls down.
+
+    tools/reading.py           writes the page
+    tools/reading.py --check   fails where the page is stale
+"""
+
+import re
+import sys
+from pathlib import Path
+
+ROOT = Path(__file__).resolve().parent.parent
+PAGE = ROOT / "docs" / "READING.md"
+
+# The claims: a heading, a sentence, and the clauses of contracts that carry it.
+CLAIMS = [
+    (
+        "`s VERIFIED` is true",
+        "Where `check` ends with status 0, the input spells a formula that no assignment satisfies. Nothing of proofs has to be "
+        "read for that.",
+        [("node_main", "run_check", ["truth"])],
+    ),
+    (
+        "What a node holds is true, and nodes agree",
+        "Whatever events come to the nodes of a cluster, what each holds is true of its formula, and nodes of one formula never "
+        "hold verdicts that differ.",
+        [("cluster", "run", ["formulas", "truth", "agree"]), ("cluster", "verdict", ["holds"])],
+    ),
+    (
+        "`check` accepts exactly what the definition accepts",
+        "A text is accepted where the definition accepts it, and refused for want of memory alone where it does.",
+        [("lrat_check", "check", ["accepted", "complete"])],
+    ),
+]
+
+HEAD = """# What has to be believed
+
+Each claim with the clauses of contracts that carry it, and all definitions that these name, directly or not, from the contract
+down: nothing else of the repository has to be read to know what is claimed. Definitions of the kit (numbers, lists, options) are not
+counted. The page is made by `tools/reading.py`, which counts them from the sources.
+"""
+
+IDENT = re.compile(r"[A-Za-z_][A-Za-z0-9_'-]*")
+USE = re.compile(r"^\s*(?:ghost )?use (Rattle\.\S+?)(?:\.\{(.*)\}| as (\S+?))?;?$")
+
+
+def imports(text):
+    """Names that a file imports: name -> (module, name there); aliases of modules: alias -> module."""
+    names, modules = {}, {}
+    for line in text.splitlines():
+        found = USE.match(line)
+        if not found:
+            continue
+        module, items, alias = found.groups()
+        if items is not None:
+            for item in items.split(","):
+                parts = item.strip().split(" as ")
+                names[parts[-1].strip()] = (module, parts[0].strip())
+        elif alias:
+            modules[alias] = module
+    return names, modules
+
+
+class Spec:
+    """A file of definitions: name -> its lines, comments included."""
+
+    def __init__(self, path):
+        self.path = path
+        text = path.read_text()
+        self.names, self.modules = imports(text)
+        self.blocks = {}
+        comment, name = [], None
+        for line in text.splitlines():
+            if line.startswith("use ") or line.startswith("module "):
+                comment, name = [], None
+            elif not line.strip():
+                comment, name = [], None
+            elif line.startswith("--"):
+                comment.append(line)
+            elif line.startswith(" ") and name:
+                self.blocks[name].append(line)
+            else:
+                name = re.match(r"(?:(?:abbrev|pub|record|data) )*(\S+)", line).group(1)
+                self.blocks.setdefault(name, []).extend(comment + [line])
+                comment = []
+
+
+SPECS = {}
+
+
+def spec(module):
+    """The file of a module `Rattle.CRATE.specs.A.B`, or None for the kit's and for declared types."""
+    parts = module.split(".")
+    if len(parts) < 4 or parts[2] != "specs" or parts[3] == "declared":
+        return None
+    path = ROOT / "crates" / parts[1] / "specs" / ("/".join(parts[3:]) + ".antt")
+    if not path.exists():
+        return None
+    return SPECS.setdefault(path, Spec(path))
+
+
+def code(lines):
+    return [line for line in lines if not line.lstrip().startswith("--")]
+
+
+def words(lines):
+    """Identifiers of some lines, in order; `a.b` gives a and a.b's module word."""
+    seen = []
+    for line in code(lines):
+        for word in IDENT.findall(line):
+            if word not in seen:
+                seen.append(word)
+    return seen
+
+
+def declared(module):
+    parts = module.split(".")
+    if "declared" not in parts or parts[0] != "Rattle":
+        return None
+    return parts[1], parts[parts.index("declared") + 1 :]
+
+
+def reach(roots, names, modules, spec_here, found, types):
+    """Adds to `found`, in reading order, what the words name."""
+    queue = [(roots, names, modules, spec_here)]
+    while queue:
+        batch, names, modules, here = queue.pop(0)
+        for word in batch:
+            if word in modules:
+                kind = declared(modules[word])
+                if kind and kind not in types:
+                    types.append(kind)
+                continue
+            if word in names:
+                module, there = names[word]
+                kind = declared(module)
+                if kind and kind not in types:
+                    types.append(kind)
+                target = spec(module)
+            elif here and word in here.blocks:
+                target, there = here, word
+            else:
+                continue
+            if target is None or there not in target.blocks or (target.path, there) in found:
+                continue
+            found.append((target.path, there))
+            queue.append((words(target.blocks[there]), target.names, target.modules, target))
+
+
+def contract(crate, function, clauses):
+    """The clauses of a function's contract, and the file that has it."""
+    for path in sorted((ROOT / "crates" / crate / "src").rglob("*.rt")):
+        text = path.read_text()
+        begun = re.search(r"pub fn %s\b[^{;]*?(?=\n\s*(?:requires|ensures|//))" % function, text, re.S)
+        if not begun:
+            continue
+        rest = text[begun.end() :]
+        body = re.search(r"\n( *)\{", rest)
+        lines = rest[: body.start()].splitlines()
+        kept, keep = [], False
+        for line in lines:
+            clause = re.match(r"\s*(?:ensures|requires) ?(\w+)?", line)
+            if clause:
+                keep = clause.group(1) in clauses
+            elif line.strip().startswith("//"):
+                keep = False
+            if keep and line.strip():
+                kept.append(line.strip())
+        if kept:
+            return path, text, kept
+    raise SystemExit(f"no contract {crate}::{function} with {clauses}")
+
+
+def typed(kind):
+    crate, parts = kind
+    return f"`{crate}::{parts[-1] if parts[-1] != 'TheVariants' else parts[-2]}`"
+
+
+def page():
+    out = [HEAD]
+    totals = []
+    for title, sentence, carriers in CLAIMS:
+        found, types, clauses = [], [], []
+        for crate, function, names in carriers:
+            path, text, kept = contract(crate, function, names)
+            clauses.append((path, function, kept))
+            imported, modules = imports(text)
+            reach(words(kept), imported, modules, None, found, types)
+        lines = sum(len(code(spec_of(path).blocks[name])) for path, name in found)
+        totals.append((title, len(found), lines))
+        out.append(f"\n## {title}\n\n{sentence}\n")
+        for path, function, kept in clauses:
+            out.append(f"`{function}` in `{path.relative_to(ROOT)}`:\n\n```text")
+            out.extend(kept)
+            out.append("```\n")
+        out.append(f"{len(found)} definitions, {lines} lines.")
+        files = []
+        for path, name in found:
+            if path not in files:
+                files.append(path)
+        for path in files:
+            out.append(f"\n`{path.relative_to(ROOT)}`:\n\n```text")
+            blocks = ["\n".join(spec_of(path).blocks[name]) for p, name in found if p == path]
+            out.append("\n\n".join(blocks))
+            out.append("```")
+        if types:
+            names = sorted({typed(kind) for kind in types})
+            out.append(f"\nTypes of the code that they name: {', '.join(names)}.")
+    return "\n".join(out) + "\n"
+
+
+def spec_of(path):
+    return SPECS[path]
+
+
+def main():
+    text = page()
+    if "--check" in sys.argv[1:]:
+        if not PAGE.exists() or PAGE.read_text() != text:
+            raise SystemExit("docs/READING.md is stale: run tools/reading.py")
+        return
+    PAGE.write_text(text)
+
+
+main()
