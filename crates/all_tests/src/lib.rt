@@ -26,6 +26,8 @@ mod profile;
 #[cfg(test)]
 mod propagators;
 #[cfg(test)]
+mod renumbering;
+#[cfg(test)]
 mod searches;
 #[cfg(test)]
 mod solving;

@@ -3,6 +3,7 @@ pub mod BaseLemmas
 pub mod BodyLemmas
 pub mod BuilderLemmas
 pub mod ExampleLemmas
+pub mod ExtensionLemmas
 pub mod FlatLemmas
 pub mod FlatPush
 pub mod FormulaLemmas

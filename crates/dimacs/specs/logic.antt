@@ -3,6 +3,7 @@ pub mod Base
 pub mod ClauseMap
 pub mod Cnf
 pub mod Examples
+pub mod Extension
 pub mod Literal
 pub mod Propagation
 pub mod Rat

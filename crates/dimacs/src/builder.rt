@@ -3,6 +3,7 @@
 ghost use Rattle.std.specs.Prelude.{◌≡◌, ℕ, ◌+◌, ◌^◌, ◌<◌, ◌≤◌, max, [], ◌∷◌, ◌++◌, length, OnOk, OnErr, IfOk, MatchBool};
 ghost use Rattle.dimacs.specs.logic.Cnf.{AreWithin, greatest_of, greatest_in};
 
+use crate::extension::Extension;
 use crate::formula::Formula;
 use crate::literal::Lit;
 use std::alloc::{AllocError, Global};
@@ -108,5 +109,19 @@ impl Builder {
             ..
         } = self;
         Formula::from_parts(vars, literals, places)
+    }
+
+    /// The clauses as an extension, over the variables from 1 to `vars`; these may be more than a formula has.
+    pub fn finish_extension(self, vars: u32) -> Extension
+        requires closed { self.open_clause ≡ [] }
+        requires within { AreWithin vars self.done }
+        ensures { result ≡ record { vars = vars; clauses = self.done } }
+    {
+        let Builder {
+            literals,
+            places,
+            ..
+        } = self;
+        Extension::from_parts(vars, literals, places)
     }
 }

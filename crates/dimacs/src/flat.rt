@@ -1,11 +1,11 @@
 //! Clauses that lie one after the other in a vector of literals, each between a place and the next.
 
-ghost use Rattle.std.specs.Prelude.{◌≡◌, ℕ, ◌+◌, ◌<◌, ◌^◌, [], ◌∷◌, ◌++◌, length, slice_index_or, vec_len, All, OnOk, OnErr};
+ghost use Rattle.std.specs.Prelude.{◌≡◌, ℕ, ◌+◌, ◌<◌, ◌^◌, [], ◌∷◌, ◌++◌, length, slice_index_or, vec_len, All, IfOk, OnOk, OnErr};
 ghost use Rattle.dimacs.specs.logic.Literal.{IsWithin};
 ghost use Rattle.dimacs.specs.layout.Flat.{parts, ArePlaces, Fills};
 
 use crate::literal::Lit;
-use std::alloc::AllocError;
+use std::alloc::{AllocError, Global};
 
 /// The clause of this number, from 0.
 #[tactic(auto, using(crate::proofs::FlatLemmas::flat))]
@@ -35,4 +35,45 @@ pub(crate) fn push_clause(
     literals.reserve(clause.len())?;
     places.push(end)?;
     literals.extend_from_slice(clause)
+}
+
+/// Appends clauses that lie in lists of their own. Where memory is refused, some of them have been appended.
+pub(crate) fn push_clauses(
+    literals: &mut Vec<Lit>,
+    places: &mut Vec<u32>,
+    more: &[Lit],
+    ends: &[u32],
+) -> Result<(), AllocError>
+    requires fills { Fills literals.old.items places.old.items }
+    requires more { Fills more.now ends.now }
+    requires room { vec_len literals.old + length more.now < 2 ^ 32 }
+    ensures fills { Fills literals.new.items places.new.items }
+    ensures ok { OnOk result (parts literals.new.items places.new.items ≡ parts literals.old.items places.old.items ++ parts more.now ends.now) }
+{
+    for i in 0..ends.len() - 1 {
+        push_clause(literals, places, clause_at(more, ends, i))?;
+    }
+    Ok(())
+}
+
+/// The clauses of two pairs of lists, one behind the other, in lists of their own.
+pub(crate) fn joined(
+    alloc: Global,
+    literals: &[Lit],
+    places: &[u32],
+    more: &[Lit],
+    ends: &[u32],
+) -> Result<(Vec<Lit>, Vec<u32>), AllocError>
+    requires fills { Fills literals.now places.now }
+    requires more { Fills more.now ends.now }
+    requires room { length literals.now + length more.now < 2 ^ 32 }
+    ensures fills { IfOk result (λ p. Fills p.0.items p.1.items) }
+    ensures clauses { IfOk result (λ p. parts p.0.items p.1.items ≡ parts literals.now places.now ++ parts more.now ends.now) }
+{
+    let mut all = Vec::with_capacity(alloc, literals.len() + more.len())?;
+    let mut starts = Vec::with_capacity(alloc, places.len() + ends.len())?;
+    all.extend_from_slice(literals)?;
+    starts.extend_from_slice(places)?;
+    push_clauses(&mut all, &mut starts, more, ends)?;
+    Ok((all, starts))
 }

@@ -1,10 +1,12 @@
 //! Formulas in conjunctive normal form.
 
-ghost use Rattle.std.specs.Prelude.{◌≡◌, ◌<◌, ◌≤◌, [], length, slice_index_or, All, IfOk, vec_len};
+ghost use Rattle.std.specs.Prelude.{◌≡◌, ◌↔◌, ◌<◌, ◌≤◌, [], length, slice_index_or, All, IfOk, IsTrue, MatchOption, vec_len};
 ghost use Rattle.dimacs.specs.logic.Cnf.{IsFormula};
+ghost use Rattle.dimacs.specs.logic.Extension.{extended};
 ghost use Rattle.dimacs.specs.layout.Flat.{parts, Fills};
 ghost use Rattle.dimacs.specs.logic.Literal.{IsWithin};
 
+use crate::extension::Extension;
 use crate::flat;
 use crate::literal::Lit;
 use std::alloc::{AllocError, Global};
@@ -30,6 +32,13 @@ impl Model for Formula {
     ghost view = { λ f. record { vars = f.vars; clauses = parts f.literals.items f.places.items } };
 
     ghost invariant = { λ f. (f.vars ≤ 1000000) × Fills f.literals.items f.places.items × All (IsWithin f.vars) f.literals.items × (vec_len f.places ≤ 4000001) × (vec_len f.literals ≤ 50000000) };
+}
+
+/// Whether so many variables, clauses and literals are within the limits of a formula.
+fn are_few(vars: u32, clauses: usize, literals: usize) -> bool
+    ensures { IsTrue result ↔ (vars ≤ 1000000) × (clauses ≤ 4000000) × (literals ≤ 50000000) }
+{
+    vars <= 1_000_000 && clauses <= 4_000_000 && literals <= 50_000_000
 }
 
 impl Formula {
@@ -103,5 +112,27 @@ impl Formula {
             literals: Vec::from_slice(alloc, &self.literals)?,
             places: Vec::from_slice(alloc, &self.places)?,
         })
+    }
+
+    /// The formula with the extension's clauses behind its own, over the greater number of variables; `None` where that would be
+    /// above a limit. It takes time in the size of both.
+    pub fn extended(
+        &self,
+        alloc: Global,
+        extension: &Extension,
+    ) -> Result<Option<Formula>, AllocError>
+        ensures { IfOk result (λ found. MatchOption found
+            (¬ (IsFormula (extended self.now extension.now)))
+            (λ f. (f ≡ extended self.now extension.now) × IsFormula (extended self.now extension.now))) }
+    {
+        let (more, ends) = extension.parts();
+        let vars = self.vars.max(extension.vars());
+        let clauses = self.len() + extension.len();
+        let count = self.literals.len() + more.len();
+        if !are_few(vars, clauses, count) {
+            return Ok(None);
+        }
+        let (literals, places) = flat::joined(alloc, &self.literals, &self.places, more, ends)?;
+        Ok(Some(Formula::from_parts(vars, literals, places)))
     }
 }

@@ -119,6 +119,35 @@ fn a_builder_makes_a_formula(rt: HostRuntime) -> Result<(), Fail> {
 }
 
 #[test]
+fn an_extension_stands_behind_the_formula(rt: HostRuntime) -> Result<(), Fail> {
+    let a = rt.alloc();
+    let formula = read(a, b"p cnf 2 1\n1 -2 0\n")?;
+    let mut builder = Builder::new(a)?;
+    builder.push(Lit::positive(Var::new(3)))?;
+    builder.end_clause()?;
+    let extension = builder.finish_extension(4).copy(a)?;
+    assert_eq!(rt; extension.vars(), 4);
+    assert_eq!(rt; extension.len(), 1);
+    let mut out = Vec::new(a);
+    if let Some(longer) = formula.extended(a, &extension)? {
+        write(&longer, &mut out)?;
+    }
+    assert_eq!(rt; out.as_slice(), b"p cnf 4 2\n1 -2 0\n3 0\n".as_slice());
+    Ok(())
+}
+
+#[test]
+fn a_formula_is_not_extended_above_its_limit(rt: HostRuntime) -> Result<(), Fail> {
+    let a = rt.alloc();
+    let formula = read(a, b"p cnf 2 1\n1 -2 0\n")?;
+    let most = Builder::new(a)?.finish_extension(1_000_000);
+    assert!(rt; formula.extended(a, &most)?.is_some());
+    let above = Builder::new(a)?.finish_extension(1_000_001);
+    assert!(rt; formula.extended(a, &above)?.is_none());
+    Ok(())
+}
+
+#[test]
 fn pushed_clauses_and_variables_follow_the_formula(rt: HostRuntime) -> Result<(), Fail> {
     let formula = read(rt.alloc(), b"p cnf 2 2\n1 2 0\n1 -2 0\n")?;
     assert_eq!(rt; formula.vars(), 2);

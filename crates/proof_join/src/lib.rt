@@ -4,6 +4,9 @@
 //! the fragments from left to right, each under numbers of its own, and behind the two branches of a fork the line that
 //! resolves their clauses, where one is needed. What a layer above may rest on: [`join`] gives the text that the definition
 //! fixes, and it is an accepted proof of the formula alone.
+//!
+//! [`renumber`] writes a proof anew for a formula to which clauses were added: it is an accepted proof of that formula where
+//! its additions follow by reverse unit propagation.
 #![tactic(auto)]
 
 mod examples;
@@ -11,9 +14,14 @@ mod fault;
 mod joining;
 mod laws;
 mod lines;
+mod renumbering;
 mod subtree;
 
-pub use examples::worked_joins;
+pub use examples::{worked_joins, worked_renumberings};
 pub use fault::JoinFault;
 pub use joining::join;
-pub use laws::{joined_is_accepted, one_text_is_joined, units_are_a_preamble};
+pub use laws::{
+    joined_is_accepted, one_text_is_joined, one_text_is_renumbered, renumbered_proofs_are_accepted,
+    units_are_a_preamble,
+};
+pub use renumbering::renumber;

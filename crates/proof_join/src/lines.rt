@@ -43,7 +43,7 @@ fn behind(base: u64, top: u64, number: u64) -> u64
 }
 
 /// Puts these numbers, renumbered, in the place of those that `out` had.
-fn renumber(base: u64, top: u64, numbers: &[u64], out: &mut Vec<u64>) -> Result<(), AllocError>
+fn all_behind(base: u64, top: u64, numbers: &[u64], out: &mut Vec<u64>) -> Result<(), AllocError>
     requires numbers { All (λ n. n < 2 ^ 48) numbers.now }
     requires top { top < 2 ^ 48 }
     ensures { OnOk result (out.new.items ≡ map (behind base top) numbers.now) }
@@ -78,7 +78,7 @@ fn put_renumbered(
             hints,
             groups,
         } => {
-            match renumber(base, begun, hints, numbers) {
+            match all_behind(base, begun, hints, numbers) {
                 Ok(()) => {}
                 Err(_) => return Err(JoinFault::NoMemory),
             }
@@ -95,7 +95,7 @@ fn put_renumbered(
             }
         }
         StepRef::Delete { ids } => {
-            match renumber(base, begun, ids, numbers) {
+            match all_behind(base, begun, ids, numbers) {
                 Ok(()) => {}
                 Err(_) => return Err(JoinFault::NoMemory),
             }

@@ -28,4 +28,4 @@ put_line-requires-in-Delete-clause-limits c =
     let few = c.requires.top in
     let z : IsStep (Delete (map (behind c.args.base c.args.begun) c.in-Delete.ids.now)) =
     low_deletion c.args.base c.args.begun (c.args.base + (c.args.top - c.args.begun)) c.in-Delete.ids.now above.1 (omega arith) (omega arith) limits low in
-    subst (λ (ns : List ℕ). All IsClauseNumber ns) (sym (c.deref-in-Delete.ensures.value ∙ c.in-Ok-renumber.ensures)) z
+    subst (λ (ns : List ℕ). All IsClauseNumber ns) (sym (c.deref-in-Delete.ensures.value ∙ c.in-Ok-all_behind.ensures)) z

@@ -1,0 +1,94 @@
+//! Clauses that are added to a formula.
+
+ghost use Rattle.std.specs.Prelude.{◌≡◌, ◌<◌, ◌≤◌, [], length, slice_index_or, All, IfOk, vec_len};
+ghost use Rattle.dimacs.specs.logic.Cnf.{AreWithin};
+ghost use Rattle.dimacs.specs.layout.Flat.{parts, Fills};
+ghost use Rattle.dimacs.specs.logic.Literal.{IsWithin};
+
+use crate::flat;
+use crate::literal::Lit;
+use std::alloc::{AllocError, Global};
+use std::marker::Model;
+
+/// Clauses that may be added to a formula, with a number of variables that the formula is to have at least. They may be none, and
+/// there are at most 4,000,000 of them, with 50,000,000 literals; the number of variables may be above a formula's limit.
+#[derive(Drop)]
+pub struct Extension {
+    vars: u32,
+    literals: Vec<Lit>,
+    places: Vec<u32>,
+}
+
+impl Model for Extension {
+    ghost use Rattle.std.specs.Prelude.{◌≤◌, All, vec_len};
+    ghost use Rattle.dimacs.specs.logic.Cnf.{Cnf};
+    ghost use Rattle.dimacs.specs.logic.Literal.{IsWithin};
+    ghost use Rattle.dimacs.specs.layout.Flat.{parts, Fills};
+
+    ghost Value = { Cnf };
+
+    ghost view = { λ x. record { vars = x.vars; clauses = parts x.literals.items x.places.items } };
+
+    ghost invariant = { λ x. Fills x.literals.items x.places.items × All (IsWithin x.vars) x.literals.items × (vec_len x.places ≤ 4000001) × (vec_len x.literals ≤ 50000000) };
+}
+
+impl Extension {
+    pub(crate) fn from_parts(vars: u32, literals: Vec<Lit>, places: Vec<u32>) -> Extension
+        requires places { Fills literals.items places.items }
+        requires within { All (IsWithin vars) literals.items }
+        requires count { vec_len places ≤ 4000001 }
+        requires total { vec_len literals ≤ 50000000 }
+        ensures { result ≡ record { vars = vars; clauses = parts literals.items places.items } }
+    {
+        Extension {
+            vars,
+            literals,
+            places,
+        }
+    }
+
+    /// How many variables the formula is to have at least: the greatest that a clause may name.
+    pub fn vars(&self) -> u32
+        ensures value { result ≡ self.now.vars }
+        ensures within { AreWithin self.now.vars self.now.clauses }
+    {
+        self.vars
+    }
+
+    /// How many clauses are added, at most 4,000,000.
+    #[tactic(auto, using(crate::proofs::FlatLemmas::length_parts))]
+    pub fn len(&self) -> usize
+        ensures value { result ≡ length self.now.clauses }
+        ensures limit { result ≤ 4000000 }
+    {
+        self.places.len() - 1
+    }
+
+    /// The clause of this number, from 0.
+    pub fn clause(&self, i: usize) -> &[Lit]
+        requires { i < length self.now.clauses }
+        ensures clause { result.now ≡ slice_index_or self.now.clauses i [] }
+        ensures within { All (IsWithin self.now.vars) result.now }
+    {
+        flat::clause_at(&self.literals, &self.places, i)
+    }
+
+    // Its literals, clause after clause, and the places where its clauses begin, with the place where the last one ends.
+    pub(crate) fn parts(&self) -> (&[Lit], &[u32])
+        ensures clauses { parts result.0.now result.1.now ≡ self.now.clauses }
+        ensures fills { Fills result.0.now result.1.now }
+    {
+        (&self.literals, &self.places)
+    }
+
+    /// The same extension again.
+    pub fn copy(&self, alloc: Global) -> Result<Extension, AllocError>
+        ensures { IfOk result (λ x. x ≡ self.now) }
+    {
+        Ok(Extension {
+            vars: self.vars,
+            literals: Vec::from_slice(alloc, &self.literals)?,
+            places: Vec::from_slice(alloc, &self.places)?,
+        })
+    }
+}

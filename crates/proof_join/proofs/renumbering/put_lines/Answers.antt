@@ -1,0 +1,40 @@
+use Rattle.std.proofs.Common.{◌∙◌, ℕ, List, length, ap, sym, subst, arith}
+use Rattle.lrat_text.specs.Grammar.{SpellsStep}
+use Rattle.lrat_text.specs.Steps.{step_of}
+use Rattle.proof_join.specs.Raising.{IsUnderWay}
+use Rattle.proof_join.proofs.RaisingLemmas.{begins, goes_on, not_read, not_put, no_end}
+use Rattle.proof_join.proofs.renumbering.put_lines.Goals as goal
+
+pub loop-line-init : goal.loop-line-init
+loop-line-init c = record {
+  way = subst (λ (out : List ℕ). IsUnderWay c.args.raise.above c.args.raise.by c.args.text.now c.args.rewriter.now.top out c.args.text.now) (sym c.requires.begun)
+      (begins c.args.raise.above c.args.raise.by c.args.rewriter.now.top c.args.text.now c.requires.highest);
+  short = let n = ap (λ (xs : List ℕ). length xs) c.requires.begun in omega arith;
+}
+
+pub returns-in-Err : goal.returns-in-Err
+returns-in-Err c =
+    not_read c.args.raise.above c.args.raise.by c.loop-line.rewriter.top c.args.text.now c.loop-line.rewriter.out.items c.loop-line.rest.now c.in-Some.line.now c.in-Some.later.now
+    c.in-Err.stop c.loop-line.invariant.way c.in-Some.ensures c.in-Err.ensures
+
+pub returns-in-Err-put_raised : goal.returns-in-Err-put_raised
+returns-in-Err-put_raised c =
+    let spells : SpellsStep c.in-Some.line.now (step_of c.as_ref.result) = subst (SpellsStep c.in-Some.line.now) (sym c.as_ref.ensures) c.in-Ok.ensures in
+    not_put c.args.raise.above c.args.raise.by c.loop-line.rewriter.top c.args.text.now c.loop-line.rewriter.out.items c.loop-line.rest.now c.in-Some.line.now c.in-Some.later.now
+    (step_of c.as_ref.result) c.in-Err-put_raised.stop c.loop-line.invariant.way c.in-Some.ensures spells c.in-Err-put_raised.ensures
+
+pub loop-line-preserved : goal.loop-line-preserved
+loop-line-preserved c =
+    let spells : SpellsStep c.in-Some.line.now (step_of c.as_ref.result) = subst (SpellsStep c.in-Some.line.now) (sym c.as_ref.ensures) c.in-Ok.ensures in
+    let way = c.loop-line.invariant.way in
+    let put = c.in-Ok-put_raised.ensures in
+    record {
+      way = goes_on c.args.raise.above c.args.raise.by c.loop-line.rewriter.top c.put_raised.new.rewriter.top c.args.text.now c.loop-line.rewriter.out.items c.put_raised.new.rewriter.out.items
+          c.loop-line.rest.now c.in-Some.line.now c.in-Some.later.now (step_of c.as_ref.result) way c.in-Some.ensures spells put;
+      short = (put way.high way.highest).short;
+    }
+
+pub returns-else-is_empty : goal.returns-else-is_empty
+returns-else-is_empty c =
+    no_end c.args.raise.above c.args.raise.by c.loop-line.rewriter.top c.args.text.now c.loop-line.rewriter.out.items c.loop-line.rest.now c.loop-line.invariant.way c.in_default.ensures
+    (sym c.is_empty.ensures ∙ c.if-is_empty.false)

@@ -1,0 +1,269 @@
+//! A proof's text for a formula that has got more clauses behind its own.
+
+ghost use Rattle.std.specs.Prelude.{◌≡◌, ℕ, ◌+◌, ◌^◌, ◌<◌, ◌≤◌, [], ◌∷◌, ◌++◌, List, min, max, map, length, All, IfOk, MatchOption, MatchResult};
+ghost use Rattle.lrat_text.specs.Grammar.{SpellsStep, IsStep, IsClauseNumber, IsGroup};
+ghost use Rattle.lrat_text.specs.Steps.{step_of};
+ghost use Rattle.lrat_text.specs.Writing.{line_of};
+ghost use Rattle.lrat_text.specs.declared.step.Step.{Step};
+ghost use Rattle.proof_join.specs.Numbering.{renumbered, renumbered_group};
+ghost use Rattle.proof_join.specs.Renumbering.{raised, LineFits, Renumbers};
+ghost use Rattle.proof_join.specs.Raising.{IsPut, Unless};
+
+use crate::fault::JoinFault;
+use crate::lines::put_line;
+use lrat_text::{Groups, StepBuffer, StepRef, TextFault, cut_line, read_line};
+use std::alloc::{AllocError, Global};
+
+/// The least number that is no clause number.
+const CAP: u64 = 281_474_976_710_656;
+
+/// Why no text is made.
+#[derive(Clone, Copy)]
+enum Stop {
+    /// There is none.
+    NoText,
+    /// Memory was refused.
+    NoMemory,
+}
+
+/// How numbers are raised: those above `above` by `by`.
+#[derive(Clone, Copy)]
+struct Raise {
+    above: u64,
+    by: u64,
+}
+
+impl Raise {
+    /// The number that stands for a clause number, if it is one.
+    fn number(self, number: u64) -> Option<u64>
+        requires { IsClauseNumber number }
+        ensures { MatchOption result (2 ^ 48 ≤ raised self.above self.by number) (λ n. (n ≡ raised self.above self.by number) × IsClauseNumber n) }
+    {
+        if number <= self.above {
+            return Some(number);
+        }
+        if self.by >= CAP - number {
+            return None;
+        }
+        Some(number + self.by)
+    }
+
+    /// Puts these numbers, raised, in the place of those that `out` had.
+    fn numbers(self, numbers: &[u64], out: &mut Vec<u64>) -> Result<(), Stop>
+        requires { All IsClauseNumber numbers.now }
+        ensures { MatchResult result
+            (λ _. (out.new.items ≡ map (raised self.above self.by) numbers.now) × All IsClauseNumber out.new.items)
+            (λ stop. Unless stop (¬ (All IsClauseNumber (map (raised self.above self.by) numbers.now)))) }
+    {
+        out.clear();
+        for number in numbers {
+            let Some(raised) = self.number(*number) else {
+                return Err(Stop::NoText);
+            };
+            match out.push(raised) {
+                Ok(()) => {}
+                Err(_) => return Err(Stop::NoMemory),
+            }
+        }
+        Ok(())
+    }
+
+    /// Puts these groups under raised numbers in the place of those that `out` had; the hints of each go through `hints`.
+    fn groups(self, groups: &Groups, hints: &mut Vec<u64>, out: &mut Groups) -> Result<(), Stop>
+        requires { All IsGroup groups.now }
+        ensures { MatchResult result
+            (λ _. (out.new ≡ map (renumbered_group (raised self.above self.by)) groups.now) × All IsGroup out.new)
+            (λ stop. Unless stop (¬ (All IsGroup (map (renumbered_group (raised self.above self.by)) groups.now)))) }
+    {
+        out.clear();
+        for i in 0..groups.len() {
+            let (candidate, own) = groups.get(i);
+            match self.group(candidate, own, hints, out) {
+                Ok(()) => {}
+                Err(stop) => return Err(stop),
+            }
+        }
+        Ok(())
+    }
+
+    /// Appends a group under raised numbers.
+    fn group(
+        self,
+        candidate: u64,
+        own: &[u64],
+        hints: &mut Vec<u64>,
+        out: &mut Groups,
+    ) -> Result<(), Stop>
+        requires { IsGroup (candidate, own.now) }
+        ensures { MatchResult result
+            (λ _. (out.new ≡ out.old ++ renumbered_group (raised self.above self.by) (candidate, own.now) ∷ []) × IsGroup (renumbered_group (raised self.above self.by) (candidate, own.now)))
+            (λ stop. Unless stop (¬ (IsGroup (renumbered_group (raised self.above self.by) (candidate, own.now))))) }
+    {
+        let Some(candidate) = self.number(candidate) else {
+            return Err(Stop::NoText);
+        };
+        match self.numbers(own, hints) {
+            Ok(()) => {}
+            Err(stop) => return Err(stop),
+        }
+        match out.push(candidate, hints) {
+            Ok(()) => Ok(()),
+            Err(_) => Err(Stop::NoMemory),
+        }
+    }
+}
+
+/// The text so far, and the highest number added so far, for which 2^48 stands where it is greater; and what a line's
+/// numbers are raised into.
+#[derive(Drop)]
+struct Rewriter {
+    out: Vec<u8>,
+    top: u64,
+    numbers: Vec<u64>,
+    hints: Vec<u64>,
+    groups: Groups,
+}
+
+/// Appends a line, where the text stays below 2^32 bytes.
+fn put_short(out: &mut Vec<u8>, top: u64, step: StepRef<'_>) -> Result<(), Stop>
+    requires limits { IsStep (step_of step) }
+    requires numbered { IsClauseNumber top }
+    ensures { MatchResult result
+        (λ _. (out.new.items ≡ out.old.items ++ line_of top (step_of step.entry)) × (length out.new.items < 2 ^ 32))
+        (λ stop. Unless stop (2 ^ 32 ≤ length (out.old.items ++ line_of top (step_of step.entry)))) }
+{
+    match put_line(out, top, step) {
+        Ok(()) => Ok(()),
+        Err(JoinFault::TooLong) => Err(Stop::NoText),
+        Err(JoinFault::NoMemory) => Err(Stop::NoMemory),
+    }
+}
+
+/// Appends the line of a step under raised numbers.
+fn put_raised(rewriter: &mut Rewriter, raise: Raise, step: StepRef<'_>) -> Result<(), Stop>
+    requires { IsStep (step_of step) }
+    ensures { (high : ℕ) → rewriter.old.top ≡ min (2 ^ 48) high → let line = renumbered (raised raise.above raise.by) (step_of step.entry) in
+        MatchResult result
+        (λ _. IsPut high line rewriter.old.out.items rewriter.new.out.items rewriter.new.top)
+        (λ stop. Unless stop (LineFits high line → 2 ^ 32 ≤ length (rewriter.old.out.items ++ line_of (max 1 high) line))) }
+{
+    match step {
+        StepRef::Add {
+            id,
+            lits,
+            hints,
+            groups,
+        } => {
+            let Some(id) = raise.number(id) else {
+                return Err(Stop::NoText);
+            };
+            match raise.numbers(hints, &mut rewriter.numbers) {
+                Ok(()) => {}
+                Err(stop) => return Err(stop),
+            }
+            match raise.groups(groups, &mut rewriter.hints, &mut rewriter.groups) {
+                Ok(()) => {}
+                Err(stop) => return Err(stop),
+            }
+            let line = StepRef::Add {
+                id,
+                lits,
+                hints: &rewriter.numbers,
+                groups: &rewriter.groups,
+            };
+            match put_short(&mut rewriter.out, id, line) {
+                Ok(()) => {}
+                Err(stop) => return Err(stop),
+            }
+            rewriter.top = rewriter.top.max(id);
+            Ok(())
+        }
+        StepRef::Delete { ids } => {
+            if rewriter.top >= CAP {
+                return Err(Stop::NoText);
+            }
+            match raise.numbers(ids, &mut rewriter.numbers) {
+                Ok(()) => {}
+                Err(stop) => return Err(stop),
+            }
+            let line = StepRef::Delete {
+                ids: &rewriter.numbers,
+            };
+            put_short(&mut rewriter.out, rewriter.top.max(1), line)
+        }
+    }
+}
+
+/// Reads a line.
+fn read(buffer: &mut StepBuffer, line: &[u8]) -> Result<(), Stop>
+    ensures { MatchResult result
+        (λ _. SpellsStep line.now buffer.new)
+        (λ stop. Unless stop ((step : Step) → ¬ (SpellsStep line.now step))) }
+{
+    match read_line(buffer, line) {
+        Ok(()) => Ok(()),
+        Err(TextFault::NoMemory) => Err(Stop::NoMemory),
+        Err(_) => Err(Stop::NoText),
+    }
+}
+
+/// Writes the lines of a text under raised numbers; nothing was written before.
+fn put_lines(
+    rewriter: &mut Rewriter,
+    buffer: &mut StepBuffer,
+    raise: Raise,
+    text: &[u8],
+) -> Result<(), Stop>
+    requires begun { rewriter.old.out.items ≡ [] }
+    requires highest { rewriter.old.top ≡ min (2 ^ 48) (raise.above + raise.by) }
+    ensures { MatchResult result
+        (λ _. Renumbers raise.above raise.by text.now rewriter.new.out.items)
+        (λ stop. Unless stop ((new : List ℕ) → ¬ (Renumbers raise.above raise.by text.now new))) }
+{
+    let mut rest = text;
+    while let Some((line, later)) = cut_line(rest) {
+        match read(buffer, line) {
+            Ok(()) => {}
+            Err(stop) => return Err(stop),
+        }
+        match put_raised(rewriter, raise, buffer.as_ref()) {
+            Ok(()) => {}
+            Err(stop) => return Err(stop),
+        }
+        rest = later;
+    }
+    if rest.is_empty() {
+        Ok(())
+    } else {
+        Err(Stop::NoText)
+    }
+}
+
+/// A proof's text for a formula of `m` clauses, where `e` clauses more stand behind these: each line spelled anew, with each
+/// number k above `m` as k + e, wherever it stands. The line of a deletion begins with the highest number added so far, m + e
+/// at first, and with 1 where that is 0.
+///
+/// `None` where a line spells no step, a number would pass 2^48 - 1 or the text would have 2^32 bytes or more. It reads the text
+/// once, and takes no memory for a line but what its parts and the new text need.
+pub fn renumber(alloc: Global, text: &[u8], m: u64, e: u64) -> Result<Option<Vec<u8>>, AllocError>
+    ensures { IfOk result (λ found. MatchOption found
+        ((new : List ℕ) → ¬ (Renumbers m e text.now new))
+        (λ new. Renumbers m e text.now new.items)) }
+{
+    let mut rewriter = Rewriter {
+        out: Vec::new(alloc),
+        top: m.saturating_add(e).min(CAP),
+        numbers: Vec::new(alloc),
+        hints: Vec::new(alloc),
+        groups: Groups::new(alloc),
+    };
+    let mut buffer = StepBuffer::new(alloc);
+    let raise = Raise { above: m, by: e };
+    match put_lines(&mut rewriter, &mut buffer, raise, text) {
+        Ok(()) => {}
+        Err(Stop::NoText) => return Ok(None),
+        Err(Stop::NoMemory) => return Err(AllocError),
+    }
+    let Rewriter { out, .. } = rewriter;
+    Ok(Some(out))
+}
