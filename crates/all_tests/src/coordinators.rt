@@ -6,7 +6,7 @@ use frames::{
     Answer, Attempt, Chunk, Cube, Finding, Frame, Outcome, ProofLength, WorkerNumber, encode, len,
 };
 use icnf::Tree;
-use lrat_check::{Reaction, Verdict};
+use lrat_check::{Reaction, Verdict, check};
 use std::alloc::Global;
 use std::process::Abort;
 use std::test::Fail;
@@ -26,7 +26,12 @@ const LEFT: &[u8] = b"5 -1 0 2 4 0\n";
 /// A fragment that closes the leaf of the literal -1.
 const RIGHT: &[u8] = b"5 2 0 1 2 0\n6 1 2 0 1 0\n6 d 6 0\n7 1 0 5 3 0\n";
 
-/// Both, joined.
+/// Fragments that close the leaves of `1 2`, and of `1 -2`.
+const BOTH_TRUE: &[u8] = b"5 -1 -2 0 4 0\n";
+
+const ONE_TRUE: &[u8] = b"5 -1 2 0 2 0\n";
+
+/// Those of the literals 1 and -1, joined.
 const JOINED: &[u8] = b"5 -1 0 2 4 0\n6 2 0 1 2 0\n7 1 2 0 1 0\n7 d 7 0\n8 1 0 6 3 0\n9 0 5 8 0\n";
 
 /// What was found, with the length of what bears it out.
@@ -79,10 +84,13 @@ fn second(job: u64) -> Who {
     }
 }
 
-/// A frame, as a table has it. Its tasks have at most one literal, and the limit 1000.
+/// A frame, as a table has it. Its tasks have the limit 1000.
 #[derive(Clone, Copy)]
 enum Told<'a> {
+    /// No literal, or one of variable 1 of this sign.
     Task(u64, u64, Option<bool>),
+    /// The literal 1, and one of variable 2 of this sign.
+    Deeper(u64, u64, bool),
     Done(Who, Found),
     Fetch(Who, u32),
     Piece(Who, u32, &'a [u8]),
@@ -142,19 +150,34 @@ fn chunk_of(rt: &impl Abort, alloc: Global, bytes: &[u8]) -> Result<Chunk, Fail>
     Ok(Chunk::from_slice(alloc, bytes)?)
 }
 
+/// The literal of a variable of this sign.
+fn literal_of(variable: Var, positive: bool) -> Lit {
+    if positive {
+        Lit::positive(variable)
+    } else {
+        Lit::negative(variable)
+    }
+}
+
+fn push_literal(rt: &impl Abort, cube: &mut Cube, literal: Lit) -> Result<(), Fail> {
+    assert!(rt; cube.takes(literal));
+    cube.push(literal)?;
+    Ok(())
+}
+
 /// No literal, or one of variable 1 of this sign.
 fn cube_of(rt: &impl Abort, alloc: Global, sign: Option<bool>) -> Result<Cube, Fail> {
     let mut cube = Cube::new(alloc);
     if let Some(positive) = sign {
-        let variable = Var::new(1);
-        let literal = if positive {
-            Lit::positive(variable)
-        } else {
-            Lit::negative(variable)
-        };
-        assert!(rt; cube.takes(literal));
-        cube.push(literal)?;
+        push_literal(rt, &mut cube, literal_of(Var::new(1), positive))?;
     }
+    Ok(cube)
+}
+
+/// The literal 1, and one of variable 2 of this sign.
+fn deeper_cube(rt: &impl Abort, alloc: Global, sign: bool) -> Result<Cube, Fail> {
+    let mut cube = cube_of(rt, alloc, Some(true))?;
+    push_literal(rt, &mut cube, literal_of(Var::new(2), sign))?;
     Ok(cube)
 }
 
@@ -184,6 +207,12 @@ fn frame_of(rt: &impl Abort, alloc: Global, told: Told) -> Result<Frame, Fail> {
             job,
             limit: 1000,
             cube: cube_of(rt, alloc, sign)?,
+        },
+        Told::Deeper(session, job, sign) => Frame::Task {
+            session,
+            job,
+            limit: 1000,
+            cube: deeper_cube(rt, alloc, sign)?,
         },
         Told::Done(at, found) => Frame::Done {
             attempt: attempt_of(rt, at),
@@ -387,7 +416,78 @@ fn an_assignment_has_the_formulas_length(rt: HostRuntime) -> Result<(), Fail> {
 }
 
 #[test]
-fn a_limit_that_is_met_makes_it_stuck(rt: HostRuntime) -> Result<(), Fail> {
+fn a_leaf_whose_search_met_its_limit_is_split(rt: HostRuntime) -> Result<(), Fail> {
+    let coordinator = played(
+        &rt,
+        rt.alloc(),
+        ALL_FOUR,
+        &[
+            Turn::Says(1, Told::Task(1, 1, None)),
+            Turn::Comes(Told::Done(at(1), Found::Limit), Reaction::Taken),
+            Turn::Says(1, Told::Task(1, 2, Some(true))),
+            Turn::Comes(Told::Done(at(1), Found::Limit), Reaction::Ignored),
+            Turn::Comes(Told::Done(at(2), Found::Limit), Reaction::Taken),
+            Turn::Says(1, Told::Deeper(1, 3, true)),
+            Turn::Comes(Told::Done(at(3), Found::Limit), Reaction::Taken),
+            Turn::Says(1, Told::Rest),
+        ],
+    )?;
+    assert!(rt; coordinator.stuck());
+    Ok(())
+}
+
+#[test]
+fn other_jobs_and_fragments_stay_where_a_leaf_is_split(rt: HostRuntime) -> Result<(), Fail> {
+    let mut coordinator = of_two_leaves(&rt, rt.alloc())?;
+    play(
+        &rt,
+        rt.alloc(),
+        &mut coordinator,
+        &[
+            Turn::Says(1, Told::Task(1, 1, Some(true))),
+            Turn::Says(2, Told::Task(1, 2, Some(false))),
+            Turn::Comes(Told::Done(second(2), Found::Proof(44)), Reaction::Taken),
+            Turn::Comes(Told::Done(at(1), Found::Limit), Reaction::Taken),
+            Turn::Says(2, Told::Fetch(second(2), 0)),
+            Turn::Comes(Told::Piece(second(2), 0, RIGHT), Reaction::Taken),
+            Turn::Says(1, Told::Deeper(1, 3, true)),
+            Turn::Says(2, Told::Deeper(1, 4, false)),
+            Turn::Lost(2),
+            Turn::Comes(Told::Done(at(3), Found::Proof(14)), Reaction::Taken),
+            Turn::Comes(Told::Piece(at(3), 0, BOTH_TRUE), Reaction::Taken),
+            Turn::Says(1, Told::Deeper(1, 5, false)),
+            Turn::Comes(Told::Done(at(5), Found::Proof(13)), Reaction::Taken),
+            Turn::Comes(Told::Piece(at(5), 0, ONE_TRUE), Reaction::Verdict),
+        ],
+    )?;
+    let formula = read(rt.alloc(), ALL_FOUR).ok().ok_or("a formula")?;
+    assert!(rt; check(rt.alloc(), &formula, text_of(&coordinator)).is_ok());
+    Ok(())
+}
+
+#[test]
+fn a_restart_has_the_tree_of_the_making(rt: HostRuntime) -> Result<(), Fail> {
+    let mut coordinator = played(
+        &rt,
+        rt.alloc(),
+        ALL_FOUR,
+        &[
+            Turn::Says(1, Told::Task(1, 1, None)),
+            Turn::Comes(Told::Done(at(1), Found::Limit), Reaction::Taken),
+            Turn::Says(1, Told::Task(1, 2, Some(true))),
+        ],
+    )?;
+    coordinator.restart(2)?;
+    play(
+        &rt,
+        rt.alloc(),
+        &mut coordinator,
+        &[Turn::Says(1, Told::Task(2, 1, None))],
+    )
+}
+
+#[test]
+fn a_leaf_that_cannot_be_split_makes_it_stuck(rt: HostRuntime) -> Result<(), Fail> {
     let coordinator = played(
         &rt,
         rt.alloc(),

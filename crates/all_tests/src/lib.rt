@@ -32,6 +32,8 @@ mod searches;
 #[cfg(test)]
 mod solving;
 #[cfg(test)]
+mod splits;
+#[cfg(test)]
 mod taking;
 #[cfg(test)]
 mod words;

@@ -58,7 +58,7 @@ piece_end c attempt offset bytes j x answer new inside plain fits complete (Deli
 
 first_end : (c : CoordinatorState) (attempt : Attempt) (finding : Finding) (j : Job) (answer : Reaction) (new : CoordinatorState)
     → j.leaf < length c.leaves → IsPlain answer → length_of finding ≡ 0 → AnswersFirst c attempt j (told.Decided finding) answer new → EndsWell finding j.leaf answer new
-first_end c attempt finding j answer new inside plain empty (AnswersFirst.limited end a now) = absurd (never end)
+first_end c attempt finding j answer new inside plain empty (AnswersFirst.limited end meets) = absurd (never end)
   where
     never : told.Decided finding ≡ told.Limit → ⊥
     never e = cc

@@ -25,7 +25,7 @@ use Rattle.evidence.specs.Evidence.{IsRightEvidence, answer_in, bytes_in}
 use Rattle.evidence.proofs.EvidenceLemmas.{borne_out, bears_out}
 use Rattle.worker_core.specs.Worker.{WorkerState, new_worker, WorkerDelivers, WorkerWorks, worker_frame, worker_after, DeliversTask, DeliversFetch, DeliversVerdict, DeliversPart, Collects, IsNews, candidate_of}
 use Rattle.worker_core.specs.declared.work.Work.TheVariants.{Free, Waiting, Found}
-use Rattle.coordinator_core.specs.Coordinator.{CoordinatorState, IsAwaited, Gathers, EndsFragment, EndsAssignment, AnswersFirst, DeliversDone, DeliversPiece, DeliversIdle, CoordinatorDelivers, new_coordinator, coordinator_poll, first_answer, fixing, with_job, reopened, after_loss}
+use Rattle.coordinator_core.specs.Coordinator.{CoordinatorState, IsAwaited, Gathers, EndsFragment, EndsAssignment, MeetsLimit, AnswersFirst, DeliversDone, DeliversPiece, DeliversIdle, CoordinatorDelivers, new_coordinator, coordinator_poll, first_answer, fixing, with_job, reopened, after_loss}
 use Rattle.coordinator_core.specs.declared.desks.Fixed.{Fixed}
 use Rattle.coordinator_core.specs.declared.desks.Job.{Job}
 use Rattle.closed_schedules.specs.Examples.{two, four, asked, ninth}
@@ -138,9 +138,9 @@ next_job = refl
 lost_job : (coordinator_poll (after_loss c2 1) 1).frame ≡ Task 1 2 100000 []
 lost_job = refl
 
--- the limit makes it stuck
+-- the limit makes it stuck: both variables have a pure literal, so that there is none to split on
 limit_met : CoordinatorDelivers c1 (Done attempt told.Limit) reaction.Taken (record c1 { stuck = true })
-limit_met = DeliversDone.first the_job awaited refl (AnswersFirst.limited refl refl refl)
+limit_met = DeliversDone.first the_job awaited refl (AnswersFirst.limited refl (MeetsLimit.stops (λ v can. let some : 0 < 0 = can.choice.some in absurd (omega (arith, some))) refl refl))
 
 stuck_rests : (coordinator_poll (record c1 { stuck = true }) 1).frame ≡ Rest
 stuck_rests = refl

@@ -1,5 +1,6 @@
 -- What a coordinator keeps under closed schedules, and that it refuses nothing.
-use Rattle.std.proofs.Common.{◌≡◌, ◌≢◌, ℕ, ◌-◌, ◌<◌, ◌≤◌, Bool, true, List, ◌++◌, length, Contains, Some, None, slice_get, slice_set, refl, subst, sym, ap, ◌∙◌, ◌⊎◌, inl, inr, arith}
+use Rattle.std.proofs.Common.{◌≡◌, ◌≢◌, ℕ, ◌-◌, ◌<◌, ◌≤◌, Bool, true, List, ◌++◌, length, Contains, Some, None, slice_get, slice_set, get_or, refl, subst, sym, ap, ◌∙◌, ◌⊎◌, inl, inr, arith}
+use Rattle.std.proofs.lemmas.Option.{slice_get_within}
 use Rattle.std.proofs.lemmas.List.Elements.{Contains-push, Contains-push_cases}
 use Rattle.dimacs.specs.logic.Base.{base_of}
 use Rattle.dimacs.specs.logic.Cnf.{Cnf}
@@ -22,7 +23,9 @@ use Rattle.evidence.specs.Evidence.{answer_in, bytes_in, finding_of, HasWrongLen
 use Rattle.evidence.specs.Jobs.{name_of, attempt_at}
 use Rattle.evidence.specs.Evidence.{IsComplete, with_bytes}
 use Rattle.evidence.specs.declared.job.JobName.{JobName}
-use Rattle.coordinator_core.specs.Coordinator.{CoordinatorState, Gathers, EndsFragment, EndsAssignment, AnswersFirst, DeliversDone, DeliversPiece, DeliversIdle, DeliversWant, CoordinatorDelivers, IsAwaited, first_answer, cube_at, with_job, closed, fixing, job_name}
+use Rattle.coordinator_core.specs.Coordinator.{CoordinatorState, Gathers, EndsFragment, EndsAssignment, MeetsLimit, AnswersFirst, DeliversDone, DeliversPiece, DeliversIdle, DeliversWant, CoordinatorDelivers, CanSplit, IsAwaited, first_answer, cube_at, job_at, with_job, closed, split, fixing, job_name}
+use Rattle.coordinator_core.specs.Splits.{doubled, shifted}
+use Rattle.coordinator_core.proofs.SplitLemmas.{branched_read, doubled_at, doubled_set, job_before, shift_at}
 use Rattle.coordinator_core.specs.declared.desks.Fixed.{Fixed}
 use Rattle.coordinator_core.specs.declared.desks.Job.{Job}
 use Rattle.coordinator_core.specs.declared.desks.LeafState.{LeafState}
@@ -33,7 +36,7 @@ use Rattle.closed_schedules.specs.ClosedLaws.{StandsIn}
 use Rattle.closed_schedules.proofs.Told.{Told, Asked, Answered, Decision, Reply, Met, Shown, IsTold, IsTrueReply, IsSettled, desk_of, IsHonestCoordinator, IsHonestJob, IsFront, IsFrontOf, asks, answers_so, decides, outcome_of}
 use Rattle.closed_schedules.proofs.Fronts.{front_grows, empty_front}
 use Rattle.closed_schedules.proofs.Desks.{job_from_1, job_desk}
-use Rattle.closed_schedules.proofs.Places.{got_set_other, read_set_cases, read_within, same_some, none_some}
+use Rattle.closed_schedules.proofs.Places.{got_set_other, got_set_same, read_set_cases, read_within, same_some, none_some}
 use Rattle.closed_schedules.proofs.Saying.{IsPlain, plain_by, IsMore, as_much, deciding, deciding_more, all_there, answer_there, right_length}
 
 -- all that was told beside is no reply, and is of this coordinator's session
@@ -348,23 +351,65 @@ fixes_honest T c attempt j finding a all awaited was known finding_is =
     first told x same = subst (λ (y : Fixed). (b : Answer) × (rest : List ℕ) × Contains T.answered (answers_so (attempt_at (job_name c j) attempt.worker y.incarnation) (Shown b rest)) × IsFrontOf y.evidence b rest) same
         (a, all, told, record { finding = finding_is; front = empty_front all })
 
+-- the jobs of other workers after a split
+jobs_split : (T : Told) (c : CoordinatorState) (worker : ℕ) (j : Job) (v : ℕ) → IsHonestCoordinator T c → 1 ≤ worker → desk_of c worker ≡ Some j
+    → (w : ℕ) (i : Job) → 1 ≤ w → desk_of (split c worker j v) w ≡ Some i → IsHonestJob T (split c worker j v) w i
+jobs_split T c worker j v honest from_1 at w i w_from_1 h = go (job_before j.leaf _ i (sym (shift_at (slice_set c.jobs (worker - 1) None) j.leaf (w - 1)) ∙ h))
+  where
+    open_given : Some Open ≡ Some (GivenTo w) → ⊥
+    open_given e = cc
+
+    inside : j.leaf < length c.leaves
+    inside = slice_get_within c.leaves j.leaf _ (honest.jobs worker j from_1 at).given
+
+    go : (o : Job) × (get_or (slice_set c.jobs (worker - 1) None) (w - 1) None ≡ Some o) × (record o { leaf = shifted j.leaf o.leaf } ≡ i) → IsHonestJob T (split c worker j v) w i
+    go (o, was, same) =
+        let job : IsHonestJob T (dropped c worker j Open c.fragments c.verdict c.stuck) w o =
+        jobs_dropped T T c worker j Open c.fragments c.verdict c.stuck (as_much T) honest from_1 at w o w_from_1 was in
+        let other : o.leaf ≢ j.leaf = λ e. open_given (sym (got_set_same c.leaves j.leaf Open inside) ∙ sym (ap (slice_get (slice_set c.leaves j.leaf Open)) e) ∙ job.given) in
+        let cube : cube_at (split c worker j v) (shifted j.leaf o.leaf) ≡ cube_at c o.leaf = branched_read c.tree j.leaf o.leaf v other in
+        let given : slice_get (doubled j.leaf Open c.leaves) (shifted j.leaf o.leaf) ≡ Some (GivenTo w) =
+        ap (λ (l : List LeafState). slice_get l (shifted j.leaf o.leaf)) (sym (doubled_set c.leaves j.leaf Open Open)) ∙ doubled_at (slice_set c.leaves j.leaf Open) j.leaf o.leaf Open other ∙ job.given in
+        subst (IsHonestJob T (split c worker j v) w) same (record {
+          asked = subst (λ (q : Cube). Contains T.asked (asks (job_name c o) q)) (sym cube) job.asked;
+          given = given;
+          fixed = job.fixed;
+        })
+
+-- that a search met its limit is not refused
+limit_fair : (T : Told) (c : CoordinatorState) (worker : ℕ) (j : Job) (answer : Reaction) (new : CoordinatorState) → IsHonestCoordinator T c → job_at c worker ≡ Some j → MeetsLimit c worker j answer new → IsFair T c answer new
+limit_fair T c worker j answer new honest at (MeetsLimit.splits v can a now) = subst (λ (n : CoordinatorState). IsFair T c answer n) (sym now) (record {
+  honest = record {
+    jobs = jobs_split T c worker j v honest (job_from_1 c worker j at) (job_desk c worker j at);
+    next = honest.next;
+    decided = honest.decided;
+    undecided = honest.undecided;
+  };
+  plain = plain_by answer _ a tt;
+  formula = refl;
+  session = refl;
+  limit = refl;
+})
+limit_fair T c worker j answer new honest at (MeetsLimit.stops whole a now) = subst (λ (n : CoordinatorState). IsFair T c answer n) (sym now) (record {
+  honest = record {
+    jobs = λ w i from_1 h. let was = honest.jobs w i from_1 h in job_stays T T c (record c { stuck = true }) w i (as_much T) refl refl was.given was;
+    next = honest.next;
+    decided = honest.decided;
+    undecided = honest.undecided;
+  };
+  plain = plain_by answer _ a tt;
+  formula = refl;
+  session = refl;
+  limit = refl;
+})
+limit_fair T c worker j answer new honest at (MeetsLimit.no_memory may a now) = unchanged T c answer _ new honest a tt now
+
 -- a first answer that is true is not refused
 first_fair : (T : Told) (c : CoordinatorState) (attempt : Attempt) (j : Job) (outcome : Outcome) (answer : Reaction) (new : CoordinatorState)
     → IsSettled c.formula T → IsHonestCoordinator T c → IsCoordinator new → (reply : Reply) → Contains T.answered (answers_so attempt reply) → outcome ≡ outcome_of reply
     → IsAwaited c attempt.session attempt.job attempt.worker j → AnswersFirst c attempt j outcome answer new → IsFairStep T c answer new
-first_fair T c attempt j outcome answer new settled honest is reply known says awaited (AnswersFirst.limited end a now) =
-    quiet T c answer new settled (subst (λ (n : CoordinatorState). IsFair T c answer n) (sym now) (record {
-      honest = record {
-        jobs = λ w i from_1 h. let was = honest.jobs w i from_1 h in job_stays T T c (record c { stuck = true }) w i (as_much T) refl refl was.given was;
-        next = honest.next;
-        decided = honest.decided;
-        undecided = honest.undecided;
-      };
-      plain = plain_by answer _ a tt;
-      formula = refl;
-      session = refl;
-      limit = refl;
-    }))
+first_fair T c attempt j outcome answer new settled honest is reply known says awaited (AnswersFirst.limited end meets) =
+    quiet T c answer new settled (limit_fair T c attempt.worker j answer new honest awaited.job meets)
 first_fair T c attempt j outcome answer new settled honest is reply known says awaited (AnswersFirst.wrong_length finding end wrong a now) =
     let h = finding_told reply finding (sym end ∙ says) in
     let shown : Contains T.answered (answers_so attempt (Shown h.0 h.1)) = subst (λ (r : Reply). Contains T.answered (answers_so attempt r)) h.2 known in

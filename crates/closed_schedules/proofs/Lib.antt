@@ -10,6 +10,7 @@ pub mod PollingLemmas
 pub mod EventLemmas
 pub mod EndingLemmas
 pub mod Moments
+pub mod StuckLemmas
 pub mod HoldingLemmas
 pub mod ExampleLemmas
 pub mod ClosedRuns

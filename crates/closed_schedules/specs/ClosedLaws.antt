@@ -1,5 +1,5 @@
 -- The laws of closed schedules: honest work is never refused, and complete work is a verdict or closes its leaf.
-use Rattle.std.specs.Prelude.{◌≡◌, ◌≢◌, ℕ, suc, ◌≤◌, List, ◌++◌, length, Contains, Some, None, slice_get, ◌⊎◌}
+use Rattle.std.specs.Prelude.{◌≡◌, ◌≢◌, ℕ, suc, ◌≤◌, ◌^◌, true, List, ◌++◌, length, Contains, Some, None, slice_get, slice_index_or, ◌⊎◌}
 use Rattle.dimacs.specs.logic.Cnf.{Cnf, IsFormula}
 use Rattle.icnf.specs.Leaves.{Cube}
 use Rattle.lrat_check.specs.Verdicts.{Right, Differ}
@@ -16,10 +16,11 @@ use Rattle.frames.specs.declared.answer.Outcome.TheVariants as told
 use Rattle.frames.specs.declared.frame.Attempt.{Attempt}
 use Rattle.frames.specs.declared.frame.Frame.{Frame}
 use Rattle.frames.specs.declared.frame.Frame.TheVariants.{Task, Done, Piece, Part, Verdict as VerdictFrame}
+use Rattle.proof_join.specs.Joining.{JoinedUnits}
 use Rattle.evidence.specs.Evidence.{IsComplete, with_bytes}
 use Rattle.worker_core.specs.Worker.{WorkerState, IsOfCandidate, IsNews}
 use Rattle.worker_core.specs.declared.candidate.Candidate.{Candidate}
-use Rattle.coordinator_core.specs.Coordinator.{CoordinatorState, AreClosed, IsOfJob, IsAwaited}
+use Rattle.coordinator_core.specs.Coordinator.{CoordinatorState, AreClosed, CanSplit, IsOfJob, IsAwaited}
 use Rattle.coordinator_core.specs.Invariant.{HasJoined, IsTreeOf}
 use Rattle.coordinator_core.specs.declared.desks.Fixed.{Fixed}
 use Rattle.coordinator_core.specs.declared.desks.Job.{Job}
@@ -94,6 +95,33 @@ VerdictsEndWell = Always (λ F s. (place : ℕ) (w : WorkerState) (session : ℕ
 -- Where every leaf is closed, the coordinator holds the joined proof, or that is too long.
 abbrev pub ClosedIsJoined : Type 0
 ClosedIsJoined = Always (λ F s. AreClosed s.coordinator.leaves → HasJoined s.coordinator)
+
+-- a leaf is not closed, and cannot be split
+pub record HasWholeLeaf (c : CoordinatorState) : Type 0 where
+  pub leaf : ℕ
+  pub unclosed : slice_index_or c.leaves leaf Closed ≢ Closed
+  pub whole : (v : ℕ) → ¬ (CanSplit c leaf v)
+
+-- of a job of this session it was sent that its search met the limit, and such a leaf is there
+pub record HasMetLimit (frames : List Frame) (c : CoordinatorState) : Type 0 where
+  pub attempt : Attempt
+  pub told : Contains frames (Done attempt told.Limit)
+  pub session : attempt.session ≡ c.session
+  pub leaf : HasWholeLeaf c
+
+-- every leaf is closed, and the joined text is too long to be sent
+pub record IsTooLong (c : CoordinatorState) : Type 0 where
+  pub all : AreClosed c.leaves
+  pub text : List ℕ
+  pub joined : JoinedUnits c.formula c.tree c.fragments text
+  pub long : 2 ^ 32 ≤ length text
+
+abbrev pub StuckRightly : ClosedState → Type 0
+StuckRightly s = s.coordinator.stuck ≡ true → HasMetLimit s.frames s.coordinator ⊎ IsTooLong s.coordinator
+
+-- The coordinator is stuck for one of these reasons alone.
+abbrev pub IsStuckRightly : Type 0
+IsStuckRightly = Always (λ F s. StuckRightly s)
 
 -- What a node holds is right.
 abbrev pub AlwaysRight : Type 0

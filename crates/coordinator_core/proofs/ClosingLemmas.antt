@@ -22,8 +22,7 @@ use Rattle.coordinator_core.specs.declared.desks.Job.{Job}
 use Rattle.coordinator_core.specs.declared.desks.LeafState.{LeafState}
 use Rattle.coordinator_core.specs.declared.desks.LeafState.TheVariants.{Open, GivenTo, Closed}
 use Rattle.coordinator_core.proofs.KeptLemmas.{at_desk, job_is, closed_all, is_closed, leaf_within}
-use Rattle.coordinator_core.proofs.Places.{read_within, set_back}
-use Rattle.coordinator_core.proofs.TableLemmas.{any_default}
+use Rattle.coordinator_core.proofs.Places.{any_default, read_within, set_back}
 
 -- what a call that closes a leaf is asked
 abbrev pub MayClose : CoordinatorState → ℕ → Type 0

@@ -101,7 +101,7 @@ pub job_is : (c : CoordinatorState) (worker : ℕ) (j : Job) → job_at c worker
 job_is c worker j at is = is.jobs (worker - 1) j (at_desk c worker j at)
 
 -- the jobs of other workers keep their leaves where a worker loses its own
-dropped_jobs : (c : CoordinatorState) (worker : ℕ) (j : Job) (l : LeafState) → IsCoordinator c → job_at c worker ≡ Some j
+pub dropped_jobs : (c : CoordinatorState) (worker : ℕ) (j : Job) (l : LeafState) → IsCoordinator c → job_at c worker ≡ Some j
     → (k : ℕ) (i : Job) → get_or (slice_set c.jobs (worker - 1) None) k None ≡ Some i → IsJobAt (slice_set c.leaves j.leaf l) k i
 dropped_jobs c worker j l is at k i h = go (read_set_cases c.jobs (worker - 1) k None None (Some i) h)
   where

@@ -1,8 +1,11 @@
 pub mod BeginLemmas
 pub mod ClosingLemmas
+pub mod ExampleLemmas
 pub mod GatherLemmas
 pub mod KeptLemmas
 pub mod Places
+pub mod SplitLemmas
+pub mod SplitStates
 pub mod PollLemmas
 pub mod TableLemmas
 pub mod StepLemmas

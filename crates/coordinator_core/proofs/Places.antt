@@ -80,3 +80,9 @@ set_read (a ∷ xs) (suc i) d = ap (λ ys. a ∷ ys) (set_read xs i d)
 -- another thing was written in between
 pub set_back : {X : Type 0} (xs : List X) (i : ℕ) (y z d : X) → get_or xs i d ≡ z → slice_set (slice_set xs i y) i z ≡ xs
 set_back xs i y z d here = set-set xs i y z ∙ ap (slice_set xs i) (sym here) ∙ set_read xs i d
+
+-- what is read within a list is the same whatever the default
+pub any_default : {X : Type 0} (xs : List X) (i : ℕ) (a b : X) → i < length xs → get_or xs i a ≡ get_or xs i b
+any_default [] i a b lt = absurd (omega (arith, lt))
+any_default (x ∷ xs) zero a b lt = refl
+any_default (x ∷ xs) (suc i) a b lt = any_default xs i a b (omega (arith, lt))

@@ -29,7 +29,8 @@ use Rattle.coordinator_core.specs.declared.desks.LeafState.TheVariants.{Open, Gi
 use Rattle.coordinator_core.specs.Invariant.{IsCoordinator}
 use Rattle.coordinator_core.specs.declared.desks.Fixed.{Fixed}
 use Rattle.coordinator_core.specs.declared.desks.Job.{Job}
-use Rattle.coordinator_core.proofs.TableLemmas.{any_default, open_leaf}
+use Rattle.coordinator_core.proofs.Places.{any_default}
+use Rattle.coordinator_core.proofs.TableLemmas.{open_leaf}
 use Rattle.coordinator_core.proofs.KeptLemmas.{HasLeaf, task_leaf, job_is, is_given}
 
 pub leaf_there : (c s : CoordinatorState) (w leaf : ℕ) → c ≡ s → IsCoordinator c → HasLeaf s w leaf → leaf < length s.tree

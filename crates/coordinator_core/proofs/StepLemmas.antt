@@ -22,12 +22,13 @@ use Rattle.frames.specs.declared.frame.Frame.TheVariants.{Task, Done, Fetch, Pie
 use Rattle.proof_join.specs.Joining.{AllClose, JoinedUnits}
 use Rattle.evidence.specs.Evidence.{bytes_in, with_bytes, IsRightEvidence}
 use Rattle.evidence.specs.Events.{Event, Delivered, Worked, Polled, Lost, Given, Reacted, Sent, Silent}
-use Rattle.coordinator_core.specs.Coordinator.{CoordinatorState, IsDeciding, EndsFragment, EndsAssignment, Gathers, AnswersFirst, DeliversDone, DeliversPiece, DeliversIdle, DeliversWant, CoordinatorDelivers, CoordinatorPolls, CoordinatorStep, with_job, fixing, job_at, want_at, is_open, verdict_poll, leaf_poll, fixed_poll, job_poll, stuck_poll, poll_by, lost_by}
+use Rattle.coordinator_core.specs.Coordinator.{CoordinatorState, IsDeciding, EndsFragment, EndsAssignment, Gathers, MeetsLimit, AnswersFirst, DeliversDone, DeliversPiece, DeliversIdle, DeliversWant, CoordinatorDelivers, CoordinatorPolls, CoordinatorStep, with_job, fixing, job_at, want_at, is_open, verdict_poll, leaf_poll, fixed_poll, job_poll, stuck_poll, poll_by, lost_by}
 use Rattle.coordinator_core.specs.Invariant.{IsCoordinator, IsNote}
 use Rattle.coordinator_core.specs.declared.desks.Fixed.{Fixed}
 use Rattle.coordinator_core.specs.declared.desks.Job.{Job}
 use Rattle.coordinator_core.specs.declared.desks.LeafState.{LeafState}
 use Rattle.coordinator_core.specs.declared.desks.LeafState.TheVariants.{Open, GivenTo, Closed}
+use Rattle.coordinator_core.proofs.SplitStates.{is_split}
 use Rattle.coordinator_core.proofs.KeptLemmas.{with_fixed_is, is_reopened, is_given, is_stuck, is_decided, closed_all, is_closed, is_noted}
 
 -- what is joined of fragments that close all leaves is an accepted proof
@@ -81,9 +82,15 @@ module _ (law : JoiningLaw) where
   gathers_keeps c worker j x answer new is at deciding fits (Gathers.assignment complete assigned ends) = assignment_keeps c worker j x answer new is at deciding fits ends
   gathers_keeps c worker j x answer new is at deciding fits (Gathers.no_memory grows a now) = subst IsCoordinator (sym now) is
 
+  limit_keeps : (c : CoordinatorState) (worker : ℕ) (j : Job) (answer : Reaction) (new : CoordinatorState)
+      → IsCoordinator c → job_at c worker ≡ Some j → IsDeciding c → MeetsLimit c worker j answer new → IsCoordinator new
+  limit_keeps c worker j answer new is at deciding (MeetsLimit.splits v can a now) = subst IsCoordinator (sym now) (is_split c worker j v at can is)
+  limit_keeps c worker j answer new is at deciding (MeetsLimit.stops whole a now) = subst IsCoordinator (sym now) (is_stuck c deciding is)
+  limit_keeps c worker j answer new is at deciding (MeetsLimit.no_memory may a now) = subst IsCoordinator (sym now) is
+
   first_keeps : (c : CoordinatorState) (attempt : Attempt) (j : Job) (outcome : Outcome) (answer : Reaction) (new : CoordinatorState)
       → IsCoordinator c → job_at c attempt.worker ≡ Some j → IsDeciding c → AnswersFirst c attempt j outcome answer new → IsCoordinator new
-  first_keeps c attempt j outcome answer new is at deciding (AnswersFirst.limited end a now) = subst IsCoordinator (sym now) (is_stuck c deciding is)
+  first_keeps c attempt j outcome answer new is at deciding (AnswersFirst.limited end meets) = limit_keeps c attempt.worker j answer new is at deciding meets
   first_keeps c attempt j outcome answer new is at deciding (AnswersFirst.wrong_length finding end wrong a now) = subst IsCoordinator (sym now) (is_reopened c attempt.worker j at is)
   first_keeps c attempt j outcome answer new is at deciding (AnswersFirst.fixes finding end right gathers) = gathers_keeps c attempt.worker j _ answer new is at deciding (omega arith) gathers
 

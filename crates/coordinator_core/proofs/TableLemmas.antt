@@ -1,5 +1,5 @@
 -- The tables of leaves: counts, and the first open place.
-use Rattle.std.proofs.Common.{◌≡◌, ℕ, zero, suc, ◌+◌, ◌<◌, ◌≤◌, Bool, true, false, cond, List, [], ◌∷◌, length, Some, None, slice_set, get_or, refl, sym, ap, ◌∙◌, arith}
+use Rattle.std.proofs.Common.{◌≡◌, ◌≢◌, ℕ, zero, suc, ◌+◌, ◌<◌, ◌≤◌, Bool, true, false, cond, List, [], ◌∷◌, length, Some, None, slice_set, get_or, min, refl, sym, ap, ◌∙◌, arith}
 use Rattle.std.specs.Prelude.{position, count_by, nat_lt}
 use Rattle.std.specs.List.{position_or_len}
 use Rattle.std.proofs.lemmas.List.{length-set, get_or-set_other, get_or-set_same, replicate_more, map-append, map-set}
@@ -8,9 +8,11 @@ use Rattle.std.proofs.lemmas.List.Quantifiers.{position-Some}
 use Rattle.std.proofs.lemmas.List.Sums.{sum_by-set, sum_by-cons, position_or_len_is}
 use Rattle.std.proofs.lemmas.Bool.{lt-ltb, le-ltb}
 use Rattle.coordinator_core.specs.Coordinator.{AreClosed, IsClosed, is_open}
+use Rattle.coordinator_core.specs.Splits.{doubled}
 use Rattle.coordinator_core.specs.Tables.{IsLeafTable, is_unclosed}
 use Rattle.coordinator_core.specs.declared.desks.LeafState.{LeafState}
 use Rattle.coordinator_core.specs.declared.desks.LeafState.TheVariants.{Open, GivenTo, Closed}
+use Rattle.coordinator_core.proofs.SplitLemmas.{doubled_before, doubled_length}
 
 -- lists that grow, and whose places are written
 pub ruleset rows = (replicate_more, map-append, map-set)
@@ -53,6 +55,31 @@ given_table states fragments unclosed from leaf worker t at =
       none_open = λ i lt. ap is_open (get_or-set_other states leaf i (GivenTo worker) Closed (λ e. absurd (omega (arith, e, lt)))) ∙ p.2 i lt;
     }
 
+one_unclosed : (l : LeafState) → l ≢ Closed → one_if l ≡ 1
+one_unclosed Open n = refl
+one_unclosed (GivenTo worker) n = refl
+one_unclosed Closed n = absurd (n refl)
+
+count_doubled : (states : List LeafState) (leaf : ℕ) → leaf < length states → get_or states leaf Closed ≢ Closed → count_by is_unclosed (doubled leaf Open states) ≡ count_by is_unclosed states + 1
+count_doubled [] leaf lt n = absurd (omega (arith, lt))
+count_doubled (l ∷ states) zero lt n = omega (arith, count_cons Open (Open ∷ states), count_cons Open states, count_cons l states, one_unclosed l n)
+count_doubled (l ∷ states) (suc leaf) lt n =
+    let h = count_doubled states leaf (omega (arith, lt)) n in omega (arith, h, count_cons l (doubled leaf Open states), count_cons l states)
+
+-- both branches of a leaf that is not closed are open
+pub split_table : (states : List LeafState) (fragments : List (List ℕ)) (unclosed from leaf : ℕ) → IsLeafTable states fragments unclosed from → leaf < length states → get_or states leaf Closed ≢ Closed
+    → IsLeafTable (doubled leaf Open states) (doubled leaf [] fragments) (unclosed + 1) (min from leaf)
+split_table states fragments unclosed from leaf t inside some = record {
+  same = doubled_length fragments leaf [] (omega (arith, inside, t.same)) ∙ ap suc t.same ∙ sym (doubled_length states leaf Open inside);
+  counted = omega (arith, t.counted, count_doubled states leaf inside some);
+  none_open = λ i lt. ap is_open (doubled_before states leaf i Open Closed (omega (arith, lt))) ∙ t.none_open i (omega (arith, lt));
+}
+
+pub split_now : (states now : List LeafState) (fragments texts : List (List ℕ)) (unclosed from least leaf : ℕ) → IsLeafTable states fragments unclosed from → leaf < length states → get_or states leaf Closed ≢ Closed
+    → now ≡ doubled leaf Open states → texts ≡ doubled leaf [] fragments → least ≡ min from leaf → IsLeafTable now texts (unclosed + 1) least
+split_now states now fragments texts unclosed from least leaf t inside some opened emptied first =
+    rw (opened, emptied, first) (split_table states fragments unclosed from leaf t inside some)
+
 -- no place is open
 pub none_is : (states : List LeafState) (i : ℕ) → length states ≤ i → ((k : ℕ) → k < i → is_open (get_or states k Closed) ≡ false) → position is_open states ≡ None
 none_is states i past before =
@@ -64,9 +91,3 @@ pub first_is : (states : List LeafState) (i : ℕ) → i < length states → get
 first_is states i lt here before =
     let e : position_or_len is_open states ≡ i = position_or_len_is is_open states i Closed (omega (arith, lt)) before (λ _. ap is_open here) in
     ap (λ (n : ℕ). cond (nat_lt n (length states)) (Some n) None) e ∙ ap (λ (b : Bool). cond b (Some i) None) (lt-ltb i (length states) lt)
-
--- what is read within a list is the same whatever the default
-pub any_default : {X : Type 0} (xs : List X) (i : ℕ) (a b : X) → i < length xs → get_or xs i a ≡ get_or xs i b
-any_default [] i a b lt = absurd (omega (arith, lt))
-any_default (x ∷ xs) zero a b lt = refl
-any_default (x ∷ xs) (suc i) a b lt = any_default xs i a b (omega (arith, lt))

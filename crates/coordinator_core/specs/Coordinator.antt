@@ -1,8 +1,8 @@
 -- The coordinator: it gives the leaves of a tree to workers, checks what they found, and hands out the verdict.
-use Rattle.std.specs.Prelude.{◌≡◌, ◌≢◌, ℕ, zero, suc, ◌+◌, ◌-◌, ◌<◌, ◌≤◌, ◌^◌, nat_lt, Bool, true, false, List, [], length, take, drop, Option, Some, None, All, slice_index_or, slice_set, position, replicate, ◌⊎◌}
-use Rattle.dimacs.specs.logic.Base.{base_of}
+use Rattle.std.specs.Prelude.{◌≡◌, ◌≢◌, ℕ, zero, suc, ◌+◌, ◌-◌, ◌<◌, ◌≤◌, ◌^◌, nat_lt, Bool, true, false, List, [], ◌++◌, length, map, take, drop, Option, Some, None, All, slice_index_or, slice_set, position, replicate, ◌⊎◌}
+use Rattle.dimacs.specs.logic.Base.{base_of, pure_literals}
 use Rattle.dimacs.specs.logic.Cnf.{Cnf}
-use Rattle.icnf.specs.Leaves.{Cube}
+use Rattle.icnf.specs.Leaves.{Cube, branched}
 use Rattle.lrat_text.specs.Log.{Closes}
 use Rattle.lrat_check.specs.declared.verdict.Verdict.{Verdict}
 use Rattle.lrat_check.specs.declared.verdict.Verdict.TheVariants.{Nothing, Model, Proof}
@@ -16,11 +16,13 @@ use Rattle.frames.specs.declared.answer.Outcome.TheVariants as told
 use Rattle.frames.specs.declared.frame.Attempt.{Attempt}
 use Rattle.frames.specs.declared.frame.Frame.{Frame}
 use Rattle.frames.specs.declared.frame.Frame.TheVariants.{Task, Done, Fetch, Piece, Verdict as VerdictFrame, Want, Part, Idle, Rest}
+use Rattle.cube_split.specs.Choice.{IsChoice}
 use Rattle.proof_join.specs.Joining.{JoinedUnits}
 use Rattle.evidence.specs.Evidence.{announced, with_bytes, IsComplete, ComeNext, IsRightEvidence, IsWrongEvidence, HasWrongLength, answer_in, bytes_in, finding_in}
 use Rattle.evidence.specs.Events.{chunk, Event, Delivered, Worked, Polled, Lost, Given, Reacted, Sent, Silent, Ignores, Grows}
 use Rattle.evidence.specs.Jobs.{attempt_at}
 use Rattle.evidence.specs.declared.job.JobName.{JobName}
+use Rattle.coordinator_core.specs.Splits.{doubled, shifted_job}
 use Rattle.coordinator_core.specs.declared.desks.Fixed.{Fixed}
 use Rattle.coordinator_core.specs.declared.desks.Job.{Job}
 use Rattle.coordinator_core.specs.declared.desks.LeafState.{LeafState}
@@ -93,6 +95,26 @@ closed c worker j text = record c {
   jobs = slice_set c.jobs (worker - 1) None;
 }
 
+-- the limits on trees leave room for a split of a leaf
+pub record MaySplit (c : CoordinatorState) (leaf : ℕ) : Type 0 where
+  pub short : length (cube_at c leaf) < 64
+  pub few : length c.tree < 65536
+
+-- and the split rule chooses this variable
+pub record CanSplit (c : CoordinatorState) (leaf v : ℕ) : Type 0 where
+  pub may : MaySplit c leaf
+  pub choice : IsChoice c.formula (pure_literals c.formula ++ cube_at c leaf) v
+
+-- the leaf of a worker's job is split on a variable, and both branches are open; the worker has no job, and the leaves behind stand one
+-- place further
+abbrev pub split : CoordinatorState → ℕ → Job → ℕ → CoordinatorState
+split c worker j v = record c {
+  tree = branched j.leaf v c.tree;
+  leaves = doubled j.leaf Open c.leaves;
+  fragments = doubled j.leaf [] c.fragments;
+  jobs = map (shifted_job j.leaf) (slice_set c.jobs (worker - 1) None);
+}
+
 abbrev pub IsClosed : LeafState → Type 0
 IsClosed l = l ≡ Closed
 
@@ -156,10 +178,17 @@ pub data Gathers (c : CoordinatorState) (worker : ℕ) (j : Job) (x : Fixed) (an
 abbrev pub first_answer : ℕ → Finding → Fixed
 first_answer incarnation finding = record { incarnation = incarnation; evidence = announced finding }
 
+-- The search below the leaf of a worker's job met its limit.
+pub data MeetsLimit (c : CoordinatorState) (worker : ℕ) (j : Job) (answer : Reaction) (new : CoordinatorState) : Type 0 where
+  splits : (v : ℕ) → CanSplit c j.leaf v → answer ≡ reaction.Taken → new ≡ split c worker j v → MeetsLimit c worker j answer new
+  -- the leaf cannot be split
+  stops : ((v : ℕ) → ¬ (CanSplit c j.leaf v)) → answer ≡ reaction.Taken → new ≡ record c { stuck = true } → MeetsLimit c worker j answer new
+  -- no room to look for a variable, or for the branches
+  no_memory : MaySplit c j.leaf → answer ≡ reaction.NoMemory → new ≡ c → MeetsLimit c worker j answer new
+
 -- A job of which nothing is fixed is answered.
 pub data AnswersFirst (c : CoordinatorState) (attempt : Attempt) (j : Job) (outcome : Outcome) (answer : Reaction) (new : CoordinatorState) : Type 0 where
-  -- the search met its limit
-  limited : outcome ≡ told.Limit → answer ≡ reaction.Taken → new ≡ record c { stuck = true } → AnswersFirst c attempt j outcome answer new
+  limited : outcome ≡ told.Limit → MeetsLimit c attempt.worker j answer new → AnswersFirst c attempt j outcome answer new
   wrong_length : (finding : Finding) → outcome ≡ told.Decided finding → HasWrongLength c.formula finding
       → answer ≡ reaction.Refused 2 → new ≡ reopened c attempt.worker j → AnswersFirst c attempt j outcome answer new
   fixes : (finding : Finding) → outcome ≡ told.Decided finding → ¬ (HasWrongLength c.formula finding)

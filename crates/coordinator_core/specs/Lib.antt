@@ -1,5 +1,7 @@
+pub mod Splits
 pub mod Coordinator
 pub mod Invariant
 pub mod Tables
 pub mod Calls
 pub mod Laws
+pub mod Examples

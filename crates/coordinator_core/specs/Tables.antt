@@ -1,5 +1,5 @@
 -- What the coordinator's tables hold. Nothing here has to be believed.
-use Rattle.std.specs.Prelude.{◌≡◌, ℕ, ◌<◌, ◌^◌, Bool, true, false, List, length, Option, Some, None, slice_index_or, count_by}
+use Rattle.std.specs.Prelude.{◌≡◌, ℕ, ◌<◌, ◌≤◌, ◌^◌, Bool, true, false, List, length, Option, Some, None, slice_index_or, count_by}
 use Rattle.coordinator_core.specs.Coordinator.{is_open}
 use Rattle.coordinator_core.specs.declared.desks.LeafState.{LeafState}
 use Rattle.coordinator_core.specs.declared.desks.LeafState.TheVariants.{Open, GivenTo, Closed}
@@ -24,3 +24,8 @@ pub record IsLeafTable (states : List LeafState) (fragments : List (List ℕ)) (
 abbrev pub next_of : Option ℕ → ℕ
 next_of None = 2 ^ 64
 next_of (Some number) = number
+
+-- the tables of the split rule, where they were made, have room for so many variables
+abbrev pub HasRoom : ℕ → Option ℕ → Type 0
+HasRoom vars None = Unit {0}
+HasRoom vars (Some room) = vars ≤ room

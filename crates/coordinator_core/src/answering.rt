@@ -78,10 +78,7 @@ impl Coordinator {
         ensures { (j : Job) → IsAwaited self.old attempt.now.session attempt.now.job attempt.now.worker j → j.fixed ≡ None → AnswersFirst self.old attempt.now j outcome.now result self.new }
     {
         match outcome {
-            Outcome::Limit => {
-                self.give_up();
-                Reaction::Taken
-            }
+            Outcome::Limit => self.meet_limit(attempt.worker),
             Outcome::Decided(finding) => self.answer_decided(attempt, finding),
         }
     }

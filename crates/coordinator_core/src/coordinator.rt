@@ -13,7 +13,7 @@ ghost use Rattle.coordinator_core.specs.declared.desks.Job.{Job};
 
 use crate::desks::Job;
 use crate::leaves::LeafTable;
-use cube_split::{Preamble, preamble};
+use cube_split::{Chooser, Preamble, preamble};
 use dimacs::{Base, Formula};
 use frames::WorkerNumber;
 use icnf::Tree;
@@ -26,6 +26,8 @@ pub struct Coordinator {
     pub(crate) alloc: Global,
     pub(crate) formula: Formula,
     pub(crate) preamble: Preamble,
+    // made at the first split, so that later ones take no memory for it
+    pub(crate) chooser: Option<Chooser>,
     pub(crate) base: Base,
     pub(crate) session: u64,
     pub(crate) limit: u64,
@@ -47,7 +49,7 @@ impl Model for Coordinator {
     ghost use Rattle.dimacs.specs.logic.Base.{base_of, pure_literals};
     ghost use Rattle.coordinator_core.specs.Coordinator.{CoordinatorState};
     ghost use Rattle.coordinator_core.specs.Invariant.{IsCoordinator};
-    ghost use Rattle.coordinator_core.specs.Tables.{next_of};
+    ghost use Rattle.coordinator_core.specs.Tables.{HasRoom, next_of};
 
     ghost Value = { CoordinatorState };
 
@@ -79,7 +81,7 @@ impl Model for Coordinator {
       next = next_of c.next;
       stuck = c.stuck;
       verdict = c.verdict;
-    }) };
+    }) × HasRoom c.formula.vars c.chooser };
 }
 
 impl Drop for Coordinator {
@@ -88,6 +90,7 @@ impl Drop for Coordinator {
             alloc: _,
             formula: _,
             preamble: _,
+            chooser: _,
             base: _,
             session: _,
             limit: _,
@@ -148,6 +151,7 @@ impl Coordinator {
             alloc,
             formula,
             preamble,
+            chooser: None,
             base,
             session,
             limit,
@@ -183,7 +187,8 @@ impl Coordinator {
         Ok(())
     }
 
-    /// Whether it gave up: a search met its limit, or the joined proof is too long. Only a restart changes that.
+    /// Whether it gave up: a leaf whose search met its limit cannot be split, or the joined proof is too long. Only a restart changes
+    /// that.
     #[inline]
     pub fn stuck(&self) -> bool
         ensures { result ≡ self.now.stuck }
@@ -234,6 +239,7 @@ impl Coordinator {
             alloc: _,
             formula: _,
             preamble: _,
+            chooser: _,
             base: _,
             session: _,
             limit: _,
@@ -279,7 +285,7 @@ impl Coordinator {
     }
 
     /// The leaf of a worker's job.
-    fn leaf_of(&self, worker: WorkerNumber) -> Option<usize>
+    pub(crate) fn leaf_of(&self, worker: WorkerNumber) -> Option<usize>
         ensures { MatchOption result (job_at self.now worker ≡ None) (λ leaf. (j : Job) × (job_at self.now worker ≡ Some j) × (j.leaf ≡ leaf)) }
     {
         match self.job_of(worker) {

@@ -1,16 +1,21 @@
 //! The leaves of a tree: the state of each, and the fragments of those that are closed.
 
-ghost use Rattle.std.specs.Prelude.{◌≡◌, ◌≢◌, ℕ, ◌<◌, ◌↔◌, IsTrue, [], length, map, replicate, position, slice_set, slice_index_or, Some, false, IfOk};
+ghost use Rattle.std.specs.Prelude.{◌≡◌, ◌≢◌, ℕ, ◌<◌, ◌↔◌, IsTrue, [], length, map, replicate, position, slice_set, slice_index_or, vec_len, vec_capacity, Some, false, IfOk, OnOk, OnErr};
+ghost use Rattle.icnf.specs.Leaves.{IsFree, branched};
 ghost use Rattle.coordinator_core.specs.Coordinator.{AreClosed, is_open};
+ghost use Rattle.coordinator_core.specs.Splits.{doubled};
 ghost use Rattle.coordinator_core.specs.declared.desks.LeafState.TheVariants.{Open, GivenTo, Closed};
 
 use crate::desks::LeafState;
+use cube_split::grow;
+use dimacs::Var;
 use frames::WorkerNumber;
+use icnf::Tree;
 use std::alloc::{AllocError, Global};
 use std::marker::Model;
 use std::mem;
 
-/// Of each leaf of a tree its state and its fragment. Only making it takes memory.
+/// Of each leaf of a tree its state and its fragment. Only making it and a split take memory.
 #[derive(Drop)]
 pub(crate) struct LeafTable {
     states: Vec<LeafState>,
@@ -54,6 +59,26 @@ fn open_from(states: &[LeafState], from: usize) -> Option<usize>
         }
     }
     None
+}
+
+/// Opens both branches of a leaf, for which there is room.
+fn open_branches(states: &mut Vec<LeafState>, leaf: usize)
+    requires inside { leaf < vec_len states.old }
+    requires room { vec_len states.old < vec_capacity states.old }
+    ensures { states.new.items ≡ doubled leaf Open states.old.items }
+{
+    states[leaf] = LeafState::Open;
+    states.insert(leaf, LeafState::Open).unwrap();
+}
+
+/// Gives neither branch of a leaf a fragment. There is room for both.
+fn empty_branches(alloc: Global, fragments: &mut Vec<Vec<u8>>, leaf: usize)
+    requires inside { leaf < vec_len fragments.old }
+    requires room { vec_len fragments.old < vec_capacity fragments.old }
+    ensures { map (λ v. v.items) fragments.new.items ≡ doubled leaf [] (map (λ v. v.items) fragments.old.items) }
+{
+    fragments[leaf] = Vec::new(alloc);
+    fragments.insert(leaf, Vec::new(alloc)).unwrap();
 }
 
 impl LeafTable {
@@ -140,5 +165,34 @@ impl LeafTable {
         self.states[leaf] = LeafState::GivenTo(worker);
         self.unclosed += 1;
         mem::replace(&mut self.fragments[leaf], before)
+    }
+
+    /// Splits a leaf of the tree that is not closed on a variable, and opens both branches. Want of memory leaves tree and table as
+    /// they were: both have room before either changes.
+    pub(crate) fn split(
+        &mut self,
+        alloc: Global,
+        tree: &mut Tree,
+        leaf: usize,
+        var: Var,
+    ) -> Result<(), AllocError>
+        requires inside { leaf < length self.old.states }
+        requires unclosed { slice_index_or self.old.states leaf Closed ≢ Closed }
+        requires leaf { leaf < length tree.old }
+        requires few { length tree.old < 65536 }
+        requires short { length (slice_index_or tree.old leaf []) < 64 }
+        requires free { IsFree (slice_index_or tree.old leaf []) var }
+        ensures tree { OnOk result (tree.new ≡ branched leaf var tree.old) }
+        ensures rows { OnOk result (self.new ≡ record { states = doubled leaf Open self.old.states; fragments = doubled leaf [] self.old.fragments }) }
+        ensures err { OnErr result ((tree.new ≡ tree.old) × (self.new ≡ self.old)) }
+    {
+        self.states.reserve(1)?;
+        self.fragments.reserve(1)?;
+        grow(tree, leaf, var)?;
+        open_branches(&mut self.states, leaf);
+        empty_branches(alloc, &mut self.fragments, leaf);
+        self.unclosed += 1;
+        self.from = self.from.min(leaf);
+        Ok(())
     }
 }

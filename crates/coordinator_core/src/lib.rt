@@ -9,12 +9,15 @@ mod closing;
 mod coordinator;
 mod delivering;
 mod desks;
+mod examples;
 mod gathering;
 mod laws;
 mod leaves;
 mod polling;
+mod splitting;
 mod wanting;
 
 pub use coordinator::Coordinator;
 pub use desks::{Fixed, Job, LeafState};
+pub use examples::worked_splits;
 pub use laws::coordinators_keep_what_they_hold;

@@ -1,5 +1,6 @@
 use Rattle.std.proofs.Common.{◌∙◌, sym, arith}
-use Rattle.coordinator_core.proofs.TableLemmas.{first_is, none_is, any_default}
+use Rattle.coordinator_core.proofs.Places.{any_default}
+use Rattle.coordinator_core.proofs.TableLemmas.{first_is, none_is}
 use Rattle.coordinator_core.proofs.leaves.open_from.Goals as goal
 
 pub returns-in-Open : goal.returns-in-Open

@@ -8,4 +8,4 @@ pub open-requires-clause-unclosed : goal.open-requires-clause-unclosed
 open-requires-clause-unclosed c = (lost_leaf _ c.args.self.now c.args.worker c.in-Some.leaf c.self.view_is c.self.invariant.2 c.in-Some.ensures).1
 
 pub invariant_of-self : goal.invariant_of-self
-invariant_of-self c = (c.self.invariant.0, c.self.invariant.1, lost_is _ c.args.self.now c.args.worker c.number.result c.in-Some.leaf c.open.new.self c.self.view_is c.number.ensures.value c.self.invariant.2 c.in-Some.ensures c.open.ensures)
+invariant_of-self c = (c.self.invariant.0, c.self.invariant.1, lost_is _ c.args.self.now c.args.worker c.number.result c.in-Some.leaf c.open.new.self c.self.view_is c.number.ensures.value c.self.invariant.2 c.in-Some.ensures c.open.ensures, c.self.invariant.3)

@@ -10,4 +10,5 @@ invariant_of-result c =
       c.in_ok-base.ensures.base c.in_ok-preamble.ensures.units,
       begin_is c.args.formula c.in_ok-planted.planted c.args.tree c.args.limit c.args.workers c.args.session c.leaves.result c.in_ok-leaves.leaves c.in_ok-jobs.jobs.items c.in_ok-wants.wants.items
           c.vars.ensures.valid c.leaves.ensures.valid c.requires.inside c.requires.workers.0 c.requires.workers.1 c.in_ok-planted.ensures c.leaves.ensures.value c.in_ok-leaves.ensures c.in_ok-jobs.ensures unwanted,
+      tt,
     )

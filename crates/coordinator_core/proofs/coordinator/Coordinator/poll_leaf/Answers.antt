@@ -10,4 +10,5 @@ invariant_of-self c =
       c.self.invariant.1,
       given_is _ c.args.worker c.number.result c.in-Some-first_open.leaf c.in-Some.number _ c.give.new.self c.number.ensures.above c.number.ensures.value c.self.invariant.2
           (ap next_of c.in-Some.is) left (sym c.first_open.ensures ∙ c.in-Some-first_open.is) c.give.ensures (next_after c.checked_add-self-inside.result c.in-Some.number left c.checked_add-self-inside.ensures),
+      c.self.invariant.3,
     )

@@ -19,6 +19,7 @@ invariant_of-self c =
       begin_is c.self.inside.formula c.self.inside.planted c.in_ok-tree.tree c.self.inside.limit c.len-workers.result c.args.session c.leaves.result c.in_ok-leaves.leaves c.in_ok-jobs.jobs.items c.in_ok-wants.wants.items
           is.grounds.formula c.leaves.ensures.valid (subst (λ (t : List Cube). All (IsInside c.self.inside.formula) t) (sym c.in_ok-tree.ensures) is.grounds.planted_is.inside) some few
           (sym c.in_ok-tree.ensures) c.leaves.ensures.value c.in_ok-leaves.ensures c.in_ok-jobs.ensures unwanted,
+      c.self.invariant.3,
     )
 
 pub returns-clause-ok : goal.returns-clause-ok

@@ -1,0 +1,281 @@
+-- Why a coordinator is stuck.
+use Rattle.std.proofs.Common.{◌≡◌, ◌≢◌, ℕ, zero, suc, ◌+◌, ◌-◌, ◌<◌, ◌≤◌, ◌^◌, Bool, true, false, List, [], ◌∷◌, ◌++◌, length, Contains, Option, Some, None, slice_get, get_or, refl, subst, sym, ap, ◌∙◌, ◌⊎◌, inl, inr}
+use Rattle.std.proofs.lemmas.List.Elements.{Contains-append_left}
+use Rattle.std.proofs.lemmas.Option.{slice_get_within, get_or_from_slice_get}
+use Rattle.dimacs.specs.logic.Base.{pure_literals}
+use Rattle.dimacs.specs.logic.Cnf.{Cnf}
+use Rattle.icnf.specs.Leaves.{Cube}
+use Rattle.lrat_check.specs.declared.verdict.Verdict.{Verdict}
+use Rattle.lrat_check.specs.declared.verdict.Verdict.TheVariants.{Nothing, Model, Proof}
+use Rattle.lrat_check.specs.declared.verdict.Reaction.{Reaction}
+use Rattle.frames.specs.declared.answer.Outcome.{Outcome}
+use Rattle.frames.specs.declared.answer.Outcome.TheVariants as told
+use Rattle.frames.specs.declared.frame.Attempt.{Attempt}
+use Rattle.frames.specs.declared.frame.Frame.{Frame}
+use Rattle.frames.specs.declared.frame.Frame.TheVariants.{Task, Done, Fetch, Piece, Verdict as VerdictFrame, Want, Part, Idle, Rest}
+use Rattle.cube_split.specs.Choice.{IsChoice}
+use Rattle.proof_join.specs.Joining.{JoinedUnits}
+use Rattle.evidence.specs.Events.{Given, Reacted, Sent}
+use Rattle.coordinator_core.specs.Coordinator.{CoordinatorState, CanSplit, AreClosed, EndsFragment, EndsAssignment, Gathers, MeetsLimit, AnswersFirst, DeliversDone, DeliversPiece, DeliversIdle, DeliversWant, CoordinatorDelivers, CoordinatorPolls, coordinator_poll, poll_by, stuck_poll, job_poll, fixed_poll, leaf_poll, verdict_poll, cube_at, want_at, job_at}
+use Rattle.coordinator_core.specs.Invariant.{IsCoordinator}
+use Rattle.coordinator_core.specs.declared.desks.Fixed.{Fixed}
+use Rattle.coordinator_core.specs.declared.desks.Job.{Job}
+use Rattle.coordinator_core.specs.declared.desks.LeafState.{LeafState}
+use Rattle.coordinator_core.specs.declared.desks.LeafState.TheVariants.{GivenTo, Closed}
+use Rattle.closed_schedules.specs.declared.event.ClosedEvent.{ClosedEvent}
+use Rattle.closed_schedules.specs.declared.event.ClosedEvent.TheVariants.{Deliver, Work as WorkEvent, Poll as PollEvent, Restart}
+use Rattle.closed_schedules.specs.ClosedSchedule.{ClosedState, HappensDeliver, HappensWork, HappensPoll, HappensRestart, HappensClosed, RunsClosed, new_closed}
+use Rattle.closed_schedules.specs.ClosedLaws.{HasWholeLeaf, HasMetLimit, IsTooLong, IsStuckRightly, StuckRightly}
+use Rattle.closed_schedules.proofs.Told.{Told, IsHonestCluster}
+use Rattle.closed_schedules.proofs.Desks.{job_desk}
+use Rattle.closed_schedules.proofs.EventLemmas.{CoordinatorsStay, event_keeps}
+use Rattle.closed_schedules.proofs.Moments.{new_closed_is}
+
+-- nothing that a reason speaks of changes
+record IsFrozen (c d : CoordinatorState) : Type 0 where
+  formula : d.formula ≡ c.formula
+  session : d.session ≡ c.session
+  tree : d.tree ≡ c.tree
+  leaves : d.leaves ≡ c.leaves
+  fragments : d.fragments ≡ c.fragments
+
+frozen_same : (c d : CoordinatorState) → d ≡ c → IsFrozen c d
+frozen_same c d e = record { formula = ap (λ k. k.formula) e; session = ap (λ k. k.session) e; tree = ap (λ k. k.tree) e; leaves = ap (λ k. k.leaves) e; fragments = ap (λ k. k.fragments) e }
+
+not_both : (b : Bool) → b ≡ true → b ≡ false → ⊥
+not_both b t f = let e : true ≡ false = sym t ∙ f in cc
+
+-- a stuck coordinator is frozen
+frozen : (c : CoordinatorState) (frame : Frame) (answer : Reaction) (new : CoordinatorState) → c.stuck ≡ true → CoordinatorDelivers c frame answer new → IsFrozen c new
+frozen c (Done attempt outcome) answer new stuck (DeliversDone.strays none a now) = frozen_same c new now
+frozen c (Done attempt outcome) answer new stuck (DeliversDone.first j awaited free answered) = absurd (not_both c.stuck stuck awaited.deciding.going)
+frozen c (Done attempt outcome) answer new stuck (DeliversDone.again j x fetched a now) = frozen_same c new now
+frozen c (Done attempt outcome) answer new stuck (DeliversDone.anew j x awaited fixed other a now) = absurd (not_both c.stuck stuck awaited.deciding.going)
+frozen c (Piece attempt offset bytes) answer new stuck (DeliversPiece.strays none a now) = frozen_same c new now
+frozen c (Piece attempt offset bytes) answer new stuck (DeliversPiece.appends j x fits gathers) = absurd (not_both c.stuck stuck fits.fetched.awaited.deciding.going)
+frozen c (Idle worker incarnation) answer new stuck (DeliversIdle.strays none a now) = frozen_same c new now
+frozen c (Idle worker incarnation) answer new stuck (DeliversIdle.anew j stale a now) = absurd (not_both c.stuck stuck stale.deciding.going)
+frozen c (Want session worker offset) answer new stuck (DeliversWant.strays none a now) = frozen_same c new now
+frozen c (Want session worker offset) answer new stuck (DeliversWant.notes wanted a now) = subst (IsFrozen c) (sym now) (record { formula = refl; session = refl; tree = refl; leaves = refl; fragments = refl })
+frozen c (Task session job limit cube) answer new stuck step = frozen_same c new step.1
+frozen c (Fetch attempt offset) answer new stuck step = frozen_same c new step.1
+frozen c (VerdictFrame session finding) answer new stuck step = frozen_same c new step.1
+frozen c (Part session part offset bytes) answer new stuck step = frozen_same c new step.1
+frozen c Rest answer new stuck step = frozen_same c new step.1
+
+-- what makes it stuck
+abbrev Reason : CoordinatorState → Frame → Type 0
+Reason new frame = ((attempt : Attempt) × (frame ≡ Done attempt told.Limit) × (attempt.session ≡ new.session) × HasWholeLeaf new) ⊎ IsTooLong new
+
+stays_free : (c d new : CoordinatorState) (frame : Frame) → c.stuck ≡ false → d.stuck ≡ c.stuck → new ≡ d → new.stuck ≡ true → Reason new frame
+stays_free c d new frame free same now stuck = absurd (not_both new.stuck stuck (ap (λ k. k.stuck) now ∙ same ∙ free))
+
+fragment_stuck : (c : CoordinatorState) (frame : Frame) (worker : ℕ) (j : Job) (text : List ℕ) (answer : Reaction) (new : CoordinatorState) → c.stuck ≡ false → new.stuck ≡ true
+    → EndsFragment c worker j text answer new → Reason new frame
+fragment_stuck c frame worker j text answer new free stuck (EndsFragment.wrong never a now) = stays_free c _ new frame free refl now stuck
+fragment_stuck c frame worker j text answer new free stuck (EndsFragment.closes closes some a now) = stays_free c _ new frame free refl now stuck
+fragment_stuck c frame worker j text answer new free stuck (EndsFragment.joins closes all proof joined short a now) = stays_free c _ new frame free refl now stuck
+fragment_stuck c frame worker j text answer new free stuck (EndsFragment.too_long closes all proof joined long a now) =
+    inr (subst IsTooLong (sym now) (record { all = all; text = proof; joined = joined; long = long }))
+
+assignment_stuck : (c : CoordinatorState) (frame : Frame) (worker : ℕ) (j : Job) (x : Fixed) (answer : Reaction) (new : CoordinatorState) → c.stuck ≡ false → new.stuck ≡ true
+    → EndsAssignment c worker j x answer new → Reason new frame
+assignment_stuck c frame worker j x answer new free stuck (EndsAssignment.holds v right a now) = stays_free c _ new frame free refl now stuck
+assignment_stuck c frame worker j x answer new free stuck (EndsAssignment.wrong wrong a now) = stays_free c _ new frame free refl now stuck
+
+gathers_stuck : (c : CoordinatorState) (frame : Frame) (worker : ℕ) (j : Job) (x : Fixed) (answer : Reaction) (new : CoordinatorState) → c.stuck ≡ false → new.stuck ≡ true
+    → Gathers c worker j x answer new → Reason new frame
+gathers_stuck c frame worker j x answer new free stuck (Gathers.waits more a now) = stays_free c _ new frame free refl now stuck
+gathers_stuck c frame worker j x answer new free stuck (Gathers.fragment complete refuted ends) = fragment_stuck c frame worker j x.evidence.bytes answer new free stuck ends
+gathers_stuck c frame worker j x answer new free stuck (Gathers.assignment complete assigned ends) = assignment_stuck c frame worker j x answer new free stuck ends
+gathers_stuck c frame worker j x answer new free stuck (Gathers.no_memory grows a now) = stays_free c c new frame free refl now stuck
+
+-- the leaf of a job is not closed
+leaf_unclosed : (c : CoordinatorState) (worker : ℕ) (j : Job) → IsCoordinator c → job_at c worker ≡ Some j → get_or c.leaves j.leaf Closed ≢ Closed
+leaf_unclosed c worker j is at closed =
+    not_closed ((worker - 1) + 1) (sym (get_or_from_slice_get c.leaves j.leaf (GivenTo ((worker - 1) + 1)) Closed (is.jobs (worker - 1) j (job_desk c worker j at)).given) ∙ closed)
+  where
+    not_closed : (n : ℕ) → GivenTo n ≡ Closed → ⊥
+    not_closed n e = cc
+
+limit_stuck : (c : CoordinatorState) (attempt : Attempt) (j : Job) (outcome : Outcome) (answer : Reaction) (new : CoordinatorState) → IsCoordinator c → c.stuck ≡ false → new.stuck ≡ true
+    → attempt.session ≡ c.session → job_at c attempt.worker ≡ Some j → outcome ≡ told.Limit → MeetsLimit c attempt.worker j answer new → Reason new (Done attempt outcome)
+limit_stuck c attempt j outcome answer new is free stuck session at end (MeetsLimit.splits v can a now) = stays_free c _ new _ free refl now stuck
+limit_stuck c attempt j outcome answer new is free stuck session at end (MeetsLimit.stops whole a now) =
+    inl (
+      attempt,
+      ap (λ (o : Outcome). Done attempt o) end,
+      session ∙ sym (ap (λ k. k.session) now),
+      subst HasWholeLeaf (sym now) (record {
+        leaf = j.leaf;
+        unclosed = leaf_unclosed c attempt.worker j is at;
+        whole = λ v can. whole v (record { may = record { short = can.may.short; few = can.may.few }; choice = can.choice });
+      }),
+    )
+limit_stuck c attempt j outcome answer new is free stuck session at end (MeetsLimit.no_memory may a now) = stays_free c c new _ free refl now stuck
+
+first_stuck : (c : CoordinatorState) (attempt : Attempt) (j : Job) (outcome : Outcome) (answer : Reaction) (new : CoordinatorState) → IsCoordinator c → c.stuck ≡ false → new.stuck ≡ true
+    → attempt.session ≡ c.session → job_at c attempt.worker ≡ Some j → AnswersFirst c attempt j outcome answer new → Reason new (Done attempt outcome)
+first_stuck c attempt j outcome answer new is free stuck session at (AnswersFirst.limited end meets) = limit_stuck c attempt j outcome answer new is free stuck session at end meets
+first_stuck c attempt j outcome answer new is free stuck session at (AnswersFirst.wrong_length finding end wrong a now) = stays_free c _ new _ free refl now stuck
+first_stuck c attempt j outcome answer new is free stuck session at (AnswersFirst.fixes finding end long gathers) = gathers_stuck c _ attempt.worker j _ answer new free stuck gathers
+
+reason : (c : CoordinatorState) (frame : Frame) (answer : Reaction) (new : CoordinatorState) → IsCoordinator c → c.stuck ≡ false → new.stuck ≡ true → CoordinatorDelivers c frame answer new → Reason new frame
+reason c (Done attempt outcome) answer new is free stuck (DeliversDone.strays none a now) = stays_free c c new _ free refl now stuck
+reason c (Done attempt outcome) answer new is free stuck (DeliversDone.first j awaited unfixed answered) =
+    first_stuck c attempt j outcome answer new is free stuck awaited.session_is awaited.job answered
+reason c (Done attempt outcome) answer new is free stuck (DeliversDone.again j x fetched a now) = stays_free c c new _ free refl now stuck
+reason c (Done attempt outcome) answer new is free stuck (DeliversDone.anew j x awaited fixed other a now) = stays_free c _ new _ free refl now stuck
+reason c (Piece attempt offset bytes) answer new is free stuck (DeliversPiece.strays none a now) = stays_free c c new _ free refl now stuck
+reason c (Piece attempt offset bytes) answer new is free stuck (DeliversPiece.appends j x fits gathers) = gathers_stuck c _ attempt.worker j _ answer new free stuck gathers
+reason c (Idle worker incarnation) answer new is free stuck (DeliversIdle.strays none a now) = stays_free c c new _ free refl now stuck
+reason c (Idle worker incarnation) answer new is free stuck (DeliversIdle.anew j stale a now) = stays_free c _ new _ free refl now stuck
+reason c (Want session worker offset) answer new is free stuck (DeliversWant.strays none a now) = stays_free c c new _ free refl now stuck
+reason c (Want session worker offset) answer new is free stuck (DeliversWant.notes wanted a now) = stays_free c _ new _ free refl now stuck
+reason c (Task session job limit cube) answer new is free stuck step = stays_free c c new _ free refl step.1 stuck
+reason c (Fetch attempt offset) answer new is free stuck step = stays_free c c new _ free refl step.1 stuck
+reason c (VerdictFrame session finding) answer new is free stuck step = stays_free c c new _ free refl step.1 stuck
+reason c (Part session part offset bytes) answer new is free stuck step = stays_free c c new _ free refl step.1 stuck
+reason c Rest answer new is free stuck step = stays_free c c new _ free refl step.1 stuck
+
+-- a reason stays one of a frozen coordinator
+whole_stays : (c d : CoordinatorState) → IsFrozen c d → HasWholeLeaf c → HasWholeLeaf d
+whole_stays c d f h = record {
+  leaf = h.leaf;
+  unclosed = subst (λ (l : List LeafState). get_or l h.leaf Closed ≢ Closed) (sym f.leaves) h.unclosed;
+  whole = λ v can. h.whole v (back v can);
+}
+  where
+    back : (v : ℕ) → CanSplit d h.leaf v → CanSplit c h.leaf v
+    back v can = record {
+      may = record {
+        short = subst (λ (t : List Cube). length (get_or t h.leaf []) < 64) f.tree can.may.short;
+        few = subst (λ (t : List Cube). length t < 65536) f.tree can.may.few;
+      };
+      choice = subst (λ (t : List Cube). IsChoice c.formula (pure_literals c.formula ++ get_or t h.leaf []) v) f.tree
+          (subst (λ (F : Cnf). IsChoice F (pure_literals F ++ get_or d.tree h.leaf []) v) f.formula can.choice);
+    }
+
+long_stays : (c d : CoordinatorState) → IsFrozen c d → IsTooLong c → IsTooLong d
+long_stays c d f h = record {
+  all = subst AreClosed (sym f.leaves) h.all;
+  text = h.text;
+  joined = subst (λ (F : Cnf). JoinedUnits F d.tree d.fragments h.text) (sym f.formula) (subst (λ (t : List Cube). JoinedUnits c.formula t d.fragments h.text) (sym f.tree)
+      (subst (λ (fs : List (List ℕ)). JoinedUnits c.formula c.tree fs h.text) (sym f.fragments) h.joined));
+  long = h.long;
+}
+
+reason_stays : (frames more : List Frame) (c d : CoordinatorState) → ((f : Frame) → Contains frames f → Contains more f) → IsFrozen c d → HasMetLimit frames c ⊎ IsTooLong c → HasMetLimit more d ⊎ IsTooLong d
+reason_stays frames more c d grows f (inl h) = inl (record { attempt = h.attempt; told = grows _ h.told; session = h.session ∙ sym f.session; leaf = whole_stays c d f h.leaf })
+reason_stays frames more c d grows f (inr h) = inr (long_stays c d f h)
+
+-- a poll leaves it stuck or not, and a stuck one frozen
+leaf_poll_stuck : (c : CoordinatorState) (worker : ℕ) (more : Bool) (o : Option ℕ) → (leaf_poll c worker more o).after.stuck ≡ c.stuck
+leaf_poll_stuck c worker true (Some leaf) = refl
+leaf_poll_stuck c worker true None = refl
+leaf_poll_stuck c worker false o = refl
+
+fixed_poll_stuck : (c : CoordinatorState) (worker : ℕ) (j : Job) (o : Option Fixed) → (fixed_poll c worker j o).after.stuck ≡ c.stuck
+fixed_poll_stuck c worker j (Some x) = refl
+fixed_poll_stuck c worker j None = refl
+
+job_poll_stuck : (c : CoordinatorState) (worker : ℕ) (o : Option Job) → (job_poll c worker o).after.stuck ≡ c.stuck
+job_poll_stuck c worker (Some j) = fixed_poll_stuck c worker j j.fixed
+job_poll_stuck c worker None = leaf_poll_stuck c worker _ _
+
+frozen_itself : (c : CoordinatorState) → IsFrozen c c
+frozen_itself c = frozen_same c c refl
+
+verdict_poll_frozen : (c : CoordinatorState) (worker : ℕ) (o : Option ℕ) → (verdict_poll c worker o).after.stuck ≡ true → (c.stuck ≡ true) × IsFrozen c (verdict_poll c worker o).after
+verdict_poll_frozen c worker (Some offset) stuck = (stuck, record { formula = refl; session = refl; tree = refl; leaves = refl; fragments = refl })
+verdict_poll_frozen c worker None stuck = (stuck, frozen_itself c)
+
+poll_frozen : (c : CoordinatorState) (worker : ℕ) → (coordinator_poll c worker).after.stuck ≡ true → (c.stuck ≡ true) × IsFrozen c (coordinator_poll c worker).after
+poll_frozen c worker = go c.verdict
+  where
+    by_stuck : (b : Bool) → c.stuck ≡ b → (stuck_poll c worker b).after.stuck ≡ true → (c.stuck ≡ true) × IsFrozen c (stuck_poll c worker b).after
+    by_stuck true e stuck = (e, frozen_itself c)
+    by_stuck false e stuck = absurd (not_both _ stuck (job_poll_stuck c worker (job_at c worker) ∙ e))
+
+    go : (v : Verdict) → (poll_by c worker v).after.stuck ≡ true → (c.stuck ≡ true) × IsFrozen c (poll_by c worker v).after
+    go Nothing stuck = by_stuck c.stuck refl stuck
+    go (Model values) stuck = verdict_poll_frozen c worker (want_at c worker) stuck
+    go (Proof text) stuck = verdict_poll_frozen c worker (want_at c worker) stuck
+
+polled_frozen : (c : CoordinatorState) (worker : ℕ) (frame : Frame) (d : CoordinatorState) → CoordinatorPolls c worker (Sent frame) d → d.stuck ≡ true → (c.stuck ≡ true) × IsFrozen c d
+polled_frozen c worker frame d (CoordinatorPolls.sends sent now) stuck =
+    let h = poll_frozen c worker (sym (ap (λ k. k.stuck) now) ∙ stuck) in (h.0, subst (IsFrozen c) (sym now) h.1)
+polled_frozen c worker frame d (CoordinatorPolls.no_memory grows a now) stuck = (sym (ap (λ k. k.stuck) now) ∙ stuck, frozen_same c d now)
+
+-- every event
+delivered_stuck : (s : ClosedState) (place : ℕ) (frame : Frame) (answer : Reaction) (c : CoordinatorState) → IsCoordinator s.coordinator → slice_get s.frames place ≡ Some frame → StuckRightly s
+    → CoordinatorDelivers s.coordinator frame answer c → c.stuck ≡ true → HasMetLimit s.frames c ⊎ IsTooLong c
+delivered_stuck s place frame answer c is found rightly step stuck = by s.coordinator.stuck refl
+  where
+    stands : Contains s.frames frame
+    stands = (place, slice_get_within s.frames place frame found, get_or_from_slice_get s.frames place frame frame found)
+
+    why : Reason c frame → HasMetLimit s.frames c ⊎ IsTooLong c
+    why (inl (attempt, done, session, leaf)) = inl (record { attempt = attempt; told = subst (Contains s.frames) done stands; session = session; leaf = leaf })
+    why (inr h) = inr h
+
+    by : (b : Bool) → s.coordinator.stuck ≡ b → HasMetLimit s.frames c ⊎ IsTooLong c
+    by true e = reason_stays s.frames s.frames s.coordinator c (λ f h. h) (frozen s.coordinator frame answer c e step) (rightly e)
+    by false e = why (reason s.coordinator frame answer c is e stuck step)
+
+event_stuck : (F : Cnf) (limit : ℕ) (T : Told) (s : ClosedState) (event : ClosedEvent) (answer : Reaction) (new : ClosedState)
+    → IsHonestCluster F limit T s → StuckRightly s → HappensClosed s event answer new → StuckRightly new
+event_stuck F limit T s event answer new is rightly happens = go event happens
+  where
+    delivers : (node place : ℕ) → HappensDeliver s node place answer new → StuckRightly new
+    delivers node place (HappensDeliver.strays none ignored) = subst StuckRightly (sym ignored.1) rightly
+    delivers zero place (HappensDeliver.delivers frame found (c, step, now)) = subst StuckRightly (sym now) (delivered_stuck s place frame answer c is.coordinator found rightly step)
+    delivers (suc i) place (HappensDeliver.delivers frame found (w, v, there, step, now)) = subst StuckRightly (sym now) rightly
+
+    works : (node : ℕ) → HappensWork s node answer new → StuckRightly new
+    works node (HappensWork.strays none ignored) = subst StuckRightly (sym ignored.1) rightly
+    works zero (HappensWork.works (c, step, now)) = absurd step
+    works (suc i) (HappensWork.works (w, v, there, step, now)) = subst StuckRightly (sym now) rightly
+
+    polls : (node worker : ℕ) → HappensPoll s node worker answer new → StuckRightly new
+    polls node worker (HappensPoll.strays none ignored) = subst StuckRightly (sym ignored.1) rightly
+    polls node worker (HappensPoll.no_memory poll a now) = subst StuckRightly (sym now) rightly
+    polls zero worker (HappensPoll.sends frame after (c, step, then_is) a now) =
+        subst StuckRightly (sym now) (subst (λ (t : ClosedState). StuckRightly (record t { frames = t.frames ++ frame ∷ [] })) (sym then_is) (λ stuck.
+        let h = polled_frozen s.coordinator worker frame c step.1 stuck in
+        reason_stays s.frames (s.frames ++ frame ∷ []) s.coordinator c (λ f k. Contains-append_left s.frames _ f k) h.1 (rightly h.0)))
+    polls (suc i) worker (HappensPoll.sends frame after (w, v, there, step, then_is) a now) =
+        subst StuckRightly (sym now) (subst (λ (t : ClosedState). StuckRightly (record t { frames = t.frames ++ frame ∷ [] })) (sym then_is) (λ stuck.
+        reason_stays s.frames (s.frames ++ frame ∷ []) s.coordinator s.coordinator (λ f k. Contains-append_left s.frames _ f k) (frozen_itself s.coordinator) (rightly stuck)))
+
+    not_stuck : false ≡ true → ⊥
+    not_stuck e = cc
+
+    restarts : (node number : ℕ) → HappensRestart s node number answer new → StuckRightly new
+    restarts node number (HappensRestart.strays none ignored) = subst StuckRightly (sym ignored.1) rightly
+    restarts node number (HappensRestart.no_memory known fresh a now) = subst StuckRightly (sym now) rightly
+    restarts zero number (HappensRestart.anew after fresh then_is a now) =
+        subst StuckRightly (sym now) (subst (λ (t : ClosedState). StuckRightly (record t { used = t.used ++ number ∷ [] })) (sym then_is) (λ stuck. absurd (not_stuck stuck)))
+    restarts (suc i) number (HappensRestart.anew after fresh (w, there, then_is) a now) =
+        subst StuckRightly (sym now) (subst (λ (t : ClosedState). StuckRightly (record t { used = t.used ++ number ∷ [] })) (sym then_is) rightly)
+
+    go : (e : ClosedEvent) → HappensClosed s e answer new → StuckRightly new
+    go (Deliver node place) h = delivers node place h
+    go (WorkEvent node) h = works node h
+    go (PollEvent node worker) h = polls node worker h
+    go (Restart node number) h = restarts node number h
+
+run_stuck : CoordinatorsStay → (F : Cnf) (limit : ℕ) (T : Told) (s : ClosedState) (events : List ClosedEvent) (new : ClosedState)
+    → IsHonestCluster F limit T s → StuckRightly s → RunsClosed s events new → StuckRightly new
+run_stuck law F limit T s [] new is rightly same = subst StuckRightly (sym same) rightly
+run_stuck law F limit T s (event ∷ events) new is rightly (answer, mid, happens, runs) =
+    let h = event_keeps law F limit T s event answer mid is happens in
+    run_stuck law F limit h.0 mid events new h.1 (event_stuck F limit T s event answer mid is rightly happens) runs
+
+-- a coordinator is stuck for a reason
+pub stuck_rightly : CoordinatorsStay → IsStuckRightly
+stuck_rightly law F tree limit n s r =
+    run_stuck law F limit _ (new_closed F tree limit n) r.events s (new_closed_is F tree limit n r.formula r.planted r.some_worker r.few_workers) (λ stuck. absurd (never stuck)) r.runs
+  where
+    never : false ≡ true → ⊥
+    never e = cc

@@ -1,0 +1,5 @@
+use Rattle.coordinator_core.proofs.KeptLemmas.{task_leaf}
+use Rattle.coordinator_core.proofs.coordinator.Coordinator.choice.Goals as goal
+
+pub cube-requires : goal.cube-requires
+cube-requires c = task_leaf _ c.args.self.now c.args.worker c.args.leaf c.self.view_is c.self.invariant.2 c.requires

@@ -1,0 +1,33 @@
+-- A small run, on which a reader can try the rule of splitting.
+use Rattle.std.specs.Prelude.{ℕ, [], ◌∷◌}
+use Rattle.dimacs.specs.logic.Cnf.{Cnf}
+use Rattle.dimacs.specs.logic.Literal.{Pos, Neg}
+use Rattle.lrat_check.specs.declared.verdict.Reaction.{Reaction}
+use Rattle.frames.specs.declared.answer.Outcome.TheVariants as told
+use Rattle.frames.specs.declared.frame.Attempt.{Attempt}
+use Rattle.frames.specs.declared.frame.Frame.{Frame}
+use Rattle.frames.specs.declared.frame.Frame.TheVariants.{Done}
+use Rattle.coordinator_core.specs.Coordinator.{CoordinatorState, new_coordinator, coordinator_poll, CoordinatorDelivers}
+
+-- p cnf 2 4, 1 2 0, -1 2 0, 1 -2 0, -1 -2 0
+abbrev pub four : Cnf
+four = record { vars = 2; clauses = (Pos 1 ∷ Pos 2 ∷ []) ∷ (Neg 1 ∷ Pos 2 ∷ []) ∷ (Pos 1 ∷ Neg 2 ∷ []) ∷ (Neg 1 ∷ Neg 2 ∷ []) ∷ [] }
+
+-- one worker, a tree of one leaf, and a limit of 100
+abbrev pub begun : CoordinatorState
+begun = new_coordinator four ([] ∷ []) 100 1 1
+
+-- what it sends to the worker, and the coordinator that has sent it
+abbrev pub sent : CoordinatorState → Frame
+sent c = (coordinator_poll c 1).frame
+
+abbrev pub polled : CoordinatorState → CoordinatorState
+polled c = (coordinator_poll c 1).after
+
+-- the worker, at a job
+abbrev pub at_job : ℕ → Attempt
+at_job job = record { session = 1; job = job; worker = 1; incarnation = 2 }
+
+-- the worker's search at a job met its limit, and the coordinator answers so
+abbrev pub MetLimit : CoordinatorState → ℕ → Reaction → CoordinatorState → Type 0
+MetLimit c job answer new = CoordinatorDelivers c (Done (at_job job) told.Limit) answer new
