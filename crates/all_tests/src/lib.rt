@@ -6,6 +6,8 @@ mod candidates;
 #[cfg(test)]
 mod checks;
 #[cfg(test)]
+mod closed;
+#[cfg(test)]
 mod coordinators;
 #[cfg(test)]
 mod cubes;

@@ -1,2 +1,4 @@
 pub mod AgreementLemmas
 pub mod ScheduleLemmas
+pub mod MemberLemmas
+pub mod ClosedLemmas

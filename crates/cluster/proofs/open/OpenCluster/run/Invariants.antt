@@ -1,4 +1,4 @@
-use Rattle.std.proofs.Common.{◌≡◌, take}
+use Rattle.std.proofs.Common.{take}
 use Rattle.cluster.specs.Nodes.{AreSound}
 use Rattle.cluster.specs.OpenSchedule.{Runs}
 use Rattle.cluster.proofs.open.OpenCluster.run.Given as goal

@@ -1,0 +1,58 @@
+-- What holds of a closed cluster at every moment, by the laws of closed schedules.
+use Rattle.std.proofs.Common.{◌≡◌, ℕ, ◌≤◌, All, List, [], ◌∷◌, length, drop, Option, None, Some, IfSome, Bor, refl, subst, sym}
+use Rattle.std.proofs.lemmas.List.{drop_all}
+use Rattle.std.specs.Option.{option_copied}
+use Rattle.dimacs.specs.logic.Cnf.{Cnf, IsFormula}
+use Rattle.icnf.specs.Leaves.{Cube, IsTree}
+use Rattle.lrat_check.specs.Verdicts.{Right}
+use Rattle.lrat_check.specs.declared.verdict.Reaction.{Reaction}
+use Rattle.lrat_check.specs.declared.verdict.Verdict.{Verdict}
+use Rattle.evidence.specs.Jobs.{IsInside}
+use Rattle.closed_schedules.specs.declared.event.ClosedEvent.{ClosedEvent}
+use Rattle.closed_schedules.specs.ClosedSchedule.{ClosedState, HappensClosed, RunsClosed, new_closed, verdict_at}
+use Rattle.closed_schedules.specs.ClosedLaws.{AlwaysRight, ClosedIsJoined, OneFormula}
+use Rattle.closed_schedules.proofs.Moments.{first_moment, next_moment}
+use Rattle.cluster.specs.Closed.{HoldRight, IsJoined, IsReached}
+
+-- the moment at which a cluster begins
+pub new_reached : (F : Cnf) (tree : List Cube) (limit workers : ℕ) → IsFormula F → IsTree tree → All (IsInside F) tree → (1 ≤ workers) × (workers ≤ 64) → IsReached (new_closed F tree limit workers)
+new_reached F tree limit workers formula is_tree inside few = record {
+  formula = F;
+  tree = tree;
+  limit = limit;
+  workers = workers;
+  moment = first_moment F tree limit workers formula (record { is_tree = is_tree; inside = inside }) few.0 few.1;
+}
+
+-- an event, or a list of them, comes to a moment again
+pub next_reached : (s : ClosedState) (event : ClosedEvent) (answer : Reaction) (new : ClosedState) → IsReached s → HappensClosed s event answer new → IsReached new
+next_reached s event answer new r happens = record {
+  formula = r.formula;
+  tree = r.tree;
+  limit = r.limit;
+  workers = r.workers;
+  moment = next_moment r.formula r.tree r.limit r.workers s event answer new r.moment happens;
+}
+
+pub later_reached : (s : ClosedState) (events : List ClosedEvent) (new : ClosedState) → IsReached s → RunsClosed s events new → IsReached new
+later_reached s [] new r same = subst IsReached (sym same) r
+later_reached s (event ∷ events) new r (answer, mid, happens, runs) = later_reached mid events new (next_reached s event answer mid r happens) runs
+
+-- what the events that are left come to from here, all come to from the beginning; at their end none is left
+pub run_ends : (s now : ClosedState) (events : List ClosedEvent) (i : ℕ) → length events ≤ i
+    → ((end : ClosedState) → RunsClosed now (drop i events) end → RunsClosed s events end) → RunsClosed s events now
+run_ends s now events i past run = run now (subst (λ (left : List ClosedEvent). RunsClosed now left now) (sym (drop_all i events past)) refl)
+
+-- what the laws say of a moment
+pub reached_right : AlwaysRight → OneFormula → (s : ClosedState) → IsReached s → HoldRight s
+reached_right right one s r node v held =
+    let same = one r.formula r.tree r.limit r.workers s r.moment in
+    subst (λ (F : Cnf). Right F v) (sym same.0) (right r.formula r.tree r.limit r.workers s r.moment node v held)
+
+pub reached_joined : ClosedIsJoined → (s : ClosedState) → IsReached s → IsJoined s
+reached_joined joined s r = joined r.formula r.tree r.limit r.workers s r.moment
+
+-- so what is handed out of it is right
+pub shown_right : (s : ClosedState) (node : ℕ) (shown : Option (Bor Verdict)) → HoldRight s → option_copied shown ≡ verdict_at s node → IfSome shown (λ v. Right s.coordinator.formula v.now)
+shown_right s node None right is = tt
+shown_right s node (Some v) right is = right node v.now (sym is)

@@ -1,0 +1,142 @@
+//! The nodes of a closed cluster.
+
+ghost use Rattle.std.specs.Prelude.{◌≡◌, ◌≤◌, [], All, IfOk, OnOk, OnErr, MatchBool, nat_le, length};
+ghost use Rattle.std.specs.Option.{option_copied};
+ghost use Rattle.evidence.specs.Events.{Delivered, Worked, Polled, Reacted, given_by};
+ghost use Rattle.evidence.specs.Jobs.{IsInside};
+ghost use Rattle.coordinator_core.specs.Coordinator.{new_coordinator};
+ghost use Rattle.closed_schedules.specs.ClosedSchedule.{IsNoPoll, verdict_at};
+ghost use Rattle.cluster.specs.Members.{IsMember, MayBePolled, MemberSteps, MemberRestarts, closed_of, new_workers};
+
+use coordinator_core::Coordinator;
+use dimacs::Formula;
+use frames::{Frame, WorkerNumber};
+use icnf::Tree;
+use lrat_check::{Reaction, Verdict};
+use std::alloc::{AllocError, Global};
+use worker_core::Worker;
+
+/// A coordinator, which is node 0, and its workers, which are the nodes from 1 on.
+pub(crate) struct Members {
+    pub(crate) coordinator: Coordinator,
+    pub(crate) workers: Vec<Worker>,
+}
+
+impl Drop for Members {
+    fn drop(self) {
+        let Members {
+            coordinator: _,
+            workers: _,
+        } = self;
+    }
+}
+
+/// Workers 1 to `count`, worker w under incarnation w + 1.
+fn workers_of(alloc: Global, formula: &Formula, count: u32) -> Result<Vec<Worker>, AllocError>
+    requires { count ≤ 64 }
+    ensures { IfOk result (λ v. v.items ≡ new_workers formula.now count) }
+{
+    let mut workers = Vec::with_capacity(alloc, count as usize)?;
+    for i in 0..count {
+        let number = WorkerNumber::new(i + 1);
+        let incarnation = u64::from(i) + 2;
+        workers.push(Worker::new(alloc, formula.copy(alloc)?, number, incarnation)?)?;
+    }
+    Ok(workers)
+}
+
+impl Members {
+    /// A coordinator under session 1, and workers 1 to `workers`, worker w under incarnation w + 1.
+    pub(crate) fn new(
+        alloc: Global,
+        formula: &Formula,
+        tree: Tree,
+        limit: u64,
+        workers: u32,
+    ) -> Result<Members, AllocError>
+        requires inside { All (IsInside formula.now) tree }
+        requires workers { (1 ≤ workers) × (workers ≤ 64) }
+        ensures coordinator { IfOk result (λ m. m.coordinator ≡ new_coordinator formula.now tree limit workers 1) }
+        ensures workers { IfOk result (λ m. m.workers.items ≡ new_workers formula.now workers) }
+    {
+        let coordinator = Coordinator::new(alloc, formula.copy(alloc)?, tree, limit, workers, 1)?;
+        let workers = workers_of(alloc, formula, workers)?;
+        Ok(Members {
+            coordinator,
+            workers,
+        })
+    }
+
+    /// Whether there is such a node.
+    pub(crate) fn has(&self, node: usize) -> bool
+        ensures { result ≡ nat_le node (length self.now.workers.items) }
+    {
+        node <= self.workers.len()
+    }
+
+    /// A frame comes to a node.
+    pub(crate) fn deliver(&mut self, node: usize, frame: &Frame) -> Reaction
+        requires { IsMember self.old node }
+        ensures { MemberSteps self.old node (Delivered frame.now) (Reacted result) self.new }
+    {
+        if node == 0 {
+            return self.coordinator.deliver(frame);
+        }
+        self.workers[node - 1].deliver(frame)
+    }
+
+    /// A worker is to work.
+    pub(crate) fn work(&mut self, node: usize) -> Reaction
+        requires some { 1 ≤ node }
+        requires member { IsMember self.old node }
+        ensures { MemberSteps self.old node Worked (Reacted result) self.new }
+    {
+        self.workers[node - 1].work()
+    }
+
+    /// Whether a node can be asked what it has to send to a worker, which a worker does not look at.
+    pub(crate) fn may_be_polled(&self, node: usize, worker: u32) -> bool
+        ensures { MatchBool result (MayBePolled self.now node worker) (IsNoPoll (closed_of self.now [] []) node worker) }
+    {
+        if node == 0 {
+            return worker >= 1 && worker <= self.coordinator.workers();
+        }
+        node <= self.workers.len()
+    }
+
+    /// A node is asked what it has to send to a worker. Want of memory leaves all as it was.
+    pub(crate) fn poll(&mut self, node: usize, worker: u32) -> Result<Frame, AllocError>
+        requires { MayBePolled self.old node worker }
+        ensures { MemberSteps self.old node (Polled worker) (given_by result) self.new }
+    {
+        if node == 0 {
+            // That it has at most 64 workers.
+            let _ = self.coordinator.workers();
+            return self.coordinator.poll(WorkerNumber::new(worker));
+        }
+        self.workers[node - 1].poll()
+    }
+
+    /// A node begins anew, under another number. Want of memory leaves all as it was.
+    pub(crate) fn restart(&mut self, node: usize, number: u64) -> Result<(), AllocError>
+        requires { IsMember self.old node }
+        ensures ok { OnOk result (MemberRestarts self.old node number self.new) }
+        ensures err { OnErr result (self.new ≡ self.old) }
+    {
+        if node == 0 {
+            return self.coordinator.restart(number);
+        }
+        self.workers[node - 1].restart(number);
+        Ok(())
+    }
+
+    /// The verdict that a node holds; None where there is no such node.
+    pub(crate) fn verdict(&self, node: usize) -> Option<&Verdict>
+        ensures { option_copied result ≡ verdict_at (closed_of self.now [] []) node }
+    {
+        if node == 0 {
+            return Some(self.coordinator.verdict());
+        }
+        Some(self.workers.get(node - 1)?.verdict())
+    }
+}

@@ -1,0 +1,136 @@
+//! What a closed schedule has come to.
+
+ghost use Rattle.std.specs.Prelude.{◌≡◌, ◌+◌, ◌≤◌, All, IfOk};
+ghost use Rattle.dimacs.specs.logic.Base.{numbers_from};
+ghost use Rattle.evidence.specs.Jobs.{IsInside};
+ghost use Rattle.closed_schedules.specs.ClosedSchedule.{HappensClosed, HappensDeliver, HappensWork, HappensPoll, HappensRestart, new_closed};
+ghost use Rattle.cluster.specs.Members.{state_of};
+
+use crate::members::Members;
+use closed_schedules::ClosedEvent;
+use dimacs::Formula;
+use frames::Frame;
+use icnf::Tree;
+use lrat_check::Reaction;
+use std::alloc::{AllocError, Global};
+
+/// The nodes, the frames that polls gave so far, and the numbers that nodes have used.
+pub(crate) struct Schedule {
+    pub(crate) members: Members,
+    pub(crate) frames: Vec<Frame>,
+    pub(crate) used: Vec<u64>,
+}
+
+impl Drop for Schedule {
+    fn drop(self) {
+        let Schedule {
+            members: _,
+            frames: _,
+            used: _,
+        } = self;
+    }
+}
+
+/// The numbers from 1 to `count`.
+fn first_numbers(alloc: Global, count: u32) -> Result<Vec<u64>, AllocError>
+    ensures { IfOk result (λ v. v.items ≡ numbers_from 1 count) }
+{
+    let mut numbers = Vec::with_capacity(alloc, count as usize)?;
+    for i in 0..count {
+        numbers.push(u64::from(i) + 1)?;
+    }
+    Ok(numbers)
+}
+
+impl Schedule {
+    /// It begins: no frame was sent yet, and the numbers of the new nodes are used.
+    pub(crate) fn new(
+        alloc: Global,
+        formula: &Formula,
+        tree: Tree,
+        limit: u64,
+        workers: u32,
+    ) -> Result<Schedule, AllocError>
+        requires inside { All (IsInside formula.now) tree }
+        requires workers { (1 ≤ workers) × (workers ≤ 64) }
+        ensures { IfOk result (λ s. state_of s ≡ new_closed formula.now tree limit workers) }
+    {
+        Ok(Schedule {
+            members: Members::new(alloc, formula, tree, limit, workers)?,
+            frames: Vec::new(alloc),
+            used: first_numbers(alloc, workers + 1)?,
+        })
+    }
+
+    /// One event, and what its node answers.
+    pub(crate) fn happen(&mut self, event: &ClosedEvent) -> Reaction
+        ensures { HappensClosed (state_of self.old) event.now result (state_of self.new) }
+    {
+        match *event {
+            ClosedEvent::Deliver { node, place } => self.deliver(node, place),
+            ClosedEvent::Work { node } => self.work(node),
+            ClosedEvent::Poll { node, worker } => self.poll(node, worker),
+            ClosedEvent::Restart { node, number } => self.restart(node, number),
+        }
+    }
+
+    /// The frame at a place of the list comes to a node.
+    fn deliver(&mut self, node: usize, place: usize) -> Reaction
+        ensures { HappensDeliver (state_of self.old) node place result (state_of self.new) }
+    {
+        if !self.members.has(node) || place >= self.frames.len() {
+            return Reaction::Ignored;
+        }
+        self.members.deliver(node, &self.frames[place])
+    }
+
+    /// A node is to work; a coordinator has nothing to do.
+    fn work(&mut self, node: usize) -> Reaction
+        ensures { HappensWork (state_of self.old) node result (state_of self.new) }
+    {
+        if node == 0 || !self.members.has(node) {
+            return Reaction::Ignored;
+        }
+        self.members.work(node)
+    }
+
+    /// A node is asked what it has to send to a worker; the frame joins the list.
+    fn poll(&mut self, node: usize, worker: u32) -> Reaction
+        ensures { HappensPoll (state_of self.old) node worker result (state_of self.new) }
+    {
+        if !self.members.may_be_polled(node, worker) {
+            return Reaction::Ignored;
+        }
+        // Its place comes first: no frame that was sent is left out for want of memory.
+        if self.frames.reserve(1).is_err() {
+            return Reaction::NoMemory;
+        }
+        match self.members.poll(node, worker) {
+            Ok(frame) => {
+                self.frames.push(frame).unwrap();
+                Reaction::Taken
+            }
+            Err(_) => Reaction::NoMemory,
+        }
+    }
+
+    /// A node begins anew, under a number that no node has used.
+    fn restart(&mut self, node: usize, number: u64) -> Reaction
+        ensures { HappensRestart (state_of self.old) node number result (state_of self.new) }
+    {
+        if !self.members.has(node) || self.used.contains(&number) {
+            return Reaction::Ignored;
+        }
+        // Its place comes first: no number that was used is left out for want of memory.
+        if self.used.reserve(1).is_err() {
+            return Reaction::NoMemory;
+        }
+        match self.members.restart(node, number) {
+            Ok(()) => {
+                self.used.push(number).unwrap();
+                Reaction::Taken
+            }
+            Err(_) => Reaction::NoMemory,
+        }
+    }
+}
