@@ -6,13 +6,27 @@ ghost use Rattle.std.specs.Prelude.{◌≡◌, length, IfOk};
 use dimacs::number::signed;
 use dimacs::words::next_word;
 use dimacs::{Assignment, Formula, read, satisfies};
+use links::{Counted, Memory};
 use lrat_check::check;
-use node_main::{Options, solve_here};
+use node_main::{Options, run_solve};
 use std::alloc::{AllocError, Global};
 use std::io::Write;
 use std::process::ExitCode;
 use std::rt::Runtime;
 use std::{env, fs, io};
+
+/// Two workers, and sixteen leaves at most.
+const OPTIONS: Options = Options {
+    workers: 2,
+    depth: 4,
+    limit: 100_000,
+    session: 1,
+    number: 1,
+    incarnation: 1,
+    ahead: false,
+    quiet: false,
+    witness: true,
+};
 
 /// The assignment that an answer prints; a variable that it leaves out is false.
 fn printed(alloc: Global, answer: &[u8], vars: u32) -> Result<Assignment, AllocError>
@@ -34,13 +48,8 @@ fn printed(alloc: Global, answer: &[u8], vars: u32) -> Result<Assignment, AllocE
 
 /// What is found of a formula, and whether it stands the test.
 fn found(alloc: Global, input: &[u8], formula: &Formula) -> Result<&'static str, AllocError> {
-    let options = Options {
-        depth: 4,
-        limit: 100_000,
-        quiet: false,
-        witness: true,
-    };
-    let report = solve_here(alloc, input, None, &options)?;
+    let mut links = Counted::new(Memory::new(alloc, OPTIONS.workers)?);
+    let report = run_solve(alloc, input, None, &OPTIONS, &mut links)?;
     match (report.status, &report.proof) {
         (10, None) => {
             let assignment = printed(alloc, report.stdout.as_slice(), formula.vars())?;

@@ -3,7 +3,8 @@
 ghost use Rattle.std.specs.Prelude.{◌≤◌};
 
 use crate::checks::{FOUR, VERIFIED, prints};
-use node_main::{Options, Report, solve_here};
+use crate::reports::{ALONE, solved};
+use node_main::{Options, Report};
 use std::alloc::{AllocError, Global};
 use std::process::Abort;
 use std::test::Fail;
@@ -29,10 +30,9 @@ fn solve_split(
     let options = Options {
         depth,
         limit,
-        quiet: false,
-        witness: true,
+        ..ALONE
     };
-    solve_here(alloc, input, cubes, &options)
+    solved(alloc, input, cubes, &options)
 }
 
 fn refutes(rt: &impl Abort, alloc: Global, input: &[u8], report: Report) -> Result<Vec<u8>, Fail> {
@@ -104,11 +104,9 @@ fn a_model_may_be_in_the_second_leaf(rt: HostRuntime) -> Result<(), Fail> {
 }
 
 #[test]
-fn a_leaf_at_its_limit_leaves_the_answer_open(rt: HostRuntime) -> Result<(), Fail> {
+fn leaves_at_their_limit_are_cut_further(rt: HostRuntime) -> Result<(), Fail> {
     let report = solve_split(rt.alloc(), SIXTEEN, None, 1, 1)?;
-    assert_eq!(rt; report.stdout.as_slice(), b"s UNKNOWN\n".as_slice());
-    assert_eq!(rt; report.status, 0);
-    assert!(rt; report.proof.is_none());
+    refutes(&rt, rt.alloc(), SIXTEEN, report)?;
     Ok(())
 }
 

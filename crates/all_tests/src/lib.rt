@@ -14,6 +14,8 @@ mod cubes;
 #[cfg(test)]
 mod deletions;
 #[cfg(test)]
+mod drills;
+#[cfg(test)]
 mod fragments;
 #[cfg(test)]
 mod joining;
@@ -29,6 +31,8 @@ mod profile;
 mod propagators;
 #[cfg(test)]
 mod renumbering;
+#[cfg(test)]
+mod reports;
 #[cfg(test)]
 mod searches;
 #[cfg(test)]

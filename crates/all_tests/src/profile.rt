@@ -1,20 +1,10 @@
 //! How the search goes: the values that it tries again, the literals that its lemmas do without, and the lemmas that it forgets.
 
 use crate::checks::{VERIFIED, prints};
-use node_main::{Options, Report, solve_here};
+use crate::reports::{ALONE, solved};
 use std::alloc::{AllocError, Global};
 use std::fmt::Write;
 use std::test::Fail;
-
-fn solve(alloc: Global, input: &[u8]) -> Result<Report, AllocError> {
-    let options = Options {
-        depth: 0,
-        limit: 100_000,
-        quiet: false,
-        witness: true,
-    };
-    solve_here(alloc, input, None, &options)
-}
 
 /// Eight pigeons sit in seven holes, and no two of them in one: the variable of a pigeon and a hole is seven times the
 /// pigeon's number, and the hole's, from 1.
@@ -45,7 +35,7 @@ fn count(text: &[u8], word: &[u8]) -> usize {
 fn a_variable_is_decided_with_its_last_value(rt: HostRuntime) -> Result<(), Fail> {
     // The last three clauses leave no literal pure.
     let input = b"p cnf 4 6\n1 4 0\n2 3 0\n2 -3 0\n1 -1 0\n2 -2 0\n4 -4 0\n";
-    let report = solve(rt.alloc(), input)?;
+    let report = solved(rt.alloc(), input, None, &ALONE)?;
     assert_eq!(rt;
         report.stdout.as_slice(),
         b"s SATISFIABLE\nv -1 2 3 4 0\n".as_slice()
@@ -58,7 +48,7 @@ fn a_lemma_does_without_what_follows_by_two_reasons(rt: HostRuntime) -> Result<(
     // From -1 come 2 and 3, and with -4 the fourth clause is false: -3 follows from 1, by way of 2, which no clause of the
     // conflict names.
     let input = b"p cnf 7 8\n1 2 0\n-2 3 0\n4 1 5 0\n4 -3 -5 0\n-4 6 0\n-4 -6 0\n-1 7 0\n-1 -7 0\n";
-    let report = solve(rt.alloc(), input)?;
+    let report = solved(rt.alloc(), input, None, &ALONE)?;
     assert_eq!(rt; report.status, 20);
     let proof = report.proof.ok_or("no proof")?;
     assert_eq!(rt;
@@ -71,7 +61,7 @@ fn a_lemma_does_without_what_follows_by_two_reasons(rt: HostRuntime) -> Result<(
 #[test]
 fn forgotten_lemmas_are_lines_of_the_proof(rt: HostRuntime) -> Result<(), Fail> {
     let input = pigeons(rt.alloc())?;
-    let report = solve(rt.alloc(), input.as_str().as_bytes())?;
+    let report = solved(rt.alloc(), input.as_str().as_bytes(), None, &ALONE)?;
     assert_eq!(rt; report.status, 20);
     let proof = report.proof.ok_or("no proof")?;
     assert!(rt; count(proof.as_slice(), b" d ") > 0);

@@ -3,8 +3,9 @@
 ghost use Rattle.std.specs.Prelude.{◌≤◌};
 
 use crate::checks::{FOUR, VERIFIED, prints};
+use crate::reports::{ALONE, solved};
 use dimacs::{read, write};
-use node_main::{Options, Report, solve_here};
+use node_main::{Options, Report};
 use std::alloc::{AllocError, Global};
 use std::process::Abort;
 use std::test::Fail;
@@ -18,13 +19,7 @@ fn solve_within(alloc: Global, input: &[u8], limit: u64) -> Result<Report, Alloc
     requires least { 1 ≤ limit }
     requires most { limit ≤ 1000000000 }
 {
-    let options = Options {
-        depth: 0,
-        limit,
-        quiet: false,
-        witness: true,
-    };
-    solve_here(alloc, input, None, &options)
+    solved(alloc, input, None, &Options { limit, ..ALONE })
 }
 
 fn answers(
@@ -82,26 +77,25 @@ fn a_refutation_is_a_proof_that_is_verified(rt: HostRuntime) -> Result<(), Fail>
 }
 
 #[test]
-fn nothing_is_known_at_the_limit(rt: HostRuntime) -> Result<(), Fail> {
-    let report = solve_within(rt.alloc(), EIGHT, 2)?;
-    assert_eq!(rt; report.stdout.as_slice(), b"s UNKNOWN\n".as_slice());
-    assert_eq!(rt; report.status, 0);
-    assert!(rt; report.proof.is_none());
-    Ok(())
+fn a_cube_at_its_limit_is_cut_in_two(rt: HostRuntime) -> Result<(), Fail> {
+    let report = solve_within(rt.alloc(), EIGHT, 1)?;
+    assert_eq!(rt; report.stdout.as_slice(), b"s UNSATISFIABLE\n".as_slice());
+    assert_eq!(rt; report.status, 20);
+    let proof = report.proof.ok_or("no proof")?;
+    prints(&rt, rt.alloc(), EIGHT, proof.as_slice(), VERIFIED)
 }
 
 #[test]
 fn options_leave_lines_out(rt: HostRuntime) -> Result<(), Fail> {
     let options = Options {
-        depth: 4,
-        limit: 1,
         quiet: true,
         witness: false,
+        ..ALONE
     };
-    let model = solve_here(rt.alloc(), b"p cnf 1 0\n", None, &options)?;
+    let model = solved(rt.alloc(), b"p cnf 1 0\n", None, &options)?;
     assert_eq!(rt; model.stdout.as_slice(), b"s SATISFIABLE\n".as_slice());
     assert_eq!(rt; model.status, 10);
-    let fault = solve_here(rt.alloc(), b"p cnf 1\n", None, &options)?;
+    let fault = solved(rt.alloc(), b"p cnf 1\n", None, &options)?;
     assert_eq!(rt; fault.stdout.as_slice(), b"".as_slice());
     assert_eq!(rt; fault.status, 1);
     Ok(())

@@ -3,7 +3,7 @@
 use crate::checks::FOUR;
 use cube_split::preamble;
 use dimacs::{Base, read};
-use node_main::{Options, ProofCheck, Refusal, solve_here, solve_taking};
+use node_main::{ProofCheck, Refusal};
 use std::test::Fail;
 
 #[test]
@@ -24,28 +24,6 @@ fn an_input_that_is_let_go_is_checked(rt: HostRuntime) -> Result<(), Fail> {
     let report = check.finish()?;
     assert_eq!(rt; report.stdout.as_slice(), b"s VERIFIED\n".as_slice());
     assert_eq!(rt; report.status, 0);
-    Ok(())
-}
-
-#[test]
-fn texts_that_are_let_go_are_solved(rt: HostRuntime) -> Result<(), Fail> {
-    let options = Options {
-        depth: 4,
-        limit: 100_000,
-        quiet: false,
-        witness: true,
-    };
-    let cubes = b"p inccnf\n1 2 0\n-1 2 0\n1 -2 0\n-1 -2 0\na 1 0\na -1 0\n";
-    let known = solve_here(rt.alloc(), FOUR, Some(cubes), &options)?;
-    let input = Vec::from_slice(rt.alloc(), FOUR)?;
-    let leaves = Vec::from_slice(rt.alloc(), cubes)?;
-    let report = solve_taking(rt.alloc(), input, Some(leaves), &options)?;
-    assert_eq!(rt; report.status, 20);
-    assert_eq!(rt; report.stdout.as_slice(), b"s UNSATISFIABLE\n".as_slice());
-    match (&report.proof, &known.proof) {
-        (Some(proof), Some(want)) => assert_eq!(rt; proof.as_slice(), want.as_slice()),
-        _ => assert!(rt; false),
-    }
     Ok(())
 }
 

@@ -1,26 +1,45 @@
 //! What words ask for on a command line.
 
 use node_main::{Options, Request, UsageFault, command};
-use std::alloc::Global;
+use std::alloc::{AllocError, Global};
 use std::process::Abort;
 use std::test::Fail;
 
-fn asks(rt: &impl Abort, alloc: Global, words: &[&str], want: Option<Request>) {
-    let request = command(alloc, words).ok();
-    assert!(rt; request == want);
+/// What stands where no word names another.
+const USUAL: Options = Options {
+    workers: 2,
+    depth: 4,
+    limit: 100_000,
+    session: 1,
+    number: 1,
+    incarnation: 1,
+    ahead: false,
+    quiet: false,
+    witness: true,
+};
+
+/// The words of a line, of which the first is the program's name.
+fn asks(rt: &impl Abort, alloc: Global, line: &str, want: Request) -> Result<(), AllocError> {
+    let words: Vec<&str> = line.split(' ').collect(alloc)?;
+    let request = command(alloc, words.as_slice()).ok();
+    assert!(rt; request == Some(want));
+    Ok(())
 }
 
-fn refuses(rt: &impl Abort, alloc: Global, words: &[&str]) {
-    let is_refused = match command(alloc, words) {
+fn refuses(rt: &impl Abort, alloc: Global, line: &str) -> Result<(), AllocError> {
+    let words: Vec<&str> = line.split(' ').collect(alloc)?;
+    let is_refused = match command(alloc, words.as_slice()) {
         Err(UsageFault::Usage) => true,
         _ => false,
     };
     assert!(rt; is_refused);
+    Ok(())
 }
 
 /// Words that ask for help: it has this text, no line that begins as an answer does, and no blank at a line's end.
-fn helps(rt: &impl Abort, alloc: Global, words: &[&str], part: &str) {
-    match command(alloc, words) {
+fn helps(rt: &impl Abort, alloc: Global, line: &str, part: &str) -> Result<(), AllocError> {
+    let words: Vec<&str> = line.split(' ').collect(alloc)?;
+    match command(alloc, words.as_slice()) {
         Err(UsageFault::Help(text)) => {
             assert!(rt; text.as_str().contains(part));
             for line in text.as_str().lines() {
@@ -30,130 +49,187 @@ fn helps(rt: &impl Abort, alloc: Global, words: &[&str], part: &str) {
         }
         _ => assert!(rt; false),
     }
+    Ok(())
 }
 
 #[test]
-fn an_answer_with_its_defaults(rt: HostRuntime) -> Result<(), Fail> {
-    let options = Options {
-        depth: 4,
-        limit: 100_000,
-        quiet: false,
-        witness: true,
-    };
-    let want = Request::Solve {
+fn a_solve_with_its_defaults_and_with_all_its_words(rt: HostRuntime) -> Result<(), Fail> {
+    let plain = Request::Solve {
         input: "f.cnf",
         cubes: None,
         proof: None,
-        options,
+        options: USUAL,
     };
-    asks(
-        &rt,
-        rt.alloc(),
-        &["satcluster", "solve", "f.cnf"],
-        Some(want),
-    );
-    Ok(())
-}
-
-#[test]
-fn an_answer_with_options_and_files_for_its_cubes_and_its_proof(
-    rt: HostRuntime,
-) -> Result<(), Fail> {
-    let options = Options {
-        depth: 3,
-        limit: 7,
-        quiet: true,
-        witness: false,
-    };
-    let want = Request::Solve {
+    asks(&rt, rt.alloc(), "satcluster solve f.cnf", plain)?;
+    let full = Request::Solve {
         input: "f.cnf",
         cubes: Some("f.icnf"),
         proof: Some("f.lrat"),
-        options,
+        options: Options {
+            workers: 64,
+            depth: 16,
+            limit: 1_000_000_000,
+            quiet: true,
+            witness: false,
+            ..USUAL
+        },
     };
-    let words = [
-        "satcluster",
-        "solve",
-        "--depth",
-        "3",
-        "--limit",
-        "7",
-        "--cubes",
-        "f.icnf",
-        "-q",
-        "-n",
-        "f.cnf",
-        "f.lrat",
-    ];
-    asks(&rt, rt.alloc(), &words, Some(want));
+    let words =
+        "satcluster solve --workers 64 --depth 16 --limit 1000000000 --cubes f.icnf -q -n f.cnf f.lrat";
+    asks(&rt, rt.alloc(), words, full)?;
     Ok(())
 }
 
 #[test]
-fn a_check_and_cubes(rt: HostRuntime) -> Result<(), Fail> {
+fn a_service_with_its_defaults_and_with_all_its_words(rt: HostRuntime) -> Result<(), Fail> {
+    let plain = Request::Serve {
+        port: 1,
+        input: "f.cnf",
+        cubes: None,
+        proof: None,
+        options: USUAL,
+    };
+    asks(&rt, rt.alloc(), "satcluster serve --port 1 f.cnf", plain)?;
+    let full = Request::Serve {
+        port: 65_535,
+        input: "f.cnf",
+        cubes: Some("f.icnf"),
+        proof: Some("f.lrat"),
+        options: Options {
+            workers: 1,
+            depth: 0,
+            limit: 1,
+            session: u64::MAX,
+            quiet: true,
+            witness: false,
+            ..USUAL
+        },
+    };
+    let words =
+        "satcluster serve --port 65535 --session 18446744073709551615 --workers 1 --depth 0 --limit 1 --cubes f.icnf -qn f.cnf f.lrat";
+    asks(&rt, rt.alloc(), words, full)?;
+    Ok(())
+}
+
+#[test]
+fn a_worker_with_its_defaults_and_with_all_its_words(rt: HostRuntime) -> Result<(), Fail> {
+    let plain = Request::Work {
+        port: 7000,
+        input: "f.cnf",
+        proof: None,
+        options: USUAL,
+    };
+    asks(&rt, rt.alloc(), "satcluster work --port 7000 f.cnf", plain)?;
+    let full = Request::Work {
+        port: 7000,
+        input: "f.cnf",
+        proof: Some("f.lrat"),
+        options: Options {
+            number: 64,
+            incarnation: 0,
+            ahead: true,
+            quiet: true,
+            witness: false,
+            ..USUAL
+        },
+    };
+    let words =
+        "satcluster work --ahead --incarnation 0 --number 64 --port 7000 -q -n f.cnf f.lrat";
+    asks(&rt, rt.alloc(), words, full)?;
+    Ok(())
+}
+
+#[test]
+fn a_check_and_cubes_and_a_drill(rt: HostRuntime) -> Result<(), Fail> {
+    let alloc = rt.alloc();
     let check = Request::Check {
         input: "f.cnf",
         proof: "f.lrat",
     };
-    asks(
-        &rt,
-        rt.alloc(),
-        &["satcluster", "check", "f.cnf", "f.lrat"],
-        Some(check),
-    );
+    asks(&rt, alloc, "satcluster check f.cnf f.lrat", check)?;
     let cubes = Request::Cubes {
         input: "f.cnf",
         depth: 16,
     };
+    asks(&rt, alloc, "satcluster cubes --depth 16 f.cnf", cubes)?;
+    let long = Request::Drill {
+        input: "f.cnf",
+        seed: u64::MAX,
+        turns: 100_000,
+    };
     asks(
         &rt,
-        rt.alloc(),
-        &["satcluster", "cubes", "--depth", "16", "f.cnf"],
-        Some(cubes),
-    );
+        alloc,
+        "satcluster drill --seed 18446744073709551615 --turns 100000 f.cnf",
+        long,
+    )?;
+    let none = Request::Drill {
+        input: "f.cnf",
+        seed: 0,
+        turns: 0,
+    };
+    asks(
+        &rt,
+        alloc,
+        "satcluster drill --turns 0 --seed 0 f.cnf",
+        none,
+    )?;
     Ok(())
 }
 
+/// Each line goes past a bound, lacks a word, names one twice, or names one that its command has not got.
+const REFUSED: &[&'static str] = &[
+    "satcluster",
+    "satcluster decide f.cnf",
+    "satcluster solve",
+    "satcluster solve -q",
+    "satcluster solve --workers 0 f.cnf",
+    "satcluster solve --workers 65 f.cnf",
+    "satcluster solve --limit 0 f.cnf",
+    "satcluster solve --limit 1000000001 f.cnf",
+    "satcluster solve --depth 17 f.cnf",
+    "satcluster solve f.cnf --cubes",
+    "satcluster solve -q -q f.cnf",
+    "satcluster solve --port 7000 f.cnf",
+    "satcluster cubes --depth 17 f.cnf",
+    "satcluster check f.cnf",
+    "satcluster serve f.cnf",
+    "satcluster serve --port 7000",
+    "satcluster serve --port 0 f.cnf",
+    "satcluster serve --port 65536 f.cnf",
+    "satcluster serve --port 7000 --session 18446744073709551616 f.cnf",
+    "satcluster serve --port 7000 --number 1 f.cnf",
+    "satcluster work f.cnf",
+    "satcluster work --port 7000",
+    "satcluster work --port 7000 --number 0 f.cnf",
+    "satcluster work --port 7000 --number 65 f.cnf",
+    "satcluster work --port 7000 --incarnation -1 f.cnf",
+    "satcluster work --port 7000 --cubes f.icnf f.cnf",
+    "satcluster drill --seed 7 f.cnf",
+    "satcluster drill --turns 7 f.cnf",
+    "satcluster drill --seed 7 --turns 7",
+    "satcluster drill --seed 7 --turns 100001 f.cnf",
+    "satcluster drill -q --seed 7 --turns 7 f.cnf",
+];
+
 #[test]
 fn words_that_are_refused(rt: HostRuntime) -> Result<(), Fail> {
-    let alloc = rt.alloc();
-    refuses(&rt, alloc, &["satcluster"]);
-    refuses(&rt, alloc, &["satcluster", "solve"]);
-    refuses(&rt, alloc, &["satcluster", "solve", "-q"]);
-    refuses(
-        &rt,
-        alloc,
-        &["satcluster", "solve", "--limit", "0", "f.cnf"],
-    );
-    refuses(
-        &rt,
-        alloc,
-        &["satcluster", "solve", "--limit", "1000000001", "f.cnf"],
-    );
-    refuses(
-        &rt,
-        alloc,
-        &["satcluster", "solve", "--depth", "17", "f.cnf"],
-    );
-    refuses(&rt, alloc, &["satcluster", "solve", "f.cnf", "--cubes"]);
-    refuses(&rt, alloc, &["satcluster", "solve", "-q", "-q", "f.cnf"]);
-    refuses(
-        &rt,
-        alloc,
-        &["satcluster", "cubes", "--depth", "17", "f.cnf"],
-    );
-    refuses(&rt, alloc, &["satcluster", "check", "f.cnf"]);
-    refuses(&rt, alloc, &["satcluster", "serve", "f.cnf"]);
+    for line in REFUSED {
+        refuses(&rt, rt.alloc(), line)?;
+    }
     Ok(())
 }
 
 #[test]
 fn a_help_is_no_answer(rt: HostRuntime) -> Result<(), Fail> {
     let alloc = rt.alloc();
-    helps(&rt, alloc, &["satcluster", "--help"], "<COMMAND>");
-    helps(&rt, alloc, &["satcluster", "help", "solve"], "[PROOF]");
-    helps(&rt, alloc, &["satcluster", "solve", "--help"], "<INPUT>");
-    helps(&rt, alloc, &["satcluster", "check", "-h"], "<PROOF>");
-    helps(&rt, alloc, &["satcluster", "cubes", "-h"], "from 0 to 16");
+    helps(&rt, alloc, "satcluster --help", "<COMMAND>")?;
+    helps(&rt, alloc, "satcluster help solve", "[PROOF]")?;
+    helps(&rt, alloc, "satcluster solve --help", "<INPUT>")?;
+    helps(&rt, alloc, "satcluster check -h", "<PROOF>")?;
+    helps(&rt, alloc, "satcluster cubes -h", "from 0 to 16")?;
+    helps(&rt, alloc, "satcluster serve -h", "--port <port>")?;
+    helps(&rt, alloc, "satcluster work -h", "--ahead")?;
+    helps(&rt, alloc, "satcluster drill -h", "from 0 to 100000")?;
     Ok(())
 }

@@ -8,15 +8,20 @@
 mod carrier;
 mod counted;
 mod failing;
+mod joined;
 mod link;
 mod loopback;
 mod memory;
 mod script;
+mod served;
+mod stream;
 
 pub use carrier::Carrier;
 pub use counted::Counted;
 pub use failing::{Bytewise, RefusesAll, RefusesAt};
+pub use joined::Joined;
 pub use link::{End, LinkFault, Links};
 pub use loopback::Loopback;
 pub use memory::Memory;
 pub use script::Script;
+pub use served::Served;

@@ -2,6 +2,7 @@
 
 use crate::carrier::Carrier;
 use crate::link::{End, LinkFault};
+use crate::stream::{read_next, write_whole};
 use std::alloc::Global;
 use std::io;
 use std::io::{Read, Write};
@@ -75,11 +76,11 @@ impl<S> Loopback<S> {
 impl<S: Read + Write> Carrier for Loopback<S> {
     fn carry(&mut self, from: End, bytes: &[u8]) -> Result<(), LinkFault> {
         let stream = self.end(from).ok_or(LinkFault)?;
-        stream.write_all(bytes).map_err(|_| LinkFault)
+        write_whole(stream, bytes)
     }
 
     fn fetch(&mut self, at: End, room: &mut [u8]) -> Result<usize, LinkFault> {
         let stream = self.end(at).ok_or(LinkFault)?;
-        stream.read(room).map_err(|_| LinkFault)
+        read_next(stream, room)
     }
 }

@@ -7,6 +7,9 @@ use crate::link::{End, LinkFault};
 use std::alloc::{AllocError, Global};
 use std::collections::VecDeque;
 
+/// The bytes of the longest frame.
+const LONGEST: usize = 4037;
+
 /// What is on its way over one worker's link.
 #[derive(Drop)]
 struct Wire {
@@ -17,6 +20,9 @@ struct Wire {
 }
 
 /// The links of workers 1 to n, in memory. A link of another worker is refused; one over which nothing is on its way has ended.
+///
+/// Room for one frame each way is taken when they are made, so that a run, which has no more than one on its way, is never refused
+/// for want of memory.
 #[derive(Drop)]
 pub struct Memory {
     wires: Vec<Wire>,
@@ -28,8 +34,8 @@ impl Memory {
         let mut wires = Vec::new(alloc);
         for _ in 0..workers {
             wires.push(Wire {
-                down: VecDeque::new(alloc),
-                up: VecDeque::new(alloc),
+                down: VecDeque::with_capacity(alloc, LONGEST)?,
+                up: VecDeque::with_capacity(alloc, LONGEST)?,
             })?;
         }
         Ok(Memory { wires })
@@ -64,6 +70,7 @@ impl Carrier for Memory {
             End::Coordinator(w) => &mut self.wire(w).ok_or(LinkFault)?.down,
             End::Worker(w) => &mut self.wire(w).ok_or(LinkFault)?.up,
         };
+        queue.reserve(bytes.len()).map_err(|_| LinkFault)?;
         for byte in bytes {
             queue.push_back(*byte).map_err(|_| LinkFault)?;
         }

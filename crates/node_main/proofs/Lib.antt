@@ -1,7 +1,11 @@
 pub mod CheckLemmas
-pub mod LeafLemmas
 pub mod RefusalLemmas
-pub mod SolvingLemmas
+pub mod RequestLemmas
 pub mod SplittingLemmas
+pub mod StartLemmas
 pub mod WordLemmas
 pub mod TruthLemmas
+pub mod DrawLemmas
+pub mod DrillLemmas
+pub mod KindLemmas
+pub mod TallyLemmas

@@ -6,13 +6,13 @@ use Rattle.dimacs.specs.logic.Cnf.{Cnf, assignment_of}
 use Rattle.dimacs.specs.text.Spelling.{Spells}
 use Rattle.lrat_text.specs.Proof.{Accepts}
 use Rattle.lrat_check.specs.Soundness.{Soundness, IsUnsatisfiable}
-use Rattle.icnf.specs.Leaves.{Cube}
 use Rattle.node_main.specs.ProofChecks.{IsCheckReport}
-use Rattle.node_main.specs.Solving.{Answers, Decides, IsRefused, IsRefuted}
-use Rattle.node_main.specs.Truth.{SpellsSatisfiable, SpellsUnsatisfiable, IsTrueReport}
-use Rattle.node_main.specs.declared.commands.solve.options.Options.{Options}
-use Rattle.node_main.specs.declared.commands.solve.splitting.Split.{Split}
-use Rattle.node_main.specs.declared.commands.solve.splitting.Split.TheVariants.{By, Faulty, OtherFormula}
+use Rattle.node_main.specs.Deciding.{Decides}
+use Rattle.node_main.specs.Solving.{Answers, IsRefused, Solves, Works}
+use Rattle.node_main.specs.Truth.{SpellsUnsatisfiable, IsTrueReport}
+use Rattle.node_main.specs.declared.options.Options.{Options}
+use Rattle.node_main.specs.declared.splitting.Split.{Split}
+use Rattle.node_main.specs.declared.splitting.Split.TheVariants.{By, Faulty, OtherFormula}
 use Rattle.node_main.specs.declared.report.Report.{Report}
 
 -- an accepted proof is there
@@ -32,23 +32,29 @@ other_true input r status is low =
 refused_true : (input line : List ℕ) (o : Options) (r : Report) → IsRefused line o r → IsTrueReport input r
 refused_true input line o r is = other_true input r 1 is.status (omega arith)
 
-decides_true : Soundness → (input : List ℕ) (F : Cnf) → Spells input F → (leaves : List Cube) (o : Options) (r : Report) → Decides F leaves o r → IsTrueReport input r
-decides_true sound input F spells leaves o r (inl is) =
+pub decides_true : Soundness → (input : List ℕ) (F : Cnf) → Spells input F → (o : Options) (r : Report) → Decides F o r → IsTrueReport input r
+decides_true sound input F spells o r (inl is) =
     record { satisfiable = λ e. (F, spells, assignment_of is.values, is.satisfies); unsatisfiable = λ e. absurd (apart (sym is.status ∙ e) (inl (omega arith))) }
-decides_true sound input F spells leaves o r (inr (inl is)) =
+decides_true sound input F spells o r (inr (inl is)) =
     record { satisfiable = λ e. absurd (apart (sym is.status ∙ e) (inr (omega arith))); unsatisfiable = λ e. (F, spells, refuted sound F r.proof is.there is.accepted) }
-decides_true sound input F spells leaves o r (inr (inr is)) = other_true input r 0 is.status (omega arith)
+decides_true sound input F spells o r (inr (inr is)) = other_true input r 0 is.status (omega arith)
 
 answers_true : Soundness → (input : List ℕ) (F : Cnf) → Spells input F → (o : Options) (r : Report) (split : Split) → Answers F o r split → IsTrueReport input r
-answers_true sound input F spells o r (By leaves) is = decides_true sound input F spells leaves o r is
+answers_true sound input F spells o r (By leaves) is = decides_true sound input F spells o r is
 answers_true sound input F spells o r (Faulty fault) is = refused_true input _ o r is
 answers_true sound input F spells o r OtherFormula is = refused_true input _ o r is
 
--- what is reported of a formula that is split is true
-pub answered_true : {E : Type 0} → Soundness → (input : List ℕ) (F : Cnf) → Spells input F → (o : Options) (split : Split) (r : Result Report E)
-    → IfOk r (λ x. Answers F o x split) → IfOk r (IsTrueReport input)
-answered_true sound input F spells o split (Ok r) is = answers_true sound input F spells o r split is
-answered_true sound input F spells o split (Err fault) is = tt
+-- what is reported of an input is true
+pub solves_true : {E : Type 0} → Soundness → (input : List ℕ) (cubes : Option (List ℕ)) (o : Options) (r : Result Report E)
+    → IfOk r (Solves input cubes o) → IfOk r (IsTrueReport input)
+solves_true sound input cubes o (Ok r) (inl (F, spells, split, splits, is)) = answers_true sound input F spells o r split is
+solves_true sound input cubes o (Ok r) (inr (f, parsed, is)) = refused_true input _ o r is
+solves_true sound input cubes o (Err fault) is = tt
+
+pub works_true : {E : Type 0} → Soundness → (input : List ℕ) (o : Options) (r : Result Report E) → IfOk r (Works input o) → IfOk r (IsTrueReport input)
+works_true sound input o (Ok r) (inl (F, spells, is)) = decides_true sound input F spells o r is
+works_true sound input o (Ok r) (inr (f, parsed, is)) = refused_true input _ o r is
+works_true sound input o (Err fault) is = tt
 
 -- what is verified is unsatisfiable
 pub verified_true : {E : Type 0} → Soundness → (input proof : List ℕ) (r : Result Report E)

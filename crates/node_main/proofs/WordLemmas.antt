@@ -1,10 +1,10 @@
 -- What the words of a command line name.
-use Rattle.std.proofs.Common.{◌≡◌, ◌∙◌, Bool, true, false, Option, Some, None, sym, ap, subst, codes, option_map, IfSome, IfNone}
+use Rattle.std.proofs.Common.{◌≡◌, ◌∙◌, ℕ, List, Bool, true, false, not, Option, Some, None, refl, sym, ap, subst, codes, option_map, IfSome, IfNone}
 use Rattle.std.specs.Borrow.{Bor}
-use Rattle.clap.specs.Words.{Text, first_of, first_value, one_text, rows_of}
+use Rattle.clap.specs.Words.{Row, Text, first_of, first_value, one_text, rows_of}
 use Rattle.clap.specs.declared.parser.matches.Found.{Found}
 use Rattle.clap.proofs.WalkLemmas.{first_value-rows, one_text-rows}
-use Rattle.node_main.specs.CommandLine.{NamesFlag}
+use Rattle.node_main.specs.CommandLine.{IsNumber, NamesFlag, NamesNumberOr}
 
 -- what `get_str` read
 pub read_text : (f : Found) (name : Text) (r : Option (Bor Text)) → option_map (λ t. t.now) r ≡ first_value f name → first_of name (rows_of f) ≡ option_map (λ t. t.now) r
@@ -28,3 +28,39 @@ some_is r P x e h = subst (λ o. IfSome o P) e h
 
 pub none_is : {X : Type 0} (r : Option X) (P : Type 0) → r ≡ None → IfNone r P → P
 none_is r P e h = subst (λ o. IfNone o P) e h
+
+pub unread : (r : Option ℕ) (P Q : Type 0) → (P → Q) → IfNone r P → IfNone r Q
+unread None P Q f h = f h
+unread (Some n) P Q f h = tt
+
+-- the option is given
+pub given_is : (rows : List Row) (name : Text) (low high usual n : ℕ) (text : Text) → first_of name rows ≡ Some text → IsNumber low high text n
+    → NamesNumberOr rows name low high usual n
+given_is rows name low high usual n text given read = record {
+  given = λ written e. subst (λ (t : Text). IsNumber low high t n) (one_is_read (first_of name rows) text written given e) read;
+  left_out = λ e. absurd (no_text (first_of name rows) text given e);
+} where
+  no_text : (o : Option Text) (t : Text) → o ≡ Some t → o ≡ None → ⊥
+  no_text o t some none = cc
+
+-- the option is left out
+pub left_out_is : (rows : List Row) (name : Text) (low high usual : ℕ) → first_of name rows ≡ None → NamesNumberOr rows name low high usual usual
+left_out_is rows name low high usual none = record {
+  given = λ written e. absurd (no_text (first_of name rows) written none e);
+  left_out = λ e. refl;
+} where
+  no_text : (o : Option Text) (t : Text) → o ≡ None → o ≡ Some t → ⊥
+  no_text o t none some = cc
+
+pub if_none : {X : Type 0} (r : Option X) (P : Type 0) → P → IfNone r P
+if_none None P h = h
+if_none (Some x) P h = tt
+
+not_twice : (b : Bool) → b ≡ not (not b)
+not_twice true = refl
+not_twice false = refl
+
+-- what `get_flag` read of a flag that leaves something out
+pub read_no_flag : (f : Found) (name : Text) (r : Bool) → (one_text f name ≡ None → r ≡ false) → (one_text f name ≡ Some (codes "true") → r ≡ true)
+    → (one_text f name ≡ Some (codes "false") → r ≡ false) → NamesFlag (rows_of f) name (not (not r))
+read_no_flag f name r none given other = subst (NamesFlag (rows_of f) name) (not_twice r) (read_flag f name r none given other)

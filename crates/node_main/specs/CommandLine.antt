@@ -1,5 +1,6 @@
 -- What the words of a command line ask for, by the rules of `clap`.
-use Rattle.std.specs.Prelude.{◌≡◌, ◌≢◌, ◌⊎◌, ℕ, ◌≤◌, List, [], ◌∷◌, Bool, true, false, not, Option, Some, None, option_map, codes, ⊤}
+use Rattle.std.specs.Prelude.{◌≡◌, ◌≢◌, ◌⊎◌, ℕ, ◌-◌, ◌^◌, ◌≤◌, List, [], ◌∷◌, Bool, true, false, not, Option, Some, None, option_map, codes, ⊤}
+use Rattle.std.specs.Borrow.{Bor}
 use Rattle.std.specs.Str.Parse.{IsNumeral, digits_value, without_leading_plus}
 use Rattle.clap.specs.Kinds.{IsAmong}
 use Rattle.clap.specs.Words.{Row, Text, fault_of, first_of, one_of, subcommand_of, takes}
@@ -7,9 +8,9 @@ use Rattle.clap.specs.declared.error.kind.ErrorKind.{ErrorKind}
 use Rattle.clap.specs.declared.error.kind.ErrorKind.TheVariants as kind
 use Rattle.node_main.specs.Program.{program}
 use Rattle.node_main.specs.Solving.{AreOptions}
-use Rattle.node_main.specs.declared.commands.solve.options.Options.{Options}
+use Rattle.node_main.specs.declared.options.Options.{Options}
 use Rattle.node_main.specs.declared.request.Request.{Request}
-use Rattle.node_main.specs.declared.request.Request.TheVariants.{Check, Cubes, Solve}
+use Rattle.node_main.specs.declared.request.Request.TheVariants.{Check, Cubes, Drill, Serve, Solve, Work}
 use Rattle.node_main.specs.declared.request.UsageFault.{UsageFault}
 use Rattle.node_main.specs.declared.request.UsageFault.TheVariants.{Help, NoMemory, Usage}
 
@@ -26,58 +27,62 @@ pub record NamesNumber (rows : List Row) (name : Text) (low high : ℕ) (number 
   pub given : first_of name rows ≡ Some written
   pub read : IsNumber low high written number
 
+-- the number in a range that the words give to an option, or the usual one where the command has no such option
+pub record NamesNumberOr (rows : List Row) (name : Text) (low high usual : ℕ) (number : ℕ) : Type 0 where
+  pub given : (written : Text) → first_of name rows ≡ Some written → IsNumber low high written number
+  pub left_out : first_of name rows ≡ None → number ≡ usual
+
 -- the words say of a flag that it is given, or that it is not
 pub record NamesFlag (rows : List Row) (name : Text) (given : Bool) : Type 0 where
   pub yes : one_of name rows ≡ Some (codes "true") → given ≡ true
   pub no : one_of name rows ≡ Some (codes "false") → given ≡ false
   pub none : one_of name rows ≡ None → given ≡ false
 
--- what the words of `check` name
-pub record NamesFiles (rows : List Row) (input proof : Text) : Type 0 where
-  pub input_is : first_of (codes "INPUT") rows ≡ Some input
-  pub proof_is : first_of (codes "PROOF") rows ≡ Some proof
+-- the file that the words name, or that they name none
+abbrev pub NamesFile : List Row → Text → Option (Bor Text) → Type 0
+NamesFile rows name file = first_of name rows ≡ option_map (λ t. t.now) file
 
--- what the words of `cubes` name
-pub record NamesCubes (rows : List Row) (input : Text) (depth : ℕ) : Type 0 where
-  pub input_is : first_of (codes "INPUT") rows ≡ Some input
-  pub depth_is : NamesNumber rows (codes "depth") 0 16 depth
-
--- the options that the words of `solve` name
+-- the options of a run, each by its word; the usual one where the command has no such word
 pub record NamesOptions (rows : List Row) (options : Options) : Type 0 where
-  pub depth_is : NamesNumber rows (codes "depth") 0 16 options.depth
-  pub limit_is : NamesNumber rows (codes "limit") 1 1000000000 options.limit
+  pub workers_is : NamesNumberOr rows (codes "workers") 1 64 2 options.workers
+  pub depth_is : NamesNumberOr rows (codes "depth") 0 16 4 options.depth
+  pub limit_is : NamesNumberOr rows (codes "limit") 1 1000000000 100000 options.limit
+  pub session_is : NamesNumberOr rows (codes "session") 0 (2 ^ 64 - 1) 1 options.session
+  pub number_is : NamesNumberOr rows (codes "number") 1 64 1 options.number
+  pub incarnation_is : NamesNumberOr rows (codes "incarnation") 0 (2 ^ 64 - 1) 1 options.incarnation
+  pub ahead_is : NamesFlag rows (codes "ahead") options.ahead
   pub quiet_is : NamesFlag rows (codes "quiet") options.quiet
   pub witness_is : NamesFlag rows (codes "no-witness") (not options.witness)
 
--- what the words of `solve` name
-pub record NamesSolve (rows : List Row) (input : Text) (cubes proof : Option Text) (options : Options) : Type 0 where
-  pub input_is : first_of (codes "INPUT") rows ≡ Some input
-  pub cubes_is : first_of (codes "cubes") rows ≡ cubes
-  pub proof_is : first_of (codes "PROOF") rows ≡ proof
-  pub options_are : NamesOptions rows options
+-- the words of a command of this name, of which these rows are made, say what the request does
+abbrev pub Makes : Text → List Row → Request → Type 0
+Makes name rows (Check input proof) =
+    (name ≡ codes "check") × NamesFile rows (codes "INPUT") (Some input) × NamesFile rows (codes "PROOF") (Some proof)
+Makes name rows (Cubes input depth) =
+    (name ≡ codes "cubes") × NamesFile rows (codes "INPUT") (Some input) × NamesNumber rows (codes "depth") 0 16 depth
+Makes name rows (Solve input cubes proof options) =
+    (name ≡ codes "solve") × NamesFile rows (codes "INPUT") (Some input) × NamesFile rows (codes "cubes") cubes
+    × NamesFile rows (codes "PROOF") proof × NamesOptions rows options
+Makes name rows (Serve port input cubes proof options) =
+    (name ≡ codes "serve") × NamesNumber rows (codes "port") 1 65535 port × NamesFile rows (codes "INPUT") (Some input)
+    × NamesFile rows (codes "cubes") cubes × NamesFile rows (codes "PROOF") proof × NamesOptions rows options
+Makes name rows (Work port input proof options) =
+    (name ≡ codes "work") × NamesNumber rows (codes "port") 1 65535 port × NamesFile rows (codes "INPUT") (Some input)
+    × NamesFile rows (codes "PROOF") proof × NamesOptions rows options
+Makes name rows (Drill input seed turns) =
+    (name ≡ codes "drill") × NamesFile rows (codes "INPUT") (Some input) × NamesNumber rows (codes "seed") 0 (2 ^ 64 - 1) seed
+    × NamesNumber rows (codes "turns") 0 100000 turns
 
 -- the words are right by the rules of the command line
 pub record AreTaken (words : List Text) : Type 0 where
   pub by_rules : takes program words ≡ true
 
--- the words ask for a check of these two files
-pub record AsksForCheck (words : List Text) (input proof : Text) : Type 0 where
+-- the words ask for what the request says: they name its command, and behind it what the request holds
+pub record AsksFor (words : List Text) (request : Request) : Type 0 where
+  pub name : Text
   pub rows : List Row
-  pub command : subcommand_of program words ≡ Some (codes "check", rows)
-  pub files : NamesFiles rows input proof
-
--- the words ask for the cubes of this file, of this depth
-pub record AsksForCubes (words : List Text) (input : Text) (depth : ℕ) : Type 0 where
-  pub rows : List Row
-  pub command : subcommand_of program words ≡ Some (codes "cubes", rows)
-  pub names : NamesCubes rows input depth
-
--- the words ask for an answer on this file, split by the cubes of another where one is named, and for its proof in another
--- where one is named
-pub record AsksForSolve (words : List Text) (input : Text) (cubes proof : Option Text) (options : Options) : Type 0 where
-  pub rows : List Row
-  pub command : subcommand_of program words ≡ Some (codes "solve", rows)
-  pub names : NamesSolve rows input cubes proof options
+  pub command : subcommand_of program words ≡ Some (name, rows)
+  pub makes : Makes name rows request
 
 -- the words ask for help: a parse of them ends there, if not for want of memory
 abbrev pub AsksForHelp : List Text → Type 0
@@ -95,14 +100,15 @@ IsRefusal words (Help text) = IsAmong kind.DisplayHelp (fault_of program words)
 IsRefusal words Usage = AsksForHelp words → ⊥
 IsRefusal words NoMemory = ⊤
 
--- the words ask for what the request says
-abbrev pub AsksFor : List Text → Request → Type 0
-AsksFor words (Check input proof) = AsksForCheck words input.now proof.now
-AsksFor words (Cubes input depth) = AsksForCubes words input.now depth
-AsksFor words (Solve input cubes proof options) = AsksForSolve words input.now (option_map (λ t. t.now) cubes) (option_map (λ t. t.now) proof) options
+-- the number is one of a port
+abbrev pub IsPort : ℕ → Type 0
+IsPort port = (1 ≤ port) × (port ≤ 65535)
 
 -- the numbers of a request are in their ranges
 abbrev pub IsInRange : Request → Type 0
 IsInRange (Check input proof) = ⊤
 IsInRange (Cubes input depth) = depth ≤ 16
 IsInRange (Solve input cubes proof options) = AreOptions options
+IsInRange (Serve port input cubes proof options) = IsPort port × AreOptions options
+IsInRange (Work port input proof options) = IsPort port × AreOptions options
+IsInRange (Drill input seed turns) = turns ≤ 100000

@@ -4,7 +4,14 @@ pub mod Refusals
 pub mod ProofChecks
 pub mod CommandLine
 pub mod Cubing
-pub mod Splitting
-pub mod Searching
+pub mod Deciding
+pub mod Running
 pub mod Solving
+pub mod Splitting
+pub mod Starting
 pub mod Truth
+pub mod Drawing
+pub mod Drilling
+pub mod DrillReports
+pub mod Kinds
+pub mod Tallies

@@ -1,5 +1,5 @@
 -- The rules of the program's words, as `clap` takes them.
-use Rattle.std.specs.Prelude.{ℕ, Bool, true, false, [], ◌∷◌, Some, codes}
+use Rattle.std.specs.Prelude.{ℕ, ◌-◌, ◌^◌, Bool, true, false, [], ◌∷◌, Some, codes}
 use Rattle.std.specs.Str.{byte}
 use Rattle.clap.specs.Simple.{on_top}
 use Rattle.clap.specs.Words.{App, Rule, Text, new_app, new_rule, with_rule, with_subcommand}
@@ -23,9 +23,36 @@ number_rule name low high default = record (new_rule name) {
   defaults = default ∷ [];
 }
 
+-- `--name N`, a number in a range that has to be named
+abbrev pub needed_number_rule : Text → ℕ → ℕ → Rule
+needed_number_rule name low high = record (new_rule name) {
+  long = Some name;
+  action = Some Set;
+  parser = Some (vp.Unsigned low high);
+  required = true;
+}
+
 -- a flag of one letter
 abbrev pub flag_rule : Text → ℕ → Rule
 flag_rule name letter = record (new_rule name) { short = Some letter; action = Some SetTrue }
+
+-- a flag `--name`
+abbrev pub long_flag_rule : Text → Rule
+long_flag_rule name = record (new_rule name) { long = Some name; action = Some SetTrue }
+
+-- `[--workers N] [--depth D] [--limit L] [--cubes FILE]`: N from 1 to 64, else 2, D from 0 to 16, else 4, and L from 1 to
+-- 1,000,000,000, else 100,000
+abbrev pub with_search : App → App
+with_search a =
+    with_rule (with_rule (with_rule (with_rule a (number_rule (codes "workers") 1 64 (codes "2")))
+    (number_rule (codes "depth") 0 16 (codes "4"))) (number_rule (codes "limit") 1 1000000000 (codes "100000")))
+    (named_file_rule (codes "cubes"))
+
+-- `[-q] [-n] INPUT [PROOF]`
+abbrev pub with_files : App → App
+with_files a =
+    with_rule (with_rule (with_rule (with_rule a (flag_rule (codes "quiet") (byte "q"))) (flag_rule (codes "no-witness") (byte "n")))
+    (file_rule (codes "INPUT") true)) (file_rule (codes "PROOF") false)
 
 -- `check INPUT PROOF`
 abbrev pub check_app : App
@@ -35,18 +62,35 @@ check_app = with_rule (with_rule (new_app (codes "check")) (file_rule (codes "IN
 abbrev pub cubes_app : App
 cubes_app = with_rule (with_rule (new_app (codes "cubes")) (number_rule (codes "depth") 0 16 (codes "4"))) (file_rule (codes "INPUT") true)
 
--- `solve [--depth D] [--limit L] [--cubes FILE] [-q] [-n] INPUT [PROOF]`: D from 0 to 16, else 4, and L from 1 to
--- 1,000,000,000, else 100,000
+-- `solve`, a search
 abbrev pub solve_app : App
-solve_app =
-    with_rule (with_rule (with_rule (with_rule (with_rule (with_rule (with_rule (new_app (codes "solve"))
-    (number_rule (codes "depth") 0 16 (codes "4"))) (number_rule (codes "limit") 1 1000000000 (codes "100000")))
-    (named_file_rule (codes "cubes"))) (flag_rule (codes "quiet") (byte "q"))) (flag_rule (codes "no-witness") (byte "n")))
-    (file_rule (codes "INPUT") true)) (file_rule (codes "PROOF") false)
+solve_app = with_files (with_search (new_app (codes "solve")))
+
+-- `serve --port P [--session S]`, a search: P from 1 to 65,535, and S any number of 64 bits, else 1
+abbrev pub serve_app : App
+serve_app =
+    with_files (with_search (with_rule (with_rule (new_app (codes "serve")) (needed_number_rule (codes "port") 1 65535))
+    (number_rule (codes "session") 0 (2 ^ 64 - 1) (codes "1"))))
+
+-- `work --port P [--number W] [--incarnation I] [--ahead] [-q] [-n] INPUT [PROOF]`: W from 1 to 64, else 1, and I any number of
+-- 64 bits, else 1
+abbrev pub work_app : App
+work_app =
+    with_files (with_rule (with_rule (with_rule (with_rule (new_app (codes "work")) (needed_number_rule (codes "port") 1 65535))
+    (number_rule (codes "number") 1 64 (codes "1"))) (number_rule (codes "incarnation") 0 (2 ^ 64 - 1) (codes "1")))
+    (long_flag_rule (codes "ahead")))
+
+-- `drill --seed S --turns T INPUT`: S any number of 64 bits, and T from 0 to 100,000
+abbrev pub drill_app : App
+drill_app =
+    with_rule (with_rule (with_rule (new_app (codes "drill")) (needed_number_rule (codes "seed") 0 (2 ^ 64 - 1)))
+    (needed_number_rule (codes "turns") 0 100000)) (file_rule (codes "INPUT") true)
 
 -- the program, of which a command has to be named
 abbrev pub bare_program : App
 bare_program = on_top (λ s. record s { subcommand_required = true }) (new_app (codes "satcluster"))
 
 abbrev pub program : App
-program = with_subcommand (with_subcommand (with_subcommand bare_program solve_app.top) check_app.top) cubes_app.top
+program =
+    with_subcommand (with_subcommand (with_subcommand (with_subcommand (with_subcommand (with_subcommand bare_program solve_app.top)
+    check_app.top) cubes_app.top) serve_app.top) work_app.top) drill_app.top

@@ -1,7 +1,7 @@
 -- What is printed where there is no report.
 use Rattle.std.specs.Prelude.{ℕ, Bool, true, false, List, [], codes}
 use Rattle.node_main.specs.declared.report.Refusal.{Refusal}
-use Rattle.node_main.specs.declared.report.Refusal.TheVariants.{Usage, Input, Cubes, Proof, Writing, NoMemory}
+use Rattle.node_main.specs.declared.report.Refusal.TheVariants.{Usage, Input, Cubes, Proof, Links, Writing, NoMemory}
 
 -- the line of a refusal
 abbrev pub loud_text : Refusal → List ℕ
@@ -9,6 +9,7 @@ loud_text Usage = codes "c usage\n"
 loud_text Input = codes "c cannot read input\n"
 loud_text Cubes = codes "c cannot read cubes\n"
 loud_text Proof = codes "c cannot read proof\n"
+loud_text Links = codes "c cannot open links\n"
 loud_text Writing = codes "c cannot write proof\n"
 loud_text NoMemory = codes "c no memory\n"
 

@@ -5,8 +5,8 @@ use Rattle.dimacs.specs.logic.Cnf.{Cnf, AreWithin}
 use Rattle.icnf.specs.Leaves.{Cube}
 use Rattle.icnf.specs.Reading.{parse}
 use Rattle.icnf.specs.Spelling.{Spells}
-use Rattle.node_main.specs.declared.commands.solve.splitting.Split.{Split}
-use Rattle.node_main.specs.declared.commands.solve.splitting.Split.TheVariants.{By, Faulty, OtherFormula}
+use Rattle.node_main.specs.declared.splitting.Split.{Split}
+use Rattle.node_main.specs.declared.splitting.Split.TheVariants.{By, Faulty, OtherFormula}
 
 -- by the split rule, as deep as this
 abbrev pub SplitsByRule : Cnf → ℕ → Split → Type 0

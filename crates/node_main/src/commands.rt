@@ -1,5 +1,8 @@
-//! The commands, a room each: its words, what they ask for, and its run.
+//! The runs of the commands, a room each.
 
 pub(crate) mod check;
 pub(crate) mod cubes;
+pub(crate) mod drilling;
+pub(crate) mod serve;
 pub(crate) mod solve;
+pub(crate) mod work;

@@ -6,14 +6,22 @@
 
 mod command_line;
 mod commands;
+mod deciding;
+mod options;
 mod report;
 mod request;
+mod run_words;
+mod splitting;
+mod starting;
 mod words;
 
 pub use command_line::command;
 pub use commands::check::{ProofCheck, run_check};
 pub use commands::cubes::run_cubes;
-pub use commands::solve::options::Options;
-pub use commands::solve::{solve_here, solve_taking};
+pub use commands::drilling::{draw, drill, run_drill, worked_turns};
+pub use commands::serve::run_serve;
+pub use commands::solve::run_solve;
+pub use commands::work::run_work;
+pub use options::Options;
 pub use report::{Refusal, Report};
 pub use request::{Request, UsageFault};

@@ -36,7 +36,7 @@ impl Report {
 }
 
 /// Appends a number in decimal.
-fn put_number(out: &mut Vec<u8>, number: u64) -> Result<(), AllocError>
+pub(crate) fn put_number(out: &mut Vec<u8>, number: u64) -> Result<(), AllocError>
     ensures { OnOk result (out.new.items ≡ out.old.items ++ decimal number) }
 {
     let mut buffer = Buffer::new();
@@ -97,6 +97,8 @@ pub enum Refusal {
     Cubes,
     /// The proof that is to be checked cannot be read.
     Proof,
+    /// A listener or a connection cannot be opened.
+    Links,
     /// The proof that was found cannot be written.
     Writing,
     /// A growth was refused.
@@ -114,6 +116,7 @@ impl Refusal {
             Refusal::Input => "c cannot read input\n",
             Refusal::Cubes => "c cannot read cubes\n",
             Refusal::Proof => "c cannot read proof\n",
+            Refusal::Links => "c cannot open links\n",
             Refusal::Writing => "c cannot write proof\n",
             Refusal::NoMemory => "c no memory\n",
         }

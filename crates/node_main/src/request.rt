@@ -3,7 +3,7 @@
 ghost use Rattle.std.specs.Prelude.{◌≡◌};
 ghost use Rattle.node_main.specs.declared.request.UsageFault.TheVariants.{NoMemory};
 
-use crate::commands::solve::options::Options;
+use crate::options::Options;
 use std::alloc::AllocError;
 use thiserror::Error;
 
@@ -26,6 +26,28 @@ pub enum Request<'a> {
     Cubes {
         input: &'a str,
         depth: u32,
+    },
+    /// Decide a formula as `Solve` does, by workers that connect to this port of 127.0.0.1, from 1 to 65,535.
+    Serve {
+        port: u16,
+        input: &'a str,
+        cubes: Option<&'a str>,
+        proof: Option<&'a str>,
+        options: Options,
+    },
+    /// Work for whoever serves this formula at this port of 127.0.0.1, from 1 to 65,535, and write the proof to a file where one
+    /// is named.
+    Work {
+        port: u16,
+        input: &'a str,
+        proof: Option<&'a str>,
+        options: Options,
+    },
+    /// Play as many turns of a cluster of this formula, from 0 to 100,000, as are drawn from the seed.
+    Drill {
+        input: &'a str,
+        seed: u64,
+        turns: u32,
     },
 }
 

@@ -1,44 +1,15 @@
 //! `cubes`: a formula with the cubes into which it is split.
 
-ghost use Rattle.std.specs.Prelude.{◌≡◌, ◌≤◌, ◌↔◌, ◌⊎◌, ℕ, List, IfOk, IfSome, IfNone, None};
-ghost use Rattle.clap.specs.Words.{app_of, found_of, rows_of};
+ghost use Rattle.std.specs.Prelude.{◌≡◌, ◌≤◌, ◌↔◌, ◌⊎◌, IfOk, None};
 ghost use Rattle.dimacs.specs.logic.Cnf.{Cnf};
 ghost use Rattle.dimacs.specs.text.Spelling.{Spells};
 ghost use Rattle.dimacs.specs.text.Reading.{parse};
-ghost use Rattle.node_main.specs.CommandLine.{NamesCubes};
 ghost use Rattle.node_main.specs.Cubing.{ShowsCubes, PrintsCubes};
-ghost use Rattle.node_main.specs.Program.{cubes_app};
 
 use crate::report::{Report, faulty_input};
-use crate::words::{DEPTH, INPUT, file, number, number_of};
-use clap::{ArgMatches, Command};
 use cube_split::tree;
 use dimacs::{Formula, Kind};
 use std::alloc::{AllocError, Global};
-
-/// Its words.
-pub(crate) fn words<'a>(alloc: Global) -> Result<Command<'a>, AllocError>
-    ensures { IfOk result (λ c. app_of c ≡ cubes_app) }
-{
-    let depth = number(alloc, "depth", 0, 16, "4", DEPTH);
-    let input = file(alloc, "INPUT", true, INPUT);
-    Command::new(alloc, "cubes")
-        .about("Splits a DIMACS formula into cubes, as iCNF")
-        .after_help("Status: 0 the cubes are printed, 1 an error")
-        .arg(depth)?
-        .arg(input)
-}
-
-/// What `cubes` is to work on.
-pub(crate) fn cubes_request<'a>(matches: &ArgMatches<'a>) -> Option<(&'a str, u32)>
-    ensures found { IfSome result (λ r. NamesCubes (rows_of (found_of matches.now)) r.0.now r.1) }
-    ensures none { IfNone result ((input : List ℕ) (depth : ℕ) → NamesCubes (rows_of (found_of matches.now)) input depth → ⊥) }
-{
-    match (matches.get_str("INPUT"), number_of(matches, "depth", 0, 16)) {
-        (Some(input), Some(depth)) => Some((input, depth as u32)),
-        _ => None,
-    }
-}
 
 /// The report of the cubes of a formula.
 fn listed(alloc: Global, formula: &Formula, depth: u32) -> Result<Report, AllocError>

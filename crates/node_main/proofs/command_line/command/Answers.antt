@@ -1,8 +1,8 @@
-use Rattle.std.proofs.Common.{◌≡◌, ◌∙◌, List, sym, ap, subst, codes, Some, option_map, map}
-use Rattle.clap.specs.Words.{App, HasKind, Kinds, Row, app_of, fault_of, is_simple, is_simple_and_free, subcommand_of, takes, rows_of, found_of, subcommand_rows_of}
+use Rattle.std.proofs.Common.{◌≡◌, ◌∙◌, sym, ap, subst, option_map, map}
+use Rattle.clap.specs.Words.{App, HasKind, Kinds, app_of, fault_of, is_simple, is_simple_and_free, subcommand_of, takes, rows_of, found_of}
 use Rattle.node_main.specs.Program.{program}
 use Rattle.node_main.proofs.RefusalLemmas.{asks_no_help, no_memory_is, refusal_is}
-use Rattle.node_main.specs.CommandLine.{NamesCubes, NamesFiles, NamesSolve}
+use Rattle.node_main.proofs.RequestLemmas.{asks_nothing, asks_of, met}
 use Rattle.node_main.proofs.command_line.command.Goals as goal
 
 pub returns-in-Err-clause-refused : goal.returns-in-Err-clause-refused
@@ -13,59 +13,43 @@ returns-in-Err-clause-refused c =
     refusal_is texts _ c.fault_of.result (subst (λ (kinds : Kinds). HasKind kinds c.in-Err.error) same has) c.fault_of.ensures
 
 pub returns-in-Err-clause-complete : goal.returns-in-Err-clause-complete
-returns-in-Err-clause-complete c input proof taken asks =
+returns-in-Err-clause-complete c request taken asks =
     let texts = map (λ w. w.now) c.args.words.now in
     no_memory_is _ c.fault_of.result c.fault_of.ensures (c.in-Err.ensures.passes (ap (λ (a : App). takes a texts) c.in_ok-satcluster.ensures ∙ taken.by_rules))
 
-pub returns-in-Err-clause-cubes_complete : goal.returns-in-Err-clause-cubes_complete
-returns-in-Err-clause-cubes_complete c input depth taken asks =
+pub returns-in-Some-request_of-clause-asks : goal.returns-in-Some-request_of-clause-asks
+returns-in-Some-request_of-clause-asks c =
     let texts = map (λ w. w.now) c.args.words.now in
-    no_memory_is _ c.fault_of.result c.fault_of.ensures (c.in-Err.ensures.passes (ap (λ (a : App). takes a texts) c.in_ok-satcluster.ensures ∙ taken.by_rules))
+    let is = (c.in-Ok.ensures.matches (ap is_simple c.in_ok-satcluster.ensures)).1 ∙ ap (λ (a : App). subcommand_of a texts) c.in_ok-satcluster.ensures in
+    record {
+      name = c.in-Some.name.now;
+      rows = rows_of (found_of c.in-Some.inner.now);
+      command = sym is ∙ met c.in-Ok.matches c.in-Some.name.now (rows_of (found_of c.in-Some.inner.now))
+          (sym c.subcommand.ensures.name ∙ ap (option_map (λ p. p.0.now)) c.in-Some.is)
+          (sym c.subcommand.ensures.rows ∙ ap (option_map (λ p. rows_of (found_of p.1.now))) c.in-Some.is);
+      makes = c.in-Some-request_of.ensures.found;
+    }
 
-pub returns-in-Err-clause-solve_complete : goal.returns-in-Err-clause-solve_complete
-returns-in-Err-clause-solve_complete c input cubes proof options taken asks =
+pub returns-in-Some-clause-complete : goal.returns-in-Some-clause-complete
+returns-in-Some-clause-complete c request taken asks =
     let texts = map (λ w. w.now) c.args.words.now in
-    no_memory_is _ c.fault_of.result c.fault_of.ensures (c.in-Err.ensures.passes (ap (λ (a : App). takes a texts) c.in_ok-satcluster.ensures ∙ taken.by_rules))
+    let is = (c.in-Ok.ensures.matches (ap is_simple c.in_ok-satcluster.ensures)).1 ∙ ap (λ (a : App). subcommand_of a texts) c.in_ok-satcluster.ensures in
+    let command = sym is ∙ met c.in-Ok.matches c.in-Some.name.now (rows_of (found_of c.in-Some.inner.now))
+    (sym c.subcommand.ensures.name ∙ ap (option_map (λ p. p.0.now)) c.in-Some.is)
+    (sym c.subcommand.ensures.rows ∙ ap (option_map (λ p. rows_of (found_of p.1.now))) c.in-Some.is) in
+    absurd (c.in-None-request_of.ensures.none request (asks_of texts c.in-Some.name.now (rows_of (found_of c.in-Some.inner.now)) request command asks))
 
-same_rows : (a b : List Row) → Some a ≡ Some b → a ≡ b
-same_rows a b e = cc
-
-pub returns-in-Some-solve-default-clause-solve_complete : goal.returns-in-Some-solve-default-clause-solve_complete
-returns-in-Some-solve-default-clause-solve_complete c input cubes proof options taken asks =
+pub returns-clause-complete : goal.returns-clause-complete
+returns-clause-complete c request taken asks =
     let texts = map (λ w. w.now) c.args.words.now in
-    let met : subcommand_rows_of c.in-Ok.matches ≡ Some (codes "solve", asks.rows) =
-    (c.in-Ok.ensures.matches (ap is_simple c.in_ok-satcluster.ensures)).1 ∙ ap (λ (a : App). subcommand_of a texts) c.in_ok-satcluster.ensures ∙ asks.command in
-    let rows_are : rows_of (found_of c.in-Some-solve-default.inner.now) ≡ asks.rows =
-    same_rows _ _ (sym (ap (option_map (λ p. rows_of (found_of p.1.now))) c.in-Some-solve-default.is) ∙ c.subcommand.ensures.rows ∙ ap (option_map (λ p. p.1)) met) in
-    absurd (c.in-None.ensures.none input cubes proof options (subst (λ (r : List Row). NamesSolve r input cubes proof options) (sym rows_are) asks.names))
-
-pub returns-in-Some-check-default-clause-complete : goal.returns-in-Some-check-default-clause-complete
-returns-in-Some-check-default-clause-complete c input proof taken asks =
-    let texts = map (λ w. w.now) c.args.words.now in
-    let met : subcommand_rows_of c.in-Ok.matches ≡ Some (codes "check", asks.rows) =
-    (c.in-Ok.ensures.matches (ap is_simple c.in_ok-satcluster.ensures)).1 ∙ ap (λ (a : App). subcommand_of a texts) c.in_ok-satcluster.ensures ∙ asks.command in
-    let rows_are : rows_of (found_of c.in-Some-check-default.inner.now) ≡ asks.rows =
-    same_rows _ _ (sym (ap (option_map (λ p. rows_of (found_of p.1.now))) c.in-Some-check-default.is) ∙ c.subcommand.ensures.rows ∙ ap (option_map (λ p. p.1)) met) in
-    absurd (c.in-None-check_request.ensures.none input proof (subst (λ (r : List Row). NamesFiles r input proof) (sym rows_are) asks.files))
-
-pub returns-in-Some-cubes-default-clause-cubes_complete : goal.returns-in-Some-cubes-default-clause-cubes_complete
-returns-in-Some-cubes-default-clause-cubes_complete c input depth taken asks =
-    let texts = map (λ w. w.now) c.args.words.now in
-    let met : subcommand_rows_of c.in-Ok.matches ≡ Some (codes "cubes", asks.rows) =
-    (c.in-Ok.ensures.matches (ap is_simple c.in_ok-satcluster.ensures)).1 ∙ ap (λ (a : App). subcommand_of a texts) c.in_ok-satcluster.ensures ∙ asks.command in
-    let rows_are : rows_of (found_of c.in-Some-cubes-default.inner.now) ≡ asks.rows =
-    same_rows _ _ (sym (ap (option_map (λ p. rows_of (found_of p.1.now))) c.in-Some-cubes-default.is) ∙ c.subcommand.ensures.rows ∙ ap (option_map (λ p. p.1)) met) in
-    absurd (c.in-None-cubes_request.ensures.none input depth (subst (λ (r : List Row). NamesCubes r input depth) (sym rows_are) asks.names))
+    absurd (asks_nothing c.in-Ok.matches texts request
+    (sym c.subcommand.ensures.name ∙ ap (option_map (λ p. p.0.now)) c.in-None.is)
+    ((c.in-Ok.ensures.matches (ap is_simple c.in_ok-satcluster.ensures)).1 ∙ ap (λ (a : App). subcommand_of a texts) c.in_ok-satcluster.ensures)
+    asks)
 
 -- words that were parsed ask for no help
-pub returns-in-Some-solve-default-clause-refused : goal.returns-in-Some-solve-default-clause-refused
-returns-in-Some-solve-default-clause-refused c = asks_no_help _ (map (λ w. w.now) c.args.words.now) c.in_ok-satcluster.ensures (c.in-Ok.ensures.kinds (ap is_simple_and_free c.in_ok-satcluster.ensures))
-
-pub returns-in-Some-check-default-clause-refused : goal.returns-in-Some-check-default-clause-refused
-returns-in-Some-check-default-clause-refused c = asks_no_help _ (map (λ w. w.now) c.args.words.now) c.in_ok-satcluster.ensures (c.in-Ok.ensures.kinds (ap is_simple_and_free c.in_ok-satcluster.ensures))
-
-pub returns-in-Some-cubes-default-clause-refused : goal.returns-in-Some-cubes-default-clause-refused
-returns-in-Some-cubes-default-clause-refused c = asks_no_help _ (map (λ w. w.now) c.args.words.now) c.in_ok-satcluster.ensures (c.in-Ok.ensures.kinds (ap is_simple_and_free c.in_ok-satcluster.ensures))
+pub returns-in-Some-clause-refused : goal.returns-in-Some-clause-refused
+returns-in-Some-clause-refused c = asks_no_help _ (map (λ w. w.now) c.args.words.now) c.in_ok-satcluster.ensures (c.in-Ok.ensures.kinds (ap is_simple_and_free c.in_ok-satcluster.ensures))
 
 pub returns-clause-refused : goal.returns-clause-refused
 returns-clause-refused c = asks_no_help _ (map (λ w. w.now) c.args.words.now) c.in_ok-satcluster.ensures (c.in-Ok.ensures.kinds (ap is_simple_and_free c.in_ok-satcluster.ensures))

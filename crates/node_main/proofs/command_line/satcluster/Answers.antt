@@ -17,8 +17,14 @@ returns c =
     let solve = c.in_ok-solve.ensures in
     let check = c.in_ok-check.ensures in
     let cubes = c.in_ok-cubes.ensures in
+    let serve = c.in_ok-serve.ensures in
+    let work = c.in_ok-work.ensures in
+    let drill = c.in_ok-drill.ensures in
     let first = c.in_ok-subcommand.ensures.shape (no_globals _ _ _ _ (ap (λ (a : App). a.top.is_plain) solve)) ∙ ap₂ with_subcommand start (ap (λ (a : App). a.top) solve) in
     let second = c.in_ok-subcommand-2.ensures.shape (no_globals _ _ _ _ (ap (λ (a : App). a.top.is_plain) check)) ∙ ap₂ with_subcommand first (ap (λ (a : App). a.top) check) in
-    IfOk-weaker c.subcommand-3.result _ _
-    (λ r h. h.shape (no_globals _ _ _ _ (ap (λ (a : App). a.top.is_plain) cubes)) ∙ ap₂ with_subcommand second (ap (λ (a : App). a.top) cubes))
-    c.subcommand-3.ensures
+    let third = c.in_ok-subcommand-3.ensures.shape (no_globals _ _ _ _ (ap (λ (a : App). a.top.is_plain) cubes)) ∙ ap₂ with_subcommand second (ap (λ (a : App). a.top) cubes) in
+    let fourth = c.in_ok-subcommand-4.ensures.shape (no_globals _ _ _ _ (ap (λ (a : App). a.top.is_plain) serve)) ∙ ap₂ with_subcommand third (ap (λ (a : App). a.top) serve) in
+    let fifth = c.in_ok-subcommand-5.ensures.shape (no_globals _ _ _ _ (ap (λ (a : App). a.top.is_plain) work)) ∙ ap₂ with_subcommand fourth (ap (λ (a : App). a.top) work) in
+    IfOk-weaker c.subcommand-6.result _ _
+    (λ r h. h.shape (no_globals _ _ _ _ (ap (λ (a : App). a.top.is_plain) drill)) ∙ ap₂ with_subcommand fifth (ap (λ (a : App). a.top) drill))
+    c.subcommand-6.ensures

@@ -1,8 +1,8 @@
-use Rattle.std.proofs.Common.{◌≡◌, ◌∙◌, ap, subst, ℕ, Option, Some, None, IfNone, option_map}
+use Rattle.std.proofs.Common.{◌≡◌, ◌∙◌, ap, subst, Some, option_map}
 use Rattle.std.proofs.lemmas.Option.{IfSome_then}
 use Rattle.clap.specs.Words.{Text, first_of, found_of, rows_of}
 use Rattle.node_main.specs.CommandLine.{IsNumber, NamesNumber}
-use Rattle.node_main.proofs.WordLemmas.{none_is_read, one_is_read, read_text}
+use Rattle.node_main.proofs.WordLemmas.{none_is_read, one_is_read, read_text, unread}
 use Rattle.node_main.proofs.words.number_of.Goals as goal
 
 pub returns-in-Some-clause-found : goal.returns-in-Some-clause-found
@@ -10,10 +10,6 @@ returns-in-Some-clause-found c =
     let given : first_of c.args.name.now (rows_of (found_of c.args.matches.now)) ≡ Some c.in-Some.text.now =
     read_text (found_of c.args.matches.now) c.args.name.now c.get_str.result c.get_str.ensures ∙ ap (option_map (λ s. s.now)) c.in-Some.is in
     IfSome_then c.number_in.result c.number_in.ensures.some (λ n read. record { written = c.in-Some.text.now; given = given; read = read })
-
-unread : (r : Option ℕ) (P Q : Type 0) → (P → Q) → IfNone r P → IfNone r Q
-unread None P Q f h = f h
-unread (Some n) P Q f h = tt
 
 pub returns-in-Some-clause-none : goal.returns-in-Some-clause-none
 returns-in-Some-clause-none c =

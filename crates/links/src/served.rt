@@ -1,0 +1,116 @@
+//! The coordinator's ends of the links of its workers, over connections that were accepted.
+
+ghost use Rattle.std.specs.Prelude.{◌≤◌, length, IfOk};
+
+use crate::carrier::Carrier;
+use crate::link::{End, LinkFault};
+use crate::stream::{read_next, write_whole};
+use std::alloc::{AllocError, Global};
+use std::io::{Read, Write};
+
+/// A connection, and what was read from it before it was linked.
+#[derive(Drop)]
+struct Linked<S> {
+    stream: S,
+    early: Vec<u8>,
+    /// How many of the early bytes were handed in.
+    handed: usize,
+}
+
+/// The coordinator's ends of the links of workers 1 to n. The worker's ends are elsewhere: their calls are refused. A worker that is
+/// not linked has ended: a receive from it answers 0 bytes, and a send to it is refused.
+#[derive(Drop)]
+pub struct Served<S> {
+    ends: Vec<Option<Linked<S>>>,
+}
+
+/// Copies as many bytes as there is room for, and answers how many.
+fn hand_in(bytes: &[u8], room: &mut [u8]) -> usize
+    ensures { result ≤ length room.new }
+{
+    let count = bytes.len().min(room.len());
+    room[..count].copy_from_slice(&bytes[..count]);
+    count
+}
+
+impl<S: Read> Linked<S> {
+    /// The early bytes come first.
+    fn fetch(&mut self, room: &mut [u8]) -> Result<usize, LinkFault>
+        ensures { IfOk result (λ n. n ≤ length room.new) }
+    {
+        if self.handed < self.early.len() {
+            let count = hand_in(&self.early[self.handed..], room);
+            self.handed = self.handed.saturating_add(count);
+            return Ok(count);
+        }
+        read_next(&mut self.stream, room)
+    }
+}
+
+impl<S> Served<S> {
+    /// Workers 1 to `workers`, of whom none is linked.
+    pub fn new(alloc: Global, workers: u32) -> Result<Served<S>, AllocError>
+    where
+        S: Drop,
+    {
+        let mut ends = Vec::new(alloc);
+        for _ in 0..workers {
+            ends.push(None)?;
+        }
+        Ok(Served { ends })
+    }
+
+    fn end(&mut self, end: End) -> Result<&mut Option<Linked<S>>, LinkFault> {
+        let End::Coordinator(worker) = end else {
+            return Err(LinkFault);
+        };
+        let place = worker.checked_sub(1).ok_or(LinkFault)?;
+        self.ends.get_mut(place as usize).ok_or(LinkFault)
+    }
+
+    /// Whether a worker of this number is waited for.
+    pub fn lacks(&self, worker: u32) -> bool {
+        match worker.checked_sub(1) {
+            Some(place) => match self.ends.get(place as usize) {
+                Some(None) => true,
+                _ => false,
+            },
+            None => false,
+        }
+    }
+
+    /// Whether every worker is linked.
+    pub fn is_complete(&self) -> bool {
+        self.ends.iter().all(|end| end.is_some())
+    }
+
+    /// Links a worker by its connection, from which these bytes were read already.
+    pub fn link(&mut self, worker: u32, stream: S, early: Vec<u8>) -> Result<(), LinkFault>
+    where
+        S: Drop,
+    {
+        let end = self.end(End::Coordinator(worker))?;
+        *end = Some(Linked {
+            stream,
+            early,
+            handed: 0,
+        });
+        Ok(())
+    }
+}
+
+impl<S: Read + Write> Carrier for Served<S> {
+    fn carry(&mut self, from: End, bytes: &[u8]) -> Result<(), LinkFault> {
+        match self.end(from)? {
+            Some(linked) => write_whole(&mut linked.stream, bytes),
+            None => Err(LinkFault),
+        }
+    }
+
+    fn fetch(&mut self, at: End, room: &mut [u8]) -> Result<usize, LinkFault> {
+        match self.end(at)? {
+            Some(linked) => linked.fetch(room),
+            None => Ok(0),
+        }
+    }
+}

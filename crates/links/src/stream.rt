@@ -1,0 +1,25 @@
+//! What carriers over sockets share.
+
+ghost use Rattle.std.specs.Prelude.{◌≤◌, length, IfOk};
+
+use crate::link::LinkFault;
+use std::io::{ErrorKind, Read, Write};
+
+/// Reads what comes next; 0 bytes mean the end. A read that a signal interrupted is tried again.
+pub(crate) fn read_next<S: Read>(stream: &mut S, room: &mut [u8]) -> Result<usize, LinkFault>
+    ensures { IfOk result (λ n. n ≤ length room.new) }
+{
+    for _ in 0..u64::MAX {
+        match stream.read(room) {
+            Ok(count) => return Ok(count),
+            Err(error) if error.kind() == ErrorKind::Interrupted => {}
+            Err(_) => return Err(LinkFault),
+        }
+    }
+    Err(LinkFault)
+}
+
+/// Writes all bytes; `write_all` tries again by itself.
+pub(crate) fn write_whole<S: Write>(stream: &mut S, bytes: &[u8]) -> Result<(), LinkFault> {
+    stream.write_all(bytes).map_err(|_| LinkFault)
+}

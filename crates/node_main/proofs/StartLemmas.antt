@@ -1,0 +1,23 @@
+-- What is reported of a formula is reported of the input that spells it.
+use Rattle.std.proofs.Common.{◌≡◌, ℕ, List, Option, Result, Ok, Err, IfOk, inl, subst}
+use Rattle.dimacs.specs.logic.Cnf.{Cnf}
+use Rattle.dimacs.specs.text.Spelling.{Spells}
+use Rattle.icnf.specs.Leaves.{Cube}
+use Rattle.node_main.specs.Deciding.{Decides}
+use Rattle.node_main.specs.Solving.{Solves, Works}
+use Rattle.node_main.specs.Starting.{Starts}
+use Rattle.node_main.specs.declared.options.Options.{Options}
+use Rattle.node_main.specs.declared.report.Report.{Report}
+use Rattle.node_main.specs.declared.splitting.Split.TheVariants.{By}
+use Rattle.node_main.specs.declared.starting.Start.{Start}
+use Rattle.node_main.specs.declared.starting.Start.TheVariants.{With}
+
+pub started_solves : {E : Type 0} (r : Result Report E) (input : List ℕ) (cubes : Option (List ℕ)) (o : Options) (s : Start) (F : Cnf) (leaves : List Cube)
+    → s ≡ With F leaves → Starts input cubes o s → IfOk r (Decides F o) → IfOk r (Solves input cubes o)
+started_solves (Ok x) input cubes o s F leaves same starts is =
+    let h : Starts input cubes o (With F leaves) = subst (Starts input cubes o) same starts in inl (F, h.0, By leaves, h.1, is)
+started_solves (Err e) input cubes o s F leaves same starts is = tt
+
+pub read_works : {E : Type 0} (r : Result Report E) (input : List ℕ) (o : Options) (F : Cnf) → Spells input F → IfOk r (Decides F o) → IfOk r (Works input o)
+read_works (Ok x) input o F spells is = inl (F, spells, is)
+read_works (Err e) input o F spells is = tt

@@ -1,0 +1,22 @@
+use Rattle.std.proofs.Common.{◌∙◌, ap, codes, option_map, refl}
+use Rattle.clap.specs.Words.{first_of, found_of, rows_of}
+use Rattle.node_main.proofs.RequestLemmas.{only_check}
+use Rattle.node_main.proofs.WordLemmas.{if_none, none_is_read, read_text}
+use Rattle.node_main.proofs.command_line.check.asked.Goals as goal
+
+pub returns-in_err-input-clause-none : goal.returns-in_err-input-clause-none
+returns-in_err-input-clause-none c =
+    let f = found_of c.args.matches.now in
+    if_none _ _ (only_check (rows_of f) (λ input proof makes.
+    none_is_read (first_of (codes "INPUT") (rows_of f)) c.get_str.result input.now (read_text f (codes "INPUT") c.get_str.result c.get_str.ensures) c.in_err-input.was makes.1))
+
+pub returns-in_err-proof-clause-none : goal.returns-in_err-proof-clause-none
+returns-in_err-proof-clause-none c =
+    let f = found_of c.args.matches.now in
+    if_none _ _ (only_check (rows_of f) (λ input proof makes.
+    none_is_read (first_of (codes "PROOF") (rows_of f)) c.get_str-2.result proof.now (read_text f (codes "PROOF") c.get_str-2.result c.get_str-2.ensures) c.in_err-proof.was makes.2))
+
+pub returns-clause-found : goal.returns-clause-found
+returns-clause-found c =
+    let f = found_of c.args.matches.now in
+    (refl, read_text f (codes "INPUT") c.get_str.result c.get_str.ensures ∙ ap (option_map (λ s. s.now)) c.in_ok-input.was, read_text f (codes "PROOF") c.get_str-2.result c.get_str-2.ensures ∙ ap (option_map (λ s. s.now)) c.in_ok-proof.was)

@@ -1,0 +1,13 @@
+use Rattle.node_main.proofs.StartLemmas.{started_solves}
+use Rattle.node_main.proofs.TruthLemmas.{solves_true}
+use Rattle.node_main.proofs.commands.solve.run_solve.Goals as goal
+
+pub returns-in-Ok-clause-report : goal.returns-in-Ok-clause-report
+returns-in-Ok-clause-report g c =
+    let at = c.in-Ok-With in
+    started_solves c.decided.result c.args.input.now _ c.args.options.now at.field-0 at.formula at.tree at.field-0-is at.ensures
+    (c.decided.ensures.decides at.formula c.in-Ok.ensures.right)
+
+pub returns-in-Ok-clause-truth : goal.returns-in-Ok-clause-truth
+returns-in-Ok-clause-truth g c =
+    solves_true c.accepted_proofs_are_sound.ensures c.args.input.now _ c.args.options.now c.decided.result (returns-in-Ok-clause-report g c)

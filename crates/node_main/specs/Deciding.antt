@@ -1,0 +1,34 @@
+-- What is reported of a formula, by the status.
+use Rattle.std.specs.Prelude.{◌≡◌, ◌⊎◌, Bool, List, length, None, IsSome, IfSome}
+use Rattle.dimacs.specs.text.Answer.{Lines, satisfied_lines}
+use Rattle.dimacs.specs.logic.Cnf.{Cnf, Sat, assignment_of}
+use Rattle.dimacs.specs.declared.answer.Answer.TheVariants.{Unsatisfiable, Unknown}
+use Rattle.lrat_text.specs.Proof.{Accepts}
+use Rattle.node_main.specs.declared.options.Options.{Options}
+use Rattle.node_main.specs.declared.report.Report.{Report}
+
+-- 10: an assignment that satisfies the formula is printed
+pub record IsSatisfied (F : Cnf) (options : Options) (r : Report) : Type 0 where
+  pub status : r.status ≡ 10
+  pub values : List Bool
+  pub whole : length values ≡ F.vars
+  pub satisfies : Sat (assignment_of values) F
+  pub text : r.stdout.items ≡ satisfied_lines values options.witness
+  pub proof : r.proof ≡ None
+
+-- 20: a proof is there, which the definition accepts
+pub record IsRefuted (F : Cnf) (options : Options) (r : Report) : Type 0 where
+  pub status : r.status ≡ 20
+  pub there : IsSome r.proof
+  pub accepted : IfSome r.proof (λ bytes. Accepts F bytes.items)
+  pub text : r.stdout.items ≡ Lines Unsatisfiable options.witness
+
+-- 0: nothing is known
+pub record IsUndecided (options : Options) (r : Report) : Type 0 where
+  pub status : r.status ≡ 0
+  pub text : r.stdout.items ≡ Lines Unknown options.witness
+  pub proof : r.proof ≡ None
+
+-- what a run reports of a formula
+abbrev pub Decides : Cnf → Options → Report → Type 0
+Decides F options r = IsSatisfied F options r ⊎ IsRefuted F options r ⊎ IsUndecided options r

@@ -1,0 +1,55 @@
+-- What is printed of a drill.
+use Rattle.std.specs.Prelude.{◌≡◌, ℕ, zero, List, ◌++◌, length, None, Result, Ok, Err, codes, decimal}
+use Rattle.cube_split.specs.Splitting.{IsTreeOf}
+use Rattle.dimacs.specs.declared.fault.DimacsFault.{DimacsFault}
+use Rattle.dimacs.specs.logic.Cnf.{Cnf}
+use Rattle.icnf.specs.Leaves.{Cube}
+use Rattle.closed_schedules.specs.ClosedSchedule.{ClosedState, new_closed}
+use Rattle.node_main.specs.Drawing.{AreDrawn}
+use Rattle.node_main.specs.Drilling.{HasDrilled}
+use Rattle.node_main.specs.Reports.{input_fault_text}
+use Rattle.node_main.specs.declared.report.Report.{Report}
+
+-- how many turns there were, how many refusals, and how many disagreements
+abbrev pub drill_text : ℕ → ℕ → ℕ → List ℕ
+drill_text turns refused disagreements =
+    codes "c turns " ++ decimal turns ++ codes " refused " ++ decimal refused ++ codes " disagreements " ++ decimal disagreements ++ codes "\n"
+
+-- 0 where there was neither
+abbrev pub drill_status : ℕ → ℕ → ℕ
+drill_status zero zero = 0
+drill_status refused disagreements = 1
+
+-- what a drill reports: all its turns were taken, and this is what they came to
+pub record ReportsDrill (old : ClosedState) (turns : List (List ℕ)) (new : ClosedState) (r : Report) : Type 0 where
+  pub drilled : HasDrilled old turns new
+  pub text : r.stdout.items ≡ drill_text (length turns) drilled.last.refused drilled.last.disagreements
+  pub status : r.status ≡ drill_status drilled.last.refused drilled.last.disagreements
+  pub proof : r.proof ≡ None
+
+-- nothing was refused, and no verdicts differed
+pub record IsCalm (turns : ℕ) (r : Report) : Type 0 where
+  pub text : r.stdout.items ≡ drill_text turns 0 0
+  pub status : r.status ≡ 0
+  pub proof : r.proof ≡ None
+
+-- what is reported of a formula: a drill of a cluster of three workers, with the tree of depth 2 and the limit 1,000, by the words of the seed
+pub record DrillsFormula (F : Cnf) (seed turns : ℕ) (r : Report) : Type 0 where
+  pub cubes : List Cube
+  pub tree : IsTreeOf F 2 cubes
+  pub words : List (List ℕ)
+  pub drawn : AreDrawn seed turns words
+  pub last : ClosedState
+  pub reports : ReportsDrill (new_closed F cubes 1000 3) words last r
+  pub calm : IsCalm turns r
+
+-- what is reported of a faulty input
+pub record IsFaulty (f : DimacsFault) (r : Report) : Type 0 where
+  pub text : r.stdout.items ≡ input_fault_text f
+  pub status : r.status ≡ 1
+  pub proof : r.proof ≡ None
+
+-- what is reported of an input that was read, or not
+abbrev pub DrillsInput : Result Cnf DimacsFault → ℕ → ℕ → Report → Type 0
+DrillsInput (Ok F) seed turns r = DrillsFormula F seed turns r
+DrillsInput (Err f) seed turns r = IsFaulty f r

@@ -1,0 +1,42 @@
+//! `serve`: a formula is decided by a coordinator, whose workers are elsewhere.
+
+ghost use Rattle.std.specs.Prelude.{◌≤◌, ◌+◌, ◌*◌, IfOk, option_map};
+ghost use Rattle.node_main.specs.Running.{WasRun};
+ghost use Rattle.node_main.specs.Solving.{AreOptions, Solves};
+ghost use Rattle.node_main.specs.Truth.{IsTrueReport};
+
+use crate::deciding::decided;
+use crate::options::Options;
+use crate::report::Report;
+use crate::starting::{Start, begin};
+use links::Links;
+use lrat_check::accepted_proofs_are_sound;
+use std::alloc::{AllocError, Global};
+
+/// Reads a formula and runs a coordinator over the links of its workers, with the formula split as for `solve`. It goes on after the
+/// verdict, until every link is closed. The error stands for the report `c no memory`, status 1.
+pub fn run_serve<L: Links>(
+    alloc: Global,
+    input: &[u8],
+    cubes: Option<&[u8]>,
+    options: &Options,
+    links: &mut L,
+) -> Result<Report, AllocError>
+    requires { AreOptions options.now }
+    ensures report { IfOk result (Solves input.now (option_map (λ t. t.now) cubes.entry) options.now) }
+    ensures truth { IfOk result (IsTrueReport input.now) }
+    ensures used { IfOk result (WasRun (L.call_count links.old) (L.call_count links.new)) }
+    ensures most { L.call_count links.new ≤ L.call_count links.old + 4039000000 * options.now.workers }
+    ensures refusals { L.refusal_count links.new ≤ L.refusal_count links.old + options.now.workers }
+{
+    accepted_proofs_are_sound();
+    let (formula, tree) = match begin(alloc, input, cubes, options) {
+        Ok(Start::With(formula, tree)) => (formula, tree),
+        Ok(Start::Refused(report)) => return Ok(report),
+        Err(error) => return Err(error),
+    };
+    match runs::serve(alloc, formula, tree, &options.coordinator_plan(), links) {
+        Ok(verdict) => decided(alloc, verdict, options),
+        Err(error) => Err(error),
+    }
+}

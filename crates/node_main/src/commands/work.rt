@@ -1,0 +1,42 @@
+//! `work`: one worker, whose coordinator is elsewhere.
+
+ghost use Rattle.std.specs.Prelude.{◌≤◌, ◌+◌, IfOk};
+ghost use Rattle.node_main.specs.Running.{WasRun};
+ghost use Rattle.node_main.specs.Solving.{AreOptions, Works};
+ghost use Rattle.node_main.specs.Truth.{IsTrueReport};
+
+use crate::deciding::decided;
+use crate::options::Options;
+use crate::report::Report;
+use crate::starting::refused_input;
+use dimacs::Kind;
+use links::Links;
+use lrat_check::accepted_proofs_are_sound;
+use std::alloc::{AllocError, Global};
+
+/// Reads a formula and runs a worker over its link, until it holds a verdict. The error stands for the report `c no memory`,
+/// status 1.
+pub fn run_work<L: Links>(
+    alloc: Global,
+    input: &[u8],
+    options: &Options,
+    links: &mut L,
+) -> Result<Report, AllocError>
+    requires { AreOptions options.now }
+    ensures report { IfOk result (Works input.now options.now) }
+    ensures truth { IfOk result (IsTrueReport input.now) }
+    ensures used { IfOk result (WasRun (L.call_count links.old) (L.call_count links.new)) }
+    ensures most { L.call_count links.new ≤ L.call_count links.old + 4038000001 }
+    ensures refusals { L.refusal_count links.new ≤ L.refusal_count links.old + 1 }
+{
+    accepted_proofs_are_sound();
+    let formula = match dimacs::read(alloc, input) {
+        Ok(formula) => formula,
+        Err(fault) if fault.kind == Kind::NoMemory => return Err(AllocError),
+        Err(fault) => return refused_input(alloc, fault, options),
+    };
+    match runs::work(alloc, formula, &options.worker_plan(), links) {
+        Ok(verdict) => decided(alloc, verdict, options),
+        Err(error) => Err(error),
+    }
+}

@@ -1,0 +1,49 @@
+//! What is reported of a verdict.
+
+ghost use Rattle.std.specs.Prelude.{◌≡◌, ℕ, IfOk, None};
+ghost use Rattle.dimacs.specs.text.Answer.{Lines};
+ghost use Rattle.dimacs.specs.logic.Cnf.{Cnf};
+ghost use Rattle.lrat_check.specs.Verdicts.{Right};
+ghost use Rattle.runs.specs.Accounts.{HasBegun};
+ghost use Rattle.node_main.specs.Deciding.{Decides};
+ghost use Rattle.node_main.specs.Running.{WasRun};
+
+use crate::options::Options;
+use crate::report::Report;
+use dimacs::{Answer, answer_lines};
+use lrat_check::Verdict;
+use std::alloc::{AllocError, Global};
+
+/// The report of an answer.
+fn answered(alloc: Global, answer: Answer, witness: bool, status: u8) -> Result<Report, AllocError>
+    ensures text { IfOk result (λ r. r.stdout.items ≡ Lines answer.entry witness) }
+    ensures status { IfOk result (λ r. r.status ≡ status) }
+    ensures proof { IfOk result (λ r. r.proof ≡ None) }
+{
+    let mut report = Report::of(alloc, b"", status)?;
+    answer_lines(answer, witness, &mut report.stdout)?;
+    Ok(report)
+}
+
+/// The report of a verdict. The bytes of a proof are moved into it.
+pub(crate) fn decided(
+    alloc: Global,
+    verdict: Verdict,
+    options: &Options,
+) -> Result<Report, AllocError>
+    // What is right of a formula decides it.
+    ensures decides { (F : Cnf) → Right F verdict → IfOk result (Decides F options.now) }
+    ensures used { (base calls : ℕ) → HasBegun base calls verdict → IfOk result (WasRun base calls) }
+{
+    match verdict {
+        Verdict::Nothing => answered(alloc, Answer::Unknown, options.witness, 0),
+        Verdict::Model(values) => {
+            answered(alloc, Answer::Satisfiable(&values), options.witness, 10)
+        }
+        Verdict::Proof(text) => {
+            let mut report = answered(alloc, Answer::Unsatisfiable, options.witness, 20)?;
+            report.proof = Some(text.into_vec());
+            Ok(report)
+        }
+    }
+}

@@ -1,0 +1,71 @@
+//! How a formula is split: by the cubes that are handed in, or else by the split rule.
+
+ghost use Rattle.std.specs.Prelude.{◌≡◌, ◌≤◌, ◌↔◌, IsTrue, IfOk, None, option_map};
+ghost use Rattle.node_main.specs.Splitting.{Splits, SplitsByText, StaysWithin};
+
+use cube_split::tree;
+use dimacs::Formula;
+use icnf::{IcnfFault, Kind, Tree};
+use std::alloc::{AllocError, Global};
+
+/// The tree of a formula, or why the cubes that were handed in are refused.
+#[derive(Drop)]
+pub(crate) enum Split {
+    /// The formula is split so.
+    By(Tree),
+    /// The cubes are no iCNF text.
+    Faulty(IcnfFault),
+    /// The cubes are of other clauses.
+    OtherFormula,
+}
+
+/// Whether two formulas have the same clauses: the same lists of literals in the same order.
+fn has_clauses_of(formula: &Formula, other: &Formula) -> bool
+    ensures { IsTrue result ↔ other.now.clauses ≡ formula.now.clauses }
+{
+    if formula.len() != other.len() {
+        return false;
+    }
+    for i in 0..formula.len() {
+        if formula.clause(i) != other.clause(i) {
+            return false;
+        }
+    }
+    true
+}
+
+/// The tree of an iCNF text, where its clauses are the formula's.
+fn read_split(alloc: Global, formula: &Formula, cubes: &[u8]) -> Result<Split, AllocError>
+    ensures splits { IfOk result (SplitsByText formula.now cubes.now) }
+    ensures within { IfOk result (StaysWithin formula.now.vars) }
+{
+    let _ = formula.vars();
+    let (other, tree) = match icnf::read(alloc, cubes) {
+        Ok(found) => found,
+        Err(fault) if fault.kind == Kind::NoMemory => return Err(AllocError),
+        Err(fault) => return Ok(Split::Faulty(fault)),
+    };
+    if has_clauses_of(formula, &other) {
+        Ok(Split::By(tree))
+    } else {
+        Ok(Split::OtherFormula)
+    }
+}
+
+/// The tree of the cubes that are handed in, and where there are none that of the split rule, as deep as this.
+pub(crate) fn split_of(
+    alloc: Global,
+    formula: &Formula,
+    cubes: Option<&[u8]>,
+    depth: u32,
+) -> Result<Split, AllocError>
+    requires { depth ≤ 16 }
+    ensures splits { IfOk result (Splits formula.now (option_map (λ t. t.now) cubes.entry) depth) }
+    ensures within { IfOk result (StaysWithin formula.now.vars) }
+{
+    let _ = formula.vars();
+    match cubes {
+        Some(cubes) => read_split(alloc, formula, cubes),
+        None => Ok(Split::By(tree(alloc, formula, depth)?)),
+    }
+}

@@ -1,0 +1,61 @@
+//! What a run begins with: the formula of its input, and the tree by which it is split.
+
+ghost use Rattle.std.specs.Prelude.{◌≡◌, IfOk, option_map};
+ghost use Rattle.node_main.specs.Reports.{input_fault_text};
+ghost use Rattle.node_main.specs.Solving.{AreOptions, IsRefused};
+ghost use Rattle.node_main.specs.Starting.{Starts};
+
+use crate::options::Options;
+use crate::report::{Report, faulty_cubes, faulty_input, other_formula};
+use crate::splitting::{Split, split_of};
+use dimacs::{DimacsFault, Formula, Kind};
+use icnf::Tree;
+use std::alloc::{AllocError, Global};
+
+/// What a run begins with.
+#[derive(Drop)]
+pub(crate) enum Start {
+    /// The formula of the input, split so.
+    With(Formula, Tree),
+    /// The input or the cubes are refused: what is reported of them.
+    Refused(Report),
+}
+
+/// The report of a fault of the input.
+pub(crate) fn refused_input(
+    alloc: Global,
+    fault: DimacsFault,
+    options: &Options,
+) -> Result<Report, AllocError>
+    ensures { IfOk result (IsRefused (input_fault_text fault) options.now) }
+{
+    if options.quiet {
+        Report::of(alloc, b"", 1)
+    } else {
+        faulty_input(alloc, fault)
+    }
+}
+
+/// Reads a formula, and splits it by the cubes of an iCNF text or by the split rule.
+pub(crate) fn begin(
+    alloc: Global,
+    input: &[u8],
+    cubes: Option<&[u8]>,
+    options: &Options,
+) -> Result<Start, AllocError>
+    requires { AreOptions options.now }
+    ensures { IfOk result (Starts input.now (option_map (λ t. t.now) cubes.entry) options.now) }
+{
+    let formula = match dimacs::read(alloc, input) {
+        Ok(formula) => formula,
+        Err(fault) if fault.kind == Kind::NoMemory => return Err(AllocError),
+        Err(fault) => return Ok(Start::Refused(refused_input(alloc, fault, options)?)),
+    };
+    let report = match split_of(alloc, &formula, cubes, options.depth)? {
+        Split::By(tree) => return Ok(Start::With(formula, tree)),
+        Split::Faulty(_) | Split::OtherFormula if options.quiet => Report::of(alloc, b"", 1)?,
+        Split::Faulty(fault) => faulty_cubes(alloc, fault)?,
+        Split::OtherFormula => other_formula(alloc)?,
+    };
+    Ok(Start::Refused(report))
+}

@@ -1,0 +1,111 @@
+//! `solve`, `serve` and `work`: opens the links, runs over them, and writes the proof.
+
+ghost use Rattle.node_main.specs.Solving.{AreOptions};
+
+use crate::accepting::accept_workers;
+use crate::files::{no_memory, read, read_cubes, refused};
+use crate::proof_file::write_proof;
+use links::{Counted, Joined, Loopback};
+use node_main::{Options, Refusal, Report, run_serve, run_solve, run_work};
+use std::io;
+use std::net::{Ipv4Addr, Net, SocketAddr, TcpListener};
+use std::rt::Runtime;
+
+/// The files of a run.
+#[derive(Clone, Copy)]
+pub(crate) struct Files<'a> {
+    pub(crate) input: &'a str,
+    pub(crate) cubes: Option<&'a str>,
+    pub(crate) proof: Option<&'a str>,
+}
+
+fn not_linked(error: io::Error) -> Refusal {
+    refused(error, Refusal::Links)
+}
+
+/// The text of the cubes, where there are some.
+fn lent(cubes: &Option<Vec<u8>>) -> Option<&[u8]> {
+    match cubes {
+        Some(bytes) => Some(bytes.as_slice()),
+        None => None,
+    }
+}
+
+/// The report, once its proof is written, where there is one and a file for it.
+fn kept<R: Runtime + AllocGlobal>(
+    rt: &R,
+    report: Report,
+    files: &Files,
+) -> Result<Report, Refusal> {
+    match (files.proof, &report.proof) {
+        (Some(path), Some(bytes)) => {
+            write_proof(rt, path, bytes.as_slice(), files.input, files.cubes)?
+        }
+        _ => {}
+    }
+    Ok(report)
+}
+
+/// Decides a formula in this process, over connections of its own.
+pub(crate) fn solve<R: Runtime + AllocGlobal + Net>(
+    rt: &R,
+    files: &Files,
+    options: &Options,
+) -> Result<Report, Refusal>
+    requires { AreOptions options.now }
+{
+    let input = read(rt, files.input, Refusal::Input)?;
+    let cubes = read_cubes(rt, files.cubes)?;
+    let carrier = Loopback::open(rt, rt.alloc(), options.workers).map_err(not_linked)?;
+    let mut links = Counted::new(carrier);
+    let run = run_solve(
+        rt.alloc(),
+        input.as_slice(),
+        lent(&cubes),
+        options,
+        &mut links,
+    );
+    kept(rt, run.map_err(no_memory)?, files)
+}
+
+/// Decides a formula by workers that connect to a port. The listener is kept to the end, so that a worker who comes late waits
+/// for it, and is not refused.
+pub(crate) fn serve<R: Runtime + AllocGlobal + Net>(
+    rt: &R,
+    port: u16,
+    files: &Files,
+    options: &Options,
+) -> Result<Report, Refusal>
+    requires { AreOptions options.now }
+{
+    let input = read(rt, files.input, Refusal::Input)?;
+    let cubes = read_cubes(rt, files.cubes)?;
+    let at = SocketAddr::from((Ipv4Addr::LOCALHOST, port));
+    let listener = TcpListener::bind(rt, at).map_err(not_linked)?;
+    let carrier = accept_workers::<R>(rt.alloc(), &listener, options.workers)?;
+    let mut links = Counted::new(carrier);
+    let run = run_serve(
+        rt.alloc(),
+        input.as_slice(),
+        lent(&cubes),
+        options,
+        &mut links,
+    );
+    kept(rt, run.map_err(no_memory)?, files)
+}
+
+/// Works for whoever serves the formula at a port.
+pub(crate) fn work<R: Runtime + AllocGlobal + Net>(
+    rt: &R,
+    port: u16,
+    files: &Files,
+    options: &Options,
+) -> Result<Report, Refusal>
+    requires { AreOptions options.now }
+{
+    let input = read(rt, files.input, Refusal::Input)?;
+    let carrier = Joined::connect(rt, port).map_err(not_linked)?;
+    let mut links = Counted::new(carrier);
+    let run = run_work(rt.alloc(), input.as_slice(), options, &mut links);
+    kept(rt, run.map_err(no_memory)?, files)
+}
