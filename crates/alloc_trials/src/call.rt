@@ -1,0 +1,42 @@
+//! A call that may find no memory, and the same call again.
+
+/// What a call answers.
+#[derive(Drop)]
+pub(crate) enum Answer {
+    /// Memory was wanting.
+    NoMemory,
+    /// Memory was wanting, and something is not as it was before the call.
+    Changed,
+    /// Words for what it answered.
+    Said(&'static str),
+    /// What it made.
+    Made(Vec<u8>),
+}
+
+/// What a call answered, the second time where it was made twice.
+#[derive(Drop)]
+pub(crate) struct Tried {
+    /// Whether memory was wanting the first time.
+    pub(crate) was_refused: bool,
+    pub(crate) answer: Answer,
+}
+
+/// A call that can be made again.
+pub(crate) trait Call {
+    /// Makes it.
+    fn make(&mut self) -> Answer;
+}
+
+/// Makes a call, and makes it again where memory was wanting.
+pub(crate) fn try_twice<C: Call>(call: &mut C) -> Tried {
+    match call.make() {
+        Answer::NoMemory => Tried {
+            was_refused: true,
+            answer: call.make(),
+        },
+        answer => Tried {
+            was_refused: false,
+            answer,
+        },
+    }
+}

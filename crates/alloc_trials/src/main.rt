@@ -1,0 +1,67 @@
+//! Makes calls that are named, each once more where memory was wanting, and prints what they answer.
+//!
+//! Run with one allocation refused, a call answers `no memory`, and then what it answers with ample memory.
+#![tactic(auto)]
+
+mod call;
+mod checks;
+mod joining;
+mod machines;
+mod reports;
+mod searches;
+
+use call::{Answer, Tried};
+use std::alloc::Global;
+use std::io::Write;
+use std::process::ExitCode;
+use std::rt::Runtime;
+use std::{env, io};
+
+/// Makes the call of this name; none where memory was wanting before it.
+fn try_call(alloc: Global, name: &str) -> Option<Tried> {
+    match name {
+        "search_four" => searches::four(alloc),
+        "search_eight" => searches::eight(alloc),
+        "search_under_a_cube" => searches::under_a_cube(alloc),
+        "check" => checks::checked(alloc),
+        "fragment" => checks::closed(alloc),
+        "join_of_lines" => joining::joined_lines(alloc),
+        "join_with_deletions" => joining::joined_deletions(alloc),
+        "last_part" => machines::last_part(alloc),
+        "last_piece" => machines::last_piece(alloc),
+        "run_of_units" => reports::units(alloc),
+        "run_of_four" => reports::four(alloc),
+        _ => None,
+    }
+}
+
+/// Prints what came of a call.
+fn print<W: Write>(out: &mut W, tried: &Tried) -> io::Result<()> {
+    if tried.was_refused {
+        out.write_all(b"no memory, then\n")?;
+    }
+    match &tried.answer {
+        Answer::NoMemory => out.write_all(b"NO MEMORY\n"),
+        Answer::Changed => out.write_all(b"CHANGED\n"),
+        Answer::Said(text) => out.write_all(text.as_bytes()),
+        Answer::Made(text) => out.write_all(text.as_slice()),
+    }
+}
+
+fn run<R: Runtime + AllocGlobal>(rt: &R) -> io::Result<()> {
+    let mut out = io::writer(rt);
+    for name in env::args(rt)?.skip(1) {
+        match try_call(rt.alloc(), name.as_str()) {
+            Some(tried) => print(&mut out, &tried)?,
+            None => out.write_all(b"no memory before\n")?,
+        }
+    }
+    out.flush()
+}
+
+fn main(rt: HostRuntime) -> ExitCode {
+    match run(&rt) {
+        Ok(()) => ExitCode::SUCCESS,
+        Err(_) => ExitCode::from(1),
+    }
+}

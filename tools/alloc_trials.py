@@ -1,0 +1,246 @@
+#!/usr/bin/env python3
+"""Refuses each allocation of a run in turn: the first, the second, and so on, until a run meets no refusal.
+
+    tools/alloc_trials.py [--only WORD] [PATH-OF-satcluster PATH-OF-alloc_trials]
+
+Each run answers what it answers with ample memory, or says that memory is wanting and leaves every file as it was; `alloc_trials` makes
+the call once more after a refusal, and answers then what it answers with ample memory. Tells how many allocations each trial has, a line
+each, and ends with status 1 at the first that gives another answer. Needs gcc: a library that is loaded before the C library counts what
+is asked of `malloc` and `realloc`.
+"""
+import os
+import subprocess
+import sys
+import tempfile
+
+SECONDS = 60
+
+CRATES = os.path.join(os.path.dirname(os.path.abspath(__file__)), "..", "crates")
+
+# The programs, where `rt run` has built them.
+BUILT = [os.path.join(CRATES, name, "out", name) for name in ["satcluster", "alloc_trials"]]
+
+# A request for less room is counted too. At its end the program says how many requests it made; nothing else goes to standard error.
+COUNTER = r"""
+#include <errno.h>
+#include <stddef.h>
+#include <stdio.h>
+#include <stdlib.h>
+#include <unistd.h>
+
+extern void *__libc_malloc(size_t size);
+extern void *__libc_realloc(void *old, size_t size);
+
+static unsigned long refused, asked;
+
+__attribute__((constructor)) static void begin(void) {
+    const char *number = getenv("REFUSED_ALLOCATION");
+    refused = number ? strtoul(number, NULL, 10) : 0;
+    asked = 0;
+}
+
+__attribute__((destructor)) static void end(void) {
+    char text[32];
+    int length = snprintf(text, sizeof text, "%lu\n", asked);
+    if (write(2, text, length) != length) _exit(99);
+}
+
+static int is_refused(void) {
+    if (++asked != refused) return 0;
+    errno = ENOMEM;
+    return 1;
+}
+
+void *malloc(size_t size) { return is_refused() ? NULL : __libc_malloc(size); }
+void *realloc(void *old, size_t size) { return is_refused() ? NULL : __libc_realloc(old, size); }
+"""
+
+FILES = {
+    "four.cnf": "p cnf 2 4\n1 2 0\n-1 2 0\n1 -2 0\n-1 -2 0\n",
+    "eight.cnf": "p cnf 3 8\n1 2 3 0\n1 2 -3 0\n1 -2 3 0\n1 -2 -3 0\n-1 2 3 0\n-1 2 -3 0\n-1 -2 3 0\n-1 -2 -3 0\n",
+    "pure.cnf": "p cnf 3 5\n1 2 0\n-1 2 0\n1 -2 0\n-1 -2 0\n3 1 0\n",
+    "units.cnf": "p cnf 2 2\n1 0\n-2 0\n",
+    "not_ended.cnf": "p cnf 2 2\n1 2 0\n-1",
+    "four.lrat": "5 2 0 1 2 0\n6 0 5 3 4 0\n",
+    "groups.lrat": "5 3 -1 -2 0 0\n6 -3 1 0 -5 0\n7 -3 2 0 -5 0\n8 2 0 1 2 0\n9 0 8 3 4 0\n",
+    "unfinished.lrat": "5 2 0 1 2 0\n",
+    "halves.icnf": "p inccnf\n1 2 0\n-1 2 0\n1 -2 0\n-1 -2 0\na 1 0\na -1 0\n",
+    "kept": "what a file held before\n",
+}
+
+# Where a proof is written.
+PROOF = "kept"
+
+# The words of a run, the first line of what it prints with ample memory, and its status then.
+RUNS = [
+    ("--help", None, 0),
+    ("solve --depth 17 four.cnf", "c usage", 1),
+    ("solve nothing.cnf", "c cannot read input", 1),
+    ("solve not_ended.cnf", "c input line 3 fault 5", 1),
+    ("check four.cnf four.lrat", "s VERIFIED", 0),
+    ("check four.cnf groups.lrat", "s VERIFIED", 0),
+    ("check four.cnf unfinished.lrat", "s NOT VERIFIED", 1),
+    ("cubes --depth 2 four.cnf", "p inccnf", 0),
+    ("solve --workers 1 --depth 0 units.cnf", "s SATISFIABLE", 10),
+    ("solve --workers 2 --depth 1 -q -n units.cnf", "s SATISFIABLE", 10),
+    ("solve --workers 2 --depth 1 four.cnf kept", "s UNSATISFIABLE", 20),
+    ("solve --workers 1 --cubes halves.icnf four.cnf kept", "s UNSATISFIABLE", 20),
+    ("solve --workers 1 --depth 0 pure.cnf kept", "s UNSATISFIABLE", 20),
+    ("solve --workers 1 --depth 0 --limit 2 eight.cnf kept", "s UNSATISFIABLE", 20),
+    ("solve --cubes halves.icnf eight.cnf", "c cubes of another formula", 1),
+    ("drill --seed 7 --turns 30 four.cnf", "c turns 30 refused 0 disagreements 0", 0),
+]
+
+# The calls that `alloc_trials` makes, and the last line of what it prints with ample memory.
+CALLS = [
+    ("search_four", "6 0 5 2 4 0"),
+    ("search_eight", "12 0 10 11 5 6 0"),
+    ("search_under_a_cube", "5 -1 0 2 4 0"),
+    ("check", "accepted"),
+    ("fragment", "accepted"),
+    ("join_of_lines", "7 0 5 6 0"),
+    ("join_with_deletions", "9 0 5 8 0"),
+    ("last_part", "the proof is held"),
+    ("last_piece", "the proof is held"),
+    ("run_of_units", "v 1 -2 0"),
+    ("run_of_four", "7 0 5 6 0"),
+]
+
+NO_MEMORY = "c no memory\n"
+
+# The moments at which memory may be wanting.
+AT_CALL = "at the call"
+BEFORE = "before the call"
+
+
+class Differs(Exception):
+    """A run that answers something else."""
+
+
+class Trials:
+    """Runs with a refused allocation, in a folder of their own."""
+
+    def __init__(self, folder):
+        self.folder = os.path.join(folder, "files")
+        self.counter = os.path.join(folder, "counter.so")
+        os.mkdir(self.folder)
+        source = os.path.join(folder, "counter.c")
+        with open(source, "w") as text:
+            text.write(COUNTER)
+        subprocess.run(["gcc", "-O1", "-shared", "-fPIC", "-o", self.counter, source], check=True)
+
+    def lay(self):
+        """Writes the files, and takes away all others."""
+        for name in os.listdir(self.folder):
+            if name not in FILES:
+                os.remove(os.path.join(self.folder, name))
+        for name, text in FILES.items():
+            with open(os.path.join(self.folder, name), "w") as file:
+                file.write(text)
+
+    def found(self):
+        """What each file holds."""
+        held = {}
+        for name in os.listdir(self.folder):
+            with open(os.path.join(self.folder, name)) as file:
+                held[name] = file.read()
+        return held
+
+    def answer(self, program, words, refused):
+        """Status, printed text and files of a run, and how many allocations it asked for. None is refused at 0."""
+        self.lay()
+        run = subprocess.run(
+            [program, *words],
+            cwd=self.folder,
+            env={"LD_PRELOAD": self.counter, "REFUSED_ALLOCATION": str(refused)},
+            capture_output=True,
+            timeout=SECONDS,
+        )
+        try:
+            asked = int(run.stderr)
+        except ValueError:
+            raise Differs("standard error has %r" % run.stderr)
+        return (run.returncode, run.stdout.decode(), self.found()), asked
+
+    def each_refused(self, name, program, words, wanted):
+        """Refuses each allocation in turn, and gives back the answer with ample memory. `wanted` says at which moment memory was wanting
+        where the answer is another, and nothing where it is none of the allowed ones."""
+        ample, _ = self.answer(program, words, 0)
+        moments = {AT_CALL: 0, BEFORE: 0}
+        refused = 1
+        while True:
+            found, asked = self.answer(program, words, refused)
+            if asked < refused:
+                break
+            if found != ample:
+                moment = wanted(found, ample)
+                if moment is None:
+                    raise Differs("%s, allocation %d refused: %r" % (name, refused, found[:2]))
+                moments[moment] += 1
+            refused += 1
+        if found != ample:
+            raise Differs("%s, no allocation refused: %r" % (name, found[:2]))
+        if moments[AT_CALL] == 0:
+            raise Differs("%s never wants memory" % name)
+        counts = (name, refused - 1, moments[AT_CALL], moments[BEFORE])
+        print("ok: %s: of %d allocations %d were wanted, and %d before the call" % counts, flush=True)
+        return ample
+
+
+def program_wants(words):
+    """What tells whether a run of the program says that memory is wanting, and has changed no file. With -q nothing need be printed."""
+
+    def wanted(found, _ample):
+        allowed = [(1, NO_MEMORY, FILES)] + [(1, "", FILES)] * ("-q" in words)
+        return AT_CALL if found in allowed else None
+
+    return wanted
+
+
+def call_wants(found, ample):
+    """Tells whether memory was wanting before the call, or at it, and the same call answered then as with ample memory."""
+    status, text, files = ample
+    if found == (status, "no memory, then\n" + text, files):
+        return AT_CALL
+    if found in [(status, "no memory before\n", files), (1, "", files)]:
+        return BEFORE
+    return None
+
+
+def try_program(trials, program, only):
+    for run, line, status in RUNS:
+        if only not in run:
+            continue
+        words = run.split()
+        ample = trials.each_refused(run, program, words, program_wants(words))
+        if ample[0] != status or line is not None and ample[1].splitlines()[0] != line:
+            raise Differs("%s: %r" % (run, ample[:2]))
+
+
+def try_calls(trials, program, only):
+    for call, line in CALLS:
+        if only not in call:
+            continue
+        ample = trials.each_refused(call, program, [call], call_wants)
+        if ample[0] != 0 or ample[1].splitlines()[-1] != line:
+            raise Differs("%s: %r" % (call, ample[:2]))
+
+
+def main(words):
+    only = ""
+    if words[:1] == ["--only"]:
+        only, words = words[1], words[2:]
+    programs = [os.path.abspath(word) for word in words] or BUILT
+    if len(programs) != 2:
+        sys.exit(__doc__)
+    with tempfile.TemporaryDirectory() as folder:
+        trials = Trials(folder)
+        try:
+            try_program(trials, programs[0], only)
+            try_calls(trials, programs[1], only)
+        except Differs as difference:
+            print("DIFFERS: %s" % difference)
+            sys.exit(1)
+
+
+main(sys.argv[1:])
