@@ -21,6 +21,12 @@ CLAIMS = [
         [("node_main", "run_check", ["truth"])],
     ),
     (
+        "`s SATISFIABLE` and `s UNSATISFIABLE` are true",
+        "Where a run of `solve`, `serve` or `work` ends with status 10 an assignment satisfies the formula that the input spells, and with status 20 "
+        "none does, whatever the links bring.",
+        [("node_main", "run_solve", ["truth"]), ("node_main", "run_serve", ["truth"]), ("node_main", "run_work", ["truth"])],
+    ),
+    (
         "What a node holds is true, and nodes agree",
         "Whatever events come to the nodes of a cluster, what each holds is true of its formula, and nodes of one formula never "
         "hold verdicts that differ.",

@@ -1,0 +1,230 @@
+#!/usr/bin/env python3
+"""Runs a coordinator and workers as processes of one machine, over ports of 127.0.0.1 that are free.
+
+    tools/cluster.py PATH-OF-satcluster
+
+Tells what it tests, a line each, and ends with status 1 at the first difference. What is tested here no contract can say: that
+sockets are opened, that peers who come, go and send anything else are met as they should be, and that nothing else is printed.
+"""
+import itertools
+import os
+import signal
+import socket
+import subprocess
+import sys
+import tempfile
+import time
+
+# How long a process may take.
+SECONDS = 120
+# How long the formula of a run takes in which a node is killed, at least.
+LONG = 1.5
+
+
+def pigeons(holes):
+    """One pigeon more than there are holes: each has a hole, and no hole has two. Nothing satisfies it."""
+    at = lambda pigeon, hole: pigeon * holes + hole + 1
+    clauses = [[at(p, h) for h in range(holes)] for p in range(holes + 1)]
+    for hole in range(holes):
+        for first, second in itertools.combinations(range(holes + 1), 2):
+            clauses.append([-at(first, hole), -at(second, hole)])
+    return dimacs((holes + 1) * holes, clauses)
+
+
+def dimacs(variables, clauses):
+    lines = ["p cnf %d %d" % (variables, len(clauses))]
+    lines += [" ".join(map(str, clause + [0])) for clause in clauses]
+    return "\n".join(lines) + "\n"
+
+
+def idle(worker, incarnation):
+    """The frame by which a worker says that it has nothing to do."""
+    payload = worker.to_bytes(4, "big") + incarnation.to_bytes(8, "big")
+    return b"CC\x08" + len(payload).to_bytes(2, "big") + payload
+
+
+def free_port():
+    with socket.socket() as listener:
+        listener.bind(("127.0.0.1", 0))
+        return listener.getsockname()[1]
+
+
+def wait_for(what, holds):
+    end = time.monotonic() + SECONDS
+    while not holds():
+        if time.monotonic() > end:
+            differs(what, "in time", "never")
+        time.sleep(0.01)
+
+
+def sockets_at(port, state):
+    """How many sockets at this port of 127.0.0.1 are in a state: `0A` listens, `01` is connected."""
+    with open("/proc/net/tcp") as table:
+        rows = [line.split() for line in list(table)[1:]]
+    return sum(row[1] == "0100007F:%04X" % port and row[3] == state for row in rows)
+
+
+def differs(what, wanted, found):
+    print("DIFFERS: %s: wanted %r, found %r" % (what, wanted, found))
+    for process in running:
+        process.kill()
+    sys.exit(1)
+
+
+def same(what, wanted, found):
+    if wanted != found:
+        differs(what, wanted, found)
+
+
+def ok(what):
+    print("ok: " + what)
+
+
+running = []
+
+
+class Cluster:
+    """The program, in a folder with the files of the formulas."""
+
+    def __init__(self, program, folder):
+        self.program = os.path.abspath(program)
+        self.folder = folder
+
+    def write(self, name, text):
+        with open(os.path.join(self.folder, name), "w") as file:
+            file.write(text)
+
+    def start(self, *words):
+        process = subprocess.Popen(
+            [self.program, *map(str, words)],
+            cwd=self.folder,
+            stdout=subprocess.PIPE,
+            stderr=subprocess.PIPE,
+        )
+        running.append(process)
+        return process
+
+    def ends(self, what, process, status, text):
+        """The process ends with this status, has printed this text, and nothing on standard error."""
+        try:
+            out, err = process.communicate(timeout=SECONDS)
+        except subprocess.TimeoutExpired:
+            differs(what, "an end", "none after %d seconds" % SECONDS)
+        same(what, (status, text, ""), (process.returncode, out.decode(), err.decode()))
+
+    def serve(self, port, *words):
+        process = self.start("serve", "--port", port, *words)
+        wait_for("a coordinator listens", lambda: sockets_at(port, "0A") == 1)
+        return process
+
+    def verifies(self, formula, proof):
+        self.ends("check " + proof, self.start("check", formula, proof), 0, "s VERIFIED\n")
+
+
+def refused_links(cluster):
+    port = free_port()
+    worker = cluster.start("work", "--port", port, "two.cnf")
+    cluster.ends("a worker whom nobody serves", worker, 1, "c cannot open links\n")
+    worker = cluster.start("work", "--port", port, "-q", "two.cnf")
+    cluster.ends("the same with -q", worker, 1, "")
+    first = cluster.serve(port, "--workers", 1, "two.cnf")
+    second = cluster.start("serve", "--port", port, "--workers", 1, "two.cnf")
+    cluster.ends("a port that is taken", second, 1, "c cannot open links\n")
+    worker = cluster.start("work", "--port", port, "two.cnf")
+    cluster.ends("a worker with a model", worker, 10, "s SATISFIABLE\nv 1 -2 0\n")
+    cluster.ends("its coordinator", first, 10, "s SATISFIABLE\nv 1 -2 0\n")
+    ok("links that cannot be opened, and a port that is taken")
+
+
+def closed_peers(cluster):
+    port = free_port()
+    coordinator = cluster.serve(port, "--workers", 2, "-n", "two.cnf")
+
+    def is_closed(what, *pieces):
+        with socket.create_connection(("127.0.0.1", port)) as peer:
+            peer.settimeout(SECONDS)
+            try:
+                for piece in pieces:
+                    peer.sendall(piece)
+                    time.sleep(0.05)
+                found = peer.recv(1)
+            except (ConnectionResetError, BrokenPipeError):
+                found = b""
+            same(what, b"", found)
+
+    is_closed("a peer with garbage", b"garbage\n")
+    is_closed("a worker that is not waited for", idle(3, 1))
+    is_closed("a frame that is not Idle", b"CC\x09\x00\x00")
+    with socket.create_connection(("127.0.0.1", port)):
+        pass
+    second = cluster.start("work", "--port", port, "--number", 2, "-n", "two.cnf")
+    wait_for("a worker is linked", lambda: sockets_at(port, "01") == 1)
+    is_closed("a worker that is linked already, in two pieces", idle(2, 7)[:5], idle(2, 7)[5:])
+    first = cluster.start("work", "--port", port, "--ahead", "-n", "two.cnf")
+    for what, process in (("first", first), ("second", second), ("coordinator", coordinator)):
+        cluster.ends("after peers that were closed, the " + what, process, 10, "s SATISFIABLE\n")
+    ok("peers that send anything but Idle of a worker that is waited for are closed")
+
+
+def lost_worker(cluster):
+    port = free_port()
+    coordinator = cluster.serve(port, "--workers", 2, "--depth", 3, "pigeons.cnf", "served.lrat")
+    first = cluster.start("work", "--port", port, "--number", 1, "pigeons.cnf")
+    second = cluster.start("work", "--port", port, "--number", 2, "pigeons.cnf", "worked.lrat")
+    wait_for("both are linked", lambda: sockets_at(port, "01") == 2)
+    time.sleep(0.2)
+    same("the run goes on", (None, None, None), (coordinator.poll(), first.poll(), second.poll()))
+    first.send_signal(signal.SIGKILL)
+    first.communicate()
+    late = cluster.start("work", "--port", port, "--number", 1, "--incarnation", 2, "pigeons.cnf")
+    time.sleep(0.2)
+    same("the run goes on without it", None, coordinator.poll())
+    cluster.ends("the worker that is left", second, 20, "s UNSATISFIABLE\n")
+    cluster.ends("the coordinator", coordinator, 20, "s UNSATISFIABLE\n")
+    cluster.ends("a worker that came too late", late, 0, "s UNKNOWN\n")
+    cluster.verifies("pigeons.cnf", "served.lrat")
+    cluster.verifies("pigeons.cnf", "worked.lrat")
+    ok("a worker is killed, the other one brings the proof, and one that comes in its place is not taken")
+
+
+def lost_coordinator(cluster):
+    port = free_port()
+    coordinator = cluster.serve(port, "--workers", 1, "pigeons.cnf")
+    worker = cluster.start("work", "--port", port, "pigeons.cnf")
+    wait_for("it is linked", lambda: sockets_at(port, "01") == 1)
+    time.sleep(0.2)
+    same("the run goes on", (None, None), (coordinator.poll(), worker.poll()))
+    coordinator.send_signal(signal.SIGKILL)
+    coordinator.communicate()
+    cluster.ends("its worker", worker, 0, "s UNKNOWN\n")
+    ok("a coordinator is killed, and its worker knows nothing")
+
+
+def one_process(cluster):
+    """Three workers in one process; the formula that is solved is so great that this takes a while."""
+    for holes in range(4, 13):
+        cluster.write("pigeons.cnf", pigeons(holes))
+        begin = time.monotonic()
+        run = cluster.start("solve", "--workers", 3, "--depth", 3, "pigeons.cnf", "solved.lrat")
+        cluster.ends("solve", run, 20, "s UNSATISFIABLE\n")
+        if time.monotonic() - begin > LONG:
+            break
+    cluster.verifies("pigeons.cnf", "solved.lrat")
+    ok("three workers in one process; %d holes for %d pigeons" % (holes, holes + 1))
+
+
+def main():
+    if len(sys.argv) != 2:
+        sys.exit(__doc__)
+    with tempfile.TemporaryDirectory() as folder:
+        cluster = Cluster(sys.argv[1], folder)
+        cluster.write("two.cnf", dimacs(2, [[1], [-2]]))
+        try:
+            for test in (refused_links, closed_peers, one_process, lost_worker, lost_coordinator):
+                test(cluster)
+        finally:
+            for process in running:
+                process.kill()
+
+
+main()
