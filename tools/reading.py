@@ -3,6 +3,9 @@
 
     tools/reading.py           writes the page
     tools/reading.py --check   fails where the page is stale
+
+Both fail where a definition stands on the wrong side: `specs` holds what contracts of public calls name, directly or not, and
+`specs/inner` what only private contracts, invariants and proofs name.
 """
 
 import re
@@ -83,10 +86,10 @@ class Spec:
                 comment, name = [], None
             elif line.startswith("--"):
                 comment.append(line)
-            elif line.startswith(" ") and name:
-                self.blocks[name].append(line)
-            else:
-                name = re.match(r"(?:(?:abbrev|pub|record|data) )*(\S+)", line).group(1)
+            elif re.match(r"[ }\]]", line):
+                self.blocks.get(name, []).append(line)
+            elif not line.startswith("infix"):
+                name = re.match(r"(?:(?:abbrev|unfoldable|pub|record|data) )*(\S+)", line).group(1)
                 self.blocks.setdefault(name, []).extend(comment + [line])
                 comment = []
 
@@ -177,6 +180,85 @@ def contract(crate, function, clauses):
     raise SystemExit(f"no contract {crate}::{function} with {clauses}")
 
 
+class Source:
+    """A file of code: the clauses of its public contracts, and what values of its public types are."""
+
+    def __init__(self, path, exported):
+        self.names, self.modules = imports(path.read_text())
+        self.lines = path.read_text().splitlines()
+        self.clauses = []
+        owner, is_trait = None, False
+        for at, line in enumerate(self.lines):
+            begun = re.match(r"(?:pub )?(impl|trait)\b(?:<[^>]*>)? ?(?:.* for )?(\w+)", line)
+            if begun:
+                owner, is_trait = begun.group(2), begun.group(1) == "trait"
+                is_instance = " for " in line
+            elif line.startswith("}"):
+                owner = None
+            ghost = re.match(r"\s+ghost (\w+)(?: =|:) \{", line)
+            if ghost and owner in exported and (is_trait or ghost.group(1) in ("Value", "view")):
+                self.clauses += self.braced(at)
+            call = re.match(r"\s*(pub )?(?:const )?(?:unsafe )?fn (\w+)", line)
+            if not call:
+                continue
+            is_public = owner in exported and (is_trait or bool(call.group(1)) and not is_instance) if owner else call.group(2) in exported
+            if is_public:
+                self.clauses += self.contract(at)
+
+    def braced(self, at):
+        """The lines from there up to the closing brace."""
+        depth, taken = 0, []
+        for line in self.lines[at:]:
+            taken.append(line)
+            depth += line.count("{") - line.count("}")
+            if depth == 0:
+                return taken
+
+    def contract(self, at):
+        """The clauses of the function that begins there."""
+        taken, within = [], False
+        for line in self.lines[at:]:
+            if re.match(r"\s*\{\s*$", line):
+                break
+            within = within or bool(re.match(r"\s*(requires|ensures)\b", line))
+            if within and not line.strip().startswith("//"):
+                taken.append(line)
+            if line.rstrip().endswith(";") or not within and line.rstrip().endswith("{"):
+                break
+        return taken
+
+
+def exports(crate):
+    """The names that a crate hands out."""
+    root = crate / "src" / "lib.rt"
+    if not root.exists():
+        return set()
+    names = set()
+    for several, one in re.findall(r"^pub use [\w:]+?::(?:\{([^}]*)\}|(\w+));", root.read_text(), re.M):
+        names |= {name.strip() for name in (several or one).split(",") if name.strip()}
+    return names
+
+
+def misplaced():
+    """The definitions that stand on the wrong side."""
+    found = []
+    for crate in sorted((ROOT / "crates").iterdir()):
+        for path in sorted(crate.glob("src/**/*.rt")):
+            source = Source(path, exports(crate))
+            reach(words(source.clauses), source.names, source.modules, None, found, [])
+    believed, wrong = set(found), []
+    for path in sorted((ROOT / "crates").glob("*/specs/**/*.antt")):
+        # a file of modules has no definitions, and an operator is no word
+        if path.name == "Lib.antt" or path.with_suffix("").is_dir():
+            continue
+        module = path.relative_to(ROOT / "crates").with_suffix("")
+        here = spec("Rattle." + ".".join(module.parts))
+        for name in here.blocks:
+            if IDENT.match(name) and ((path, name) in believed) == ("inner" in module.parts):
+                wrong.append(f"{module}: {name}")
+    return wrong
+
+
 def typed(kind):
     crate, parts = kind
     return f"`{crate}::{parts[-1] if parts[-1] != 'TheVariants' else parts[-2]}`"
@@ -221,6 +303,9 @@ def spec_of(path):
 
 def main():
     text = page()
+    wrong = misplaced()
+    if wrong:
+        raise SystemExit("believed, and in specs/inner, or not, and in specs:\n" + "\n".join(wrong))
     if "--check" in sys.argv[1:]:
         if not PAGE.exists() or PAGE.read_text() != text:
             raise SystemExit("docs/READING.md is stale: run tools/reading.py")

@@ -1,1 +1,1 @@
-mod LeafLemmas
+pub mod SmallConflict

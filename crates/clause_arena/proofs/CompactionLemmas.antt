@@ -13,10 +13,12 @@ use Rattle.std.proofs.lemmas.List.Elements.{Contains-get_or}
 use Rattle.dimacs.specs.logic.Literal.{Literal, Clause, same}
 use Rattle.clause_arena.specs.declared.reference.Ref.{Ref}
 use Rattle.clause_arena.specs.declared.slots.Slot.{Slot}
-use Rattle.clause_arena.specs.Slots.{Slots, near_entries, slots_of, IsApart}
-use Rattle.clause_arena.specs.Contents.{clause_at, value_at, entry_at, contents, slot_of, IsPlaced, IsArena}
+use Rattle.clause_arena.specs.Slots.{Slots}
+use Rattle.clause_arena.specs.inner.Slots.{near_entries, slots_of, IsApart}
+use Rattle.clause_arena.specs.Contents.{clause_at, value_at, entry_at, contents}
+use Rattle.clause_arena.specs.inner.Contents.{slot_of, IsPlaced, IsArena}
 use Rattle.clause_arena.specs.Compaction.{literals_of, literals_in, HasMoved, IsCompacted}
-use Rattle.clause_arena.specs.Packing.{ref_of, refs_of, gathered, moves_from, moved_by}
+use Rattle.clause_arena.specs.inner.Packing.{ref_of, refs_of, gathered, moves_from, moved_by}
 use Rattle.clause_arena.proofs.ContentLemmas.{get-contents, length-clause_at, here, slot_found}
 use Rattle.clause_arena.proofs.SortedLemmas.{both, first_of_both, second_of_both, entries-slots_of, entries-from_entries}
 use Rattle.clause_arena.proofs.PackingLemmas.{packed, packed_over, unpacked_none, moved_find, all_placed, placed_at, CameFrom, carried, packed_apart}

@@ -11,7 +11,8 @@ use Rattle.clause_arena.specs.declared.reference.Ref.{Ref}
 use Rattle.clause_arena.specs.declared.slots.Slot.{Slot}
 use Rattle.clause_arena.specs.Slots.{Slots}
 use Rattle.clause_arena.specs.Clauses.{Clauses, Stands, IsLive}
-use Rattle.clause_arena.specs.Contents.{clause_at, value_at, entry_at, contents, IsPlaced, slot_of, IsArena}
+use Rattle.clause_arena.specs.Contents.{clause_at, value_at, entry_at, contents}
+use Rattle.clause_arena.specs.inner.Contents.{IsPlaced, slot_of, IsArena}
 use Rattle.clause_arena.proofs.SlotLemmas.{same_number}
 
 -- ---- what the contents have at a number

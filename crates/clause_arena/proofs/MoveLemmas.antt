@@ -8,8 +8,8 @@ use Rattle.std.proofs.lemmas.Bool.{eqb-false, ne_eqb}
 use Rattle.std.proofs.lemmas.List.Elements.{Contains-append_left, Contains-append_right, Contains-append_cases, Contains-get_or}
 use Rattle.clause_arena.specs.declared.reference.Ref.{Ref}
 use Rattle.clause_arena.specs.declared.slots.Slot.{Slot}
-use Rattle.clause_arena.specs.Contents.{slot_of}
-use Rattle.clause_arena.specs.Packing.{ref_of, moves_from}
+use Rattle.clause_arena.specs.inner.Contents.{slot_of}
+use Rattle.clause_arena.specs.inner.Packing.{ref_of, moves_from}
 use Rattle.clause_arena.proofs.SlotLemmas.{same_number, same_test}
 use Rattle.clause_arena.proofs.SortedLemmas.{first_of_both, second_of_both, found_above}
 use Rattle.clause_arena.proofs.PackingLemmas.{packed, slot_from, found_behind, found_whole}

@@ -11,8 +11,9 @@ use Rattle.dimacs.specs.logic.Literal.{Literal}
 use Rattle.clause_arena.specs.declared.reference.Ref.{Ref}
 use Rattle.clause_arena.specs.declared.slots.Slot.{Slot}
 use Rattle.clause_arena.specs.Slots.{Slots}
-use Rattle.clause_arena.specs.Contents.{clause_at, slot_of, IsPlaced}
-use Rattle.clause_arena.specs.Packing.{ref_of, gathered, moves_from, moved_by}
+use Rattle.clause_arena.specs.Contents.{clause_at}
+use Rattle.clause_arena.specs.inner.Contents.{slot_of, IsPlaced}
+use Rattle.clause_arena.specs.inner.Packing.{ref_of, gathered, moves_from, moved_by}
 use Rattle.clause_arena.proofs.SlotLemmas.{same_number, same_test, apart_test}
 use Rattle.clause_arena.proofs.SortedLemmas.{first_of_both, second_of_both, found_above, none_after}
 use Rattle.clause_arena.proofs.ContentLemmas.{length-clause_at}

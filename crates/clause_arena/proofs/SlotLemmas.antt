@@ -12,7 +12,8 @@ use Rattle.std.proofs.lemmas.List.{get_or_past}
 use Rattle.std.proofs.lemmas.Map.Views.{tells_apart}
 use Rattle.std.proofs.lemmas.Map.Lookups.{exact_unsigned}
 use Rattle.clause_arena.specs.declared.slots.Slot.{Slot}
-use Rattle.clause_arena.specs.Slots.{Slots, near_entries, slots_of, IsApart}
+use Rattle.clause_arena.specs.Slots.{Slots}
+use Rattle.clause_arena.specs.inner.Slots.{near_entries, slots_of, IsApart}
 
 -- ---- tests of numbers
 pub same_test : (q n : ℕ) → q ≡ n → eq_by_cmp nat_cmp q n ≡ true

@@ -13,7 +13,8 @@ use Rattle.dimacs.specs.logic.Literal.{Literal, Clause, same, Pos}
 use Rattle.dimacs.proofs.LiteralLemmas.{same-flips}
 use Rattle.clause_arena.specs.declared.slots.Slot.{Slot}
 use Rattle.clause_arena.specs.Slots.{Slots}
-use Rattle.clause_arena.specs.Contents.{clause_at, value_at, contents, IsArena}
+use Rattle.clause_arena.specs.Contents.{clause_at, value_at, contents}
+use Rattle.clause_arena.specs.inner.Contents.{IsArena}
 use Rattle.clause_arena.proofs.SlotLemmas.{same_number, same_test}
 use Rattle.clause_arena.proofs.ContentLemmas.{get-contents, same_clauses, same_values, length-clause_at}
 

@@ -1,9 +1,7 @@
 -- What an arena holds.
 use Rattle.std.specs.Prelude.{◌≡◌, ℕ, Some, length}
-use Rattle.std.specs.Coded.{Coded, coded_ℕ, coded×, coded_list}
-use Rattle.std.specs.FinMap.{FinMap, get, code}
+use Rattle.std.specs.FinMap.{FinMap, get}
 use Rattle.std.specs.Ordering.{nat_cmp}
-use Rattle.dimacs.specs.layout.Codes.{literal_code}
 use Rattle.dimacs.specs.logic.ClauseMap.{Live}
 use Rattle.dimacs.specs.logic.Literal.{Clause}
 use Rattle.clause_arena.specs.declared.reference.Ref.{Ref}
@@ -23,7 +21,3 @@ Stands m at C = (get m at.number ≡ Some (at.place, C)) × (at.len ≡ length C
 -- `at` is where some live clause stands
 abbrev pub IsLive : Clauses → Ref → Type 0
 IsLive m at = (C : Clause) × Stands m at C
-
--- how such a map is told from another. Nothing here is to be believed
-abbrev pub clauses_code : Coded Clauses
-clauses_code = code coded_ℕ (coded× coded_ℕ (coded_list literal_code))

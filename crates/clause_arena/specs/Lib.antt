@@ -1,5 +1,5 @@
 pub mod Clauses
 pub mod Compaction
 pub mod Contents
-pub mod Packing
 pub mod Slots
+pub mod inner

@@ -1,32 +1,8 @@
--- Slots by numbers: at places of a table, and under keys of a map. Nothing here is to be believed.
-use Rattle.std.specs.Prelude.{◌≡◌, ℕ, ◌+◌, ◌<◌, List, [], ◌∷◌, ◌++◌, length, Option, Some, None, refl}
-use Rattle.std.specs.Coded.{Coded, code_by, coded_ℕ, coded×}
-use Rattle.std.specs.FinMap.{FinMap, from_entries, code}
+-- Slots by numbers.
+use Rattle.std.specs.FinMap.{FinMap}
 use Rattle.std.specs.Ordering.{nat_cmp}
-use Rattle.std.specs.BTreeMap as tree
-use Rattle.std.specs.BTreeMap.{BTreeMap}
 use Rattle.clause_arena.specs.declared.slots.Slot.{Slot}
 
 -- from the number of each live clause to its slot
 abbrev pub Slots : Type 0
 Slots = FinMap nat_cmp Slot
-
-abbrev pub slot_code : Coded Slot
-slot_code = code_by (ℕ × ℕ) (coded× coded_ℕ coded_ℕ) (λ s. (s.place, s.len)) (λ p. record { place = p.0; len = p.1 }) (λ _. refl)
-
-abbrev pub slots_code : Coded Slots
-slots_code = code coded_ℕ slot_code
-
--- the slots of the numbers from n on
-abbrev pub near_entries : ℕ → List (Option Slot) → List (ℕ × Slot)
-near_entries n [] = []
-near_entries n (None ∷ slots) = near_entries (n + 1) slots
-near_entries n (Some s ∷ slots) = (n, s) ∷ near_entries (n + 1) slots
-
--- the slots at places and under keys
-abbrev pub slots_of : List (Option Slot) → BTreeMap ℕ Slot → Slots
-slots_of near far = from_entries (near_entries 0 near ++ far.entries)
-
--- no number that has a place in the table is a key
-pub record IsApart (near : List (Option Slot)) (far : BTreeMap ℕ Slot) : Type 0 where
-  pub free : (q : ℕ) → q < length near → tree.get nat_cmp far q ≡ None

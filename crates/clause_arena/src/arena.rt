@@ -25,8 +25,10 @@ pub struct Arena {
 }
 
 impl Model for Arena {
-    ghost use Rattle.clause_arena.specs.Clauses.{Clauses, clauses_code};
-    ghost use Rattle.clause_arena.specs.Contents.{contents, IsArena};
+    ghost use Rattle.clause_arena.specs.Clauses.{Clauses};
+    ghost use Rattle.clause_arena.specs.inner.Clauses.{clauses_code};
+    ghost use Rattle.clause_arena.specs.Contents.{contents};
+    ghost use Rattle.clause_arena.specs.inner.Contents.{IsArena};
 
     ghost Value = { Clauses };
 

@@ -2,8 +2,9 @@
 
 ghost use Rattle.std.specs.Prelude.{◌≡◌, ℕ, ◌+◌, ◌^◌, ◌<◌, ◌≤◌, ◌++◌, length, take, vec_len, slice_index_or, sum_by, IfOk, OnOk, OnErr};
 ghost use Rattle.clause_arena.specs.declared.reference.Ref.{Ref};
-ghost use Rattle.clause_arena.specs.Contents.{clause_at, slot_of, IsPlaced};
-ghost use Rattle.clause_arena.specs.Packing.{gathered, move_of, moves_from};
+ghost use Rattle.clause_arena.specs.Contents.{clause_at};
+ghost use Rattle.clause_arena.specs.inner.Contents.{slot_of, IsPlaced};
+ghost use Rattle.clause_arena.specs.inner.Packing.{gathered, move_of, moves_from};
 
 use crate::literals::literals_at;
 use crate::reference::Ref;

@@ -3,7 +3,7 @@
 ghost use Rattle.std.specs.Prelude.{◌≡◌, ℕ, ◌<◌, ◌++◌, length, slice_index_or, IsSome, OnOk, OnErr};
 ghost use Rattle.std.specs.FinMap.{get, insert, remove, empty};
 ghost use Rattle.clause_arena.specs.declared.reference.Ref.{Ref};
-ghost use Rattle.clause_arena.specs.Packing.{refs_of, moved_by};
+ghost use Rattle.clause_arena.specs.inner.Packing.{refs_of, moved_by};
 
 use crate::reference::Ref;
 use crate::slots::{Far, Slot, find, list, put, replace, reserve_place, take};
@@ -22,7 +22,8 @@ pub(crate) struct Index {
 
 impl Model for Index {
     ghost use Rattle.std.specs.Prelude.{◌+◌, ◌*◌, ◌≤◌, vec_len};
-    ghost use Rattle.clause_arena.specs.Slots.{Slots, slots_code, slots_of, IsApart};
+    ghost use Rattle.clause_arena.specs.Slots.{Slots};
+    ghost use Rattle.clause_arena.specs.inner.Slots.{slots_code, slots_of, IsApart};
 
     ghost Value = { Slots };
 

@@ -1,7 +1,8 @@
 //! The literals of an arena, one clause after the other.
 
 ghost use Rattle.std.specs.Prelude.{◌≡◌, ◌+◌, ◌≤◌, ◌<◌, length, swap};
-ghost use Rattle.clause_arena.specs.Contents.{clause_at, slot_of, IsPlaced};
+ghost use Rattle.clause_arena.specs.Contents.{clause_at};
+ghost use Rattle.clause_arena.specs.inner.Contents.{slot_of, IsPlaced};
 
 use crate::reference::Ref;
 use dimacs::Lit;

@@ -7,8 +7,8 @@ ghost use Rattle.std.specs.FinMap.{get, insert, remove};
 ghost use Rattle.std.specs.Ordering.{nat_cmp};
 ghost use Rattle.std.specs.BTreeMap as tree;
 ghost use Rattle.std.specs.BTreeMap.{IsOrdered};
-ghost use Rattle.clause_arena.specs.Slots.{near_entries, slots_of, IsApart};
-ghost use Rattle.clause_arena.specs.Packing.{ref_of, refs_of};
+ghost use Rattle.clause_arena.specs.inner.Slots.{near_entries, slots_of, IsApart};
+ghost use Rattle.clause_arena.specs.inner.Packing.{ref_of, refs_of};
 
 use crate::reference::Ref;
 use std::alloc::AllocError;

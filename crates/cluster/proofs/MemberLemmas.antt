@@ -12,7 +12,8 @@ use Rattle.evidence.specs.Events.{Event, Polled, Given, Reacted}
 use Rattle.worker_core.specs.Worker.{WorkerState, WorkerStep, WorkerPolls, new_worker}
 use Rattle.coordinator_core.specs.Coordinator.{CoordinatorPolls}
 use Rattle.closed_schedules.specs.ClosedSchedule.{ClosedState, StepsAt, IsNoPoll, with_coordinator, with_worker}
-use Rattle.cluster.specs.Members.{closed_of, new_workers, MayBePolled}
+use Rattle.cluster.specs.Members.{closed_of}
+use Rattle.cluster.specs.inner.Members.{new_workers, MayBePolled}
 use Rattle.cluster.specs.declared.members.Members.{Members}
 
 -- one number more

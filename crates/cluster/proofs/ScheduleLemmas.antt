@@ -16,7 +16,8 @@ use Rattle.cluster.specs.declared.event.OpenEvent.TheVariants.{Deliver, Work, Po
 use Rattle.cluster.specs.declared.node.Node.{Node}
 use Rattle.cluster.specs.declared.node.Node.TheVariants.{Worker, Coordinator}
 use Rattle.cluster.specs.Nodes.{formula_of, IsSound, AreSound, formulas}
-use Rattle.cluster.specs.OpenSchedule.{node_of, NodeStep, Delivers, Works, Polls, Restarts, restarted, answer_to, Reacts, Happens, Runs}
+use Rattle.cluster.specs.OpenSchedule.{node_of, NodeStep, Delivers, Works, Polls, Restarts, restarted, Reacts, Happens, Runs}
+use Rattle.cluster.specs.inner.OpenSchedule.{answer_to}
 
 -- what the machines keep, each by itself
 pub record Keeping : Type 0 where

@@ -1,5 +1,6 @@
+pub mod Agreement
+pub mod Closed
+pub mod Members
 pub mod Nodes
 pub mod OpenSchedule
-pub mod Agreement
-pub mod Members
-pub mod Closed
+pub mod inner

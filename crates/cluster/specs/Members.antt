@@ -1,12 +1,7 @@
 -- What a closed cluster is made of, as its state.
-use Rattle.std.specs.Prelude.{◌≡◌, ℕ, ◌+◌, ◌≤◌, List, length, map}
-use Rattle.dimacs.specs.logic.Base.{numbers_from}
-use Rattle.dimacs.specs.logic.Cnf.{Cnf}
+use Rattle.std.specs.Prelude.{ℕ, List}
 use Rattle.frames.specs.declared.frame.Frame.{Frame}
-use Rattle.evidence.specs.Events.{Event, Given}
-use Rattle.worker_core.specs.Worker.{WorkerState, new_worker}
-use Rattle.coordinator_core.specs.Coordinator.{IsWorker}
-use Rattle.closed_schedules.specs.ClosedSchedule.{ClosedState, StepsAt, RestartsAt}
+use Rattle.closed_schedules.specs.ClosedSchedule.{ClosedState}
 use Rattle.cluster.specs.declared.members.Members.{Members}
 use Rattle.cluster.specs.declared.schedule.Schedule.{Schedule}
 
@@ -16,23 +11,3 @@ closed_of m frames used = record { coordinator = m.coordinator; workers = m.work
 
 abbrev pub state_of : Schedule → ClosedState
 state_of s = closed_of s.members s.frames.items s.used.items
-
--- workers 1 to n, worker w under incarnation w + 1
-abbrev pub new_workers : Cnf → ℕ → List WorkerState
-new_workers F n = map (λ w. new_worker F w (w + 1)) (numbers_from 1 n)
-
-abbrev pub IsMember : Members → ℕ → Type 0
-IsMember m node = node ≤ length m.workers.items
-
--- one event at a node, whatever frames and numbers stand beside the nodes
-abbrev pub MemberSteps : Members → ℕ → Event → Given → Members → Type 0
-MemberSteps old node event given new = (frames : List Frame) (used : List ℕ) → StepsAt (closed_of old frames used) node event given (closed_of new frames used)
-
--- a node begins anew, whatever frames and numbers stand beside the nodes
-abbrev pub MemberRestarts : Members → ℕ → ℕ → Members → Type 0
-MemberRestarts old node number new = (frames : List Frame) (used : List ℕ) → RestartsAt (closed_of old frames used) node number (closed_of new frames used)
-
--- a node that has something to send to a worker of this number
-pub record MayBePolled (m : Members) (node worker : ℕ) : Type 0 where
-  pub member : IsMember m node
-  pub known : node ≡ 0 → IsWorker m.coordinator worker

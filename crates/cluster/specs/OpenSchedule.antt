@@ -1,5 +1,5 @@
 -- Open schedules: any list of events, whatever they bring.
-use Rattle.std.specs.Prelude.{◌≡◌, ℕ, List, [], ◌∷◌, length, MatchOption, Result, Ok, Err, slice_get, slice_set}
+use Rattle.std.specs.Prelude.{◌≡◌, ◌⊎◌, ℕ, List, [], ◌∷◌, length, MatchOption, slice_get, slice_set}
 use Rattle.lrat_check.specs.declared.verdict.Reaction.{Reaction}
 use Rattle.lrat_check.specs.declared.verdict.Reaction.TheVariants as reaction
 use Rattle.frames.specs.Stream.{BeginsWith, BeginsNoFrame}
@@ -35,15 +35,6 @@ Works (Coordinator c) answer new = Ignores (Coordinator c) answer new
 abbrev pub HasNoWorker : Node → ℕ → Type 0
 HasNoWorker (Worker w) worker = ⊥
 HasNoWorker (Coordinator c) worker = ¬ (IsWorker c worker)
-
-abbrev pub MaySendTo : Node → ℕ → Type 0
-MaySendTo (Worker w) worker = Unit {0}
-MaySendTo (Coordinator c) worker = IsWorker c worker
-
--- what is answered to a poll whose frame goes nowhere
-abbrev pub answer_to : {E : Type 0} → Result Frame E → Reaction
-answer_to (Ok frame) = reaction.Taken
-answer_to (Err fault) = reaction.NoMemory
 
 -- A node is asked what it has to send to a worker; the frame goes nowhere.
 pub data Polls (old : Node) (worker : ℕ) (answer : Reaction) (new : Node) : Type 0 where
@@ -82,6 +73,10 @@ Happens old event answer new =
     MatchOption (slice_get old (node_of event))
     (Ignores old answer new)
     (λ n. (m : Node) × Reacts event n answer m × (new ≡ slice_set old (node_of event) m))
+
+-- what is ignored, or finds no memory, changes nothing
+abbrev pub ChangesNothing : Reaction → List Node → List Node → Type 0
+ChangesNothing answer old new = (answer ≡ reaction.Ignored) ⊎ (answer ≡ reaction.NoMemory) → new ≡ old
 
 -- the events may take the nodes from old to new, one after the other
 abbrev pub Runs : List Node → List OpenEvent → List Node → Type 0

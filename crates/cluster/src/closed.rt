@@ -1,7 +1,6 @@
 //! A cluster under a closed schedule: what comes to a node was sent by one of them, and a restart brings a new number.
 
-ghost use Rattle.std.specs.Prelude.{◌≡◌, ◌≢◌, ◌≤◌, ℕ, All, IfOk, IfSome};
-ghost use Rattle.std.specs.Option.{option_copied};
+ghost use Rattle.std.specs.Prelude.{◌≡◌, ◌≢◌, ◌≤◌, ℕ, All, IfOk, IfSome, option_copied};
 ghost use Rattle.lrat_check.specs.Verdicts.{Right};
 ghost use Rattle.lrat_check.specs.declared.verdict.Reaction.TheVariants as reaction;
 ghost use Rattle.evidence.specs.Jobs.{IsInside};

@@ -1,12 +1,12 @@
 //! The nodes of a closed cluster.
 
-ghost use Rattle.std.specs.Prelude.{◌≡◌, ◌≤◌, [], All, IfOk, OnOk, OnErr, MatchBool, nat_le, length};
-ghost use Rattle.std.specs.Option.{option_copied};
+ghost use Rattle.std.specs.Prelude.{◌≡◌, ◌≤◌, [], All, IfOk, OnOk, OnErr, MatchBool, nat_le, length, option_copied};
 ghost use Rattle.evidence.specs.Events.{Delivered, Worked, Polled, Reacted, given_by};
 ghost use Rattle.evidence.specs.Jobs.{IsInside};
 ghost use Rattle.coordinator_core.specs.Coordinator.{new_coordinator};
 ghost use Rattle.closed_schedules.specs.ClosedSchedule.{IsNoPoll, verdict_at};
-ghost use Rattle.cluster.specs.Members.{IsMember, MayBePolled, MemberSteps, MemberRestarts, closed_of, new_workers};
+ghost use Rattle.cluster.specs.Members.{closed_of};
+ghost use Rattle.cluster.specs.inner.Members.{IsMember, MayBePolled, MemberSteps, MemberRestarts, new_workers};
 
 use coordinator_core::Coordinator;
 use dimacs::Formula;

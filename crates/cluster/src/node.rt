@@ -4,7 +4,8 @@ ghost use Rattle.std.specs.Prelude.{◌≡◌, MatchBool};
 ghost use Rattle.evidence.specs.Events.{Delivered, Polled, Reacted, given_by};
 ghost use Rattle.lrat_check.specs.Verdicts.{Right};
 ghost use Rattle.cluster.specs.Nodes.{formula_of, verdict_of, IsSound};
-ghost use Rattle.cluster.specs.OpenSchedule.{NodeStep, Delivers, Works, Polls, Restarts, Reacts, HasNoWorker, MaySendTo, answer_to};
+ghost use Rattle.cluster.specs.OpenSchedule.{NodeStep, Delivers, Works, Polls, Restarts, Reacts, HasNoWorker};
+ghost use Rattle.cluster.specs.inner.OpenSchedule.{MaySendTo, answer_to};
 
 use crate::event::OpenEvent;
 use coordinator_core::Coordinator;

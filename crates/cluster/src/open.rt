@@ -1,10 +1,9 @@
 //! A cluster under an open schedule: any events, in any order, with any bytes.
 
-ghost use Rattle.std.specs.Prelude.{◌≡◌, slice_get};
-ghost use Rattle.std.specs.Option.{option_copied, option_map};
+ghost use Rattle.std.specs.Prelude.{◌≡◌, slice_get, option_copied, option_map};
 ghost use Rattle.cluster.specs.Agreement.{Agree};
 ghost use Rattle.cluster.specs.Nodes.{AreSound, AreRight, AreTrue, formulas, verdict_of};
-ghost use Rattle.cluster.specs.OpenSchedule.{Happens, Runs};
+ghost use Rattle.cluster.specs.OpenSchedule.{ChangesNothing, Happens, Runs};
 
 use crate::event::OpenEvent;
 use crate::laws::verdicts_agree;
@@ -62,9 +61,11 @@ impl OpenCluster {
         OpenCluster { alloc, nodes }
     }
 
-    /// One event, and what its node answers. What the nodes hold stays right, and agrees with all that they held before.
+    /// One event, and what its node answers. What the nodes hold stays right, and agrees with all that they held before. An event that
+    /// finds no memory changes nothing.
     pub fn step(&mut self, event: &OpenEvent) -> Reaction
         ensures happens { Happens self.old event.now result self.new }
+        ensures nothing { ChangesNothing result self.old self.new }
         ensures formulas { formulas self.new ≡ formulas self.old }
         ensures right { AreRight self.new }
         ensures truth { AreTrue self.new }

@@ -11,9 +11,10 @@ use Rattle.dimacs.proofs.Members.{Contains-head, Contains-cons_cases, Contains-n
 use Rattle.watches.specs.Law.{IsImplied}
 use Rattle.watches.specs.Trails.{TrailValue, IsTrailValue, holds, variables}
 use Rattle.watches.specs.declared.trail.Assigned.{Assigned}
-use Rattle.conflict_analysis.specs.Built.{AreBuilt, AreInside, AreSized}
+use Rattle.conflict_analysis.specs.Built.{AreBuilt, AreInside}
+use Rattle.conflict_analysis.specs.inner.Built.{AreSized}
 use Rattle.conflict_analysis.specs.Lemmas.{IsDecision}
-use Rattle.conflict_analysis.specs.Traces.{IsTraceable, AreNegated, AreOutside, AreFalseOr}
+use Rattle.conflict_analysis.specs.inner.Traces.{IsTraceable, AreNegated, AreOutside, AreFalseOr}
 use Rattle.conflict_analysis.proofs.Building.{behind}
 use Rattle.conflict_analysis.proofs.Fronts.{Contains-take}
 use Rattle.conflict_analysis.proofs.Entries.{distinct_left, entry_from_holds, holds_from_entry}

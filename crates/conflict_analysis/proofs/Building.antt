@@ -15,7 +15,7 @@ use Rattle.watches.specs.Trails.{holds, present, variables}
 use Rattle.watches.specs.declared.trail.Assigned.{Assigned}
 use Rattle.watches.proofs.Present.{le_present}
 use Rattle.conflict_analysis.specs.Built.{IsDecided, AreBuilt}
-use Rattle.conflict_analysis.specs.Walks.{waiting, is_present, IsKnown}
+use Rattle.conflict_analysis.specs.inner.Walks.{waiting, is_present, IsKnown}
 use Rattle.conflict_analysis.proofs.Entries.{waiting_found}
 
 -- an entry as it came

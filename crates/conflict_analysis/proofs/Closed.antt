@@ -10,8 +10,8 @@ use Rattle.dimacs.proofs.Members.{has-Contains, Contains-has}
 use Rattle.watches.specs.Trails.{holds, variables}
 use Rattle.watches.specs.declared.trail.Assigned.{Assigned}
 use Rattle.watches.proofs.TrailLemmas.{consistent}
-use Rattle.conflict_analysis.specs.Traces.{AreTraced, AreNegated, AreOutside, AreFalseOr, reason_of}
-use Rattle.conflict_analysis.specs.Walks.{IsSettled, reason_number, resolved_of}
+use Rattle.conflict_analysis.specs.inner.Traces.{AreTraced, AreNegated, AreOutside, AreFalseOr, reason_of}
+use Rattle.conflict_analysis.specs.inner.Walks.{IsSettled, reason_number, resolved_of}
 use Rattle.conflict_analysis.proofs.Entries.{holds_from_entry, one_entry}
 use Rattle.conflict_analysis.proofs.Concluding.{hints_agree, settled_front}
 use Rattle.conflict_analysis.proofs.Following.{either, walk_is_rup}

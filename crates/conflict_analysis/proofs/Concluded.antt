@@ -6,8 +6,8 @@ use Rattle.watches.specs.Trails.{TrailValue}
 use Rattle.conflict_analysis.specs.declared.lemma.Lemma.{Lemma}
 use Rattle.conflict_analysis.specs.declared.walk.Walk.{Walk}
 use Rattle.conflict_analysis.specs.Lemmas.{AreApart, IsPresentConflict, IsLemmaOf}
-use Rattle.conflict_analysis.specs.Seen.{met}
-use Rattle.conflict_analysis.specs.Walks.{AreCounted, AreMet, HasMet, IsLevelled, IsWalk, HasEnded}
+use Rattle.conflict_analysis.specs.inner.Seen.{met}
+use Rattle.conflict_analysis.specs.inner.Walks.{AreCounted, AreMet, HasMet, IsLevelled, IsWalk, HasEnded}
 use Rattle.conflict_analysis.proofs.Concluding.{some_waits, ordered, follows, asserting, lemma_within}
 
 -- once the false clause was met, some entry of the present level waits

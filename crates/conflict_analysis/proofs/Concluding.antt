@@ -15,7 +15,7 @@ use Rattle.watches.specs.declared.trail.Assigned.{Assigned}
 use Rattle.watches.proofs.TrailLemmas.{consistent}
 use Rattle.watches.proofs.Present.{le_present}
 use Rattle.conflict_analysis.specs.Lemmas.{IsAsserting, AreInTrailOrder}
-use Rattle.conflict_analysis.specs.Walks.{waiting, is_present, is_lower, reason_number, hints_of, resolved_of, HasLevel, IsSettled, AreCounted, AreWalked, IsLevelled}
+use Rattle.conflict_analysis.specs.inner.Walks.{waiting, is_present, is_lower, reason_number, hints_of, resolved_of, HasLevel, IsSettled, AreCounted, AreWalked, IsLevelled}
 use Rattle.conflict_analysis.proofs.Entries.{one_if, holds_from_entry, entry_from_holds, one_entry, waiting_some, waiting_cons}
 use Rattle.conflict_analysis.proofs.Following.{AreClosed, either, walk_is_rup}
 

@@ -11,7 +11,7 @@ use Rattle.dimacs.proofs.Members.{Contains-head, Contains-cons, Contains-cons_ca
 use Rattle.watches.specs.Trails.{holds, variables}
 use Rattle.watches.specs.declared.trail.Assigned.{Assigned}
 use Rattle.watches.proofs.TrailLemmas.{head_alone}
-use Rattle.conflict_analysis.specs.Walks.{waiting}
+use Rattle.conflict_analysis.specs.inner.Walks.{waiting}
 
 -- a literal of the trail is an entry's
 pub entry_from_holds : (es : List Assigned) (l : Literal) → holds es l ≡ true → (e : Assigned) × Contains es e × (e.literal ≡ l)

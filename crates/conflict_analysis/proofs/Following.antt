@@ -13,7 +13,7 @@ use Rattle.dimacs.proofs.Members.{has-Contains}
 use Rattle.watches.specs.Trails.{holds}
 use Rattle.watches.specs.declared.trail.Assigned.{Assigned}
 use Rattle.watches.proofs.TrailLemmas.{holds_push}
-use Rattle.conflict_analysis.specs.Walks.{IsSettled, reason_number, hints_of, resolved_of}
+use Rattle.conflict_analysis.specs.inner.Walks.{IsSettled, reason_number, hints_of, resolved_of}
 
 -- each resolved entry behind the front is settled
 abbrev pub AreClosed : Live → (ℕ → Bool) → (Literal → Bool) → List Assigned → List Assigned → Type 0

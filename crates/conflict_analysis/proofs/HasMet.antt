@@ -1,7 +1,7 @@
 -- What stays when more entries are met.
 use Rattle.std.proofs.Common.{ℕ, inl, inr, Bool, List, take, refl, ◌∙◌}
 use Rattle.watches.specs.declared.trail.Assigned.{Assigned}
-use Rattle.conflict_analysis.specs.Walks.{HasMet}
+use Rattle.conflict_analysis.specs.inner.Walks.{HasMet}
 use Rattle.conflict_analysis.proofs.Fronts.{Contains-take}
 
 pub met_further : (front : List Assigned) (a b c : List Bool) → HasMet front a b → HasMet front b c → HasMet front a c

@@ -12,8 +12,8 @@ use Rattle.watches.specs.declared.trail.Assigned.{Assigned}
 use Rattle.std.proofs.lemmas.Map.Keys.{IsDistinct-push}
 use Rattle.std.specs.Cmp.{nat_eq_equiv}
 use Rattle.std.proofs.lemmas.Map.Views.{Contains-from_any}
-use Rattle.conflict_analysis.specs.Seen.{met}
-use Rattle.conflict_analysis.specs.Walks.{waiting, is_present, is_lower, IsFront, AreCounted, AreListed}
+use Rattle.conflict_analysis.specs.inner.Seen.{met}
+use Rattle.conflict_analysis.specs.inner.Walks.{waiting, is_present, is_lower, IsFront, AreCounted, AreListed}
 use Rattle.conflict_analysis.proofs.Entries.{one_if, entry_from_holds, one_entry, distinct_left, waiting_one}
 
 -- a variable was met once it is in

@@ -7,8 +7,8 @@ use Rattle.dimacs.specs.logic.Literal.{Literal, IsWithin, negation, var_of}
 use Rattle.watches.specs.Trails.{TrailValue, holds}
 use Rattle.watches.specs.declared.trail.Assigned.{Assigned}
 use Rattle.conflict_analysis.specs.declared.walk.Walk.{Walk}
-use Rattle.conflict_analysis.specs.Seen.{met}
-use Rattle.conflict_analysis.specs.Walks.{AreCounted, AreListed, HasMet, IsKnown, IsWalk}
+use Rattle.conflict_analysis.specs.inner.Seen.{met}
+use Rattle.conflict_analysis.specs.inner.Walks.{AreCounted, AreListed, HasMet, IsKnown, IsWalk}
 use Rattle.conflict_analysis.proofs.HasMet.{met_none}
 use Rattle.conflict_analysis.proofs.Meeting.{met_set, lists, meets_present, meets_lower}
 use Rattle.conflict_analysis.proofs.Tracing.{mark_one}

@@ -9,8 +9,8 @@ use Rattle.watches.specs.declared.trail.Assigned.{Assigned}
 use Rattle.conflict_analysis.specs.declared.lemma.Lemma.{Lemma}
 use Rattle.conflict_analysis.specs.declared.walk.Walk.{Walk}
 use Rattle.conflict_analysis.specs.Built.{AreBuilt}
-use Rattle.conflict_analysis.specs.Seen.{met}
-use Rattle.conflict_analysis.specs.Walks.{is_present, AreCounted, AreKnown, AreMet, AreWalked, HasMet, IsLevelled, IsUnderWay, IsWalk}
+use Rattle.conflict_analysis.specs.inner.Seen.{met}
+use Rattle.conflict_analysis.specs.inner.Walks.{is_present, AreCounted, AreKnown, AreMet, AreWalked, HasMet, IsLevelled, IsUnderWay, IsWalk}
 use Rattle.conflict_analysis.proofs.Building.{implied_by}
 use Rattle.conflict_analysis.proofs.Entries.{waiting_more}
 use Rattle.conflict_analysis.proofs.Settling.{was_met, settled_implied}

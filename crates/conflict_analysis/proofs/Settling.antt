@@ -6,8 +6,8 @@ use Rattle.dimacs.specs.logic.Literal.{Literal, var_of}
 use Rattle.watches.specs.Law.{IsImplied}
 use Rattle.watches.specs.Trails.{variables}
 use Rattle.watches.specs.declared.trail.Assigned.{Assigned}
-use Rattle.conflict_analysis.specs.Seen.{met}
-use Rattle.conflict_analysis.specs.Walks.{HasMet, IsSettled}
+use Rattle.conflict_analysis.specs.inner.Seen.{met}
+use Rattle.conflict_analysis.specs.inner.Walks.{HasMet, IsSettled}
 use Rattle.conflict_analysis.proofs.Building.{behind}
 
 -- it stays settled when more is met

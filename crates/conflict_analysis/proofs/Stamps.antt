@@ -4,7 +4,7 @@ use Rattle.std.specs.List.{All}
 use Rattle.std.proofs.lemmas.Bool.{cases_lt, eq-eqb, ne_eqb}
 use Rattle.std.proofs.lemmas.List.{get_or-map, length-map, map-set}
 use Rattle.std.proofs.Math.ListN.{get_or-eq_default}
-use Rattle.conflict_analysis.specs.Seen.{stamped, met}
+use Rattle.conflict_analysis.specs.inner.Seen.{stamped, met}
 
 -- a stamp above all is no variable's
 pub fresh_stamp : (stamps : List ℕ) (n : ℕ) → All (λ s. s ≤ n) stamps → (v : ℕ) → met (stamped stamps (n + 1)) v ≡ false

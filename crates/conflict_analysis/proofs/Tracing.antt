@@ -13,9 +13,9 @@ use Rattle.watches.specs.Trails.{variables}
 use Rattle.watches.specs.declared.trail.Assigned.{Assigned}
 use Rattle.conflict_analysis.specs.Built.{AreBuilt}
 use Rattle.conflict_analysis.specs.declared.lemma.Lemma.{Lemma}
-use Rattle.conflict_analysis.specs.Traces.{IsTraced, AreTraced, AreNegated, IsTracing, reason_of}
-use Rattle.conflict_analysis.specs.Seen.{met}
-use Rattle.conflict_analysis.specs.Walks.{HasMet, IsKnown, IsSettled}
+use Rattle.conflict_analysis.specs.inner.Traces.{IsTraced, AreTraced, AreNegated, IsTracing, reason_of}
+use Rattle.conflict_analysis.specs.inner.Seen.{met}
+use Rattle.conflict_analysis.specs.inner.Walks.{HasMet, IsKnown, IsSettled}
 use Rattle.conflict_analysis.proofs.Building.{built_at}
 use Rattle.conflict_analysis.proofs.Entries.{entry_from_holds}
 use Rattle.conflict_analysis.proofs.Meeting.{met_set}

@@ -20,7 +20,7 @@ use Rattle.clause_arena.specs.Clauses.{Clauses, live_of}
 use Rattle.clause_arena.proofs.ClauseLaws.{live_once}
 use Rattle.watches.specs.Law.{IsImplied}
 use Rattle.conflict_analysis.specs.Built.{AreBuilt}
-use Rattle.conflict_analysis.specs.Walks.{waiting, is_present, IsKnown, IsSettled, AreWalked, HasLevel, IsLevelled, hints_of, resolved_of, reason_number}
+use Rattle.conflict_analysis.specs.inner.Walks.{waiting, is_present, IsKnown, IsSettled, AreWalked, HasLevel, IsLevelled, hints_of, resolved_of, reason_number}
 use Rattle.conflict_analysis.proofs.Building.{behind, built_at, not_decided, implied_by, reason_known}
 use Rattle.conflict_analysis.proofs.Entries.{holds_from_entry, waiting_some, waiting_found}
 use Rattle.conflict_analysis.proofs.Settling.{settled_grows}

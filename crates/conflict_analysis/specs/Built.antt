@@ -1,7 +1,7 @@
 -- How the trail of a search came to be (Handbook of Satisfiability, chapter 4).
-use Rattle.std.specs.Prelude.{◌≡◌, ℕ, ◌+◌, ◌<◌, Contains, false, List, [], ◌∷◌, ◌++◌, ◌⊎◌, None, All}
+use Rattle.std.specs.Prelude.{◌≡◌, ℕ, ◌+◌, false, List, [], ◌∷◌, ◌++◌, ◌⊎◌, None, All}
 use Rattle.dimacs.specs.logic.ClauseMap.{Live}
-use Rattle.dimacs.specs.logic.Literal.{Literal, Clause, IsWithin, negation, var_of}
+use Rattle.dimacs.specs.logic.Literal.{Clause, IsWithin, negation}
 use Rattle.watches.specs.Law.{IsImplied}
 use Rattle.watches.specs.Trails.{holds, present}
 use Rattle.watches.specs.declared.trail.Assigned.{Assigned}
@@ -21,7 +21,3 @@ AreBuilt live front (e ∷ more) = (IsImplied live front e ⊎ IsDecided front e
 -- each live clause has literals of these variables alone
 abbrev pub AreInside : Live → ℕ → Type 0
 AreInside live vars = (n : ℕ) (C : Clause) → live n C → All (IsWithin vars) C
-
--- the variables of live clauses are below this number
-abbrev pub AreSized : Live → ℕ → Type 0
-AreSized live size = (n : ℕ) (C : Clause) → live n C → (k : Literal) → Contains C k → var_of k < size

@@ -5,11 +5,11 @@ ghost use Rattle.clause_arena.specs.Clauses.{live_of};
 ghost use Rattle.dimacs.specs.logic.Literal.{Literal, Clause, IsWithin, negation, var_of};
 ghost use Rattle.dimacs.specs.logic.Propagation.{Rup};
 ghost use Rattle.conflict_analysis.specs.Built.{AreBuilt, AreInside};
-ghost use Rattle.conflict_analysis.specs.Seen.{met};
-ghost use Rattle.conflict_analysis.specs.Walks.{HasMet, AreKnown, AreMet};
+ghost use Rattle.conflict_analysis.specs.inner.Seen.{met};
+ghost use Rattle.conflict_analysis.specs.inner.Walks.{HasMet, AreKnown, AreMet};
 ghost use Rattle.conflict_analysis.specs.Lemmas.{IsClosing, NegatesAssumptions};
 ghost use Rattle.conflict_analysis.specs.declared.closing.Closing.TheVariants as closing;
-ghost use Rattle.conflict_analysis.specs.Traces.{IsTraceable, IsTracing, AreNegated, AreOutside, AreFalseOr};
+ghost use Rattle.conflict_analysis.specs.inner.Traces.{IsTraceable, IsTracing, AreNegated, AreOutside, AreFalseOr};
 ghost use Rattle.watches.specs.Trails.{holds};
 ghost use Rattle.watches.specs.declared.trail.Assigned.{Assigned};
 

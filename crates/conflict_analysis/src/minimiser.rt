@@ -4,7 +4,7 @@ ghost use Rattle.std.specs.Prelude.{◌≡◌, ◌<◌, length, OnOk};
 ghost use Rattle.clause_arena.specs.Clauses.{live_of};
 ghost use Rattle.dimacs.specs.logic.Literal.{IsWithin};
 ghost use Rattle.conflict_analysis.specs.Built.{AreInside};
-ghost use Rattle.conflict_analysis.specs.Minimising.{HasRoom};
+ghost use Rattle.conflict_analysis.specs.inner.Minimising.{HasRoom};
 
 use crate::seen::Seen;
 use clause_arena::Arena;

@@ -1,7 +1,7 @@
 //! The variables that were met.
 
 ghost use Rattle.std.specs.Prelude.{◌≡◌, ℕ, ◌<◌, ◌≤◌, true, false, [], length, slice_set, All, IfOk, OnOk};
-ghost use Rattle.conflict_analysis.specs.Seen.{met};
+ghost use Rattle.conflict_analysis.specs.inner.Seen.{met};
 
 use dimacs::Var;
 use std::alloc::{AllocError, Global};
@@ -16,7 +16,7 @@ pub(crate) struct Seen {
 
 impl Model for Seen {
     ghost use Rattle.std.specs.Prelude.{Bool, List, ◌≤◌, All};
-    ghost use Rattle.conflict_analysis.specs.Seen.{stamped};
+    ghost use Rattle.conflict_analysis.specs.inner.Seen.{stamped};
 
     ghost Value = { List Bool };
 

@@ -5,9 +5,9 @@ ghost use Rattle.std.specs.Bool.{OnFalse};
 ghost use Rattle.clause_arena.specs.Clauses.{live_of};
 ghost use Rattle.dimacs.specs.logic.Literal.{Literal, Clause, IsWithin, negation, var_of};
 ghost use Rattle.conflict_analysis.specs.Built.{AreBuilt, AreInside};
-ghost use Rattle.conflict_analysis.specs.Minimising.{HasRoom};
-ghost use Rattle.conflict_analysis.specs.Seen.{met};
-ghost use Rattle.conflict_analysis.specs.Walks.{IsKnown, AreKnown, AreMet, IsWalk, HasMet, IsUnderWay, HasEnded, IsChoice};
+ghost use Rattle.conflict_analysis.specs.inner.Minimising.{HasRoom};
+ghost use Rattle.conflict_analysis.specs.inner.Seen.{met};
+ghost use Rattle.conflict_analysis.specs.inner.Walks.{IsKnown, AreKnown, AreMet, IsWalk, HasMet, IsUnderWay, HasEnded, IsChoice};
 ghost use Rattle.watches.specs.Trails.{IsTrailValue, present};
 ghost use Rattle.watches.specs.declared.trail.Assigned.{Assigned};
 

@@ -8,7 +8,7 @@ use Rattle.icnf.proofs.LeavesLemmas.{leaves_some}
 use Rattle.evidence.specs.Jobs.{IsInside}
 use Rattle.coordinator_core.specs.Coordinator.{CoordinatorState, new_coordinator, AreClosed, want_at}
 use Rattle.coordinator_core.specs.Invariant.{IsCoordinator, IsTreeOf, IsNote}
-use Rattle.coordinator_core.specs.Tables.{LeafRows}
+use Rattle.coordinator_core.specs.inner.Tables.{LeafRows}
 use Rattle.coordinator_core.specs.declared.desks.Job.{Job}
 use Rattle.coordinator_core.specs.declared.desks.LeafState.TheVariants.{Open, Closed}
 

@@ -13,10 +13,10 @@ use Rattle.dimacs.specs.logic.Base.{pure_literals}
 use Rattle.proof_join.specs.Joining.{JoinedUnits, AllClose, unit_steps}
 use Rattle.proof_join.proofs.ShapeLemmas.{joined_some}
 use Rattle.evidence.specs.Evidence.{bytes_in}
-use Rattle.coordinator_core.specs.Calls.{IsFixed, UnlessRefused}
+use Rattle.coordinator_core.specs.inner.Calls.{IsFixed, UnlessRefused}
 use Rattle.coordinator_core.specs.Coordinator.{CoordinatorState, AreClosed, EndsFragment, coordinator_base, cube_at, job_at, closed}
 use Rattle.coordinator_core.specs.Invariant.{IsCoordinator, HasJoined, IsJobAt}
-use Rattle.coordinator_core.specs.Tables.{LeafRows}
+use Rattle.coordinator_core.specs.inner.Tables.{LeafRows}
 use Rattle.coordinator_core.specs.declared.desks.Fixed.{Fixed}
 use Rattle.coordinator_core.specs.declared.desks.Job.{Job}
 use Rattle.coordinator_core.specs.declared.desks.LeafState.{LeafState}

@@ -17,7 +17,7 @@ use Rattle.lrat_check.specs.declared.verdict.Reaction.TheVariants as reaction
 use Rattle.frames.specs.Answers.{answer_of, length_of}
 use Rattle.frames.specs.declared.answer.Answer.TheVariants as answers
 use Rattle.evidence.specs.Evidence.{IsComplete, bytes_in, with_bytes}
-use Rattle.coordinator_core.specs.Calls.{IsFixed, UnlessRefused, lengthened, cut_to}
+use Rattle.coordinator_core.specs.inner.Calls.{IsFixed, UnlessRefused, lengthened, cut_to}
 use Rattle.coordinator_core.specs.Coordinator.{CoordinatorState, EndsFragment, EndsAssignment, Gathers, IsDeciding, coordinator_base, cube_at, job_at, with_job, reopened, closed, fixing, after_loss, lost_by}
 use Rattle.coordinator_core.specs.Invariant.{FitsFixed}
 use Rattle.coordinator_core.specs.declared.desks.Fixed.{Fixed}

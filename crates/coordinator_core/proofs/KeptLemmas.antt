@@ -17,7 +17,7 @@ use Rattle.coordinator_core.specs.Invariant.{IsCoordinator, HasJoined, HasTables
 use Rattle.coordinator_core.specs.declared.desks.Job.{Job}
 use Rattle.coordinator_core.specs.declared.desks.LeafState.{LeafState}
 use Rattle.coordinator_core.specs.declared.desks.LeafState.TheVariants.{Open, GivenTo, Closed}
-use Rattle.coordinator_core.specs.Tables.{LeafRows}
+use Rattle.coordinator_core.specs.inner.Tables.{LeafRows}
 use Rattle.coordinator_core.proofs.Places.{got_within, got_set_cases, got_set_other, got_set_same, read_set_cases, read_within}
 
 same_some : {X : Type 0} (a b : X) → Some a ≡ Some b → a ≡ b

@@ -23,7 +23,8 @@ use Rattle.icnf.proofs.DistinctLemmas.{leaves_distinct}
 use Rattle.frames.specs.Cubes.{IsCube}
 use Rattle.frames.specs.Answers.{length_of}
 use Rattle.coordinator_core.specs.Coordinator.{CoordinatorState, job_at, is_open, gives}
-use Rattle.coordinator_core.specs.Tables.{LeafRows, next_of}
+use Rattle.coordinator_core.specs.Tables.{next_of}
+use Rattle.coordinator_core.specs.inner.Tables.{LeafRows}
 use Rattle.coordinator_core.specs.declared.desks.LeafState.{LeafState}
 use Rattle.coordinator_core.specs.declared.desks.LeafState.TheVariants.{Open, GivenTo, Closed}
 use Rattle.coordinator_core.specs.Invariant.{IsCoordinator}

@@ -14,7 +14,7 @@ use Rattle.evidence.specs.Jobs.{IsInside}
 use Rattle.coordinator_core.specs.Splits.{doubled, shifted, shifted_job}
 use Rattle.coordinator_core.specs.Coordinator.{CoordinatorState, CanSplit, MaySplit, MeetsLimit, cube_at, job_at, split}
 use Rattle.coordinator_core.specs.Invariant.{IsCoordinator, IsTreeOf, IsJobAt}
-use Rattle.coordinator_core.specs.Tables.{LeafRows}
+use Rattle.coordinator_core.specs.inner.Tables.{LeafRows}
 use Rattle.coordinator_core.specs.declared.desks.Job.{Job}
 use Rattle.coordinator_core.specs.declared.desks.LeafState.{LeafState}
 use Rattle.coordinator_core.specs.declared.desks.LeafState.TheVariants.{Open, GivenTo, Closed}

@@ -9,7 +9,7 @@ use Rattle.std.proofs.lemmas.List.Sums.{sum_by-set, sum_by-cons, position_or_len
 use Rattle.std.proofs.lemmas.Bool.{lt-ltb, le-ltb}
 use Rattle.coordinator_core.specs.Coordinator.{AreClosed, IsClosed, is_open}
 use Rattle.coordinator_core.specs.Splits.{doubled}
-use Rattle.coordinator_core.specs.Tables.{IsLeafTable, is_unclosed}
+use Rattle.coordinator_core.specs.inner.Tables.{IsLeafTable, is_unclosed}
 use Rattle.coordinator_core.specs.declared.desks.LeafState.{LeafState}
 use Rattle.coordinator_core.specs.declared.desks.LeafState.TheVariants.{Open, GivenTo, Closed}
 use Rattle.coordinator_core.proofs.SplitLemmas.{doubled_before, doubled_length}

@@ -1,7 +1,7 @@
-pub mod Splits
 pub mod Coordinator
-pub mod Invariant
-pub mod Tables
-pub mod Calls
-pub mod Laws
 pub mod Examples
+pub mod Invariant
+pub mod Laws
+pub mod Splits
+pub mod Tables
+pub mod inner

@@ -3,7 +3,7 @@
 ghost use Rattle.std.specs.Prelude.{◌≡◌, ◌↔◌, IsTrue, None};
 ghost use Rattle.frames.specs.declared.answer.Outcome.TheVariants.{Decided};
 ghost use Rattle.evidence.specs.Evidence.{HasWrongLength};
-ghost use Rattle.coordinator_core.specs.Calls.{Stands};
+ghost use Rattle.coordinator_core.specs.inner.Calls.{Stands};
 ghost use Rattle.coordinator_core.specs.Coordinator.{AnswersFirst, DeliversDone, DeliversIdle, IsAwaited, IsStale};
 ghost use Rattle.coordinator_core.specs.declared.desks.Job.{Job};
 

@@ -5,7 +5,7 @@ ghost use Rattle.frames.specs.declared.answer.Answer.TheVariants as answers;
 ghost use Rattle.frames.specs.Answers.{answer_of};
 ghost use Rattle.lrat_text.specs.Log.{Closes};
 ghost use Rattle.evidence.specs.Evidence.{IsComplete};
-ghost use Rattle.coordinator_core.specs.Calls.{IsFixed, IsFound, UnlessRefused, refilled};
+ghost use Rattle.coordinator_core.specs.inner.Calls.{IsFixed, IsFound, UnlessRefused, refilled};
 ghost use Rattle.coordinator_core.specs.Coordinator.{EndsFragment, Gathers, coordinator_base, cube_at, job_at};
 ghost use Rattle.coordinator_core.specs.declared.desks.Fixed.{Fixed};
 ghost use Rattle.coordinator_core.specs.declared.desks.Job.{Job};

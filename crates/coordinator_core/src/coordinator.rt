@@ -49,7 +49,8 @@ impl Model for Coordinator {
     ghost use Rattle.dimacs.specs.logic.Base.{base_of, pure_literals};
     ghost use Rattle.coordinator_core.specs.Coordinator.{CoordinatorState};
     ghost use Rattle.coordinator_core.specs.Invariant.{IsCoordinator};
-    ghost use Rattle.coordinator_core.specs.Tables.{HasRoom, next_of};
+    ghost use Rattle.coordinator_core.specs.Tables.{next_of};
+    ghost use Rattle.coordinator_core.specs.inner.Tables.{HasRoom};
 
     ghost Value = { CoordinatorState };
 

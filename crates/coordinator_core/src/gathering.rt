@@ -6,7 +6,7 @@ ghost use Rattle.dimacs.specs.logic.Cnf.{IsFormula};
 ghost use Rattle.lrat_check.specs.Judging.{AreValuesOf, Judges};
 ghost use Rattle.frames.specs.declared.answer.Answer.TheVariants as answers;
 ghost use Rattle.evidence.specs.Evidence.{ComeNext, IsComplete, with_bytes};
-ghost use Rattle.coordinator_core.specs.Calls.{IsFixed, HasCome, HasFixed, cut_to, lengthened};
+ghost use Rattle.coordinator_core.specs.inner.Calls.{IsFixed, HasCome, HasFixed, cut_to, lengthened};
 ghost use Rattle.coordinator_core.specs.Coordinator.{DeliversPiece, EndsAssignment, Gathers, IsOfJob, fixing, job_at, with_job};
 ghost use Rattle.coordinator_core.specs.Invariant.{FitsFixed};
 ghost use Rattle.coordinator_core.specs.declared.desks.Fixed.{Fixed};

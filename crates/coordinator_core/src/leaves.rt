@@ -28,7 +28,7 @@ pub(crate) struct LeafTable {
 
 impl Model for LeafTable {
     ghost use Rattle.std.specs.Prelude.{map};
-    ghost use Rattle.coordinator_core.specs.Tables.{LeafRows, IsLeafTable};
+    ghost use Rattle.coordinator_core.specs.inner.Tables.{LeafRows, IsLeafTable};
 
     ghost Value = { LeafRows };
 

@@ -9,7 +9,7 @@ ghost use Rattle.frames.specs.declared.frame.Frame.TheVariants.{Task};
 ghost use Rattle.lrat_check.specs.Judging.{value_byte};
 ghost use Rattle.evidence.specs.Evidence.{answer_in, bytes_in, finding_in};
 ghost use Rattle.evidence.specs.Events.{Polled, chunk, given_by};
-ghost use Rattle.coordinator_core.specs.Calls.{Gives};
+ghost use Rattle.coordinator_core.specs.inner.Calls.{Gives};
 ghost use Rattle.coordinator_core.specs.Coordinator.{CoordinatorStep, IsWorker, cube_at, fixed_poll, is_open, job_at, job_poll, leaf_poll, stuck_poll, verdict_poll, want_at};
 ghost use Rattle.coordinator_core.specs.declared.desks.Job.{Job};
 

@@ -5,7 +5,7 @@ ghost use Rattle.dimacs.specs.logic.Base.{pure_literals};
 ghost use Rattle.cube_split.specs.Choice.{Choice};
 ghost use Rattle.coordinator_core.specs.Coordinator.{CanSplit, IsDeciding, MaySplit, MeetsLimit, cube_at, job_at, split};
 ghost use Rattle.coordinator_core.specs.Splits.{shifted, shifted_job};
-ghost use Rattle.coordinator_core.specs.Tables.{HasRoom};
+ghost use Rattle.coordinator_core.specs.inner.Tables.{HasRoom};
 ghost use Rattle.coordinator_core.specs.declared.desks.Job.{Job};
 
 use crate::coordinator::Coordinator;

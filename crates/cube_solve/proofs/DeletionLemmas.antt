@@ -25,9 +25,9 @@ use Rattle.lrat_text.proofs.ClauseMapLemmas.{apart_test, none_some, numbered_bet
 use Rattle.lrat_text.proofs.LineLemmas.{written_spells, written_one_line}
 use Rattle.watches.specs.Trails.{TrailValue}
 use Rattle.watches.proofs.TrailLemmas.{head_alone}
-use Rattle.cube_solve.specs.Forgetting.{AreRising, AreLemmas, AreLess, Forgets, MayForget}
-use Rattle.cube_solve.specs.Learning.{IsLearnt, IsSearch}
-use Rattle.cube_solve.specs.Levels.{AreTwins, AreLinked}
+use Rattle.cube_solve.specs.inner.Forgetting.{AreRising, AreLemmas, AreLess, Forgets, MayForget}
+use Rattle.cube_solve.specs.inner.Learning.{IsLearnt, IsSearch}
+use Rattle.cube_solve.specs.inner.Levels.{AreTwins, AreLinked}
 use Rattle.cube_solve.proofs.LogLemmas.{spells_push, log_push, fresh_push, after_push, top_push}
 
 -- ---- members of a list of numbers

@@ -18,11 +18,11 @@ use Rattle.watches.specs.declared.trail.Assigned.{Assigned}
 use Rattle.watches.specs.Law.{AreSame, AreWithout}
 use Rattle.watches.specs.Trails.{TrailValue}
 use Rattle.conflict_analysis.specs.Built.{AreBuilt}
-use Rattle.cube_solve.specs.Forgetting.{AreRising, AreLemmas, IsSpare, AreLess}
+use Rattle.cube_solve.specs.inner.Forgetting.{AreRising, AreLemmas, IsSpare, AreLess}
 use Rattle.lrat_text.specs.Grammar.{IsClauseNumber}
-use Rattle.cube_solve.specs.Learning.{AreBelow}
-use Rattle.cube_solve.specs.Levels.{IsAdded}
-use Rattle.cube_solve.specs.State.{IsState}
+use Rattle.cube_solve.specs.inner.Learning.{AreBelow}
+use Rattle.cube_solve.specs.inner.Levels.{IsAdded}
+use Rattle.cube_solve.specs.inner.State.{IsState}
 use Rattle.cube_solve.proofs.ClauseLemmas.{same_forth}
 use Rattle.cube_solve.proofs.LevelLemmas.{quiet_fewer}
 

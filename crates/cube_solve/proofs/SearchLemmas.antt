@@ -29,10 +29,10 @@ use Rattle.conflict_analysis.specs.Lemmas.{IsDecision, NegatesAssumptions}
 use Rattle.conflict_analysis.specs.declared.closing.Closing.TheVariants as closing
 use Rattle.conflict_analysis.proofs.Concluding.{above_cut}
 use Rattle.cube_solve.specs.Conflicts.{AllHold, MeetsConflict}
-use Rattle.cube_solve.specs.Learning.{AreBelow, IsLearnt, IsWritten, Learns, IsSearch}
-use Rattle.cube_solve.specs.Levels.{AreLinked, IsAdded}
+use Rattle.cube_solve.specs.inner.Learning.{AreBelow, IsLearnt, IsWritten, Learns, IsSearch}
+use Rattle.cube_solve.specs.inner.Levels.{AreLinked, IsAdded}
 use Rattle.cube_solve.specs.Outcome.{IsModel, IsBrief, IsFresh}
-use Rattle.cube_solve.specs.State.{IsState, IsAssuming, IsTotal}
+use Rattle.cube_solve.specs.inner.State.{IsState, IsAssuming, IsTotal}
 use Rattle.cube_solve.proofs.AssumingLemmas.{assuming_all, assuming_up_to, assuming_below, level_le}
 use Rattle.cube_solve.proofs.BuiltLemmas.{sound, built_same, decision_above}
 use Rattle.cube_solve.proofs.ClauseLemmas.{same_back, same_forth, twins_trans, linked_same, linked_more, linked_turned}

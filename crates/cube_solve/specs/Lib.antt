@@ -1,11 +1,3 @@
 pub mod Conflicts
-pub mod Forgetting
-pub mod Learning
-pub mod Levels
-pub mod Marks
-pub mod Order
 pub mod Outcome
-pub mod Pace
-pub mod State
-pub mod Steady
-pub mod Steps
+pub mod inner

@@ -3,9 +3,9 @@
 ghost use Rattle.std.specs.Prelude.{List, All};
 ghost use Rattle.dimacs.specs.logic.Literal.{Literal, IsWithin};
 ghost use Rattle.cube_solve.specs.Conflicts.{AllHold};
-ghost use Rattle.cube_solve.specs.Order.{IsOrder, IsTaken};
-ghost use Rattle.cube_solve.specs.State.{IsAssuming};
-ghost use Rattle.cube_solve.specs.Steps.{IsNext};
+ghost use Rattle.cube_solve.specs.inner.Order.{IsOrder, IsTaken};
+ghost use Rattle.cube_solve.specs.inner.State.{IsAssuming};
+ghost use Rattle.cube_solve.specs.inner.Steps.{IsNext};
 
 use crate::order::Order;
 use dimacs::Lit;

@@ -7,9 +7,9 @@ ghost use Rattle.dimacs.specs.logic.Literal.{IsWithin};
 ghost use Rattle.lrat_text.specs.Log.{Cube};
 ghost use Rattle.watches.specs.Law.{AreSame, IsConflict, IsQuiet};
 ghost use Rattle.watches.specs.declared.trail.Assigned.{Assigned};
-ghost use Rattle.cube_solve.specs.State.{IsState, IsAssuming};
-ghost use Rattle.cube_solve.specs.Steady.{IsSteady};
-ghost use Rattle.cube_solve.specs.Steps.{IsFound, IsUnassigned};
+ghost use Rattle.cube_solve.specs.inner.State.{IsState, IsAssuming};
+ghost use Rattle.cube_solve.specs.inner.Steady.{IsSteady};
+ghost use Rattle.cube_solve.specs.inner.Steps.{IsFound, IsUnassigned};
 
 use crate::decision::{Next, pick};
 use crate::state::State;

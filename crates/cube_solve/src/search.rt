@@ -9,12 +9,12 @@ ghost use Rattle.lrat_text.specs.Log.{Cube};
 ghost use Rattle.watches.specs.Law.{IsConflict};
 ghost use Rattle.watches.specs.Trails.{present};
 ghost use Rattle.conflict_analysis.specs.Lemmas.{IsClosing, NegatesAssumptions};
-ghost use Rattle.cube_solve.specs.Forgetting.{AreRising, AreLemmas, MayForget};
-ghost use Rattle.cube_solve.specs.Learning.{AreBelow, IsWritten, Learns};
-ghost use Rattle.cube_solve.specs.Order.{AreWaiting};
+ghost use Rattle.cube_solve.specs.inner.Forgetting.{AreRising, AreLemmas, MayForget};
+ghost use Rattle.cube_solve.specs.inner.Learning.{AreBelow, IsWritten, Learns};
+ghost use Rattle.cube_solve.specs.inner.Order.{AreWaiting};
 ghost use Rattle.cube_solve.specs.Outcome.{IsRightOutcome};
-ghost use Rattle.cube_solve.specs.State.{IsAssuming};
-ghost use Rattle.cube_solve.specs.Steady.{IsSteady, IsSearching};
+ghost use Rattle.cube_solve.specs.inner.State.{IsAssuming};
+ghost use Rattle.cube_solve.specs.inner.Steady.{IsSteady, IsSearching};
 
 use crate::descent::Found;
 use crate::log::Log;

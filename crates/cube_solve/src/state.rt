@@ -5,9 +5,9 @@ ghost use Rattle.clause_arena.specs.Clauses.{live_of};
 ghost use Rattle.dimacs.specs.logic.ClauseMap.{map_of, live_in};
 ghost use Rattle.lrat_text.specs.Log.{Cube};
 ghost use Rattle.watches.specs.declared.trail.Assigned.{Assigned};
-ghost use Rattle.cube_solve.specs.Levels.{AreLinked};
-ghost use Rattle.cube_solve.specs.State.{IsAssuming};
-ghost use Rattle.cube_solve.specs.Steady.{IsSteady};
+ghost use Rattle.cube_solve.specs.inner.Levels.{AreLinked};
+ghost use Rattle.cube_solve.specs.inner.State.{IsAssuming};
+ghost use Rattle.cube_solve.specs.inner.Steady.{IsSteady};
 
 use crate::loading::load;
 use crate::order::Order;

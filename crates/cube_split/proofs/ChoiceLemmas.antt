@@ -10,7 +10,7 @@ use Rattle.dimacs.specs.logic.Literal.{Literal, Pos, Neg, Clause, same, has, var
 use Rattle.icnf.specs.Leaves.{IsFree}
 use Rattle.dimacs.proofs.WithinLemmas.{EachWithin, each_within}
 use Rattle.cube_split.specs.Choice.{has_variable, is_apart, stands_in, IsChoice, HasNoChoice, Choice}
-use Rattle.cube_split.specs.Marks.{AreMarked, IsUnmarked, IsGreatest}
+use Rattle.cube_split.specs.inner.Marks.{AreMarked, IsUnmarked, IsGreatest}
 use Rattle.cube_split.proofs.MarkLemmas.{marked_at, marked_same}
 
 -- ---- free variables

@@ -6,7 +6,7 @@ use Rattle.std.proofs.lemmas.List.Folds.{list_any_more}
 use Rattle.std.proofs.lemmas.List.Sums.{count_by_more_yes, count_by_more_no}
 use Rattle.dimacs.specs.logic.Literal.{Literal, Pos, Neg, Clause, var_of, index_of, IsWithin}
 use Rattle.cube_split.specs.Choice.{has_variable}
-use Rattle.cube_split.specs.Marks.{AreMarked}
+use Rattle.cube_split.specs.inner.Marks.{AreMarked}
 
 -- the tables behind a clause of this number, of which the literals so far are counted
 pub record AreCounted (old_counts old_last counts last : List ℕ) (number : ℕ) (C : Clause) : Type 0 where

@@ -1,8 +1,8 @@
 -- The greatest count so far.
 use Rattle.std.proofs.Common.{◌≡◌, ℕ, ◌+◌, ◌-◌, ◌*◌, ◌<◌, ◌≤◌, Bool, true, false, not, ◌||◌, List, Option, Some, None, IfSome, IfNone, get_or, sym, ap, ◌∙◌, arith, ⊎_elim, inl, inr, length}
 use Rattle.std.proofs.lemmas.Bool.{cases_eq, cases_lt, or_parts, or_from, both_ways, not-true as not_true}
-use Rattle.cube_split.specs.Marks.{IsUnmarked, IsGreatest, IsAhead, IsAheadOf}
-use Rattle.cube_split.specs.Tallies.{AreListed}
+use Rattle.cube_split.specs.inner.Marks.{IsUnmarked, IsGreatest, IsAhead, IsAheadOf}
+use Rattle.cube_split.specs.inner.Tallies.{AreListed}
 
 -- whether neither mark stands
 pub unmarked_true : (marks : List Bool) (v : ℕ) (b : Bool) → b ≡ not (get_or marks (2 * v) false || get_or marks (2 * v + 1) false) → b ≡ true → IsUnmarked marks v

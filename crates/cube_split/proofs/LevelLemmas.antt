@@ -8,8 +8,8 @@ use Rattle.dimacs.specs.logic.Literal.{Literal, Clause, same, has}
 use Rattle.dimacs.proofs.LiteralLemmas.{same-flips}
 use Rattle.icnf.specs.Leaves.{Cube}
 use Rattle.cube_split.specs.Choice.{has_variable, is_apart, stands_in}
-use Rattle.cube_split.specs.Open.{AreTurned, open_count}
-use Rattle.cube_split.specs.Walking.{level_of, closed_at}
+use Rattle.cube_split.specs.inner.Open.{AreTurned, open_count}
+use Rattle.cube_split.specs.inner.Walking.{level_of, closed_at}
 use Rattle.cube_split.proofs.CountLemmas.{one_if_true, one_if_false}
 
 level_yes : (n : ℕ) (l : Literal) (path : Cube) (C : Clause) → has C l ≡ true → level_of n (l ∷ path) C ≡ n

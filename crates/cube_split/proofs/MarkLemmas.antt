@@ -5,9 +5,9 @@ use Rattle.std.proofs.lemmas.Bool.{cases_eq, eq-eqb, ne_eqb}
 use Rattle.std.proofs.lemmas.Bool.Decides.{nat_tests}
 use Rattle.std.proofs.lemmas.List.{get_or-replicate, length-replicate}
 use Rattle.std.proofs.lemmas.List.Folds.{list_any-append, list_any_more, list_any_at}
-use Rattle.dimacs.specs.layout.Codes.{index_of-literal_of}
+use Rattle.dimacs.specs.inner.Codes.{index_of-literal_of}
 use Rattle.dimacs.specs.logic.Literal.{Literal, Pos, Neg, same, has, index_of, literal_of}
-use Rattle.cube_split.specs.Marks.{AreMarked}
+use Rattle.cube_split.specs.inner.Marks.{AreMarked}
 
 -- literals are the same where their places are
 pub same_by_place : (x l : Literal) → same x l ≡ eqb (index_of x) (index_of l)

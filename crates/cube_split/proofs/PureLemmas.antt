@@ -7,7 +7,7 @@ use Rattle.std.proofs.lemmas.List.Folds.{list_any_more}
 use Rattle.dimacs.specs.logic.Base.{occurs, is_pure, numbers_from, pure_literals}
 use Rattle.dimacs.specs.logic.Cnf.{Cnf}
 use Rattle.dimacs.specs.logic.Literal.{Literal, Clause, Pos, Neg, has, IsWithin}
-use Rattle.cube_split.specs.Marks.{AreMarked}
+use Rattle.cube_split.specs.inner.Marks.{AreMarked}
 use Rattle.cube_split.proofs.MarkLemmas.{marked_same}
 
 numbers_push : (first count : ℕ) → numbers_from first (suc count) ≡ numbers_from first count ++ (first + count) ∷ []

@@ -12,7 +12,8 @@ use Rattle.dimacs.specs.logic.Literal.{Literal, Pos, Neg, var_of, IsWithin}
 use Rattle.icnf.specs.Leaves.{Cube, IsFree, Leaves, leaf, fork}
 use Rattle.icnf.proofs.StateLemmas.{clauses_within}
 use Rattle.cube_split.specs.Choice.{IsChoice, HasNoChoice}
-use Rattle.cube_split.specs.Splitting.{IsSplit, full, whole, split, IsTreeOf, AppendsSplit}
+use Rattle.cube_split.specs.Splitting.{IsSplit, full, whole, split, IsTreeOf}
+use Rattle.cube_split.specs.inner.Splitting.{AppendsSplit}
 use Rattle.cube_split.proofs.ChoiceLemmas.{stands_nowhere}
 
 free_behind : (xs ys : List Literal) (v : ℕ) → IsFree (xs ++ ys) v → IsFree ys v

@@ -6,15 +6,15 @@ use Rattle.std.proofs.Math.Seq.{get_or-append_seam}
 use Rattle.std.proofs.lemmas.List.{get_or_append_left, get_or-take, length-take-le, append-nil}
 use Rattle.std.proofs.lemmas.List.Folds.{list_any-append}
 use Rattle.dimacs.specs.logic.Cnf.{Cnf, IsFormula}
-use Rattle.dimacs.specs.layout.Codes.{index_of-literal_of}
+use Rattle.dimacs.specs.inner.Codes.{index_of-literal_of}
 use Rattle.dimacs.specs.logic.Literal.{Literal, Pos, Neg, Clause, same, has, var_of, index_of, literal_of}
 use Rattle.icnf.specs.Leaves.{Cube, IsFree}
 use Rattle.cube_split.specs.Choice.{Choice, IsChoice, stands_in}
-use Rattle.cube_split.specs.Marks.{AreMarked, IsUnmarked, IsGreatest}
-use Rattle.cube_split.specs.Open.{AreTurned, open_count}
-use Rattle.cube_split.specs.Places.{clause_of, ArePlaced, AreChained}
-use Rattle.cube_split.specs.Tallies.{AreListed}
-use Rattle.cube_split.specs.Walking.{StandsAt, IsClosedBy, closed_at}
+use Rattle.cube_split.specs.inner.Marks.{AreMarked, IsUnmarked, IsGreatest}
+use Rattle.cube_split.specs.inner.Open.{AreTurned, open_count}
+use Rattle.cube_split.specs.inner.Places.{clause_of, ArePlaced, AreChained}
+use Rattle.cube_split.specs.inner.Tallies.{AreListed}
+use Rattle.cube_split.specs.inner.Walking.{StandsAt, IsClosedBy, closed_at}
 use Rattle.cube_split.specs.declared.walk.Walk.{Walk}
 use Rattle.cube_split.proofs.ChoiceLemmas.{free_positive, free_negative, AreTables, choice_is, stands_nowhere}
 use Rattle.cube_split.proofs.LevelLemmas.{closed_more, closed_less, stands_are, stands_less}

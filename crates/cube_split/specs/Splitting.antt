@@ -1,5 +1,5 @@
 -- The tree that the split rule makes of a formula.
-use Rattle.std.specs.Prelude.{◌≡◌, ℕ, zero, suc, List, [], ◌∷◌, ◌++◌, map}
+use Rattle.std.specs.Prelude.{ℕ, zero, suc, List, [], ◌∷◌, ◌++◌, map}
 use Rattle.dimacs.specs.logic.Base.{pure_literals}
 use Rattle.dimacs.specs.logic.Cnf.{Cnf}
 use Rattle.dimacs.specs.logic.Literal.{Literal, Pos, Neg}
@@ -22,9 +22,3 @@ pub data IsSplit (f : Cnf) (units : List Literal) : ℕ → Cube → List Cube �
 -- the cubes of the tree of this depth: those below the empty path, over the units of the pure literals
 abbrev pub IsTreeOf : Cnf → ℕ → List Cube → Type 0
 IsTreeOf f depth cubes = IsSplit f (pure_literals f) depth [] cubes
-
--- behind the cubes before stand those below a path
-pub record AppendsSplit (f : Cnf) (units : List Literal) (levels : ℕ) (path : Cube) (before after : List Cube) : Type 0 where
-  pub cubes : List Cube
-  pub appended : after ≡ before ++ cubes
-  pub below : IsSplit f units levels path cubes

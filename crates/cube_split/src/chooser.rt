@@ -2,8 +2,8 @@
 
 ghost use Rattle.std.specs.Prelude.{◌≡◌, ◌+◌, ◌*◌, ◌<◌, ◌≤◌, ◌++◌, false, length, IfOk};
 ghost use Rattle.cube_split.specs.Choice.{Choice};
-ghost use Rattle.cube_split.specs.Marks.{AreMarked};
-ghost use Rattle.cube_split.specs.Tallies.{IsClear};
+ghost use Rattle.cube_split.specs.inner.Marks.{AreMarked};
+ghost use Rattle.cube_split.specs.inner.Tallies.{IsClear};
 
 use crate::greatest::greatest;
 use crate::marks::{mark, unmark};
@@ -24,8 +24,8 @@ pub struct Chooser {
 
 impl Model for Chooser {
     ghost use Rattle.std.specs.Prelude.{ℕ, ◌≡◌, ◌-◌, ◌*◌, ◌<◌, false, length};
-    ghost use Rattle.cube_split.specs.Marks.{AreMarked};
-    ghost use Rattle.cube_split.specs.Tallies.{IsClear};
+    ghost use Rattle.cube_split.specs.inner.Marks.{AreMarked};
+    ghost use Rattle.cube_split.specs.inner.Tallies.{IsClear};
 
     ghost Value = { ℕ };
 

@@ -1,8 +1,8 @@
 //! The greatest count.
 
 ghost use Rattle.std.specs.Prelude.{◌≡◌, ℕ, ◌+◌, ◌-◌, ◌*◌, ◌<◌, ◌≤◌, ◌||◌, length, slice_index, slice_index_or, Bool, true, false, Option, IfSome, IfNone, not};
-ghost use Rattle.cube_split.specs.Marks.{IsUnmarked, IsGreatest, IsAhead, IsAheadOf};
-ghost use Rattle.cube_split.specs.Tallies.{AreListed};
+ghost use Rattle.cube_split.specs.inner.Marks.{IsUnmarked, IsGreatest, IsAhead, IsAheadOf};
+ghost use Rattle.cube_split.specs.inner.Tallies.{AreListed};
 
 use dimacs::Var;
 

@@ -3,7 +3,7 @@
 ghost use Rattle.std.specs.Prelude.{◌≡◌, ◌<◌, ◌↔◌, ◌||◌, ◌&&◌, length, IsTrue, Bool, All, not, false};
 ghost use Rattle.std.specs.List.{list_any};
 ghost use Rattle.dimacs.specs.logic.Literal.{Literal, index_of, has};
-ghost use Rattle.cube_split.specs.Marks.{AreMarked};
+ghost use Rattle.cube_split.specs.inner.Marks.{AreMarked};
 
 use dimacs::Lit;
 

@@ -3,8 +3,8 @@
 ghost use Rattle.std.specs.Prelude.{◌≡◌, ℕ, ◌+◌, ◌<◌, ◌≤◌, length, map, cond, slice_index, All};
 ghost use Rattle.dimacs.specs.logic.Literal.{var_of, index_of};
 ghost use Rattle.cube_split.specs.Choice.{has_variable};
-ghost use Rattle.cube_split.specs.Open.{AreFlagged, AreIndexed, AreTurned, open_count};
-ghost use Rattle.cube_split.specs.Places.{clause_of, places_of};
+ghost use Rattle.cube_split.specs.inner.Open.{AreFlagged, AreIndexed, AreTurned, open_count};
+ghost use Rattle.cube_split.specs.inner.Places.{clause_of, places_of};
 
 use crate::places::{Place, Places};
 use dimacs::Lit;

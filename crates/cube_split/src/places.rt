@@ -2,7 +2,7 @@
 
 ghost use Rattle.std.specs.Prelude.{◌≡◌, ℕ, ◌+◌, ◌*◌, ◌<◌, ◌≤◌, ◌++◌, List, [], ◌∷◌, length, slice_index, All, IfOk, OnOk};
 ghost use Rattle.dimacs.specs.logic.Literal.{var_of, index_of};
-ghost use Rattle.cube_split.specs.Places.{ArePlaced, AreChained, Appends};
+ghost use Rattle.cube_split.specs.inner.Places.{ArePlaced, AreChained, Appends};
 
 use dimacs::{Formula, Lit};
 use std::alloc::{AllocError, Global};

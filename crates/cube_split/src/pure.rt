@@ -1,10 +1,9 @@
 //! The preamble of a formula: the units of its pure literals.
 
-ghost use Rattle.std.specs.Prelude.{◌≡◌, ◌+◌, ◌*◌, ◌<◌, ◌≤◌, ◌&&◌, ◌∷◌, [], not, filter, length, vec_len, All, Bool, List, IfOk};
-ghost use Rattle.std.specs.Option.{option_to_list};
+ghost use Rattle.std.specs.Prelude.{◌≡◌, ◌+◌, ◌*◌, ◌<◌, ◌≤◌, ◌&&◌, ◌∷◌, [], not, filter, length, vec_len, All, Bool, List, IfOk, option_to_list};
 ghost use Rattle.dimacs.specs.logic.Base.{occurs, pure_literals};
 ghost use Rattle.dimacs.specs.logic.Literal.{Literal, Clause, Pos, Neg, negation, IsWithin};
-ghost use Rattle.cube_split.specs.Marks.{AreMarked};
+ghost use Rattle.cube_split.specs.inner.Marks.{AreMarked};
 
 use crate::marks::mark;
 use crate::units::Preamble;

@@ -5,8 +5,9 @@ ghost use Rattle.dimacs.specs.logic.Cnf.{Cnf, AreWithin, greatest_in};
 ghost use Rattle.dimacs.specs.logic.Literal.{Literal, var_of};
 ghost use Rattle.icnf.specs.Leaves.{Cube, IsFree, branched};
 ghost use Rattle.cube_split.specs.Choice.{IsChoice, HasNoChoice};
-ghost use Rattle.cube_split.specs.Splitting.{IsTreeOf, AppendsSplit};
-ghost use Rattle.cube_split.specs.Walking.{StandsAt};
+ghost use Rattle.cube_split.specs.Splitting.{IsTreeOf};
+ghost use Rattle.cube_split.specs.inner.Splitting.{AppendsSplit};
+ghost use Rattle.cube_split.specs.inner.Walking.{StandsAt};
 
 use crate::pure::preamble;
 use crate::walk::Walk;

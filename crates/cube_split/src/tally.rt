@@ -4,8 +4,8 @@ ghost use Rattle.std.specs.Prelude.{◌≡◌, ◌≢◌, ℕ, ◌+◌, ◌*◌,
 ghost use Rattle.std.specs.List.{list_any};
 ghost use Rattle.dimacs.specs.logic.Literal.{Literal, var_of};
 ghost use Rattle.cube_split.specs.Choice.{has_variable};
-ghost use Rattle.cube_split.specs.Marks.{AreMarked};
-ghost use Rattle.cube_split.specs.Tallies.{IsTally, IsClear, AreListed};
+ghost use Rattle.cube_split.specs.inner.Marks.{AreMarked};
+ghost use Rattle.cube_split.specs.inner.Tallies.{IsTally, IsClear, AreListed};
 
 use crate::marks::is_apart;
 use dimacs::{Formula, Lit, Var};

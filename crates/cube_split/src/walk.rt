@@ -6,9 +6,9 @@ ghost use Rattle.dimacs.specs.logic.Cnf.{Cnf};
 ghost use Rattle.dimacs.specs.logic.Literal.{Literal, var_of, has};
 ghost use Rattle.icnf.specs.Leaves.{Cube, IsFree};
 ghost use Rattle.cube_split.specs.Choice.{Choice, has_variable};
-ghost use Rattle.cube_split.specs.Marks.{AreMarked};
-ghost use Rattle.cube_split.specs.Tallies.{IsTally};
-ghost use Rattle.cube_split.specs.Walking.{StandsAt, IsClosedBy};
+ghost use Rattle.cube_split.specs.inner.Marks.{AreMarked};
+ghost use Rattle.cube_split.specs.inner.Tallies.{IsTally};
+ghost use Rattle.cube_split.specs.inner.Walking.{StandsAt, IsClosedBy};
 
 use crate::greatest::greatest;
 use crate::marks::{is_apart, mark};

@@ -3,7 +3,8 @@ use Rattle.std.proofs.Common.{◌≡◌, ℕ, ◌+◌, ◌-◌, ◌<◌, ◌≤�
 use Rattle.std.proofs.lemmas.Bool.{cases_lt, lt-ltb, ltb-true, false_from_ne_true}
 use Rattle.std.proofs.lemmas.List.{set-get_or, get_or-set_same, get_or_past}
 use Rattle.decide_heap.specs.Decisions.{Decisions, IsNoWorse, IsBest}
-use Rattle.decide_heap.specs.Heap.{IsHeap, members_of}
+use Rattle.decide_heap.specs.Heap.{members_of}
+use Rattle.decide_heap.specs.inner.Heap.{IsHeap}
 use Rattle.decide_heap.proofs.OrderLemmas.{first_is_best}
 use Rattle.decide_heap.proofs.MemberLemmas.{member_at, length_members}
 

@@ -2,7 +2,8 @@
 use Rattle.std.proofs.Common.{◌≡◌, ◌≢◌, ◌⊎◌, inl, inr, ℕ, ◌+◌, ◌<◌, ◌≤◌, Bool, true, false, List, length, get_or, set, sym, ap, ◌∙◌, arith, ⊎_elim, nat_lt}
 use Rattle.std.proofs.lemmas.Bool.{cases_eq, cases_lt, lt-ltb, le-ltb}
 use Rattle.std.proofs.lemmas.List.{get_or-set_same, get_or-set_other, get_or-map, length-set, length-map, ext_get_or}
-use Rattle.decide_heap.specs.Heap.{ArePaired, AreSwapped, members_of}
+use Rattle.decide_heap.specs.Heap.{members_of}
+use Rattle.decide_heap.specs.inner.Heap.{ArePaired, AreSwapped}
 
 pub length_members : (places : List ℕ) (len : ℕ) → length (members_of places len) ≡ length places
 length_members places len = length-map places (λ p. nat_lt p len)

@@ -3,7 +3,7 @@ use Rattle.std.proofs.Common.{◌≡◌, ◌≢◌, ℕ, zero, suc, ◌+◌, ◌
 use Rattle.std.specs.Prelude.{slice_index}
 use Rattle.std.proofs.lemmas.Bool.{cases_eq}
 use Rattle.decide_heap.specs.Decisions.{IsNoWorse}
-use Rattle.decide_heap.specs.Heap.{parent, AreSwapped, IsOver, IsOrdered, IsRising}
+use Rattle.decide_heap.specs.inner.Heap.{parent, AreSwapped, IsOver, IsOrdered, IsRising}
 
 -- no worse, by the scores of a list
 abbrev pub NoWorse : List ℕ → ℕ → ℕ → Type 0

@@ -2,7 +2,7 @@
 use Rattle.std.proofs.Common.{◌≡◌, ◌≢◌, ℕ, ◌<◌, List, length, get_or, set, sym, ap, ◌∙◌, arith, ⊎_elim}
 use Rattle.std.proofs.lemmas.Bool.{cases_eq}
 use Rattle.std.proofs.lemmas.List.{get_or-set_same, get_or-set_other, length-set}
-use Rattle.decide_heap.specs.Heap.{ArePaired, AreSwapped}
+use Rattle.decide_heap.specs.inner.Heap.{ArePaired, AreSwapped}
 
 -- two writes that exchange
 pub swapped_writes : (xs : List ℕ) (i j a b : ℕ) → i < length xs → j < length xs → a ≡ get_or xs i 0 → b ≡ get_or xs j 0

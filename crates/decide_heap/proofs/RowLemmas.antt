@@ -4,7 +4,8 @@ use Rattle.std.proofs.lemmas.Bool.{cases_lt, le-ltb}
 use Rattle.std.proofs.lemmas.List.{get_or_append_left, map-append, replicate-append-replicate}
 use Rattle.std.proofs.Math.Seq.{get_or-append_seam}
 use Rattle.decide_heap.specs.Decisions.{IsNoWorse}
-use Rattle.decide_heap.specs.Heap.{parent, ArePaired, IsHeap, members_of}
+use Rattle.decide_heap.specs.Heap.{members_of}
+use Rattle.decide_heap.specs.inner.Heap.{parent, ArePaired, IsHeap}
 use Rattle.decide_heap.proofs.OrderLemmas.{no_worse_at}
 
 -- the entry behind a list

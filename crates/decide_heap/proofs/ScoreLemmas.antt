@@ -3,7 +3,7 @@ use Rattle.std.proofs.Common.{◌≡◌, ◌≢◌, ℕ, ◌+◌, ◌-◌, ◌<�
 use Rattle.std.proofs.lemmas.Bool.{cases_eq, cases_lt, cond_below, cond_above}
 use Rattle.std.proofs.lemmas.List.{get_or-set_same, get_or-set_other}
 use Rattle.decide_heap.specs.Decisions.{one_more}
-use Rattle.decide_heap.specs.Heap.{parent, ArePaired, AreSwapped, IsOrdered, IsRising, IsHeap}
+use Rattle.decide_heap.specs.inner.Heap.{parent, ArePaired, AreSwapped, IsOrdered, IsRising, IsHeap}
 use Rattle.decide_heap.proofs.OrderLemmas.{NoWorse, no_worse_at, no_worse_through}
 
 -- a score does not fall

@@ -1,2 +1,3 @@
 pub mod Decisions
 pub mod Heap
+pub mod inner

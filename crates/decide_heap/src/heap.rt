@@ -24,7 +24,8 @@ pub struct DecideHeap {
 impl Model for DecideHeap {
     ghost use Rattle.std.specs.Prelude.{vec_len};
     ghost use Rattle.decide_heap.specs.Decisions.{Decisions};
-    ghost use Rattle.decide_heap.specs.Heap.{IsHeap, members_of};
+    ghost use Rattle.decide_heap.specs.Heap.{members_of};
+    ghost use Rattle.decide_heap.specs.inner.Heap.{IsHeap};
 
     ghost Value = { Decisions };
 

@@ -2,7 +2,8 @@
 
 ghost use Rattle.std.specs.Prelude.{◌≡◌, ℕ, ◌+◌, ◌-◌, ◌/◌, ◌^◌, ◌<◌, ◌≤◌, true, false, length, map, slice_index, slice_index_or, slice_set};
 ghost use Rattle.decide_heap.specs.Decisions.{one_more};
-ghost use Rattle.decide_heap.specs.Heap.{IsHeap, members_of};
+ghost use Rattle.decide_heap.specs.Heap.{members_of};
+ghost use Rattle.decide_heap.specs.inner.Heap.{IsHeap};
 
 use crate::sifting::{exchange, heapify, sift_down, sift_up};
 

@@ -1,7 +1,8 @@
 //! Rows for more variables.
 
 ghost use Rattle.std.specs.Prelude.{◌≡◌, ℕ, ◌+◌, ◌-◌, ◌^◌, ◌<◌, ◌≤◌, ◌++◌, false, replicate, vec_len, vec_capacity, OnOk};
-ghost use Rattle.decide_heap.specs.Heap.{IsHeap, members_of};
+ghost use Rattle.decide_heap.specs.Heap.{members_of};
+ghost use Rattle.decide_heap.specs.inner.Heap.{IsHeap};
 
 use std::alloc::AllocError;
 

@@ -3,7 +3,7 @@
 
 ghost use Rattle.std.specs.Prelude.{◌≡◌, ℕ, ◌+◌, ◌*◌, ◌^◌, ◌<◌, ◌≤◌, length, slice_index, slice_set, MatchBool};
 ghost use Rattle.decide_heap.specs.Decisions.{IsNoWorse};
-ghost use Rattle.decide_heap.specs.Heap.{ArePaired, AreSwapped, IsOrdered, IsOver, IsRising};
+ghost use Rattle.decide_heap.specs.inner.Heap.{ArePaired, AreSwapped, IsOrdered, IsOver, IsRising};
 
 /// Whether a variable comes before another.
 #[inline]

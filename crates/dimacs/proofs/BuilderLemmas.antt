@@ -3,7 +3,8 @@ use Rattle.std.proofs.Common.{◌≡◌, ℕ, zero, suc, ◌+◌, ◌-◌, ◌<�
 use Rattle.std.proofs.Math.Seq.{get_or-append_seam}
 use Rattle.std.proofs.lemmas.Bool.{cases_lt}
 use Rattle.std.proofs.lemmas.List.{take_all, drop_all, take-append-le, take-append-drop, drop-append-le, get_or_append_left, get_or_read}
-use Rattle.dimacs.specs.layout.Building.{Building, IsLaid}
+use Rattle.dimacs.specs.layout.Building.{Building}
+use Rattle.dimacs.specs.inner.Building.{IsLaid}
 use Rattle.dimacs.specs.logic.Cnf.{AreWithin, greatest_of, greatest_in}
 use Rattle.dimacs.proofs.WithinLemmas.{EachWithin, each_within}
 use Rattle.dimacs.specs.logic.Literal.{Literal, Clause, IsWithin, var_of}

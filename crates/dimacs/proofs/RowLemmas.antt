@@ -3,7 +3,8 @@ use Rattle.std.proofs.Common.{◌≡◌, ℕ, ◌+◌, ◌<◌, ◌≤◌, List,
 use Rattle.std.specs.Borrow.{Bor}
 use Rattle.std.specs.List.{flat_map}
 use Rattle.dimacs.specs.text.Rows.{Format, Answers, AreRows, Fails, by_tokens, read_lines, read_text, read_words, ◌>>=◌}
-use Rattle.dimacs.specs.text.Words.{left_len, words, words_of}
+use Rattle.dimacs.specs.text.Words.{words, words_of}
+use Rattle.dimacs.specs.inner.Words.{left_len}
 
 -- what is left is less
 pub left_shorter : (o : Option (Bor (List ℕ))) (n : ℕ) → IfSome o (λ rest. length rest.now < n) → left_len o ≤ n

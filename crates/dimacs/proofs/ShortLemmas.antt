@@ -8,7 +8,7 @@ use Rattle.std.proofs.lemmas.Bool.{ne_eqb}
 use Rattle.std.proofs.lemmas.Bool.Decides.{nat_tests}
 use Rattle.std.proofs.lemmas.List.{get_or-take, take_all}
 use Rattle.std.proofs.lemmas.List.Sums.{position_or_len_is}
-use Rattle.dimacs.specs.layout.Capped.{capped}
+use Rattle.dimacs.specs.inner.Capped.{capped}
 use Rattle.dimacs.specs.text.Numbers.{digits_from, natural, negated, positive, number}
 use Rattle.dimacs.specs.text.Words.{is_white}
 use Rattle.dimacs.proofs.NumberLemmas.{Digits, digits_begin, digits_more, minus_front}

@@ -5,7 +5,7 @@ use Rattle.std.proofs.lemmas.Bool.Decides.{nat_tests}
 use Rattle.dimacs.specs.declared.fault.Kind.TheVariants.{BadToken, VariableAboveHeader, TooManyClauses, AboveLimit}
 use Rattle.dimacs.specs.declared.number.Number.{Number}
 use Rattle.dimacs.specs.text.BodyState.{BodyState}
-use Rattle.dimacs.specs.layout.Capped.{capped}
+use Rattle.dimacs.specs.inner.Capped.{capped}
 use Rattle.dimacs.specs.logic.Literal.{Literal, Pos, Neg, literal_of_number}
 use Rattle.dimacs.specs.text.Numbers.{number}
 use Rattle.dimacs.specs.text.Reading.{read_token, read_number, fault}

@@ -1,3 +1,4 @@
+pub mod inner
 pub mod layout
 pub mod logic
 pub mod text

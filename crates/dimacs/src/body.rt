@@ -1,13 +1,13 @@
 //! The part of a DIMACS text behind its header: numbers, each clause ended by 0.
 
-ghost use Rattle.std.specs.Prelude.{◌≡◌, ℕ, List, ◌+◌, ◌<◌, ◌≤◌, [], ◌∷◌, ◌++◌, length, OnOk, IfOk, nat_le};
-ghost use Rattle.std.specs.Option.{option_map};
-ghost use Rattle.dimacs.specs.layout.Capped.{capped};
+ghost use Rattle.std.specs.Prelude.{◌≡◌, ℕ, List, ◌+◌, ◌<◌, ◌≤◌, [], ◌∷◌, ◌++◌, length, OnOk, IfOk, nat_le, option_map};
+ghost use Rattle.dimacs.specs.inner.Capped.{capped};
 ghost use Rattle.dimacs.specs.logic.Literal.{IsWithin};
 ghost use Rattle.dimacs.specs.text.Numbers.{number};
 ghost use Rattle.dimacs.specs.text.Words.{words};
 ghost use Rattle.dimacs.specs.text.Reading.{read_token, format, no_memory};
-ghost use Rattle.dimacs.specs.text.Rows.{Gives, read_words};
+ghost use Rattle.dimacs.specs.text.Rows.{read_words};
+ghost use Rattle.dimacs.specs.inner.Rows.{Gives};
 
 use crate::builder::Builder;
 use crate::fault::{DimacsFault, Kind};

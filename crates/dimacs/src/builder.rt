@@ -20,7 +20,8 @@ pub struct Builder {
 
 impl Model for Builder {
     ghost use Rattle.std.specs.Prelude.{ℕ, vec_len, drop};
-    ghost use Rattle.dimacs.specs.layout.Building.{Building, IsLaid};
+    ghost use Rattle.dimacs.specs.layout.Building.{Building};
+    ghost use Rattle.dimacs.specs.inner.Building.{IsLaid};
     ghost use Rattle.dimacs.specs.layout.Flat.{parts, last_place};
 
     ghost Value = { Building };

@@ -52,7 +52,7 @@ pub struct Lit {
 impl Model for Lit {
     ghost use Rattle.std.specs.Prelude.{◌≤◌};
     ghost use Rattle.dimacs.specs.logic.Literal.{Literal, literal_of, index_of};
-    ghost use Rattle.dimacs.specs.layout.Codes.{index_of-literal_of};
+    ghost use Rattle.dimacs.specs.inner.Codes.{index_of-literal_of};
 
     ghost Value = { Literal };
 
@@ -84,7 +84,7 @@ impl Lit {
         }
     }
 
-    /// The literal that is true exactly where this one is false.
+    /// The literal that is true if and only if this one is false.
     #[inline]
     pub fn negate(self) -> Lit
         ensures { result ≡ negation self }

@@ -1,11 +1,10 @@
 //! Decimal numbers in texts.
 
-ghost use Rattle.std.specs.Prelude.{◌≡◌, ℕ, ◌<◌, ◌≤◌, List, [], ◌∷◌, Option, option_and_then, Some, None, min, length, take, drop, IfSome, MatchBool, MatchOption, slice_index, ◌≢◌, if◌then◌else◌};
+ghost use Rattle.std.specs.Prelude.{◌≡◌, ℕ, ◌<◌, ◌≤◌, List, [], ◌∷◌, Option, option_and_then, Some, None, min, length, take, drop, IfSome, MatchBool, MatchOption, slice_index, ◌≢◌, if◌then◌else◌, option_map};
 ghost use Rattle.std.specs.Bool.{OnTrue};
 ghost use Rattle.std.specs.List.{position_or_len};
-ghost use Rattle.std.specs.Option.{option_map};
 ghost use Rattle.std.specs.Str.{byte};
-ghost use Rattle.dimacs.specs.layout.Capped.{capped};
+ghost use Rattle.dimacs.specs.inner.Capped.{capped};
 ghost use Rattle.dimacs.specs.logic.Literal.{Pos, Neg};
 ghost use Rattle.dimacs.specs.text.Numbers.{digits_from, natural as natural_of, number as number_of, negated, positive};
 ghost use Rattle.dimacs.specs.text.Words.{is_white, words};

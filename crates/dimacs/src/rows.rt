@@ -1,8 +1,10 @@
 //! Texts of lines of tokens, of which the first line with a token is a header.
 
 ghost use Rattle.std.specs.Prelude.{◌≡◌, ◌+◌, ◌<◌, ◌^◌};
-ghost use Rattle.dimacs.specs.text.Rows.{Answers, Format, Gives, read_lines, read_text, read_words};
-ghost use Rattle.dimacs.specs.text.Words.{left_len, lines, lines_left, words, words_of};
+ghost use Rattle.dimacs.specs.text.Rows.{Answers, Format, read_lines, read_text, read_words};
+ghost use Rattle.dimacs.specs.inner.Rows.{Gives};
+ghost use Rattle.dimacs.specs.text.Words.{lines, words, words_of};
+ghost use Rattle.dimacs.specs.inner.Words.{left_len, lines_left};
 
 use crate::words::{is_blank, next_line};
 use std::alloc::Global;

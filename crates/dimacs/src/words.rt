@@ -2,7 +2,8 @@
 
 ghost use Rattle.std.specs.Prelude.{◌≡◌, ◌<◌, ◌≤◌, [], ◌∷◌, length, MatchOption, MatchBool, IfSome};
 ghost use Rattle.std.specs.List.{prefix_len, position_or_len};
-ghost use Rattle.dimacs.specs.text.Words.{is_white, words, words_of, is_comment, lines, lines_left};
+ghost use Rattle.dimacs.specs.text.Words.{is_white, words, words_of, is_comment, lines};
+ghost use Rattle.dimacs.specs.inner.Words.{lines_left};
 
 use memchr::memchr;
 

@@ -1,7 +1,6 @@
 //! The DIMACS text of a formula.
 
-ghost use Rattle.std.specs.Prelude.{◌≡◌, ◌+◌, ◌++◌, ◌∷◌, [], length, take, OnOk, OnErr, decimal, codes};
-ghost use Rattle.std.specs.List.{flat_map};
+ghost use Rattle.std.specs.Prelude.{◌≡◌, ◌+◌, ◌++◌, ◌∷◌, [], length, take, OnOk, OnErr, decimal, codes, flat_map};
 ghost use Rattle.dimacs.specs.text.Spelling.{spelling, literal_text, clause_line, clause_text, header_text, Begins, Spells};
 
 use crate::formula::Formula;

@@ -9,7 +9,7 @@ use Rattle.std.proofs.lemmas.List.Elements.{recursion_from_All}
 use Rattle.dimacs.specs.logic.Literal.{Literal, var_of, number_of, IsWithin}
 use Rattle.frames.specs.Cubes.{IsCube, names, takes}
 use Rattle.frames.specs.Spelling.{literal_bytes}
-use Rattle.frames.specs.Reading.{IsWord, SpellsNone}
+use Rattle.frames.specs.inner.Reading.{IsWord, SpellsNone}
 use Rattle.frames.proofs.SameFields.{same_32, same_literal, word_fits, word_same}
 
 -- what a cube has behind the literals that were read

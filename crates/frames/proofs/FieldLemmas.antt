@@ -7,7 +7,7 @@ use Rattle.std.proofs.lemmas.List.{take-append-drop, get_or-take, get_or_past}
 use Rattle.frames.specs.declared.answer.Finding.TheVariants.{Refuted, Assignment}
 use Rattle.frames.specs.declared.answer.Outcome.TheVariants.{Decided, Limit}
 use Rattle.frames.specs.Spelling.{attempt_bytes, finding_bytes, outcome_bytes, IsWorker, IsAttempt, IsFinding, IsOutcome}
-use Rattle.frames.specs.Reading.{StandsAt, NoneStandsAt, SpellsNone}
+use Rattle.frames.specs.inner.Reading.{StandsAt, NoneStandsAt, SpellsNone}
 use Rattle.frames.proofs.SameFields.{same_32, same_64, worker_fits}
 
 abbrev pub IsBytes : List ℕ → Type 0

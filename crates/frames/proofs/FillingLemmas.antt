@@ -6,7 +6,7 @@ use Rattle.frames.specs.declared.frame.Kind.{Kind}
 use Rattle.frames.specs.declared.head.Head.{Head}
 use Rattle.frames.specs.declared.head.Head.TheVariants.{Short, Wrong, Whole}
 use Rattle.frames.specs.Stream.{head_of, Ends, EndsAfter, Open, Fault, End}
-use Rattle.frames.specs.Filling.{lacks_by, lacks, EndsWith, IsWithin, Fills}
+use Rattle.frames.specs.inner.Filling.{lacks_by, lacks, EndsWith, IsWithin, Fills}
 use Rattle.frames.specs.declared.frame.Frame.{Frame}
 use Rattle.frames.specs.Spelling.{FrameBytes, payload, kind_of}
 use Rattle.frames.specs.Stream.{Splits, Begins, Stream}

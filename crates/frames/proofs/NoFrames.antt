@@ -5,7 +5,7 @@ use Rattle.frames.specs.declared.frame.Frame.{Frame}
 use Rattle.frames.specs.declared.frame.Frame.TheVariants.{Done, Fetch, Piece}
 use Rattle.frames.specs.declared.frame.Kind.TheVariants as kinds
 use Rattle.frames.specs.Spelling.{attempt_bytes, outcome_bytes, IsAttempt}
-use Rattle.frames.specs.Reading.{NoneStandsAt, Carries}
+use Rattle.frames.specs.inner.Reading.{NoneStandsAt, Carries}
 
 pub no_done : (p : List ℕ) → NoneStandsAt attempt_bytes IsAttempt p → (f : Frame) → Carries kinds.Done p f → ⊥
 no_done p none (Done a o) c = none a (outcome_bytes o) c.right.0 (sym c.payload_is)

@@ -3,7 +3,7 @@ use Rattle.std.proofs.Common.{◌≡◌, ℕ, ◌+◌, ◌≤◌, ◌-◌, List,
 use Rattle.std.specs.Int.{w16, w32, w64, from_be_bytes}
 use Rattle.std.proofs.lemmas.List.{append-nil, drop-drop, drop_all, take_rest}
 use Rattle.byteorder.specs.Endian.{big_number}
-use Rattle.frames.specs.Writing.{Puts}
+use Rattle.frames.specs.inner.Writing.{Puts}
 
 pub number_16 : (bytes : List ℕ) → big_number 2 bytes ≡ from_be_bytes w16 bytes
 number_16 bytes = omega arith

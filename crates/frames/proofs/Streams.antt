@@ -14,7 +14,7 @@ use Rattle.frames.specs.declared.head.Head.{Head}
 use Rattle.frames.specs.declared.head.Head.TheVariants.{Short, Wrong, Whole}
 use Rattle.frames.specs.Spelling.{mark, kind_number, kind_of, payload, FrameBytes, IsRight}
 use Rattle.frames.specs.Stream.{head_of, End, Open, Fault, EndsAfter, Ends, Splits, Stream, Begins, BeginsNoFrame}
-use Rattle.frames.specs.Reading.{Carries}
+use Rattle.frames.specs.inner.Reading.{Carries}
 use Rattle.frames.proofs.FieldLemmas.{IsBytes}
 use Rattle.frames.proofs.Payloads.{head_again, same_frame}
 use Rattle.frames.proofs.Heads.{head_more, head_whole}

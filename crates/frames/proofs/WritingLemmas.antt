@@ -6,7 +6,7 @@ use Rattle.std.proofs.lemmas.List.Concat.{flat_map-cons}
 use Rattle.std.proofs.lemmas.Grind.{flat_map-append}
 use Rattle.dimacs.specs.logic.Literal.{Literal}
 use Rattle.frames.specs.Spelling.{literal_bytes}
-use Rattle.frames.specs.Writing.{Puts}
+use Rattle.frames.specs.inner.Writing.{Puts}
 
 pub Puts-first : {a b : List ℕ} {i j : ℕ} (x y : List ℕ) → x ≡ y → Puts a i x b j → Puts a i y b j
 Puts-first {a} {b} {i} {j} x y e p = subst (λ (z : List ℕ). Puts a i z b j) e p

@@ -1,8 +1,6 @@
 pub mod Answers
 pub mod Cubes
-pub mod Filling
 pub mod Readers
-pub mod Reading
 pub mod Spelling
 pub mod Stream
-pub mod Writing
+pub mod inner

@@ -1,20 +1,8 @@
 -- What a reader keeps.
-use Rattle.std.specs.Prelude.{◌≢◌, ℕ, ◌≤◌, List, Option, Some, None, vec_capacity}
-use Rattle.std.specs.Global.{Vec}
+use Rattle.std.specs.Prelude.{ℕ, List, Option, Some, None}
 use Rattle.frames.specs.declared.fault.FrameFault.{FrameFault}
-use Rattle.frames.specs.declared.fault.FrameFault.TheVariants.{NoMemory}
-use Rattle.frames.specs.Stream.{Progress, Within, Failed, Ends, Open}
+use Rattle.frames.specs.Stream.{Progress, Within, Failed}
 
 abbrev pub progress_of : Option FrameFault → List ℕ → Progress
 progress_of None rest = Within rest
 progress_of (Some fault) rest = Failed fault
-
--- a rest that is open, or a fault of the stream
-abbrev pub IsProgress : Option FrameFault → List ℕ → Type 0
-IsProgress None rest = Ends rest Open
-IsProgress (Some fault) rest = fault ≢ NoMemory
-
--- the buffer has room for the longest frame
-pub record IsReader (fault : Option FrameFault) (buffer : Vec ℕ) : Type 0 where
-  pub room : 4037 ≤ vec_capacity buffer
-  pub progress : IsProgress fault buffer.items

@@ -3,7 +3,6 @@ use Rattle.std.specs.Prelude.{ℕ, ◌^◌, ◌<◌, ◌≤◌, ◌%◌, Bool, �
 use Rattle.std.specs.List.{flat_map}
 use Rattle.std.specs.Int.{w16, w32, w64, to_be_bytes, cast_unsigned}
 use Rattle.dimacs.specs.logic.Literal.{Literal, number_of}
-use Rattle.frames.specs.declared.answer.Answer.{Answer}
 use Rattle.frames.specs.declared.answer.Finding.{Finding}
 use Rattle.frames.specs.declared.answer.Finding.TheVariants.{Refuted, Assignment}
 use Rattle.frames.specs.declared.answer.Outcome.{Outcome}
@@ -74,9 +73,6 @@ literal_bytes l = to_be_bytes w32 (cast_unsigned w32 (number_of l))
 abbrev pub attempt_bytes : Attempt → List ℕ
 attempt_bytes a = to_be_bytes w64 a.session ++ to_be_bytes w64 a.job ++ to_be_bytes w32 a.worker ++ to_be_bytes w64 a.incarnation
 
-abbrev pub answer_bytes : Answer → List ℕ
-answer_bytes a = answer_number a ∷ []
-
 -- the answer's number, and the length
 abbrev pub finding_bytes : Finding → List ℕ
 finding_bytes f = answer_number (answer_of f) ∷ to_be_bytes w32 (length_of f)
@@ -109,10 +105,6 @@ pub record IsAttempt (a : Attempt) : Type 0 where
   pub job : a.job < 2 ^ 64
   pub worker : IsWorker a.worker
   pub incarnation : a.incarnation < 2 ^ 64
-
--- either answer is right
-abbrev pub IsAnswer : Answer → Type 0
-IsAnswer a = Unit {0}
 
 -- a proof has a byte at least
 abbrev pub IsFinding : Finding → Type 0

@@ -2,7 +2,7 @@
 
 ghost use Rattle.std.specs.Prelude.{◌≡◌, ◌≤◌, ◌%◌, length, true};
 ghost use Rattle.frames.specs.Spelling.{may_have};
-ghost use Rattle.frames.specs.Reading.{Decodes};
+ghost use Rattle.frames.specs.inner.Reading.{Decodes};
 
 use crate::chunk::Chunk;
 use crate::fault::FrameFault;

@@ -1,11 +1,10 @@
 //! The spelling of frames.
 
-ghost use Rattle.std.specs.Prelude.{◌≡◌, ◌+◌, ◌*◌, ◌≤◌, ◌∷◌, ◌++◌, length, drop};
+ghost use Rattle.std.specs.Prelude.{◌≡◌, ◌+◌, ◌*◌, ◌≤◌, ◌∷◌, ◌++◌, length, drop, flat_map};
 ghost use Rattle.std.specs.Int.{w16, w32, cast_unsigned, to_be_bytes};
-ghost use Rattle.std.specs.List.{flat_map};
 ghost use Rattle.dimacs.specs.logic.Literal.{number_of};
 ghost use Rattle.frames.specs.Spelling.{FrameBytes, IsRight, kind_number, payload, literal_bytes, attempt_bytes, finding_bytes, outcome_bytes};
-ghost use Rattle.frames.specs.Writing.{Puts};
+ghost use Rattle.frames.specs.inner.Writing.{Puts};
 
 use crate::answer::{Answer, Finding, Outcome};
 use crate::chunk::Chunk;

@@ -1,12 +1,12 @@
 //! Fields, as they are read from the front of a payload.
 
-ghost use Rattle.std.specs.Prelude.{◌≡◌, ◌≢◌, ◌+◌, ◌*◌, ◌%◌, ◌≤◌, ◌<◌, ◌^◌, ◌++◌, length, take, drop, MatchOption, MatchResult};
+ghost use Rattle.std.specs.Prelude.{◌≡◌, ◌≢◌, ◌+◌, ◌*◌, ◌%◌, ◌≤◌, ◌<◌, ◌^◌, ◌++◌, length, take, drop, MatchOption, MatchResult, flat_map};
 ghost use Rattle.std.specs.Int.{w32, to_be_bytes};
-ghost use Rattle.std.specs.List.{flat_map};
 ghost use Rattle.dimacs.specs.logic.Literal.{Literal};
 ghost use Rattle.frames.specs.Cubes.{IsCube};
-ghost use Rattle.frames.specs.Spelling.{attempt_bytes, answer_bytes, finding_bytes, outcome_bytes, literal_bytes, IsWorker, IsAttempt, IsAnswer, IsFinding, IsOutcome};
-ghost use Rattle.frames.specs.Reading.{StandsAt, NoneStandsAt, IsSpelled, SpellsNone, IsWord, NotRead};
+ghost use Rattle.frames.specs.Spelling.{attempt_bytes, finding_bytes, outcome_bytes, literal_bytes, IsWorker, IsAttempt, IsFinding, IsOutcome};
+ghost use Rattle.frames.specs.inner.Spelling.{answer_bytes, IsAnswer};
+ghost use Rattle.frames.specs.inner.Reading.{StandsAt, NoneStandsAt, IsSpelled, SpellsNone, IsWord, NotRead};
 
 use crate::answer::{Answer, Finding, Outcome, ProofLength};
 use crate::cube::Cube;

@@ -2,7 +2,7 @@
 
 ghost use Rattle.std.specs.Prelude.{◌≡◌, ◌+◌, ◌≤◌, ◌<◌, ◌^◌, ◌++◌, length, drop};
 ghost use Rattle.std.specs.Int.{w16, w32, w64, to_be_bytes};
-ghost use Rattle.frames.specs.Writing.{Puts};
+ghost use Rattle.frames.specs.inner.Writing.{Puts};
 
 use byteorder::{BigEndian, ByteOrder};
 

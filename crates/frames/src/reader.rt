@@ -4,7 +4,7 @@ ghost use Rattle.std.specs.Prelude.{◌≡◌, ◌≢◌, ◌+◌, ◌≤◌, �
 ghost use Rattle.frames.specs.declared.frame.Frame.{Frame};
 ghost use Rattle.frames.specs.declared.fault.FrameFault.{FrameFault};
 ghost use Rattle.frames.specs.Stream.{Open, Fault, Ends, Begins, BeginsNoFrame, BeginsWith, Splits, StopsBefore, Stream, Within, Failed, TakesPiece, joined};
-ghost use Rattle.frames.specs.Filling.{lacks, Fills};
+ghost use Rattle.frames.specs.inner.Filling.{lacks, Fills};
 
 use crate::decoding::frame_of;
 use crate::fault::FrameFault;
@@ -29,7 +29,8 @@ impl Model for Reader {
 
     ghost Value = { Progress };
 
-    ghost use Rattle.frames.specs.Readers.{progress_of, IsReader};
+    ghost use Rattle.frames.specs.Readers.{progress_of};
+    ghost use Rattle.frames.specs.inner.Readers.{IsReader};
 
     ghost view = { λ r. progress_of r.fault r.buffer.items };
 

@@ -4,15 +4,16 @@ use Rattle.std.specs.Option.{option_map}
 use Rattle.dimacs.specs.declared.number.Number.{Number}
 use Rattle.dimacs.specs.layout.Building.{Building}
 use Rattle.dimacs.specs.logic.Cnf.{greatest_of, greatest_in}
-use Rattle.dimacs.specs.layout.Capped.{capped}
+use Rattle.dimacs.specs.inner.Capped.{capped}
 use Rattle.dimacs.specs.logic.Literal.{Literal, Clause, var_of}
-use Rattle.dimacs.specs.text.Rows.{Gives}
+use Rattle.dimacs.specs.inner.Rows.{Gives}
 use Rattle.dimacs.specs.text.Numbers.{number}
 use Rattle.icnf.specs.declared.fault.IcnfFault.{IcnfFault}
 use Rattle.icnf.specs.declared.fault.Kind.TheVariants.{BadToken}
 use Rattle.icnf.specs.declared.walk.Stage.{Stage}
 use Rattle.icnf.specs.declared.walk.Stage.TheVariants.{Clauses, Outside, Inside, Complete}
-use Rattle.icnf.specs.ReadState.{ReadState, IsRead, IsClosed}
+use Rattle.icnf.specs.ReadState.{ReadState}
+use Rattle.icnf.specs.inner.ReadState.{IsRead, IsClosed}
 use Rattle.icnf.specs.Walk.{WalkState}
 use Rattle.icnf.specs.Reading.{no_memory, read_token, read_mark, read_number, fault}
 

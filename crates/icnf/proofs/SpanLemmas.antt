@@ -9,7 +9,8 @@ use Rattle.icnf.specs.declared.place.Place.{Place}
 use Rattle.icnf.specs.declared.span.Span.{Span}
 use Rattle.icnf.specs.Walk.{literals_of}
 use Rattle.icnf.specs.Leaves.{Cube, Leaves, leaf, branched, IsTree}
-use Rattle.icnf.specs.Spans.{cube_in, cubes_in, IsSpan, AreSpans}
+use Rattle.icnf.specs.Spans.{cube_in, cubes_in}
+use Rattle.icnf.specs.inner.Spans.{IsSpan, AreSpans}
 
 -- more literals at the end change no cube
 pub cube_stays : (xs ys : List Literal) (s : Span) → IsSpan (length xs) s → cube_in (xs ++ ys) s ≡ cube_in xs s

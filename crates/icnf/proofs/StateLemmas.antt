@@ -18,7 +18,8 @@ use Rattle.icnf.specs.declared.walk.Stage.{Stage}
 use Rattle.icnf.specs.declared.walk.Stage.TheVariants.{Clauses, Outside, Inside, Complete}
 use Rattle.icnf.specs.Leaves.{Cube, Leaves}
 use Rattle.icnf.specs.ReadState.{ReadState}
-use Rattle.icnf.specs.Walk.{literals_of, free_place, next_front, names, fits, advanced_by, behind_cube, Begun}
+use Rattle.icnf.specs.Walk.{literals_of, free_place, next_front, names, fits, advanced_by, behind_cube}
+use Rattle.icnf.specs.inner.Walk.{Begun}
 use Rattle.icnf.specs.Reading.{Token, Mark, Number, token, read_found, begin_behind, in_clause, in_cube, literal_in_cube, end_cube, finish, format, start, fault}
 use Rattle.dimacs.specs.text.Rows.{read_lines}
 use Rattle.dimacs.proofs.RowLemmas.{bind_ok}

@@ -9,7 +9,8 @@ use Rattle.icnf.specs.declared.place.Place.{Place}
 use Rattle.icnf.specs.declared.walk.Stage.{Stage}
 use Rattle.icnf.specs.declared.walk.Stage.TheVariants.{Clauses, Outside, Inside, Complete}
 use Rattle.icnf.specs.Leaves.{Cube, IsFree, Leaves, leaf, fork}
-use Rattle.icnf.specs.Walk.{literals_of, free_place, other_place, front_behind, next_front, names, advanced, ended_cube, BeforePlace, Begun, IsWalked}
+use Rattle.icnf.specs.Walk.{literals_of, free_place, other_place, front_behind, next_front, names, advanced, ended_cube}
+use Rattle.icnf.specs.inner.Walk.{BeforePlace, Begun, IsWalked}
 
 -- a last place whose other branch was read is passed over
 pub front_closed : (path : List Place) (p : Place) → p.is_open ≡ false → next_front (path ++ p ∷ []) ≡ next_front path

@@ -1,11 +1,11 @@
 -- Reading the cubes of a tree from left to right.
-use Rattle.std.specs.Prelude.{◌≡◌, ℕ, ◌<◌, ◌==◌, Bool, true, false, List, [], ◌∷◌, ◌++◌, length, map, Option, Some, None, if◌then◌else◌}
+use Rattle.std.specs.Prelude.{ℕ, ◌==◌, Bool, true, false, List, [], ◌∷◌, ◌++◌, map, Option, Some, None, if◌then◌else◌}
 use Rattle.std.specs.List.{list_any}
 use Rattle.dimacs.specs.logic.Literal.{Literal, negation, var_of, same}
 use Rattle.icnf.specs.declared.place.Place.{Place}
 use Rattle.icnf.specs.declared.walk.Stage.{Stage}
-use Rattle.icnf.specs.declared.walk.Stage.TheVariants.{Clauses, Outside, Inside, Complete}
-use Rattle.icnf.specs.Leaves.{Cube, IsFree, Leaves}
+use Rattle.icnf.specs.declared.walk.Stage.TheVariants.{Outside, Complete}
+use Rattle.icnf.specs.Leaves.{Cube}
 
 -- where the text stands, the cubes that have ended, what was read of the open one, and what it must go on with
 pub record WalkState : Type 0 where
@@ -60,20 +60,3 @@ behind_cube (Some front) cubes = record { stage = Outside; cubes = cubes; path =
 
 abbrev pub ended_cube : WalkState → WalkState
 ended_cube w = behind_cube (next_front w.path) (w.cubes ++ literals_of w.path ∷ [])
-
--- what was read before a path goes on behind a place: nothing where its other branch is missing, else the leaves of that branch
-abbrev pub BeforePlace : Bool → Cube → List Cube → (List Cube → Type 0) → Type 0
-BeforePlace true other cubes later = later cubes
-BeforePlace false other cubes later = (first rest : List Cube) × (cubes ≡ first ++ rest) × Leaves other first × later rest
-
--- the cubes are those of the branches that were left behind on a path
-abbrev pub Begun : Cube → List Place → List Cube → Type 0
-Begun front [] cubes = cubes ≡ []
-Begun front (p ∷ path) cubes = IsFree front (var_of p.literal) × BeforePlace p.is_open (front ++ negation p.literal ∷ []) cubes (Begun (front ++ p.literal ∷ []) path)
-
--- what the cubes are, by where the text stands
-abbrev pub IsWalked : Stage → List Place → List Cube → Type 0
-IsWalked Clauses path cubes = Begun [] path cubes
-IsWalked Outside path cubes = Begun [] path cubes
-IsWalked Inside path cubes = Begun [] path cubes × (length cubes < 65536)
-IsWalked Complete path cubes = Leaves [] cubes

@@ -1,11 +1,12 @@
 //! The part of an iCNF text behind its header: clauses, and then cubes.
 
 ghost use Rattle.std.specs.Prelude.{◌≡◌, ◌≢◌, ℤ, ◌+◌, ◌<◌, ◌≤◌, [], ◌∷◌, ◌++◌, length, OnOk, IfOk, bytes_eq, codes};
-ghost use Rattle.dimacs.specs.layout.Capped.{capped};
+ghost use Rattle.dimacs.specs.inner.Capped.{capped};
 ghost use Rattle.dimacs.specs.logic.Literal.{var_of};
 ghost use Rattle.dimacs.specs.text.Words.{words};
 ghost use Rattle.icnf.specs.Reading.{format, no_memory, start, begin, read_mark, in_clause, end_cube, literal_in_cube, in_cube, read_number, read_token};
-ghost use Rattle.dimacs.specs.text.Rows.{Gives, read_words};
+ghost use Rattle.dimacs.specs.text.Rows.{read_words};
+ghost use Rattle.dimacs.specs.inner.Rows.{Gives};
 
 use crate::fault::{IcnfFault, Kind};
 use crate::header::read_header;
@@ -26,7 +27,8 @@ pub(crate) struct Body {
 }
 
 impl Model for Body {
-    ghost use Rattle.icnf.specs.ReadState.{ReadState, IsRead};
+    ghost use Rattle.icnf.specs.ReadState.{ReadState};
+    ghost use Rattle.icnf.specs.inner.ReadState.{IsRead};
 
     ghost Value = { ReadState };
 

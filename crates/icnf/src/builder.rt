@@ -22,7 +22,8 @@ impl Model for TreeBuilder {
 
     ghost Value = { List Cube };
 
-    ghost use Rattle.icnf.specs.Spans.{cubes_in, AreSpans};
+    ghost use Rattle.icnf.specs.Spans.{cubes_in};
+    ghost use Rattle.icnf.specs.inner.Spans.{AreSpans};
 
     ghost view = { λ t. cubes_in t.literals.items t.spans.items };
 

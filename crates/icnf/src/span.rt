@@ -2,7 +2,8 @@
 
 ghost use Rattle.std.specs.Prelude.{◌≡◌, ◌+◌, ◌-◌, ◌^◌, ◌<◌, ◌≤◌, [], ◌∷◌, ◌++◌, length, slice_index_or, vec_len, vec_capacity, OnOk, OnErr};
 ghost use Rattle.icnf.specs.Leaves.{branched};
-ghost use Rattle.icnf.specs.Spans.{cube_in, cubes_in, IsSpan, AreSpans};
+ghost use Rattle.icnf.specs.Spans.{cube_in, cubes_in};
+ghost use Rattle.icnf.specs.inner.Spans.{IsSpan, AreSpans};
 ghost use Rattle.icnf.specs.Walk.{literals_of};
 
 use crate::place::Place;

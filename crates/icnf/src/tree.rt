@@ -2,7 +2,8 @@
 
 ghost use Rattle.std.specs.Prelude.{◌≡◌, ◌<◌, ◌≤◌, [], ◌∷◌, length, slice_index_or, IfOk, OnOk, OnErr};
 ghost use Rattle.icnf.specs.Leaves.{Leaves, IsFree, IsTree, branched};
-ghost use Rattle.icnf.specs.Spans.{cubes_in, AreSpans};
+ghost use Rattle.icnf.specs.Spans.{cubes_in};
+ghost use Rattle.icnf.specs.inner.Spans.{AreSpans};
 
 use crate::span::{self, Span};
 use dimacs::{Lit, Var};
@@ -23,7 +24,8 @@ impl Model for Tree {
 
     ghost Value = { List Cube };
 
-    ghost use Rattle.icnf.specs.Spans.{cubes_in, AreSpans};
+    ghost use Rattle.icnf.specs.Spans.{cubes_in};
+    ghost use Rattle.icnf.specs.inner.Spans.{AreSpans};
 
     ghost view = { λ t. cubes_in t.literals.items t.spans.items };
 

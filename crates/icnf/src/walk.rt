@@ -4,7 +4,8 @@
 
 ghost use Rattle.std.specs.Prelude.{◌≡◌, ◌≢◌, ◌<◌, ◌≤◌, [], ◌∷◌, ◌++◌, length, true, false, MatchBool, OnOk, Some, None, vec_len};
 ghost use Rattle.dimacs.specs.logic.Literal.{var_of};
-ghost use Rattle.icnf.specs.Spans.{cubes_in, AreSpans};
+ghost use Rattle.icnf.specs.Spans.{cubes_in};
+ghost use Rattle.icnf.specs.inner.Spans.{AreSpans};
 ghost use Rattle.icnf.specs.Walk.{names, fits, advanced, ended_cube, next_front, literals_of};
 
 use crate::place::Place;
@@ -36,8 +37,10 @@ pub(crate) struct Walk {
 
 impl Model for Walk {
     ghost use Rattle.std.specs.Prelude.{◌≤◌, take, drop, vec_len};
-    ghost use Rattle.icnf.specs.Walk.{WalkState, IsWalked};
-    ghost use Rattle.icnf.specs.Spans.{cubes_in, AreSpans};
+    ghost use Rattle.icnf.specs.Walk.{WalkState};
+    ghost use Rattle.icnf.specs.inner.Walk.{IsWalked};
+    ghost use Rattle.icnf.specs.Spans.{cubes_in};
+    ghost use Rattle.icnf.specs.inner.Spans.{AreSpans};
 
     ghost Value = { WalkState };
 

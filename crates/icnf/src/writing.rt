@@ -1,7 +1,6 @@
 //! A formula and a tree as iCNF text.
 
-ghost use Rattle.std.specs.Prelude.{◌≡◌, ◌++◌, OnOk, OnErr, codes};
-ghost use Rattle.std.specs.List.{flat_map};
+ghost use Rattle.std.specs.Prelude.{◌≡◌, ◌++◌, OnOk, OnErr, codes, flat_map};
 ghost use Rattle.dimacs.specs.logic.Cnf.{AreWithin, greatest_in};
 ghost use Rattle.dimacs.specs.text.Spelling.{Begins, clause_line};
 ghost use Rattle.icnf.specs.Spelling.{Spells, cube_line, formula_of, spelling};

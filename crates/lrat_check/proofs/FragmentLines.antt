@@ -13,7 +13,7 @@ use Rattle.lrat_text.proofs.SpellingLemmas.{found_spells, spelled_found}
 use Rattle.lrat_text.specs.Lines.{IsOpen}
 use Rattle.lrat_text.specs.Taking.{TakesAll, HandsOn, Refuses as LineRefused, ended}
 use Rattle.lrat_check.specs.Checking.{GivesCheck, by_pieces, no_memory}
-use Rattle.lrat_check.specs.FragmentLines.{Takes, Refuses}
+use Rattle.lrat_check.specs.inner.FragmentLines.{Takes, Refuses}
 use Rattle.lrat_check.specs.declared.checking.CheckFault.{CheckFault}
 use Rattle.lrat_check.specs.declared.fragment.FragmentLines.{FragmentLines}
 use Rattle.lrat_check.proofs.Passing.{gives}

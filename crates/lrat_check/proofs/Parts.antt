@@ -13,8 +13,8 @@ use Rattle.dimacs.specs.logic.Literal.{Literal, Clause, var_of}
 use Rattle.dimacs.specs.layout.Flat.{parts}
 use Rattle.lrat_check.specs.declared.slot.Slot.{Slot}
 use Rattle.lrat_check.specs.declared.slot_tables.Far.{Far}
-use Rattle.lrat_check.specs.Store.{clause_at, entries_of, near_entries, live_of, numbered, numbered_entries, place_of, ArePlaced, IsStore}
-use Rattle.lrat_check.specs.Table.{FitsTable, AllFit}
+use Rattle.lrat_check.specs.inner.Store.{clause_at, entries_of, near_entries, live_of, numbered, numbered_entries, place_of, ArePlaced, IsStore}
+use Rattle.lrat_check.specs.inner.Table.{FitsTable, AllFit}
 use Rattle.lrat_check.proofs.Counted.{counted_none, counted_new}
 use Rattle.lrat_check.proofs.Formula.{clauses_more, find-past}
 use Rattle.lrat_check.proofs.Slots.{near_at, get-live_of, placed_at, no_slot, no_place}

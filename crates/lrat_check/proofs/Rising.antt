@@ -4,7 +4,7 @@ use Rattle.std.specs.Bool.{OnTrue, OnFalse}
 use Rattle.std.proofs.lemmas.Bool.{ne_eqb}
 use Rattle.dimacs.specs.logic.Rat.{Group}
 use Rattle.lrat_check.specs.Faults.{is_named}
-use Rattle.lrat_check.specs.Rising.{IsRising}
+use Rattle.lrat_check.specs.inner.Rising.{IsRising}
 use Rattle.lrat_check.proofs.Named.{named_more}
 
 -- no number is above n

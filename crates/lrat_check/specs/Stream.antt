@@ -22,14 +22,6 @@ abbrev pub answer_in : Progress → Result (Unit {0}) CheckFault
 answer_in (Within s line begun) = Ok tt
 answer_in (Failed fault) = Err fault
 
--- a piece leads from one to the other: whatever follows it, checking answers the same
-abbrev pub LeadsTo : Progress → List ℕ → Progress → Type 0
-LeadsTo old piece new = (more : List ℕ) → check_more old (piece ++ more) ≡ check_more new more
-
--- a piece leads there, or memory ran out
-abbrev pub Reaches : Progress → List ℕ → Progress → Type 0
-Reaches old piece new = (new ≡ Failed no_memory) ⊎ LeadsTo old piece new
-
 -- these bytes of a proof of the formula have been taken
 abbrev pub HasTaken : Cnf → Progress → List ℕ → Type 0
 HasTaken F p bytes = (p ≡ Failed no_memory) ⊎ ((more : List ℕ) → check_of F (bytes ++ more) ≡ check_more p more)
@@ -48,8 +40,3 @@ IsWithinLine (Failed fault) = Unit {0}
 abbrev pub progress_of : Option CheckFault → State → ℕ → List ℕ → Progress
 progress_of None s line begun = Within s line begun
 progress_of (Some fault) s line begun = Failed fault
-
--- the checker has met no fault, and the line that is begun has no LF
-abbrev pub IsProgress : Option CheckFault → State → List ℕ → Type 0
-IsProgress None s begun = (s.fault ≡ None) × IsOpen begun
-IsProgress (Some fault) s begun = Unit {0}

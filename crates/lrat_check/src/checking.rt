@@ -1,7 +1,8 @@
 //! The lines of a proof's text, and what is answered at its end.
 
 ghost use Rattle.std.specs.Prelude.{◌≡◌, ◌==◌, ◌⊎◌, ◌+◌, None, OnOk, IfErr, MatchResult};
-ghost use Rattle.lrat_check.specs.Checking.{no_memory, piece_refusal, text_end, text_refusal, GoesOn, Stops, step_refusal};
+ghost use Rattle.lrat_check.specs.Checking.{no_memory, text_end};
+ghost use Rattle.lrat_check.specs.inner.Checking.{piece_refusal, text_refusal, GoesOn, Stops, step_refusal};
 
 use crate::checker::Checker;
 use crate::fault::StepFault;
@@ -109,7 +110,7 @@ pub(crate) struct LineChecker {
 }
 
 impl TakesLines for LineChecker {
-    ghost use Rattle.lrat_check.specs.Lines.{MayTake, Takes, Refuses};
+    ghost use Rattle.lrat_check.specs.inner.Lines.{MayTake, Takes, Refuses};
 
     type Fault = CheckFault;
 

@@ -8,13 +8,13 @@ ghost use Rattle.lrat_check.specs.declared.fault.StepFault.TheVariants.{NoMemory
 ghost use Rattle.dimacs.specs.logic.ClauseMap.{map_of};
 ghost use Rattle.lrat_text.specs.Log.{Closes};
 ghost use Rattle.lrat_text.specs.Steps.{step_of};
-ghost use Rattle.lrat_check.specs.Changes.{NoneNew};
+ghost use Rattle.lrat_check.specs.inner.Changes.{NoneNew};
 ghost use Rattle.lrat_check.specs.Checking.{GivesCheck, no_memory};
 ghost use Rattle.lrat_check.specs.Faults.{live_after, removed, top_after};
-ghost use Rattle.lrat_check.specs.FragmentFaults.{FragmentGoesOn, FragmentStops, fragment_fault_number, fragment_refusal, number_in};
+ghost use Rattle.lrat_check.specs.inner.FragmentFaults.{FragmentGoesOn, FragmentStops, fragment_fault_number, fragment_refusal, number_in};
 ghost use Rattle.lrat_check.specs.Fragments.{closes, fragment_of, fragment_text, fragment_step_fault, own_addition_fault, own_deletion_fault, own_lemma_fault};
-ghost use Rattle.lrat_check.specs.Marks.{IsUnused, AllAtMost};
-ghost use Rattle.lrat_check.specs.Table.{FitsTable, AllFit};
+ghost use Rattle.lrat_check.specs.inner.Marks.{IsUnused, AllAtMost};
+ghost use Rattle.lrat_check.specs.inner.Table.{FitsTable, AllFit};
 
 use crate::checking::{CheckFault, finish, next_line, out_of_memory, step_refused, text_refused};
 use crate::fault::StepFault;
@@ -265,7 +265,7 @@ struct FragmentLines<'a> {
 }
 
 impl<'a> TakesLines for FragmentLines<'a> {
-    ghost use Rattle.lrat_check.specs.FragmentLines.{MayTake, Takes, Refuses};
+    ghost use Rattle.lrat_check.specs.inner.FragmentLines.{MayTake, Takes, Refuses};
 
     type Fault = CheckFault;
 

@@ -5,8 +5,8 @@ ghost use Rattle.std.specs.Prelude.{◌≡◌, ◌≤◌, OnOk, slice_index, vec
 ghost use Rattle.std.specs.Bool.{OnTrue};
 ghost use Rattle.dimacs.specs.logic.ClauseMap.{ClauseMap};
 ghost use Rattle.dimacs.specs.logic.Literal.{index_of};
-ghost use Rattle.lrat_check.specs.Holders.{AreCounted};
-ghost use Rattle.lrat_check.specs.Table.{AllFit, CountsAll};
+ghost use Rattle.lrat_check.specs.inner.Holders.{AreCounted};
+ghost use Rattle.lrat_check.specs.inner.Table.{AllFit, CountsAll};
 
 use crate::counts::count_live;
 use crate::store::Store;

@@ -27,20 +27,20 @@ pub fn right_verdicts_are_true()
     ensures { Truth }
 {}
 
-/// A step has no fault exactly where the definition takes it, and then to one end alone.
+/// A step has no fault if and only if the definition takes it, and then to one end alone.
 pub fn step_fault_is_exact()
     ensures taken { (M : ClauseMap) (top : ℕ) (step : Step) → step_fault M top step ≡ None → TakesStep M top step (live_after M step) (top_after top step) }
     ensures no_fault { (M M' : ClauseMap) (top top' : ℕ) (step : Step) → TakesStep M top step M' top'
         → (step_fault M top step ≡ None) × (M' ≡ live_after M step) × (top' ≡ top_after top step) }
 {}
 
-/// A text has no fault exactly where it is an accepted proof.
+/// A text has no fault if and only if it is an accepted proof.
 pub fn proof_fault_is_exact()
     ensures accepted { (F : Cnf) (text : List ℕ) → check_of F text ≡ Ok tt → Accepts F text }
     ensures none { (F : Cnf) (text : List ℕ) → Accepts F text → check_of F text ≡ Ok tt }
 {}
 
-/// A fragment has no fault exactly where it closes the cube over the base.
+/// A fragment has no fault if and only if it closes the cube over the base.
 pub fn fragment_fault_is_exact()
     ensures closes { (B : Cnf) (q : Cube) (text : List ℕ) → fragment_of B q text ≡ Ok tt → Closes B q text }
     ensures none { (B : Cnf) (q : Cube) (text : List ℕ) → Closes B q text → fragment_of B q text ≡ Ok tt }

@@ -2,8 +2,8 @@
 
 ghost use Rattle.std.specs.Prelude.{◌≡◌, IfOk, length, vec_len};
 ghost use Rattle.dimacs.specs.layout.Flat.{parts, ArePlaces};
-ghost use Rattle.lrat_check.specs.Store.{near_entries, numbered, numbered_entries, ArePlaced};
-ghost use Rattle.lrat_check.specs.Table.{AllFit};
+ghost use Rattle.lrat_check.specs.inner.Store.{near_entries, numbered, numbered_entries, ArePlaced};
+ghost use Rattle.lrat_check.specs.inner.Table.{AllFit};
 
 use crate::live::LiveClauses;
 use crate::marks::Marks;

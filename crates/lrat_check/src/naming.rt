@@ -4,7 +4,7 @@ ghost use Rattle.std.specs.Prelude.{◌≡◌, ℕ, true, false, cond, nat_eq, O
 ghost use Rattle.std.specs.Bool.{OnTrue, OnFalse};
 ghost use Rattle.std.specs.BTreeSet.{contains};
 ghost use Rattle.std.specs.Ordering.{nat_cmp};
-ghost use Rattle.lrat_check.specs.Rising.{IsRising};
+ghost use Rattle.lrat_check.specs.inner.Rising.{IsRising};
 
 use lrat_text::Groups;
 use std::alloc::AllocError;

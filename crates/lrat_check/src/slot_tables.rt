@@ -6,7 +6,7 @@ ghost use Rattle.std.specs.Prelude.{◌≡◌, ℕ, ◌+◌, ◌≤◌, ◌<◌,
 ghost use Rattle.std.specs.FinMap.{get, insert, remove, len};
 ghost use Rattle.std.specs.Ordering.{nat_cmp};
 ghost use Rattle.std.specs.BTreeMap.{is_at};
-ghost use Rattle.lrat_check.specs.Store.{live_of, clause_at, place_of, IsPlaced, IsStore};
+ghost use Rattle.lrat_check.specs.inner.Store.{live_of, clause_at, place_of, IsPlaced, IsStore};
 
 use crate::slot::{Cell, Slot};
 use dimacs::Lit;

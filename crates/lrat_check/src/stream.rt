@@ -5,7 +5,8 @@ ghost use Rattle.lrat_text.specs.Lines.{IsOpen};
 ghost use Rattle.lrat_text.specs.Pieces.{joined};
 ghost use Rattle.lrat_text.specs.Proof.{Accepts};
 ghost use Rattle.lrat_check.specs.Checking.{no_memory, GivesCheck, check_of};
-ghost use Rattle.lrat_check.specs.Stream.{Within, Failed, check_more, LeadsTo, HasTaken, TakesPiece, IsWithinLine};
+ghost use Rattle.lrat_check.specs.Stream.{Within, Failed, check_more, HasTaken, TakesPiece, IsWithinLine};
+ghost use Rattle.lrat_check.specs.inner.Stream.{LeadsTo};
 
 use crate::checker::Checker;
 use crate::checking::{CheckFault, LineChecker, finish, out_of_memory, piece_refused};
@@ -44,8 +45,9 @@ pub struct StreamChecker {
 }
 
 impl Model for StreamChecker {
-    ghost use Rattle.lrat_check.specs.Stream.{Progress, progress_of, IsProgress};
-    ghost use Rattle.dimacs.specs.layout.Codes.{clause_map_code};
+    ghost use Rattle.lrat_check.specs.Stream.{Progress, progress_of};
+    ghost use Rattle.lrat_check.specs.inner.Stream.{IsProgress};
+    ghost use Rattle.dimacs.specs.inner.Codes.{clause_map_code};
     ghost use Rattle.std.specs.Coded.{codes};
 
     ghost Value = { Progress };

@@ -7,7 +7,7 @@ use Rattle.std.proofs.lemmas.Bool.Decides.{nat_tests}
 use Rattle.std.proofs.lemmas.List.{take_more, get_or-take}
 use Rattle.std.proofs.lemmas.List.Sums.{position_or_len_is, passes_at_first}
 use Rattle.dimacs.specs.text.Numbers.{digits_from}
-use Rattle.lrat_text.specs.Tokens.{is_space}
+use Rattle.lrat_text.specs.inner.Tokens.{is_space}
 
 pub digits_append : (xs ys : List ℕ) (m n : ℕ) → digits_from m xs ≡ Some n → digits_from m (xs ++ ys) ≡ digits_from n ys
 digits_append [] ys m n h = let same : m ≡ n = cc in ap (λ k. digits_from k ys) same

@@ -7,7 +7,8 @@ use Rattle.std.proofs.Math.ListN.{set}
 use Rattle.std.proofs.lemmas.Option.{slice_get_read}
 use Rattle.lrat_text.specs.declared.groups.Head.{Head}
 use Rattle.dimacs.specs.logic.Rat.{Group}
-use Rattle.lrat_text.specs.Groups.{groups_from, AreHeads, start_at}
+use Rattle.lrat_text.specs.Groups.{groups_from}
+use Rattle.lrat_text.specs.inner.Groups.{AreHeads, start_at}
 use Rattle.lrat_text.specs.GroupLists.{with_hint}
 
 -- there are as many groups as heads

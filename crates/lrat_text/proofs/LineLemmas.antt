@@ -13,7 +13,7 @@ use Rattle.dimacs.specs.text.Words.{is_some_byte, lines}
 use Rattle.lrat_text.specs.declared.step.Step.{Step}
 use Rattle.lrat_text.specs.declared.step.Step.TheVariants.{Add, Delete}
 use Rattle.lrat_text.specs.Grammar.{tokens, IsTrimmed, IsClauseNumber, IsGroup, IsStep, literal_token, group_tokens, step_tokens, SpellsStep, LineSpells}
-use Rattle.lrat_text.specs.Tokens.{is_space}
+use Rattle.lrat_text.specs.inner.Tokens.{is_space}
 use Rattle.lrat_text.specs.Writing.{line_text}
 use Rattle.lrat_text.specs.Lines.{AllRead}
 use Rattle.lrat_text.specs.Reading.{step_in}

@@ -1,5 +1,5 @@
 -- A text of lines in pieces.
-use Rattle.std.proofs.Common.{◌≡◌, ◌≢◌, ◌==◌, ℕ, ◌+◌, ◌<◌, false, List, [], ◌∷◌, ◌++◌, length, take, drop, get_or, refl, sym, ap, subst, ◌∙◌, append_assoc, inl, inr, Result, Ok, Err, Contains}
+use Rattle.std.proofs.Common.{◌≡◌, ◌≢◌, ◌==◌, ℕ, ◌+◌, ◌<◌, arith, false, List, [], ◌∷◌, ◌++◌, length, take, drop, get_or, refl, sym, ap, subst, ◌∙◌, append_assoc, inl, inr, Result, Ok, Err, Contains}
 use Rattle.std.specs.Global.{Vec}
 use Rattle.std.specs.Prelude.{MatchResult}
 use Rattle.std.specs.List.{All}
@@ -17,7 +17,8 @@ use Rattle.lrat_text.specs.Lines.{IsOpen, IsCut}
 use Rattle.lrat_text.specs.Taking.{TakesAll, HandsOn, Refuses, Stops, ended as ended_by}
 use Rattle.lrat_text.specs.declared.lines.PieceFault.{PieceFault}
 use Rattle.lrat_text.specs.declared.lines.PieceFault.TheVariants.{NoMemory as NoPlace, Line}
-use Rattle.lrat_text.specs.Pieces.{AppendsStep, AppendsNone, Splits, Breaks, Progress, Within, Failed, HasTaken, TakesPiece, HasFault, answer_in, end_in, joined}
+use Rattle.lrat_text.specs.Pieces.{Splits, Breaks, Progress, Within, Failed, HasTaken, TakesPiece, HasFault, StopsBefore, answer_in, end_in, joined}
+use Rattle.lrat_text.specs.inner.Pieces.{AppendsStep, AppendsNone}
 
 pub none_of : (xs : List ℕ) → length xs ≡ 0 → xs ≡ []
 none_of [] e = refl
@@ -181,3 +182,23 @@ joined_more ps i p lt e =
 pub joined_split : (ps : List (Vec ℕ)) (i : ℕ) (p : Vec ℕ) → i < length ps → p ≡ get_or ps i p → joined ps ≡ (joined (take i ps) ++ p.items) ++ joined (drop (i + 1) ps)
 joined_split ps i p lt e =
     ap joined (sym (take-append-drop (i + 1) ps)) ∙ flat_map-append (λ q. q.items) (take (i + 1) ps) (drop (i + 1) ps) ∙ ap (λ (bytes : List ℕ). bytes ++ joined (drop (i + 1) ps)) (joined_more ps i p lt e)
+
+-- a reader that has met no fault, and took no further piece
+pub stops_before : (ps : List (Vec ℕ)) (i : ℕ) (old : Progress) (before mid after given : List Step) → i < length ps → mid ≡ before ++ given → after ≡ mid → answer_in old ≡ Ok tt → HasTaken old (joined (take i ps)) given
+    → StopsBefore ps before after
+stops_before ps i (Within begun) before mid after given l steps same well taken = record {
+  count = i;
+  few = omega (arith, l);
+  appended = given;
+  steps = same ∙ steps;
+  rest = begun;
+  splits = taken.0;
+  within = taken.1;
+}
+stops_before ps i (Failed fault) before mid after given l steps same well taken = absurd cc
+
+-- what is answered behind the last piece is not want of memory
+pub ends_otherwise : (p : Progress) → answer_in p ≡ Ok tt → end_in p ≢ Err NoMemory
+ends_otherwise (Within []) well e = absurd cc
+ends_otherwise (Within (b ∷ bs)) well e = absurd cc
+ends_otherwise (Failed fault) well e = absurd cc

@@ -10,7 +10,7 @@ use Rattle.std.specs.Option.{option_and_then}
 use Rattle.dimacs.specs.text.Numbers.{natural, negated}
 use Rattle.lrat_text.specs.declared.token.Token.TheVariants.{Plus, Minus, Zero}
 use Rattle.lrat_text.specs.Reading.{token_of, number_token}
-use Rattle.lrat_text.specs.Tokens.{is_space}
+use Rattle.lrat_text.specs.inner.Tokens.{is_space}
 use Rattle.lrat_text.proofs.DigitLemmas.{Digits, digits_begin, digits_more}
 use Rattle.lrat_text.proofs.NumberLemmas.{natural_is, natural_back, token_decimal, token_zero, minus_small}
 use Rattle.lrat_text.proofs.TokenLemmas.{first_minus}

@@ -12,7 +12,7 @@ use Rattle.dimacs.specs.text.Numbers.{natural, number, positive, negated}
 use Rattle.lrat_text.specs.declared.token.Token.{Token}
 use Rattle.lrat_text.specs.declared.token.Token.TheVariants.{Letter}
 use Rattle.lrat_text.specs.Grammar.{tokens}
-use Rattle.lrat_text.specs.Tokens.{is_space}
+use Rattle.lrat_text.specs.inner.Tokens.{is_space}
 use Rattle.lrat_text.specs.Reading.{token_of, line_tokens, number_token}
 
 -- ---- spaces and tokens

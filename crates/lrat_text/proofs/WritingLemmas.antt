@@ -9,7 +9,8 @@ use Rattle.dimacs.specs.logic.Literal.{Literal}
 use Rattle.dimacs.specs.logic.Rat.{Group}
 use Rattle.lrat_text.specs.declared.step.Step.TheVariants.{Add, Delete}
 use Rattle.lrat_text.specs.Grammar.{literal_token, group_tokens}
-use Rattle.lrat_text.specs.Writing.{line_of, group_text, lemma_text, reasons_text, deletion_text}
+use Rattle.lrat_text.specs.Writing.{line_of}
+use Rattle.lrat_text.specs.inner.Writing.{group_text, lemma_text, reasons_text, deletion_text}
 
 -- one group more
 pub groups_more : (old : List ℕ) (groups : List Group) (i : ℕ) (g : Group) → slice_get groups i ≡ Some g

@@ -11,5 +11,5 @@ pub mod Reading
 pub mod Runs
 pub mod Steps
 pub mod Taking
-pub mod Tokens
 pub mod Writing
+pub mod inner

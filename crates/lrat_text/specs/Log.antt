@@ -40,10 +40,6 @@ AreLogSteps m M top (step ∷ steps) = IsLogStep m M top step × AreLogSteps m (
 abbrev pub IsLog : Cnf → List Step → Type 0
 IsLog B steps = AreLogSteps (length B.clauses) (map_of B) (length B.clauses) steps
 
--- the text is a log over the base
-abbrev pub Log : Cnf → List ℕ → Type 0
-Log B text = (steps : List Step) × LineSpells text steps × IsLog B steps
-
 -- the step adds a clause of which each literal is the negation of one of the cube's
 abbrev pub Negates : Cube → Step → Type 0
 Negates q (Add id lits hints groups) = (l : Literal) → Contains lits l → Contains q (negation l)

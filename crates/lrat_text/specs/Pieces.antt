@@ -1,12 +1,12 @@
 -- A text of lines that comes in pieces.
-use Rattle.std.specs.Prelude.{◌≡◌, ◌≢◌, ◌⊎◌, ℕ, List, [], ◌∷◌, ◌++◌, Option, Some, None, Result, Ok, Err}
+use Rattle.std.specs.Prelude.{◌≡◌, ◌≤◌, ◌⊎◌, ℕ, length, take, List, [], ◌∷◌, ◌++◌, Option, Some, None, Result, Ok, Err}
 use Rattle.std.specs.Global.{Vec}
 use Rattle.std.specs.List.{flat_map}
-use Rattle.lrat_text.specs.Grammar.{LineSpells, SpellsStep}
+use Rattle.lrat_text.specs.Grammar.{LineSpells}
 use Rattle.lrat_text.specs.Lines.{IsOpen, IsCut}
 use Rattle.lrat_text.specs.Reading.{step_in}
 use Rattle.lrat_text.specs.declared.fault.TextFault.{TextFault}
-use Rattle.lrat_text.specs.declared.fault.TextFault.TheVariants.{LineNotEnded, NoMemory}
+use Rattle.lrat_text.specs.declared.fault.TextFault.TheVariants.{LineNotEnded}
 use Rattle.lrat_text.specs.declared.step.Step.{Step}
 
 -- a text is lines that spell the steps, and a rest
@@ -18,14 +18,6 @@ pub record Splits (text : List ℕ) (steps : List Step) (rest : List ℕ) : Type
 -- behind the lines that spell the steps stands a line with this fault
 abbrev pub Breaks : List ℕ → List Step → TextFault → Type 0
 Breaks text steps fault = (rest : List ℕ) × (line : List ℕ) × (later : List ℕ) × Splits text steps rest × IsCut rest line later × (step_in line ≡ Err fault)
-
--- the step of a line is appended
-abbrev pub AppendsStep : Vec Step → List ℕ → Vec Step → Type 0
-AppendsStep old line new = (step : Step) × (new.items ≡ old.items ++ step ∷ []) × SpellsStep line step
-
--- or none is, for the line's fault or want of memory
-abbrev pub AppendsNone : Vec Step → List ℕ → Vec Step → TextFault → Type 0
-AppendsNone old line new fault = (new.items ≡ old.items) × (fault ≢ NoMemory → step_in line ≡ Err fault)
 
 -- what a reader keeps of a text: the bytes of the line that is begun, or the fault that it met
 pub data Progress : Type 0 where
@@ -60,11 +52,6 @@ abbrev pub progress_of : Option TextFault → List ℕ → Progress
 progress_of None begun = Within begun
 progress_of (Some fault) begun = Failed fault
 
--- the line that is begun has no LF; want of memory is no fault of the text
-abbrev pub IsProgress : Option TextFault → List ℕ → Type 0
-IsProgress None begun = IsOpen begun
-IsProgress (Some fault) begun = fault ≢ NoMemory
-
 -- behind the lines that spell the steps a line is begun that no LF ends
 abbrev pub BreaksOff : List ℕ → List Step → Type 0
 BreaksOff text steps = (first : ℕ) × (others : List ℕ) × Splits text steps (first ∷ others) × IsOpen (first ∷ others)
@@ -76,3 +63,13 @@ HasFault text steps fault = ((fault ≡ LineNotEnded) × BreaksOff text steps) �
 -- the bytes of pieces, one after the other
 abbrev pub joined : List (Vec ℕ) → List ℕ
 joined pieces = flat_map (λ piece. piece.items) pieces
+
+-- the steps of the first pieces were appended, and these end behind a line or within one
+pub record StopsBefore (pieces : List (Vec ℕ)) (before after : List Step) : Type 0 where
+  pub count : ℕ
+  pub few : count ≤ length pieces
+  pub appended : List Step
+  pub steps : after ≡ before ++ appended
+  pub rest : List ℕ
+  pub splits : Splits (joined (take count pieces)) appended rest
+  pub within : IsOpen rest

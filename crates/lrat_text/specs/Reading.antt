@@ -1,5 +1,5 @@
 -- The step that a line spells, or its first fault, as a computation from left to right. Of it is to be believed only which fault
--- comes first: that a step is read exactly where the line spells it follows from Grammar, by the law `reading_is_spelling`.
+-- comes first: that a step is read if and only if the line spells it follows from Grammar, by the law `reading_is_spelling`.
 use Rattle.std.specs.Prelude.{◌≡◌, ℕ, zero, suc, ◌+◌, ◌-◌, ◌^◌, Bool, not, ◌&&◌, ◌==◌, nat_lt, nat_le, List, [], ◌∷◌, ◌++◌, length, slice_index, slice_range, drop, position, map, codes, bytes_eq, ℤ, pos, negsuc, Option, Some, None, Result, Ok, Err, if◌then◌else◌}
 use Rattle.dimacs.specs.logic.Literal.{Literal, Pos, Neg}
 use Rattle.dimacs.specs.text.Numbers.{number}

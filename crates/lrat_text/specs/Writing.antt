@@ -1,9 +1,7 @@
 -- The line that is written for a step.
-use Rattle.std.specs.Prelude.{◌≡◌, ℕ, List, ◌++◌, decimal, codes}
-use Rattle.std.specs.List.{join_with_byte, flat_map}
-use Rattle.dimacs.specs.logic.Literal.{Literal}
-use Rattle.dimacs.specs.logic.Rat.{Group}
-use Rattle.lrat_text.specs.Grammar.{space, step_tokens, literal_token}
+use Rattle.std.specs.Prelude.{ℕ, List, ◌++◌, codes}
+use Rattle.std.specs.List.{join_with_byte}
+use Rattle.lrat_text.specs.Grammar.{space, step_tokens}
 use Rattle.lrat_text.specs.declared.step.Step.{Step}
 
 -- the tokens of a step with single spaces between them
@@ -13,28 +11,3 @@ line_text top step = join_with_byte space (step_tokens top step)
 -- the line, with its LF
 abbrev pub line_of : ℕ → Step → List ℕ
 line_of top step = line_text top step ++ codes "\n"
-
--- a token behind a space
-abbrev pub number_text : ℕ → List ℕ
-number_text n = codes " " ++ decimal n
-
-abbrev pub literal_text : Literal → List ℕ
-literal_text l = codes " " ++ literal_token l
-
-abbrev pub group_text : Group → List ℕ
-group_text g = codes " -" ++ decimal g.0 ++ flat_map number_text g.1
-
--- an addition up to its hints, and from there on
-abbrev pub lemma_text : ℕ → List Literal → List ℕ
-lemma_text id lits = decimal id ++ flat_map literal_text lits ++ codes " 0"
-
-abbrev pub reasons_text : List ℕ → List Group → List ℕ
-reasons_text hints groups = flat_map number_text hints ++ flat_map group_text groups ++ codes " 0\n"
-
--- a deletion
-abbrev pub deletion_text : ℕ → List ℕ → List ℕ
-deletion_text top ids = decimal top ++ codes " d" ++ flat_map number_text ids ++ codes " 0\n"
-
--- the new bytes are the old ones and more
-abbrev pub Begins : List ℕ → List ℕ → Type 0
-Begins old new = (more : List ℕ) × (new ≡ old ++ more)

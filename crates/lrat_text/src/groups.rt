@@ -1,7 +1,7 @@
 //! Groups of hints: each names a candidate, and the hints that refute it.
 
 ghost use Rattle.std.specs.Prelude.{◌≡◌, ◌^◌, ◌<◌, [], ◌∷◌, ◌++◌, length, ◌==◌, slice_get, Some, OnOk, OnErr};
-ghost use Rattle.lrat_text.specs.Groups.{start_at};
+ghost use Rattle.lrat_text.specs.inner.Groups.{start_at};
 ghost use Rattle.lrat_text.specs.GroupLists.{with_hint};
 
 use std::alloc::{AllocError, Global};
@@ -35,7 +35,8 @@ impl Model for Groups {
 
     ghost Value = { List Group };
 
-    ghost use Rattle.lrat_text.specs.Groups.{groups_from, AreHeads};
+    ghost use Rattle.lrat_text.specs.Groups.{groups_from};
+    ghost use Rattle.lrat_text.specs.inner.Groups.{AreHeads};
 
     ghost view = { λ g. groups_from 0 g.heads.items g.hints.items };
 

@@ -12,7 +12,7 @@ ghost use Rattle.lrat_text.specs.Reading.{step_in};
 ghost use Rattle.lrat_text.specs.Writing.{line_text};
 ghost use Rattle.lrat_text.specs.declared.step.Step.{Step};
 
-/// A line is read as a step exactly where it spells that step.
+/// A line is read as a step if and only if it spells that step.
 pub fn reading_is_spelling()
     ensures found { (line : List ℕ) (step : Step) → step_in line ≡ Ok step → SpellsStep line step }
     ensures only { (line : List ℕ) (step : Step) → SpellsStep line step → step_in line ≡ Ok step }
@@ -25,7 +25,7 @@ pub fn putting_is_spelling()
     ensures read_back { (top : ℕ) (step : Step) → IsClauseNumber top → IsStep step → step_in (line_text top step) ≡ Ok step }
 {}
 
-/// A text spells steps exactly where it is read piece by piece between the LFs.
+/// A text spells steps if and only if it is read piece by piece between the LFs.
 pub fn text_is_lines()
     ensures read { (text : List ℕ) (steps : List Step) → LineSpells text steps → AllRead (lines text) steps }
     ensures spelled { (text : List ℕ) (steps : List Step) → AllRead (lines text) steps → LineSpells text steps }

@@ -4,7 +4,7 @@ ghost use Rattle.std.specs.Prelude.{◌≡◌, ℕ, ◌<◌, ◌≤◌, List, []
 ghost use Rattle.dimacs.specs.logic.Literal.{Literal};
 ghost use Rattle.lrat_text.specs.Grammar.{SpellsStep};
 ghost use Rattle.lrat_text.specs.Reading.{ended, ids_in, groups_in, hints_in, literals_in, body_in, first_in, step_in, line_tokens, is_trimmed, GivesStep, Gives};
-ghost use Rattle.lrat_text.specs.Tokens.{IsCounted, tokens_from};
+ghost use Rattle.lrat_text.specs.inner.Tokens.{IsCounted, tokens_from};
 ghost use Rattle.lrat_text.specs.declared.step.Step.{Step};
 ghost use Rattle.lrat_text.specs.declared.step.Step.TheVariants as owned;
 

@@ -5,7 +5,8 @@ ghost use Rattle.lrat_text.specs.declared.fault.TextFault.{TextFault};
 ghost use Rattle.lrat_text.specs.declared.step.Step.{Step};
 ghost use Rattle.lrat_text.specs.Grammar.{LineSpells};
 ghost use Rattle.lrat_text.specs.Lines.{IsOpen};
-ghost use Rattle.lrat_text.specs.Pieces.{Splits, Breaks, HasFault, Within, Failed, TakesPiece, AppendsStep, AppendsNone, end_in, joined};
+ghost use Rattle.lrat_text.specs.Pieces.{Splits, Breaks, HasFault, Within, Failed, TakesPiece, StopsBefore, end_in, joined};
+ghost use Rattle.lrat_text.specs.inner.Pieces.{AppendsStep, AppendsNone};
 
 use crate::fault::TextFault;
 use crate::line::read_step;
@@ -60,7 +61,8 @@ pub struct StepReader {
 }
 
 impl Model for StepReader {
-    ghost use Rattle.lrat_text.specs.Pieces.{Progress, progress_of, IsProgress};
+    ghost use Rattle.lrat_text.specs.Pieces.{Progress, progress_of};
+    ghost use Rattle.lrat_text.specs.inner.Pieces.{IsProgress};
 
     ghost Value = { Progress };
 
@@ -127,9 +129,10 @@ pub fn read_pieces(
     pieces: &[Vec<u8>],
     steps: &mut Vec<Step>,
 ) -> Result<(), TextFault>
-    ensures { (new : List Step) × (steps.new.items ≡ steps.old.items ++ new) × MatchResult result
+    ensures steps { (new : List Step) × (steps.new.items ≡ steps.old.items ++ new) × MatchResult result
         (λ _. LineSpells (joined pieces.now) new)
         (λ fault. fault ≢ TextFault.NoMemory → HasFault (joined pieces.now) new fault) }
+    ensures memory { result ≡ Err TextFault.NoMemory → StopsBefore pieces.now steps.old.items steps.new.items }
 {
     let mut reader = StepReader::new(alloc);
     for piece in pieces {

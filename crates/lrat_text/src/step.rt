@@ -17,7 +17,7 @@ impl Model for Literals {
     ghost use Rattle.std.specs.Prelude.{List};
     ghost use Rattle.std.specs.Coded.{coded_list};
     ghost use Rattle.dimacs.specs.logic.Literal.{Literal};
-    ghost use Rattle.dimacs.specs.layout.Codes.{literal_code};
+    ghost use Rattle.dimacs.specs.inner.Codes.{literal_code};
 
     ghost Value = { List Literal };
 

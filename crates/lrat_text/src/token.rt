@@ -1,13 +1,12 @@
 //! The tokens of a line.
 
-ghost use Rattle.std.specs.Prelude.{◌≡◌, ℕ, ◌<◌, ◌≤◌, ◌^◌, ◌==◌, [], ◌∷◌, length, min, take, Option, Some, IfSome};
+ghost use Rattle.std.specs.Prelude.{◌≡◌, ℕ, ◌<◌, ◌≤◌, ◌^◌, ◌==◌, [], ◌∷◌, length, min, take, Option, Some, IfSome, option_map, option_and_then};
 ghost use Rattle.std.specs.Bool.{OnTrue};
 ghost use Rattle.std.specs.List.{prefix_len, position_or_len};
-ghost use Rattle.std.specs.Option.{option_map, option_and_then};
 ghost use Rattle.std.specs.Str.{byte};
 ghost use Rattle.dimacs.specs.text.Numbers.{digits_from, natural as natural_of, positive, negated};
 ghost use Rattle.lrat_text.specs.Reading.{number_token, token_of, line_tokens};
-ghost use Rattle.lrat_text.specs.Tokens.{is_space, IsCounted, tokens_from};
+ghost use Rattle.lrat_text.specs.inner.Tokens.{is_space, IsCounted, tokens_from};
 
 /// What a token is.
 #[derive(Clone, Copy)]

@@ -1,10 +1,10 @@
 //! Steps as lines.
 
-ghost use Rattle.std.specs.Prelude.{◌≡◌, ◌+◌, ◌++◌, ◌∷◌, [], length, take, OnOk, OnErr, decimal};
-ghost use Rattle.std.specs.List.{flat_map};
+ghost use Rattle.std.specs.Prelude.{◌≡◌, ◌+◌, ◌++◌, ◌∷◌, [], length, take, OnOk, OnErr, decimal, flat_map};
 ghost use Rattle.lrat_text.specs.Grammar.{IsStep, IsClauseNumber};
 ghost use Rattle.lrat_text.specs.Steps.{step_of};
-ghost use Rattle.lrat_text.specs.Writing.{line_of, number_text, literal_text, group_text, lemma_text, reasons_text, deletion_text, Begins};
+ghost use Rattle.lrat_text.specs.Writing.{line_of};
+ghost use Rattle.lrat_text.specs.inner.Writing.{number_text, literal_text, group_text, lemma_text, reasons_text, deletion_text, Begins};
 
 use crate::groups::Groups;
 use crate::step::{Step, StepRef};

@@ -13,7 +13,7 @@ use Rattle.closed_schedules.specs.declared.event.ClosedEvent.{ClosedEvent}
 use Rattle.closed_schedules.specs.declared.event.ClosedEvent.TheVariants.{Deliver, Work, Poll, Restart}
 use Rattle.closed_schedules.proofs.Moments.{next_moment}
 use Rattle.closed_schedules.proofs.Places.{same_some, none_some}
-use Rattle.node_main.specs.Drilling.{DrillState, Counts, Disagrees, Drills, IsRefusal, Occurs, TakesTurn, next_after}
+use Rattle.node_main.specs.Drilling.{DrillState, Counts, Disagrees, Drills, IsRefusedReaction, Occurs, TakesTurn, next_after}
 
 -- a turn more
 pub drills_more : (old : DrillState) (turns : List (List ℕ)) (mid : DrillState) (words : List ℕ) (new : DrillState)
@@ -61,7 +61,7 @@ occurs_moment F tree limit n s (Some event) None new is never = absurd never
 
 -- is no refusal
 occurs_plain : NeverRefused → (F : Cnf) (tree : List Cube) (limit n : ℕ) (s : ClosedState) (event : Option ClosedEvent) (answer : Option Reaction) (new : ClosedState)
-    → IsMoment F tree limit n s → Occurs s event answer new → IsRefusal answer → ⊥
+    → IsMoment F tree limit n s → Occurs s event answer new → IsRefusedReaction answer → ⊥
 occurs_plain law F tree limit n s None None new is same refusal = none_some _ refusal.1
 occurs_plain law F tree limit n s (Some event) (Some answer) new is happens refusal =
     law F tree limit n s is event answer new happens.0 refusal.0 (same_some answer (reaction.Refused refusal.0) refusal.1)

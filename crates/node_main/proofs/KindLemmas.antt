@@ -9,7 +9,7 @@ use Rattle.worker_core.specs.Worker.{WorkerState}
 use Rattle.closed_schedules.specs.ClosedSchedule.{ClosedState, held_by, verdict_at}
 use Rattle.closed_schedules.proofs.Places.{none_some}
 use Rattle.node_main.specs.Drilling.{Holds}
-use Rattle.node_main.specs.Kinds.{AreKinds, are_at_odds, joined}
+use Rattle.node_main.specs.inner.Kinds.{AreKinds, are_at_odds, joined}
 use Rattle.node_main.specs.declared.commands.drilling.kinds.Kinds.{Kinds}
 
 -- a flag tells of either of two facts

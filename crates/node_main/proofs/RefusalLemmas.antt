@@ -3,7 +3,8 @@ use Rattle.std.proofs.Common.{◌≡◌, ◌⊎◌, inl, inr, List, [], ◌∷�
 use Rattle.clap.specs.Words.{App, IsAmong, Kinds, Text, fault_of}
 use Rattle.clap.specs.declared.error.kind.ErrorKind.{ErrorKind}
 use Rattle.clap.specs.declared.error.kind.ErrorKind.TheVariants as kind
-use Rattle.node_main.specs.CommandLine.{AsksForHelp, IsRefusal, StandsFor}
+use Rattle.node_main.specs.CommandLine.{AsksForHelp, IsRefusal}
+use Rattle.node_main.specs.inner.CommandLine.{StandsFor}
 use Rattle.node_main.specs.Program.{program}
 use Rattle.node_main.specs.declared.request.UsageFault.{UsageFault}
 use Rattle.node_main.specs.declared.request.UsageFault.TheVariants.{Help, NoMemory, Usage}

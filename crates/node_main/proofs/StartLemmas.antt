@@ -5,7 +5,7 @@ use Rattle.dimacs.specs.text.Spelling.{Spells}
 use Rattle.icnf.specs.Leaves.{Cube}
 use Rattle.node_main.specs.Deciding.{Decides}
 use Rattle.node_main.specs.Solving.{Solves, Works}
-use Rattle.node_main.specs.Starting.{Starts}
+use Rattle.node_main.specs.inner.Starting.{Starts}
 use Rattle.node_main.specs.declared.options.Options.{Options}
 use Rattle.node_main.specs.declared.report.Report.{Report}
 use Rattle.node_main.specs.declared.splitting.Split.TheVariants.{By}

@@ -4,10 +4,10 @@ use Rattle.std.proofs.lemmas.List.Elements.{Contains-append_left, Contains-appen
 use Rattle.lrat_check.specs.declared.verdict.Reaction.{Reaction}
 use Rattle.lrat_check.specs.declared.verdict.Verdict.{Verdict}
 use Rattle.closed_schedules.specs.ClosedSchedule.{ClosedState}
-use Rattle.node_main.specs.Drilling.{DrillState, Counts, Drills, HasHeld, Holds, IsRefusal, Occurs, TakesTurn, begun, drawn_event, next_after}
+use Rattle.node_main.specs.Drilling.{DrillState, Counts, Drills, HasHeld, Holds, IsRefusedReaction, Occurs, TakesTurn, begun, drawn_event, next_after}
 use Rattle.node_main.specs.DrillReports.{IsCalm, ReportsDrill, drill_status, drill_text}
-use Rattle.node_main.specs.Kinds.{AreKinds, are_at_odds, joined}
-use Rattle.node_main.specs.Tallies.{IsTally, counted}
+use Rattle.node_main.specs.inner.Kinds.{AreKinds, are_at_odds, joined}
+use Rattle.node_main.specs.inner.Tallies.{IsTally, counted}
 use Rattle.node_main.specs.declared.commands.drilling.kinds.Kinds.{Kinds}
 use Rattle.node_main.specs.declared.commands.drilling.tally.Tally.{Tally}
 use Rattle.node_main.specs.declared.report.Report.{Report}
@@ -35,7 +35,7 @@ held_more moments s k l before here = same_kinds (joined k l) (λ v. HasHeld mom
 
 -- a turn, and the tally behind it
 pub turn_is : (old : DrillState) (words : List ℕ) (t u : Tally) (s new : ClosedState) (answer : Option Reaction) (refusal : Bool) (kinds : Kinds)
-    → IsTally t old → old.cluster ≡ s → Occurs s (drawn_event words (length s.frames) t.next) answer new → MatchBool refusal (IsRefusal answer) (¬ (IsRefusal answer)) → AreKinds kinds (Holds new)
+    → IsTally t old → old.cluster ≡ s → Occurs s (drawn_event words (length s.frames) t.next) answer new → MatchBool refusal (IsRefusedReaction answer) (¬ (IsRefusedReaction answer)) → AreKinds kinds (Holds new)
     → u.next ≡ next_after (drawn_event words (length s.frames) t.next) t.next → u.held ≡ joined t.held kinds → u.refused ≡ counted t.refused refusal → u.disagreements ≡ counted t.disagreements (are_at_odds kinds u.held)
     → (after : DrillState) × TakesTurn old words after × IsTally u after × (after.cluster ≡ new)
 turn_is old words t u s new answer refusal kinds tally at occurs refused are next_is held_is refused_is disagreements_is =

@@ -1,10 +1,9 @@
 -- What the words of a command line ask for, by the rules of `clap`.
-use Rattle.std.specs.Prelude.{◌≡◌, ◌≢◌, ◌⊎◌, ℕ, ◌-◌, ◌^◌, ◌≤◌, List, [], ◌∷◌, Bool, true, false, not, Option, Some, None, option_map, codes, ⊤}
+use Rattle.std.specs.Prelude.{◌≡◌, ℕ, ◌-◌, ◌^◌, ◌≤◌, List, [], ◌∷◌, Bool, true, false, not, Option, Some, None, option_map, codes, ⊤}
 use Rattle.std.specs.Borrow.{Bor}
 use Rattle.std.specs.Str.Parse.{IsNumeral, digits_value, without_leading_plus}
 use Rattle.clap.specs.Kinds.{IsAmong}
 use Rattle.clap.specs.Words.{Row, Text, fault_of, first_of, one_of, subcommand_of, takes}
-use Rattle.clap.specs.declared.error.kind.ErrorKind.{ErrorKind}
 use Rattle.clap.specs.declared.error.kind.ErrorKind.TheVariants as kind
 use Rattle.node_main.specs.Program.{program}
 use Rattle.node_main.specs.Solving.{AreOptions}
@@ -77,6 +76,10 @@ Makes name rows (Drill input seed turns) =
 pub record AreTaken (words : List Text) : Type 0 where
   pub by_rules : takes program words ≡ true
 
+-- a parse of the words meets no fault
+abbrev pub IsParsed : List Text → Type 0
+IsParsed words = fault_of program words ≡ []
+
 -- the words ask for what the request says: they name its command, and behind it what the request holds
 pub record AsksFor (words : List Text) (request : Request) : Type 0 where
   pub name : Text
@@ -87,12 +90,6 @@ pub record AsksFor (words : List Text) (request : Request) : Type 0 where
 -- the words ask for help: a parse of them ends there, if not for want of memory
 abbrev pub AsksForHelp : List Text → Type 0
 AsksForHelp words = fault_of program words ≡ kind.DisplayHelp ∷ []
-
--- the fault that an error of a parse stands for, by its kind
-abbrev pub StandsFor : ErrorKind → UsageFault → Type 0
-StandsFor k (Help text) = k ≡ kind.DisplayHelp
-StandsFor k Usage = (k ≢ kind.DisplayHelp) × (k ≢ kind.OutOfMemory)
-StandsFor k NoMemory = (k ≡ kind.DisplayHelp) ⊎ (k ≡ kind.OutOfMemory)
 
 -- why words give no request
 abbrev pub IsRefusal : List Text → UsageFault → Type 0

@@ -44,7 +44,7 @@ pub record DrillsFormula (F : Cnf) (seed turns : ℕ) (r : Report) : Type 0 wher
   pub calm : IsCalm turns r
 
 -- what is reported of a faulty input
-pub record IsFaulty (f : DimacsFault) (r : Report) : Type 0 where
+pub record IsFaultReport (f : DimacsFault) (r : Report) : Type 0 where
   pub text : r.stdout.items ≡ input_fault_text f
   pub status : r.status ≡ 1
   pub proof : r.proof ≡ None
@@ -52,4 +52,4 @@ pub record IsFaulty (f : DimacsFault) (r : Report) : Type 0 where
 -- what is reported of an input that was read, or not
 abbrev pub DrillsInput : Result Cnf DimacsFault → ℕ → ℕ → Report → Type 0
 DrillsInput (Ok F) seed turns r = DrillsFormula F seed turns r
-DrillsInput (Err f) seed turns r = IsFaulty f r
+DrillsInput (Err f) seed turns r = IsFaultReport f r

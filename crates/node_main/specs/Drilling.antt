@@ -63,8 +63,8 @@ Occurs s (Some event) (Some answer) new = HappensClosed s event answer new × (a
 Occurs s event answer new = ⊥
 
 -- the answer is a refusal
-abbrev pub IsRefusal : Option Reaction → Type 0
-IsRefusal answer = (why : ℕ) × (answer ≡ Some (reaction.Refused why))
+abbrev pub IsRefusedReaction : Option Reaction → Type 0
+IsRefusedReaction answer = (why : ℕ) × (answer ≡ Some (reaction.Refused why))
 
 -- a node holds the verdict
 abbrev pub Holds : ClosedState → Verdict → Type 0
@@ -89,7 +89,7 @@ pub record TakesTurn (old : DrillState) (words : List ℕ) (new : DrillState) : 
   pub occurs : Occurs old.cluster (drawn_event words (length old.cluster.frames) old.next) answer new.cluster
   pub next : new.next ≡ next_after (drawn_event words (length old.cluster.frames) old.next) old.next
   pub moments : new.moments ≡ old.moments ++ new.cluster ∷ []
-  pub refused : Counts (IsRefusal answer) old.refused new.refused
+  pub refused : Counts (IsRefusedReaction answer) old.refused new.refused
   pub disagreements : Counts (Disagrees new.moments new.cluster) old.disagreements new.disagreements
 
 -- one turn after the other

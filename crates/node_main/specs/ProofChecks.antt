@@ -24,7 +24,7 @@ KeepsNoLine (Err fault) = Unit {0}
 
 -- what `check` reports of an input and a proof
 pub record IsCheckReport (input proof : List ℕ) (report : Report) : Type 0 where
-  -- status 0 exactly where the input spells a formula and the proof is accepted against it
+  -- status 0 if and only if the input spells a formula and the proof is accepted against it
   pub verified : (report.status ≡ 0) ↔ ((F : Cnf) × Spells input F × Accepts F proof)
   pub status : (report.status ≡ 0) ⊎ (report.status ≡ 1)
   -- which lines are printed, and so which fault, in which line

@@ -1,7 +1,7 @@
 -- How a formula is split, and which cubes are refused.
 use Rattle.std.specs.Prelude.{◌≡◌, ◌≢◌, ℕ, List, Option, Some, None, Err}
 use Rattle.cube_split.specs.Splitting.{IsTreeOf}
-use Rattle.dimacs.specs.logic.Cnf.{Cnf, AreWithin}
+use Rattle.dimacs.specs.logic.Cnf.{Cnf}
 use Rattle.icnf.specs.Leaves.{Cube}
 use Rattle.icnf.specs.Reading.{parse}
 use Rattle.icnf.specs.Spelling.{Spells}
@@ -24,9 +24,3 @@ SplitsByText F text OtherFormula = (G : Cnf) × (leaves : List Cube) × Spells t
 abbrev pub Splits : Cnf → Option (List ℕ) → ℕ → Split → Type 0
 Splits F None depth split = SplitsByRule F depth split
 Splits F (Some text) depth split = SplitsByText F text split
-
--- the cubes name no variable above this one
-abbrev pub StaysWithin : ℕ → Split → Type 0
-StaysWithin vars (By leaves) = AreWithin vars leaves
-StaysWithin vars (Faulty fault) = Unit {0}
-StaysWithin vars OtherFormula = Unit {0}

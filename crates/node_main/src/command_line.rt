@@ -2,15 +2,18 @@
 
 ghost use Rattle.std.specs.Prelude.{◌≡◌, IfOk, IfErr, IfSome, IfNone, map};
 ghost use Rattle.clap.specs.Words.{app_of, found_of, kind_of, rows_of};
-ghost use Rattle.node_main.specs.CommandLine.{AreTaken, AsksFor, IsInRange, IsRefusal, Makes, StandsFor};
+ghost use Rattle.node_main.specs.CommandLine.{AreTaken, AsksFor, IsInRange, IsParsed, IsRefusal, Makes};
+ghost use Rattle.node_main.specs.inner.CommandLine.{StandsFor};
 ghost use Rattle.node_main.specs.Program.{program};
 ghost use Rattle.node_main.specs.declared.request.Request.{Request};
 
 mod check;
 mod cubes;
 mod drill;
+mod run_words;
 mod serve;
 mod solve;
+mod words;
 mod work;
 
 use crate::request::{Request, UsageFault};
@@ -75,6 +78,8 @@ fn request_of<'a>(name: &str, matches: &ArgMatches<'a>) -> Option<Request<'a>>
 pub fn command<'a>(alloc: Global, words: &'a [&'a str]) -> Result<Request<'a>, UsageFault>
     // A request is what the words ask for, by the rules of the command line.
     ensures asks { IfOk result (AsksFor (map (λ w. w.now) words.now)) }
+    // Words that a parse refuses give no request.
+    ensures taken { IfOk result (λ _. IsParsed (map (λ w. w.now) words.now)) }
     // Its numbers are in their ranges.
     ensures range { IfOk result IsInRange }
     // Words that ask for something are refused for want of memory alone.

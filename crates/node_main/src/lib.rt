@@ -10,10 +10,8 @@ mod deciding;
 mod options;
 mod report;
 mod request;
-mod run_words;
 mod splitting;
 mod starting;
-mod words;
 
 pub use command_line::command;
 pub use commands::check::{ProofCheck, run_check};

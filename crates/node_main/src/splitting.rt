@@ -1,7 +1,8 @@
 //! How a formula is split: by the cubes that are handed in, or else by the split rule.
 
 ghost use Rattle.std.specs.Prelude.{◌≡◌, ◌≤◌, ◌↔◌, IsTrue, IfOk, None, option_map};
-ghost use Rattle.node_main.specs.Splitting.{Splits, SplitsByText, StaysWithin};
+ghost use Rattle.node_main.specs.Splitting.{Splits, SplitsByText};
+ghost use Rattle.node_main.specs.inner.Splitting.{StaysWithin};
 
 use cube_split::tree;
 use dimacs::Formula;

@@ -3,7 +3,7 @@
 ghost use Rattle.std.specs.Prelude.{◌≡◌, IfOk, option_map};
 ghost use Rattle.node_main.specs.Reports.{input_fault_text};
 ghost use Rattle.node_main.specs.Solving.{AreOptions, IsRefused};
-ghost use Rattle.node_main.specs.Starting.{Starts};
+ghost use Rattle.node_main.specs.inner.Starting.{Starts};
 
 use crate::options::Options;
 use crate::report::{Report, faulty_cubes, faulty_input, other_formula};

@@ -15,7 +15,7 @@ use Rattle.lrat_text.specs.Runs.{text_of, top_of}
 use Rattle.proof_join.specs.Joining.{Closed, leaf, fork, fragments, cubes, Part, part, leaf_part, fork_part, with_line, with_clause_of, resolvent}
 use Rattle.proof_join.specs.declared.fault.JoinFault.{JoinFault}
 use Rattle.proof_join.specs.declared.fault.JoinFault.TheVariants.{TooLong, NoMemory}
-use Rattle.proof_join.specs.Steps.{Writes, steps_in, steps_each, EndsByAddition, IsBelow, clause_of, last_of, own_part}
+use Rattle.proof_join.specs.inner.Steps.{Writes, steps_in, steps_each, EndsByAddition, IsBelow, clause_of, last_of, own_part}
 use Rattle.proof_join.proofs.JoinLemmas.{spelled_limits}
 use Rattle.proof_join.proofs.LogLemmas.{last_is}
 use Rattle.proof_join.proofs.ShapeLemmas.{first_cube, first_fork}

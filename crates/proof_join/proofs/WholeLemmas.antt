@@ -17,7 +17,7 @@ use Rattle.lrat_text.specs.declared.step.Step.{Step}
 use Rattle.lrat_text.specs.declared.step.Step.TheVariants.{Add, Delete}
 use Rattle.lrat_text.specs.Runs.{text_of, top_of}
 use Rattle.proof_join.specs.Joining.{Closed, leaf, fork, cubes, fragments, part, joined_text, AreSpelled, Joined, AllClose, unit_steps}
-use Rattle.proof_join.specs.Steps.{Writes, steps_in, steps_each, IsLow, AreLow, IsOwn, IsFragment, EndsByAddition, IsBelow}
+use Rattle.proof_join.specs.inner.Steps.{Writes, steps_in, steps_each, IsLow, AreLow, IsOwn, IsFragment, EndsByAddition, IsBelow}
 use Rattle.proof_join.proofs.JoinLemmas.{some_clause, tree_closed, units_accept}
 use Rattle.lrat_text.specs.Proof.{Accepts}
 use Rattle.cube_split.proofs.PureLemmas.{pure_within}

@@ -6,7 +6,7 @@ ghost use Rattle.dimacs.specs.logic.Literal.{IsWithin};
 ghost use Rattle.lrat_text.specs.Proof.{Accepts};
 ghost use Rattle.proof_join.specs.Joining.{AllClose, JoinedUnits, cubes, part, unit_steps};
 ghost use Rattle.lrat_text.specs.Runs.{text_of};
-ghost use Rattle.proof_join.specs.Steps.{IsBelow, IsFragment, Writes, steps_each};
+ghost use Rattle.proof_join.specs.inner.Steps.{IsBelow, IsFragment, Writes, steps_each};
 
 use crate::fault::JoinFault;
 use crate::lines::put_line;

@@ -7,7 +7,7 @@ ghost use Rattle.lrat_text.specs.Steps.{step_of};
 ghost use Rattle.lrat_text.specs.Writing.{line_of};
 ghost use Rattle.proof_join.specs.Numbering.{behind, renumbered};
 ghost use Rattle.lrat_text.specs.Runs.{text_of, top_of};
-ghost use Rattle.proof_join.specs.Steps.{IsLow, IsOwn, Writes, last_of, steps_in};
+ghost use Rattle.proof_join.specs.inner.Steps.{IsLow, IsOwn, Writes, last_of, steps_in};
 
 use crate::fault::JoinFault;
 use lrat_text::{StepBuffer, StepRef, cut_line, put_ref, read_line};

@@ -7,7 +7,7 @@ ghost use Rattle.lrat_text.specs.Writing.{line_of};
 ghost use Rattle.lrat_text.specs.declared.step.Step.{Step};
 ghost use Rattle.proof_join.specs.Numbering.{renumbered, renumbered_group};
 ghost use Rattle.proof_join.specs.Renumbering.{raised, LineFits, Renumbers};
-ghost use Rattle.proof_join.specs.Raising.{IsPut, Unless};
+ghost use Rattle.proof_join.specs.inner.Raising.{IsPut, Unless};
 
 use crate::fault::JoinFault;
 use crate::lines::put_line;

@@ -5,8 +5,9 @@ use Rattle.std.proofs.lemmas.List.{drop-set-lt, drop_more}
 use Rattle.std.proofs.lemmas.List.Sums.{sum_by-cons, sum_by-set}
 use Rattle.lrat_check.specs.declared.verdict.Verdict.{Verdict}
 use Rattle.lrat_check.specs.declared.verdict.Verdict.TheVariants.{Nothing}
-use Rattle.runs.specs.Accounts.{HasBegun, RoseBy, one_if_open}
-use Rattle.runs.specs.Served.{HasServed, HasTurned, open_lines}
+use Rattle.runs.specs.Accounts.{HasBegun, RoseBy}
+use Rattle.runs.specs.inner.Accounts.{one_if_open}
+use Rattle.runs.specs.inner.Served.{HasServed, HasTurned, open_lines}
 use Rattle.runs.proofs.Standings.{rose_more, rose_on}
 use Rattle.coordinator_core.specs.Coordinator.{CoordinatorState}
 use Rattle.runs.specs.declared.line.Line.{Line}

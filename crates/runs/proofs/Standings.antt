@@ -5,7 +5,8 @@ use Rattle.lrat_check.specs.declared.verdict.Verdict.{Verdict}
 use Rattle.lrat_check.specs.declared.verdict.Verdict.TheVariants.{Nothing}
 use Rattle.runs.specs.declared.broken.Broken.{Broken}
 use Rattle.runs.specs.declared.broken.Broken.TheVariants.{Closed, NoMemory}
-use Rattle.runs.specs.Accounts.{RoseBy, FirstIsUntouched, HasBegun, one_if_open, open_count, IsUntouched}
+use Rattle.runs.specs.Accounts.{RoseBy, HasBegun}
+use Rattle.runs.specs.inner.Accounts.{FirstIsUntouched, one_if_open, open_count, IsUntouched}
 use Rattle.coordinator_core.specs.Coordinator.{CoordinatorState}
 use Rattle.runs.specs.declared.seat.Seat.{Seat}
 

@@ -1,2 +1,2 @@
 pub mod Accounts
-pub mod Served
+pub mod inner

@@ -7,7 +7,7 @@ use frames::WorkerNumber;
 pub struct CoordinatorPlan {
     /// How many workers there are, from 1 to 64.
     pub workers: u32,
-    /// The most lemmas that a worker learns under a leaf before it gives up.
+    /// The most lemmas that a worker learns under a leaf before the leaf is split.
     pub limit: u64,
     /// The number of its session.
     pub session: u64,

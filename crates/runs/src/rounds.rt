@@ -3,7 +3,8 @@
 ghost use Rattle.std.specs.Prelude.{◌≡◌, ◌≤◌, ◌+◌, ◌*◌, ◌⊎◌, ℕ, length, [], OnOk, OnErr, true, false};
 ghost use Rattle.coordinator_core.specs.Coordinator.{IsWorker};
 ghost use Rattle.lrat_check.specs.declared.verdict.Verdict.TheVariants.{Nothing};
-ghost use Rattle.runs.specs.Accounts.{RoseBy, HasBegun, FirstIsUntouched, one_if_open, open_count};
+ghost use Rattle.runs.specs.Accounts.{RoseBy, HasBegun};
+ghost use Rattle.runs.specs.inner.Accounts.{FirstIsUntouched, one_if_open, open_count};
 
 use crate::broken::{Broken, ended};
 use crate::coordinating::{deliver, is_over, lose, poll};

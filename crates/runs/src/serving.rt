@@ -6,8 +6,9 @@ ghost use Rattle.coordinator_core.specs.Coordinator.{IsWorker};
 ghost use Rattle.evidence.specs.Jobs.{IsInside};
 ghost use Rattle.lrat_check.specs.Verdicts.{Right};
 ghost use Rattle.lrat_check.specs.declared.verdict.Verdict.TheVariants.{Nothing};
-ghost use Rattle.runs.specs.Accounts.{RoseBy, HasBegun, one_if_open};
-ghost use Rattle.runs.specs.Served.{HasServed, HasTurned, open_lines};
+ghost use Rattle.runs.specs.Accounts.{RoseBy, HasBegun};
+ghost use Rattle.runs.specs.inner.Accounts.{one_if_open};
+ghost use Rattle.runs.specs.inner.Served.{HasServed, HasTurned, open_lines};
 
 use crate::broken::{Broken, ended};
 use crate::coordinating::{deliver, gave_up, lose, poll};

@@ -3,7 +3,8 @@
 ghost use Rattle.std.specs.Prelude.{◌≡◌, ◌≤◌, ◌+◌, ◌*◌, All, IfOk, length};
 ghost use Rattle.evidence.specs.Jobs.{IsInside};
 ghost use Rattle.lrat_check.specs.Verdicts.{Right};
-ghost use Rattle.runs.specs.Accounts.{FirstIsUntouched, HasBegun, IsUntouched};
+ghost use Rattle.runs.specs.Accounts.{HasBegun};
+ghost use Rattle.runs.specs.inner.Accounts.{FirstIsUntouched, IsUntouched};
 
 use crate::inbox::Inbox;
 use crate::plan::CoordinatorPlan;

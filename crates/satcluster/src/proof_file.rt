@@ -1,5 +1,6 @@
 //! Writes a proof to its file, whole or not at all wherever a file can be made beside it.
 
+use crate::files::refused;
 use node_main::Refusal;
 use std::fs::{File, Metadata, OpenFile, OpenOptions};
 use std::io::{ErrorKind, Write};
@@ -16,14 +17,6 @@ enum Way {
     Beside(Option<Metadata>),
     /// In place: there is something else than a file.
     InPlace,
-}
-
-/// The refusal of a proof that cannot be written.
-fn unwritten(error: io::Error) -> Refusal {
-    match error.kind() {
-        ErrorKind::OutOfMemory => Refusal::NoMemory,
-        _ => Refusal::Writing,
-    }
 }
 
 /// Whether two paths lead to one file, or are the same where there is none.
@@ -121,5 +114,5 @@ pub(crate) fn write_proof<R: Runtime + AllocGlobal>(
         Ok(Way::InPlace) => fs::write(rt, path, proof),
         Err(error) => Err(error),
     };
-    written.map_err(unwritten)
+    written.map_err(|error| refused(error, Refusal::Writing))
 }

@@ -9,11 +9,11 @@ use Rattle.clause_arena.specs.declared.reference.Ref.{Ref}
 use Rattle.clause_arena.specs.Clauses.{Clauses, Stands}
 use Rattle.clause_arena.proofs.ClauseLaws.{stands_once}
 use Rattle.watches.specs.Trails.{TrailValue}
-use Rattle.watches.specs.Scanning.{IsHere}
+use Rattle.watches.specs.inner.Scanning.{IsHere}
 use Rattle.watches.specs.declared.watched.places.Place.{Place}
-use Rattle.watches.specs.Chains.{literal_at, next_of, twin, IsIn, IsOnce, IsChain, AreChains, AppendsTwo}
-use Rattle.watches.specs.Ready.{AreNamed}
-use Rattle.watches.specs.Watching.{owner, no_clause, IsGuarded, IsKept, IsLong, IsSettled, IsWatching}
+use Rattle.watches.specs.inner.Chains.{literal_at, next_of, twin, IsIn, IsOnce, IsChain, AreChains, AppendsTwo}
+use Rattle.watches.specs.inner.Ready.{AreNamed}
+use Rattle.watches.specs.inner.Watching.{owner, no_clause, IsGuarded, IsKept, IsLong, IsSettled, IsWatching}
 use Rattle.watches.proofs.ChainLemmas.{chain_kept, chain_from}
 use Rattle.watches.proofs.TwinLemmas.{twins_of, twin_even, twin_odd}
 use Rattle.watches.proofs.SwapLemmas.{apart_at}

@@ -3,8 +3,8 @@ use Rattle.std.proofs.Common.{◌≡◌, ◌≢◌, ℕ, zero, suc, ◌<◌, ◌
 use Rattle.std.proofs.lemmas.Bool.{cases_eq, ne_eqb, eq-eqb}
 use Rattle.dimacs.specs.logic.Literal.{Literal}
 use Rattle.watches.specs.declared.watched.places.Place.{Place}
-use Rattle.watches.specs.Chains.{next_of, IsIn, IsOnce, IsChain, last_of, AreChains, Relinks}
-use Rattle.watches.specs.Walking.{left_from}
+use Rattle.watches.specs.inner.Chains.{next_of, IsIn, IsOnce, IsChain, last_of, AreChains, Relinks}
+use Rattle.watches.specs.inner.Walking.{left_from}
 
 -- ---- members of a path
 pub in_left : (p : ℕ) (xs ys : List ℕ) → IsIn p xs → IsIn p (xs ++ ys)

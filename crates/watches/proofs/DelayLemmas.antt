@@ -7,9 +7,9 @@ use Rattle.clause_arena.specs.Clauses.{Clauses}
 use Rattle.watches.specs.declared.trail.Assigned.{Assigned}
 use Rattle.watches.specs.Trails.{TrailValue}
 use Rattle.watches.specs.declared.watched.places.Place.{Place}
-use Rattle.watches.specs.Chains.{literal_at, next_of, IsIn, IsChain, Relinks}
-use Rattle.watches.specs.Watching.{IsWatching}
-use Rattle.watches.specs.Walking.{left_behind}
+use Rattle.watches.specs.inner.Chains.{literal_at, next_of, IsIn, IsChain, Relinks}
+use Rattle.watches.specs.inner.Watching.{IsWatching}
+use Rattle.watches.specs.inner.Walking.{left_behind}
 use Rattle.watches.proofs.ChainLemmas.{after_l, moved_paths}
 use Rattle.watches.proofs.RelinkLemmas.{put}
 use Rattle.watches.proofs.StateLemmas.{advance}

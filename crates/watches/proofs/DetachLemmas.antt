@@ -4,8 +4,8 @@ use Rattle.std.specs.List.{All, remove}
 use Rattle.std.proofs.lemmas.Bool.{false≢true, cases_eq}
 use Rattle.std.proofs.lemmas.List.{take_all, take_more, take_more_set, get_or_default, length-take-le, length-set, get_or-set_same, get_or-set_other, append-nil}
 use Rattle.clause_arena.specs.declared.reference.Ref.{Ref}
-use Rattle.watches.specs.Moving.{Follows, AreFollowed}
-use Rattle.watches.specs.Watching.{no_clause}
+use Rattle.watches.specs.inner.Moving.{Follows, AreFollowed}
+use Rattle.watches.specs.inner.Watching.{no_clause}
 use Rattle.watches.specs.Ready.{attached_of}
 
 -- one clause more, marked or not

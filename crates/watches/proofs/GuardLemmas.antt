@@ -8,8 +8,8 @@ use Rattle.dimacs.specs.logic.Literal.{Literal, same, negation}
 use Rattle.dimacs.proofs.LiteralLemmas.{same-itself}
 use Rattle.watches.specs.declared.trail.Assigned.{Assigned}
 use Rattle.watches.specs.Trails.{holds, up_to}
-use Rattle.watches.specs.Watching.{IsGuarded}
-use Rattle.watches.specs.ReadyLaws.{or_left}
+use Rattle.watches.specs.inner.Watching.{IsGuarded}
+use Rattle.watches.specs.inner.ReadyLaws.{or_left}
 
 or_either : (a b : Bool) → (a || b) ≡ true → (a ≡ true) ⊎ (b ≡ true)
 or_either true b e = inl refl

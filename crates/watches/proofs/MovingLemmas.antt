@@ -10,8 +10,9 @@ use Rattle.dimacs.specs.logic.Literal.{Clause}
 use Rattle.clause_arena.specs.declared.reference.Ref.{Ref}
 use Rattle.clause_arena.specs.Clauses.{Clauses, Stands}
 use Rattle.clause_arena.specs.Compaction.{IsCompacted}
-use Rattle.watches.specs.Scanning.{numbers, IsHere}
-use Rattle.watches.specs.Moving.{AreRising, IsUnmoved, IsMovedTo, Follows, AreFollowed}
+use Rattle.watches.specs.Scanning.{numbers}
+use Rattle.watches.specs.inner.Scanning.{IsHere}
+use Rattle.watches.specs.inner.Moving.{AreRising, IsUnmoved, IsMovedTo, Follows, AreFollowed}
 use Rattle.watches.proofs.Swept.{same_clause}
 
 some_of : (o : Option (ℕ × Clause)) (C : Clause) → option_map (λ (c : ℕ × Clause). c.1) o ≡ Some C → (p : ℕ) × (o ≡ Some (p, C))

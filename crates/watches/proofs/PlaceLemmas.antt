@@ -7,12 +7,13 @@ use Rattle.clause_arena.specs.declared.reference.Ref.{Ref}
 use Rattle.clause_arena.specs.Clauses.{Clauses, Stands, live_of}
 use Rattle.watches.specs.Trails.{TrailValue, holds, present}
 use Rattle.watches.specs.Law.{IsImplied, IsConflict, live_among}
-use Rattle.watches.specs.Scanning.{IsHere, numbers}
-use Rattle.watches.specs.ScanLaws.{has_number}
+use Rattle.watches.specs.Scanning.{numbers}
+use Rattle.watches.specs.inner.Scanning.{IsHere}
+use Rattle.watches.specs.inner.ScanLaws.{has_number}
 use Rattle.watches.specs.declared.watched.places.Place.{Place}
-use Rattle.watches.specs.Chains.{literal_at, twin}
-use Rattle.watches.specs.Watching.{owner, no_clause, FindsWatch, IsLong, IsWatching}
-use Rattle.watches.specs.Walking.{IsSatisfied}
+use Rattle.watches.specs.inner.Chains.{literal_at, twin}
+use Rattle.watches.specs.inner.Watching.{owner, no_clause, FindsWatch, IsLong, IsWatching}
+use Rattle.watches.specs.inner.Walking.{IsSatisfied}
 use Rattle.watches.proofs.TwinLemmas.{twins_of, owner_twin, long_twin, parity}
 
 module _ (places : List Place) (clauses : List Ref) (base head : ℕ) (m : Clauses) (t : TrailValue) (paths : ℕ → List ℕ) (w : IsWatching places clauses base head m t paths)

@@ -13,13 +13,15 @@ use Rattle.clause_arena.proofs.ClauseLaws.{stands_once}
 use Rattle.watches.specs.declared.trail.Assigned.{Assigned}
 use Rattle.watches.specs.Trails.{TrailValue}
 use Rattle.watches.specs.Law.{AreWithout}
-use Rattle.watches.specs.Moving.{AreFollowed}
-use Rattle.watches.specs.Scanning.{IsHere, numbers}
-use Rattle.watches.specs.ScanLaws.{has_number, here_pushed}
+use Rattle.watches.specs.inner.Moving.{AreFollowed}
+use Rattle.watches.specs.Scanning.{numbers}
+use Rattle.watches.specs.inner.Scanning.{IsHere}
+use Rattle.watches.specs.inner.ScanLaws.{has_number, here_pushed}
 use Rattle.watches.specs.declared.watched.places.Place.{Place}
-use Rattle.watches.specs.Chains.{AppendsTwo}
-use Rattle.watches.specs.Watching.{IsWatching, IsLong, no_clause}
-use Rattle.watches.specs.Ready.{Watches, AreNamed, AreWatches, IsReady, attached_of}
+use Rattle.watches.specs.inner.Chains.{AppendsTwo}
+use Rattle.watches.specs.inner.Watching.{IsWatching, IsLong, no_clause}
+use Rattle.watches.specs.Ready.{Watches, attached_of}
+use Rattle.watches.specs.inner.Ready.{AreNamed, AreWatches, IsReady}
 use Rattle.watches.proofs.MovingLemmas.{stands_followed, all_here_followed}
 use Rattle.watches.proofs.StateLemmas.{cut}
 use Rattle.watches.proofs.AttachLemmas.{appends, some_watching, named_push}

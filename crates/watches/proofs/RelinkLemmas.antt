@@ -10,11 +10,11 @@ use Rattle.clause_arena.specs.declared.reference.Ref.{Ref}
 use Rattle.clause_arena.specs.Clauses.{Clauses, Stands}
 use Rattle.clause_arena.proofs.ClauseLaws.{stands_once, swapped_stands, other_stands, other_stood}
 use Rattle.watches.specs.Trails.{TrailValue, holds}
-use Rattle.watches.specs.Scanning.{IsHere}
+use Rattle.watches.specs.inner.Scanning.{IsHere}
 use Rattle.watches.specs.declared.watched.places.Place.{Place}
-use Rattle.watches.specs.Chains.{literal_at, twin, IsIn, last_of, AreChains, Relinks}
-use Rattle.watches.specs.Walking.{IsConsistent}
-use Rattle.watches.specs.Watching.{owner, no_clause, IsGuarded, IsKept, IsLong, IsSettled, IsWatching}
+use Rattle.watches.specs.inner.Chains.{literal_at, twin, IsIn, last_of, AreChains, Relinks}
+use Rattle.watches.specs.inner.Walking.{IsConsistent}
+use Rattle.watches.specs.inner.Watching.{owner, no_clause, IsGuarded, IsKept, IsLong, IsSettled, IsWatching}
 use Rattle.watches.proofs.ChainLemmas.{in_right, moved_paths, still_in, now_in, was_in, chains_moved}
 use Rattle.watches.proofs.TwinLemmas.{twins_of, owner_twin, long_twin, same_owner, parity}
 use Rattle.watches.proofs.SwapLemmas.{swapped, all_swapped, apart_at}

@@ -8,8 +8,8 @@ use Rattle.dimacs.specs.logic.Literal.{Literal, negation, same, var_of}
 use Rattle.dimacs.proofs.LiteralLemmas.{same-is}
 use Rattle.watches.specs.declared.trail.Assigned.{Assigned}
 use Rattle.watches.specs.Trails.{up_to, variables}
-use Rattle.watches.specs.Watching.{IsGuarded}
-use Rattle.watches.specs.ReadyLaws.{or_left}
+use Rattle.watches.specs.inner.Watching.{IsGuarded}
+use Rattle.watches.specs.inner.ReadyLaws.{or_left}
 
 and_both : (a b : Bool) → a ≡ true → b ≡ true → (a && b) ≡ true
 and_both true b e f = f

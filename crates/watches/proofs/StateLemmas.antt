@@ -10,15 +10,16 @@ use Rattle.clause_arena.specs.Clauses.{Clauses, Stands, live_of}
 use Rattle.watches.specs.declared.trail.Assigned.{Assigned}
 use Rattle.watches.specs.Trails.{TrailValue, holds, up_to}
 use Rattle.watches.specs.Law.{IsCalm, IsQuiet, live_among}
-use Rattle.watches.specs.Scanning.{IsHere, numbers}
+use Rattle.watches.specs.Scanning.{numbers}
+use Rattle.watches.specs.inner.Scanning.{IsHere}
 use Rattle.watches.proofs.Swept.{same_clause}
 use Rattle.watches.proofs.TrailLemmas.{holds_at}
 use Rattle.watches.specs.declared.watched.places.Place.{Place}
-use Rattle.watches.specs.Chains.{literal_at, twin, IsIn}
-use Rattle.watches.specs.Watching.{owner, no_clause, IsGuarded, IsLong, IsWatching}
+use Rattle.watches.specs.inner.Chains.{literal_at, twin, IsIn}
+use Rattle.watches.specs.inner.Watching.{owner, no_clause, IsGuarded, IsLong, IsWatching}
 use Rattle.watches.proofs.GuardLemmas.{up_to_holds, up_to_kept, guarded_cut}
 use Rattle.watches.proofs.TwinLemmas.{twins_of, owner_twin, long_twin, parity}
-use Rattle.watches.specs.Walking.{IsConsistent, IsSatisfied}
+use Rattle.watches.specs.inner.Walking.{IsConsistent, IsSatisfied}
 
 module _ (places : List Place) (clauses : List Ref) (base head : ℕ) (m : Clauses) (t : TrailValue) (paths : ℕ → List ℕ) (w : IsWatching places clauses base head m t paths) where
   -- literals above a level were taken out

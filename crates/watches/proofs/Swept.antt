@@ -11,8 +11,9 @@ use Rattle.clause_arena.specs.Clauses.{Clauses, Stands, live_of}
 use Rattle.watches.specs.declared.trail.Assigned.{Assigned}
 use Rattle.watches.specs.Trails.{TrailValue, holds}
 use Rattle.watches.specs.Law.{IsCalm, IsImplied, AreImplied, Grows, IsQuiet, live_among, AreSame}
-use Rattle.watches.specs.Scanning.{numbers, IsHere}
-use Rattle.watches.specs.ScanLaws.{has_number}
+use Rattle.watches.specs.Scanning.{numbers}
+use Rattle.watches.specs.inner.Scanning.{IsHere}
+use Rattle.watches.specs.inner.ScanLaws.{has_number}
 
 -- nothing changed
 pub AreSame-refl : (m : Clauses) → AreSame m m

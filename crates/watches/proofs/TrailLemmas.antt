@@ -15,7 +15,7 @@ use Rattle.watches.specs.declared.trail.Assigned.{Assigned}
 use Rattle.watches.specs.declared.truth.Truth.{Truth}
 use Rattle.watches.specs.declared.truth.Truth.TheVariants.{Free, True, False}
 use Rattle.watches.specs.Trails.{holds, IsTruth, variables}
-use Rattle.watches.specs.Tables.{truth_of}
+use Rattle.watches.specs.inner.Tables.{truth_of}
 
 -- ---- what a trail holds
 or_false : (a b : Bool) → (a || b) ≡ false → (a ≡ false) × (b ≡ false)

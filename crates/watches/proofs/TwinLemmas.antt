@@ -6,8 +6,8 @@ use Rattle.std.proofs.lemmas.Bool.{cases_eq, ne_eqb, eq-eqb}
 use Rattle.std.proofs.lemmas.Nat.Bits.{same_from_bits, bit_at_xor, bit_at_lowest, bit_at-suc, bit_at-zero, bit_at-lt}
 use Rattle.clause_arena.specs.declared.reference.Ref.{Ref}
 use Rattle.watches.specs.declared.watched.places.Place.{Place}
-use Rattle.watches.specs.Chains.{twin}
-use Rattle.watches.specs.Watching.{owner, no_clause, IsLong}
+use Rattle.watches.specs.inner.Chains.{twin}
+use Rattle.watches.specs.inner.Watching.{owner, no_clause, IsLong}
 
 pub twin_even : (p : ℕ) → p % 2 ≡ 0 → twin p ≡ p + 1
 twin_even p e = ap (λ b. cond b (p + 1) (p - 1)) (eq-eqb (p % 2) 0 e)

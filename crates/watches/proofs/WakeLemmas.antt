@@ -14,18 +14,19 @@ use Rattle.watches.specs.Trails.{TrailValue, holds, IsTruth}
 use Rattle.watches.specs.declared.truth.Truth.{Truth}
 use Rattle.watches.specs.declared.truth.Truth.TheVariants.{Free, True, False}
 use Rattle.watches.specs.Law.{AreSame, IsCalm, live_among}
-use Rattle.watches.specs.Scanning.{IsHere, numbers}
-use Rattle.watches.specs.ScanLaws.{has_number}
+use Rattle.watches.specs.Scanning.{numbers}
+use Rattle.watches.specs.inner.Scanning.{IsHere}
+use Rattle.watches.specs.inner.ScanLaws.{has_number}
 use Rattle.watches.proofs.GuardLemmas.{guarded_free, holds_up_to}
 use Rattle.watches.specs.declared.watched.places.Place.{Place}
-use Rattle.watches.specs.Chains.{literal_at, next_of, twin, IsIn, IsOnce, IsChain, last_of, Relinks}
-use Rattle.watches.specs.Watching.{owner, no_clause, FindsWatch, IsGuarded, IsLong, IsSettled, IsWatching}
-use Rattle.watches.specs.Walking.{IsConsistent, IsShorter, Wake, Woken, IsSatisfied, left_behind}
+use Rattle.watches.specs.inner.Chains.{literal_at, next_of, twin, IsIn, IsOnce, IsChain, last_of, Relinks}
+use Rattle.watches.specs.inner.Watching.{owner, no_clause, FindsWatch, IsGuarded, IsLong, IsSettled, IsWatching}
+use Rattle.watches.specs.inner.Walking.{IsConsistent, IsShorter, Wake, Woken, IsSatisfied, left_behind}
 use Rattle.watches.proofs.ChainLemmas.{in_left, in_right, in_either, apart_before, once_back, last_in, last_push, chain_rest, after_l, moved_paths}
 use Rattle.watches.proofs.TwinLemmas.{parity}
 use Rattle.watches.proofs.SwapLemmas.{contains_swapped}
 use Rattle.watches.proofs.RelinkLemmas.{moved, put}
-use Rattle.watches.specs.ReadyLaws.{pushed}
+use Rattle.watches.specs.inner.ReadyLaws.{pushed}
 use Rattle.watches.proofs.WalkLemmas.{holds_pushed, same_swapped, cons_of, left_behind_is, consistent_push, holds_front}
 
 pub index_high : (n : ℕ) (x : Literal) → IsWithin n x → 0 < index_of x

@@ -16,21 +16,22 @@ use Rattle.clause_arena.proofs.ClauseLaws.{get-insert_same, get-insert_other}
 use Rattle.watches.specs.declared.trail.Assigned.{Assigned}
 use Rattle.watches.specs.Trails.{TrailValue, holds, up_to, present}
 use Rattle.watches.specs.Law.{AreSame, IsReordered, IsImplied, live_among}
-use Rattle.watches.specs.Scanning.{IsHere, numbers}
-use Rattle.watches.specs.ScanLaws.{has_number}
+use Rattle.watches.specs.Scanning.{numbers}
+use Rattle.watches.specs.inner.Scanning.{IsHere}
+use Rattle.watches.specs.inner.ScanLaws.{has_number}
 use Rattle.watches.proofs.Present.{present_le}
 use Rattle.watches.proofs.TrailLemmas.{distinct_nil, holds_push}
 use Rattle.watches.specs.declared.watched.places.Place.{Place}
-use Rattle.watches.specs.Chains.{literal_at, next_of, twin, IsIn, IsOnce, IsChain, last_of, Relinks}
-use Rattle.watches.specs.Watching.{owner, no_clause, FindsWatch, IsLong, IsWatching}
-use Rattle.watches.specs.Walking.{IsConsistent, Walk, IsShorter, Stops, left_behind, left_from}
+use Rattle.watches.specs.inner.Chains.{literal_at, next_of, twin, IsIn, IsOnce, IsChain, last_of, Relinks}
+use Rattle.watches.specs.inner.Watching.{owner, no_clause, FindsWatch, IsLong, IsWatching}
+use Rattle.watches.specs.inner.Walking.{IsConsistent, Walk, IsShorter, Stops, left_behind, left_from}
 use Rattle.watches.proofs.ChainLemmas.{in_left, in_right, in_either, apart_before, once_back, last_in, last_push, chain_rest, left_is, after_l, moved_paths}
 use Rattle.watches.proofs.TwinLemmas.{twins_of, owner_twin, long_twin, parity}
 use Rattle.watches.proofs.GuardLemmas.{up_to_holds, holds_up_to}
-use Rattle.watches.specs.ReadyLaws.{or_left, up_to_front}
+use Rattle.watches.specs.inner.ReadyLaws.{or_left, up_to_front}
 use Rattle.watches.proofs.SwapLemmas.{reordered}
 use Rattle.watches.proofs.RelinkLemmas.{moved}
-use Rattle.watches.specs.ReadyLaws.{pushed}
+use Rattle.watches.specs.inner.ReadyLaws.{pushed}
 use Rattle.watches.proofs.StateLemmas.{advance}
 
 -- ---- a path without repeats is no longer than there are places

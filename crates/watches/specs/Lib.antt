@@ -1,12 +1,6 @@
-pub mod Trails
-pub mod Tables
-pub mod Law
 pub mod Finding
-pub mod Scanning
-pub mod ScanLaws
-pub mod Moving
-pub mod Chains
-pub mod Watching
-pub mod Walking
+pub mod Law
 pub mod Ready
-pub mod ReadyLaws
+pub mod Scanning
+pub mod Trails
+pub mod inner

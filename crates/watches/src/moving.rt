@@ -1,7 +1,7 @@
 //! Clauses that moved, followed.
 
 ghost use Rattle.std.specs.Prelude.{◌≡◌, IfSome, IfNone};
-ghost use Rattle.watches.specs.Moving.{AreRising, IsUnmoved, IsMovedTo, Follows, AreFollowed};
+ghost use Rattle.watches.specs.inner.Moving.{AreRising, IsUnmoved, IsMovedTo, Follows, AreFollowed};
 
 use clause_arena::Ref;
 

@@ -5,8 +5,9 @@ ghost use Rattle.clause_arena.specs.Clauses.{Clauses, live_of};
 ghost use Rattle.clause_arena.specs.declared.reference.Ref.{Ref};
 ghost use Rattle.watches.specs.Trails.{TrailValue};
 ghost use Rattle.watches.specs.Law.{Grows, IsQuiet, IsConflict, live_among};
-ghost use Rattle.watches.specs.Scanning.{numbers, IsHere};
-ghost use Rattle.watches.specs.ScanLaws.{here_pushed, here_elsewhere};
+ghost use Rattle.watches.specs.Scanning.{numbers};
+ghost use Rattle.watches.specs.inner.Scanning.{IsHere};
+ghost use Rattle.watches.specs.inner.ScanLaws.{here_pushed, here_elsewhere};
 
 use crate::finding::{Finding, test_clause};
 use crate::moving::follow_all;

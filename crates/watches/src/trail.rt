@@ -32,7 +32,7 @@ pub struct Trail {
 impl Model for Trail {
     ghost use Rattle.std.specs.Vec.{vec_capacity};
     ghost use Rattle.watches.specs.Trails.{TrailValue};
-    ghost use Rattle.watches.specs.Tables.{IsTrail};
+    ghost use Rattle.watches.specs.inner.Tables.{IsTrail};
 
     ghost Value = { TrailValue };
 

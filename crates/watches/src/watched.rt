@@ -7,8 +7,8 @@
 
 ghost use Rattle.std.specs.Prelude.{◌≡◌, ℕ, ◌+◌, ◌*◌, ◌<◌, ◌≤◌, [], List};
 ghost use Rattle.watches.specs.Scanning.{numbers};
-ghost use Rattle.watches.specs.Ready.{IsReady};
-ghost use Rattle.watches.specs.ReadyLaws.{ready_pushed, ready_elsewhere};
+ghost use Rattle.watches.specs.inner.Ready.{IsReady};
+ghost use Rattle.watches.specs.inner.ReadyLaws.{ready_pushed, ready_elsewhere};
 
 mod drain;
 mod lookup;
@@ -54,7 +54,8 @@ pub struct Watched {
 }
 
 impl Model for Watched {
-    ghost use Rattle.watches.specs.Ready.{Watches, AreWatches, attached_of};
+    ghost use Rattle.watches.specs.Ready.{Watches, attached_of};
+    ghost use Rattle.watches.specs.inner.Ready.{AreWatches};
 
     ghost Value = { Watches };
 

@@ -13,7 +13,7 @@ use Rattle.evidence.specs.Jobs.{name_of}
 use Rattle.evidence.specs.declared.job.JobName.{JobName}
 use Rattle.worker_core.specs.declared.candidate.Candidate.{Candidate}
 use Rattle.worker_core.specs.declared.work.Work.TheVariants.{Found}
-use Rattle.worker_core.specs.Collecting.{IsPartOf, longer}
+use Rattle.worker_core.specs.inner.Collecting.{IsPartOf, longer}
 use Rattle.worker_core.specs.Worker.{WorkerState, DeliversFetch, DeliversPart, DeliversVerdict, Collects, IsNews, IsOfCandidate, candidate_of}
 
 -- ---- a fetch

@@ -18,7 +18,7 @@ use Rattle.frames.specs.declared.answer.Answer.TheVariants as answers
 use Rattle.evidence.specs.declared.job.JobName.{JobName}
 use Rattle.worker_core.specs.declared.work.Work.{Work}
 use Rattle.worker_core.specs.declared.work.Work.TheVariants.{Waiting, Limited, Found}
-use Rattle.worker_core.specs.Invariant.{IsWork}
+use Rattle.worker_core.specs.inner.Invariant.{IsWork}
 use Rattle.worker_core.specs.Worker.{WorkerState, WorkerWorks, MayEnd, kept}
 
 -- a search's promise covers how it may end

@@ -1,4 +1,3 @@
-pub mod Worker
-pub mod Invariant
-pub mod Collecting
 pub mod Laws
+pub mod Worker
+pub mod inner

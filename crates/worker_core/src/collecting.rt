@@ -7,8 +7,8 @@ ghost use Rattle.lrat_check.specs.Checking.{no_memory};
 ghost use Rattle.frames.specs.Answers.{answer_of};
 ghost use Rattle.frames.specs.declared.answer.Answer.TheVariants as answers;
 ghost use Rattle.evidence.specs.Evidence.{IsComplete};
-ghost use Rattle.worker_core.specs.Collecting.{Becomes, IfNoMemory, IsPartOf, longer};
-ghost use Rattle.worker_core.specs.Invariant.{Follows};
+ghost use Rattle.worker_core.specs.inner.Collecting.{Becomes, IfNoMemory, IsPartOf, longer};
+ghost use Rattle.worker_core.specs.inner.Invariant.{Follows};
 
 use crate::candidate::Candidate;
 use dimacs::Formula;

@@ -33,7 +33,7 @@ pub struct Worker {
 
 impl Model for Worker {
     ghost use Rattle.worker_core.specs.Worker.{WorkerState};
-    ghost use Rattle.worker_core.specs.Invariant.{IsWorker};
+    ghost use Rattle.worker_core.specs.inner.Invariant.{IsWorker};
 
     ghost Value = { WorkerState };
 

@@ -49,8 +49,3 @@ Fails no_memory fault expected = (fault ≡ no_memory) ⊎ (expected ≡ Err fau
 abbrev pub Answers : {A Fault : Type 0} → Fault → Result A Fault → Result A Fault → Type 0
 Answers no_memory (Ok x) expected = expected ≡ Ok x
 Answers no_memory (Err fault) expected = Fails no_memory fault expected
-
--- a call leaves what is expected, unless memory ran out
-abbrev pub Gives : {State Fault : Type 0} → Fault → State → Result (Unit {0}) Fault → Result State Fault → Type 0
-Gives no_memory new (Ok _) expected = expected ≡ Ok new
-Gives no_memory new (Err fault) expected = Fails no_memory fault expected

@@ -1,6 +1,5 @@
 -- The lines of a text and the tokens of a line.
-use Rattle.std.specs.Prelude.{ℕ, ◌+◌, length, Bool, true, false, ◌||◌, ◌==◌, List, [], ◌∷◌, Option, Some, None, if◌then◌else◌}
-use Rattle.std.specs.Borrow.{Bor}
+use Rattle.std.specs.Prelude.{ℕ, Bool, true, false, ◌||◌, ◌==◌, List, [], ◌∷◌, if◌then◌else◌}
 use Rattle.std.specs.List.{slice_split, filter}
 use Rattle.std.specs.Str.{byte}
 
@@ -11,14 +10,6 @@ is_white b = b == byte " " || b == byte "\t" || b == byte "\r" || b == byte "\n"
 -- a line ends at an LF, or at the end of the text
 abbrev pub lines : List ℕ → List (List ℕ)
 lines text = slice_split (λ b. b == byte "\n") text
-
-abbrev pub lines_left : Option (Bor (List ℕ)) → List (List ℕ)
-lines_left None = []
-lines_left (Some text) = lines text.now
-
-abbrev pub left_len : Option (Bor (List ℕ)) → ℕ
-left_len None = 0
-left_len (Some text) = length text.now + 1
 
 abbrev pub is_some_byte : List ℕ → Bool
 is_some_byte [] = false

@@ -6,8 +6,8 @@ ghost use Rattle.node_main.specs.CommandLine.{IsInRange, Makes};
 ghost use Rattle.node_main.specs.Program.{check_app};
 ghost use Rattle.node_main.specs.declared.request.Request.{Request};
 
+use crate::command_line::words::{INPUT, file};
 use crate::request::Request;
-use crate::words::{INPUT, file};
 use clap::{ArgMatches, Command};
 use std::alloc::{AllocError, Global};
 

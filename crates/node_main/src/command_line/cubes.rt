@@ -6,8 +6,8 @@ ghost use Rattle.node_main.specs.CommandLine.{IsInRange, Makes};
 ghost use Rattle.node_main.specs.Program.{cubes_app};
 ghost use Rattle.node_main.specs.declared.request.Request.{Request};
 
+use crate::command_line::words::{DEPTH, INPUT, file, number, number_of};
 use crate::request::Request;
-use crate::words::{DEPTH, INPUT, file, number, number_of};
 use clap::{ArgMatches, Command};
 use std::alloc::{AllocError, Global};
 

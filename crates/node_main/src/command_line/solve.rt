@@ -6,8 +6,8 @@ ghost use Rattle.node_main.specs.CommandLine.{IsInRange, Makes};
 ghost use Rattle.node_main.specs.Program.{solve_app};
 ghost use Rattle.node_main.specs.declared.request.Request.{Request};
 
+use crate::command_line::run_words::{STATUS, on_files, options_of, searching};
 use crate::request::Request;
-use crate::run_words::{STATUS, on_files, options_of, searching};
 use clap::{ArgMatches, Command};
 use std::alloc::{AllocError, Global};
 

@@ -6,9 +6,9 @@ ghost use Rattle.node_main.specs.CommandLine.{IsInRange, Makes};
 ghost use Rattle.node_main.specs.Program.{work_app};
 ghost use Rattle.node_main.specs.declared.request.Request.{Request};
 
+use crate::command_line::run_words::{STATUS, on_files, options_of};
+use crate::command_line::words::{PORT, long_flag, needed_number, number, number_of};
 use crate::request::Request;
-use crate::run_words::{STATUS, on_files, options_of};
-use crate::words::{PORT, long_flag, needed_number, number, number_of};
 use clap::{ArgMatches, Command};
 use std::alloc::{AllocError, Global};
 

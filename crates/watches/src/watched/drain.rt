@@ -5,7 +5,7 @@ ghost use Rattle.clause_arena.specs.Clauses.{live_of};
 ghost use Rattle.watches.specs.Law.{Grows, IsConflict, IsQuiet, AreSame, live_among};
 ghost use Rattle.watches.specs.Scanning.{numbers};
 ghost use Rattle.watches.specs.declared.trail.Assigned.{Assigned};
-ghost use Rattle.watches.specs.Watching.{IsWatching};
+ghost use Rattle.watches.specs.inner.Watching.{IsWatching};
 
 use crate::trail::{Assigned, Trail};
 use crate::watched::places::{Place, next_place, own_literal, relink};

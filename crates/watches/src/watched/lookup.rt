@@ -2,7 +2,7 @@
 
 ghost use Rattle.std.specs.Prelude.{◌≡◌, ℕ, ◌+◌, ◌-◌, ◌<◌, ◌≤◌, true, false, Contains, length, slice_index_or, IfSome, IfNone};
 ghost use Rattle.watches.specs.Scanning.{numbers};
-ghost use Rattle.watches.specs.Watching.{no_clause};
+ghost use Rattle.watches.specs.inner.Watching.{no_clause};
 ghost use Rattle.watches.specs.Ready.{attached_of};
 
 use clause_arena::Ref;

@@ -1,10 +1,9 @@
 //! The places of watches, chained.
 
-ghost use Rattle.std.specs.Prelude.{◌≡◌, ◌≢◌, ℕ, ◌+◌, ◌-◌, ◌/◌, ◌^◌, ◌<◌, ◌≤◌, length};
-ghost use Rattle.std.specs.Vec.{vec_capacity};
+ghost use Rattle.std.specs.Prelude.{◌≡◌, ◌≢◌, ℕ, ◌+◌, ◌-◌, ◌/◌, ◌^◌, ◌<◌, ◌≤◌, length, vec_capacity};
 ghost use Rattle.dimacs.specs.logic.Literal.{Literal};
-ghost use Rattle.watches.specs.Chains.{next_of, literal_at, twin, Relinks, AppendsTwo};
-ghost use Rattle.watches.specs.Watching.{owner};
+ghost use Rattle.watches.specs.inner.Chains.{next_of, literal_at, twin, Relinks, AppendsTwo};
+ghost use Rattle.watches.specs.inner.Watching.{owner};
 
 use clause_arena::Ref;
 use dimacs::Lit;

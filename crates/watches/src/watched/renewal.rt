@@ -1,11 +1,11 @@
 //! The chains, made anew.
 
-ghost use Rattle.std.specs.Prelude.{◌≡◌, ℕ, ◌+◌, ◌*◌, ◌%◌, ◌^◌, ◌<◌, ◌≤◌, true, false, [], All, List, length, slice_index_or};
-ghost use Rattle.std.specs.Vec.{vec_capacity};
+ghost use Rattle.std.specs.Prelude.{◌≡◌, ℕ, ◌+◌, ◌*◌, ◌%◌, ◌^◌, ◌<◌, ◌≤◌, true, false, [], All, List, length, slice_index_or, vec_capacity};
 ghost use Rattle.dimacs.specs.logic.Literal.{Literal};
-ghost use Rattle.watches.specs.Scanning.{IsHere};
-ghost use Rattle.watches.specs.Watching.{IsWatching};
-ghost use Rattle.watches.specs.Ready.{AreNamed, AreWatches, attached_of};
+ghost use Rattle.watches.specs.inner.Scanning.{IsHere};
+ghost use Rattle.watches.specs.inner.Watching.{IsWatching};
+ghost use Rattle.watches.specs.Ready.{attached_of};
+ghost use Rattle.watches.specs.inner.Ready.{AreNamed, AreWatches};
 
 use crate::trail::Trail;
 use crate::watched::places::{Place, PlaceId, append};

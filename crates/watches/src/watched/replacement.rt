@@ -2,7 +2,7 @@
 
 ghost use Rattle.std.specs.Prelude.{◌≡◌, ℕ, ◌<◌, ◌≤◌, All, length};
 ghost use Rattle.dimacs.specs.logic.Literal.{IsWithin};
-ghost use Rattle.watches.specs.Watching.{FindsWatch};
+ghost use Rattle.watches.specs.inner.Watching.{FindsWatch};
 
 use crate::trail::Trail;
 use crate::truth::Truth;

@@ -6,9 +6,9 @@ ghost use Rattle.dimacs.specs.logic.Literal.{negation};
 ghost use Rattle.watches.specs.Trails.{holds};
 ghost use Rattle.watches.specs.Law.{Grows, IsConflict, AreSame, live_among};
 ghost use Rattle.watches.specs.Scanning.{numbers};
-ghost use Rattle.watches.specs.Chains.{next_of, literal_at, twin};
-ghost use Rattle.watches.specs.Watching.{IsWatching, owner};
-ghost use Rattle.watches.specs.Walking.{Wake, Wakes, Stops, Woken, IsSatisfied};
+ghost use Rattle.watches.specs.inner.Chains.{next_of, literal_at, twin};
+ghost use Rattle.watches.specs.inner.Watching.{IsWatching, owner};
+ghost use Rattle.watches.specs.inner.Walking.{Wake, Wakes, Stops, Woken, IsSatisfied};
 
 use crate::finding::{Finding, test_clause};
 use crate::trail::{Assigned, Trail};

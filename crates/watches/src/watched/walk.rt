@@ -7,9 +7,9 @@ ghost use Rattle.watches.specs.Trails.{IsTrailValue};
 ghost use Rattle.watches.specs.Law.{Grows, IsConflict, AreSame, live_among};
 ghost use Rattle.watches.specs.Scanning.{numbers};
 ghost use Rattle.watches.specs.declared.trail.Assigned.{Assigned};
-ghost use Rattle.watches.specs.Chains.{next_of};
-ghost use Rattle.watches.specs.Watching.{IsWatching};
-ghost use Rattle.watches.specs.Walking.{Walk, Visits};
+ghost use Rattle.watches.specs.inner.Chains.{next_of};
+ghost use Rattle.watches.specs.inner.Watching.{IsWatching};
+ghost use Rattle.watches.specs.inner.Walking.{Walk, Visits};
 
 use crate::trail::{Assigned, Trail};
 use crate::truth::Truth;

@@ -4,7 +4,7 @@ use Rattle.std.specs.Global.{Vec}
 use Rattle.icnf.specs.Leaves.{Cube}
 use Rattle.lrat_text.specs.Log.{Closes}
 use Rattle.proof_join.specs.Joining.{AllClose}
-use Rattle.alloc_trials.proofs.LeafLemmas.{closed_more}
+use Rattle.proof_join.proofs.LeafLemmas.{closed_more}
 use Rattle.alloc_trials.proofs.joining.all_close.Goals as goal
 
 pub loop-leaf-preserved : goal.loop-leaf-preserved

@@ -1,5 +1,5 @@
 use Rattle.std.proofs.Common.{◌≡◌, ◌++◌, drop, take, vec_len}
-use Rattle.clause_arena.specs.Packing.{gathered, moves_from}
+use Rattle.clause_arena.specs.inner.Packing.{gathered, moves_from}
 use Rattle.clause_arena.proofs.compaction.gather.Given as goal
 
 abbrev pub invariant-loop-at : goal.invariant-loop-at

@@ -1,5 +1,5 @@
 use Rattle.std.proofs.Common.{◌≡◌, ◌++◌, map}
-use Rattle.clause_arena.specs.Packing.{ref_of}
+use Rattle.clause_arena.specs.inner.Packing.{ref_of}
 use Rattle.clause_arena.proofs.slots.list_far.Given as goal
 
 abbrev pub invariant-loop-number : goal.invariant-loop-number

@@ -1,6 +1,6 @@
 use Rattle.std.proofs.Common.{◌≡◌, ◌++◌, map, drop}
-use Rattle.clause_arena.specs.Packing.{ref_of}
-use Rattle.clause_arena.specs.Slots.{near_entries}
+use Rattle.clause_arena.specs.inner.Packing.{ref_of}
+use Rattle.clause_arena.specs.inner.Slots.{near_entries}
 use Rattle.clause_arena.proofs.slots.list_near.Given as goal
 
 abbrev pub invariant-loop-i : goal.invariant-loop-i

@@ -1,5 +1,5 @@
 use Rattle.std.proofs.Common.{◌∙◌, ap, subst, sym, arith}
-use Rattle.clause_arena.specs.Slots.{slots_of, IsApart}
+use Rattle.clause_arena.specs.inner.Slots.{slots_of, IsApart}
 use Rattle.clause_arena.proofs.SlotLemmas.{slots_of-push, apart-push}
 use Rattle.clause_arena.proofs.slots.make_place.Goals as goal
 

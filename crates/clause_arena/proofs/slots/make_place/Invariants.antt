@@ -1,5 +1,5 @@
 use Rattle.std.proofs.Common.{◌≡◌, ◌+◌, ◌-◌, ◌≤◌, max, vec_len}
-use Rattle.clause_arena.specs.Slots.{slots_of, IsApart}
+use Rattle.clause_arena.specs.inner.Slots.{slots_of, IsApart}
 use Rattle.clause_arena.proofs.slots.make_place.Given as goal
 
 abbrev pub invariant-loop-near : goal.invariant-loop-near

@@ -1,4 +1,5 @@
 use Rattle.cluster.proofs.AgreementLemmas.{moments_agree}
+use Rattle.cluster.proofs.NothingLemmas.{happens_nothing}
 use Rattle.cluster.proofs.ScheduleLemmas.{Keeping, runs_sound, runs_formulas}
 use Rattle.cluster.proofs.laws.verdicts_agree.Goals as goal
 
@@ -20,3 +21,9 @@ returns-clause-formulas c = λ start later events sound runs. runs_formulas (kee
 
 pub returns-clause-agree : goal.returns-clause-agree
 returns-clause-agree c = moments_agree (keeping c) c.right_verdicts_agree.ensures
+
+pub returns-clause-nothing : goal.returns-clause-nothing
+returns-clause-nothing c = happens_nothing (record {
+  worker = λ old event given new step. c.workers_keep_what_they_hold.ensures.nothing old event given new step;
+  coordinator = λ old event given new step. c.coordinators_keep_what_they_hold.ensures.nothing old event given new step;
+})

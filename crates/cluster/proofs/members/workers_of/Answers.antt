@@ -1,6 +1,6 @@
 use Rattle.std.proofs.Common.{◌≡◌, ◌+◌, List, [], ◌∷◌, ◌++◌, arith, rules, sym, ap, ◌∙◌}
 use Rattle.worker_core.specs.Worker.{WorkerState, new_worker}
-use Rattle.cluster.specs.Members.{new_workers}
+use Rattle.cluster.specs.inner.Members.{new_workers}
 use Rattle.cluster.proofs.MemberLemmas.{new_workers_more, same_worker}
 use Rattle.cluster.proofs.members.workers_of.Goals as goal
 

@@ -1,5 +1,5 @@
 use Rattle.std.proofs.Common.{◌≡◌}
-use Rattle.cluster.specs.Members.{new_workers}
+use Rattle.cluster.specs.inner.Members.{new_workers}
 use Rattle.cluster.proofs.members.workers_of.Given as goal
 
 -- the first workers were made

@@ -6,8 +6,8 @@ use Rattle.clause_arena.specs.Clauses.{live_of}
 use Rattle.clause_arena.proofs.ClauseLaws.{live_once}
 use Rattle.dimacs.specs.logic.Literal.{var_of}
 use Rattle.dimacs.specs.logic.Propagation.{Rup}
-use Rattle.conflict_analysis.specs.Seen.{met}
-use Rattle.conflict_analysis.specs.Traces.{IsTraceable, reason_of}
+use Rattle.conflict_analysis.specs.inner.Seen.{met}
+use Rattle.conflict_analysis.specs.inner.Traces.{IsTraceable, reason_of}
 use Rattle.conflict_analysis.proofs.Closed.{closes}
 use Rattle.conflict_analysis.proofs.closing.close.Goals as goal
 

@@ -3,7 +3,7 @@ use Rattle.std.proofs.lemmas.List.{length-set}
 use Rattle.std.proofs.lemmas.Result.{on_ok_weaker}
 use Rattle.clause_arena.specs.Clauses.{live_of}
 use Rattle.watches.specs.declared.trail.Assigned.{Assigned}
-use Rattle.conflict_analysis.specs.Traces.{AreNegated, AreOutside, AreFalseOr}
+use Rattle.conflict_analysis.specs.inner.Traces.{AreNegated, AreOutside, AreFalseOr}
 use Rattle.conflict_analysis.proofs.Assuming.{traceable_front, outside_front, false_but_one, negates_assumption}
 use Rattle.conflict_analysis.proofs.Building.{implied_by}
 use Rattle.conflict_analysis.proofs.Tracing.{implied_at}

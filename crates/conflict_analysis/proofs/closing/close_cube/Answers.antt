@@ -6,7 +6,7 @@ use Rattle.dimacs.proofs.LiteralLemmas.{negation-negation}
 use Rattle.watches.specs.Trails.{holds}
 use Rattle.conflict_analysis.specs.Lemmas.{IsClosing, IsDecision, NegatesAssumptions}
 use Rattle.conflict_analysis.specs.declared.closing.Closing.TheVariants as closing
-use Rattle.conflict_analysis.specs.Traces.{AreNegated}
+use Rattle.conflict_analysis.specs.inner.Traces.{AreNegated}
 use Rattle.conflict_analysis.proofs.Assuming.{traceable, within_from, negates_decisions, decision_holds}
 use Rattle.conflict_analysis.proofs.closing.close_cube.Goals as goal
 use Rattle.conflict_analysis.proofs.closing.close_cube.Goals.{In_ok-close-in-Clause, In_ok-close_assumption-in-Assumption}

@@ -2,8 +2,8 @@ use Rattle.std.proofs.Common.{◌≡◌, ◌<◌, inl, inr, true, arith, sym, �
 use Rattle.std.specs.List.{Contains}
 use Rattle.std.proofs.lemmas.List.{take_all}
 use Rattle.dimacs.specs.logic.Literal.{var_of}
-use Rattle.conflict_analysis.specs.Seen.{met}
-use Rattle.conflict_analysis.specs.Walks.{HasMet}
+use Rattle.conflict_analysis.specs.inner.Seen.{met}
+use Rattle.conflict_analysis.specs.inner.Walks.{HasMet}
 use Rattle.conflict_analysis.proofs.Fronts.{Contains-take_more}
 use Rattle.conflict_analysis.proofs.Tracing.{mark_one, mark_here, mark_stays}
 use Rattle.conflict_analysis.proofs.closing.mark.Goals as goal

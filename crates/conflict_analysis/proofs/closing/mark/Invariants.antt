@@ -1,8 +1,8 @@
 use Rattle.std.proofs.Common.{◌≡◌, true, take}
 use Rattle.std.specs.List.{Contains}
 use Rattle.dimacs.specs.logic.Literal.{Literal, var_of}
-use Rattle.conflict_analysis.specs.Seen.{met}
-use Rattle.conflict_analysis.specs.Walks.{HasMet}
+use Rattle.conflict_analysis.specs.inner.Seen.{met}
+use Rattle.conflict_analysis.specs.inner.Walks.{HasMet}
 use Rattle.conflict_analysis.proofs.closing.mark.Given as goal
 
 abbrev pub invariant-loop-literal : goal.invariant-loop-literal

@@ -1,6 +1,6 @@
 use Rattle.std.proofs.Common.{◌-◌, arith, sym, subst}
 use Rattle.clause_arena.specs.Clauses.{live_of}
-use Rattle.conflict_analysis.specs.Traces.{IsTraceable, IsTracing}
+use Rattle.conflict_analysis.specs.inner.Traces.{IsTraceable, IsTracing}
 use Rattle.conflict_analysis.proofs.HasMet.{met_further, met_in_front, met_none}
 use Rattle.conflict_analysis.proofs.Tracing.{tracing_begins}
 use Rattle.conflict_analysis.proofs.closing.trace.Goals as goal

@@ -1,7 +1,7 @@
 use Rattle.std.proofs.Common.{◌≤◌, length}
 use Rattle.clause_arena.specs.Clauses.{live_of}
-use Rattle.conflict_analysis.specs.Walks.{HasMet}
-use Rattle.conflict_analysis.specs.Traces.{IsTracing}
+use Rattle.conflict_analysis.specs.inner.Walks.{HasMet}
+use Rattle.conflict_analysis.specs.inner.Traces.{IsTracing}
 use Rattle.conflict_analysis.proofs.closing.trace.Given as goal
 
 abbrev pub invariant-loop-i : goal.invariant-loop-i

@@ -4,7 +4,7 @@ use Rattle.clause_arena.specs.Clauses.{live_of}
 use Rattle.clause_arena.proofs.ClauseLaws.{live_once}
 use Rattle.dimacs.specs.logic.Literal.{var_of}
 use Rattle.watches.specs.Law.{IsImplied}
-use Rattle.conflict_analysis.specs.Seen.{met}
+use Rattle.conflict_analysis.specs.inner.Seen.{met}
 use Rattle.conflict_analysis.proofs.Building.{implied_by, reason_known}
 use Rattle.conflict_analysis.proofs.Settling.{settled_implied}
 use Rattle.conflict_analysis.proofs.Tracing.{implied_at, traces_unmet, traces_decided, traces_resolved}

@@ -1,6 +1,6 @@
 use Rattle.std.proofs.Common.{arith, ◌++◌, ◌||◌, ◌&&◌, false, not}
 use Rattle.dimacs.specs.logic.Literal.{has}
-use Rattle.cube_split.specs.Marks.{AreMarked}
+use Rattle.cube_split.specs.inner.Marks.{AreMarked}
 use Rattle.cube_split.proofs.MarkLemmas.{unmarked_both}
 use Rattle.cube_split.proofs.ChoiceLemmas.{AreTables, choice_is, marked_both}
 use Rattle.cube_split.proofs.chooser.choose_in.Goals as goal

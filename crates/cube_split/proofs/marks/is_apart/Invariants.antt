@@ -1,7 +1,7 @@
 use Rattle.std.proofs.Common.{◌≡◌, Bool, false, take}
 use Rattle.std.specs.List.{list_any}
 use Rattle.dimacs.specs.logic.Literal.{Literal}
-use Rattle.cube_split.specs.Marks.{AreMarked}
+use Rattle.cube_split.specs.inner.Marks.{AreMarked}
 use Rattle.cube_split.proofs.marks.is_apart.Given as goal
 
 -- no literal so far is marked

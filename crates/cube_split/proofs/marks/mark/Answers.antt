@@ -1,7 +1,7 @@
 use Rattle.std.proofs.Common.{rules, ◌≡◌, ◌||◌, subst, set, true, arith, List}
 use Rattle.std.proofs.lemmas.List.{take_all}
 use Rattle.dimacs.specs.logic.Literal.{Literal, has, index_of}
-use Rattle.cube_split.specs.Marks.{AreMarked}
+use Rattle.cube_split.specs.inner.Marks.{AreMarked}
 use Rattle.cube_split.proofs.MarkLemmas.{mark_none, mark_one, mark_past}
 use Rattle.cube_split.proofs.marks.mark.Goals as goal
 use Rattle.cube_split.proofs.marks.mark.Goals.{then-at-marks, else-at-marks}

@@ -1,6 +1,6 @@
 use Rattle.std.proofs.Common.{Bool, ◌||◌, take}
 use Rattle.dimacs.specs.logic.Literal.{Literal, has}
-use Rattle.cube_split.specs.Marks.{AreMarked}
+use Rattle.cube_split.specs.inner.Marks.{AreMarked}
 use Rattle.cube_split.proofs.marks.mark.Given as goal
 
 -- the literals so far are marked

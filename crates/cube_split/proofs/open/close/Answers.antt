@@ -1,6 +1,6 @@
 use Rattle.std.proofs.Common.{arith, ◌≡◌, ◌-◌, ◌<◌, ◌∙◌, refl, sym, ap, subst, length, get_or, set, map}
 use Rattle.std.proofs.lemmas.List.{get_or_default}
-use Rattle.cube_split.specs.Places.{nowhere, place_at, clause_of}
+use Rattle.cube_split.specs.inner.Places.{nowhere, place_at, clause_of}
 use Rattle.cube_split.specs.declared.places.Place.{Place}
 use Rattle.cube_split.proofs.OpenLemmas.{close_some, close_counted}
 use Rattle.cube_split.proofs.TurnLemmas.{IsTurning, turning_set, turning_end}

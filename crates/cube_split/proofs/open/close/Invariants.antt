@@ -1,6 +1,6 @@
 use Rattle.std.proofs.Common.{◌≡◌, ℕ, ◌<◌, length, get_or}
-use Rattle.cube_split.specs.Open.{open_count}
-use Rattle.cube_split.specs.Places.{clause_of}
+use Rattle.cube_split.specs.inner.Open.{open_count}
+use Rattle.cube_split.specs.inner.Places.{clause_of}
 use Rattle.cube_split.proofs.TurnLemmas.{IsTurning}
 use Rattle.cube_split.proofs.open.close.Given as goal
 

@@ -2,7 +2,7 @@ use Rattle.std.proofs.Common.{arith, ◌≡◌, ℕ, ◌<◌, ◌∙◌, refl, a
 use Rattle.std.proofs.lemmas.List.Elements.{All-weaker, All-nil}
 use Rattle.dimacs.specs.logic.Literal.{Clause, IsWithin, var_of, index_of}
 use Rattle.dimacs.proofs.BaseLemmas.{count_take}
-use Rattle.cube_split.specs.Places.{ArePlaced}
+use Rattle.cube_split.specs.inner.Places.{ArePlaced}
 use Rattle.cube_split.specs.declared.places.Place.{Place}
 use Rattle.cube_split.proofs.CountLemmas.{index_below}
 use Rattle.cube_split.proofs.PlaceLemmas.{chain_none, placed_none, placed_more, appended_count, appended_within, count_more}

@@ -1,7 +1,7 @@
 use Rattle.std.proofs.Common.{◌≡◌, ℕ, ◌≤◌, ◌<◌, All, length, take, get_or}
 use Rattle.dimacs.specs.logic.Literal.{var_of}
 use Rattle.dimacs.specs.logic.Cnf.{literal_count}
-use Rattle.cube_split.specs.Places.{ArePlaced, AreChained}
+use Rattle.cube_split.specs.inner.Places.{ArePlaced, AreChained}
 use Rattle.cube_split.proofs.places.append_clauses.Given as goal
 
 -- the clauses so far have their places

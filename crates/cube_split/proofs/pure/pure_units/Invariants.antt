@@ -2,7 +2,7 @@ use Rattle.std.proofs.Common.{◌≡◌, ◌-◌, ◌+◌, ◌≤◌, ◌&&◌, 
 use Rattle.std.specs.List.{filter, flat_map}
 use Rattle.dimacs.specs.logic.Base.{occurs, numbers_from}
 use Rattle.dimacs.specs.logic.Literal.{Clause, Pos, Neg, negation}
-use Rattle.cube_split.specs.Marks.{AreMarked}
+use Rattle.cube_split.specs.inner.Marks.{AreMarked}
 use Rattle.cube_split.proofs.pure.pure_units.Given as goal
 
 -- the pure literals of the variables so far

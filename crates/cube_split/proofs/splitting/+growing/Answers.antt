@@ -2,8 +2,8 @@ use Rattle.std.proofs.Common.{rules, arith, ◌≡◌, ℕ, ◌+◌, ◌-◌, �
 use Rattle.dimacs.specs.logic.Cnf.{Cnf}
 use Rattle.dimacs.specs.logic.Literal.{Literal, Pos, Neg, var_of}
 use Rattle.icnf.specs.Leaves.{Cube, IsFree}
-use Rattle.cube_split.specs.Splitting.{AppendsSplit}
-use Rattle.cube_split.specs.Walking.{StandsAt}
+use Rattle.cube_split.specs.inner.Splitting.{AppendsSplit}
+use Rattle.cube_split.specs.inner.Walking.{StandsAt}
 use Rattle.cube_split.proofs.SplitLemmas.{appends_leaf, appends_both, power_some, double, on_ok}
 use Rattle.cube_split.proofs.WalkLemmas.{choice_inside}
 use Rattle.cube_split.proofs.splitting.+growing.Goals as goal

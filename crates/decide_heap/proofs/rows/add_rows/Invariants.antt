@@ -1,5 +1,6 @@
 use Rattle.std.proofs.Common.{◌≡◌, ◌-◌, ◌≤◌, ◌++◌, max, false, replicate, vec_len, vec_capacity}
-use Rattle.decide_heap.specs.Heap.{IsHeap, members_of}
+use Rattle.decide_heap.specs.Heap.{members_of}
+use Rattle.decide_heap.specs.inner.Heap.{IsHeap}
 use Rattle.decide_heap.proofs.rows.add_rows.Given as goal
 
 -- the rows before this one are there

@@ -1,5 +1,5 @@
 use Rattle.std.proofs.Common.{◌≡◌, ℕ, ◌/◌, ◌≤◌, get_or}
-use Rattle.decide_heap.specs.Heap.{ArePaired, IsOrdered}
+use Rattle.decide_heap.specs.inner.Heap.{ArePaired, IsOrdered}
 use Rattle.decide_heap.proofs.sifting.heapify.Given as goal
 
 -- the places from here on are in order

@@ -1,5 +1,5 @@
 use Rattle.std.proofs.Common.{◌≡◌, ℕ, ◌<◌, ◌≤◌, get_or, set}
-use Rattle.decide_heap.specs.Heap.{ArePaired, IsRising}
+use Rattle.decide_heap.specs.inner.Heap.{ArePaired, IsRising}
 use Rattle.decide_heap.proofs.sifting.rise.Given as goal
 
 -- with the variable put down where the hole is, the lists are inverse, and only the way up from there may be out of order

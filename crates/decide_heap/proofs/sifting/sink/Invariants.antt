@@ -1,5 +1,5 @@
 use Rattle.std.proofs.Common.{◌≡◌, ℕ, ◌-◌, ◌<◌, ◌≤◌, length, get_or, set}
-use Rattle.decide_heap.specs.Heap.{ArePaired}
+use Rattle.decide_heap.specs.inner.Heap.{ArePaired}
 use Rattle.decide_heap.proofs.OrderLemmas.{IsSinking}
 use Rattle.decide_heap.proofs.sifting.sink.Given as goal
 

@@ -1,7 +1,7 @@
 use Rattle.std.proofs.Common.{arith, rules, refl, sym, ap, ◌∙◌, ◌≡◌, ◌<◌, length, get_or}
 use Rattle.std.specs.Option.{option_map}
 use Rattle.std.proofs.lemmas.Bool.Decides.{nat_tests}
-use Rattle.dimacs.specs.layout.Capped.{capped}
+use Rattle.dimacs.specs.inner.Capped.{capped}
 use Rattle.dimacs.proofs.NumberLemmas.{minus_number, minus_behind}
 use Rattle.dimacs.proofs.number.any_number.Goals as goal
 

@@ -1,6 +1,6 @@
 use Rattle.std.proofs.Common.{arith, ap, ◌∙◌, sym, length}
 use Rattle.std.proofs.lemmas.Result.{err_from_is_err_and}
-use Rattle.dimacs.specs.text.Words.{lines_left, left_len}
+use Rattle.dimacs.specs.inner.Words.{lines_left, left_len}
 use Rattle.dimacs.proofs.RowLemmas.{answers_same, left_shorter, lines_end, lines_fails, lines_more}
 use Rattle.dimacs.proofs.rows.read_lines.Goals as goal
 

@@ -1,6 +1,6 @@
 use Rattle.std.proofs.Common.{◌≡◌, ◌+◌, ◌<◌, ◌^◌}
 use Rattle.dimacs.specs.text.Rows.{read_lines}
-use Rattle.dimacs.specs.text.Words.{lines_left, left_len}
+use Rattle.dimacs.specs.inner.Words.{lines_left, left_len}
 use Rattle.dimacs.proofs.rows.read_lines.Given as goal
 
 abbrev pub invariant-loop-rest : goal.invariant-loop-rest

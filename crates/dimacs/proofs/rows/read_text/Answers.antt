@@ -1,7 +1,7 @@
 use Rattle.std.proofs.Common.{arith, ap, inr, Err, ◌∙◌, sym, length}
 use Rattle.std.proofs.lemmas.Bool.{MatchBool-at_true, MatchBool-at_false}
 use Rattle.std.proofs.lemmas.Result.{err_from_is_err_and}
-use Rattle.dimacs.specs.text.Words.{lines_left, left_len}
+use Rattle.dimacs.specs.inner.Words.{lines_left, left_len}
 use Rattle.dimacs.proofs.RowLemmas.{answers_same, left_shorter, text_blank, text_end, text_fails, text_header}
 use Rattle.dimacs.proofs.rows.read_text.Goals as goal
 

@@ -1,7 +1,7 @@
 use Rattle.std.proofs.Common.{ap, subst, arith, take, length-take, sym}
 use Rattle.std.specs.Int.{w32, to_be_bytes}
 use Rattle.frames.specs.Spelling.{literal_bytes}
-use Rattle.frames.specs.Writing.{Puts}
+use Rattle.frames.specs.inner.Writing.{Puts}
 use Rattle.frames.proofs.WritingLemmas.{length-literals, literals_more, Puts-then}
 use Rattle.frames.proofs.encoding.put_literals.Goals as goal
 

@@ -1,7 +1,7 @@
 use Rattle.std.proofs.Common.{take}
 use Rattle.std.specs.List.{flat_map}
 use Rattle.frames.specs.Spelling.{literal_bytes}
-use Rattle.frames.specs.Writing.{Puts}
+use Rattle.frames.specs.inner.Writing.{Puts}
 use Rattle.frames.proofs.encoding.put_literals.Given as goal
 
 abbrev pub invariant-loop-literal : goal.invariant-loop-literal

@@ -1,5 +1,5 @@
 use Rattle.std.proofs.Common.{◌∙◌, ap, arith, length, take, min, ◌++◌, List, ℕ}
-use Rattle.frames.specs.Filling.{lacks}
+use Rattle.frames.specs.inner.Filling.{lacks}
 use Rattle.frames.proofs.FillingLemmas.{fills, step_within, lacks_fit, open_within}
 use Rattle.frames.proofs.reader.fill.Goals as goal
 

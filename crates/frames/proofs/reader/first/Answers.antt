@@ -3,7 +3,7 @@ use Rattle.frames.specs.declared.frame.Frame.{Frame}
 use Rattle.frames.specs.declared.head.Head.TheVariants.{Whole}
 use Rattle.frames.specs.Spelling.{may_have}
 use Rattle.frames.specs.Stream.{head_of, Begins, Ends, Fault}
-use Rattle.frames.specs.Reading.{Carries}
+use Rattle.frames.specs.inner.Reading.{Carries}
 use Rattle.frames.proofs.Heads.{head_limit}
 use Rattle.frames.proofs.Streams.{first_whole, first_bad}
 use Rattle.frames.proofs.reader.first.Goals as goal

@@ -2,7 +2,7 @@ use Rattle.std.proofs.Common.{◌≡◌, ◌+◌, ◌-◌, ◌++◌, ◌∷◌, 
 use Rattle.std.specs.List.{enumerate_from}
 use Rattle.dimacs.specs.layout.Flat.{parts}
 use Rattle.lrat_check.specs.declared.slot.Slot.{Slot}
-use Rattle.lrat_check.specs.Store.{near_entries, ArePlaced}
+use Rattle.lrat_check.specs.inner.Store.{near_entries, ArePlaced}
 use Rattle.lrat_check.proofs.Parts.{slots_more, slots_all}
 use Rattle.lrat_check.proofs.Slots.{ArePlaced-push}
 use Rattle.lrat_check.proofs.loading.slots_of.Goals as goal

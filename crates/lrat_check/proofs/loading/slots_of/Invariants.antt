@@ -1,7 +1,7 @@
 use Rattle.std.proofs.Common.{◌≡◌, ◌+◌, ◌++◌, drop, vec_len}
 use Rattle.std.specs.List.{enumerate_from}
 use Rattle.dimacs.specs.layout.Flat.{parts}
-use Rattle.lrat_check.specs.Store.{near_entries, numbered_entries, ArePlaced}
+use Rattle.lrat_check.specs.inner.Store.{near_entries, numbered_entries, ArePlaced}
 use Rattle.lrat_check.proofs.loading.slots_of.Given as goal
 
 abbrev pub invariant-loop-i : goal.invariant-loop-i

@@ -1,6 +1,6 @@
 use Rattle.std.proofs.Common.{◌<◌, sym, subst, arith}
 use Rattle.dimacs.specs.logic.Rat.{Group}
-use Rattle.lrat_check.specs.Rising.{IsRising}
+use Rattle.lrat_check.specs.inner.Rising.{IsRising}
 use Rattle.lrat_check.proofs.Named.{here, item_is}
 use Rattle.lrat_check.proofs.naming.are_rising.Goals as goal
 

@@ -1,5 +1,5 @@
 use Rattle.std.proofs.Common.{drop}
-use Rattle.lrat_check.specs.Rising.{IsRising}
+use Rattle.lrat_check.specs.inner.Rising.{IsRising}
 use Rattle.lrat_check.proofs.naming.are_rising.Given as goal
 
 abbrev pub invariant-loop-i : goal.invariant-loop-i

@@ -1,5 +1,5 @@
 use Rattle.std.proofs.Common.{◌++◌, ◌∷◌, [], ◌∙◌, ap, subst, sym}
-use Rattle.lrat_check.specs.Store.{live_of, IsStore}
+use Rattle.lrat_check.specs.inner.Store.{live_of, IsStore}
 use Rattle.lrat_check.proofs.Slots.{live_of-push, store-push}
 use Rattle.lrat_check.proofs.slot_tables.make_place.Goals as goal
 

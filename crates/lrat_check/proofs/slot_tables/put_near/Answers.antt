@@ -1,6 +1,6 @@
 use Rattle.std.proofs.Common.{◌≡◌, ◌∙◌, None, sym, ap, subst, option_map, set, slice_index_or, IfSome}
 use Rattle.std.proofs.lemmas.List.{get_or_read}
-use Rattle.lrat_check.specs.Store.{clause_at, live_of, IsPlaced, IsStore}
+use Rattle.lrat_check.specs.inner.Store.{clause_at, live_of, IsPlaced, IsStore}
 use Rattle.lrat_check.proofs.Slots.{get_near, if_placed, near-insert, near_store-insert}
 use Rattle.lrat_check.proofs.slot_tables.put_near.Goals as goal
 use Rattle.lrat_check.proofs.slot_tables.put_near.Goals.{After-slot-old}

@@ -3,7 +3,7 @@ use Rattle.std.proofs.lemmas.List.{get_or_default}
 use Rattle.std.specs.FinMap.{get}
 use Rattle.std.specs.Ordering.{nat_cmp}
 use Rattle.std.specs.BTreeMap as tree
-use Rattle.lrat_check.specs.Store.{clause_at, place_of, IsPlaced, live_of}
+use Rattle.lrat_check.specs.inner.Store.{clause_at, place_of, IsPlaced, live_of}
 use Rattle.lrat_check.proofs.Slots.{get_far, placed_at, by_number, none_placed, if_placed}
 use Rattle.lrat_check.proofs.FarSlots.{free_store, free-remove, far_same}
 use Rattle.lrat_check.proofs.Tables.{remove_none}

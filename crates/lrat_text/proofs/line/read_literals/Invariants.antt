@@ -1,6 +1,6 @@
 use Rattle.std.proofs.Common.{◌≡◌, ℕ, [], IfSome}
 use Rattle.lrat_text.specs.Reading.{literals_in}
-use Rattle.lrat_text.specs.Tokens.{IsCounted, tokens_from, left_len}
+use Rattle.lrat_text.specs.inner.Tokens.{IsCounted, tokens_from, left_len}
 use Rattle.lrat_text.proofs.line.read_literals.Given as goal
 
 abbrev pub invariant-loop-next : goal.invariant-loop-next

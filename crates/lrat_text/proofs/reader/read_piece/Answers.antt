@@ -1,5 +1,5 @@
 use Rattle.std.proofs.Common.{◌++◌}
-use Rattle.lrat_text.specs.Pieces.{AppendsStep, AppendsNone}
+use Rattle.lrat_text.specs.inner.Pieces.{AppendsStep, AppendsNone}
 use Rattle.lrat_text.specs.Taking.{Refuses}
 use Rattle.lrat_text.proofs.PieceLemmas.{splits_by, breaks_by, cut_back}
 use Rattle.lrat_text.proofs.reader.read_piece.Goals as goal

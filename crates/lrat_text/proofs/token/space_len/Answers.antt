@@ -1,6 +1,6 @@
 use Rattle.std.proofs.Common.{sym, ◌∙◌, arith, length}
 use Rattle.std.proofs.lemmas.List.Sums.{prefix_len_is}
-use Rattle.lrat_text.specs.Tokens.{is_space}
+use Rattle.lrat_text.specs.inner.Tokens.{is_space}
 use Rattle.lrat_text.proofs.token.space_len.Goals as goal
 
 pub returns-then-not-is_space-clause-value : goal.returns-then-not-is_space-clause-value

@@ -1,6 +1,6 @@
 use Rattle.std.proofs.Common.{sym, arith, rules, length}
 use Rattle.std.proofs.lemmas.List.Sums.{position_or_len_is}
-use Rattle.lrat_text.specs.Tokens.{is_space}
+use Rattle.lrat_text.specs.inner.Tokens.{is_space}
 use Rattle.lrat_text.proofs.token.word_len.Goals as goal
 
 pub returns-then-is_space-clause-value : goal.returns-then-is_space-clause-value

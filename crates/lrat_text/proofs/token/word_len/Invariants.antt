@@ -1,5 +1,5 @@
 use Rattle.std.proofs.Common.{◌≡◌, ℕ, ◌<◌, false, get_or}
-use Rattle.lrat_text.specs.Tokens.{is_space}
+use Rattle.lrat_text.specs.inner.Tokens.{is_space}
 use Rattle.lrat_text.proofs.token.word_len.Given as goal
 
 abbrev pub invariant-loop-i : goal.invariant-loop-i

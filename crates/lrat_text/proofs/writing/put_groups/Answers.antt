@@ -1,5 +1,5 @@
 use Rattle.std.proofs.Common.{◌∙◌, ap, ◌++◌, ℕ, List}
-use Rattle.lrat_text.specs.Writing.{group_text}
+use Rattle.lrat_text.specs.inner.Writing.{group_text}
 use Rattle.lrat_text.proofs.WritingLemmas.{groups_more}
 use Rattle.lrat_text.proofs.writing.put_groups.Goals as goal
 

@@ -1,6 +1,6 @@
 use Rattle.std.proofs.Common.{◌≡◌, ◌++◌, take}
 use Rattle.std.specs.List.{flat_map}
-use Rattle.lrat_text.specs.Writing.{group_text}
+use Rattle.lrat_text.specs.inner.Writing.{group_text}
 use Rattle.lrat_text.proofs.writing.put_groups.Given as goal
 
 abbrev pub invariant-loop-i : goal.invariant-loop-i

@@ -1,6 +1,6 @@
 use Rattle.std.proofs.Common.{◌≡◌, ◌++◌, take}
 use Rattle.std.specs.List.{flat_map}
-use Rattle.lrat_text.specs.Writing.{number_text}
+use Rattle.lrat_text.specs.inner.Writing.{number_text}
 use Rattle.lrat_text.proofs.writing.put_numbers.Given as goal
 
 abbrev pub invariant-loop-number : goal.invariant-loop-number

@@ -1,6 +1,7 @@
 use Rattle.std.proofs.Common.{◌≡◌, ◌∙◌, ◌++◌, ap}
 use Rattle.lrat_text.specs.Steps.{step_of}
-use Rattle.lrat_text.specs.Writing.{line_of, lemma_text, reasons_text}
+use Rattle.lrat_text.specs.Writing.{line_of}
+use Rattle.lrat_text.specs.inner.Writing.{lemma_text, reasons_text}
 use Rattle.lrat_text.specs.declared.step.StepRef.{StepRef}
 use Rattle.lrat_text.proofs.WritingLemmas.{line_addition}
 use Rattle.lrat_text.proofs.writing.put_step.Goals as goal

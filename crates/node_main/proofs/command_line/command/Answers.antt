@@ -53,3 +53,8 @@ returns-in-Some-clause-refused c = asks_no_help _ (map (λ w. w.now) c.args.word
 
 pub returns-clause-refused : goal.returns-clause-refused
 returns-clause-refused c = asks_no_help _ (map (λ w. w.now) c.args.words.now) c.in_ok-satcluster.ensures (c.in-Ok.ensures.kinds (ap is_simple_and_free c.in_ok-satcluster.ensures))
+
+pub returns-in-Some-request_of-clause-taken : goal.returns-in-Some-request_of-clause-taken
+returns-in-Some-request_of-clause-taken c =
+    let texts = map (λ w. w.now) c.args.words.now in
+    sym (ap (λ (a : App). fault_of a texts) c.in_ok-satcluster.ensures) ∙ c.in-Ok.ensures.kinds (ap is_simple_and_free c.in_ok-satcluster.ensures)

@@ -74,7 +74,7 @@ pub struct ProofCheck {
 impl Model for ProofCheck {
     ghost use Rattle.std.specs.Prelude.{Result};
     ghost use Rattle.std.specs.Coded.{codes};
-    ghost use Rattle.dimacs.specs.layout.Codes.{clause_map_code};
+    ghost use Rattle.dimacs.specs.inner.Codes.{clause_map_code};
     ghost use Rattle.dimacs.specs.declared.fault.DimacsFault.{DimacsFault};
     ghost use Rattle.lrat_check.specs.Stream.{Progress};
 

@@ -3,12 +3,12 @@
 ghost use Rattle.std.specs.Prelude.{◌≡◌, length, Some, false};
 ghost use Rattle.closed_schedules.specs.ClosedSchedule.{verdict_at};
 ghost use Rattle.node_main.specs.Drilling.{Holds};
-ghost use Rattle.node_main.specs.Kinds.{AreKinds, are_at_odds, joined};
+ghost use Rattle.node_main.specs.inner.Kinds.{AreKinds, are_at_odds, joined};
 
 use cluster::ClosedCluster;
 use lrat_check::Verdict;
 
-/// The kinds of some verdicts. Two verdicts differ exactly where one is an assignment and the other a proof.
+/// The kinds of some verdicts. Two verdicts differ if and only if one is an assignment and the other a proof.
 #[derive(Clone, Copy)]
 pub(crate) struct Kinds {
     /// One is an assignment.

@@ -3,7 +3,7 @@
 ghost use Rattle.std.specs.Prelude.{◌≡◌, ◌+◌, ◌<◌, ◌^◌, length, IfOk, OnErr, false};
 ghost use Rattle.node_main.specs.Drilling.{DrillState, TakesTurn};
 ghost use Rattle.node_main.specs.DrillReports.{drill_status};
-ghost use Rattle.node_main.specs.Tallies.{HasRoom, IsTally, counted};
+ghost use Rattle.node_main.specs.inner.Tallies.{HasRoom, IsTally, counted};
 
 use super::kinds::{Kinds, kinds_of};
 use super::turn::{drawn_event, is_refusal, next_after, react};

@@ -3,7 +3,7 @@
 ghost use Rattle.std.specs.Prelude.{◌≡◌, ◌+◌, ◌<◌, ◌^◌, [], ◌∷◌, IfOk, OnErr, MatchBool};
 ghost use Rattle.closed_schedules.specs.declared.event.ClosedEvent.TheVariants.{Deliver, Poll, Restart, Work};
 ghost use Rattle.cluster.specs.Closed.{IsReached};
-ghost use Rattle.node_main.specs.Drilling.{IsRefusal, Occurs, delivery, drawn_event, next_after, renewal};
+ghost use Rattle.node_main.specs.Drilling.{IsRefusedReaction, Occurs, delivery, drawn_event, next_after, renewal};
 
 use closed_schedules::{ClosedEvent, closed_clusters_keep_their_word};
 use cluster::ClosedCluster;
@@ -97,7 +97,7 @@ pub(crate) fn react(
 
 /// Whether an answer is a refusal.
 pub(crate) fn is_refusal(answer: Option<Reaction>) -> bool
-    ensures { MatchBool result (IsRefusal answer) (¬ (IsRefusal answer)) }
+    ensures { MatchBool result (IsRefusedReaction answer) (¬ (IsRefusedReaction answer)) }
 {
     matches!(answer, Some(Reaction::Refused(_)))
 }

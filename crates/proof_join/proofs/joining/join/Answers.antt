@@ -4,7 +4,7 @@ use Rattle.dimacs.specs.logic.Base.{pure_literals, base_of}
 use Rattle.dimacs.specs.logic.Literal.{Literal, IsWithin}
 use Rattle.proof_join.specs.Joining.{Closed, part, unit_steps}
 use Rattle.lrat_text.specs.Runs.{text_of}
-use Rattle.proof_join.specs.Steps.{IsFragment, Writes}
+use Rattle.proof_join.specs.inner.Steps.{IsFragment, Writes}
 use Rattle.proof_join.specs.declared.subtree.Subtree.{Subtree}
 use Rattle.proof_join.proofs.WholeLemmas.{all_below, all_fragments, base_length, base_some, pure_small, too_long, whole, whole_is, whole_joined, whole_accepts, whole_long}
 use Rattle.proof_join.proofs.joining.join.Goals as goal

@@ -4,7 +4,7 @@ use Rattle.lrat_text.specs.Writing.{line_of}
 use Rattle.lrat_text.specs.declared.step.Step.TheVariants.{Add}
 use Rattle.proof_join.specs.Joining.{unit_steps}
 use Rattle.lrat_text.specs.Runs.{text_of, top_of}
-use Rattle.proof_join.specs.Steps.{Writes}
+use Rattle.proof_join.specs.inner.Steps.{Writes}
 use Rattle.proof_join.proofs.SubtreeLemmas.{writes_more}
 use Rattle.proof_join.proofs.WholeLemmas.{unit_more, units_front}
 use Rattle.proof_join.proofs.joining.put_units.Goals as goal

@@ -2,7 +2,7 @@ use Rattle.std.proofs.Common.{◌≡◌, ◌+◌, ◌-◌, ◌≤◌, ◌<◌, �
 use Rattle.lrat_text.specs.Grammar.{LineSpells}
 use Rattle.proof_join.specs.Numbering.{behind, renumbered}
 use Rattle.lrat_text.specs.Runs.{text_of, top_of}
-use Rattle.proof_join.specs.Steps.{AreLow, last_of, steps_in}
+use Rattle.proof_join.specs.inner.Steps.{AreLow, last_of, steps_in}
 use Rattle.proof_join.proofs.lines.put_fragment.Given as goal
 
 abbrev pub invariant-loop-line : goal.invariant-loop-line

@@ -1,7 +1,7 @@
 use Rattle.std.proofs.Common.{◌∙◌, ℕ, List, length, ap, sym, subst, arith}
 use Rattle.lrat_text.specs.Grammar.{SpellsStep}
 use Rattle.lrat_text.specs.Steps.{step_of}
-use Rattle.proof_join.specs.Raising.{IsUnderWay}
+use Rattle.proof_join.specs.inner.Raising.{IsUnderWay}
 use Rattle.proof_join.proofs.RaisingLemmas.{begins, goes_on, not_read, not_put, no_end}
 use Rattle.proof_join.proofs.renumbering.put_lines.Goals as goal
 

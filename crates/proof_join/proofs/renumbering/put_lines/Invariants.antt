@@ -1,5 +1,5 @@
 use Rattle.std.proofs.Common.{◌<◌, ◌^◌, length}
-use Rattle.proof_join.specs.Raising.{IsUnderWay}
+use Rattle.proof_join.specs.inner.Raising.{IsUnderWay}
 use Rattle.proof_join.proofs.renumbering.put_lines.Given as goal
 
 abbrev pub invariant-loop-line : goal.invariant-loop-line

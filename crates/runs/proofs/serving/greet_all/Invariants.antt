@@ -1,6 +1,6 @@
 use Rattle.std.proofs.Common.{◌≡◌, ◌≤◌, ◌+◌, ◌*◌, ◌⊎◌, length}
 use Rattle.runs.specs.Accounts.{RoseBy}
-use Rattle.runs.specs.Served.{open_lines}
+use Rattle.runs.specs.inner.Served.{open_lines}
 use Rattle.runs.proofs.serving.greet_all.Given as goal
 
 abbrev pub invariant-loop-i : goal.invariant-loop-i

@@ -1,6 +1,6 @@
 use Rattle.std.proofs.Common.{ℕ, ◌-◌, ◌<◌, ◌≤◌, length, get_or}
 use Rattle.clause_arena.specs.declared.reference.Ref.{Ref}
-use Rattle.watches.specs.Moving.{AreRising}
+use Rattle.watches.specs.inner.Moving.{AreRising}
 use Rattle.watches.proofs.moving.find_move.Given as goal
 
 abbrev pub invariant-loop-low : goal.invariant-loop-low

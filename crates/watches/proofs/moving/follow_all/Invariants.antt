@@ -1,6 +1,6 @@
 use Rattle.std.proofs.Common.{◌≡◌, ℕ, ◌<◌, ◌≤◌, get_or}
 use Rattle.clause_arena.specs.declared.reference.Ref.{Ref}
-use Rattle.watches.specs.Moving.{Follows}
+use Rattle.watches.specs.inner.Moving.{Follows}
 use Rattle.watches.proofs.moving.follow_all.Given as goal
 
 abbrev pub invariant-loop-i : goal.invariant-loop-i

@@ -1,5 +1,5 @@
 use Rattle.std.proofs.Common.{ℕ, inr, refl, sym, ◌∙◌, subst}
-use Rattle.watches.specs.Moving.{IsUnmoved}
+use Rattle.watches.specs.inner.Moving.{IsUnmoved}
 use Rattle.watches.proofs.moving.place_after.Goals as goal
 
 pub returns-else-number : goal.returns-else-number

@@ -4,7 +4,7 @@ use Rattle.lrat_check.specs.Checking.{check_of}
 use Rattle.lrat_check.proofs.Lines.{checked_accepted, accepted_checked}
 use Rattle.lrat_check.proofs.Passing.{given_ok, given_complete}
 use Rattle.lrat_check.proofs.Streams.{finished}
-use Rattle.worker_core.specs.Invariant.{Follows}
+use Rattle.worker_core.specs.inner.Invariant.{Follows}
 use Rattle.worker_core.proofs.collecting.check_whole.Goals as goal
 
 pub returns-clause-accepted : goal.returns-clause-accepted

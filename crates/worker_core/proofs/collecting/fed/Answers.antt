@@ -1,5 +1,5 @@
 use Rattle.std.proofs.Common.{subst}
-use Rattle.worker_core.specs.Invariant.{Follows}
+use Rattle.worker_core.specs.inner.Invariant.{Follows}
 use Rattle.worker_core.proofs.collecting.fed.Goals as goal
 
 pub returns-in_default-feed : goal.returns-in_default-feed

@@ -1,7 +1,8 @@
 use Rattle.std.proofs.Common.{◌≡◌, ◌∙◌, ap, subst, sym, refl, length, arith, ◌++◌}
 use Rattle.std.specs.FinMap.{insert}
 use Rattle.clause_arena.specs.declared.slots.Slot.{Slot}
-use Rattle.clause_arena.specs.Contents.{contents, IsArena}
+use Rattle.clause_arena.specs.Contents.{contents}
+use Rattle.clause_arena.specs.inner.Contents.{IsArena}
 use Rattle.clause_arena.proofs.ContentLemmas.{arena-add, contents-add}
 use Rattle.clause_arena.proofs.arena.Arena.add.Goals as goal
 

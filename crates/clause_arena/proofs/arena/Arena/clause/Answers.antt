@@ -1,7 +1,8 @@
 use Rattle.std.proofs.Common.{◌∙◌, ap, subst, sym, length}
 use Rattle.std.specs.List.{IsDistinct}
 use Rattle.dimacs.specs.logic.Literal.{same}
-use Rattle.clause_arena.specs.Contents.{clause_at, slot_of, IsPlaced}
+use Rattle.clause_arena.specs.Contents.{clause_at}
+use Rattle.clause_arena.specs.inner.Contents.{slot_of, IsPlaced}
 use Rattle.clause_arena.proofs.ContentLemmas.{here, placed_here, distinct_here, length_here}
 use Rattle.clause_arena.proofs.arena.Arena.clause.Goals as goal
 

@@ -2,9 +2,10 @@ use Rattle.std.proofs.Common.{◌≡◌, ◌∙◌, ap, subst, sym, length, arit
 use Rattle.std.specs.FinMap.{get}
 use Rattle.clause_arena.specs.declared.reference.Ref.{Ref}
 use Rattle.clause_arena.specs.Clauses.{Clauses}
-use Rattle.clause_arena.specs.Contents.{contents, slot_of, IsPlaced, IsArena}
+use Rattle.clause_arena.specs.Contents.{contents}
+use Rattle.clause_arena.specs.inner.Contents.{slot_of, IsPlaced, IsArena}
 use Rattle.clause_arena.specs.Compaction.{IsCompacted}
-use Rattle.clause_arena.specs.Packing.{refs_of, gathered, moves_from, moved_by}
+use Rattle.clause_arena.specs.inner.Packing.{refs_of, gathered, moves_from, moved_by}
 use Rattle.clause_arena.proofs.CompactionLemmas.{arena-compacted, compacted, refs_placed, moves_live, lent}
 use Rattle.clause_arena.proofs.arena.Arena.compact.Goals as goal
 

@@ -1,5 +1,6 @@
 use Rattle.std.proofs.Common.{◌∙◌, ap, subst, sym}
-use Rattle.clause_arena.specs.Contents.{contents, IsArena}
+use Rattle.clause_arena.specs.Contents.{contents}
+use Rattle.clause_arena.specs.inner.Contents.{IsArena}
 use Rattle.clause_arena.proofs.ContentLemmas.{contents-empty, arena-empty}
 use Rattle.clause_arena.proofs.arena.Arena.new.Goals as goal
 

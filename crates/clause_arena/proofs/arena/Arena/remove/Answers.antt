@@ -1,6 +1,7 @@
 use Rattle.std.proofs.Common.{◌∙◌, ap, subst, sym}
 use Rattle.std.specs.FinMap.{remove}
-use Rattle.clause_arena.specs.Contents.{contents, IsArena}
+use Rattle.clause_arena.specs.Contents.{contents}
+use Rattle.clause_arena.specs.inner.Contents.{IsArena}
 use Rattle.clause_arena.proofs.ContentLemmas.{arena-remove, contents-remove}
 use Rattle.clause_arena.proofs.arena.Arena.remove.Goals as goal
 

@@ -1,7 +1,8 @@
 use Rattle.std.proofs.Common.{◌≡◌, ◌+◌, ◌∙◌, ap, subst, sym, length, swap, arith}
 use Rattle.std.specs.FinMap.{insert}
 use Rattle.std.proofs.lemmas.List.{with_items_is}
-use Rattle.clause_arena.specs.Contents.{slot_of, contents, clause_at, IsPlaced, IsArena}
+use Rattle.clause_arena.specs.Contents.{contents, clause_at}
+use Rattle.clause_arena.specs.inner.Contents.{slot_of, IsPlaced, IsArena}
 use Rattle.clause_arena.proofs.ContentLemmas.{here, placed_here}
 use Rattle.clause_arena.proofs.SwapLemmas.{arena-swap, contents-swap}
 use Rattle.clause_arena.proofs.arena.Arena.swap.Goals as goal

@@ -1,7 +1,7 @@
 use Rattle.std.proofs.Common.{subst}
 use Rattle.std.proofs.lemmas.Result.{on_ok_weaker}
 use Rattle.clause_arena.specs.Clauses.{live_of}
-use Rattle.conflict_analysis.specs.Walks.{IsWalk}
+use Rattle.conflict_analysis.specs.inner.Walks.{IsWalk}
 use Rattle.conflict_analysis.proofs.Concluded.{conflict_waits, is_lemma, walk_apart}
 use Rattle.conflict_analysis.proofs.analyser.Analyser.analyse_into.Goals as goal
 

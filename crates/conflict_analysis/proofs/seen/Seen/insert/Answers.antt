@@ -1,5 +1,5 @@
 use Rattle.std.proofs.Common.{true, ap, ◌∙◌, set}
-use Rattle.conflict_analysis.specs.Seen.{stamped}
+use Rattle.conflict_analysis.specs.inner.Seen.{stamped}
 use Rattle.conflict_analysis.proofs.Stamps.{stamped_set}
 use Rattle.conflict_analysis.proofs.seen.Seen.insert.Goals as goal
 

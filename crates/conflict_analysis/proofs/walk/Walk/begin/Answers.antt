@@ -1,6 +1,6 @@
 use Rattle.std.proofs.Common.{[], arith, sym}
 use Rattle.std.proofs.lemmas.List.{append-nil}
-use Rattle.conflict_analysis.specs.Seen.{met}
+use Rattle.conflict_analysis.specs.inner.Seen.{met}
 use Rattle.conflict_analysis.proofs.Concluding.{begins}
 use Rattle.conflict_analysis.proofs.Meeting.{lists_none}
 use Rattle.conflict_analysis.proofs.walk.Walk.begin.Goals as goal

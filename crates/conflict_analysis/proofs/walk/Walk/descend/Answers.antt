@@ -1,8 +1,8 @@
 use Rattle.std.proofs.Common.{◌-◌, arith, sym, subst}
 use Rattle.std.proofs.lemmas.List.{take_all}
 use Rattle.clause_arena.specs.Clauses.{live_of}
-use Rattle.conflict_analysis.specs.Seen.{met}
-use Rattle.conflict_analysis.specs.Walks.{IsWalk}
+use Rattle.conflict_analysis.specs.inner.Seen.{met}
+use Rattle.conflict_analysis.specs.inner.Walks.{IsWalk}
 use Rattle.conflict_analysis.proofs.Concluding.{nothing_walked}
 use Rattle.conflict_analysis.proofs.HasMet.{met_further, met_in_front, met_none}
 use Rattle.conflict_analysis.proofs.walk.Walk.descend.Goals as goal

@@ -1,7 +1,7 @@
 use Rattle.std.proofs.Common.{◌≤◌, length}
 use Rattle.clause_arena.specs.Clauses.{live_of}
-use Rattle.conflict_analysis.specs.Minimising.{HasRoom}
-use Rattle.conflict_analysis.specs.Walks.{HasMet, IsUnderWay}
+use Rattle.conflict_analysis.specs.inner.Minimising.{HasRoom}
+use Rattle.conflict_analysis.specs.inner.Walks.{HasMet, IsUnderWay}
 use Rattle.conflict_analysis.proofs.walk.Walk.descend.Given as goal
 
 abbrev pub invariant-loop-self : goal.invariant-loop-self

@@ -3,8 +3,8 @@ use Rattle.std.proofs.Common.{◌≡◌, ◌++◌, ◌∷◌, [], ℕ, inl, inr,
 use Rattle.std.proofs.lemmas.Result.{on_ok_weaker}
 use Rattle.dimacs.specs.logic.Literal.{Pos, negation, var_of}
 use Rattle.watches.specs.declared.trail.Assigned.{Assigned}
-use Rattle.conflict_analysis.specs.Seen.{met}
-use Rattle.conflict_analysis.specs.Walks.{AreKnown, HasMet, IsWalk}
+use Rattle.conflict_analysis.specs.inner.Seen.{met}
+use Rattle.conflict_analysis.specs.inner.Walks.{AreKnown, HasMet, IsWalk}
 use Rattle.conflict_analysis.proofs.OnePast.{past_unmet, reason_can_be_met, reason_lives, past_resolved, past_kept}
 use Rattle.conflict_analysis.proofs.Walking.{ok_both}
 use Rattle.conflict_analysis.proofs.walk.Walk.look.Goals as goal

@@ -1,6 +1,6 @@
 use Rattle.std.proofs.Common.{◌≡◌, [], ◌∷◌, ◌++◌, true, false, refl, sym, ◌∙◌, ap, set}
 use Rattle.dimacs.specs.logic.Literal.{negation, var_of}
-use Rattle.conflict_analysis.specs.Seen.{met}
+use Rattle.conflict_analysis.specs.inner.Seen.{met}
 use Rattle.conflict_analysis.proofs.OneMore.{meets_here, meets_below, meets_only}
 use Rattle.conflict_analysis.proofs.walk.Walk.meet.Goals as goal
 use Rattle.conflict_analysis.proofs.walk.Walk.meet.Goals.{In_ok-push}

@@ -2,7 +2,7 @@ use Rattle.std.proofs.Common.{◌≡◌, inl, inr, true, sym, ◌∙◌, subst}
 use Rattle.std.specs.List.{Contains}
 use Rattle.std.proofs.lemmas.List.{take_all}
 use Rattle.dimacs.specs.logic.Literal.{var_of}
-use Rattle.conflict_analysis.specs.Seen.{met}
+use Rattle.conflict_analysis.specs.inner.Seen.{met}
 use Rattle.conflict_analysis.proofs.Fronts.{Contains-take_more}
 use Rattle.conflict_analysis.proofs.HasMet.{met_further}
 use Rattle.conflict_analysis.proofs.walk.Walk.meet_clause.Goals as goal

@@ -1,6 +1,6 @@
 use Rattle.std.proofs.Common.{take}
-use Rattle.conflict_analysis.specs.Seen.{met}
-use Rattle.conflict_analysis.specs.Walks.{AreMet, HasMet, IsWalk}
+use Rattle.conflict_analysis.specs.inner.Seen.{met}
+use Rattle.conflict_analysis.specs.inner.Walks.{AreMet, HasMet, IsWalk}
 use Rattle.conflict_analysis.proofs.walk.Walk.meet_clause.Given as goal
 
 -- the literals so far were met

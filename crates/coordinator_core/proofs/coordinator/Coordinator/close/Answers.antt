@@ -1,7 +1,7 @@
 use Rattle.std.proofs.Common.{◌^◌, ◌≤◌, ◌∙◌, length, sym, ap, subst, arith}
 use Rattle.std.proofs.lemmas.Bool.{false≢true}
 use Rattle.lrat_check.specs.declared.verdict.Verdict.TheVariants.{Proof}
-use Rattle.coordinator_core.specs.Calls.{refilled}
+use Rattle.coordinator_core.specs.inner.Calls.{refilled}
 use Rattle.coordinator_core.specs.Invariant.{IsCoordinator}
 use Rattle.coordinator_core.proofs.ClosingLemmas.{IsShut, taken_at, desk_is, job_fair, goes_on, all_there, joined_is, too_long_is, ends_closed, ends_joined, ends_too_long, some_joined, given_back, refused, text_back, leaf_back}
 use Rattle.coordinator_core.proofs.KeptLemmas.{leaf_within, leaf_unclosed}

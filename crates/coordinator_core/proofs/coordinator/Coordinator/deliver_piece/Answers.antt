@@ -1,6 +1,6 @@
 use Rattle.std.proofs.Common.{◌≡◌, refl, sym, ◌∙◌, Some}
 use Rattle.evidence.specs.Evidence.{with_bytes}
-use Rattle.coordinator_core.specs.Calls.{cut_to, lengthened}
+use Rattle.coordinator_core.specs.inner.Calls.{cut_to, lengthened}
 use Rattle.coordinator_core.specs.Coordinator.{DeliversPiece, Gathers, fixing, job_at, with_job}
 use Rattle.coordinator_core.specs.declared.desks.Fixed.{Fixed}
 use Rattle.coordinator_core.specs.declared.desks.Job.{Job}

@@ -1,5 +1,5 @@
 use Rattle.std.proofs.Common.{◌≡◌, sym, ap, subst, ◌∙◌, Option, Some}
-use Rattle.coordinator_core.specs.Calls.{cut_to}
+use Rattle.coordinator_core.specs.inner.Calls.{cut_to}
 use Rattle.coordinator_core.specs.Coordinator.{with_job}
 use Rattle.coordinator_core.specs.Invariant.{FitsFixed}
 use Rattle.coordinator_core.specs.declared.desks.Fixed.{Fixed}

@@ -1,7 +1,7 @@
 use Rattle.std.proofs.Common.{◌∙◌, ap}
 use Rattle.std.specs.Prelude.{position}
 use Rattle.coordinator_core.specs.Coordinator.{is_open}
-use Rattle.coordinator_core.specs.Tables.{LeafRows}
+use Rattle.coordinator_core.specs.inner.Tables.{LeafRows}
 use Rattle.coordinator_core.proofs.TableLemmas.{given_table}
 use Rattle.coordinator_core.proofs.leaves.LeafTable.give.Goals as goal
 

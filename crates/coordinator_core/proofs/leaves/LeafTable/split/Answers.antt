@@ -1,6 +1,6 @@
 use Rattle.std.proofs.Common.{◌≢◌, ◌<◌, ◌∙◌, ℕ, List, [], length, map, get_or, subst, sym, ap, Vec, Global}
 use Rattle.coordinator_core.specs.Splits.{doubled}
-use Rattle.coordinator_core.specs.Tables.{LeafRows}
+use Rattle.coordinator_core.specs.inner.Tables.{LeafRows}
 use Rattle.coordinator_core.specs.declared.desks.LeafState.TheVariants.{Open, Closed}
 use Rattle.coordinator_core.proofs.TableLemmas.{split_now}
 use Rattle.coordinator_core.proofs.leaves.LeafTable.split.Goals as goal

@@ -6,7 +6,7 @@ use Rattle.clause_arena.specs.Clauses.{live_of}
 use Rattle.lrat_text.specs.Grammar.{IsClauseNumber}
 use Rattle.lrat_text.specs.Writing.{line_of}
 use Rattle.lrat_text.specs.declared.step.Step.TheVariants.{Delete}
-use Rattle.cube_solve.specs.Forgetting.{AreLess}
+use Rattle.cube_solve.specs.inner.Forgetting.{AreLess}
 use Rattle.cube_solve.proofs.ForgettingLemmas.{less_same, lemmas_among, lemmas_kept, lemmas_moved, numbers_limits}
 use Rattle.cube_solve.proofs.search.Search.forget.Goals as goal
 

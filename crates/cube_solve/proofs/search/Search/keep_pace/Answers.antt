@@ -1,7 +1,7 @@
 use Rattle.std.proofs.Common.{◌+◌, inl, [], refl, sym, subst}
 use Rattle.clause_arena.specs.Clauses.{Clauses, live_of}
-use Rattle.cube_solve.specs.Forgetting.{AreLemmas, AreLess}
-use Rattle.cube_solve.specs.Learning.{AreBelow}
+use Rattle.cube_solve.specs.inner.Forgetting.{AreLemmas, AreLess}
+use Rattle.cube_solve.specs.inner.Learning.{AreBelow}
 use Rattle.cube_solve.proofs.ForgettingLemmas.{less_none}
 use Rattle.cube_solve.proofs.OrderLemmas.{order_same}
 use Rattle.cube_solve.proofs.search.Search.keep_pace.Goals as goal

@@ -5,8 +5,8 @@ use Rattle.dimacs.specs.logic.Literal.{Clause}
 use Rattle.clause_arena.specs.Clauses.{Clauses, live_of}
 use Rattle.watches.specs.Law.{AreSame}
 use Rattle.watches.specs.Trails.{present}
-use Rattle.cube_solve.specs.Learning.{AreBelow}
-use Rattle.cube_solve.specs.Levels.{IsAdded}
+use Rattle.cube_solve.specs.inner.Learning.{AreBelow}
+use Rattle.cube_solve.specs.inner.Levels.{IsAdded}
 use Rattle.cube_solve.proofs.BuiltLemmas.{sound}
 use Rattle.cube_solve.proofs.ClauseLemmas.{is_added}
 use Rattle.cube_solve.proofs.LevelLemmas.{is_fresh}

@@ -1,6 +1,6 @@
 use Rattle.std.proofs.Common.{◌+◌, length, subst, sym}
 use Rattle.clause_arena.specs.Clauses.{live_of}
-use Rattle.cube_solve.specs.Forgetting.{AreLemmas}
+use Rattle.cube_solve.specs.inner.Forgetting.{AreLemmas}
 use Rattle.cube_solve.proofs.ForgettingLemmas.{lemmas_none}
 use Rattle.cube_solve.proofs.SearchLemmas.{search_begins}
 use Rattle.cube_solve.proofs.search.Search.new.Goals as goal

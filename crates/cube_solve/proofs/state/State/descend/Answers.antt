@@ -2,8 +2,8 @@ use Rattle.std.proofs.Common.{ℕ, [], ◌∷◌, sym, subst, ap, ◌∙◌}
 use Rattle.std.specs.Prelude.{max, min}
 use Rattle.std.specs.List.{Contains}
 use Rattle.dimacs.specs.logic.Literal.{Literal}
-use Rattle.cube_solve.specs.Order.{IsOrderBut}
-use Rattle.cube_solve.specs.State.{IsAssuming}
+use Rattle.cube_solve.specs.inner.Order.{IsOrderBut}
+use Rattle.cube_solve.specs.inner.State.{IsAssuming}
 use Rattle.cube_solve.proofs.AssumingLemmas.{assuming_assumed, assuming_decided}
 use Rattle.cube_solve.proofs.ClauseLemmas.{same_trans}
 use Rattle.cube_solve.proofs.OrderLemmas.{order_grows, order_decided}

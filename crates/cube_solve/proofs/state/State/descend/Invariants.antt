@@ -1,7 +1,7 @@
 use Rattle.std.proofs.Common.{◌≡◌, ◌-◌, length}
 use Rattle.watches.specs.Law.{AreSame}
-use Rattle.cube_solve.specs.State.{IsAssuming}
-use Rattle.cube_solve.specs.Steady.{IsSteady}
+use Rattle.cube_solve.specs.inner.State.{IsAssuming}
+use Rattle.cube_solve.specs.inner.Steady.{IsSteady}
 use Rattle.cube_solve.proofs.state.State.descend.Given as goal
 
 abbrev pub invariant-descending : goal.invariant-descending

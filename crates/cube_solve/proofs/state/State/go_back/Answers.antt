@@ -1,5 +1,5 @@
 use Rattle.std.proofs.Common.{List, ℕ, sym, subst}
-use Rattle.cube_solve.specs.State.{IsState}
+use Rattle.cube_solve.specs.inner.State.{IsState}
 use Rattle.cube_solve.proofs.AssumingLemmas.{assuming_cut}
 use Rattle.cube_solve.proofs.OrderLemmas.{order_cut}
 use Rattle.cube_solve.proofs.StateLemmas.{state_cut}

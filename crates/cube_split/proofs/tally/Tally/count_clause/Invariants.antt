@@ -1,6 +1,6 @@
 use Rattle.std.proofs.Common.{take}
 use Rattle.cube_split.proofs.CountLemmas.{AreCounted}
-use Rattle.cube_split.specs.Tallies.{IsTally}
+use Rattle.cube_split.specs.inner.Tallies.{IsTally}
 use Rattle.cube_split.proofs.tally.Tally.count_clause.Given as goal
 
 -- the literals so far are counted

@@ -1,6 +1,6 @@
 use Rattle.cube_split.proofs.CountLemmas.{AreAllCounted}
 use Rattle.std.proofs.Common.{length}
-use Rattle.cube_split.specs.Tallies.{IsTally}
+use Rattle.cube_split.specs.inner.Tallies.{IsTally}
 use Rattle.cube_split.proofs.tally.Tally.count_clauses.Given as goal
 
 -- the clauses so far are counted

@@ -1,6 +1,6 @@
 use Rattle.std.proofs.Common.{◌≡◌}
 use Rattle.dimacs.specs.logic.Literal.{has}
-use Rattle.cube_split.specs.Marks.{AreMarked}
+use Rattle.cube_split.specs.inner.Marks.{AreMarked}
 use Rattle.cube_split.proofs.WalkLemmas.{begins}
 use Rattle.cube_split.proofs.walk.Walk.begin.Goals as goal
 

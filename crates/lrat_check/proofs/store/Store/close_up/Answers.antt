@@ -1,5 +1,5 @@
 use Rattle.std.proofs.Common.{◌∙◌, None, ap, refl, arith, option_map, slice_index_or}
-use Rattle.lrat_check.specs.Store.{clause_at, SameClauses, ArePlaced}
+use Rattle.lrat_check.specs.inner.Store.{clause_at, SameClauses, ArePlaced}
 use Rattle.lrat_check.proofs.Slots.{kept_clauses, ArePlaced-kept, live-moved}
 use Rattle.lrat_check.proofs.store.Store.close_up.Goals as goal
 use Rattle.lrat_check.proofs.store.Store.close_up.Goals.{After-drop-self-inside-3}

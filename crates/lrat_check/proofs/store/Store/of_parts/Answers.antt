@@ -1,6 +1,6 @@
 use Rattle.std.proofs.Common.{List, subst}
 use Rattle.dimacs.specs.logic.Literal.{Literal}
-use Rattle.lrat_check.specs.Store.{ArePlaced}
+use Rattle.lrat_check.specs.inner.Store.{ArePlaced}
 use Rattle.lrat_check.proofs.Parts.{store_near, near_fits}
 use Rattle.lrat_check.proofs.store.Store.of_parts.Goals as goal
 

@@ -1,7 +1,7 @@
 use Rattle.std.proofs.Common.{◌≡◌, ◌<◌, length, arith, ap}
 use Rattle.std.specs.Vec.{vec_len}
 use Rattle.dimacs.specs.logic.Rat.{Group}
-use Rattle.lrat_text.specs.Groups.{start_at}
+use Rattle.lrat_text.specs.inner.Groups.{start_at}
 use Rattle.lrat_text.proofs.GroupLemmas.{length_groups, read_ends, read_within, read_group}
 use Rattle.lrat_text.proofs.groups.Groups.get.Goals as goal
 

@@ -1,6 +1,7 @@
 use Rattle.std.proofs.Common.{◌≡◌, ◌∷◌, [], ◌++◌, length, ◌+◌, arith}
 use Rattle.std.specs.Vec.{vec_len}
-use Rattle.lrat_text.specs.Groups.{AreHeads, groups_from}
+use Rattle.lrat_text.specs.Groups.{groups_from}
+use Rattle.lrat_text.specs.inner.Groups.{AreHeads}
 use Rattle.lrat_text.proofs.GroupLemmas.{more_heads, more_groups}
 use Rattle.lrat_text.proofs.groups.Groups.push.Goals as goal
 

@@ -2,7 +2,7 @@ use Rattle.std.proofs.Common.{◌≡◌, ◌∷◌, [], ◌++◌, length, ◌+�
 use Rattle.std.specs.Vec.{vec_len}
 use Rattle.lrat_text.specs.declared.groups.Head.{Head}
 use Rattle.dimacs.specs.logic.Rat.{Group}
-use Rattle.lrat_text.specs.Groups.{AreHeads}
+use Rattle.lrat_text.specs.inner.Groups.{AreHeads}
 use Rattle.lrat_text.proofs.GroupLemmas.{length_groups, last_more, hint_more}
 use Rattle.lrat_text.proofs.groups.Groups.push_hint.Goals as goal
 

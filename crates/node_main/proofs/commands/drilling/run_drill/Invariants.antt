@@ -1,6 +1,6 @@
 use Rattle.std.proofs.Common.{◌≡◌, ◌≤◌, ◌+◌, take, length}
 use Rattle.node_main.specs.Drilling.{DrillState, Drills, begun}
-use Rattle.node_main.specs.Tallies.{IsTally}
+use Rattle.node_main.specs.inner.Tallies.{IsTally}
 use Rattle.node_main.proofs.commands.drilling.run_drill.Given as goal
 
 -- the turns so far were taken, and counted

@@ -2,7 +2,7 @@ use Rattle.std.proofs.Common.{ap, sym, subst, ◌∙◌, List, ◌++◌, ◌∷�
 use Rattle.std.specs.List.{All}
 use Rattle.std.proofs.lemmas.List.Elements.{All-push}
 use Rattle.clause_arena.specs.declared.reference.Ref.{Ref}
-use Rattle.watches.specs.Scanning.{IsHere}
+use Rattle.watches.specs.inner.Scanning.{IsHere}
 use Rattle.watches.proofs.scan.ScanPropagator.attach.Goals as goal
 
 pub returns-in_err-push-clause-ready : goal.returns-in_err-push-clause-ready

@@ -4,7 +4,8 @@ use Rattle.std.proofs.lemmas.List.Elements.{All-filter}
 use Rattle.std.proofs.lemmas.Fn.{filter_same}
 use Rattle.clause_arena.specs.declared.reference.Ref.{Ref}
 use Rattle.watches.specs.Law.{AreWithout}
-use Rattle.watches.specs.Scanning.{numbers, IsHere}
+use Rattle.watches.specs.Scanning.{numbers}
+use Rattle.watches.specs.inner.Scanning.{IsHere}
 use Rattle.watches.proofs.Without.{without, are_without}
 use Rattle.watches.proofs.scan.ScanPropagator.detach.Goals as goal
 

@@ -2,7 +2,8 @@ use Rattle.std.proofs.Common.{◌≡◌, ap, sym, subst, ◌∙◌, arith}
 use Rattle.std.specs.List.{All}
 use Rattle.std.specs.Vec.{with_items}
 use Rattle.std.proofs.lemmas.List.{with_items_is}
-use Rattle.watches.specs.Scanning.{numbers, IsHere}
+use Rattle.watches.specs.Scanning.{numbers}
+use Rattle.watches.specs.inner.Scanning.{IsHere}
 use Rattle.watches.proofs.MovingLemmas.{all_here_followed, numbers_followed}
 use Rattle.watches.proofs.scan.ScanPropagator.moved.Goals as goal
 

@@ -2,7 +2,7 @@ use Rattle.std.proofs.Common.{◌∙◌, subst, List}
 use Rattle.std.specs.Option.{IfNone}
 use Rattle.clause_arena.specs.declared.reference.Ref.{Ref}
 use Rattle.watches.specs.Law.{IsQuiet}
-use Rattle.watches.specs.ScanLaws.{here_pushed}
+use Rattle.watches.specs.inner.ScanLaws.{here_pushed}
 use Rattle.watches.proofs.Swept.{among}
 use Rattle.watches.proofs.scan.ScanPropagator.propagate.Goals as goal
 

@@ -1,4 +1,4 @@
-use Rattle.watches.specs.ScanLaws.{here_pushed}
+use Rattle.watches.specs.inner.ScanLaws.{here_pushed}
 use Rattle.watches.proofs.scan.ScanPropagator.undo.Goals as goal
 
 pub returns-clause-ready : goal.returns-clause-ready

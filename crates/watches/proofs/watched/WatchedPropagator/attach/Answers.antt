@@ -4,9 +4,10 @@ use Rattle.dimacs.specs.logic.Literal.{Literal, Clause, IsWithin, same}
 use Rattle.clause_arena.specs.declared.reference.Ref.{Ref}
 use Rattle.watches.specs.declared.watched.places.Place.{Place}
 use Rattle.watches.specs.Scanning.{numbers}
-use Rattle.watches.specs.Chains.{AppendsTwo}
-use Rattle.watches.specs.Ready.{Watches, AreWatches, IsReady, attached_of}
-use Rattle.watches.specs.ReadyLaws.{ready_elsewhere}
+use Rattle.watches.specs.inner.Chains.{AppendsTwo}
+use Rattle.watches.specs.Ready.{Watches, attached_of}
+use Rattle.watches.specs.inner.Ready.{AreWatches, IsReady}
+use Rattle.watches.specs.inner.ReadyLaws.{ready_elsewhere}
 use Rattle.watches.proofs.Added.{live_again}
 use Rattle.watches.proofs.OrderingLemmas.{all_same}
 use Rattle.std.proofs.lemmas.List.{map-append}

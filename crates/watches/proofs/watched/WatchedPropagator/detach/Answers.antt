@@ -2,9 +2,11 @@ use Rattle.std.proofs.Common.{◌≡◌, ◌<◌, true, false, Bool, List, lengt
 use Rattle.std.proofs.lemmas.Bool.{false≢true}
 use Rattle.clause_arena.specs.declared.reference.Ref.{Ref}
 use Rattle.watches.specs.Law.{AreWithout}
-use Rattle.watches.specs.Scanning.{numbers, IsHere}
-use Rattle.watches.specs.Watching.{no_clause}
-use Rattle.watches.specs.Ready.{Watches, IsReady, attached_of}
+use Rattle.watches.specs.Scanning.{numbers}
+use Rattle.watches.specs.inner.Scanning.{IsHere}
+use Rattle.watches.specs.inner.Watching.{no_clause}
+use Rattle.watches.specs.Ready.{Watches, attached_of}
+use Rattle.watches.specs.inner.Ready.{IsReady}
 use Rattle.watches.proofs.ReadyLemmas.{watches_marked, all_marked, without_marked}
 use Rattle.watches.proofs.watched.WatchedPropagator.detach.Goals as goal
 

@@ -2,9 +2,10 @@ use Rattle.std.proofs.Common.{◌≡◌, List, sym, ap, subst, ◌∙◌, arith}
 use Rattle.std.specs.Vec.{with_items}
 use Rattle.std.proofs.lemmas.List.{with_items_is}
 use Rattle.clause_arena.specs.declared.reference.Ref.{Ref}
-use Rattle.watches.specs.Moving.{AreFollowed}
+use Rattle.watches.specs.inner.Moving.{AreFollowed}
 use Rattle.watches.specs.Scanning.{numbers}
-use Rattle.watches.specs.Ready.{Watches, AreWatches, IsReady, attached_of}
+use Rattle.watches.specs.Ready.{Watches, attached_of}
+use Rattle.watches.specs.inner.Ready.{AreWatches, IsReady}
 use Rattle.watches.proofs.DetachLemmas.{attached_followed}
 use Rattle.watches.proofs.MovingLemmas.{numbers_followed}
 use Rattle.watches.proofs.ReadyLemmas.{ready_followed, watches_followed}

@@ -7,9 +7,11 @@ use Rattle.clause_arena.specs.declared.reference.Ref.{Ref}
 use Rattle.clause_arena.specs.Clauses.{live_of}
 use Rattle.watches.specs.declared.watched.places.Place.{Place}
 use Rattle.watches.specs.Law.{Grows, IsQuiet, live_among}
-use Rattle.watches.specs.Scanning.{numbers, IsHere}
-use Rattle.watches.specs.Watching.{IsWatching}
-use Rattle.watches.specs.Ready.{Watches, AreNamed, attached_of}
+use Rattle.watches.specs.Scanning.{numbers}
+use Rattle.watches.specs.inner.Scanning.{IsHere}
+use Rattle.watches.specs.inner.Watching.{IsWatching}
+use Rattle.watches.specs.Ready.{Watches, attached_of}
+use Rattle.watches.specs.inner.Ready.{AreNamed}
 use Rattle.watches.proofs.DetachLemmas.{all_attached}
 use Rattle.watches.proofs.watched.WatchedPropagator.propagate.Goals as goal
 

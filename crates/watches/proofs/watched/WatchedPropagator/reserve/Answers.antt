@@ -1,8 +1,8 @@
 use Rattle.std.proofs.Common.{◌≡◌, ℕ, ◌+◌, ◌*◌, List, [], length, sym, ap, subst, arith}
 use Rattle.std.specs.List.{All}
 use Rattle.clause_arena.specs.declared.reference.Ref.{Ref}
-use Rattle.watches.specs.Scanning.{IsHere}
-use Rattle.watches.specs.Watching.{IsWatching}
+use Rattle.watches.specs.inner.Scanning.{IsHere}
+use Rattle.watches.specs.inner.Watching.{IsWatching}
 use Rattle.watches.specs.Ready.{attached_of}
 use Rattle.watches.proofs.ReadyLemmas.{nothing_watched}
 use Rattle.watches.proofs.watched.WatchedPropagator.reserve.Goals as goal

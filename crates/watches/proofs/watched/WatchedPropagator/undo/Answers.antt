@@ -1,5 +1,6 @@
 use Rattle.std.proofs.Common.{◌≤◌, length, sym, ap, subst, arith}
-use Rattle.watches.specs.Ready.{Watches, IsReady, attached_of}
+use Rattle.watches.specs.Ready.{Watches, attached_of}
+use Rattle.watches.specs.inner.Ready.{IsReady}
 use Rattle.watches.proofs.ReadyLemmas.{ready_cut}
 use Rattle.watches.proofs.watched.WatchedPropagator.undo.Goals as goal
 

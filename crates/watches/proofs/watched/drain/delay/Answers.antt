@@ -2,8 +2,8 @@ use Rattle.std.proofs.Common.{◌≡◌, ◌+◌, ◌<◌, length, sym, ap, subs
 use Rattle.dimacs.specs.logic.Literal.{IsWithin, negation}
 use Rattle.dimacs.proofs.LiteralLemmas.{negation-negation, IsWithin-negation}
 use Rattle.watches.specs.declared.trail.Assigned.{Assigned}
-use Rattle.watches.specs.Chains.{next_of, Relinks}
-use Rattle.watches.specs.Walking.{left_behind}
+use Rattle.watches.specs.inner.Chains.{next_of, Relinks}
+use Rattle.watches.specs.inner.Walking.{left_behind}
 use Rattle.watches.proofs.DelayLemmas as D
 use Rattle.watches.proofs.watched.drain.delay.Goals as goal
 

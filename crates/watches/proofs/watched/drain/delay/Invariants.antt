@@ -1,6 +1,6 @@
 use Rattle.std.proofs.Common.{ℕ, List}
-use Rattle.watches.specs.Watching.{IsWatching}
-use Rattle.watches.specs.Walking.{left_behind}
+use Rattle.watches.specs.inner.Watching.{IsWatching}
+use Rattle.watches.specs.inner.Walking.{left_behind}
 use Rattle.watches.proofs.watched.drain.delay.Given as goal
 
 abbrev pub invariant-chain : goal.invariant-chain

@@ -2,7 +2,7 @@ use Rattle.std.proofs.Common.{ℕ, ◌-◌, List}
 use Rattle.clause_arena.specs.Clauses.{live_of}
 use Rattle.watches.specs.Law.{Grows, AreSame, live_among}
 use Rattle.watches.specs.Scanning.{numbers}
-use Rattle.watches.specs.Watching.{IsWatching}
+use Rattle.watches.specs.inner.Watching.{IsWatching}
 use Rattle.watches.proofs.watched.drain.drain.Given as goal
 
 abbrev pub invariant-entries : goal.invariant-entries

@@ -3,7 +3,7 @@ use Rattle.std.specs.List.{IsDistinct}
 use Rattle.std.proofs.lemmas.List.{take_more, take_all, get_or-take, length-take-le}
 use Rattle.dimacs.specs.logic.Literal.{Literal, Clause, same}
 use Rattle.clause_arena.specs.declared.reference.Ref.{Ref}
-use Rattle.watches.specs.Watching.{IsWatching, no_clause}
+use Rattle.watches.specs.inner.Watching.{IsWatching, no_clause}
 use Rattle.watches.proofs.AttachLemmas.{appends, some_watching}
 use Rattle.watches.proofs.ReadyLemmas.{nothing_watched}
 use Rattle.watches.proofs.watched.renewal.chain_all.Goals as goal

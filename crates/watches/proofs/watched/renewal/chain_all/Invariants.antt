@@ -1,5 +1,5 @@
 use Rattle.std.proofs.Common.{◌≡◌, ℕ, ◌+◌, ◌*◌, ◌≤◌, List, length, take, vec_capacity}
-use Rattle.watches.specs.Watching.{IsWatching}
+use Rattle.watches.specs.inner.Watching.{IsWatching}
 use Rattle.watches.proofs.watched.renewal.chain_all.Given as goal
 
 abbrev pub invariant-loop-i : goal.invariant-loop-i

@@ -4,9 +4,9 @@ use Rattle.clause_arena.specs.declared.reference.Ref.{Ref}
 use Rattle.clause_arena.specs.Clauses.{Clauses}
 use Rattle.watches.specs.Trails.{TrailValue, holds}
 use Rattle.watches.specs.declared.watched.places.Place.{Place}
-use Rattle.watches.specs.Chains.{literal_at, next_of, twin}
-use Rattle.watches.specs.Watching.{owner, IsLong}
-use Rattle.watches.specs.Walking.{Wake}
+use Rattle.watches.specs.inner.Chains.{literal_at, next_of, twin}
+use Rattle.watches.specs.inner.Watching.{owner, IsLong}
+use Rattle.watches.specs.inner.Walking.{Wake}
 use Rattle.watches.proofs.SettleLemmas.{guarded_by}
 use Rattle.watches.proofs.PlaceLemmas as P
 use Rattle.watches.proofs.WakeLemmas as K

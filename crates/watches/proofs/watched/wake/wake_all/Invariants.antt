@@ -1,7 +1,7 @@
 use Rattle.clause_arena.specs.Clauses.{live_of}
 use Rattle.watches.specs.Law.{Grows, AreSame, live_among}
 use Rattle.watches.specs.Scanning.{numbers}
-use Rattle.watches.specs.Walking.{Wake, left_behind}
+use Rattle.watches.specs.inner.Walking.{Wake, left_behind}
 use Rattle.watches.proofs.watched.wake.wake_all.Given as goal
 
 abbrev pub invariant-chain : goal.invariant-chain

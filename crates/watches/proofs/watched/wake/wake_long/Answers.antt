@@ -8,9 +8,9 @@ use Rattle.watches.specs.Law.{live_among, IsImplied, IsConflict}
 use Rattle.watches.specs.Scanning.{numbers}
 use Rattle.watches.proofs.Swept.{Grows-refl, Grows-push, AreSame-refl}
 use Rattle.watches.specs.declared.watched.places.Place.{Place}
-use Rattle.watches.specs.Chains.{literal_at, next_of}
-use Rattle.watches.specs.Watching.{owner, IsLong}
-use Rattle.watches.specs.Walking.{Wake}
+use Rattle.watches.specs.inner.Chains.{literal_at, next_of}
+use Rattle.watches.specs.inner.Watching.{owner, IsLong}
+use Rattle.watches.specs.inner.Walking.{Wake}
 use Rattle.watches.proofs.WalkLemmas.{holds_front, holds_pushed}
 use Rattle.watches.proofs.PlaceLemmas as P
 use Rattle.watches.proofs.WakeLemmas as K

@@ -10,7 +10,7 @@ use Rattle.watches.specs.declared.trail.Assigned.{Assigned}
 use Rattle.watches.specs.Law.{live_among, IsImplied, IsCalm}
 use Rattle.watches.specs.Scanning.{numbers}
 use Rattle.watches.proofs.Swept.{Grows-refl, Grows-push, AreSame-refl}
-use Rattle.watches.specs.Watching.{owner}
+use Rattle.watches.specs.inner.Watching.{owner}
 use Rattle.watches.proofs.WakeLemmas as K
 use Rattle.watches.proofs.WalkLemmas.{holds_pushed}
 use Rattle.watches.proofs.watched.wake.wake_short.Goals as goal

@@ -7,7 +7,7 @@ use Rattle.watches.specs.Law.{live_among, IsImplied}
 use Rattle.watches.specs.Scanning.{numbers}
 use Rattle.watches.proofs.Swept.{Grows-refl, Grows-push, AreSame-refl}
 use Rattle.watches.proofs.GuardLemmas.{holds_up_to}
-use Rattle.watches.specs.Walking.{Stops}
+use Rattle.watches.specs.inner.Walking.{Stops}
 use Rattle.watches.proofs.WalkLemmas as WL
 use Rattle.watches.proofs.watched.walk.visit.Goals as goal
 

@@ -9,7 +9,7 @@ use Rattle.watches.specs.Law.{live_among}
 use Rattle.watches.specs.Scanning.{numbers}
 use Rattle.watches.proofs.Swept.{Grows-refl, Grows-trans, AreSame-refl}
 use Rattle.watches.proofs.TrailLemmas.{consistent}
-use Rattle.watches.specs.Walking.{Walk}
+use Rattle.watches.specs.inner.Walking.{Walk}
 use Rattle.watches.proofs.GuardLemmas.{entry_holds}
 use Rattle.watches.proofs.LawLemmas.{same_trans, grows_before}
 use Rattle.watches.proofs.WalkLemmas as WL

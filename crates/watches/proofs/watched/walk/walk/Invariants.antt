@@ -1,7 +1,7 @@
 use Rattle.clause_arena.specs.Clauses.{live_of}
 use Rattle.watches.specs.Law.{Grows, AreSame, live_among}
 use Rattle.watches.specs.Scanning.{numbers}
-use Rattle.watches.specs.Walking.{Walk, left_behind}
+use Rattle.watches.specs.inner.Walking.{Walk, left_behind}
 use Rattle.watches.proofs.watched.walk.walk.Given as goal
 
 abbrev pub invariant-chain : goal.invariant-chain

@@ -3,7 +3,7 @@ use Rattle.dimacs.specs.logic.Base.{base_of}
 use Rattle.dimacs.specs.logic.Cnf.{Cnf}
 use Rattle.cube_solve.specs.Outcome.{IsRightOutcome}
 use Rattle.icnf.specs.Leaves.{Cube}
-use Rattle.worker_core.specs.Invariant.{IsWork}
+use Rattle.worker_core.specs.inner.Invariant.{IsWork}
 use Rattle.worker_core.specs.Worker.{WorkerWorks, kept}
 use Rattle.worker_core.proofs.WorkingLemmas.{may_end, kept_is_work, finishes}
 use Rattle.worker_core.proofs.worker.Worker.work.Goals as goal

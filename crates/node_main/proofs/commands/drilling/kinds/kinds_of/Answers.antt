@@ -1,6 +1,6 @@
 use Rattle.std.proofs.Common.{◌≡◌, ◌<◌, ℕ, Some, arith, subst}
 use Rattle.closed_schedules.specs.ClosedSchedule.{verdict_at}
-use Rattle.node_main.specs.Kinds.{AreKinds}
+use Rattle.node_main.specs.inner.Kinds.{AreKinds}
 use Rattle.node_main.proofs.KindLemmas.{kinds_all, kinds_more}
 use Rattle.node_main.proofs.commands.drilling.kinds.kinds_of.Goals as goal
 

@@ -1,6 +1,6 @@
 use Rattle.std.proofs.Common.{◌≡◌, ◌<◌, ℕ, Some}
 use Rattle.closed_schedules.specs.ClosedSchedule.{verdict_at}
-use Rattle.node_main.specs.Kinds.{AreKinds}
+use Rattle.node_main.specs.inner.Kinds.{AreKinds}
 use Rattle.node_main.proofs.commands.drilling.kinds.kinds_of.Given as goal
 
 -- the kinds of the nodes so far

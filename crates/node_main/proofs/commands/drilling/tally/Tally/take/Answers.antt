@@ -2,7 +2,7 @@ use Rattle.std.proofs.Common.{◌≡◌, ◌∙◌, List, Option, ap, length, su
 use Rattle.frames.specs.declared.frame.Frame.{Frame}
 use Rattle.closed_schedules.specs.declared.event.ClosedEvent.{ClosedEvent}
 use Rattle.node_main.specs.Drilling.{Occurs, drawn_event, next_after}
-use Rattle.node_main.specs.Tallies.{counted}
+use Rattle.node_main.specs.inner.Tallies.{counted}
 use Rattle.node_main.proofs.TallyLemmas.{turn_is}
 use Rattle.node_main.proofs.commands.drilling.tally.Tally.take.Goals as goal
 

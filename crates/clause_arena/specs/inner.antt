@@ -1,0 +1,5 @@
+-- What only private contracts, invariants and proofs name. Nothing here is to be believed.
+pub mod Clauses
+pub mod Contents
+pub mod Packing
+pub mod Slots

@@ -1,0 +1,6 @@
+-- What only private contracts, invariants and proofs name. Nothing here is to be believed.
+pub mod Built
+pub mod Minimising
+pub mod Seen
+pub mod Traces
+pub mod Walks

@@ -1,0 +1,31 @@
+-- What a turn of the search does next, and what ends a descent.
+use Rattle.std.specs.Prelude.{◌≡◌, true, false, List, Contains}
+use Rattle.dimacs.specs.logic.Literal.{Literal, IsWithin, negation}
+use Rattle.clause_arena.specs.Clauses.{Clauses, live_of}
+use Rattle.watches.specs.Law.{AllCalm, IsConflict}
+use Rattle.watches.specs.Trails.{TrailValue, holds}
+use Rattle.cube_solve.specs.Conflicts.{AllHold}
+use Rattle.cube_solve.specs.inner.State.{IsTotal}
+use Rattle.cube_solve.specs.declared.decision.Next.{Next}
+use Rattle.cube_solve.specs.declared.decision.Next.TheVariants as next
+use Rattle.cube_solve.specs.declared.descent.Found.{Found}
+use Rattle.cube_solve.specs.declared.descent.Found.TheVariants as found
+
+-- a literal without a value, of a variable that there is
+pub record IsUnassigned (t : TrailValue) (l : Literal) : Type 0 where
+  pub within : IsWithin t.vars l
+  pub not_true : holds t.entries l ≡ false
+  pub not_false : holds t.entries (negation l) ≡ false
+
+-- what is to be done under a trail where nothing is to be propagated
+abbrev pub IsNext : TrailValue → List Literal → Next → Type 0
+IsNext t cube (next.Assume l) = Contains cube l × IsUnassigned t l
+IsNext t cube (next.Fails l) = Contains cube l × (holds t.entries (negation l) ≡ true) × (holds t.entries l ≡ false)
+IsNext t cube (next.Decide l) = AllHold t.entries cube × IsUnassigned t l
+IsNext t cube next.Done = AllHold t.entries cube × IsTotal t
+
+-- what ended a descent
+abbrev pub IsFound : Clauses → TrailValue → List Literal → Found → Type 0
+IsFound m t cube found.Model = AllCalm (live_of m) (holds t.entries) × AllHold t.entries cube × IsTotal t
+IsFound m t cube (found.Clause n) = IsConflict (live_of m) t.entries n
+IsFound m t cube (found.Assumption l) = Contains cube l × (holds t.entries (negation l) ≡ true)

@@ -1,0 +1,7 @@
+-- What only private contracts, invariants and proofs name. Nothing here is to be believed.
+pub mod Marks
+pub mod Open
+pub mod Places
+pub mod Splitting
+pub mod Tallies
+pub mod Walking

@@ -1,0 +1,6 @@
+-- What only private contracts, invariants and proofs name. Nothing here is to be believed.
+pub mod Building
+pub mod Capped
+pub mod Codes
+pub mod Rows
+pub mod Words

@@ -1,0 +1,8 @@
+-- What a call leaves while rows are read.
+use Rattle.std.specs.Prelude.{◌≡◌, Result, Ok, Err}
+use Rattle.dimacs.specs.text.Rows.{Fails}
+
+-- a call leaves what is expected, unless memory ran out
+abbrev pub Gives : {State Fault : Type 0} → Fault → State → Result (Unit {0}) Fault → Result State Fault → Type 0
+Gives no_memory new (Ok _) expected = expected ≡ Ok new
+Gives no_memory new (Err fault) expected = Fails no_memory fault expected

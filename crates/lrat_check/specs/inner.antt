@@ -1,0 +1,17 @@
+-- What only private contracts, invariants and proofs name. Nothing here is to be believed.
+pub mod Cell
+pub mod Changes
+pub mod Checking
+pub mod Faults
+pub mod FragmentFaults
+pub mod FragmentLines
+pub mod Holders
+pub mod Holding
+pub mod Lines
+pub mod Marks
+pub mod Rising
+pub mod State
+pub mod Statuses
+pub mod Store
+pub mod Stream
+pub mod Table

@@ -1,0 +1,9 @@
+-- How the live clauses change.
+use Rattle.std.specs.Prelude.{◌≡◌, ℕ, Some}
+use Rattle.std.specs.FinMap.{get}
+use Rattle.dimacs.specs.logic.Literal.{Clause}
+use Rattle.dimacs.specs.logic.ClauseMap.{ClauseMap}
+
+-- no clause is live now that was not before
+abbrev pub NoneNew : ClauseMap → ClauseMap → Type 0
+NoneNew old new = (id : ℕ) (C : Clause) → get new id ≡ Some C → get old id ≡ Some C

@@ -1,0 +1,21 @@
+-- What is handed the lines of a fragment.
+use Rattle.std.specs.Prelude.{◌≡◌, ◌⊎◌, ℕ, ◌+◌, List}
+use Rattle.lrat_check.specs.Checking.{no_memory}
+use Rattle.lrat_check.specs.inner.FragmentFaults.{FragmentGoesOn, FragmentStops}
+use Rattle.lrat_check.specs.declared.checking.CheckFault.{CheckFault}
+use Rattle.lrat_check.specs.declared.fragment.FragmentLines.{FragmentLines}
+
+abbrev pub MayTake : FragmentLines → Type 0
+MayTake f = Unit {0}
+
+-- a line is passed; base and cube stay
+abbrev pub Takes : FragmentLines → List ℕ → FragmentLines → Type 0
+Takes old line new =
+    FragmentGoesOn old.checker.base old.cube.now old.checker.clauses old.checker.top old.line line new.checker.closed new.checker.clauses new.checker.top
+    × (new.checker.base ≡ old.checker.base)
+    × (new.cube.now ≡ old.cube.now)
+    × (new.line ≡ old.line + 1)
+
+-- a line is refused, or memory ran out
+abbrev pub Refuses : FragmentLines → List ℕ → FragmentLines → CheckFault → Type 0
+Refuses old line new fault = (fault ≡ no_memory) ⊎ FragmentStops old.checker.base old.cube.now old.checker.clauses old.checker.top old.line line fault

@@ -1,0 +1,75 @@
+-- Clauses whose literals lie one after the other in one list, by slots: of a table by number, and of one of numbers that are
+-- far from the others, with a map that finds their places.
+use Rattle.std.specs.Prelude.{◌≡◌, ℕ, ◌+◌, ◌<◌, ◌≤◌, List, [], ◌∷◌, ◌++◌, length, take, drop, Option, Some, None, option_map, slice_index, slice_index_or}
+use Rattle.std.specs.FinMap.{from_entries}
+use Rattle.std.specs.List.{enumerate_from}
+use Rattle.std.specs.Ordering.{nat_cmp}
+use Rattle.std.specs.BTreeMap as tree
+use Rattle.dimacs.specs.logic.Literal.{Literal, Clause}
+use Rattle.dimacs.specs.logic.ClauseMap.{ClauseMap}
+use Rattle.lrat_check.specs.declared.slot.Slot.{Slot}
+use Rattle.lrat_check.specs.declared.slot_tables.Far.{Far}
+
+-- the literals at a slot
+abbrev pub clause_at : List Literal → Slot → Clause
+clause_at literals s = take s.len (drop s.place literals)
+
+-- the clauses of the slots of a table from a place on, with the numbers of their places
+abbrev pub entries_of : List Literal → (ℕ → ℕ) → ℕ → List (Option Slot) → List (ℕ × Clause)
+entries_of literals number n [] = []
+entries_of literals number n (None ∷ slots) = entries_of literals number (n + 1) slots
+entries_of literals number n (Some s ∷ slots) = (number n, clause_at literals s) ∷ entries_of literals number (n + 1) slots
+
+-- the clauses of numbers that are their own places
+abbrev pub near_entries : List Literal → List (Option Slot) → List (ℕ × Clause)
+near_entries literals near = entries_of literals (λ n. n) 0 near
+
+-- the clauses of numbers that are far from the others
+abbrev pub far_entries : List Literal → Far → List (ℕ × Clause)
+far_entries literals far = entries_of literals (λ p. slice_index far.numbers.items p) 0 far.slots.items
+
+-- where the slot of a far number stands
+abbrev pub place_of : Far → ℕ → Option ℕ
+place_of far q = tree.get nat_cmp far.places q
+
+-- the live clauses
+abbrev pub live_of : List Literal → List (Option Slot) → Far → ClauseMap
+live_of literals near far = from_entries (near_entries literals near ++ far_entries literals far)
+
+-- what a store holds: literals, and the live clauses that stand in them
+pub record Stored : Type 0 where
+  pub literals : List Literal
+  pub live : ClauseMap
+
+-- each clause with its number, from 1
+abbrev pub numbered_entries : List Clause → List (ℕ × Clause)
+numbered_entries F = enumerate_from 1 F
+
+-- these clauses, numbered from 1
+abbrev pub numbered : List Clause → ClauseMap
+numbered F = from_entries (numbered_entries F)
+
+-- a slot lies within the literals
+abbrev pub IsPlaced : List Literal → Slot → Type 0
+IsPlaced literals s = s.place + s.len ≤ length literals
+
+-- each slot of a table lies within the literals
+abbrev pub ArePlaced : List Literal → List (Option Slot) → Type 0
+ArePlaced literals slots = (p : ℕ) (s : Slot) → slice_index_or slots p None ≡ Some s → IsPlaced literals s
+
+-- every slot of some literals is one of others, with the same literals
+abbrev pub Keeps : List Literal → List Literal → Type 0
+Keeps old new = (s : Slot) → IsPlaced old s → IsPlaced new s × (clause_at new s ≡ clause_at old s)
+
+-- at each place of two tables stand the same literals, of literals of their own
+abbrev pub SameClauses : List Literal → List (Option Slot) → List Literal → List (Option Slot) → Type 0
+SameClauses literals slots literals' slots' =
+    (p : ℕ) → option_map (clause_at literals') (slice_index_or slots' p None) ≡ option_map (clause_at literals) (slice_index_or slots p None)
+
+-- each slot lies within the literals; the map finds the far numbers' places, which are none of those of the table by number
+pub record IsStore (literals : List Literal) (near : List (Option Slot)) (far : Far) : Type 0 where
+  pub near_placed : ArePlaced literals near
+  pub far_placed : ArePlaced literals far.slots.items
+  pub level : length far.numbers.items ≡ length far.slots.items
+  pub found : (q p : ℕ) → place_of far q ≡ Some p → (slice_index far.numbers.items p ≡ q) × (p < length far.slots.items) × (length near ≤ q)
+  pub kept : (p : ℕ) (s : Slot) → slice_index_or far.slots.items p None ≡ Some s → place_of far (slice_index far.numbers.items p) ≡ Some p

@@ -1,0 +1,30 @@
+-- Tokens as the code meets them.
+use Rattle.std.specs.Prelude.{ℕ, length, ◌+◌, ◌^◌, ◌≤◌, ◌<◌, Bool, ◌==◌, List, [], ◌∷◌, Option, Some, None}
+use Rattle.std.specs.Borrow.{Bor}
+use Rattle.lrat_text.specs.Grammar.{space}
+use Rattle.lrat_text.specs.Reading.{line_tokens}
+use Rattle.lrat_text.specs.declared.token.Token.{Token}
+use Rattle.lrat_text.specs.declared.token.Token.TheVariants.{Letter, Zero, Plus, Minus, LargePlus, LargeMinus, Other}
+
+abbrev pub is_space : ℕ → Bool
+is_space b = b == space
+
+-- a number that is not large is from 1 to 2^48 - 1
+abbrev pub IsCounted : Token → Type 0
+IsCounted (Plus n) = (1 ≤ n) × (n < 2 ^ 48)
+IsCounted (Minus n) = (1 ≤ n) × (n < 2 ^ 48)
+IsCounted Letter = Unit {0}
+IsCounted Zero = Unit {0}
+IsCounted LargePlus = Unit {0}
+IsCounted LargeMinus = Unit {0}
+IsCounted Other = Unit {0}
+
+-- a token and those behind it, if there is one
+abbrev pub tokens_from : Option (Token × Bor (List ℕ)) → List Token
+tokens_from None = []
+tokens_from (Some next) = next.0 ∷ line_tokens next.1.now
+
+-- how many bytes stand behind a token, and one more
+abbrev pub left_len : Option (Token × Bor (List ℕ)) → ℕ
+left_len None = 0
+left_len (Some next) = length next.1.now + 1

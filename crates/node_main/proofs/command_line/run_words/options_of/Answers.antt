@@ -1,0 +1,26 @@
+use Rattle.std.proofs.Common.{codes}
+use Rattle.clap.specs.Words.{found_of}
+use Rattle.node_main.proofs.WordLemmas.{if_none, read_flag, read_no_flag}
+use Rattle.node_main.proofs.command_line.run_words.options_of.Goals as goal
+
+pub returns-in_err-incarnation-clause-none : goal.returns-in_err-incarnation-clause-none
+returns-in_err-incarnation-clause-none c =
+    if_none c.from_residual-in_err-incarnation.result _ (λ options names. c.in_err-incarnation.ensures.none options.incarnation names.incarnation_is)
+
+pub returns-clause-found : goal.returns-clause-found
+returns-clause-found c =
+    let f = found_of c.args.matches.now in
+    let ahead = c.get_flag.ensures in
+    let quiet = c.get_flag-2.ensures in
+    let silent = c.get_flag-3.ensures in
+    record {
+      workers_is = c.in_ok-workers.ensures.found;
+      depth_is = c.in_ok-depth.ensures.found;
+      limit_is = c.in_ok-limit.ensures.found;
+      session_is = c.in_ok-session.ensures.found;
+      number_is = c.in_ok-number.ensures.found;
+      incarnation_is = c.in_ok-incarnation.ensures.found;
+      ahead_is = read_flag f (codes "ahead") c.get_flag.result ahead.none ahead.value ahead.other;
+      quiet_is = read_flag f (codes "quiet") c.get_flag-2.result quiet.none quiet.value quiet.other;
+      witness_is = read_no_flag f (codes "no-witness") c.get_flag-3.result silent.none silent.value silent.other;
+    }

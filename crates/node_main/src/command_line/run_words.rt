@@ -1,0 +1,67 @@
+//! The words that runs share, and the options that they name.
+
+ghost use Rattle.std.specs.Prelude.{◌≡◌, IfOk, IfSome, IfNone};
+ghost use Rattle.clap.specs.Words.{app_of, found_of, rows_of};
+ghost use Rattle.node_main.specs.CommandLine.{NamesOptions};
+ghost use Rattle.node_main.specs.Program.{with_files, with_search};
+ghost use Rattle.node_main.specs.Solving.{AreOptions};
+ghost use Rattle.node_main.specs.declared.options.Options.{Options};
+
+use crate::command_line::words::{DEPTH, INPUT, file, flag, named_file, number, number_or};
+use crate::options::Options;
+use clap::{ArgMatches, Command};
+use std::alloc::{AllocError, Global};
+
+/// What help says of the status of a run.
+pub(crate) const STATUS: &str = "Status: 10 satisfiable, 20 unsatisfiable, 0 unknown, 1 an error";
+
+/// A command with the words of a search: how many workers there are, how the formula is split, and how far a leaf is searched.
+pub(crate) fn searching<'a>(alloc: Global, command: Command<'a>) -> Result<Command<'a>, AllocError>
+    ensures { IfOk result (λ c. app_of c ≡ with_search (app_of command.entry)) }
+{
+    const WORKERS: &str = "How many workers there are, from 1 to 64";
+    const LIMIT: &str = "How many lemmas may be learnt under a cube, from 1 to 1000000000";
+    const CUBES: &str = "Take the cubes of this iCNF file, whose clauses are those of INPUT";
+    let workers = number(alloc, "workers", 1, 64, "2", WORKERS);
+    let depth = number(alloc, "depth", 0, 16, "4", DEPTH);
+    let limit = number(alloc, "limit", 1, 1_000_000_000, "100000", LIMIT);
+    let cubes = named_file(alloc, "cubes", CUBES);
+    command.arg(workers)?.arg(depth)?.arg(limit)?.arg(cubes)
+}
+
+/// A command with the words of its files and of what it prints.
+pub(crate) fn on_files<'a>(alloc: Global, command: Command<'a>) -> Result<Command<'a>, AllocError>
+    ensures { IfOk result (λ c. app_of c ≡ with_files (app_of command.entry)) }
+{
+    const PROOF: &str = "The file to which an LRAT proof is written, where nothing satisfies INPUT";
+    let quiet = flag(alloc, "quiet", 'q', "Print no c lines, but for c usage");
+    let no_witness = flag(alloc, "no-witness", 'n', "Print no v lines");
+    let input = file(alloc, "INPUT", true, INPUT);
+    let proof = file(alloc, "PROOF", false, PROOF);
+    command.arg(quiet)?.arg(no_witness)?.arg(input)?.arg(proof)
+}
+
+/// The options that the words of a run name; the usual one where its command has no word for it.
+pub(crate) fn options_of(matches: &ArgMatches) -> Option<Options>
+    ensures found { IfSome result (NamesOptions (rows_of (found_of matches.now))) }
+    ensures none { IfNone result ((options : Options) → NamesOptions (rows_of (found_of matches.now)) options → ⊥) }
+    ensures range { IfSome result AreOptions }
+{
+    let workers = number_or(matches, "workers", 1, 64, 2)?;
+    let depth = number_or(matches, "depth", 0, 16, 4)?;
+    let limit = number_or(matches, "limit", 1, 1_000_000_000, 100_000)?;
+    let session = number_or(matches, "session", 0, u64::MAX, 1)?;
+    let number = number_or(matches, "number", 1, 64, 1)?;
+    let incarnation = number_or(matches, "incarnation", 0, u64::MAX, 1)?;
+    Some(Options {
+        workers: workers as u32,
+        depth: depth as u32,
+        limit,
+        session,
+        number: number as u32,
+        incarnation,
+        ahead: matches.get_flag("ahead"),
+        quiet: matches.get_flag("quiet"),
+        witness: !matches.get_flag("no-witness"),
+    })
+}

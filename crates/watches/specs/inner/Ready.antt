@@ -1,0 +1,29 @@
+-- What holds of the watches between two calls.
+use Rattle.std.specs.Prelude.{◌≡◌, ℕ, ◌+◌, ◌*◌, ◌%◌, ◌^◌, ◌<◌, ◌≤◌, Bool, true, false, List, length, slice_index_or, All}
+use Rattle.clause_arena.specs.declared.reference.Ref.{Ref}
+use Rattle.clause_arena.specs.Clauses.{Clauses}
+use Rattle.watches.specs.Trails.{TrailValue}
+use Rattle.watches.specs.inner.Scanning.{IsHere}
+use Rattle.watches.specs.declared.watched.places.Place.{Place}
+use Rattle.watches.specs.inner.Watching.{IsWatching, no_clause}
+use Rattle.watches.specs.Ready.{Watches, attached_of}
+
+-- no two clauses have one number
+abbrev pub AreNamed : List Ref → Type 0
+AreNamed clauses = (i j : ℕ) → i < length clauses → j < length clauses → (slice_index_or clauses i no_clause).number ≡ (slice_index_or clauses j no_clause).number → i ≡ j
+
+-- a mark and two places for each clause behind the heads, all of them with numbers of 32 bits; a clause that is marked as detached
+-- stays until the chains are made anew
+pub record AreWatches (places : List Place) (clauses : List Ref) (live : List Bool) (base : ℕ) (stale : Bool) : Type 0 where
+  pub whole : length places ≡ base + 2 * length clauses
+  pub few : length places ≤ 2 ^ 32
+  pub even : base % 2 ≡ 0
+  pub marked : length live ≡ length clauses
+  pub named : AreNamed (attached_of clauses live)
+  pub none_gone : stale ≡ false → All (λ b. b ≡ true) live
+
+-- the clauses stand in the arena, there are heads for all literals, and the chains are right where they need not be made anew
+pub record IsReady (w : Watches) (m : Clauses) (t : TrailValue) : Type 0 where
+  pub wide : 2 * t.vars + 2 ≤ w.base
+  pub here : All (IsHere m t.vars) w.clauses
+  pub watching : w.stale ≡ false → (paths : ℕ → List ℕ) × IsWatching w.places w.clauses w.base w.head m t paths

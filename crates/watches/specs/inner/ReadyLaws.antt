@@ -1,0 +1,97 @@
+-- Why what is kept of all watches lasts where literals come to the trail's end, or other clauses change.
+use Rattle.std.specs.Prelude.{◌≡◌, ℕ, ◌/◌, ◌-◌, ◌<◌, ◌≤◌, ◌||◌, Bool, true, false, List, ◌++◌, length, refl}
+use Rattle.std.specs.List.{All, Contains}
+use Rattle.std.specs.FinMap.{get}
+use Rattle.std.proofs.Common.{ap, sym, subst, ◌∙◌, arith, inl, inr, length-append}
+use Rattle.std.proofs.lemmas.Bool.{false≢true}
+use Rattle.std.proofs.lemmas.List.{get_or_append_left}
+use Rattle.std.proofs.lemmas.List.Folds.{list_any-append}
+use Rattle.dimacs.specs.logic.Literal.{Literal, IsWithin}
+use Rattle.clause_arena.specs.declared.reference.Ref.{Ref}
+use Rattle.clause_arena.specs.Clauses.{Clauses}
+use Rattle.watches.specs.declared.trail.Assigned.{Assigned}
+use Rattle.watches.specs.declared.watched.places.Place.{Place}
+use Rattle.watches.specs.Trails.{TrailValue, up_to}
+use Rattle.watches.specs.Scanning.{numbers}
+use Rattle.watches.specs.inner.Scanning.{IsHere}
+use Rattle.watches.specs.inner.ScanLaws.{has_number, here_pushed, here_elsewhere}
+use Rattle.watches.specs.inner.Chains.{literal_at, twin}
+use Rattle.watches.specs.inner.Watching.{no_clause, IsGuarded, IsWatching}
+use Rattle.watches.specs.Ready.{Watches}
+use Rattle.watches.specs.inner.Ready.{IsReady}
+
+pub or_left : (a b : Bool) → a ≡ true → (a || b) ≡ true
+or_left true b e = refl
+or_left false b e = absurd (false≢true e)
+
+pub up_to_front : (es more : List Assigned) (k : ℕ) (l : Literal) → up_to es k l ≡ true → up_to (es ++ more) k l ≡ true
+up_to_front es more k l h = list_any-append _ es more ∙ or_left _ _ h
+
+pub guarded_pushed : (es more : List Assigned) (head : ℕ) (w b : Literal) → head ≤ length es → IsGuarded es head w b → IsGuarded (es ++ more) head w b
+guarded_pushed es more head w b l g i d h e =
+    let s = get_or_append_left es more d i (omega arith) in
+    subst (λ (x : Assigned). up_to (es ++ more) x.level b ≡ true) (sym s) (up_to_front es more _ b (g i d h (ap (λ (x : Assigned). x.literal) (sym s) ∙ e)))
+
+module _ (places : List Place) (clauses : List Ref) (base head : ℕ) (m : Clauses) (t : TrailValue) (paths : ℕ → List ℕ) (w : IsWatching places clauses base head m t paths) where
+  -- literals came to the trail's end
+  pub pushed : (u : TrailValue) (more : List Assigned) → u.vars ≡ t.vars → u.entries ≡ t.entries ++ more → IsWatching places clauses base head m u paths
+  pushed u more v e = record {
+    chains = w.chains;
+    wide = omega (arith, w.wide);
+    even = w.even;
+    low = w.low;
+    paired = w.paired;
+    partly = w.partly;
+    named = w.named;
+    here = subst (λ n. All (IsHere m n) clauses) (sym v) w.here;
+    front = w.front;
+    apart = w.apart;
+    home = λ l p b h. w.home l p (subst (λ n. IsWithin n l) v b) h;
+    kept = λ p h. elim (w.kept p h) [
+      | inl i ↦ inl i
+      | inr i ↦ inr (i.0, subst (λ es. IsGuarded es head (literal_at places p) (literal_at places (twin p))) (sym e) (guarded_pushed t.entries more head (literal_at places p) (literal_at places (twin p)) w.handled i.1))
+    ];
+    short = λ i b s. elim (w.short i b s) [
+      | inl h ↦ inl h
+      | inr h ↦ inr (λ C st. let g = h C st in (g.0, g.1, subst (λ es. up_to es 0 g.0 ≡ true) (sym e) (up_to_front t.entries more 0 g.0 g.2)))
+    ];
+    handled = omega (arith, w.handled, ap length e, length-append t.entries more);
+  }
+
+  -- other clauses changed
+  pub elsewhere : (k : Clauses) → ((n : ℕ) → Contains (numbers clauses) n → get k n ≡ get m n) → IsWatching places clauses base head k t paths
+  elsewhere k e = record {
+    chains = w.chains;
+    wide = w.wide;
+    even = w.even;
+    low = w.low;
+    paired = w.paired;
+    partly = w.partly;
+    named = w.named;
+    apart = w.apart;
+    home = w.home;
+    kept = w.kept;
+    handled = w.handled;
+    here = here_elsewhere m k t.vars clauses w.here e;
+    front = λ p C d h s.
+        let l : (p - base) / 2 < length clauses = let a = h.0 in let b = h.1 in let c = w.partly in let z = w.even in let y = w.paired in omega arith in
+        w.front p C d h (sym (e _ (has_number clauses ((p - base) / 2) no_clause l)) ∙ s.0, s.1);
+    short = λ i b s. elim (w.short i b s) [
+      | inl h ↦ inl h
+      | inr h ↦ inr (λ C st. h C (sym (e _ (has_number clauses i no_clause (let c = w.partly in omega arith))) ∙ st.0, st.1))
+    ];
+  }
+
+pub ready_pushed : (w : Watches) (m : Clauses) (t u : TrailValue) (more : List Assigned) → IsReady w m t → u.vars ≡ t.vars → u.entries ≡ t.entries ++ more → IsReady w m u
+ready_pushed w m t u more r v e = record {
+  wide = omega (arith, r.wide);
+  here = here_pushed m t u w.clauses r.here v;
+  watching = λ s. let x = r.watching s in (x.0, pushed w.places w.clauses w.base w.head m t x.0 x.1 u more v e);
+}
+
+pub ready_elsewhere : (w : Watches) (m k : Clauses) (t : TrailValue) → IsReady w m t → ((n : ℕ) → Contains (numbers w.clauses) n → get k n ≡ get m n) → IsReady w k t
+ready_elsewhere w m k t r e = record {
+  wide = r.wide;
+  here = here_elsewhere m k t.vars w.clauses r.here e;
+  watching = λ s. let x = r.watching s in (x.0, elsewhere w.places w.clauses w.base w.head m t x.0 x.1 k e);
+}
