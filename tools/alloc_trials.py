@@ -102,6 +102,9 @@ CALLS = [
     ("join_with_deletions", "9 0 5 8 0"),
     ("last_part", "the proof is held"),
     ("last_piece", "the proof is held"),
+    ("extended_proof", "the verdict is kept"),
+    ("extended_assignment", "the verdict is kept"),
+    ("extended_join", "the verdict is kept"),
     ("run_of_units", "v 1 -2 0"),
     ("run_of_four", "7 0 5 6 0"),
 ]

@@ -31,9 +31,10 @@ CLAIMS = [
     ),
     (
         "What a node holds is true, and nodes agree",
-        "Whatever events come to the nodes of a cluster, what each holds is true of its formula, and nodes of one formula never "
-        "hold verdicts that differ.",
-        [("cluster", "run", ["formulas", "truth", "agree"]), ("cluster", "verdict", ["holds"])],
+        "Whatever events come to the nodes of a cluster, what each holds is true of the formula that it has then; two nodes, each at its "
+        "moment, never hold verdicts that differ where their formulas are equal then; and where one holds a proof, no other, earlier or later, holds an "
+        "assignment of that formula with more clauses.",
+        [("cluster", "run", ["formulas", "truth", "agree", "grown"]), ("cluster", "verdict", ["holds"])],
     ),
     (
         "`check` accepts exactly what the definition accepts",

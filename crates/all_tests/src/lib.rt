@@ -24,6 +24,8 @@ mod deletions;
 #[cfg(test)]
 mod drills;
 #[cfg(test)]
+mod extensions;
+#[cfg(test)]
 mod formulas;
 #[cfg(test)]
 mod fragments;

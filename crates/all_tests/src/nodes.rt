@@ -15,16 +15,16 @@ use std::alloc::Global;
 use std::test::Fail;
 use worker_core::Worker;
 
-const FOUR: &[u8] = b"p cnf 2 4\n1 2 0\n-1 2 0\n1 -2 0\n-1 -2 0\n";
+pub(crate) const FOUR: &[u8] = b"p cnf 2 4\n1 2 0\n-1 2 0\n1 -2 0\n-1 -2 0\n";
 
-const UNITS: &[u8] = b"p cnf 2 2\n1 0\n-2 0\n";
+pub(crate) const UNITS: &[u8] = b"p cnf 2 2\n1 0\n-2 0\n";
 
-fn formula_of(alloc: Global, input: &[u8]) -> Result<Formula, Fail> {
+pub(crate) fn formula_of(alloc: Global, input: &[u8]) -> Result<Formula, Fail> {
     Ok(read(alloc, input).ok().ok_or("a formula")?)
 }
 
 /// Node 0 is a coordinator of one worker and one leaf, node 1 its worker.
-fn cluster_of(alloc: Global, input: &[u8]) -> Result<OpenCluster, Fail> {
+pub(crate) fn cluster_of(alloc: Global, input: &[u8]) -> Result<OpenCluster, Fail> {
     let tree = Tree::leaf(alloc)?;
     let coordinator = Coordinator::new(alloc, formula_of(alloc, input)?, tree, 1000, 1, 1)?;
     let worker = Worker::new(alloc, formula_of(alloc, input)?, WorkerNumber::new(1), 1)?;
@@ -61,7 +61,7 @@ fn deliver(
 }
 
 /// Announces evidence to the worker, and hands it over in one part.
-fn offer(
+pub(crate) fn offer(
     alloc: Global,
     cluster: &mut OpenCluster,
     answer: Answer,

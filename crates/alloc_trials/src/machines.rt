@@ -1,16 +1,17 @@
-//! The frames that complete a proof at a worker, and close the last leaf at a coordinator.
+//! The frames that complete a proof at a worker, and close the last leaf at a coordinator; clauses that are added at nodes that hold a
+//! verdict.
 
 use crate::call::{Answer, Call, Tried, try_twice};
 use crate::joining::{LEFT, RIGHT_WITH_DELETION};
 use crate::searches::FOUR;
 use coordinator_core::Coordinator;
-use dimacs::{Var, read};
+use dimacs::{Builder, Extension, Lit, Var, read};
 use frames::{
     Answer as Evidence, Attempt, Chunk, Finding, Frame, Outcome, ProofLength, WorkerNumber,
 };
 use icnf::Tree;
 use lrat_check::{Reaction, Verdict};
-use std::alloc::Global;
+use std::alloc::{AllocError, Global};
 use worker_core::Worker;
 
 /// A proof of the four clauses, in two parts.
@@ -22,6 +23,12 @@ const LAST: &[u8] = b" 3 4 0\n";
 
 /// The fragments of both leaves, joined.
 const JOINED: &[u8] = b"5 -1 0 2 4 0\n6 2 0 1 2 0\n7 1 2 0 1 0\n7 d 7 0\n8 1 0 6 3 0\n9 0 5 8 0\n";
+
+/// The proof, and the joined one, where a fifth clause stands behind the four.
+const RAISED_PROOF: &[u8] = b"6 2 0 1 2 0\n7 0 6 3 4 0\n";
+
+const RAISED_JOINED: &[u8] =
+    b"6 -1 0 2 4 0\n7 2 0 1 2 0\n8 1 2 0 1 0\n8 d 8 0\n9 1 0 7 3 0\n10 0 6 9 0\n";
 
 /// A worker that has all parts of a proof but the last.
 #[derive(Drop)]
@@ -35,6 +42,50 @@ struct AtWorker {
 struct AtCoordinator {
     coordinator: Coordinator,
     last: Frame,
+}
+
+/// A worker to which a clause is added, the verdict that it holds before, and the one that it is to hold then.
+#[derive(Drop)]
+struct ExtendedWorker {
+    worker: Worker,
+    extension: Extension,
+    old: Held,
+    new: Held,
+}
+
+/// The same of a coordinator.
+#[derive(Drop)]
+struct ExtendedCoordinator {
+    coordinator: Coordinator,
+    extension: Extension,
+    old: Held,
+    new: Held,
+}
+
+/// A verdict that is held.
+#[derive(Clone, Copy)]
+enum Held {
+    Text(&'static [u8]),
+    Values(&'static [bool]),
+}
+
+/// Whether this is held.
+fn holds(verdict: &Verdict, held: Held) -> bool {
+    match (verdict, held) {
+        (Verdict::Proof(text), Held::Text(wanted)) => text.as_slice() == wanted,
+        (Verdict::Model(values), Held::Values(wanted)) => values.values() == wanted,
+        _ => false,
+    }
+}
+
+/// What a reaction to an extension says, where one verdict was held before, and another one is to be held then.
+fn kept_of(reaction: Reaction, verdict: &Verdict, old: Held, new: Held) -> Answer {
+    match reaction {
+        Reaction::Taken if holds(verdict, new) => Answer::Said("the verdict is kept\n"),
+        Reaction::NoMemory if holds(verdict, old) => Answer::NoMemory,
+        Reaction::NoMemory => Answer::Changed,
+        _ => Answer::Said("the verdict is not kept\n"),
+    }
 }
 
 /// What a reaction says, where this proof is to be held.
@@ -63,6 +114,20 @@ impl Call for AtCoordinator {
     }
 }
 
+impl Call for ExtendedWorker {
+    fn make(&mut self) -> Answer {
+        let reaction = self.worker.extend(&self.extension, 2);
+        kept_of(reaction, self.worker.verdict(), self.old, self.new)
+    }
+}
+
+impl Call for ExtendedCoordinator {
+    fn make(&mut self) -> Answer {
+        let reaction = self.coordinator.extend(&self.extension, 2);
+        kept_of(reaction, self.coordinator.verdict(), self.old, self.new)
+    }
+}
+
 /// A part of the proof in session 1.
 fn part(alloc: Global, offset: u32, bytes: &[u8]) -> Option<Frame> {
     if bytes.is_empty() || bytes.len() > Chunk::LONGEST {
@@ -76,7 +141,8 @@ fn part(alloc: Global, offset: u32, bytes: &[u8]) -> Option<Frame> {
     })
 }
 
-pub(crate) fn last_part(alloc: Global) -> Option<Tried> {
+/// A worker that lacks the last part of the proof, and that part.
+fn before_the_last_part(alloc: Global) -> Option<AtWorker> {
     let formula = read(alloc, FOUR).ok()?;
     let mut worker = Worker::new(alloc, formula, WorkerNumber::new(1), 1).ok()?;
     let length = ProofLength::new(24);
@@ -89,7 +155,66 @@ pub(crate) fn last_part(alloc: Global) -> Option<Tried> {
     if worker.deliver(&announced) != Reaction::Taken || worker.deliver(&first) != Reaction::Taken {
         return None;
     }
-    Some(try_twice(&mut AtWorker { worker, last }))
+    Some(AtWorker { worker, last })
+}
+
+pub(crate) fn last_part(alloc: Global) -> Option<Tried> {
+    Some(try_twice(&mut before_the_last_part(alloc)?))
+}
+
+/// The clause `3`.
+fn clause_three(alloc: Global) -> Result<Extension, AllocError> {
+    let mut builder = Builder::new(alloc)?;
+    builder.push(Lit::positive(Var::new(3)))?;
+    builder.end_clause()?;
+    Ok(builder.finish_extension(3))
+}
+
+/// The clause `-3`.
+fn clause_not_three(alloc: Global) -> Result<Extension, AllocError> {
+    let mut builder = Builder::new(alloc)?;
+    builder.push(Lit::negative(Var::new(3)))?;
+    builder.end_clause()?;
+    Ok(builder.finish_extension(3))
+}
+
+pub(crate) fn extended_proof(alloc: Global) -> Option<Tried> {
+    let AtWorker { mut worker, last } = before_the_last_part(alloc)?;
+    let extension = clause_three(alloc).ok()?;
+    if worker.deliver(&last) != Reaction::Verdict {
+        return None;
+    }
+    Some(try_twice(&mut ExtendedWorker {
+        worker,
+        extension,
+        old: Held::Text(PROOF),
+        new: Held::Text(RAISED_PROOF),
+    }))
+}
+
+pub(crate) fn extended_assignment(alloc: Global) -> Option<Tried> {
+    let formula = read(alloc, b"p cnf 2 2\n1 0\n-2 0\n").ok()?;
+    let mut worker = Worker::new(alloc, formula, WorkerNumber::new(1), 1).ok()?;
+    let extension = clause_not_three(alloc).ok()?;
+    let announced = Frame::Verdict {
+        session: 1,
+        finding: Finding::Assignment { length: 2 },
+    };
+    let all = Frame::Part {
+        session: 1,
+        answer: Evidence::Assignment,
+        offset: 0,
+        bytes: Chunk::from_slice(alloc, b"\x01\x00").ok()?,
+    };
+    if worker.deliver(&announced) != Reaction::Taken || worker.deliver(&all) != Reaction::Verdict {
+        return None;
+    }
+    Some(try_twice(&mut ExtendedWorker {
+        worker,
+        extension,
+        old: Held::Values(&[true, false]),
+        new: Held::Values(&[true, false, false]),
+    }))
 }
 
 /// The attempt of worker 1 at a job of session 1.
@@ -154,7 +279,8 @@ fn of_two_leaves(alloc: Global) -> Option<Coordinator> {
     }
 }
 
-pub(crate) fn last_piece(alloc: Global) -> Option<Tried> {
+/// A coordinator whose leaves are closed but for one, and the piece that closes it.
+fn before_the_last_piece(alloc: Global) -> Option<AtCoordinator> {
     let mut coordinator = of_two_leaves(alloc)?;
     let left = piece(alloc, 1, LEFT)?;
     let last = piece(alloc, 2, RIGHT_WITH_DELETION)?;
@@ -163,5 +289,26 @@ pub(crate) fn last_piece(alloc: Global) -> Option<Tried> {
         return None;
     }
     announce(&mut coordinator, 2, RIGHT_WITH_DELETION)?;
-    Some(try_twice(&mut AtCoordinator { coordinator, last }))
+    Some(AtCoordinator { coordinator, last })
+}
+
+pub(crate) fn last_piece(alloc: Global) -> Option<Tried> {
+    Some(try_twice(&mut before_the_last_piece(alloc)?))
+}
+
+pub(crate) fn extended_join(alloc: Global) -> Option<Tried> {
+    let AtCoordinator {
+        mut coordinator,
+        last,
+    } = before_the_last_piece(alloc)?;
+    let extension = clause_three(alloc).ok()?;
+    if coordinator.deliver(&last) != Reaction::Verdict {
+        return None;
+    }
+    Some(try_twice(&mut ExtendedCoordinator {
+        coordinator,
+        extension,
+        old: Held::Text(JOINED),
+        new: Held::Text(RAISED_JOINED),
+    }))
 }

@@ -6,15 +6,18 @@ use Rattle.lrat_check.specs.declared.verdict.Reaction.{Reaction}
 use Rattle.lrat_check.specs.declared.verdict.Reaction.TheVariants as reaction
 use Rattle.frames.specs.declared.frame.Frame.{Frame}
 use Rattle.evidence.specs.Events.{Event, Delivered, Worked, Polled, Given, Reacted, Ignores}
+use Rattle.dimacs.specs.logic.Cnf.{Cnf}
+use Rattle.worker_core.specs.Extending.{ExtendsWorker}
+use Rattle.coordinator_core.specs.Extending.{ExtendsCoordinator}
 use Rattle.worker_core.specs.Laws as worker
 use Rattle.worker_core.specs.Worker.{WorkerState, WorkerStep}
 use Rattle.coordinator_core.specs.Laws as coordinator
 use Rattle.coordinator_core.specs.Coordinator.{CoordinatorState, CoordinatorStep}
 use Rattle.cluster.specs.declared.event.OpenEvent.{OpenEvent}
-use Rattle.cluster.specs.declared.event.OpenEvent.TheVariants.{Deliver, Work, Poll, Restart}
+use Rattle.cluster.specs.declared.event.OpenEvent.TheVariants.{Deliver, Work, Poll, Restart, Extend}
 use Rattle.cluster.specs.declared.node.Node.{Node}
 use Rattle.cluster.specs.declared.node.Node.TheVariants.{Worker, Coordinator}
-use Rattle.cluster.specs.OpenSchedule.{node_of, NodeStep, Delivers, Works, Polls, Restarts, Reacts, Happens, ChangesNothing}
+use Rattle.cluster.specs.OpenSchedule.{node_of, NodeStep, Delivers, Works, Polls, Restarts, Extends, Reacts, Happens, ChangesNothing}
 
 -- what the machines' laws say of it
 pub record Quiet : Type 0 where
@@ -33,6 +36,20 @@ given_quiet answer (inr is) = inr (ap Reacted is)
 taken_is_not : (X : Type 0) (answer : Reaction) → answer ≡ reaction.Taken → IsQuiet answer → X
 taken_is_not X answer is (inl q) = absurd cc
 taken_is_not X answer is (inr q) = absurd cc
+
+worker_nothing : (w : WorkerState) (x : Cnf) (number : ℕ) (answer : Reaction) (v : WorkerState) → ExtendsWorker w x number answer v → IsQuiet answer → v ≡ w
+worker_nothing w x number answer v (ExtendsWorker.too_large large a now) q = now
+worker_nothing w x number answer v (ExtendsWorker.taken limits held stays a now) q = taken_is_not (v ≡ w) answer a q
+worker_nothing w x number answer v (ExtendsWorker.no_memory limits a now) q = now
+
+coordinator_nothing : (c : CoordinatorState) (x : Cnf) (number : ℕ) (answer : Reaction) (d : CoordinatorState) → ExtendsCoordinator c x number answer d → IsQuiet answer → d ≡ c
+coordinator_nothing c x number answer d (ExtendsCoordinator.too_large large a now) q = now
+coordinator_nothing c x number answer d (ExtendsCoordinator.taken limits held stays a now) q = taken_is_not (d ≡ c) answer a q
+coordinator_nothing c x number answer d (ExtendsCoordinator.no_memory limits a now) q = now
+
+extends_nothing : (old : Node) (x : Cnf) (number : ℕ) (answer : Reaction) (new : Node) → Extends old x number answer new → IsQuiet answer → new ≡ old
+extends_nothing (Worker w) x number answer new (v, step, is) q = is ∙ ap Worker (worker_nothing w x number answer v step q)
+extends_nothing (Coordinator c) x number answer new (d, step, is) q = is ∙ ap Coordinator (coordinator_nothing c x number answer d step q)
 
 module _ (k : Quiet) where
   step_nothing : (old : Node) (event : Event) (answer : Reaction) (new : Node) → NodeStep old event (Reacted answer) new → IsQuiet answer → new ≡ old
@@ -62,6 +79,7 @@ module _ (k : Quiet) where
   reacts_nothing (Work node) old answer new step q = works_nothing old answer new step q
   reacts_nothing (Poll node worker) old answer new step q = polls_nothing old worker answer new step q
   reacts_nothing (Restart node number) old answer new step q = restarts_nothing old number answer new step q
+  reacts_nothing (Extend node x number) old answer new step q = extends_nothing old x number answer new step q
 
   pub happens_nothing : (old : List Node) (event : OpenEvent) (answer : Reaction) (new : List Node) → Happens old event answer new → ChangesNothing answer old new
   happens_nothing old event answer new happens q = go (slice_get old (node_of event)) refl happens

@@ -1,22 +1,26 @@
--- What every open schedule keeps: nodes are sound, and each has its formula.
-use Rattle.std.proofs.Common.{◌≡◌, ℕ, Option, None, Some, List, [], ◌∷◌, ◌++◌, length, Result, Ok, Err, slice_get, slice_set, get_or, MatchOption, refl, subst, sym, ap, ◌∙◌}
+-- What every open schedule keeps: nodes are sound, and each has its formula, with the clauses that it took.
+use Rattle.std.proofs.Common.{◌≡◌, ℕ, zero, suc, Option, None, Some, List, [], ◌∷◌, ◌++◌, length, Result, Ok, Err, slice_get, slice_set, MatchOption, refl, subst, sym, ap, ◌∙◌}
 use Rattle.std.proofs.lemmas.List.Elements.{All-set}
 use Rattle.std.proofs.lemmas.Option.{slice_get_within, get_or_from_slice_get}
-use Rattle.std.proofs.Math.Seq.{map-set_same}
+use Rattle.dimacs.specs.logic.Cnf.{Cnf}
 use Rattle.lrat_check.specs.Verdicts.{Right}
 use Rattle.lrat_check.specs.declared.verdict.Reaction.{Reaction}
 use Rattle.lrat_check.specs.declared.verdict.Reaction.TheVariants as reaction
 use Rattle.evidence.specs.Events.{Event, Delivered, Worked, Polled, Given, Reacted, Sent, Ignores, given_by}
 use Rattle.frames.specs.declared.frame.Frame.{Frame}
+use Rattle.evidence.specs.Keeping.{formula_after}
+use Rattle.worker_core.specs.Extending.{ExtendsWorker}
 use Rattle.worker_core.specs.Worker.{WorkerState, WorkerStep}
+use Rattle.coordinator_core.specs.Extending.{ExtendsCoordinator}
 use Rattle.coordinator_core.specs.Coordinator.{CoordinatorState, CoordinatorStep, new_coordinator}
 use Rattle.coordinator_core.specs.Invariant.{IsCoordinator}
 use Rattle.cluster.specs.declared.event.OpenEvent.{OpenEvent}
-use Rattle.cluster.specs.declared.event.OpenEvent.TheVariants.{Deliver, Work, Poll, Restart}
+use Rattle.cluster.specs.declared.event.OpenEvent.TheVariants.{Deliver, Work, Poll, Restart, Extend}
 use Rattle.cluster.specs.declared.node.Node.{Node}
 use Rattle.cluster.specs.declared.node.Node.TheVariants.{Worker, Coordinator}
+use Rattle.cluster.specs.Growing.{formula_then, changed_at, formulas_then, FormulasAlong}
 use Rattle.cluster.specs.Nodes.{formula_of, IsSound, AreSound, formulas}
-use Rattle.cluster.specs.OpenSchedule.{node_of, NodeStep, Delivers, Works, Polls, Restarts, restarted, Reacts, Happens, Runs}
+use Rattle.cluster.specs.OpenSchedule.{node_of, NodeStep, Delivers, Works, Polls, Restarts, Extends, restarted, Reacts, Happens, Runs}
 use Rattle.cluster.specs.inner.OpenSchedule.{answer_to}
 
 -- what the machines keep, each by itself
@@ -25,6 +29,10 @@ pub record Keeping : Type 0 where
   pub worker_formula : (old : WorkerState) (event : Event) (given : Given) (new : WorkerState) → WorkerStep old event given new → new.formula ≡ old.formula
   pub coordinator : (old : CoordinatorState) (event : Event) (given : Given) (new : CoordinatorState) → IsCoordinator old → CoordinatorStep old event given new → IsCoordinator new
   pub coordinator_formula : (old : CoordinatorState) (event : Event) (given : Given) (new : CoordinatorState) → CoordinatorStep old event given new → new.formula ≡ old.formula
+  pub longer_worker : (old : WorkerState) (x : Cnf) (number : ℕ) (answer : Reaction) (new : WorkerState) → ExtendsWorker old x number answer new → Right old.formula old.verdict → Right new.formula new.verdict
+  pub longer_worker_formula : (old : WorkerState) (x : Cnf) (number : ℕ) (answer : Reaction) (new : WorkerState) → ExtendsWorker old x number answer new → new.formula ≡ formula_after x answer old.formula
+  pub longer_coordinator : (old : CoordinatorState) (x : Cnf) (number : ℕ) (answer : Reaction) (new : CoordinatorState) → IsCoordinator old → ExtendsCoordinator old x number answer new → IsCoordinator new
+  pub longer_coordinator_formula : (old : CoordinatorState) (x : Cnf) (number : ℕ) (answer : Reaction) (new : CoordinatorState) → ExtendsCoordinator old x number answer new → new.formula ≡ formula_after x answer old.formula
   pub anew : (c : CoordinatorState) (session : ℕ) → IsCoordinator c → IsCoordinator (new_coordinator c.formula c.planted c.limit (length c.jobs) session)
 
 -- a node is as sound as it was, and has its formula
@@ -32,8 +40,37 @@ pub record Keeps (old new : Node) : Type 0 where
   pub sound : IsSound old → IsSound new
   pub formula : formula_of new ≡ formula_of old
 
+-- or the one that an event leaves it
+pub record Goes (event : OpenEvent) (answer : Reaction) (old new : Node) : Type 0 where
+  pub sound : IsSound old → IsSound new
+  pub formula : formula_of new ≡ formula_then event answer (formula_of old)
+
 stays : (old new : Node) → new ≡ old → Keeps old new
 stays old new same = record { sound = λ is. subst IsSound (sym same) is; formula = ap formula_of same }
+
+same_some : {X : Type 0} (a b : X) → Some a ≡ Some b → a ≡ b
+same_some a b e = cc
+
+none_some : {X : Type 0} (a : X) → None ≡ Some a → ⊥
+none_some a e = cc
+
+-- ---- the formulas of all nodes
+changed_same : (k : ℕ) (change : Cnf → Cnf) (Fs : List Cnf) → ((F : Cnf) → change F ≡ F) → changed_at k change Fs ≡ Fs
+changed_same k change [] same = refl
+changed_same zero change (F ∷ Fs) same = ap (λ (G : Cnf). G ∷ Fs) (same F)
+changed_same (suc k) change (F ∷ Fs) same = ap (λ (Gs : List Cnf). F ∷ Gs) (changed_same k change Fs same)
+
+changed_set : (nodes : List Node) (k : ℕ) (n m : Node) (change : Cnf → Cnf) → slice_get nodes k ≡ Some n → formula_of m ≡ change (formula_of n) → formulas (slice_set nodes k m) ≡ changed_at k change (formulas nodes)
+changed_set [] k n m change there now = absurd (none_some n there)
+changed_set (a ∷ nodes) zero n m change there now = ap (λ (F : Cnf). F ∷ formulas nodes) (now ∙ ap (λ (b : Node). change (formula_of b)) (sym (same_some a n there)))
+changed_set (a ∷ nodes) (suc k) n m change there now = ap (λ (Fs : List Cnf). formula_of a ∷ Fs) (changed_set nodes k n m change there now)
+
+ignored_keeps : (event : OpenEvent) (F : Cnf) → formula_then event reaction.Ignored F ≡ F
+ignored_keeps (Deliver node bytes) F = refl
+ignored_keeps (Work node) F = refl
+ignored_keeps (Poll node worker) F = refl
+ignored_keeps (Restart node number) F = refl
+ignored_keeps (Extend node x number) F = refl
 
 module _ (k : Keeping) where
   step_keeps : (old : Node) (event : Event) (given : Given) (new : Node) → NodeStep old event given new → Keeps old new
@@ -63,13 +100,20 @@ module _ (k : Keeping) where
   restarts_keeps old number answer new (Restarts.anew is now) = subst (Keeps old) (sym now) (anew_keeps old number)
   restarts_keeps old number answer new (Restarts.no_memory c at is same) = stays old new same
 
-  reacts_keeps : (event : OpenEvent) (old : Node) (answer : Reaction) (new : Node) → Reacts event old answer new → Keeps old new
-  reacts_keeps (Deliver node bytes) old answer new step = delivers_keeps old bytes answer new step
-  reacts_keeps (Work node) old answer new step = works_keeps old answer new step
-  reacts_keeps (Poll node worker) old answer new step = polls_keeps old worker answer new step
-  reacts_keeps (Restart node number) old answer new step = restarts_keeps old number answer new step
+  extends_goes : (node : ℕ) (x : Cnf) (number : ℕ) (old : Node) (answer : Reaction) (new : Node) → Extends old x number answer new → Goes (Extend node x number) answer old new
+  extends_goes node x number (Worker w) answer new (v, step, is) =
+      subst (Goes (Extend node x number) answer (Worker w)) (sym is) (record { sound = k.longer_worker w x number answer v step; formula = k.longer_worker_formula w x number answer v step })
+  extends_goes node x number (Coordinator c) answer new (d, step, is) =
+      subst (Goes (Extend node x number) answer (Coordinator c)) (sym is) (record { sound = λ valid. k.longer_coordinator c x number answer d valid step; formula = k.longer_coordinator_formula c x number answer d step })
 
-  -- an event leaves all nodes sound, and each its formula
+  reacts_goes : (event : OpenEvent) (old : Node) (answer : Reaction) (new : Node) → Reacts event old answer new → Goes event answer old new
+  reacts_goes (Deliver node bytes) old answer new step = let h = delivers_keeps old bytes answer new step in record { sound = h.sound; formula = h.formula }
+  reacts_goes (Work node) old answer new step = let h = works_keeps old answer new step in record { sound = h.sound; formula = h.formula }
+  reacts_goes (Poll node worker) old answer new step = let h = polls_keeps old worker answer new step in record { sound = h.sound; formula = h.formula }
+  reacts_goes (Restart node number) old answer new step = let h = restarts_keeps old number answer new step in record { sound = h.sound; formula = h.formula }
+  reacts_goes (Extend node x number) old answer new step = extends_goes node x number old answer new step
+
+  -- an event leaves all nodes sound, and each its formula, with the clauses that it took
   happens_sound : (old : List Node) (event : OpenEvent) (answer : Reaction) (new : List Node) → Happens old event answer new → AreSound old → AreSound new
   happens_sound old event answer new happens sound = go (slice_get old (node_of event)) refl happens
     where
@@ -79,28 +123,28 @@ module _ (k : Keeping) where
       go None is ignores = subst AreSound (sym ignores.1) sound
       go (Some n) is (m, step, set) =
           let was : IsSound n = subst IsSound (get_or_from_slice_get old (node_of event) n n is) (sound (node_of event) n (slice_get_within old (node_of event) n is)) in
-          subst AreSound (sym set) (All-set IsSound old (node_of event) m ((reacts_keeps event n answer m step).sound was) sound)
+          subst AreSound (sym set) (All-set IsSound old (node_of event) m ((reacts_goes event n answer m step).sound was) sound)
 
-  happens_formulas : (old : List Node) (event : OpenEvent) (answer : Reaction) (new : List Node) → Happens old event answer new → formulas new ≡ formulas old
+  pub happens_formulas : (old : List Node) (event : OpenEvent) (answer : Reaction) (new : List Node) → Happens old event answer new → formulas new ≡ formulas_then event answer (formulas old)
   happens_formulas old event answer new happens = go (slice_get old (node_of event)) refl happens
     where
       go : (o : Option Node) → slice_get old (node_of event) ≡ o
           → MatchOption o (Ignores old answer new) (λ n. (m : Node) × Reacts event n answer m × (new ≡ slice_set old (node_of event) m))
-          → formulas new ≡ formulas old
-      go None is ignores = ap formulas ignores.1
-      go (Some n) is (m, step, set) =
-          let found : get_or old (node_of event) n ≡ n = get_or_from_slice_get old (node_of event) n n is in
-          let kept : formula_of m ≡ formula_of (get_or old (node_of event) n) = (reacts_keeps event n answer m step).formula ∙ sym (ap formula_of found) in
-          ap formulas set ∙ map-set_same formula_of old (node_of event) m n kept
+          → formulas new ≡ formulas_then event answer (formulas old)
+      go None is ignores =
+          ap formulas ignores.1 ∙ sym (changed_same (node_of event) (formula_then event reaction.Ignored) (formulas old) (ignored_keeps event))
+          ∙ ap (λ (r : Reaction). formulas_then event r (formulas old)) (sym ignores.0)
+      go (Some n) is (m, step, set) = ap formulas set ∙ changed_set old (node_of event) n m (formula_then event answer) is (reacts_goes event n answer m step).formula
 
-  -- a run leaves all nodes sound, and each its formula
+  -- so does a run
   pub runs_sound : (old : List Node) (events : List OpenEvent) (new : List Node) → Runs old events new → AreSound old → AreSound new
   runs_sound old [] new same sound = subst AreSound (sym same) sound
   runs_sound old (event ∷ events) new (answer, mid, happens, runs) sound = runs_sound mid events new runs (happens_sound old event answer mid happens sound)
 
-  pub runs_formulas : (old : List Node) (events : List OpenEvent) (new : List Node) → Runs old events new → formulas new ≡ formulas old
+  pub runs_formulas : (old : List Node) (events : List OpenEvent) (new : List Node) → Runs old events new → FormulasAlong (formulas old) events (formulas new)
   runs_formulas old [] new same = ap formulas same
-  runs_formulas old (event ∷ events) new (answer, mid, happens, runs) = runs_formulas mid events new runs ∙ happens_formulas old event answer mid happens
+  runs_formulas old (event ∷ events) new (answer, mid, happens, runs) =
+      (answer, subst (λ (Fs : List Cnf). FormulasAlong Fs events (formulas new)) (happens_formulas old event answer mid happens) (runs_formulas mid events new runs))
 
 -- a run goes on by one event
 pub runs_more : (old : List Node) (events : List OpenEvent) (mid : List Node) (event : OpenEvent) (answer : Reaction) (new : List Node)

@@ -1,4 +1,4 @@
--- A node: a worker or a coordinator, the formula that it was started with, and the verdict that it holds.
+-- A node: a worker or a coordinator, the formula that it has, and the verdict that it holds.
 use Rattle.std.specs.Prelude.{List, All, map}
 use Rattle.dimacs.specs.logic.Cnf.{Cnf}
 use Rattle.lrat_check.specs.Verdicts.{Right, IsTrueOf}

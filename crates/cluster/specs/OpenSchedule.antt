@@ -2,13 +2,16 @@
 use Rattle.std.specs.Prelude.{◌≡◌, ◌⊎◌, ℕ, List, [], ◌∷◌, length, MatchOption, slice_get, slice_set}
 use Rattle.lrat_check.specs.declared.verdict.Reaction.{Reaction}
 use Rattle.lrat_check.specs.declared.verdict.Reaction.TheVariants as reaction
+use Rattle.dimacs.specs.logic.Cnf.{Cnf}
 use Rattle.frames.specs.Stream.{BeginsWith, BeginsNoFrame}
 use Rattle.frames.specs.declared.frame.Frame.{Frame}
 use Rattle.evidence.specs.Events.{Event, Delivered, Worked, Polled, Given, Reacted, Sent, Ignores}
+use Rattle.worker_core.specs.Extending.{ExtendsWorker}
 use Rattle.worker_core.specs.Worker.{WorkerState, WorkerStep, new_worker}
+use Rattle.coordinator_core.specs.Extending.{ExtendsCoordinator}
 use Rattle.coordinator_core.specs.Coordinator.{CoordinatorState, CoordinatorStep, IsWorker, new_coordinator}
 use Rattle.cluster.specs.declared.event.OpenEvent.{OpenEvent}
-use Rattle.cluster.specs.declared.event.OpenEvent.TheVariants.{Deliver, Work, Poll, Restart}
+use Rattle.cluster.specs.declared.event.OpenEvent.TheVariants.{Deliver, Work, Poll, Restart, Extend}
 use Rattle.cluster.specs.declared.node.Node.{Node}
 use Rattle.cluster.specs.declared.node.Node.TheVariants.{Worker, Coordinator}
 
@@ -53,12 +56,18 @@ pub data Restarts (old : Node) (number : ℕ) (answer : Reaction) (new : Node) :
   -- no room for what a coordinator begins with
   no_memory : (c : CoordinatorState) → old ≡ Coordinator c → answer ≡ reaction.NoMemory → new ≡ old → Restarts old number answer new
 
+-- Clauses are added at a node, which goes on under a number.
+abbrev pub Extends : Node → Cnf → ℕ → Reaction → Node → Type 0
+Extends (Worker w) x number answer new = (v : WorkerState) × ExtendsWorker w x number answer v × (new ≡ Worker v)
+Extends (Coordinator c) x number answer new = (d : CoordinatorState) × ExtendsCoordinator c x number answer d × (new ≡ Coordinator d)
+
 -- the node at which an event happens
 abbrev pub node_of : OpenEvent → ℕ
 node_of (Deliver node bytes) = node
 node_of (Work node) = node
 node_of (Poll node worker) = node
 node_of (Restart node number) = node
+node_of (Extend node x number) = node
 
 -- the event may take its node from old to new with this reaction
 abbrev pub Reacts : OpenEvent → Node → Reaction → Node → Type 0
@@ -66,6 +75,7 @@ Reacts (Deliver node bytes) old answer new = Delivers old bytes answer new
 Reacts (Work node) old answer new = Works old answer new
 Reacts (Poll node worker) old answer new = Polls old worker answer new
 Reacts (Restart node number) old answer new = Restarts old number answer new
+Reacts (Extend node x number) old answer new = Extends old x number answer new
 
 -- the event leaves its node as that node reacts, and no other changes; where there is no such node, it is ignored
 abbrev pub Happens : List Node → OpenEvent → Reaction → List Node → Type 0

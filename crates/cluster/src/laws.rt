@@ -1,31 +1,40 @@
 //! Agreement: the law that stands over every open schedule.
 
 ghost use Rattle.std.specs.Prelude.{◌≡◌, List};
+ghost use Rattle.dimacs.specs.logic.Cnf.{Cnf};
 ghost use Rattle.lrat_check.specs.declared.verdict.Reaction.{Reaction};
 ghost use Rattle.cluster.specs.declared.event.OpenEvent.{OpenEvent};
 ghost use Rattle.cluster.specs.declared.node.Node.{Node};
-ghost use Rattle.cluster.specs.Agreement.{Agree};
+ghost use Rattle.cluster.specs.Agreement.{Agree, AgreeOnMore};
+ghost use Rattle.cluster.specs.Growing.{AreGrown, FormulasAlong, formulas_then};
 ghost use Rattle.cluster.specs.Nodes.{AreSound, AreRight, AreTrue, formulas};
 ghost use Rattle.cluster.specs.OpenSchedule.{ChangesNothing, Happens, Runs};
 
-use coordinator_core::coordinators_keep_what_they_hold;
+use coordinator_core::{coordinators_keep_what_they_hold, extended_coordinators_are_sound};
 use lrat_check::{right_verdicts_agree, right_verdicts_are_true};
-use worker_core::workers_keep_what_they_hold;
+use worker_core::{extended_workers_hold_what_is_right, workers_keep_what_they_hold};
 
-/// Whatever events come to sound nodes: they stay sound, and each keeps its formula; what they hold is right, and true of it; and
-/// two nodes of one formula never hold verdicts that differ, at one moment or one later. An event that is ignored, or finds no memory,
-/// changes nothing.
+/// Whatever events come to sound nodes: they stay sound, and each keeps its formula but for the clauses that it takes; what they hold
+/// is right, and true of it; two nodes, each at its moment, never hold verdicts that differ where their formulas are equal then; and
+/// where one holds a proof, no other, earlier or later, holds an assignment of that formula with more clauses. An event that is
+/// ignored, or finds no memory, changes nothing.
 pub fn verdicts_agree()
     ensures sound { (start later : List Node) (events : List OpenEvent) → AreSound start → Runs start events later → AreSound later }
-    ensures formulas { (start later : List Node) (events : List OpenEvent) → AreSound start → Runs start events later → formulas later ≡ formulas start }
+    ensures formula { (old new : List Node) (event : OpenEvent) (answer : Reaction) → Happens old event answer new → formulas new ≡ formulas_then event answer (formulas old) }
+    ensures formulas { (start later : List Node) (events : List OpenEvent) → Runs start events later → FormulasAlong (formulas start) events (formulas later) }
+    ensures behind { (old new : List Cnf) (events : List OpenEvent) → FormulasAlong old events new → AreGrown old new }
     ensures right { (nodes : List Node) → AreSound nodes → AreRight nodes }
     ensures truth { (nodes : List Node) → AreSound nodes → AreTrue nodes }
     ensures agree { (start early late : List Node) (before after : List OpenEvent)
         → AreSound start → Runs start before early → Runs early after late → Agree early late }
+    ensures grown { (start early late : List Node) (before after : List OpenEvent)
+        → AreSound start → Runs start before early → Runs early after late → AgreeOnMore early late }
     ensures nothing { (old : List Node) (event : OpenEvent) (answer : Reaction) (new : List Node) → Happens old event answer new → ChangesNothing answer old new }
 {
     right_verdicts_agree();
     right_verdicts_are_true();
     workers_keep_what_they_hold();
     coordinators_keep_what_they_hold();
+    extended_workers_hold_what_is_right();
+    extended_coordinators_are_sound();
 }

@@ -1,7 +1,7 @@
 //! Clusters of nodes under every schedule: what a node holds is right, and no two nodes of one formula disagree.
 //!
-//! What a layer above may rest on: whatever events come to the nodes of an [`OpenCluster`], each verdict is right and true of its
-//! node's formula, and nodes of one formula agree, at one moment or one later; and in a [`ClosedCluster`], whose nodes are handed their
+//! What a layer above may rest on: whatever events come to the nodes of an [`OpenCluster`], also where clauses are added to them, each
+//! verdict is right and true of the formula that its node has then, and nodes of one formula, each at its moment, agree; and in a [`ClosedCluster`], whose nodes are handed their
 //! own frames alone, no reaction is a refusal.
 #![tactic(auto)]
 

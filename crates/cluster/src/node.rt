@@ -4,12 +4,12 @@ ghost use Rattle.std.specs.Prelude.{◌≡◌, MatchBool};
 ghost use Rattle.evidence.specs.Events.{Delivered, Polled, Reacted, given_by};
 ghost use Rattle.lrat_check.specs.Verdicts.{Right};
 ghost use Rattle.cluster.specs.Nodes.{formula_of, verdict_of, IsSound};
-ghost use Rattle.cluster.specs.OpenSchedule.{NodeStep, Delivers, Works, Polls, Restarts, Reacts, HasNoWorker};
+ghost use Rattle.cluster.specs.OpenSchedule.{NodeStep, Delivers, Extends, Works, Polls, Restarts, Reacts, HasNoWorker};
 ghost use Rattle.cluster.specs.inner.OpenSchedule.{MaySendTo, answer_to};
 
 use crate::event::OpenEvent;
 use coordinator_core::Coordinator;
-use dimacs::Formula;
+use dimacs::{Extension, Formula};
 use frames::{Frame, WorkerNumber, first_frame};
 use lrat_check::{Reaction, Verdict};
 use std::alloc::{AllocError, Global};
@@ -33,7 +33,7 @@ impl Drop for Node {
 }
 
 impl Node {
-    /// The formula that it was started with.
+    /// The formula that it has: the one that it was started with, with the clauses that it took behind.
     pub fn formula(&self) -> &Formula
         ensures { result.now ≡ formula_of self.now }
     {
@@ -139,6 +139,18 @@ impl Node {
         }
     }
 
+    /// Clauses are added to its formula: it begins anew from the formula with these, under another number, a coordinator with a tree of
+    /// one leaf, and keeps of its verdict what is right for that formula. `Refused(4)` where the formula would be above a limit;
+    /// then, and where there is no memory, it stays as it was.
+    pub fn extend(&mut self, extension: &Extension, number: u64) -> Reaction
+        ensures { Extends self.old extension.now number result self.new }
+    {
+        match self {
+            Node::Worker(worker) => worker.extend(extension, number),
+            Node::Coordinator(coordinator) => coordinator.extend(extension, number),
+        }
+    }
+
     /// An event comes to it.
     pub(crate) fn react(&mut self, alloc: Global, event: &OpenEvent) -> Reaction
         ensures reacts { Reacts event.now self.old result self.new }
@@ -158,6 +170,11 @@ impl Node {
             OpenEvent::Work { .. } => self.work(),
             OpenEvent::Poll { worker, .. } => self.poll(*worker),
             OpenEvent::Restart { number, .. } => self.restart(*number),
+            OpenEvent::Extend {
+                extension,
+                number,
+                ..
+            } => self.extend(extension, *number),
         }
     }
 }

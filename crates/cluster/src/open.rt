@@ -1,7 +1,8 @@
 //! A cluster under an open schedule: any events, in any order, with any bytes.
 
 ghost use Rattle.std.specs.Prelude.{◌≡◌, slice_get, option_copied, option_map};
-ghost use Rattle.cluster.specs.Agreement.{Agree};
+ghost use Rattle.cluster.specs.Agreement.{Agree, AgreeOnMore};
+ghost use Rattle.cluster.specs.Growing.{FormulasAlong, formulas_then};
 ghost use Rattle.cluster.specs.Nodes.{AreSound, AreRight, AreTrue, formulas, verdict_of};
 ghost use Rattle.cluster.specs.OpenSchedule.{ChangesNothing, Happens, Runs};
 
@@ -61,15 +62,16 @@ impl OpenCluster {
         OpenCluster { alloc, nodes }
     }
 
-    /// One event, and what its node answers. What the nodes hold stays right, and agrees with all that they held before. An event that
-    /// finds no memory changes nothing.
+    /// One event, and what its node answers. What the nodes hold is right for the formulas that they have then, and agrees with all
+    /// that they held before of the same formulas. An event that finds no memory changes nothing.
     pub fn step(&mut self, event: &OpenEvent) -> Reaction
         ensures happens { Happens self.old event.now result self.new }
         ensures nothing { ChangesNothing result self.old self.new }
-        ensures formulas { formulas self.new ≡ formulas self.old }
+        ensures formulas { formulas self.new ≡ formulas_then event.now result (formulas self.old) }
         ensures right { AreRight self.new }
         ensures truth { AreTrue self.new }
         ensures agree { Agree self.old self.new }
+        ensures grown { AgreeOnMore self.old self.new }
         ensures sound { AreSound self.new }
     {
         verdicts_agree();
@@ -79,10 +81,11 @@ impl OpenCluster {
     /// One event after the other.
     pub fn run(&mut self, events: &[OpenEvent])
         ensures runs { Runs self.old events.now self.new }
-        ensures formulas { formulas self.new ≡ formulas self.old }
+        ensures formulas { FormulasAlong (formulas self.old) events.now (formulas self.new) }
         ensures right { AreRight self.new }
         ensures truth { AreTrue self.new }
         ensures agree { Agree self.old self.new }
+        ensures grown { AgreeOnMore self.old self.new }
         ensures sound { AreSound self.new }
     {
         verdicts_agree();

@@ -9,3 +9,4 @@ pub mod SplitStates
 pub mod PollLemmas
 pub mod TableLemmas
 pub mod StepLemmas
+pub mod ExtendingLemmas

@@ -1,5 +1,6 @@
 pub mod Coordinator
 pub mod Examples
+pub mod Extending
 pub mod Invariant
 pub mod Laws
 pub mod Splits

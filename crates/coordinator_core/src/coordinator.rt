@@ -188,8 +188,8 @@ impl Coordinator {
         Ok(())
     }
 
-    /// Whether it gave up: a leaf whose search met its limit cannot be split, or the joined proof is too long. Only a restart changes
-    /// that.
+    /// Whether it gave up: a leaf whose search met its limit cannot be split, or the joined proof is too long. Only a restart, or
+    /// clauses that are added, change that.
     #[inline]
     pub fn stuck(&self) -> bool
         ensures { result ≡ self.now.stuck }

@@ -91,7 +91,7 @@ impl Coordinator {
     }
 
     /// Puts bytes to the evidence of a worker's job. Want of memory leaves all as it was.
-    fn extend(&mut self, worker: WorkerNumber, more: &[u8]) -> Result<(), AllocError>
+    fn put_bytes(&mut self, worker: WorkerNumber, more: &[u8]) -> Result<(), AllocError>
         requires fits { (j : Job) (x : Fixed) → job_at self.old worker ≡ Some j → j.fixed ≡ Some x → length x.evidence.bytes + length more.now ≤ length_of x.evidence.finding }
         ensures ok { OnOk result ((j : Job) → job_at self.old worker ≡ Some j → self.new ≡ with_job self.old worker (Some (record j { fixed = lengthened j.fixed more.now }))) }
         ensures err { OnErr result (self.new ≡ self.old) }
@@ -151,7 +151,7 @@ impl Coordinator {
         if !self.comes_next(attempt, offset, bytes.len()) {
             return Reaction::Ignored;
         }
-        if self.extend(attempt.worker, bytes.as_slice()).is_err() {
+        if self.put_bytes(attempt.worker, bytes.as_slice()).is_err() {
             return Reaction::NoMemory;
         }
         match self.settle(attempt.worker) {

@@ -1,7 +1,7 @@
 //! The coordinator: it gives the leaves of a tree to workers, checks what they found, and hands out the verdict.
 //!
-//! What a layer above may rest on: each call is a step of the written rules (`CoordinatorStep`), for whatever frames come, and what is
-//! held is right for the formula. Where memory is refused, a call answers that and leaves all as it was.
+//! What a layer above may rest on: each call is a step of the written rules (`CoordinatorStep`; where clauses are added,
+//! `ExtendsCoordinator`), for whatever frames come, and what is held is right for the formula. Where memory is refused, a call answers that and leaves all as it was.
 #![tactic(auto)]
 
 mod answering;
@@ -10,6 +10,7 @@ mod coordinator;
 mod delivering;
 mod desks;
 mod examples;
+mod extending;
 mod gathering;
 mod laws;
 mod leaves;
@@ -20,4 +21,4 @@ mod wanting;
 pub use coordinator::Coordinator;
 pub use desks::{Fixed, Job, LeafState};
 pub use examples::worked_splits;
-pub use laws::coordinators_keep_what_they_hold;
+pub use laws::{coordinators_keep_what_they_hold, extended_coordinators_are_sound};

@@ -73,6 +73,12 @@ above f x xs more places ends l many h =
     let n = counts f x xs more places ends l in
     many (few.0, few.1, omega (arith, few.2, n.0, n.1))
 
+-- lists that are few make a formula
+pub few_lie : (f x : Cnf) (xs more : List Literal) (places ends : List ℕ) → Lie f x xs more places ends → AreFew f x xs more → IsFormula f → AreWithin x.vars x.clauses → IsFormula (extended f x)
+few_lie f x xs more places ends l few h within =
+    let n = counts f x xs more places ends l in
+    few_is_formula f x h within few.0 few.1 (omega (arith, few.2, n.0, n.1))
+
 -- the lists of the extended formula
 pub record IsExtended (f x : Cnf) (vars : ℕ) (all : List Literal) (ends : List ℕ) : Type 0 where
   pub formula : IsFormula (extended f x)
@@ -84,8 +90,7 @@ pub record IsExtended (f x : Cnf) (vars : ℕ) (all : List Literal) (ends : List
 pub is_extended : (f x : Cnf) (xs more : List Literal) (places ends : List ℕ) → Lie f x xs more places ends → AreFew f x xs more → IsFormula f → AreWithin x.vars x.clauses
     → (vars : ℕ) (all : List Literal) (behind : List ℕ) → vars ≡ max f.vars x.vars → Fills all behind → parts all behind ≡ parts xs places ++ parts more ends → IsExtended f x vars all behind
 is_extended f x xs more places ends l few h within vars all behind most fills joined =
-    let n = counts f x xs more places ends l in
-    let formula : IsFormula (extended f x) = few_is_formula f x h within few.0 few.1 (omega (arith, few.2, n.0, n.1)) in
+    let formula : IsFormula (extended f x) = few_lie f x xs more places ends l few h within in
     let clauses : parts all behind ≡ f.clauses ++ x.clauses = joined ∙ ap (λ (cs : List Clause). cs ++ parts more ends) l.clauses ∙ ap (λ (cs : List Clause). f.clauses ++ cs) l.more_clauses in
     let size = ap (λ (cs : List Clause). length cs) clauses in
     let total = ap literal_count clauses in

@@ -1,6 +1,6 @@
 //! Formulas in conjunctive normal form.
 
-ghost use Rattle.std.specs.Prelude.{◌≡◌, ◌↔◌, ◌<◌, ◌≤◌, [], length, slice_index_or, All, IfOk, IsTrue, MatchOption, vec_len};
+ghost use Rattle.std.specs.Prelude.{OnErr, ◌≡◌, ◌↔◌, ◌<◌, ◌≤◌, [], length, slice_index_or, All, IfOk, IsTrue, MatchOption, vec_len};
 ghost use Rattle.dimacs.specs.logic.Cnf.{IsFormula};
 ghost use Rattle.dimacs.specs.logic.Extension.{extended};
 ghost use Rattle.dimacs.specs.layout.Flat.{parts, Fills};
@@ -115,15 +115,17 @@ impl Formula {
     }
 
     /// The formula with the extension's clauses behind its own, over the greater number of variables; `None` where that would be
-    /// above a limit. It takes time in the size of both.
+    /// above a limit, which takes no memory. It takes time in the size of both.
     pub fn extended(
         &self,
         alloc: Global,
         extension: &Extension,
     ) -> Result<Option<Formula>, AllocError>
-        ensures { IfOk result (λ found. MatchOption found
+        ensures found { IfOk result (λ found. MatchOption found
             (¬ (IsFormula (extended self.now extension.now)))
             (λ f. (f ≡ extended self.now extension.now) × IsFormula (extended self.now extension.now))) }
+        // memory is wanting for a formula within the limits alone
+        ensures limits { OnErr result (IsFormula (extended self.now extension.now)) }
     {
         let (more, ends) = extension.parts();
         let vars = self.vars.max(extension.vars());

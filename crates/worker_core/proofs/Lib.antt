@@ -1,2 +1,3 @@
 pub mod DeliveryLemmas
 pub mod WorkingLemmas
+pub mod ExtendingLemmas

@@ -1,3 +1,4 @@
 pub mod Laws
+pub mod Extending
 pub mod Worker
 pub mod inner

@@ -1,12 +1,14 @@
 //! The worker: it takes tasks and searches, sends what it found, and collects a verdict that the coordinator announced.
 //!
 //! What a layer above may rest on: each call is one step of the relation `WorkerStep` of `specs/Worker`, the rules of a worker by
-//! cases on what happens; what a worker holds is right for its formula. Where a call finds no memory, nothing is changed.
+//! cases on what happens; where clauses are added, of `ExtendsWorker` of `specs/Extending`; what a worker holds is right for its formula.
+//! Where a call finds no memory, nothing is changed.
 #![tactic(auto)]
 
 mod candidate;
 mod collecting;
 mod delivering;
+mod extending;
 mod laws;
 mod polling;
 mod work;
@@ -14,6 +16,6 @@ mod worker;
 mod working;
 
 pub use candidate::Candidate;
-pub use laws::workers_keep_what_they_hold;
+pub use laws::{extended_workers_hold_what_is_right, workers_keep_what_they_hold};
 pub use work::Work;
 pub use worker::Worker;

@@ -17,3 +17,8 @@ pub returns-clause-agree : goal.returns-clause-agree
 returns-clause-agree c =
     c.verdicts_agree.ensures.agree c.args.self.now c.args.self.now c.loop-event.self-inside.nodes.items [] (take c.loop-event.event-index c.args.events.now)
     (subst AreSound c.self.view_is c.self.invariant) refl c.loop-event.invariant.0
+
+pub returns-clause-grown : goal.returns-clause-grown
+returns-clause-grown c =
+    c.verdicts_agree.ensures.grown c.args.self.now c.args.self.now c.loop-event.self-inside.nodes.items [] (take c.loop-event.event-index c.args.events.now)
+    (subst AreSound c.self.view_is c.self.invariant) refl c.loop-event.invariant.0

@@ -12,35 +12,35 @@ pub settle-requires : goal.settle-requires
 settle-requires c =
     let q = (c.comes_next.ensures c.args.bytes.now (sym c.len.ensures.value)).0 c.if-not-comes_next.false in
     let x : Fixed = record q.1 { evidence = with_bytes q.1.evidence c.args.bytes.now } in
-    let ok = from_ok ((j : Job) → job_at c.args.self.now c.args.attempt.now.worker ≡ Some j → c.extend.new.self ≡ with_job c.args.self.now c.args.attempt.now.worker (Some (record j { fixed = lengthened j.fixed c.as_slice.result.now }))) c.extend.result (sym c.is_err.ensures.value ∙ c.if-is_err.false) c.extend.ensures.ok in
-    let put : c.extend.new.self ≡ with_job c.args.self.now c.args.attempt.now.worker (Some (fixing q.0 x)) = piece_put c.args.self.now c.extend.new.self c.args.attempt.now.worker q.0 q.1 c.as_slice.result.now c.args.bytes.now (ok q.0 q.2.fetched.awaited.job) q.2.fetched.fixed c.as_slice.ensures in
+    let ok = from_ok ((j : Job) → job_at c.args.self.now c.args.attempt.now.worker ≡ Some j → c.put_bytes.new.self ≡ with_job c.args.self.now c.args.attempt.now.worker (Some (record j { fixed = lengthened j.fixed c.as_slice.result.now }))) c.put_bytes.result (sym c.is_err.ensures.value ∙ c.if-is_err.false) c.put_bytes.ensures.ok in
+    let put : c.put_bytes.new.self ≡ with_job c.args.self.now c.args.attempt.now.worker (Some (fixing q.0 x)) = piece_put c.args.self.now c.put_bytes.new.self c.args.attempt.now.worker q.0 q.1 c.as_slice.result.now c.args.bytes.now (ok q.0 q.2.fetched.awaited.job) q.2.fetched.fixed c.as_slice.ensures in
     let deciding = q.2.fetched.awaited.deciding in
-    (fixing q.0 x, x, fixed_now c.args.self.now c.extend.new.self c.args.attempt.now.worker q.0 x deciding q.2.fetched.awaited.job put)
+    (fixing q.0 x, x, fixed_now c.args.self.now c.put_bytes.new.self c.args.attempt.now.worker q.0 x deciding q.2.fetched.awaited.job put)
 
 pub returns-then-is_err : goal.returns-then-is_err
 returns-then-is_err c =
     let q = (c.comes_next.ensures c.args.bytes.now (sym c.len.ensures.value)).0 c.if-not-comes_next.false in
     let x : Fixed = record q.1 { evidence = with_bytes q.1.evidence c.args.bytes.now } in
-    let same = from_err (c.extend.new.self ≡ c.args.self.now) c.extend.result (sym c.is_err.ensures.value ∙ c.if-is_err.true) c.extend.ensures.err in
+    let same = from_err (c.put_bytes.new.self ≡ c.args.self.now) c.put_bytes.result (sym c.is_err.ensures.value ∙ c.if-is_err.true) c.put_bytes.ensures.err in
     DeliversPiece.appends q.0 q.1 q.2 (Gathers.no_memory (inl (omega (arith, c.len.ensures.above, c.len.ensures.value, length-append q.1.evidence.bytes c.args.bytes.now))) refl same)
 
 pub returns-in-NoMemory : goal.returns-in-NoMemory
 returns-in-NoMemory c =
     let q = (c.comes_next.ensures c.args.bytes.now (sym c.len.ensures.value)).0 c.if-not-comes_next.false in
     let x : Fixed = record q.1 { evidence = with_bytes q.1.evidence c.args.bytes.now } in
-    let ok = from_ok ((j : Job) → job_at c.args.self.now c.args.attempt.now.worker ≡ Some j → c.extend.new.self ≡ with_job c.args.self.now c.args.attempt.now.worker (Some (record j { fixed = lengthened j.fixed c.as_slice.result.now }))) c.extend.result (sym c.is_err.ensures.value ∙ c.if-is_err.false) c.extend.ensures.ok in
-    let put : c.extend.new.self ≡ with_job c.args.self.now c.args.attempt.now.worker (Some (fixing q.0 x)) = piece_put c.args.self.now c.extend.new.self c.args.attempt.now.worker q.0 q.1 c.as_slice.result.now c.args.bytes.now (ok q.0 q.2.fetched.awaited.job) q.2.fetched.fixed c.as_slice.ensures in
+    let ok = from_ok ((j : Job) → job_at c.args.self.now c.args.attempt.now.worker ≡ Some j → c.put_bytes.new.self ≡ with_job c.args.self.now c.args.attempt.now.worker (Some (record j { fixed = lengthened j.fixed c.as_slice.result.now }))) c.put_bytes.result (sym c.is_err.ensures.value ∙ c.if-is_err.false) c.put_bytes.ensures.ok in
+    let put : c.put_bytes.new.self ≡ with_job c.args.self.now c.args.attempt.now.worker (Some (fixing q.0 x)) = piece_put c.args.self.now c.put_bytes.new.self c.args.attempt.now.worker q.0 q.1 c.as_slice.result.now c.args.bytes.now (ok q.0 q.2.fetched.awaited.job) q.2.fetched.fixed c.as_slice.ensures in
     let deciding = q.2.fetched.awaited.deciding in
     DeliversPiece.appends q.0 q.1 q.2
-    (unsettled c.args.self.now c.extend.new.self c.settle.new.self c.shorten.new.self c.args.attempt.now.worker q.0 x c.settle.result (cut_to c.args.offset) deciding q.2.fetched.awaited.job put c.settle.ensures c.in-NoMemory.is c.shorten.ensures
+    (unsettled c.args.self.now c.put_bytes.new.self c.settle.new.self c.shorten.new.self c.args.attempt.now.worker q.0 x c.settle.result (cut_to c.args.offset) deciding q.2.fetched.awaited.job put c.settle.ensures c.in-NoMemory.is c.shorten.ensures
     (cut_back q.1 q.0.fixed c.args.offset c.args.bytes.now q.2.comes.next q.2.fetched.fixed))
 
 pub returns-in_default : goal.returns-in_default
 returns-in_default c =
     let q = (c.comes_next.ensures c.args.bytes.now (sym c.len.ensures.value)).0 c.if-not-comes_next.false in
     let x : Fixed = record q.1 { evidence = with_bytes q.1.evidence c.args.bytes.now } in
-    let ok = from_ok ((j : Job) → job_at c.args.self.now c.args.attempt.now.worker ≡ Some j → c.extend.new.self ≡ with_job c.args.self.now c.args.attempt.now.worker (Some (record j { fixed = lengthened j.fixed c.as_slice.result.now }))) c.extend.result (sym c.is_err.ensures.value ∙ c.if-is_err.false) c.extend.ensures.ok in
-    let put : c.extend.new.self ≡ with_job c.args.self.now c.args.attempt.now.worker (Some (fixing q.0 x)) = piece_put c.args.self.now c.extend.new.self c.args.attempt.now.worker q.0 q.1 c.as_slice.result.now c.args.bytes.now (ok q.0 q.2.fetched.awaited.job) q.2.fetched.fixed c.as_slice.ensures in
+    let ok = from_ok ((j : Job) → job_at c.args.self.now c.args.attempt.now.worker ≡ Some j → c.put_bytes.new.self ≡ with_job c.args.self.now c.args.attempt.now.worker (Some (record j { fixed = lengthened j.fixed c.as_slice.result.now }))) c.put_bytes.result (sym c.is_err.ensures.value ∙ c.if-is_err.false) c.put_bytes.ensures.ok in
+    let put : c.put_bytes.new.self ≡ with_job c.args.self.now c.args.attempt.now.worker (Some (fixing q.0 x)) = piece_put c.args.self.now c.put_bytes.new.self c.args.attempt.now.worker q.0 q.1 c.as_slice.result.now c.args.bytes.now (ok q.0 q.2.fetched.awaited.job) q.2.fetched.fixed c.as_slice.ensures in
     let deciding = q.2.fetched.awaited.deciding in
     DeliversPiece.appends q.0 q.1 q.2
-    (settled c.args.self.now c.extend.new.self c.settle.new.self c.args.attempt.now.worker q.0 x c.settle.result deciding q.2.fetched.awaited.job put c.settle.ensures c.in_default.not-NoMemory)
+    (settled c.args.self.now c.put_bytes.new.self c.settle.new.self c.args.attempt.now.worker q.0 x c.settle.result deciding q.2.fetched.awaited.job put c.settle.ensures c.in_default.not-NoMemory)

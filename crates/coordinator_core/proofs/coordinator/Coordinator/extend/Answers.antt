@@ -1,12 +1,22 @@
-use Rattle.std.proofs.Common.{sym, ◌∙◌}
-use Rattle.coordinator_core.proofs.GatherLemmas.{lengthened_fits, grown_ok, grown_err}
+use Rattle.std.proofs.Common.{subst}
+use Rattle.evidence.specs.Keeping.{IsGrown}
+use Rattle.evidence.proofs.KeepingLemmas.{grown_is, grown_right}
+use Rattle.coordinator_core.proofs.ExtendingLemmas.{begins_grown, grown_short}
+use Rattle.coordinator_core.specs.Coordinator.{CoordinatorState}
 use Rattle.coordinator_core.proofs.coordinator.Coordinator.extend.Goals as goal
 
-pub put_job-requires-clause-job : goal.put_job-requires-clause-job
-put_job-requires-clause-job c = record { given = c.in-Some.ensures.fair.given; fits = lengthened_fits c.in-Some.job.fixed c.extended-fixed.result.0 c.extended-fixed.result.1 c.args.more.now c.extended-fixed.ensures.ok c.extended-fixed.ensures.err (λ x e. c.requires.fits c.in-Some.job x (sym c.take_job.ensures.job ∙ c.in-Some.is) e) c.in-Some.ensures.fair.fits }
+pub begin_grown-requires-clause-right : goal.begin_grown-requires-clause-right
+begin_grown-requires-clause-right c = grown_right c.in-Ok-Some.field-0 c.in-Ok-Some.grown c.in-Ok-Some.field-0-is c.in-Ok-Some.ensures.right
 
-pub returns-clause-ok : goal.returns-clause-ok
-returns-clause-ok c = grown_ok c.args.self.now c.take_job.new.self c.put_job.new.self c.args.worker c.in-Some.job c.extended-fixed.result.0 c.extended-fixed.result.1 c.args.more.now c.take_job.ensures.now c.put_job.ensures (sym c.in-Some.is ∙ c.take_job.ensures.job) c.extended-fixed.ensures.ok
+pub begin_grown-requires-clause-short : goal.begin_grown-requires-clause-short
+begin_grown-requires-clause-short c =
+    grown_short c.self.inside.formula c.args.extension.now c.self.inside.verdict c.in-Ok-Some.grown
+    (grown_is c.self.inside.formula c.args.extension.now c.self.inside.verdict c.in-Ok-Some.field-0 c.in-Ok-Some.grown c.in-Ok-Some.field-0-is c.in-Ok-Some.ensures.kept)
+    (grown_right c.in-Ok-Some.field-0 c.in-Ok-Some.grown c.in-Ok-Some.field-0-is c.in-Ok-Some.ensures.right)
 
-pub returns-clause-err : goal.returns-clause-err
-returns-clause-err c = grown_err c.args.self.now c.take_job.new.self c.put_job.new.self c.args.worker c.in-Some.job c.extended-fixed.result.0 c.extended-fixed.result.1 c.take_job.ensures.now c.put_job.ensures (sym c.in-Some.is ∙ c.take_job.ensures.job) c.extended-fixed.ensures.err
+pub returns-in-Ok : goal.returns-in-Ok
+returns-in-Ok c =
+    begins_grown c.args.self.now c.args.extension.now c.args.session c.in-Ok-Some.grown c.begin_grown.new.self
+    (subst (λ (d : CoordinatorState). IsGrown d.formula c.args.extension.now d.verdict c.in-Ok-Some.grown) c.self.view_is
+    (grown_is c.self.inside.formula c.args.extension.now c.self.inside.verdict c.in-Ok-Some.field-0 c.in-Ok-Some.grown c.in-Ok-Some.field-0-is c.in-Ok-Some.ensures.kept))
+    c.in-Ok.ensures.ok

@@ -1,0 +1,5 @@
+use Rattle.worker_core.proofs.ExtendingLemmas.{extended_right}
+use Rattle.worker_core.proofs.laws.extended_workers_hold_what_is_right.Goals as goal
+
+pub returns-clause-right : goal.returns-clause-right
+returns-clause-right c = extended_right c.what_is_kept_is_right.ensures.right
