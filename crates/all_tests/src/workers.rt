@@ -227,7 +227,8 @@ fn an_assignment_of_no_variable_is_judged_at_once(rt: HostRuntime) -> Result<(),
     Ok(())
 }
 
-/// Delivers a proof byte by byte, each but the last being taken, which is to be answered so.
+/// Delivers a proof byte by byte, each but the last being taken, which is to be answered so. Now and then the worker works between two
+/// bytes, so that some are checked as they come, and others later.
 fn play_bytes(
     rt: &impl Abort,
     alloc: Global,
@@ -246,6 +247,9 @@ fn play_bytes(
             Reaction::Taken
         };
         play(rt, alloc, worker, &[(byte, answer)])?;
+        if i % 3 == 1 {
+            assert_eq!(rt; worker.work(), Reaction::Ignored);
+        }
     }
     Ok(())
 }

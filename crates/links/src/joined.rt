@@ -1,11 +1,14 @@
 //! A worker's end of its link, over TCP on the loopback device.
 
+ghost use Rattle.std.specs.Prelude.{◌≡◌};
+ghost use Rattle.links.specs.Linked.{stream_of};
+
 use crate::carrier::Carrier;
 use crate::link::{End, LinkFault};
-use crate::stream::{read_next, write_whole};
+use crate::stream::{connect, read_next, write_whole};
 use std::io;
 use std::io::{Read, Write};
-use std::net::{Ipv4Addr, Net, OpenStream, SocketAddr, TcpStream};
+use std::net::{Ipv4Addr, Net, OpenStream, SocketAddr};
 
 /// The end of the one worker of this process. The coordinator's end is elsewhere: its calls are refused.
 #[derive(Drop)]
@@ -15,18 +18,20 @@ pub struct Joined<S> {
 
 impl<S> Joined<S> {
     /// The worker's end of a connection.
-    pub fn new(stream: S) -> Joined<S> {
+    pub fn new(stream: S) -> Joined<S>
+        ensures { stream_of result ≡ stream }
+    {
         Joined { stream }
     }
 
-    /// Connects to a port of 127.0.0.1. No small packet waits for the next. An error is that of the connection.
+    /// Connects to a port of 127.0.0.1. No small packet waits for the next. Whether it is connected, and to whom, the operating system
+    /// decides: nothing is promised of either. An error is that of the connection.
     pub fn connect<R: Net<Stream = S>>(net: &R, port: u16) -> io::Result<Joined<S>>
     where
         S: Drop + OpenStream,
     {
-        let stream = TcpStream::connect(net, SocketAddr::from((Ipv4Addr::LOCALHOST, port)))?;
-        stream.set_nodelay(true)?;
-        Ok(Joined { stream })
+        let stream = connect(net, SocketAddr::from((Ipv4Addr::LOCALHOST, port)))?;
+        Ok(Joined::new(stream))
     }
 }
 

@@ -1,12 +1,15 @@
 //! Links over TCP on the loopback device.
 
+ghost use Rattle.std.specs.Prelude.{◌≡◌, IfOk};
+ghost use Rattle.links.specs.Linked.{pair_count};
+
 use crate::carrier::Carrier;
 use crate::link::{End, LinkFault};
-use crate::stream::{read_next, write_whole};
+use crate::stream::{connect, read_next, write_whole};
 use std::alloc::Global;
 use std::io;
 use std::io::{Read, Write};
-use std::net::{Ipv4Addr, Net, OpenListener, OpenStream, SocketAddr, TcpListener, TcpStream};
+use std::net::{Ipv4Addr, Net, OpenListener, OpenStream, SocketAddr, TcpListener};
 
 /// The two ends of one link.
 #[derive(Drop)]
@@ -30,8 +33,7 @@ fn connect_pair<R: Net>(
     listener: &R::Listener,
     at: SocketAddr,
 ) -> io::Result<Pair<R::Stream>> {
-    let worker = TcpStream::connect(net, at)?;
-    worker.set_nodelay(true)?;
+    let worker = connect(net, at)?;
     let own = worker.local_addr()?;
     for _ in 0..TRIES {
         let (coordinator, from) = listener.accept()?;
@@ -47,11 +49,12 @@ fn connect_pair<R: Net>(
 }
 
 impl<S> Loopback<S> {
-    /// Opens a listener at a free port of 127.0.0.1, and connects workers 1 to `workers` to it. An error is that of the listener or
-    /// of a connection.
+    /// Opens a listener at a free port of 127.0.0.1, and connects workers 1 to `workers` to it. Whether it can, and what the connections
+    /// carry, the operating system decides. An error is that of the listener or of a connection.
     pub fn open<R: Net<Stream = S>>(net: &R, alloc: Global, workers: u32) -> io::Result<Loopback<S>>
     where
         S: Drop,
+        ensures { IfOk result (λ l. pair_count l ≡ workers) }
     {
         let listener = TcpListener::bind(net, SocketAddr::from((Ipv4Addr::LOCALHOST, 0)))?;
         let at = listener.local_addr()?;

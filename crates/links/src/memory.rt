@@ -1,6 +1,7 @@
 //! Links in memory.
 
-ghost use Rattle.std.specs.Prelude.{◌≤◌, length};
+ghost use Rattle.std.specs.Prelude.{◌≡◌, ◌≤◌, [], length, replicate, IfOk};
+ghost use Rattle.links.specs.Linked.{under_way};
 
 use crate::carrier::Carrier;
 use crate::link::{End, LinkFault};
@@ -29,8 +30,10 @@ pub struct Memory {
 }
 
 impl Memory {
-    /// The links of workers 1 to `workers`.
-    pub fn new(alloc: Global, workers: u32) -> Result<Memory, AllocError> {
+    /// The links of workers 1 to `workers`, over which nothing is on its way. An error is want of memory.
+    pub fn new(alloc: Global, workers: u32) -> Result<Memory, AllocError>
+        ensures { IfOk result (λ m. under_way m ≡ replicate workers ([], [])) }
+    {
         let mut wires = Vec::new(alloc);
         for _ in 0..workers {
             wires.push(Wire {

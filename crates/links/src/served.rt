@@ -1,6 +1,8 @@
 //! The coordinator's ends of the links of its workers, over connections that were accepted.
 
-ghost use Rattle.std.specs.Prelude.{◌≤◌, length, IfOk};
+ghost use Rattle.std.specs.Prelude.{◌≡◌, ◌<◌, ◌≤◌, ◌+◌, ◌-◌, ◌⊎◌, ◌↔◌, true, false, length, replicate, set, IfOk, IsOk, OnOk, OnErr, IsSome, IfSome, IfNone, is_some};
+ghost use Rattle.std.specs.List.{list_all};
+ghost use Rattle.links.specs.Linked.{linked_of, is_missing, IsOneOf};
 
 use crate::carrier::Carrier;
 use crate::link::{End, LinkFault};
@@ -33,6 +35,22 @@ fn hand_in(bytes: &[u8], room: &mut [u8]) -> usize
     count
 }
 
+fn are_linked<S>(ends: &[Option<Linked<S>>]) -> bool
+    ensures { result ≡ list_all (λ e. is_some e) ends.now }
+{
+    ends.iter().all(|end| end.is_some())
+}
+
+/// The place of a worker among so many.
+fn place_of(worker: u32, count: usize) -> Option<usize>
+    ensures place { IfSome result (λ place. (place < count) × (worker ≡ place + 1)) }
+    ensures some { IsSome result ↔ IsOneOf count worker }
+    ensures none { IfNone result ((worker ≡ 0) ⊎ (count < worker)) }
+{
+    let place = worker.checked_sub(1)? as usize;
+    if place < count { Some(place) } else { None }
+}
+
 impl<S: Read> Linked<S> {
     /// The early bytes come first.
     fn fetch(&mut self, room: &mut [u8]) -> Result<usize, LinkFault>
@@ -48,10 +66,11 @@ impl<S: Read> Linked<S> {
 }
 
 impl<S> Served<S> {
-    /// Workers 1 to `workers`, of whom none is linked.
+    /// Workers 1 to `workers`, of whom none is linked. An error is want of memory.
     pub fn new(alloc: Global, workers: u32) -> Result<Served<S>, AllocError>
     where
         S: Drop,
+        ensures { IfOk result (λ s. linked_of s ≡ replicate workers false) }
     {
         let mut ends = Vec::new(alloc);
         for _ in 0..workers {
@@ -69,28 +88,35 @@ impl<S> Served<S> {
     }
 
     /// Whether a worker of this number is waited for.
-    pub fn lacks(&self, worker: u32) -> bool {
-        match worker.checked_sub(1) {
-            Some(place) => match self.ends.get(place as usize) {
-                Some(None) => true,
-                _ => false,
-            },
+    pub fn lacks(&self, worker: u32) -> bool
+        ensures { result ≡ is_missing (linked_of self.now) worker }
+    {
+        match place_of(worker, self.ends.len()) {
+            Some(place) => self.ends[place].is_none(),
             None => false,
         }
     }
 
     /// Whether every worker is linked.
-    pub fn is_complete(&self) -> bool {
-        self.ends.iter().all(|end| end.is_some())
+    pub fn is_complete(&self) -> bool
+        ensures { result ≡ list_all (λ b. b) (linked_of self.now) }
+    {
+        are_linked(&self.ends)
     }
 
-    /// Links a worker by its connection, from which these bytes were read already.
+    /// Links a worker by its connection, from which these bytes were read already; one that is linked gets this connection in the place of
+    /// its own. It is refused where there is no worker of this number, and then nothing changes.
     pub fn link(&mut self, worker: u32, stream: S, early: Vec<u8>) -> Result<(), LinkFault>
     where
         S: Drop,
+        ensures ok { OnOk result (linked_of self.new ≡ set (linked_of self.old) (worker - 1) true) }
+        ensures number { IsOk result ↔ IsOneOf (length (linked_of self.old)) worker }
+        ensures err { OnErr result (self.new ≡ self.old) }
     {
-        let end = self.end(End::Coordinator(worker))?;
-        *end = Some(Linked {
+        let Some(place) = place_of(worker, self.ends.len()) else {
+            return Err(LinkFault);
+        };
+        self.ends[place] = Some(Linked {
             stream,
             early,
             handed: 0,

@@ -3,7 +3,16 @@
 ghost use Rattle.std.specs.Prelude.{◌≤◌, length, IfOk};
 
 use crate::link::LinkFault;
+use std::io;
 use std::io::{ErrorKind, Read, Write};
+use std::net::{Net, OpenStream, SocketAddr, TcpStream};
+
+/// Connects to an address. No small packet waits for the next.
+pub(crate) fn connect<R: Net>(net: &R, at: SocketAddr) -> io::Result<R::Stream> {
+    let stream = TcpStream::connect(net, at)?;
+    stream.set_nodelay(true)?;
+    Ok(stream)
+}
 
 /// Reads what comes next; 0 bytes mean the end. A read that a signal interrupted is tried again.
 pub(crate) fn read_next<S: Read>(stream: &mut S, room: &mut [u8]) -> Result<usize, LinkFault>

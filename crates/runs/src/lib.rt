@@ -9,6 +9,7 @@ mod broken;
 mod coordinating;
 mod inbox;
 mod line;
+mod pace;
 mod plan;
 mod post;
 mod rounds;

@@ -8,6 +8,7 @@ ghost use Rattle.runs.specs.inner.Accounts.{FirstIsUntouched, one_if_open, open_
 
 use crate::broken::{Broken, ended};
 use crate::coordinating::{deliver, is_over, lose, poll};
+use crate::pace::Pace;
 use crate::plan::Order;
 use crate::post::{ROUNDS, receive, send};
 use crate::seat::Seat;
@@ -38,7 +39,8 @@ fn exchange<L: Links>(
     ensures err { OnErr result (L.refusal_count links.new ≤ L.refusal_count links.old + 1) }
 {
     send(links, End::Coordinator(worker.number()), frame)?;
-    answer(links, &mut seat.worker, &mut seat.down, Order::WorkThenSend)?;
+    let mut pace = Pace::new(Order::WorkThenSend);
+    answer(links, &mut seat.worker, &mut seat.down, &mut pace)?;
     let frame = receive(links, End::Coordinator(worker.number()), &mut seat.up)?;
     deliver(coordinator, &frame)
 }

@@ -8,6 +8,7 @@ ghost use Rattle.runs.specs.declared.broken.Broken.TheVariants.{Closed, NoMemory
 
 use crate::broken::{Broken, ended, noted};
 use crate::inbox::Inbox;
+use crate::pace::Pace;
 use crate::plan::{Order, WorkerPlan};
 use crate::post::{ROUNDS, receive, send};
 use dimacs::Formula;
@@ -43,7 +44,7 @@ fn poll(worker: &mut Worker) -> Result<Frame, AllocError>
 }
 
 /// It sends its frame.
-fn reply<L: Links>(links: &mut L, worker: &mut Worker) -> Result<(), Broken>
+fn reply<L: Links>(links: &mut L, worker: &mut Worker, pace: &mut Pace) -> Result<(), Broken>
     ensures formula { worker.new.formula ≡ worker.old.formula }
     ensures verdict { worker.new.verdict ≡ worker.old.verdict }
     ensures one { (result ≡ Err NoMemory) ⊎ RoseBy 1 (L.call_count links.old) (L.call_count links.new) }
@@ -58,11 +59,28 @@ fn reply<L: Links>(links: &mut L, worker: &mut Worker) -> Result<(), Broken>
         Ok(frame) => frame,
         Err(_) => return Err(Broken::NoMemory),
     };
+    pace.note(&frame);
     send(links, at, &frame)
 }
 
+/// It works in the rounds in which it is due.
+fn toil_in_time(worker: &mut Worker, pace: &Pace) -> Result<(), Broken>
+    ensures formula { worker.new.formula ≡ worker.old.formula }
+    ensures verdict { worker.new.verdict ≡ worker.old.verdict }
+    ensures fault { IfErr result (λ b. b ≡ NoMemory) }
+{
+    if pace.is_due() {
+        return toil(worker);
+    }
+    Ok(())
+}
+
 /// It works once and sends its frame, in this order or in the other one.
-fn work_and_reply<L: Links>(links: &mut L, worker: &mut Worker, order: Order) -> Result<(), Broken>
+fn work_and_reply<L: Links>(
+    links: &mut L,
+    worker: &mut Worker,
+    pace: &mut Pace,
+) -> Result<(), Broken>
     ensures formula { worker.new.formula ≡ worker.old.formula }
     ensures one { (result ≡ Err NoMemory) ⊎ RoseBy 1 (L.call_count links.old) (L.call_count links.new) }
     ensures ok_one { OnOk result (RoseBy 1 (L.call_count links.old) (L.call_count links.new)) }
@@ -71,13 +89,13 @@ fn work_and_reply<L: Links>(links: &mut L, worker: &mut Worker, order: Order) ->
     ensures ok { OnOk result (L.refusal_count links.new ≤ L.refusal_count links.old) }
     ensures err { OnErr result (L.refusal_count links.new ≤ L.refusal_count links.old + 1) }
 {
-    match order {
+    match pace.order() {
         Order::WorkThenSend => match toil(worker) {
-            Ok(()) => reply(links, worker),
+            Ok(()) => reply(links, worker, pace),
             Err(_) => Err(Broken::NoMemory),
         },
-        Order::SendThenWork => match reply(links, worker) {
-            Ok(()) => toil(worker),
+        Order::SendThenWork => match reply(links, worker, pace) {
+            Ok(()) => toil_in_time(worker, pace),
             Err(broken) => Err(broken),
         },
     }
@@ -88,7 +106,7 @@ pub(crate) fn answer<L: Links>(
     links: &mut L,
     worker: &mut Worker,
     inbox: &mut Inbox,
-    order: Order,
+    pace: &mut Pace,
 ) -> Result<(), Broken>
     ensures formula { worker.new.formula ≡ worker.old.formula }
     ensures one { OnOk result (RoseBy 1 (L.call_count links.old) (L.call_count links.new)) }
@@ -105,7 +123,7 @@ pub(crate) fn answer<L: Links>(
         Err(broken) => return Err(broken),
     };
     match deliver(worker, &frame) {
-        Ok(()) => work_and_reply(links, worker, order),
+        Ok(()) => work_and_reply(links, worker, pace),
         Err(_) => Err(Broken::NoMemory),
     }
 }
@@ -124,7 +142,7 @@ fn answer_all<L: Links>(
     links: &mut L,
     worker: &mut Worker,
     inbox: &mut Inbox,
-    order: Order,
+    pace: &mut Pace,
 ) -> Result<(), Broken>
     requires inbox { inbox.old.waiting.items ≡ [] }
     requires verdict { worker.old.verdict ≡ Nothing }
@@ -138,7 +156,7 @@ fn answer_all<L: Links>(
         if holds(worker) {
             return Ok(());
         }
-        if let Err(broken) = answer(links, worker, inbox, order) {
+        if let Err(broken) = answer(links, worker, inbox, pace) {
             return Err(broken);
         }
     }
@@ -162,10 +180,11 @@ fn work_rounds<L: Links>(
         Ok(inbox) => inbox,
         Err(error) => return Err(error),
     };
-    if let Err(broken) = reply(links, worker) {
+    let mut pace = Pace::new(order);
+    if let Err(broken) = reply(links, worker, &mut pace) {
         return ended(broken);
     }
-    match answer_all(links, worker, &mut inbox, order) {
+    match answer_all(links, worker, &mut inbox, &mut pace) {
         Ok(()) => Ok(()),
         Err(broken) => ended(broken),
     }

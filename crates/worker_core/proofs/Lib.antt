@@ -1,3 +1,4 @@
+pub mod FollowingLemmas
 pub mod DeliveryLemmas
 pub mod WorkingLemmas
 pub mod ExtendingLemmas

@@ -1,4 +1,4 @@
-pub mod Laws
 pub mod Extending
+pub mod Laws
 pub mod Worker
 pub mod inner

@@ -1,7 +1,6 @@
 //! Collecting a candidate's bytes, and judging it once all are there.
 
-ghost use Rattle.std.specs.Prelude.{◌≡◌, ◌≤◌, ◌⊎◌, ◌++◌, ◌↔◌, ℕ, List, length, IsTrue, IfOk, OnOk, Ok, Err};
-ghost use Rattle.dimacs.specs.logic.Cnf.{Cnf};
+ghost use Rattle.std.specs.Prelude.{◌≡◌, ◌≤◌, ◌⊎◌, ◌↔◌, ℕ, List, length, IsTrue, IfOk, OnOk, Ok, Err};
 ghost use Rattle.lrat_text.specs.Proof.{Accepts};
 ghost use Rattle.lrat_check.specs.Checking.{no_memory};
 ghost use Rattle.frames.specs.Answers.{answer_of};
@@ -11,24 +10,25 @@ ghost use Rattle.worker_core.specs.inner.Collecting.{Becomes, IfNoMemory, IsPart
 ghost use Rattle.worker_core.specs.inner.Invariant.{Follows};
 
 use crate::candidate::Candidate;
+use crate::follower::{Follower, caught_up};
 use dimacs::Formula;
 use evidence::Evidence;
 use frames::Answer;
-use lrat_check::{CheckFault, Judged, ProofText, StreamChecker, Verdict, check, judge_values};
+use lrat_check::{CheckFault, Judged, ProofText, Verdict, check, judge_values};
 use lrat_text::reading_is_spelling;
 use std::alloc::{AllocError, Global};
 
-/// What a candidate has become with more bytes. Beside one that is kept stands the stream that has taken its bytes, if there is one.
+/// What a candidate has become with more bytes. Beside one that is kept stands what follows it, if anything does.
 #[derive(Drop)]
 pub enum Collected {
     /// More bytes are to come.
-    Waits(Candidate, Option<StreamChecker>),
+    Waits(Candidate, Option<Follower>),
     /// All are there, and bear out this verdict, which is right.
     Right(Verdict),
     /// All are there, and bear out none that is right.
     Wrong,
     /// A growth was refused; the candidate is as it was.
-    NoMemory(Candidate, Option<StreamChecker>),
+    NoMemory(Candidate, Option<Follower>),
 }
 
 /// Whether so many bytes of a part come next in a candidate.
@@ -49,31 +49,27 @@ pub(crate) fn is_next(
 
 /// Puts more bytes behind those of a candidate, and judges it once all are there.
 ///
-/// A refutation is checked while it comes, by a stream that is made at its first bytes. Where the stream finds no memory it is given
-/// up, and the whole text is checked from its beginning when all of it is there.
+/// A refutation is followed from its first bytes on by a stream that takes them when the worker works, and at the last ones what is left. Where
+/// it finds no memory it is given up, and the whole text is checked from its beginning when all of it is there.
 pub(crate) fn collect(
     alloc: Global,
     formula: &Formula,
     candidate: Candidate,
-    stream: Option<StreamChecker>,
+    follower: Option<Follower>,
     more: &[u8],
 ) -> Collected
-    requires { Follows formula.now stream candidate.evidence.bytes }
+    requires { Follows formula.now follower candidate.evidence.bytes }
     ensures { Becomes formula.now candidate (longer candidate more.now) result }
 {
-    let Ok(stream) = begun(alloc, formula, &candidate, stream) else {
+    let Ok(follower) = begun(alloc, formula, &candidate, follower) else {
         return Collected::NoMemory(candidate, None);
     };
     let mut candidate = candidate;
     let before = candidate.evidence.bytes.len();
     let Ok(()) = candidate.evidence.extend(more) else {
-        return Collected::NoMemory(candidate, stream);
+        return Collected::NoMemory(candidate, follower);
     };
-    let Ok(stream) = fed(stream, more) else {
-        candidate.evidence.bytes.truncate(before);
-        return Collected::NoMemory(candidate, None);
-    };
-    match judge(alloc, formula, candidate, stream) {
+    match judge(alloc, formula, candidate, follower) {
         Collected::NoMemory(longer, _) => {
             let mut candidate = longer;
             candidate.evidence.bytes.truncate(before);
@@ -83,37 +79,23 @@ pub(crate) fn collect(
     }
 }
 
-/// The stream of a candidate that is to get more bytes. It is made at the first bytes of a refutation, which copies the formula.
+/// What follows a candidate that is to get more bytes. It is made at the first bytes of a refutation.
 fn begun(
     alloc: Global,
     formula: &Formula,
     candidate: &Candidate,
-    stream: Option<StreamChecker>,
-) -> Result<Option<StreamChecker>, AllocError>
-    requires { Follows formula.now stream candidate.now.evidence.bytes }
+    follower: Option<Follower>,
+) -> Result<Option<Follower>, AllocError>
+    requires { Follows formula.now follower candidate.now.evidence.bytes }
     ensures { IfOk result (λ s. Follows formula.now s candidate.now.evidence.bytes) }
 {
-    if stream.is_none()
+    if follower.is_none()
         && candidate.evidence.bytes.len() == 0
         && candidate.evidence.finding.answer() == Answer::Refuted
     {
-        return Ok(Some(StreamChecker::new(alloc, formula)?));
+        return Ok(Some(Follower::new(alloc, formula)?));
     }
-    Ok(stream)
-}
-
-/// The stream with more bytes. A fault of the text stays in it.
-fn fed(stream: Option<StreamChecker>, more: &[u8]) -> Result<Option<StreamChecker>, AllocError>
-    ensures { (F : Cnf) (bytes : List ℕ) → Follows F stream bytes → IfOk result (λ s. Follows F s (bytes ++ more.now)) }
-{
-    let Some(stream) = stream else {
-        return Ok(None);
-    };
-    let mut stream = stream;
-    match stream.feed(more) {
-        Err(fault) if fault.is_no_memory() => Err(AllocError),
-        _ => Ok(Some(stream)),
-    }
+    Ok(follower)
 }
 
 /// Judges a candidate once all its bytes are there.
@@ -121,17 +103,17 @@ pub(crate) fn judge(
     alloc: Global,
     formula: &Formula,
     candidate: Candidate,
-    stream: Option<StreamChecker>,
+    follower: Option<Follower>,
 ) -> Collected
-    requires { Follows formula.now stream candidate.evidence.bytes }
+    requires { Follows formula.now follower candidate.evidence.bytes }
     ensures found { Becomes formula.now candidate candidate result }
     ensures complete { IfNoMemory result (IsComplete candidate.evidence) }
 {
     if !candidate.evidence.is_complete() {
-        return Collected::Waits(candidate, stream);
+        return Collected::Waits(candidate, follower);
     }
     match candidate.evidence.finding.answer() {
-        Answer::Refuted => judge_text(alloc, formula, candidate, stream),
+        Answer::Refuted => judge_text(alloc, formula, candidate, follower),
         Answer::Assignment => judge_assignment(alloc, formula, candidate),
     }
 }
@@ -141,14 +123,19 @@ fn judge_text(
     alloc: Global,
     formula: &Formula,
     candidate: Candidate,
-    stream: Option<StreamChecker>,
+    follower: Option<Follower>,
 ) -> Collected
     requires complete { IsComplete candidate.evidence }
     requires refuted { answer_of candidate.evidence.finding ≡ answers.Refuted }
-    requires follows { Follows formula.now stream candidate.evidence.bytes }
+    requires follows { Follows formula.now follower candidate.evidence.bytes }
     ensures { Becomes formula.now candidate candidate result }
 {
-    match check_whole(alloc, formula, stream, candidate.evidence.bytes.as_slice()) {
+    match check_whole(
+        alloc,
+        formula,
+        follower,
+        candidate.evidence.bytes.as_slice(),
+    ) {
         Ok(()) => {
             let Candidate { evidence, .. } = candidate;
             let Evidence { bytes, .. } = evidence;
@@ -159,23 +146,23 @@ fn judge_text(
     }
 }
 
-/// Checks a whole text: by the stream that has taken it, or from its beginning where there is none.
+/// Checks a whole text: by what followed it, once it has taken the rest, or from its beginning where nothing did.
 fn check_whole(
     alloc: Global,
     formula: &Formula,
-    stream: Option<StreamChecker>,
+    follower: Option<Follower>,
     text: &[u8],
 ) -> Result<(), CheckFault>
-    requires { Follows formula.now stream text.now }
+    requires { Follows formula.now follower text.now }
     ensures accepted { OnOk result (Accepts formula.now text.now) }
     ensures complete { Accepts formula.now text.now → (result ≡ Ok tt) ⊎ (result ≡ Err no_memory) }
 {
-    let Some(stream) = stream else {
+    let Some(follower) = caught_up(follower, text) else {
         return check(alloc, formula, text);
     };
     // The law by which what was read is what the text spells; there is nothing to run.
     reading_is_spelling();
-    stream.finish()
+    follower.stream.finish()
 }
 
 /// Judges all the bytes of an assignment.

@@ -111,20 +111,20 @@ impl Worker {
             evidence: Evidence::new(self.alloc, finding),
         };
         match judge(self.alloc, &self.formula, candidate, None) {
-            Collected::Waits(candidate, stream) => {
+            Collected::Waits(candidate, follower) => {
                 self.candidate = Some(candidate);
-                self.stream = stream;
+                self.follower = follower;
                 Reaction::Taken
             }
             Collected::Right(verdict) => {
                 self.candidate = None;
-                self.stream = None;
+                self.follower = None;
                 self.verdict = verdict;
                 Reaction::Verdict
             }
             Collected::Wrong => {
                 self.candidate = None;
-                self.stream = None;
+                self.follower = None;
                 Reaction::Refused(finding.answer().number())
             }
             Collected::NoMemory(_, _) => Reaction::NoMemory,
@@ -158,17 +158,17 @@ impl Worker {
             self.candidate = Some(candidate);
             return Reaction::Ignored;
         }
-        let stream = self.stream.take();
+        let follower = self.follower.take();
         match collect(
             self.alloc,
             &self.formula,
             candidate,
-            stream,
+            follower,
             bytes.as_slice(),
         ) {
-            Collected::Waits(candidate, stream) => {
+            Collected::Waits(candidate, follower) => {
                 self.candidate = Some(candidate);
-                self.stream = stream;
+                self.follower = follower;
                 Reaction::Taken
             }
             Collected::Right(verdict) => {
@@ -176,9 +176,9 @@ impl Worker {
                 Reaction::Verdict
             }
             Collected::Wrong => Reaction::Refused(part.number()),
-            Collected::NoMemory(candidate, stream) => {
+            Collected::NoMemory(candidate, follower) => {
                 self.candidate = Some(candidate);
-                self.stream = stream;
+                self.follower = follower;
                 Reaction::NoMemory
             }
         }

@@ -22,7 +22,7 @@ pub fn workers_keep_what_they_hold()
 {}
 
 /// A worker to whose formula clauses are added holds what is right for the formula that it has then, which is the one with these
-/// clauses exactly where they were taken; else nothing changes.
+/// clauses if and only if they were taken; else nothing changes.
 pub fn extended_workers_hold_what_is_right()
     ensures right { (old : WorkerState) (x : Cnf) (incarnation : ℕ) (answer : Reaction) (new : WorkerState) → ExtendsWorker old x incarnation answer new → HoldsRight old → HoldsRight new }
     ensures formula { (old : WorkerState) (x : Cnf) (incarnation : ℕ) (answer : Reaction) (new : WorkerState) → ExtendsWorker old x incarnation answer new → new.formula ≡ formula_after x answer old.formula }

@@ -9,6 +9,7 @@ mod candidate;
 mod collecting;
 mod delivering;
 mod extending;
+mod follower;
 mod laws;
 mod polling;
 mod work;

@@ -5,12 +5,13 @@ ghost use Rattle.lrat_check.specs.Verdicts.{Right};
 ghost use Rattle.worker_core.specs.Worker.{new_worker};
 
 use crate::candidate::Candidate;
+use crate::follower::Follower;
 use crate::work::Work;
 use cube_split::preamble;
 use dimacs::{Base, Formula};
 use evidence::JobName;
 use frames::WorkerNumber;
-use lrat_check::{StreamChecker, Verdict};
+use lrat_check::Verdict;
 use std::alloc::{AllocError, Global};
 use std::marker::Model;
 
@@ -27,7 +28,7 @@ pub struct Worker {
     pub(crate) work: Work,
     pub(crate) candidate: Option<Candidate>,
     /// What checks the candidate while its bytes come. No contract sees it: it only saves a check from the front.
-    pub(crate) stream: Option<StreamChecker>,
+    pub(crate) follower: Option<Follower>,
     pub(crate) verdict: Verdict,
 }
 
@@ -47,7 +48,7 @@ impl Model for Worker {
       verdict = w.verdict;
     } };
 
-    ghost invariant = { λ w. IsWorker w.formula w.base w.work w.candidate w.stream w.verdict };
+    ghost invariant = { λ w. IsWorker w.formula w.base w.work w.candidate w.follower w.verdict };
 }
 
 // By hand, so that a crate above drops a worker by one call, and no proof there goes through its parts.
@@ -62,7 +63,7 @@ impl Drop for Worker {
             last: _,
             work: _,
             candidate: _,
-            stream: _,
+            follower: _,
             verdict: _,
         } = self;
     }
@@ -88,7 +89,7 @@ impl Worker {
             last: None,
             work: Work::Free,
             candidate: None,
-            stream: None,
+            follower: None,
             verdict: Verdict::Nothing,
         })
     }
@@ -101,7 +102,7 @@ impl Worker {
         self.last = None;
         self.work = Work::Free;
         self.candidate = None;
-        self.stream = None;
+        self.follower = None;
         self.verdict = Verdict::Nothing;
     }
 
@@ -148,7 +149,7 @@ impl Worker {
             last: _,
             work: _,
             candidate: _,
-            stream: _,
+            follower: _,
             verdict,
         } = self;
         verdict

@@ -5,6 +5,7 @@ ghost use Rattle.lrat_check.specs.Judging.{value_byte};
 ghost use Rattle.evidence.specs.Events.{Worked, Reacted};
 ghost use Rattle.worker_core.specs.Worker.{WorkerStep, kept};
 
+use crate::follower::caught_up;
 use crate::work::Work;
 use crate::worker::Worker;
 use cube_solve::{Outcome, solve};
@@ -17,11 +18,13 @@ use std::alloc::{AllocError, Global};
 const TOO_LONG: usize = 1 << 32;
 
 impl Worker {
-    /// It is to work: a task that waits is searched to its end, or to its limit.
+    /// It is to work: a task that waits is searched to its end, or to its limit. Where none waits, what follows the candidate takes the bytes
+    /// that have come.
     pub fn work(&mut self) -> Reaction
         ensures step { WorkerStep self.old Worked (Reacted result) self.new }
     {
         let Work::Waiting { name, cube, limit } = &self.work else {
+            self.follow();
             return Reaction::Ignored;
         };
         let name = *name;
@@ -33,6 +36,17 @@ impl Worker {
         };
         self.work = work;
         Reaction::Finished
+    }
+
+    /// What follows the candidate takes the bytes that have come since. Nothing that a contract sees changes.
+    fn follow(&mut self)
+        ensures { self.new ≡ self.old }
+    {
+        let Some(candidate) = &self.candidate else {
+            return;
+        };
+        let follower = self.follower.take();
+        self.follower = caught_up(follower, candidate.evidence.bytes.as_slice());
     }
 }
 

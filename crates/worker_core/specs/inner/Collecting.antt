@@ -22,14 +22,14 @@ pub record IsPartOf (c : Candidate) (session : ℕ) (part : Answer) (offset : �
 -- What a candidate is found to be that was another one before it got its last bytes: more are to come; all are there, and bear
 -- out this verdict, which is right, or none; or there was no memory, and it is as it was.
 abbrev pub Becomes : Cnf → Candidate → Candidate → Collected → Type 0
-Becomes F was c (Waits d stream) = (d ≡ c) × ¬ (IsComplete c.evidence) × Follows F stream c.evidence.bytes
+Becomes F was c (Waits d follower) = (d ≡ c) × ¬ (IsComplete c.evidence) × Follows F follower c.evidence.bytes
 Becomes F was c (Right v) = IsComplete c.evidence × IsRightEvidence F (answer_of c.evidence.finding) c.evidence.bytes v
 Becomes F was c Wrong = IsComplete c.evidence × IsWrongEvidence F (answer_of c.evidence.finding) c.evidence.bytes
-Becomes F was c (NoMemory d stream) = (d ≡ was) × Follows F stream was.evidence.bytes
+Becomes F was c (NoMemory d follower) = (d ≡ was) × Follows F follower was.evidence.bytes
 
 -- what holds where a growth was refused
 abbrev pub IfNoMemory : Collected → Type 0 → Type 0
-IfNoMemory (NoMemory d stream) P = P
-IfNoMemory (Waits d stream) P = Unit {0}
+IfNoMemory (NoMemory d follower) P = P
+IfNoMemory (Waits d follower) P = Unit {0}
 IfNoMemory (Right v) P = Unit {0}
 IfNoMemory Wrong P = Unit {0}

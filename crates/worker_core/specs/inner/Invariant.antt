@@ -1,8 +1,8 @@
 -- What a worker keeps: what the code needs of its parts between two events.
-use Rattle.std.specs.Prelude.{◌≡◌, ℕ, ◌<◌, ◌≤◌, ◌^◌, List, length, Option, Some, None}
+use Rattle.std.specs.Prelude.{◌≡◌, ℕ, ◌<◌, ◌≤◌, ◌^◌, List, length, take, Option, Some, None}
 use Rattle.dimacs.specs.logic.Base.{base_of}
 use Rattle.dimacs.specs.logic.Cnf.{Cnf}
-use Rattle.lrat_check.specs.Stream.{Progress, HasTaken}
+use Rattle.lrat_check.specs.Stream.{HasTaken}
 use Rattle.lrat_check.specs.Verdicts.{Right}
 use Rattle.lrat_check.specs.declared.verdict.Verdict.{Verdict}
 use Rattle.frames.specs.Answers.{length_of}
@@ -10,6 +10,7 @@ use Rattle.frames.specs.declared.answer.Answer.{Answer}
 use Rattle.frames.specs.declared.answer.Answer.TheVariants as answers
 use Rattle.evidence.specs.Jobs.{IsInside}
 use Rattle.worker_core.specs.declared.candidate.Candidate.{Candidate}
+use Rattle.worker_core.specs.declared.follower.Follower.{Follower}
 use Rattle.worker_core.specs.declared.work.Work.{Work}
 use Rattle.worker_core.specs.declared.work.Work.TheVariants.{Free, Waiting, Limited, Found}
 
@@ -35,20 +36,25 @@ abbrev pub IsCandidate : Option Candidate → Type 0
 IsCandidate None = Unit {0}
 IsCandidate (Some c) = length c.evidence.bytes ≤ length_of c.evidence.finding
 
--- a stream, if there is one, has taken these bytes
-abbrev pub Follows : Cnf → Option Progress → List ℕ → Type 0
-Follows F None bytes = Unit {0}
-Follows F (Some stream) bytes = HasTaken F stream bytes
+-- a stream has taken a front of these bytes
+pub record IsBehind (F : Cnf) (f : Follower) (bytes : List ℕ) : Type 0 where
+  pub within : f.taken ≤ length bytes
+  pub front : HasTaken F f.stream (take f.taken bytes)
 
--- it has taken those of the candidate; where there is none, there is no stream
-abbrev pub FollowsCandidate : Cnf → Option Progress → Option Candidate → Type 0
-FollowsCandidate F stream None = stream ≡ None
-FollowsCandidate F stream (Some c) = Follows F stream c.evidence.bytes
+-- the same, if there is one
+abbrev pub Follows : Cnf → Option Follower → List ℕ → Type 0
+Follows F None bytes = Unit {0}
+Follows F (Some f) bytes = IsBehind F f bytes
+
+-- it has taken some of those of the candidate; where there is none, there is no stream
+abbrev pub FollowsCandidate : Cnf → Option Follower → Option Candidate → Type 0
+FollowsCandidate F follower None = follower ≡ None
+FollowsCandidate F follower (Some c) = Follows F follower c.evidence.bytes
 
 -- the base is that of the formula, the verdict is right, and each part is in order
-pub record IsWorker (F base : Cnf) (work : Work) (candidate : Option Candidate) (stream : Option Progress) (verdict : Verdict) : Type 0 where
+pub record IsWorker (F base : Cnf) (work : Work) (candidate : Option Candidate) (follower : Option Follower) (verdict : Verdict) : Type 0 where
   pub base_is : base ≡ base_of F
   pub right : Right F verdict
   pub work_is : IsWork F work
   pub candidate_is : IsCandidate candidate
-  pub follows : FollowsCandidate F stream candidate
+  pub follows : FollowsCandidate F follower candidate

@@ -1,0 +1,22 @@
+-- What follows a candidate's bytes, over plain values.
+use Rattle.std.proofs.Common.{◌≡◌, ℕ, List, ◌++◌, length, Option, Some, None, sym, subst, arith}
+use Rattle.std.proofs.lemmas.List.{length-append, take-append-le, take_all}
+use Rattle.dimacs.specs.logic.Cnf.{Cnf}
+use Rattle.lrat_check.specs.Stream.{HasTaken}
+use Rattle.worker_core.specs.inner.Invariant.{Follows, IsBehind}
+use Rattle.worker_core.specs.declared.follower.Follower.{Follower}
+
+-- a front of the bytes is one of more bytes
+pub follows_longer : (F : Cnf) (o : Option Follower) (bytes more : List ℕ) → Follows F o bytes → Follows F o (bytes ++ more)
+follows_longer F None bytes more h = tt
+follows_longer F (Some f) bytes more h = record {
+  within = omega (arith, h.within, length-append bytes more);
+  front = subst (HasTaken F f.stream) (sym (take-append-le f.taken bytes more h.within)) h.front;
+}
+
+-- all of them are a front
+pub all_behind : (F : Cnf) (f : Follower) (bytes : List ℕ) → f.taken ≡ length bytes → HasTaken F f.stream bytes → IsBehind F f bytes
+all_behind F f bytes all taken = record {
+  within = omega (arith, all);
+  front = subst (HasTaken F f.stream) (sym (take_all f.taken bytes (omega (arith, all)))) taken;
+}
