@@ -2,7 +2,7 @@
 
 use crate::checks::FOUR;
 use cube_split::preamble;
-use dimacs::{Base, read};
+use dimacs::{Base, FormulaReader, read};
 use node_main::{ProofCheck, Refusal};
 use std::test::Fail;
 
@@ -17,9 +17,12 @@ fn a_base_takes_a_formula(rt: HostRuntime) -> Result<(), Fail> {
 }
 
 #[test]
-fn an_input_that_is_let_go_is_checked(rt: HostRuntime) -> Result<(), Fail> {
-    let input = Vec::from_slice(rt.alloc(), FOUR)?;
-    let mut check = ProofCheck::taking(rt.alloc(), input);
+fn an_input_in_pieces_is_checked(rt: HostRuntime) -> Result<(), Fail> {
+    let mut reader = FormulaReader::new(rt.alloc());
+    for byte in FOUR {
+        reader.feed(&[*byte]);
+    }
+    let mut check = ProofCheck::of(rt.alloc(), reader.finish());
     check.feed(b"5 2 0 1 2 0\n6 0 5 3 4 0\n");
     let report = check.finish()?;
     assert_eq!(rt; report.stdout.as_slice(), b"s VERIFIED\n".as_slice());

@@ -12,6 +12,7 @@ pub mod HeaderLemmas
 pub mod LiteralLemmas
 pub mod Members
 pub mod NumberLemmas
+pub mod PieceLemmas
 pub mod RowFaults
 pub mod RowLemmas
 pub mod RowRuns

@@ -43,6 +43,10 @@ drop_at_first bs m e h =
     let white = passes_at_first is_white bs 0 lt in
     rw (e, drop-cons bs (position_or_len is_white bs) 0 lt) (words_blank _ _ white ∙ ap (λ n. words (drop n bs)) (sym (add-one _)))
 
+-- the white space that ends the first token
+pub words_behind : (bs : List ℕ) (m : ℕ) → m ≡ position_or_len is_white bs → m < length bs → words (drop (m + 1) bs) ≡ words (drop m bs)
+words_behind bs m e h = ap (λ n. words (drop (n + 1) bs)) e ∙ sym (drop_at_first bs m e h)
+
 -- the first token
 pub words_first : (bs : List ℕ) (m : ℕ) → m ≡ position_or_len is_white bs → 0 < m → m ≤ length bs → words bs ≡ take m bs ∷ words (drop m bs)
 unfolding words
@@ -65,7 +69,7 @@ pub first_stays : (bs : List ℕ) (d : ℕ) → 0 < length bs → is_white (get_
 first_stays [] d h e = absurd (omega arith)
 first_stays (b ∷ bs) d h e = rw e (omega arith)
 
-tail_is : (line : List ℕ) (n : ℕ) → take (length line - n) (drop n line) ≡ drop n line
+pub tail_is : (line : List ℕ) (n : ℕ) → take (length line - n) (drop n line) ≡ drop n line
 tail_is line n = take_all (length line - n) (drop n line) (omega (arith, length-drop n line))
 
 -- only white space

@@ -2,5 +2,6 @@
 pub mod Building
 pub mod Capped
 pub mod Codes
+pub mod Pieces
 pub mod Rows
 pub mod Words

@@ -3,6 +3,7 @@ pub mod Answer
 pub mod BodyState
 pub mod Faults
 pub mod Numbers
+pub mod Pieces
 pub mod Reading
 pub mod Rows
 pub mod Spelling

@@ -139,13 +139,12 @@ fn leading_natural(text: &[u8]) -> (Option<u32>, &[u8])
     (value, rest)
 }
 
-/// The number of at most 8 digits before the first white space, of which the first is 1 to 9, and how many digits it has: None
-/// also where something else stands there.
-///
-/// Nearly every token of a text is such a number, a minus before it, or `0`. So few digits need no cap, and the loop makes
-/// two tests a digit.
+/// The number before the first white space, of which the first digit is 1 to 9 and no digit lies behind `end`, and how many
+/// digits it has: None also where something else stands there.
 #[inline(always)]
-fn short_size(text: &[u8]) -> Option<(u32, usize)>
+fn short_size_within(text: &[u8], end: usize) -> Option<(u32, usize)>
+    requires few { end ≤ 8 }
+    requires inside { end ≤ length text.now }
     ensures len { IfSome result (λ p. p.1 ≡ position_or_len is_white text.now) }
     ensures bound { IfSome result (λ p. p.1 ≤ length text.now) }
     ensures value { IfSome result (λ p. natural_of (take p.1 text.now) ≡ Some p.0) }
@@ -157,7 +156,6 @@ fn short_size(text: &[u8]) -> Option<(u32, usize)>
     }
     let mut size = u32::from(text[0] - b'0');
     let mut len = 1;
-    let end = text.len().min(SHORT);
     while len < end && text[len].is_ascii_digit() {
         size = 10 * size + u32::from(text[len] - b'0');
         len += 1;
@@ -166,6 +164,27 @@ fn short_size(text: &[u8]) -> Option<(u32, usize)>
         return None;
     }
     Some((size, len))
+}
+
+/// The number of at most 8 digits before the first white space, of which the first is 1 to 9, and how many digits it has: None
+/// also where something else stands there.
+///
+/// Nearly every token of a text is such a number, a minus before it, or `0`. So few digits need no cap. Nearly always as many bytes
+/// are there, so that the loop has a fixed end: it is compiled without a loop, one test a digit, each with a history of its own by
+/// which it is foretold.
+#[inline(always)]
+fn short_size(text: &[u8]) -> Option<(u32, usize)>
+    ensures len { IfSome result (λ p. p.1 ≡ position_or_len is_white text.now) }
+    ensures bound { IfSome result (λ p. p.1 ≤ length text.now) }
+    ensures value { IfSome result (λ p. natural_of (take p.1 text.now) ≡ Some p.0) }
+    ensures some { IfSome result (λ p. 1 ≤ p.0) }
+    ensures small { IfSome result (λ p. p.0 < 100000000) }
+{
+    if text.len() < SHORT {
+        short_size_within(text, text.len())
+    } else {
+        short_size_within(text, SHORT)
+    }
 }
 
 /// Whether the token before the first white space is `0`.
@@ -228,15 +247,32 @@ fn any_number(text: &[u8]) -> (Option<Number>, &[u8])
     (behind_minus(size), rest)
 }
 
-/// The number before the first white space, and what follows it.
+/// What follows the first token, which has that many bytes, without the white space that ends it: so the next token mostly stands
+/// first there.
+#[inline(always)]
+fn behind_token(text: &[u8], len: usize) -> &[u8]
+    requires len { len ≡ position_or_len is_white text.now }
+    requires inside { len ≤ length text.now }
+    ensures words { words result.now ≡ words (drop len text.now) }
+    ensures rest { length result.now ≤ length (drop len text.now) }
+{
+    if len < text.len() {
+        &text[len + 1..]
+    } else {
+        &text[len..]
+    }
+}
+
+/// The number before the first white space, and what follows it, of which white space at the front may be missing.
 #[inline(always)]
 fn leading_number(text: &[u8]) -> (Option<Number>, &[u8])
     ensures value { result.0 ≡ option_map capped (number_of (take (position_or_len is_white text.now) text.now)) }
     ensures small { IfSome result.0 (λ n. n.size ≤ 100000000) }
-    ensures rest { result.1.now ≡ drop (position_or_len is_white text.now) text.now }
+    ensures words { words result.1.now ≡ words (drop (position_or_len is_white text.now) text.now) }
+    ensures rest { length result.1.now ≤ length (drop (position_or_len is_white text.now) text.now) }
 {
     match short_number(text) {
-        Some((number, len)) => (Some(number), &text[len..]),
+        Some((number, len)) => (Some(number), behind_token(text, len)),
         None => any_number(text),
     }
 }

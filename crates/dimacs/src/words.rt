@@ -4,6 +4,7 @@ ghost use Rattle.std.specs.Prelude.{◌≡◌, ◌<◌, ◌≤◌, [], ◌∷◌
 ghost use Rattle.std.specs.List.{prefix_len, position_or_len};
 ghost use Rattle.dimacs.specs.text.Words.{is_white, words, words_of, is_comment, lines};
 ghost use Rattle.dimacs.specs.inner.Words.{lines_left};
+ghost use Rattle.dimacs.specs.inner.Pieces.{IsCut, IsOpen};
 
 use memchr::memchr;
 
@@ -15,6 +16,16 @@ pub fn next_line(text: &[u8]) -> (&[u8], Option<&[u8]>)
     match memchr(b'\n', text) {
         Some(end) => (&text[..end], Some(&text[end + 1..])),
         None => (text, None),
+    }
+}
+
+/// The line before the first LF, and what follows that LF; `None` where the text has no LF.
+pub(crate) fn cut_line(text: &[u8]) -> Option<(&[u8], &[u8])>
+    ensures { MatchOption result (IsOpen text.now) (λ p. IsCut text.now p.0.now p.1.now) }
+{
+    match memchr(b'\n', text) {
+        Some(end) => Some((&text[..end], &text[end + 1..])),
+        None => None,
     }
 }
 

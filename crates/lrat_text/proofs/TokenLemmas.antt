@@ -47,6 +47,11 @@ drop_at_first bs m e h =
     ap (λ n. tokens (drop n bs)) e ∙ ap tokens (drop-cons bs (position_or_len is_space bs) 0 lt)
     ∙ tokens_blank (get_or bs (position_or_len is_space bs) 0) (drop (suc (position_or_len is_space bs)) bs) space ∙ ap (λ n. tokens (drop n bs)) (sym (add-one (position_or_len is_space bs)))
 
+-- the space that ends the first token
+pub tokens_behind : (bs : List ℕ) (m : ℕ) → m ≡ position_or_len is_space bs → m < length bs → line_tokens (drop (m + 1) bs) ≡ line_tokens (drop m bs)
+unfolding line_tokens
+tokens_behind bs m e h = ap (map token_of) (ap (λ n. tokens (drop (n + 1) bs)) e ∙ sym (drop_at_first bs m e h))
+
 -- the first token
 tokens_first : (bs : List ℕ) (m : ℕ) → m ≡ position_or_len is_space bs → 0 < m → m ≤ length bs → tokens bs ≡ take m bs ∷ tokens (drop m bs)
 tokens_first bs m e h top =
@@ -68,7 +73,7 @@ first_stays : (bs : List ℕ) (d : ℕ) → 0 < length bs → is_space (get_or b
 first_stays [] d h e = absurd (omega arith)
 first_stays (b ∷ bs) d h e = rw e (omega arith)
 
-tail_is : (line : List ℕ) (n : ℕ) → take (length line - n) (drop n line) ≡ drop n line
+pub tail_is : (line : List ℕ) (n : ℕ) → take (length line - n) (drop n line) ≡ drop n line
 tail_is line n = take_all (length line - n) (drop n line) (omega (arith, length-drop n line))
 
 -- only spaces

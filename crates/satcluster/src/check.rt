@@ -1,30 +1,65 @@
-//! `check`: a proof is fed while it is read.
+//! `check`: an input is read, and a proof checked, while their files are read.
 
-use crate::files::{no_memory, read, refused};
+use crate::files::{no_memory, refused};
+use dimacs::{DimacsFault, Formula, FormulaReader};
 use node_main::{ProofCheck, Refusal, Report};
 use std::fs::{File, OpenFile};
 use std::io;
 use std::io::Read;
 use std::rt::Runtime;
 
-/// How many bytes of a proof are read at a time.
-const PIECE: usize = 1_048_576;
+/// How many bytes of a file are read at a time. They stay in the nearest cache between the call that reads them and what takes
+/// them; more would be memory that a small proof does not need.
+const PIECE: usize = 16_384;
+
+/// The next bytes of a file; none at its end.
+fn next_piece<'a, F: Read>(
+    file: &mut F,
+    room: &'a mut [u8],
+    refusal: Refusal,
+) -> Result<&'a [u8], Refusal> {
+    for _ in 0..u64::MAX {
+        match file.read(room) {
+            Ok(len) => return Ok(&room[..len]),
+            Err(error) if error.kind() == io::ErrorKind::Interrupted => {}
+            Err(error) => return Err(refused(error, refusal)),
+        }
+    }
+    Err(refusal)
+}
+
+/// The formula of a file, or the first fault of its text.
+fn read_formula<R: Runtime + AllocGlobal>(
+    rt: &R,
+    path: &str,
+    room: &mut [u8],
+) -> Result<Result<Formula, DimacsFault>, Refusal> {
+    let mut file = File::open(rt, path).map_err(|error| refused(error, Refusal::Input))?;
+    let mut reader = FormulaReader::new(rt.alloc());
+    for _ in 0..u64::MAX {
+        let piece = next_piece(&mut file, room, Refusal::Input)?;
+        if piece.is_empty() {
+            return Ok(reader.finish());
+        }
+        reader.feed(piece);
+    }
+    Err(Refusal::Input)
+}
 
 /// Reads a proof to its end, also behind a fault, and feeds it piece by piece.
 fn feed<R: Runtime + AllocGlobal>(
     rt: &R,
     path: &str,
+    room: &mut [u8],
     check: &mut ProofCheck,
 ) -> Result<(), Refusal> {
     let mut file = File::open(rt, path).map_err(|error| refused(error, Refusal::Proof))?;
-    let mut piece = vec![in rt.alloc(); 0; PIECE].map_err(no_memory)?;
     for _ in 0..u64::MAX {
-        match file.read(&mut piece) {
-            Ok(0) => return Ok(()),
-            Ok(len) => check.feed(&piece[..len]),
-            Err(error) if error.kind() == io::ErrorKind::Interrupted => {}
-            Err(error) => return Err(refused(error, Refusal::Proof)),
+        let piece = next_piece(&mut file, room, Refusal::Proof)?;
+        if piece.is_empty() {
+            return Ok(());
         }
+        check.feed(piece);
     }
     Err(Refusal::Proof)
 }
@@ -35,8 +70,9 @@ pub(crate) fn check<R: Runtime + AllocGlobal>(
     input: &str,
     proof: &str,
 ) -> Result<Report, Refusal> {
-    let text = read(rt, input, Refusal::Input)?;
-    let mut check = ProofCheck::taking(rt.alloc(), text);
-    feed(rt, proof, &mut check)?;
+    let mut room = vec![in rt.alloc(); 0; PIECE].map_err(no_memory)?;
+    let found = read_formula(rt, input, &mut room)?;
+    let mut check = ProofCheck::of(rt.alloc(), found);
+    feed(rt, proof, &mut room, &mut check)?;
     check.finish().map_err(no_memory)
 }

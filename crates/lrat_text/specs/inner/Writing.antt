@@ -3,7 +3,7 @@ use Rattle.std.specs.Prelude.{◌≡◌, ℕ, List, ◌++◌, decimal, codes}
 use Rattle.std.specs.List.{flat_map}
 use Rattle.dimacs.specs.logic.Literal.{Literal}
 use Rattle.dimacs.specs.logic.Rat.{Group}
-use Rattle.lrat_text.specs.Grammar.{space, literal_token}
+use Rattle.lrat_text.specs.Grammar.{literal_token}
 
 -- a token behind a space
 abbrev pub number_text : ℕ → List ℕ

@@ -91,19 +91,14 @@ impl ProofCheck {
         ensures taken { HasTaken input.now result [] }
         ensures kept { KeepsNoLine result }
     {
-        ProofCheck {
-            alloc,
-            state: begin(alloc, dimacs::read(alloc, input)),
-        }
+        ProofCheck::of(alloc, dimacs::read(alloc, input))
     }
 
-    /// The same of an input that is let go as soon as it is read.
-    pub fn taking(alloc: Global, input: Vec<u8>) -> ProofCheck
-        ensures taken { HasTaken input.items result [] }
+    /// The same of an input that was read, or has a fault, whichever way it came.
+    pub fn of(alloc: Global, found: Result<Formula, DimacsFault>) -> ProofCheck
+        ensures taken { (input : List ℕ) → GivesFormula found (parse input) → HasTaken input result [] }
         ensures kept { KeepsNoLine result }
     {
-        let found = dimacs::read(alloc, input.as_slice());
-        drop(input);
         ProofCheck {
             alloc,
             state: begin(alloc, found),
