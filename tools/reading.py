@@ -34,7 +34,7 @@ CLAIMS = [
         "Whatever events come to the nodes of a cluster, what each holds is true of the formula that it has then; two nodes, each at its "
         "moment, never hold verdicts that differ where their formulas are equal then; and where one holds a proof, no other, earlier or later, holds an "
         "assignment of that formula with more clauses.",
-        [("cluster", "run", ["formulas", "truth", "agree", "grown"]), ("cluster", "verdict", ["holds"])],
+        [("cluster", "OpenCluster::run", ["formulas", "truth", "agree", "grown"]), ("cluster", "OpenCluster::verdict", ["holds"])],
     ),
     (
         "`check` accepts exactly what the definition accepts",
@@ -158,10 +158,13 @@ def reach(roots, names, modules, spec_here, found, types):
 
 
 def contract(crate, function, clauses):
-    """The clauses of a function's contract, and the file that has it."""
+    """The clauses of a function's contract, and the file that has it. A method is named by its type, too."""
+    owner, _, name = function.rpartition("::")
     for path in sorted((ROOT / "crates" / crate / "src").rglob("*.rt")):
         text = path.read_text()
-        begun = re.search(r"pub fn %s\b[^{;]*?(?=\n\s*(?:requires|ensures|//))" % function, text, re.S)
+        if owner and f"\nimpl {owner} {{" not in text:
+            continue
+        begun = re.search(r"pub fn %s\b[^{;]*?(?=\n\s*(?:requires|ensures|//))" % name, text, re.S)
         if not begun:
             continue
         rest = text[begun.end() :]

@@ -8,9 +8,9 @@ use Rattle.frames.specs.declared.frame.Frame.{Frame}
 use Rattle.evidence.specs.Events.{Event, Delivered, Worked, Polled, Given, Reacted, Ignores}
 use Rattle.dimacs.specs.logic.Cnf.{Cnf}
 use Rattle.worker_core.specs.Extending.{ExtendsWorker}
-use Rattle.coordinator_core.specs.Extending.{ExtendsCoordinator}
 use Rattle.worker_core.specs.Laws as worker
 use Rattle.worker_core.specs.Worker.{WorkerState, WorkerStep}
+use Rattle.coordinator_core.specs.Extending.{ExtendsCoordinator}
 use Rattle.coordinator_core.specs.Laws as coordinator
 use Rattle.coordinator_core.specs.Coordinator.{CoordinatorState, CoordinatorStep}
 use Rattle.cluster.specs.declared.event.OpenEvent.{OpenEvent}
@@ -37,19 +37,19 @@ taken_is_not : (X : Type 0) (answer : Reaction) → answer ≡ reaction.Taken �
 taken_is_not X answer is (inl q) = absurd cc
 taken_is_not X answer is (inr q) = absurd cc
 
-worker_nothing : (w : WorkerState) (x : Cnf) (number : ℕ) (answer : Reaction) (v : WorkerState) → ExtendsWorker w x number answer v → IsQuiet answer → v ≡ w
-worker_nothing w x number answer v (ExtendsWorker.too_large large a now) q = now
-worker_nothing w x number answer v (ExtendsWorker.taken limits held stays a now) q = taken_is_not (v ≡ w) answer a q
-worker_nothing w x number answer v (ExtendsWorker.no_memory limits a now) q = now
+worker_extends_nothing : (w : WorkerState) (x : Cnf) (number : ℕ) (answer : Reaction) (new : WorkerState) → ExtendsWorker w x number answer new → IsQuiet answer → new ≡ w
+worker_extends_nothing w x number answer new (ExtendsWorker.too_large large is same) q = same
+worker_extends_nothing w x number answer new (ExtendsWorker.taken fits held stays is anew) q = taken_is_not (new ≡ w) answer is q
+worker_extends_nothing w x number answer new (ExtendsWorker.no_memory fits is same) q = same
 
-coordinator_nothing : (c : CoordinatorState) (x : Cnf) (number : ℕ) (answer : Reaction) (d : CoordinatorState) → ExtendsCoordinator c x number answer d → IsQuiet answer → d ≡ c
-coordinator_nothing c x number answer d (ExtendsCoordinator.too_large large a now) q = now
-coordinator_nothing c x number answer d (ExtendsCoordinator.taken limits held stays a now) q = taken_is_not (d ≡ c) answer a q
-coordinator_nothing c x number answer d (ExtendsCoordinator.no_memory limits a now) q = now
+coordinator_extends_nothing : (c : CoordinatorState) (x : Cnf) (number : ℕ) (answer : Reaction) (new : CoordinatorState) → ExtendsCoordinator c x number answer new → IsQuiet answer → new ≡ c
+coordinator_extends_nothing c x number answer new (ExtendsCoordinator.too_large large is same) q = same
+coordinator_extends_nothing c x number answer new (ExtendsCoordinator.taken fits held stays is anew) q = taken_is_not (new ≡ c) answer is q
+coordinator_extends_nothing c x number answer new (ExtendsCoordinator.no_memory fits is same) q = same
 
 extends_nothing : (old : Node) (x : Cnf) (number : ℕ) (answer : Reaction) (new : Node) → Extends old x number answer new → IsQuiet answer → new ≡ old
-extends_nothing (Worker w) x number answer new (v, step, is) q = is ∙ ap Worker (worker_nothing w x number answer v step q)
-extends_nothing (Coordinator c) x number answer new (d, step, is) q = is ∙ ap Coordinator (coordinator_nothing c x number answer d step q)
+extends_nothing (Worker w) x number answer new (v, step, is) q = is ∙ ap Worker (worker_extends_nothing w x number answer v step q)
+extends_nothing (Coordinator c) x number answer new (d, step, is) q = is ∙ ap Coordinator (coordinator_extends_nothing c x number answer d step q)
 
 module _ (k : Quiet) where
   step_nothing : (old : Node) (event : Event) (answer : Reaction) (new : Node) → NodeStep old event (Reacted answer) new → IsQuiet answer → new ≡ old

@@ -16,8 +16,8 @@ use worker_core::{extended_workers_hold_what_is_right, workers_keep_what_they_ho
 
 /// Whatever events come to sound nodes: they stay sound, and each keeps its formula but for the clauses that it takes; what they hold
 /// is right, and true of it; two nodes, each at its moment, never hold verdicts that differ where their formulas are equal then; and
-/// where one holds a proof, no other, earlier or later, holds an assignment of that formula with more clauses. An event that is
-/// ignored, or finds no memory, changes nothing.
+/// where one holds a proof, no other, earlier or later, holds an assignment of that formula with more clauses. An event that is ignored,
+/// or finds no memory, changes nothing.
 pub fn verdicts_agree()
     ensures sound { (start later : List Node) (events : List OpenEvent) → AreSound start → Runs start events later → AreSound later }
     ensures formula { (old new : List Node) (event : OpenEvent) (answer : Reaction) → Happens old event answer new → formulas new ≡ formulas_then event answer (formulas old) }

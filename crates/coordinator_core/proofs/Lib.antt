@@ -10,3 +10,4 @@ pub mod PollLemmas
 pub mod TableLemmas
 pub mod StepLemmas
 pub mod ExtendingLemmas
+pub mod PlainLemmas

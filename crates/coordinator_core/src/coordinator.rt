@@ -46,7 +46,8 @@ pub struct Coordinator {
 
 impl Model for Coordinator {
     ghost use Rattle.std.specs.Prelude.{◌≡◌};
-    ghost use Rattle.dimacs.specs.logic.Base.{base_of, pure_literals};
+    ghost use Rattle.cube_split.specs.Definitions.{pure_opening};
+    ghost use Rattle.dimacs.specs.logic.Base.{base_of};
     ghost use Rattle.coordinator_core.specs.Coordinator.{CoordinatorState};
     ghost use Rattle.coordinator_core.specs.Invariant.{IsCoordinator};
     ghost use Rattle.coordinator_core.specs.Tables.{next_of};
@@ -69,7 +70,7 @@ impl Model for Coordinator {
       verdict = c.verdict;
     } };
 
-    ghost invariant = { λ c. (c.preamble ≡ pure_literals c.formula) × (c.base ≡ base_of c.formula) × IsCoordinator (record {
+    ghost invariant = { λ c. (c.preamble ≡ pure_opening c.formula) × (c.base ≡ base_of c.formula) × IsCoordinator (record {
       formula = c.formula;
       session = c.session;
       limit = c.limit;

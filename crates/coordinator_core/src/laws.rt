@@ -32,7 +32,7 @@ pub fn coordinators_keep_what_they_hold()
 }
 
 /// What the type of a coordinator keeps is kept where clauses are added to its formula; the formula that it has then is the one with
-/// these clauses exactly where they were taken; else nothing changes.
+/// these clauses if and only if they were taken; else nothing changes.
 pub fn extended_coordinators_are_sound()
     ensures sound { (old : CoordinatorState) (x : Cnf) (session : ℕ) (answer : Reaction) (new : CoordinatorState) → ExtendsCoordinator old x session answer new → IsCoordinator old → IsCoordinator new }
     ensures formula { (old : CoordinatorState) (x : Cnf) (session : ℕ) (answer : Reaction) (new : CoordinatorState) → ExtendsCoordinator old x session answer new → new.formula ≡ formula_after x answer old.formula }

@@ -1,6 +1,6 @@
 //! A leaf whose search met its limit is split.
 
-ghost use Rattle.std.specs.Prelude.{◌≡◌, ℕ, ◌<◌, ◌++◌, ◌↔◌, IsTrue, length, map, slice_index_or, Some, None, IfOk, OnOk, OnErr};
+ghost use Rattle.std.specs.Prelude.{◌≡◌, ℕ, ◌<◌, ◌++◌, ◌↔◌, IsTrue, [], length, map, slice_index_or, Some, None, IfOk, OnOk, OnErr};
 ghost use Rattle.dimacs.specs.logic.Base.{pure_literals};
 ghost use Rattle.cube_split.specs.Choice.{Choice};
 ghost use Rattle.coordinator_core.specs.Coordinator.{CanSplit, IsDeciding, MaySplit, MeetsLimit, cube_at, job_at, split};
@@ -24,9 +24,10 @@ fn choose(
     preamble: &Preamble,
     cube: &[Lit],
 ) -> Result<Option<Var>, AllocError>
-    requires { HasRoom formula.now.vars tables.old }
+    requires room { HasRoom formula.now.vars tables.old }
+    requires plain { preamble.now.pairs ≡ [] }
     ensures room { HasRoom formula.now.vars tables.new }
-    ensures choice { IfOk result (Choice formula.now (preamble.now ++ cube.now)) }
+    ensures choice { IfOk result (Choice formula.now (preamble.now.units ++ cube.now)) }
 {
     let mut chooser = match tables.take() {
         Some(chooser) => chooser,

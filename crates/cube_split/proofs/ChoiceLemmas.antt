@@ -42,13 +42,13 @@ pub free_negative : (S : List Literal) (w : ℕ) → IsFree S w → has S (Neg w
 free_negative [] w h = refl
 free_negative (l ∷ S) w h = or_from (same (Neg w) l) (has S (Neg w)) (not_negative w l (All-head (λ l. var_of l ≢ w) l S h)) (free_negative S w (All-tail (λ l. var_of l ≢ w) l S h))
 
-unmarked_from : (marks : List Bool) (S : List Literal) (w : ℕ) → AreMarked marks (has S) → 2 * w + 1 < length marks → IsFree S w → IsUnmarked marks w
+pub unmarked_from : (marks : List Bool) (S : List Literal) (w : ℕ) → AreMarked marks (has S) → 2 * w + 1 < length marks → IsFree S w → IsUnmarked marks w
 unmarked_from marks S w m below h = record {
   positive = marked_at marks (has S) (Pos w) m (omega arith) ∙ free_positive S w h;
   negative = marked_at marks (has S) (Neg w) m below ∙ free_negative S w h;
 }
 
-free_unmarked : (marks : List Bool) (S : List Literal) (w : ℕ) → AreMarked marks (has S) → 2 * w + 1 < length marks → IsUnmarked marks w → IsFree S w
+pub free_unmarked : (marks : List Bool) (S : List Literal) (w : ℕ) → AreMarked marks (has S) → 2 * w + 1 < length marks → IsUnmarked marks w → IsFree S w
 free_unmarked marks S w m below u = free_from S w
     (sym (marked_at marks (has S) (Pos w) m (omega arith)) ∙ u.positive)
     (sym (marked_at marks (has S) (Neg w) m below) ∙ u.negative)

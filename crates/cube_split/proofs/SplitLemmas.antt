@@ -3,7 +3,7 @@ use Rattle.std.proofs.Common.{◌≡◌, ◌≢◌, ℕ, suc, ◌*◌, ◌^◌, 
 use Rattle.std.specs.List.{All}
 use Rattle.std.proofs.lemmas.List.Elements.{All-append, All-cons, All-nil, All-push}
 use Rattle.std.proofs.Math.Nat.{pow-suc}
-use Rattle.std.proofs.lemmas.Nat.{pow_pos}
+use Rattle.std.proofs.lemmas.Nat.{pow_pos, pow_below}
 use Rattle.std.proofs.lemmas.Bool.{cases_lt, cases_eq}
 use Rattle.std.proofs.lemmas.List.{take_at}
 use Rattle.std.proofs.lemmas.List.Elements.{All-tail}
@@ -103,3 +103,10 @@ appends_all f units levels path before after none start h =
 pub leaf_alone : (E : Type 0) (f : Cnf) (r : Result (List Cube) E) → IfOk r (λ t. t ≡ [] ∷ []) → IfOk r (IsTreeOf f 0)
 leaf_alone E f (Ok t) h = rw h full
 leaf_alone E f (Err e) h = tt
+
+-- a tree of the greatest depth has room
+pub room_for : (depth : ℕ) → depth ≤ 16 → 2 ^ depth ≤ 65536
+room_for depth le = elim (cases_lt depth 16) [
+  | inl less ↦ let h = pow_below depth 16 less in omega arith
+  | inr over ↦ let e : depth ≡ 16 = omega arith in let f = ap (λ (n : ℕ). 2 ^ n) e in omega arith
+]

@@ -1,12 +1,17 @@
 //! The split rule.
 
-ghost use Rattle.std.specs.Prelude.{◌≡◌, ◌+◌, ◌*◌, ◌<◌, ◌≤◌, ◌++◌, false, length, IfOk};
+ghost use Rattle.std.specs.Prelude.{◌≡◌, ◌+◌, ◌*◌, ◌<◌, ◌≤◌, ◌++◌, false, List, [], length, All, IfOk};
+ghost use Rattle.dimacs.specs.logic.Literal.{Literal, has};
 ghost use Rattle.cube_split.specs.Choice.{Choice};
+ghost use Rattle.cube_split.specs.Choosing.{Chooses, IsChosen};
+ghost use Rattle.cube_split.specs.Definitions.{IsPairOf};
 ghost use Rattle.cube_split.specs.inner.Marks.{AreMarked};
 ghost use Rattle.cube_split.specs.inner.Tallies.{IsClear};
 
+use crate::definitions::{first_open, mark_held, unmark_pairs};
 use crate::greatest::greatest;
 use crate::marks::{mark, unmark};
+use crate::pair::Pair;
 use crate::tally::Tally;
 use crate::units::Preamble;
 use dimacs::{Formula, Lit, Var};
@@ -35,7 +40,7 @@ impl Model for Chooser {
 }
 
 impl Chooser {
-    /// Tables for formulas of at most so many variables.
+    /// Tables for formulas of at most so many variables, those that are defined among them.
     pub fn reserve(alloc: Global, vars: u32) -> Result<Chooser, AllocError>
         ensures { IfOk result (λ c. c ≡ vars) }
     {
@@ -46,12 +51,16 @@ impl Chooser {
         })
     }
 
-    /// The variable on which a cube is split: with S the literals of preamble and cube, of the variables without a literal in
-    /// S the one that stands in the most clauses without a literal of S, and of several the lowest; None where each of them
-    /// stands in none.
+    /// The variable on which a cube is split, with S the literals of preamble and cube, and those of each pair whose variable is
+    /// in S: the lowest defined variable without a literal in S whose pair's variables have none either; where there is none, of
+    /// the variables without a literal in S the one that stands in the most clauses without a literal of S, and of several the
+    /// lowest; None where each of them stands in none.
     pub fn choose(&mut self, formula: &Formula, preamble: &Preamble, cube: &[Lit]) -> Option<Var>
-        requires { formula.now.vars ≤ self.old }
-        ensures choice { Choice formula.now (preamble.now ++ cube.now) result }
+        requires room { formula.now.vars + length preamble.now.pairs ≤ self.old }
+        requires pairs { All (IsPairOf formula.now.vars) preamble.now.pairs }
+        ensures choice { Chooses formula.now preamble.now cube.now result }
+        // Without definitions the second rule is left.
+        ensures plain { preamble.now.pairs ≡ [] → Choice formula.now (preamble.now.units ++ cube.now) result }
         ensures room { self.new ≡ self.old }
     {
         choose_in(
@@ -59,6 +68,7 @@ impl Chooser {
             &mut self.tally,
             formula,
             preamble.units(),
+            preamble.pairs(),
             cube,
         )
     }
@@ -70,23 +80,64 @@ fn choose_in(
     tally: &mut Tally,
     formula: &Formula,
     units: &[Lit],
+    pairs: &[Pair],
     cube: &[Lit],
 ) -> Option<Var>
     requires clear { IsClear (length tally.old.counts.items) tally.old }
     requires size { length marks.old ≡ 2 * length tally.old.counts.items }
     requires unmarked { AreMarked marks.old (λ l. false) }
-    requires vars { formula.now.vars < length tally.old.counts.items }
-    ensures choice { Choice formula.now (units.now ++ cube.now) result }
+    requires room { formula.now.vars + length pairs.now < length tally.old.counts.items }
+    requires few { length pairs.now ≤ 64 }
+    requires pairs { All (IsPairOf formula.now.vars) pairs.now }
+    ensures choice { Chooses formula.now (record { units = units.now; pairs = pairs.now }) cube.now result }
+    ensures plain { pairs.now ≡ [] → Choice formula.now (units.now ++ cube.now) result }
     ensures clear { IsClear (length tally.old.counts.items) tally.new }
     ensures unmarked { AreMarked marks.new (λ l. false) }
 {
-    let _vars = formula.vars(); // with it comes that no literal is of another variable
+    let vars = formula.vars();
     mark(marks, units);
     mark(marks, cube);
+    mark_held(marks, vars, pairs);
+    let choice = choose_marked(marks, tally, formula, pairs);
+    unmark(marks, units);
+    unmark(marks, cube);
+    unmark_pairs(marks, pairs);
+    choice
+}
+
+/// The choice, where the literals of S are marked.
+fn choose_marked(
+    marks: &[bool],
+    tally: &mut Tally,
+    formula: &Formula,
+    pairs: &[Pair],
+) -> Option<Var>
+    requires clear { IsClear (length tally.old.counts.items) tally.old }
+    requires size { length marks.now ≡ 2 * length tally.old.counts.items }
+    requires room { formula.now.vars + length pairs.now < length tally.old.counts.items }
+    requires few { length pairs.now ≤ 64 }
+    requires pairs { All (IsPairOf formula.now.vars) pairs.now }
+    ensures choice { (S : List Literal) → AreMarked marks.now (has S) → IsChosen formula.now pairs.now S result }
+    ensures clear { IsClear (length tally.old.counts.items) tally.new }
+{
+    let vars = formula.vars();
+    if let Some(defined) = first_open(marks, vars, pairs) {
+        return Some(defined);
+    }
+    choose_counted(marks, tally, formula)
+}
+
+/// The variable that stands in the most clauses without a marked literal.
+fn choose_counted(marks: &[bool], tally: &mut Tally, formula: &Formula) -> Option<Var>
+    requires clear { IsClear (length tally.old.counts.items) tally.old }
+    requires size { length marks.now ≡ 2 * length tally.old.counts.items }
+    requires vars { formula.now.vars < length tally.old.counts.items }
+    ensures choice { (S : List Literal) → AreMarked marks.now (has S) → Choice formula.now S result }
+    ensures clear { IsClear (length tally.old.counts.items) tally.new }
+{
+    let _vars = formula.vars(); // with it comes that no literal is of another variable
     tally.count_clauses(marks, formula);
     let choice = greatest(marks, &tally.counts, tally.variables());
     tally.clear();
-    unmark(marks, units);
-    unmark(marks, cube);
     choice
 }

@@ -7,7 +7,7 @@ ghost use Rattle.cube_split.specs.inner.Tallies.{AreListed};
 use dimacs::Var;
 
 /// Whether neither literal of a variable is marked.
-fn is_unmarked(marks: &[bool], var: Var) -> bool
+pub(crate) fn is_unmarked(marks: &[bool], var: Var) -> bool
     requires { 2 * var + 1 < length marks.now }
     ensures { result ≡ not (slice_index_or marks.now (2 * var) false || slice_index_or marks.now (2 * var + 1) false) }
 {

@@ -6,19 +6,26 @@
 #![tactic(auto)]
 
 mod chooser;
+mod defined_tree;
+mod definitions;
+mod gathering;
 mod greatest;
 mod laws;
 mod marks;
 mod open;
+mod pair;
 mod places;
 mod pure;
+mod ranking;
 mod splitting;
 mod tally;
 mod units;
 mod walk;
 
 pub use chooser::Chooser;
+pub use defined_tree::tree_with;
 pub use laws::units_are_rat;
-pub use pure::preamble;
+pub use pair::Pair;
+pub use pure::{preamble, preamble_with};
 pub use splitting::{grow, tree};
 pub use units::Preamble;

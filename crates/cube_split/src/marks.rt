@@ -1,11 +1,12 @@
 //! A table that says of each literal whether it was marked.
 
-ghost use Rattle.std.specs.Prelude.{◌≡◌, ◌<◌, ◌↔◌, ◌||◌, ◌&&◌, length, IsTrue, Bool, All, not, false};
+ghost use Rattle.std.specs.Prelude.{◌≡◌, ◌+◌, ◌*◌, ◌<◌, ◌≤◌, ◌↔◌, IfOk, ◌||◌, ◌&&◌, length, IsTrue, Bool, All, not, false};
 ghost use Rattle.std.specs.List.{list_any};
 ghost use Rattle.dimacs.specs.logic.Literal.{Literal, index_of, has};
 ghost use Rattle.cube_split.specs.inner.Marks.{AreMarked};
 
 use dimacs::Lit;
+use std::alloc::{AllocError, Global};
 
 /// Marks literals; those beyond the table are passed over.
 pub(crate) fn mark(marks: &mut [bool], literals: &[Lit])
@@ -17,6 +18,17 @@ pub(crate) fn mark(marks: &mut [bool], literals: &[Lit])
             marks[at] = true;
         }
     }
+}
+
+/// The marks of some literals, by which each variable up to `vars` has two places.
+pub(crate) fn marks_of(alloc: Global, literals: &[Lit], vars: u32) -> Result<Vec<bool>, AllocError>
+    requires { vars ≤ 1000000 }
+    ensures marked { IfOk result (λ m. AreMarked m.items (has literals.now)) }
+    ensures size { IfOk result (λ m. length m.items ≡ 2 * (vars + 1)) }
+{
+    let mut marks = vec![in alloc; false; 2 * (vars as usize + 1)]?;
+    mark(&mut marks, literals);
+    Ok(marks)
 }
 
 /// Takes the marks of literals away; those beyond the table are passed over.

@@ -1,11 +1,14 @@
-//! The preamble of a formula: the units of its pure literals.
+//! The preamble of a formula: the units of its pure literals, and definitions.
 
 ghost use Rattle.std.specs.Prelude.{◌≡◌, ◌+◌, ◌*◌, ◌<◌, ◌≤◌, ◌&&◌, ◌∷◌, [], not, filter, length, vec_len, All, Bool, List, IfOk, option_to_list};
 ghost use Rattle.dimacs.specs.logic.Base.{occurs, pure_literals};
 ghost use Rattle.dimacs.specs.logic.Literal.{Literal, Clause, Pos, Neg, negation, IsWithin};
+ghost use Rattle.cube_split.specs.Definitions.{IsPairOf, pure_opening};
 ghost use Rattle.cube_split.specs.inner.Marks.{AreMarked};
+ghost use Rattle.cube_split.specs.Pairs.{AreDefined};
 
 use crate::marks::mark;
+use crate::ranking::defined_pairs;
 use crate::units::Preamble;
 use dimacs::{Formula, Lit, Var};
 use std::alloc::{AllocError, Global};
@@ -56,12 +59,26 @@ fn pure_units(alloc: Global, marks: &[bool], vars: u32) -> Result<Vec<Lit>, Allo
 /// The preamble of a formula: the unit of each pure literal, variables rising. A literal is pure where it occurs in the
 /// formula and its negation does not.
 pub fn preamble(alloc: Global, formula: &Formula) -> Result<Preamble, AllocError>
-    ensures units { IfOk result (λ p. p ≡ pure_literals formula.now) }
-    ensures within { IfOk result (λ p. All (IsWithin formula.now.vars) p) }
+    ensures units { IfOk result (λ p. p ≡ pure_opening formula.now) }
+    ensures within { IfOk result (λ p. All (IsWithin formula.now.vars) p.units) }
+{
+    preamble_with(alloc, formula, 0)
+}
+
+/// The same units, and behind them as many definitions as are wanted, or fewer where no pair is left: again and again the pair
+/// of literals that stand together in the most clauses of two or three distinct literals, and of several the one of the lower
+/// first variable, then of the lower second one, then with a positive first literal, then with a positive second one.
+pub fn preamble_with(alloc: Global, formula: &Formula, defs: u32) -> Result<Preamble, AllocError>
+    requires { defs ≤ 64 }
+    ensures units { IfOk result (λ p. p.units ≡ pure_literals formula.now) }
+    ensures pairs { IfOk result (λ p. AreDefined formula.now defs [] p.pairs) }
+    ensures within { IfOk result (λ p. All (IsWithin formula.now.vars) p.units) }
+    ensures inside { IfOk result (λ p. All (IsPairOf formula.now.vars) p.pairs) }
 {
     let vars = formula.vars();
     let mut marks = vec![in alloc; false; 2 * vars as usize + 2]?;
     mark_occurring(&mut marks, formula);
     let units = pure_units(alloc, &marks, vars)?;
-    Ok(Preamble::from_units(units))
+    let pairs = defined_pairs(alloc, formula, &units, defs)?;
+    Ok(Preamble::new(units, pairs))
 }

@@ -1,67 +1,91 @@
-//! Unit clauses that may be added to a formula before it is split.
+//! What may be added to a formula before it is split: unit clauses, and definitions.
 
-ghost use Rattle.std.specs.Prelude.{◌≡◌, ◌≤◌, length, All, IfOk};
+ghost use Rattle.std.specs.Prelude.{◌≡◌, ◌+◌, ◌*◌, ◌≤◌, ◌++◌, ◌∷◌, [], length, All, IfOk, OnOk};
 ghost use Rattle.dimacs.specs.logic.Base.{pure_literals, base_of};
-ghost use Rattle.dimacs.specs.logic.Cnf.{IsFormula};
+ghost use Rattle.dimacs.specs.logic.Cnf.{IsFormula, literal_count};
 ghost use Rattle.dimacs.specs.logic.Literal.{IsWithin};
+ghost use Rattle.cube_split.specs.Definitions.{IsPairOf, all_clauses, base_with, opened, pure_opening, with_definitions};
 ghost use Rattle.cube_split.specs.Splitting.{with_units};
 
-use dimacs::{Base, Formula, Lit};
+use crate::pair::Pair;
+use dimacs::{Base, Formula, Lit, Var};
 use std::alloc::{AllocError, Global};
 use std::marker::Model;
 
-/// The literals of unit clauses that may be added to a formula before it is split: as many as it has variables at most.
+/// What may be added to a formula before it is split: the literals of unit clauses, as many as it has variables at most, and
+/// behind them the pairs that are defined, 64 at most, the first by the variable behind the formula's.
 #[derive(Drop)]
 pub struct Preamble {
     units: Vec<Lit>,
+    pairs: Vec<Pair>,
 }
 
 impl Model for Preamble {
-    ghost use Rattle.std.specs.Prelude.{List, ◌≤◌, length};
-    ghost use Rattle.dimacs.specs.logic.Literal.{Literal};
+    ghost use Rattle.std.specs.Prelude.{◌≤◌, length};
+    ghost use Rattle.cube_split.specs.Definitions.{Opening};
 
-    ghost Value = { List Literal };
+    ghost Value = { Opening };
 
-    ghost view = { λ p. p.units.items };
+    ghost view = { λ p. record { units = p.units.items; pairs = p.pairs.items } };
 
-    ghost invariant = { λ p. length p.units.items ≤ 1000000 };
+    ghost invariant = { λ p. (length p.units.items ≤ 1000000) × (length p.pairs.items ≤ 64) };
 }
 
 impl Preamble {
-    pub(crate) fn from_units(units: Vec<Lit>) -> Preamble
-        requires { length units.items ≤ 1000000 }
-        ensures { result ≡ units.items }
+    pub(crate) fn new(units: Vec<Lit>, pairs: Vec<Pair>) -> Preamble
+        requires units { length units.items ≤ 1000000 }
+        requires pairs { length pairs.items ≤ 64 }
+        ensures { result ≡ record { units = units.items; pairs = pairs.items } }
     {
-        Preamble { units }
+        Preamble { units, pairs }
     }
 
     /// The literals of its unit clauses.
     pub fn units(&self) -> &[Lit]
-        ensures value { result.now ≡ self.now }
+        ensures value { result.now ≡ self.now.units }
         ensures limit { length result.now ≤ 1000000 }
     {
         &self.units
     }
 
-    /// The formula, followed by the unit clauses.
+    /// The pairs that are defined, each by the variable behind the one before.
+    pub fn pairs(&self) -> &[Pair]
+        ensures value { result.now ≡ self.now.pairs }
+        ensures limit { length result.now ≤ 64 }
+    {
+        &self.pairs
+    }
+
+    /// The formula, followed by the unit clauses and the clauses of the definitions.
     pub fn base(&self, alloc: Global, formula: &Formula) -> Result<Base, AllocError>
-        requires { All (IsWithin formula.now.vars) self.now }
-        ensures units { IfOk result (λ b. b ≡ with_units formula.now self.now) }
-        // The base of the formula, where this is its own preamble.
-        ensures base { self.now ≡ pure_literals formula.now → IfOk result (λ b. b ≡ base_of formula.now) }
+        requires units { All (IsWithin formula.now.vars) self.now.units }
+        requires pairs { All (IsPairOf formula.now.vars) self.now.pairs }
+        ensures opened { IfOk result (λ b. b ≡ opened formula.now self.now) }
+        // The base of the formula, where these are its own units.
+        ensures base { self.now.units ≡ pure_literals formula.now → IfOk result (λ b. b ≡ base_with formula.now self.now.pairs) }
+        // And without definitions.
+        ensures plain { self.now ≡ pure_opening formula.now → IfOk result (λ b. b ≡ base_of formula.now) }
     {
         let _ = formula.vars();
-        append_units(Base::of(alloc, formula)?, &self.units)
+        append_definitions(
+            append_units(Base::of(alloc, formula)?, &self.units)?,
+            &self.pairs,
+        )
     }
 
     /// The same base, of a formula that is no longer needed: its lists become the base's.
     pub fn base_from(&self, formula: Formula) -> Result<Base, AllocError>
-        requires { All (IsWithin formula.vars) self.now }
-        ensures units { IfOk result (λ b. b ≡ with_units formula self.now) }
-        ensures base { self.now ≡ pure_literals formula → IfOk result (λ b. b ≡ base_of formula) }
+        requires units { All (IsWithin formula.vars) self.now.units }
+        requires pairs { All (IsPairOf formula.vars) self.now.pairs }
+        ensures opened { IfOk result (λ b. b ≡ opened formula self.now) }
+        ensures base { self.now.units ≡ pure_literals formula → IfOk result (λ b. b ≡ base_with formula self.now.pairs) }
+        ensures plain { self.now ≡ pure_opening formula → IfOk result (λ b. b ≡ base_of formula) }
     {
         let _ = formula.vars();
-        append_units(Base::from_formula(formula), &self.units)
+        append_definitions(
+            append_units(Base::from_formula(formula), &self.units)?,
+            &self.pairs,
+        )
     }
 }
 
@@ -75,6 +99,40 @@ fn append_units(front: Base, units: &[Lit]) -> Result<Base, AllocError>
     let mut base = front;
     for unit in units {
         base.push_clause(&[*unit])?;
+    }
+    Ok(base)
+}
+
+/// Appends the clauses that define a variable by a pair of lower ones.
+fn push_definition(base: &mut Base, variable: Var, pair: Pair) -> Result<(), AllocError>
+    requires pair { IsPairOf variable pair }
+    requires variable { variable ≤ base.old.vars }
+    requires room { length base.old.clauses + 3 ≤ 5000192 }
+    requires literals { literal_count base.old.clauses + 7 ≤ 51000448 }
+    ensures { OnOk result (base.new ≡ record base.old { clauses = base.old.clauses ++ all_clauses variable (pair ∷ []) }) }
+{
+    let defined = Lit::positive(variable);
+    base.push_clause(&[defined, pair.first.negate(), pair.second.negate()])?;
+    base.push_clause(&[defined.negate(), pair.first])?;
+    base.push_clause(&[defined.negate(), pair.second])?;
+    Ok(())
+}
+
+/// Appends the clauses that define a variable by each pair, and adds these variables.
+fn append_definitions(front: Base, pairs: &[Pair]) -> Result<Base, AllocError>
+    requires vars { front.vars ≤ 1000000 }
+    requires clauses { length front.clauses ≤ 5000000 }
+    requires literals { literal_count front.clauses ≤ 51000000 }
+    requires limit { length pairs.now ≤ 64 }
+    requires within { All (IsPairOf front.vars) pairs.now }
+    ensures { IfOk result (λ b. b ≡ with_definitions front pairs.now) }
+{
+    let mut base = front;
+    let mut variable = base.vars();
+    base.add_vars(pairs.len() as u32);
+    for &pair in pairs {
+        variable += 1;
+        push_definition(&mut base, Var::new(variable), pair)?;
     }
     Ok(base)
 }

@@ -11,7 +11,7 @@ ghost use Rattle.cube_split.specs.inner.Tallies.{IsTally};
 ghost use Rattle.cube_split.specs.inner.Walking.{StandsAt, IsClosedBy};
 
 use crate::greatest::greatest;
-use crate::marks::{is_apart, mark};
+use crate::marks::{is_apart, marks_of};
 use crate::open::{close, reopen};
 use crate::places::Places;
 use crate::tally::Tally;
@@ -52,17 +52,6 @@ fn closed_by_units(alloc: Global, marks: &[bool], formula: &Formula) -> Result<V
     Ok(closed)
 }
 
-/// The marks of some literals, by which each variable up to `vars` has two places.
-fn marks_of(alloc: Global, literals: &[Lit], vars: u32) -> Result<Vec<bool>, AllocError>
-    requires { vars ≤ 1000000 }
-    ensures marked { IfOk result (λ m. AreMarked m.items (has literals.now)) }
-    ensures size { IfOk result (λ m. length m.items ≡ 2 * (vars + 1)) }
-{
-    let mut marks = vec![in alloc; false; 2 * (vars as usize + 1)]?;
-    mark(&mut marks, literals);
-    Ok(marks)
-}
-
 /// Counts for each variable the clauses without a marked literal in which it stands.
 fn tally_of(alloc: Global, marks: &[bool], formula: &Formula) -> Result<Tally, AllocError>
     requires { length marks.now ≡ 2 * (formula.now.vars + 1) }
@@ -83,7 +72,7 @@ impl Walk {
         formula: &Formula,
         preamble: &Preamble,
     ) -> Result<Walk, AllocError>
-        ensures { IfOk result (λ s. StandsAt formula.now preamble.now [] s) }
+        ensures { IfOk result (λ s. StandsAt formula.now preamble.now.units [] s) }
     {
         let places = Places::of(alloc, formula)?;
         let marks = marks_of(alloc, preamble.units(), formula.vars())?;

@@ -11,9 +11,9 @@ use Rattle.lrat_check.specs.declared.verdict.Verdict.{Verdict}
 use Rattle.lrat_check.specs.declared.verdict.Verdict.TheVariants.{Nothing, Model, Proof}
 use Rattle.proof_join.specs.Renumbering.{Renumbers, RefutesByRup}
 use Rattle.proof_join.proofs.KeptLemmas.{renumbered_once, renumbered_accepted}
-use Rattle.evidence.specs.inner.Keeping.{IsHeldIfAccepted}
 use Rattle.evidence.specs.declared.keeping.Grown.{Grown}
 use Rattle.evidence.specs.Keeping.{IsGrown, lengthened, values_in, IsTextIn, Stays}
+use Rattle.evidence.specs.inner.Keeping.{IsHeldIfAccepted}
 
 not_model : (text : List ℕ) (values : List Bool) → ◌≡◌ {A = Verdict} (Proof text) (Model values) → ⊥
 not_model text values e = cc

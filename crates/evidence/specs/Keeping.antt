@@ -22,7 +22,7 @@ values_in F x values = lengthened (extended F x).vars values
 abbrev pub IsTextIn : Cnf → Cnf → List ℕ → List ℕ → Type 0
 IsTextIn F x text new = Renumbers (length F.clauses) (length x.clauses) text new
 
--- What is held of a formula stays, for the extended one, exactly where it is right for that.
+-- What is held of a formula stays, for the extended one, if and only if it is right for that.
 pub data Stays (F x : Cnf) (old new : Verdict) : Type 0 where
   nothing : old ≡ Nothing → new ≡ Nothing → Stays F x old new
   -- an assignment, with false for the new variables

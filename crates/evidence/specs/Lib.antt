@@ -1,5 +1,5 @@
-pub mod Jobs
-pub mod Evidence
 pub mod Events
+pub mod Evidence
+pub mod Jobs
 pub mod Keeping
 pub mod inner

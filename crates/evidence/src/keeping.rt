@@ -22,8 +22,8 @@ pub struct Grown {
 
 /// The formula with these clauses behind its own, and what is kept of a right verdict on it; `None` where it would be above a limit.
 ///
-/// An assignment is extended by false, and kept exactly where it satisfies the new formula. A proof is kept, under raised numbers,
-/// exactly where it is accepted for the new formula, which a proof by reverse unit propagation alone always is, unless it gets
+/// An assignment is extended by false, and kept if and only if it satisfies the new formula. A proof is kept, under raised numbers,
+/// if and only if it is accepted for the new formula, which a proof by reverse unit propagation alone always is, unless it gets
 /// too long.
 pub fn grow(
     alloc: Global,

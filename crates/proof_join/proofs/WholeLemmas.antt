@@ -16,15 +16,15 @@ use Rattle.lrat_text.specs.Writing.{line_of}
 use Rattle.lrat_text.specs.declared.step.Step.{Step}
 use Rattle.lrat_text.specs.declared.step.Step.TheVariants.{Add, Delete}
 use Rattle.lrat_text.specs.Runs.{text_of, top_of}
-use Rattle.proof_join.specs.Joining.{Closed, leaf, fork, cubes, fragments, part, joined_text, AreSpelled, Joined, AllClose, unit_steps}
+use Rattle.proof_join.specs.Joining.{Closed, leaf, fork, cubes, fragments, part, joined_text, AreSpelled, Joined, AllClose, IsPreamble, unit_steps}
 use Rattle.proof_join.specs.inner.Steps.{Writes, steps_in, steps_each, IsLow, AreLow, IsOwn, IsFragment, EndsByAddition, IsBelow}
-use Rattle.proof_join.proofs.JoinLemmas.{some_clause, tree_closed, units_accept}
+use Rattle.proof_join.proofs.JoinLemmas.{some_clause, tree_closed, joined_accepts}
 use Rattle.lrat_text.specs.Proof.{Accepts}
 use Rattle.cube_split.proofs.PureLemmas.{pure_within}
 use Rattle.proof_join.specs.declared.fault.JoinFault.{JoinFault}
 use Rattle.proof_join.specs.declared.fault.JoinFault.TheVariants.{TooLong, NoMemory}
 use Rattle.proof_join.proofs.MapLemmas.{AreBetween, between_formula, some_live}
-use Rattle.proof_join.proofs.PreambleLemmas.{units_length, units_lead}
+use Rattle.proof_join.proofs.PreambleLemmas.{rat_top}
 use Rattle.proof_join.proofs.RupLemmas.{hint_live}
 use Rattle.proof_join.proofs.ShapeLemmas.{joined_some, joined_once}
 use Rattle.proof_join.proofs.StepLemmas.{spelled_in}
@@ -111,20 +111,17 @@ units_front out top n units =
 pub pure_small : (F : Cnf) → F.vars ≤ 1000000 → All (IsWithin 2000000) (pure_literals F)
 pure_small F few = All-weaker (IsWithin F.vars) (IsWithin 2000000) (λ l h. let b = h.1 in (h.0, omega arith)) (pure_literals F) (pure_within F)
 
-pub base_length : (F : Cnf) → IsFormula F → length (base_of F).clauses ≡ length F.clauses + length (pure_literals F)
-base_length F limits = (units_lead F limits).count ∙ ap (λ (n : ℕ). length F.clauses + n) (units_length (length F.clauses) (pure_literals F))
-
 pub too_long : (A : Type 0) (fault : JoinFault) (new text : List ℕ) → fault ≡ TooLong → Writes {A = A} (Err fault) new text → 2 ^ 32 ≤ length text
 too_long A TooLong new text e h = h
 too_long A NoMemory new text e h = absurd cc
 
 -- ---- all together
-module _ (F : Cnf) (leaves : List Cube) (texts : List (List ℕ)) (tree : Leaves [] leaves) (close : AllClose (base_of F) leaves texts) where
-  abbrev pub whole : (text : List ℕ) × Joined F (unit_steps (length F.clauses) (pure_literals F)) leaves texts text
-  whole = joined_some F (base_of F) (unit_steps (length F.clauses) (pure_literals F)) leaves texts tree close
+module _ (F B : Cnf) (lines : List Step) (leaves : List Cube) (texts : List (List ℕ)) (tree : Leaves [] leaves) (close : AllClose B leaves texts) where
+  abbrev pub whole : (text : List ℕ) × Joined F lines leaves texts text
+  whole = joined_some F B lines leaves texts tree close
 
-  pub base_some : 1 ≤ length (base_of F).clauses
-  base_some = some_clause (base_of F) [] whole.1.tree (tree_closed (base_of F) whole.1.tree leaves texts whole.1.free whole.1.leaves_are close whole.1.spelled)
+  pub base_some : 1 ≤ length B.clauses
+  base_some = some_clause B [] whole.1.tree (tree_closed B whole.1.tree leaves texts whole.1.free whole.1.leaves_are close whole.1.spelled)
 
   abbrev pub all_below : IsBelow leaves (steps_each texts) 0 0
   all_below = record {
@@ -137,29 +134,28 @@ module _ (F : Cnf) (leaves : List Cube) (texts : List (List ℕ)) (tree : Leaves
     steps_are = each_spelled texts (fragments whole.1.tree) whole.1.spelled ∙ sym (append-nil (fragments whole.1.tree));
   }
 
-  pub whole_is : (base : ℕ) → base ≡ length F.clauses + length (pure_literals F)
-      → text_of (length F.clauses) (unit_steps (length F.clauses) (pure_literals F)) ++ text_of base (part base [] base whole.1.tree).steps ≡ whole.0
-  whole_is base e =
+  pub whole_is : IsPreamble F B lines → (base : ℕ) → base ≡ length B.clauses
+      → text_of (length F.clauses) lines ++ text_of base (part base [] base whole.1.tree).steps ≡ whole.0
+  whole_is lead base e =
       let m : ℕ = length F.clauses in
-      let units : List Step = unit_steps m (pure_literals F) in
-      let b : ℕ = m + length units in
-      let same : base ≡ b = e ∙ ap (λ (n : ℕ). m + n) (sym (units_length m (pure_literals F))) in
-      ap (λ (n : ℕ). text_of m units ++ text_of n (part n [] n whole.1.tree).steps) same
-      ∙ ap (λ (n : ℕ). text_of m units ++ text_of n (part b [] b whole.1.tree).steps) (sym (units_top m (pure_literals F) ∙ ap (λ (n : ℕ). m + n) (sym (units_length m (pure_literals F)))))
-      ∙ sym (text_append m units (part b [] b whole.1.tree).steps)
+      let b : ℕ = m + length lines in
+      let same : base ≡ b = e ∙ lead.count in
+      ap (λ (n : ℕ). text_of m lines ++ text_of n (part n [] n whole.1.tree).steps) same
+      ∙ ap (λ (n : ℕ). text_of m lines ++ text_of n (part b [] b whole.1.tree).steps) (sym (rat_top (map_of F) m lines lead.rat))
+      ∙ sym (text_append m lines (part b [] b whole.1.tree).steps)
       ∙ sym whole.1.is
 
-  pub whole_once : (text : List ℕ) → Joined F (unit_steps (length F.clauses) (pure_literals F)) leaves texts text → text ≡ whole.0
-  whole_once text j = joined_once F (unit_steps (length F.clauses) (pure_literals F)) leaves texts text whole.0 j whole.1
+  pub whole_once : (text : List ℕ) → Joined F lines leaves texts text → text ≡ whole.0
+  whole_once text j = joined_once F lines leaves texts text whole.0 j whole.1
 
-  pub whole_joined : (text : List ℕ) → text ≡ whole.0 → Joined F (unit_steps (length F.clauses) (pure_literals F)) leaves texts text
-  whole_joined text e = subst (Joined F (unit_steps (length F.clauses) (pure_literals F)) leaves texts) (sym e) whole.1
+  pub whole_joined : (text : List ℕ) → text ≡ whole.0 → Joined F lines leaves texts text
+  whole_joined text e = subst (Joined F lines leaves texts) (sym e) whole.1
 
-  pub whole_accepts : (text : List ℕ) → IsFormula F → text ≡ whole.0 → length text < 2 ^ 32 → Accepts F text
-  whole_accepts text limits e short = units_accept F leaves texts text limits close (whole_joined text e) short
+  pub whole_accepts : IsPreamble F B lines → (text : List ℕ) → IsFormula F → text ≡ whole.0 → length text < 2 ^ 32 → Accepts F text
+  whole_accepts lead text limits e short = joined_accepts F B lines leaves texts text limits.clauses lead close (whole_joined text e) short
 
   -- what is too long before the end is too long at the end
-  pub whole_long : (short more text : List ℕ) → short ++ more ≡ whole.0 → 2 ^ 32 ≤ length short → Joined F (unit_steps (length F.clauses) (pure_literals F)) leaves texts text → 2 ^ 32 ≤ length text
+  pub whole_long : (short more text : List ℕ) → short ++ more ≡ whole.0 → 2 ^ 32 ≤ length short → Joined F lines leaves texts text → 2 ^ 32 ≤ length text
   whole_long short more text e long j =
       let a : length (short ++ more) ≡ length text = ap length (e ∙ sym (whole_once text j)) in
       let b = length-append short more in

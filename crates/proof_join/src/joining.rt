@@ -1,18 +1,20 @@
 //! Joins the fragments of a tree's leaves.
 
-ghost use Rattle.std.specs.Prelude.{◌≡◌, ℕ, ◌+◌, ◌^◌, ◌<◌, ◌≤◌, ◌++◌, List, [], map, length, slice_index_or, All, OnOk, IfOk, IfErr};
-ghost use Rattle.dimacs.specs.logic.Base.{pure_literals, base_of};
+ghost use Rattle.std.specs.Prelude.{◌≡◌, ℕ, ◌+◌, ◌*◌, ◌^◌, ◌<◌, ◌≤◌, ◌++◌, List, [], map, length, slice_index_or, All, OnOk, IfOk, IfErr};
+ghost use Rattle.cube_split.specs.Definitions.{IsPairOf, base_with};
+ghost use Rattle.dimacs.specs.logic.Base.{pure_literals};
 ghost use Rattle.dimacs.specs.logic.Literal.{IsWithin};
 ghost use Rattle.lrat_text.specs.Proof.{Accepts};
-ghost use Rattle.proof_join.specs.Joining.{AllClose, JoinedUnits, cubes, part, unit_steps};
+ghost use Rattle.proof_join.specs.Definitions.{all_steps, definition_steps, preamble_steps};
+ghost use Rattle.proof_join.specs.Joining.{AllClose, Joined, cubes, part, unit_steps};
 ghost use Rattle.lrat_text.specs.Runs.{text_of};
 ghost use Rattle.proof_join.specs.inner.Steps.{IsBelow, IsFragment, Writes, steps_each};
 
 use crate::fault::JoinFault;
 use crate::lines::put_line;
 use crate::subtree::{Subtree, Writer, put_fork, put_leaf};
-use cube_split::Preamble;
-use dimacs::{Formula, Lit};
+use cube_split::{Pair, Preamble};
+use dimacs::{Formula, Lit, Var};
 use icnf::Tree;
 use lrat_text::{Groups, StepBuffer, StepRef};
 use std::alloc::Global;
@@ -97,6 +99,105 @@ fn put_units(alloc: Global, out: &mut Vec<u8>, top: u64, units: &[Lit]) -> Resul
     Ok(last)
 }
 
+/// Appends the three lines that define a variable by a pair, numbered on behind `top`.
+fn put_definition(
+    alloc: Global,
+    out: &mut Vec<u8>,
+    top: u64,
+    variable: Var,
+    pair: Pair,
+) -> Result<(), JoinFault>
+    requires few { top ≤ 6000000 }
+    requires variable { (0 < variable) × (variable ≤ 2000000) }
+    requires first { IsWithin 2000000 pair.first }
+    requires second { IsWithin 2000000 pair.second }
+    ensures { Writes result out.new.items (out.old.items ++ text_of top (definition_steps top variable pair)) }
+{
+    let defined = Lit::positive(variable);
+    let none = Groups::new(alloc);
+    let mut first_line = Groups::new(alloc);
+    match first_line.push(top + 1, &[]) {
+        Ok(()) => {}
+        Err(_) => return Err(JoinFault::NoMemory),
+    }
+    let both = StepRef::Add {
+        id: top + 1,
+        lits: &[defined, pair.first.negate(), pair.second.negate()],
+        hints: &[],
+        groups: &none,
+    };
+    match put_line(out, top + 1, both) {
+        Ok(()) => {}
+        Err(fault) => return Err(fault),
+    }
+    let one = StepRef::Add {
+        id: top + 2,
+        lits: &[defined.negate(), pair.first],
+        hints: &[],
+        groups: &first_line,
+    };
+    match put_line(out, top + 2, one) {
+        Ok(()) => {}
+        Err(fault) => return Err(fault),
+    }
+    let other = StepRef::Add {
+        id: top + 3,
+        lits: &[defined.negate(), pair.second],
+        hints: &[],
+        groups: &first_line,
+    };
+    put_line(out, top + 3, other)
+}
+
+/// Appends the lines that define a variable behind `vars` by each pair, numbered on behind `top`, and tells the number of the
+/// last one.
+fn put_definitions(
+    alloc: Global,
+    out: &mut Vec<u8>,
+    top: u64,
+    vars: u32,
+    pairs: &[Pair],
+) -> Result<u64, JoinFault>
+    requires few { (top ≤ 5000000) × (vars ≤ 1000000) × (length pairs.now ≤ 64) }
+    requires within { All (IsPairOf vars) pairs.now }
+    requires short { length out.old.items < 2 ^ 32 }
+    ensures text { Writes result out.new.items (out.old.items ++ text_of top (all_steps top (vars + 1) pairs.now)) }
+    ensures top { IfOk result (λ n. n ≡ top + 3 * length pairs.now) }
+{
+    let mut last = top;
+    let mut variable = vars;
+    for &pair in pairs {
+        variable += 1;
+        match put_definition(alloc, out, last, Var::new(variable), pair) {
+            Ok(()) => last += 3,
+            Err(fault) => return Err(fault),
+        }
+    }
+    Ok(last)
+}
+
+/// Appends a preamble's lines, and tells the number of the last one, or of the last clause where there is none.
+fn put_preamble(
+    alloc: Global,
+    out: &mut Vec<u8>,
+    formula: &Formula,
+    preamble: &Preamble,
+) -> Result<u64, JoinFault>
+    requires units { preamble.now.units ≡ pure_literals formula.now }
+    requires pairs { All (IsPairOf formula.now.vars) preamble.now.pairs }
+    requires short { length out.old.items < 2 ^ 32 }
+    ensures text { Writes result out.new.items (out.old.items ++ text_of (length formula.now.clauses) (preamble_steps formula.now preamble.now.pairs)) }
+    ensures top { IfOk result (λ n. n ≡ length (base_with formula.now preamble.now.pairs).clauses) }
+    ensures few { IfOk result (λ n. n ≤ 6000000) }
+{
+    let vars = formula.vars();
+    let top = match put_units(alloc, out, formula.len() as u64, preamble.units()) {
+        Ok(top) => top,
+        Err(fault) => return Err(fault),
+    };
+    put_definitions(alloc, out, top, vars, preamble.pairs())
+}
+
 /// Joins the fragments that close the leaves of a tree into one proof: the preamble's lines, and then each subtree's, the
 /// left branch before the right one and both before the fork.
 ///
@@ -108,19 +209,21 @@ pub fn join(
     tree: &Tree,
     fragments: &[Vec<u8>],
 ) -> Result<Vec<u8>, JoinFault>
-    requires pure { preamble.now ≡ pure_literals formula.now }
-    requires closed { AllClose (base_of formula.now) tree.now (map (λ v. v.items) fragments.now) }
-    ensures joined { IfOk result (λ text. JoinedUnits formula.now tree.now (map (λ v. v.items) fragments.now) text.items) }
+    requires units { preamble.now.units ≡ pure_literals formula.now }
+    requires pairs { All (IsPairOf formula.now.vars) preamble.now.pairs }
+    requires closed { AllClose (base_with formula.now preamble.now.pairs) tree.now (map (λ v. v.items) fragments.now) }
+    ensures joined { IfOk result (λ text. Joined formula.now (preamble_steps formula.now preamble.now.pairs) tree.now (map (λ v. v.items) fragments.now) text.items) }
     ensures short { IfOk result (λ text. length text.items < 2 ^ 32) }
     ensures long { IfErr result (λ f. f ≡ JoinFault.TooLong → (text : List ℕ)
-        → JoinedUnits formula.now tree.now (map (λ v. v.items) fragments.now) text → 2 ^ 32 ≤ length text) }
+        → Joined formula.now (preamble_steps formula.now preamble.now.pairs) tree.now (map (λ v. v.items) fragments.now) text → 2 ^ 32 ≤ length text) }
     // What is joined is a proof of the formula alone.
     ensures accepted { IfOk result (λ text. Accepts formula.now text.items) }
 {
     let _ = tree.leaves();
     let _ = formula.vars();
+    let _ = preamble.pairs();
     let mut out = Vec::new(alloc);
-    let base = match put_units(alloc, &mut out, formula.len() as u64, preamble.units()) {
+    let base = match put_preamble(alloc, &mut out, formula, preamble) {
         Ok(base) => base,
         Err(fault) => return Err(fault),
     };

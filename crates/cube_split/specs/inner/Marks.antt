@@ -1,6 +1,7 @@
 -- Tables over literals and variables.
-use Rattle.std.specs.Prelude.{◌≡◌, ℕ, ◌+◌, ◌<◌, ◌≤◌, ◌*◌, Bool, false, List, Option, Some, None, ◌⊎◌, length, slice_index, slice_index_or}
-use Rattle.dimacs.specs.logic.Literal.{Literal, literal_of}
+use Rattle.std.specs.Prelude.{◌≡◌, ℕ, ◌+◌, ◌<◌, ◌≤◌, ◌*◌, Bool, false, List, [], ◌∷◌, Option, Some, None, ◌⊎◌, length, slice_index, slice_index_or, slice_get}
+use Rattle.dimacs.specs.logic.Literal.{Literal, literal_of, var_of}
+use Rattle.cube_split.specs.declared.pair.Pair.{Pair}
 
 -- the table says of each literal whether the test holds of it; a literal stands at its place, twice its variable, and one more where it is negated
 pub record AreMarked (marks : List Bool) (test : Literal → Bool) : Type 0 where
@@ -28,3 +29,16 @@ IsAhead counts v w = (slice_index counts w < slice_index counts v) ⊎ ((slice_i
 abbrev pub IsAheadOf : List ℕ → ℕ → Option ℕ → Type 0
 IsAheadOf counts v None = 0 < slice_index counts v
 IsAheadOf counts v (Some w) = IsAhead counts v w
+
+-- neither literal of the defined variable number i is marked, nor one of its pair's variables
+pub record IsOpenBy (marks : List Bool) (vars : ℕ) (pairs : List Pair) (i : ℕ) : Type 0 where
+  pub pair : Pair
+  pub there : slice_get pairs i ≡ Some pair
+  pub itself : IsUnmarked marks (vars + 1 + i)
+  pub first : IsUnmarked marks (var_of pair.first)
+  pub second : IsUnmarked marks (var_of pair.second)
+
+-- the literals of some pairs
+abbrev pub literals_of : List Pair → List Literal
+literals_of [] = []
+literals_of (p ∷ pairs) = p.first ∷ p.second ∷ literals_of pairs

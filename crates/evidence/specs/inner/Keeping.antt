@@ -1,4 +1,4 @@
--- What is kept of a text that was judged.
+-- What is held of a text that was judged.
 use Rattle.std.specs.Prelude.{◌≡◌, ℕ, List, ◌⊎◌}
 use Rattle.dimacs.specs.logic.Cnf.{Cnf}
 use Rattle.lrat_text.specs.Proof.{Accepts}

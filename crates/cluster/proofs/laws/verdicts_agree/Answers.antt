@@ -1,6 +1,6 @@
 use Rattle.cluster.proofs.AgreementLemmas.{moments_agree, moments_agree_on_more, along_grown}
-use Rattle.cluster.proofs.ScheduleLemmas.{Keeping, runs_sound, runs_formulas, happens_formulas}
 use Rattle.cluster.proofs.NothingLemmas.{happens_nothing}
+use Rattle.cluster.proofs.ScheduleLemmas.{Keeping, runs_sound, runs_formulas, happens_formulas}
 use Rattle.cluster.proofs.laws.verdicts_agree.Goals as goal
 
 -- what the machines' laws say

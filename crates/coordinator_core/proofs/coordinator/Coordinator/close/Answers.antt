@@ -31,8 +31,8 @@ returns-then-not-are_closed c =
     record { taken = t; text_is = c.emptied-job.ensures.bytes; rows_are = c.close-before.ensures.now; none = c.take.ensures.after } in
     ends_closed _ _ _ _ _ _ _ _ h (λ all. false≢true (sym c.if-not-are_closed.true ∙ c.are_closed.ensures.1 all))
 
-pub join-requires-clause-closed : goal.join-requires-clause-closed
-join-requires-clause-closed c =
+pub join_over_units-requires-clause-closed : goal.join_over_units-requires-clause-closed
+join_over_units-requires-clause-closed c =
     let t = taken_at _ c.args.self.now c.args.worker c.number.result _ _ _ c.self.view_is c.number.ensures.value c.self.invariant.2 c.requires.closes c.index_mut.ensures.value c.take.ensures.value c.in-Some.is in
     let h : IsShut _ c.args.self.now c.args.worker c.number.result c.in-Some.job c.emptied-job.result.1.items c.close-before.new.self c.take.new.self =
     record { taken = t; text_is = c.emptied-job.ensures.bytes; rows_are = c.close-before.ensures.now; none = c.take.ensures.after } in

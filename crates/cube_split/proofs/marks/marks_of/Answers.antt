@@ -3,7 +3,7 @@ use Rattle.std.proofs.lemmas.List.{with_items_is}
 use Rattle.dimacs.specs.logic.Literal.{Literal, has}
 use Rattle.cube_split.specs.inner.Marks.{AreMarked}
 use Rattle.cube_split.proofs.MarkLemmas.{mark_clear, marked_same}
-use Rattle.cube_split.proofs.walk.marks_of.Goals as goal
+use Rattle.cube_split.proofs.marks.marks_of.Goals as goal
 
 pub returns-clause-marked : goal.returns-clause-marked
 returns-clause-marked c =

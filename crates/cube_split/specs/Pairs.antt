@@ -1,0 +1,52 @@
+-- Which pairs are defined: those that stand together in the most short clauses.
+use Rattle.std.specs.Prelude.{◌≡◌, ◌≢◌, ℕ, zero, suc, ◌<◌, ◌≤◌, nat_le, Bool, ◌&&◌, ◌⊎◌, List, [], ◌∷◌, ◌++◌, Contains, count_by, if◌then◌else◌}
+use Rattle.dimacs.specs.logic.Base.{pure_literals}
+use Rattle.dimacs.specs.logic.Cnf.{Cnf}
+use Rattle.dimacs.specs.logic.Literal.{Literal, Clause, has, var_of, is_negative}
+use Rattle.cube_split.specs.Definitions.{IsPairOf}
+use Rattle.cube_split.specs.declared.pair.Pair.{Pair}
+
+-- how many distinct literals a clause has
+abbrev pub distinct : Clause → ℕ
+distinct [] = 0
+distinct (l ∷ C) = if has C l then distinct C else suc (distinct C)
+
+-- a clause is short where it has two or three distinct literals
+abbrev pub is_short : Clause → Bool
+is_short C = nat_le 2 (distinct C) && nat_le (distinct C) 3
+
+-- in how many short clauses both literals of the pair stand
+abbrev pub together : List Clause → Pair → ℕ
+together clauses p = count_by (λ C. is_short C && (has C p.first && has C p.second)) clauses
+
+-- two literals of variables of the formula, of which neither is a unit of the preamble
+pub record IsCandidate (F : Cnf) (p : Pair) : Type 0 where
+  pub of_formula : IsPairOf F.vars p
+  pub first_open : ¬ (Contains (pure_literals F) p.first)
+  pub second_open : ¬ (Contains (pure_literals F) p.second)
+
+-- 0 for a positive literal, 1 for a negative one
+abbrev pub sign : Literal → ℕ
+sign l = if is_negative l then 1 else 0
+
+-- by the first one's variable, then by the second one's, then the first one's sign, then the second one's
+abbrev pub Precedes : Pair → Pair → Type 0
+Precedes p q =
+    (var_of p.first < var_of q.first)
+    ⊎ ((var_of p.first ≡ var_of q.first)
+    × ((var_of p.second < var_of q.second)
+    ⊎ ((var_of p.second ≡ var_of q.second) × ((sign p.first < sign q.first) ⊎ ((sign p.first ≡ sign q.first) × (sign p.second < sign q.second))))))
+
+-- of the pairs that are not taken, p is the one that stands together in the most short clauses, and of several the first
+pub record IsNext (F : Cnf) (taken : List Pair) (p : Pair) : Type 0 where
+  pub candidate : IsCandidate F p
+  pub new : ¬ (Contains taken p)
+  pub some : 0 < together F.clauses p
+  pub most : (q : Pair) → IsCandidate F q → ¬ (Contains taken q) → together F.clauses q ≤ together F.clauses p
+  pub first : (q : Pair) → IsCandidate F q → ¬ (Contains taken q) → together F.clauses q ≡ together F.clauses p → q ≢ p → Precedes p q
+
+-- as many pairs as are wanted, each the next behind those taken, or fewer where none is left
+pub data AreDefined (F : Cnf) : ℕ → List Pair → List Pair → Type 0 where
+  all : {taken : List Pair} → AreDefined F zero taken []
+  none : {left : ℕ} {taken : List Pair} → ((q : Pair) → IsCandidate F q → ¬ (Contains taken q) → together F.clauses q ≡ 0) → AreDefined F left taken []
+  next : {left : ℕ} {taken pairs : List Pair} (p : Pair) → IsNext F taken p → AreDefined F left (taken ++ p ∷ []) pairs → AreDefined F (suc left) taken (p ∷ pairs)

@@ -1,0 +1,66 @@
+//! Defined variables in a table of marks: what they bring with them, and which are open.
+
+ghost use Rattle.std.specs.Prelude.{◌≡◌, ℕ, ◌+◌, ◌*◌, ◌<◌, ◌≤◌, ◌++◌, ◌&&◌, not, Bool, List, true, false, length, All, IfSome, IfNone};
+ghost use Rattle.dimacs.specs.logic.Literal.{Literal, has, var_of};
+ghost use Rattle.cube_split.specs.Choosing.{held_by};
+ghost use Rattle.cube_split.specs.Definitions.{IsPairOf};
+ghost use Rattle.cube_split.specs.inner.Marks.{AreMarked, IsUnmarked, IsOpenBy, literals_of};
+
+use crate::greatest::is_unmarked;
+use crate::marks::{mark, unmark};
+use crate::pair::Pair;
+use dimacs::{Lit, Var};
+
+/// Marks both literals of each pair whose variable is marked. The variables of the pairs stand behind `vars`.
+pub(crate) fn mark_held(marks: &mut [bool], vars: u32, pairs: &[Pair])
+    requires few { (vars ≤ 1000000) × (length pairs.now ≤ 64) }
+    requires room { 2 * (vars + length pairs.now + 1) ≤ length marks.old }
+    requires pairs { All (IsPairOf vars) pairs.now }
+    ensures { (S : List Literal) → AreMarked marks.old (has S) → AreMarked marks.new (has (S ++ held_by S (vars + 1) pairs.now)) }
+{
+    let mut variable = vars;
+    for pair in pairs {
+        variable += 1;
+        if marks[Lit::positive(Var::new(variable)).index()] {
+            mark(marks, &[pair.first, pair.second]);
+        }
+    }
+}
+
+/// Takes the marks of all literals of some pairs away.
+pub(crate) fn unmark_pairs(marks: &mut [bool], pairs: &[Pair])
+    ensures { (test : Literal → Bool) → AreMarked marks.old test → AreMarked marks.new (λ l. test l && not (has (literals_of pairs.now) l)) }
+{
+    for pair in pairs {
+        unmark(marks, &[pair.first, pair.second]);
+    }
+}
+
+/// Whether no literal of a defined variable is marked, nor one of its pair's variables.
+fn is_open(marks: &[bool], variable: Var, pair: Pair) -> bool
+    requires variable { 2 * variable + 1 < length marks.now }
+    requires pair { IsPairOf variable pair }
+    ensures yes { result ≡ true → IsUnmarked marks.now variable × IsUnmarked marks.now (var_of pair.first) × IsUnmarked marks.now (var_of pair.second) }
+    ensures no { result ≡ false → IsUnmarked marks.now variable → IsUnmarked marks.now (var_of pair.first) → IsUnmarked marks.now (var_of pair.second) → ⊥ }
+{
+    is_unmarked(marks, variable)
+        && is_unmarked(marks, pair.first.var())
+        && is_unmarked(marks, pair.second.var())
+}
+
+/// The lowest defined variable of which nothing is marked, nor of its pair's variables.
+pub(crate) fn first_open(marks: &[bool], vars: u32, pairs: &[Pair]) -> Option<Var>
+    requires few { (vars ≤ 1000000) × (length pairs.now ≤ 64) }
+    requires room { 2 * (vars + length pairs.now + 1) ≤ length marks.now }
+    requires pairs { All (IsPairOf vars) pairs.now }
+    ensures some { IfSome result (λ v. (i : ℕ) × (v ≡ vars + 1 + i) × IsOpenBy marks.now vars pairs.now i × ((j : ℕ) → j < i → ¬ (IsOpenBy marks.now vars pairs.now j))) }
+    ensures none { IfNone result ((j : ℕ) → ¬ (IsOpenBy marks.now vars pairs.now j)) }
+{
+    for i in 0..pairs.len() {
+        let variable = Var::new(vars + 1 + i as u32);
+        if is_open(marks, variable, pairs[i]) {
+            return Some(variable);
+        }
+    }
+    None
+}
