@@ -20,8 +20,6 @@ pub(crate) struct Holders {
     /// Whether there are counts.
     pub(crate) counting: bool,
     pub(crate) counts: Vec<usize>,
-    /// Which literals of a clause were met, while it is counted.
-    pub(crate) seen: Vec<bool>,
 }
 
 impl Holders {
@@ -32,7 +30,6 @@ impl Holders {
         Holders {
             counting: false,
             counts: Vec::new(alloc),
-            seen: Vec::new(alloc),
         }
     }
 
@@ -47,10 +44,8 @@ impl Holders {
             return Ok(());
         }
         self.counts.clear();
-        self.seen.clear();
         grow(&mut self.counts, places, 0)?;
-        grow(&mut self.seen, places.max(self.counts.len()), false)?;
-        count_live(store, &mut self.counts, &mut self.seen);
+        count_live(store, &mut self.counts);
         self.counting = true;
         Ok(())
     }
@@ -73,9 +68,7 @@ impl Holders {
         ensures counted { (M : ClauseMap) → AreCounted M self.old → AreCounted M self.new }
     {
         if self.counting {
-            let needed = places.max(self.counts.len());
-            grow(&mut self.seen, needed, false)?;
-            grow(&mut self.counts, needed, 0)?;
+            grow(&mut self.counts, places, 0)?;
         }
         Ok(())
     }

@@ -2,10 +2,9 @@
 
 ghost use Rattle.std.specs.Prelude.{◌≡◌, ◌==◌, map, nat_lt, IfOk};
 ghost use Rattle.std.specs.List.{list_all};
-ghost use Rattle.lrat_check.specs.Judging.{AreValuesOf, IsTextOf, Judges};
+ghost use Rattle.lrat_check.specs.Judging.{AreValuesOf, Judges};
 
-use crate::stream::check;
-use crate::verdict::{ProofText, Verdict};
+use crate::verdict::Verdict;
 use dimacs::{Assignment, Formula, satisfies};
 use std::alloc::{AllocError, Global};
 
@@ -18,21 +17,6 @@ pub enum Judged {
     Wrong,
     /// A growth was refused.
     NoMemory,
-}
-
-/// Whether the text is an accepted proof that no assignment satisfies the formula. `Right` has a copy of it.
-pub fn judge_proof(alloc: Global, formula: &Formula, text: &[u8]) -> Judged
-    ensures { Judges formula.now (IsTextOf text.now) result }
-{
-    match check(alloc, formula, text) {
-        Ok(()) => {}
-        Err(fault) if fault.is_no_memory() => return Judged::NoMemory,
-        Err(_) => return Judged::Wrong,
-    }
-    match Vec::from_slice(alloc, text) {
-        Ok(copy) => Judged::Right(Verdict::Proof(ProofText::from_vec(copy))),
-        Err(_) => Judged::NoMemory,
-    }
 }
 
 /// Whether each byte is 0 or 1.

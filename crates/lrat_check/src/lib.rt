@@ -31,7 +31,7 @@ pub use checker::Checker;
 pub use checking::CheckFault;
 pub use fault::StepFault;
 pub use fragment::check_fragment;
-pub use judging::{Judged, judge_proof, judge_values};
+pub use judging::{Judged, judge_values};
 pub use laws::{
     accepted_proofs_are_sound, fragment_fault_is_exact, proof_fault_is_exact, right_verdicts_agree,
     right_verdicts_are_true, step_fault_is_exact,

@@ -282,9 +282,9 @@ pub(crate) fn whole(slots: &[Cell]) -> &[Cell]
     slots
 }
 
-/// No more clauses are live than a count can tell.
+/// Far fewer clauses are live than a count can tell.
 pub(crate) fn is_small(literals: &[Lit], near: &[Cell], far: &Far)
-    ensures { len (live_of literals.now near.now far.now) < 2 ^ 64 }
+    ensures { len (live_of literals.now near.now far.now) < 2 ^ 63 }
 {
     let _ = literals;
     let _near = whole(near);

@@ -6,4 +6,4 @@ use Rattle.lrat_check.specs.declared.holders.Holders.{Holders}
 
 -- where there are counts, they are those of these clauses
 abbrev pub AreCounted : ClauseMap → Holders → Type 0
-AreCounted M h = OnTrue h.counting (IsCounted M h.counts.items h.seen.items)
+AreCounted M h = OnTrue h.counting (IsCounted M h.counts.items)

@@ -1,5 +1,5 @@
 -- Tables beside the live clauses.
-use Rattle.std.specs.Prelude.{◌≡◌, ℕ, ◌+◌, ◌*◌, ◌<◌, ◌≤◌, Bool, false, List, [], ◌∷◌, All, Option, Some, None, slice_index, slice_index_or, length, if◌then◌else◌}
+use Rattle.std.specs.Prelude.{◌≡◌, ℕ, ◌+◌, ◌*◌, ◌<◌, List, [], ◌∷◌, All, Option, Some, None, slice_index, slice_index_or, length, if◌then◌else◌}
 use Rattle.dimacs.specs.logic.Literal.{Literal, var_of, index_of, Clause, has}
 use Rattle.std.specs.FinMap.{get}
 use Rattle.dimacs.specs.logic.ClauseMap.{ClauseMap}
@@ -14,17 +14,17 @@ FitsTable places C = All (λ l. 2 * var_of l + 1 < places) C
 abbrev pub AllFit : ℕ → ClauseMap → Type 0
 AllFit places M = (id : ℕ) (C : Clause) → get M id ≡ Some C → FitsTable places C
 
--- no literal is marked as seen
-abbrev pub NoneSeen : List Bool → Type 0
-NoneSeen seen = (l : Literal) → slice_index_or seen (index_of l) false ≡ false
-
 -- each literal's count is the number of live clauses that hold it
 abbrev pub CountsAll : List ℕ → ClauseMap → Type 0
 CountsAll counts M = (l : Literal) → slice_index counts (index_of l) ≡ holding M l
 
--- the counts after one more clause
+-- how often a clause counts for the literal
 abbrev pub one_if_has : Clause → Literal → ℕ
 one_if_has C l = if has C l then 1 else 0
+
+-- in the second table each literal of the clause has so many more, and every other as many
+abbrev pub AreRaised : Clause → ℕ → List ℕ → List ℕ → Type 0
+AreRaised C more old new = (l : Literal) → slice_index new (index_of l) ≡ slice_index old (index_of l) + one_if_has C l * more
 
 -- how many slots of a table have a clause that holds the literal
 abbrev pub one_held : List Literal → Option Slot → Literal → ℕ
@@ -39,9 +39,7 @@ held literals (o ∷ slots) l = one_held literals o l + held literals slots l
 abbrev pub SlotsFit : ℕ → List Literal → List (Option Slot) → Type 0
 SlotsFit places literals slots = (p : ℕ) (s : Slot) → slice_index_or slots p None ≡ Some s → FitsTable places (clause_at literals s)
 
--- what the tables beside the live clauses say
-pub record IsCounted (M : ClauseMap) (counts : List ℕ) (seen : List Bool) : Type 0 where
+-- what the counts beside the live clauses say
+pub record IsCounted (M : ClauseMap) (counts : List ℕ) : Type 0 where
   pub fits : AllFit (length counts) M
   pub counted : CountsAll counts M
-  pub unseen : NoneSeen seen
-  pub room : length counts ≤ length seen
