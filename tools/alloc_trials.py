@@ -87,6 +87,7 @@ RUNS = [
     ("solve --workers 1 --cubes halves.icnf four.cnf kept", "s UNSATISFIABLE", 20),
     ("solve --workers 1 --depth 0 pure.cnf kept", "s UNSATISFIABLE", 20),
     ("solve --workers 1 --depth 0 --limit 2 eight.cnf kept", "s UNSATISFIABLE", 20),
+    ("solve --workers 1 --depth 1 --defs 2 four.cnf kept", "s UNSATISFIABLE", 20),
     ("solve --cubes halves.icnf eight.cnf", "c cubes of another formula", 1),
     ("drill --seed 7 --turns 30 four.cnf", "c turns 30 refused 0 disagreements 0", 0),
 ]

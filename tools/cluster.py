@@ -18,7 +18,7 @@ import time
 # How long a process may take.
 SECONDS = 120
 # How long the formula of a run takes in which a node is killed, at least.
-LONG = 1.5
+LONG = 1.0
 
 
 def pigeons(holes):
@@ -213,6 +213,23 @@ def one_process(cluster):
     ok("three workers in one process; %d holes for %d pigeons" % (holes, holes + 1))
 
 
+def defined_variables(cluster):
+    """With definitions an assignment shows none of them, and the proof begins with theirs."""
+    cluster.write("same.cnf", dimacs(2, [[1, -2], [-1, 2]]))
+    run = cluster.start("solve", "--workers", 1, "--depth", 1, "--defs", 1, "same.cnf")
+    cluster.ends("solve with a definition", run, 10, "s SATISFIABLE\nv -1 -2 0\n")
+    cluster.write("few.cnf", pigeons(4))
+    port = free_port()
+    coordinator = cluster.serve(port, "--workers", 2, "--defs", 64, "few.cnf", "defined.lrat")
+    workers = [cluster.start("work", "--port", port, "--number", w, "--ahead", "--defs", 64, "few.cnf") for w in (1, 2)]
+    for process in [*workers, coordinator]:
+        cluster.ends("a run with definitions", process, 20, "s UNSATISFIABLE\n")
+    with open(os.path.join(cluster.folder, "defined.lrat")) as proof:
+        same("the first variable behind the formula's", "21", next(proof).split()[1])
+    cluster.verifies("few.cnf", "defined.lrat")
+    ok("definitions, at a coordinator and its workers")
+
+
 def main():
     if len(sys.argv) != 2:
         sys.exit(__doc__)
@@ -220,7 +237,7 @@ def main():
         cluster = Cluster(sys.argv[1], folder)
         cluster.write("two.cnf", dimacs(2, [[1], [-2]]))
         try:
-            for test in (refused_links, closed_peers, one_process, lost_worker, lost_coordinator):
+            for test in (refused_links, closed_peers, defined_variables, one_process, lost_worker, lost_coordinator):
                 test(cluster)
         finally:
             for process in running:

@@ -23,6 +23,7 @@ const OPTIONS: Options = Options {
     session: 1,
     number: 1,
     incarnation: 1,
+    defs: 0,
     ahead: false,
     quiet: false,
     witness: true,

@@ -20,6 +20,8 @@ mod cubes;
 #[cfg(test)]
 mod deciding;
 #[cfg(test)]
+mod defined;
+#[cfg(test)]
 mod definitions;
 #[cfg(test)]
 mod deletions;

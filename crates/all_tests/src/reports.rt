@@ -20,6 +20,7 @@ pub(crate) const ALONE: Options = Options {
     session: 1,
     number: 1,
     incarnation: 1,
+    defs: 0,
     ahead: false,
     quiet: false,
     witness: true,

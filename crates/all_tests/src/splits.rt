@@ -29,6 +29,7 @@ fn verdict_of(alloc: Global, workers: u32, limit: u64) -> Result<Verdict, Fail>
         workers,
         limit,
         session: 1,
+        defs: 0,
     };
     let mut links = Counted::new(Memory::new(alloc, workers)?);
     Ok(solve(alloc, formula, tree, &plan, &mut links)?)

@@ -1,20 +1,9 @@
-//! Calls that let go of what they are handed: the same answers.
+//! Inputs that come in pieces, and lines under `-q`.
 
 use crate::checks::FOUR;
-use cube_split::preamble;
-use dimacs::{Base, FormulaReader, read};
+use dimacs::FormulaReader;
 use node_main::{ProofCheck, Refusal};
 use std::test::Fail;
-
-#[test]
-fn a_base_takes_a_formula(rt: HostRuntime) -> Result<(), Fail> {
-    let text = b"p cnf 3 2\n1 2 0\n-1 3 0\n";
-    let formula = read(rt.alloc(), text)?;
-    let units = preamble(rt.alloc(), &formula)?;
-    assert_eq!(rt; units.base_from(formula)?.len(), 4);
-    assert_eq!(rt; Base::from_formula(read(rt.alloc(), text)?).len(), 2);
-    Ok(())
-}
 
 #[test]
 fn an_input_in_pieces_is_checked(rt: HostRuntime) -> Result<(), Fail> {

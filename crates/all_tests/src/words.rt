@@ -13,6 +13,7 @@ const USUAL: Options = Options {
     session: 1,
     number: 1,
     incarnation: 1,
+    defs: 0,
     ahead: false,
     quiet: false,
     witness: true,
@@ -127,6 +128,7 @@ fn a_worker_with_its_defaults_and_with_all_its_words(rt: HostRuntime) -> Result<
         options: Options {
             number: 64,
             incarnation: 0,
+            defs: 64,
             ahead: true,
             quiet: true,
             witness: false,
@@ -134,7 +136,7 @@ fn a_worker_with_its_defaults_and_with_all_its_words(rt: HostRuntime) -> Result<
         },
     };
     let words =
-        "satcluster work --ahead --incarnation 0 --number 64 --port 7000 -q -n f.cnf f.lrat";
+        "satcluster work --ahead --defs 64 --incarnation 0 --number 64 --port 7000 -q -n f.cnf f.lrat";
     asks(&rt, rt.alloc(), words, full)?;
     Ok(())
 }

@@ -9,6 +9,8 @@ use Rattle.lrat_check.specs.declared.verdict.Verdict.TheVariants.{Model}
 use Rattle.lrat_check.specs.declared.verdict.Reaction.TheVariants as reaction
 use Rattle.frames.specs.declared.frame.Frame.{Frame}
 use Rattle.frames.specs.declared.frame.Frame.TheVariants.{Task, Fetch, Piece, Idle}
+use Rattle.cube_split.specs.Definitions.{base_with}
+use Rattle.cube_split.specs.Pairs.{AreDefined}
 use Rattle.evidence.specs.Jobs.{IsInside}
 use Rattle.worker_core.specs.Worker.{WorkerState, WorkerPolls, new_worker, worker_after}
 use Rattle.coordinator_core.specs.Coordinator.{CoordinatorState, CoordinatorPolls, CoordinatorDelivers, DeliversDone, IsAwaited, coordinator_poll, reopened}
@@ -16,7 +18,7 @@ use Rattle.coordinator_core.specs.Invariant.{IsTreeOf}
 use Rattle.coordinator_core.specs.declared.desks.Job.{Job}
 use Rattle.closed_schedules.specs.ClosedSchedule.{ClosedState, HappensDeliver, HappensWork, HappensPoll, HappensRestart, RunsClosed, verdict_at}
 use Rattle.closed_schedules.specs.ClosedLaws.{IsMoment}
-use Rattle.closed_schedules.specs.Examples.{two, begun, Turn, Plays, whole_run, restart_run}
+use Rattle.closed_schedules.specs.Examples.{two, beginning, begun, Turn, Plays, whole_run, restart_run}
 use Rattle.closed_schedules.proofs.ExampleLemmas.{attempt, done, c1, c2, c3, w0, w1, w2, w3, fixed_job, task_taken, finished, answer_fixed, answer_again, asked_for, decided, decided_again, idle_anew}
 use Rattle.closed_schedules.proofs.Places.{same_some}
 
@@ -35,15 +37,16 @@ two_is = record {
       (All-from_recursion (IsWithin 2) (Pos 1 ∷ []) ((omega arith, omega arith), tt), (All-from_recursion (IsWithin 2) (Neg 2 ∷ []) ((omega arith, omega arith), tt), tt));
 }
 
-one_leaf : IsTreeOf two ([] ∷ [])
+one_leaf : IsTreeOf (base_with two []) ([] ∷ [])
 one_leaf = record {
   is_tree = record { leaves = leaf; count = omega arith; short = All-from_recursion (λ (c : Cube). length c ≤ 64) ([] ∷ []) (omega arith, tt) };
-  inside = All-from_recursion (IsInside two) ([] ∷ []) (All-nil (IsWithin 2), tt);
+  inside = All-from_recursion (IsInside (base_with two [])) ([] ∷ []) (All-nil (IsWithin 2), tt);
 }
 
-pub moment : (turns : List Turn) (new : ClosedState) → Plays begun turns new → IsMoment two ([] ∷ []) 100000 1 new
+pub moment : (turns : List Turn) (new : ClosedState) → Plays begun turns new → IsMoment beginning new
 moment turns new plays = record {
   formula = two_is;
+  defined = record { defined = AreDefined.all; few = omega arith };
   planted = one_leaf;
   some_worker = omega arith;
   few_workers = omega arith;
@@ -78,7 +81,7 @@ one_of_one = (omega arith, omega arith)
 whole : Plays begun whole_run (at c3 w4 frames_4)
 whole = (at c1 w0 frames_1, HappensPoll.sends first_task (at c1 w0 []) (c1, (one_of_one, CoordinatorPolls.sends refl refl), refl) refl refl, (at c1 w1 frames_1, HappensDeliver.delivers first_task refl (w0, w1, refl, task_taken, refl), (at c1 w2 frames_1, HappensWork.works (w1, w2, refl, finished, refl), (at c1 w2 frames_2, HappensPoll.sends done (at c1 w2 frames_1) (w2, w2, refl, WorkerPolls.sends refl refl, refl) refl refl, (at c2 w2 frames_2, HappensDeliver.delivers done refl (c2, answer_fixed, refl), (at c2 w2 frames_2, HappensDeliver.delivers done refl (c2, answer_again, refl), (at c2 w2 frames_3, HappensPoll.sends (Fetch attempt 0) (at c2 w2 frames_2) (c2, (one_of_one, CoordinatorPolls.sends refl refl), refl) refl refl, (at c2 w3 frames_3, HappensDeliver.delivers (Fetch attempt 0) refl (w2, w3, refl, asked_for, refl), (at c2 w4 frames_4, HappensPoll.sends (Piece attempt 0 (1 ∷ 0 ∷ [])) (at c2 w4 frames_3) (w3, w4, refl, WorkerPolls.sends refl refl, refl) refl refl, (at c3 w4 frames_4, HappensDeliver.delivers (Piece attempt 0 (1 ∷ 0 ∷ [])) refl (c3, decided, refl), (at c3 w4 frames_4, HappensDeliver.delivers (Piece attempt 0 (1 ∷ 0 ∷ [])) refl (c3, decided_again, refl), refl)))))))))))
 
-pub whole_is : (s : ClosedState) × Plays begun whole_run s × IsMoment two ([] ∷ []) 100000 1 s × (verdict_at s 0 ≡ Some (Model (true ∷ false ∷ [])))
+pub whole_is : (s : ClosedState) × Plays begun whole_run s × IsMoment beginning s × (verdict_at s 0 ≡ Some (Model (true ∷ false ∷ [])))
 whole_is = (at c3 w4 frames_4, whole, moment whole_run _ whole, refl)
 
 -- the worker begins anew under number 3, and the coordinator gives the leaf again
@@ -128,5 +131,5 @@ other_job = DeliversDone.strays (λ j awaited. not_this j awaited) refl refl
 again : Plays begun restart_run (after c5 v0 last_frames)
 again = (at c1 w0 frames_1, HappensPoll.sends first_task (at c1 w0 []) (c1, (one_of_one, CoordinatorPolls.sends refl refl), refl) refl refl, (at c1 w1 frames_1, HappensDeliver.delivers first_task refl (w0, w1, refl, task_taken, refl), (at c1 w2 frames_1, HappensWork.works (w1, w2, refl, finished, refl), (at c1 w2 frames_2, HappensPoll.sends done (at c1 w2 frames_1) (w2, w2, refl, WorkerPolls.sends refl refl, refl) refl refl, (at c2 w2 frames_2, HappensDeliver.delivers done refl (c2, answer_fixed, refl), (after c2 v0 frames_2, HappensRestart.anew (at c2 v0 frames_2) unused (w2, refl, refl) refl refl, (after c2 v0 frames_2, HappensRestart.strays (inr (2, omega arith, refl)) (refl, refl), (after c2 v0 idle_frames, HappensPoll.sends (Idle 1 3) (after c2 v0 frames_2) (v0, v0, refl, WorkerPolls.sends refl refl, refl) refl refl, (after c4 v0 idle_frames, HappensDeliver.delivers (Idle 1 3) refl (c4, idle_anew, refl), (after c5 v0 last_frames, HappensPoll.sends next_task (after c5 v0 idle_frames) (c5, (one_of_one, CoordinatorPolls.sends refl refl), refl) refl refl, (after c5 v0 last_frames, HappensDeliver.delivers done refl (c5, other_job, refl), refl)))))))))))
 
-pub again_is : (s : ClosedState) × Plays begun restart_run s × IsMoment two ([] ∷ []) 100000 1 s × (s.frames ≡ first_task ∷ done ∷ Idle 1 3 ∷ next_task ∷ [])
+pub again_is : (s : ClosedState) × Plays begun restart_run s × IsMoment beginning s × (s.frames ≡ first_task ∷ done ∷ Idle 1 3 ∷ next_task ∷ [])
 again_is = (after c5 v0 last_frames, again, moment restart_run _ again, refl)

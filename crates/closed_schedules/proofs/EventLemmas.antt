@@ -1,6 +1,6 @@
 -- What every event of a closed schedule keeps, and that none is refused.
-use Rattle.std.proofs.Common.{◌≡◌, ◌≢◌, ℕ, zero, suc, ◌-◌, ◌<◌, ◌≤◌, List, [], ◌∷◌, ◌++◌, length, All, Contains, Some, None, slice_get, slice_set, get_or, replicate, refl, subst, sym, ◌∙◌, ◌⊎◌, inl, inr, arith}
-use Rattle.std.proofs.lemmas.List.{length-append, length-replicate}
+use Rattle.std.proofs.Common.{◌≡◌, ◌≢◌, ℕ, zero, suc, ◌-◌, ◌<◌, List, [], ◌∷◌, ◌++◌, length, All, Contains, Some, None, slice_get, slice_set, get_or, replicate, refl, subst, sym, ap, ◌∙◌, ◌⊎◌, inl, inr, arith}
+use Rattle.std.proofs.lemmas.List.{length-append}
 use Rattle.std.proofs.lemmas.List.Elements.{All-weaker, All-push, Contains-append_left, Contains-push}
 use Rattle.std.proofs.lemmas.Option.{slice_get_within, get_or_from_slice_get}
 use Rattle.dimacs.specs.logic.Cnf.{Cnf, IsFormula}
@@ -11,22 +11,24 @@ use Rattle.lrat_check.specs.declared.verdict.Reaction.TheVariants as reaction
 use Rattle.frames.specs.declared.frame.Attempt.{Attempt}
 use Rattle.frames.specs.declared.frame.Frame.{Frame}
 use Rattle.evidence.specs.declared.job.JobName.{JobName}
-use Rattle.worker_core.specs.Worker.{WorkerState, WorkerPolls, own_attempt, worker_after}
+use Rattle.cube_split.specs.Definitions.{base_with}
+use Rattle.cube_split.specs.Pairs.{Definitions}
+use Rattle.worker_core.specs.Worker.{WorkerState, WorkerPolls, own_attempt, restarted_worker, worker_after}
 use Rattle.worker_core.specs.declared.work.Work.{Work}
 use Rattle.worker_core.specs.declared.work.Work.TheVariants.{Free, Waiting, Limited, Found}
-use Rattle.coordinator_core.specs.Coordinator.{CoordinatorState, CoordinatorStep, CoordinatorPolls, AreClosed, new_coordinator, want_at}
+use Rattle.coordinator_core.specs.Coordinator.{CoordinatorState, CoordinatorStep, CoordinatorPolls, coordinator_base, restarted_coordinator}
 use Rattle.coordinator_core.specs.declared.desks.Job.{Job}
-use Rattle.coordinator_core.specs.declared.desks.LeafState.TheVariants.{Open, Closed}
 use Rattle.evidence.specs.Events.{Event, Delivered, Worked, Polled, Given, Reacted, Sent}
-use Rattle.coordinator_core.specs.Invariant.{IsCoordinator, IsTreeOf}
+use Rattle.coordinator_core.specs.Invariant.{IsCoordinator}
+use Rattle.coordinator_core.proofs.BeginLemmas.{beginning, begins}
 use Rattle.closed_schedules.specs.declared.event.ClosedEvent.{ClosedEvent}
 use Rattle.closed_schedules.specs.declared.event.ClosedEvent.TheVariants.{Deliver, Work as WorkEvent, Poll as PollEvent, Restart}
-use Rattle.closed_schedules.specs.ClosedSchedule.{ClosedState, StepsAt, RestartsAt, HappensDeliver, HappensWork, HappensPoll, HappensRestart, HappensClosed, RunsClosed, with_worker, with_coordinator, with_frame, with_number, restarted_coordinator, restarted_worker}
-use Rattle.closed_schedules.proofs.Told.{Told, Reply, IsTold, IsSettled, IsHonestWork, IsHonestWorker, IsHonestCoordinator, IsMember, AreUsed, IsHonestCluster, asks, answers_so, decides}
+use Rattle.closed_schedules.specs.ClosedSchedule.{Beginning, ClosedState, StepsAt, RestartsAt, HappensDeliver, HappensWork, HappensPoll, HappensRestart, HappensClosed, RunsClosed, with_worker, with_coordinator, with_frame, with_number}
+use Rattle.closed_schedules.proofs.Told.{Told, Reply, IsTold, IsSettled, IsHonestWork, IsHonestWorker, IsHonestCoordinator, IsMember, AreUsed, IsHonestCluster, shared_base, asks, answers_so, decides}
 use Rattle.closed_schedules.proofs.Places.{got_set_cases, none_some}
 use Rattle.closed_schedules.proofs.Saying.{IsPlain, plain_by, IsMore, as_much, told_stays}
 use Rattle.closed_schedules.proofs.WorkerLemmas.{IsFine, delivery_fine}
-use Rattle.closed_schedules.proofs.WorkLemmas.{OwnReplies, work_fine, poll_told, poll_honest}
+use Rattle.closed_schedules.proofs.WorkLemmas.{OwnReplies, IsDefinedBase, work_fine, poll_told, poll_honest}
 use Rattle.closed_schedules.proofs.GatheringLemmas.{OwnSayings, IsFair, frame_fair, job_stays}
 use Rattle.closed_schedules.proofs.PollingLemmas.{poll_fair}
 
@@ -59,18 +61,20 @@ frames_stay : (T U : Told) (limit : ℕ) (frames : List Frame) → IsMore T U �
 frames_stay T U limit frames more all = All-weaker (IsTold T limit) (IsTold U limit) (told_stays T U limit more) frames all
 
 -- a member of the cluster, where the coordinator told more
-member_stays : (F : Cnf) (T U : Told) (c : CoordinatorState) (used : List ℕ) (i : ℕ) (w : WorkerState) → OwnSayings T c U → IsMember F T used i w → IsMember F U used i w
-member_stays F T U c used i w own m = record {
+member_stays : (b : Beginning) (T U : Told) (c : CoordinatorState) (used : List ℕ) (i : ℕ) (w : WorkerState) → OwnSayings T c U → IsMember b T used i w → IsMember b U used i w
+member_stays b T U c used i w own m = record {
   formula = m.formula;
+  base = m.base;
   number = m.number;
   known = m.known;
   honest = others_told T U w own.more (λ name r h. own.answered _ h) m.honest;
 }
 
 -- where another worker did
-other_stays : (F : Cnf) (T U : Told) (used : List ℕ) (i k : ℕ) (v w : WorkerState) → OwnReplies T v U → v.number ≡ suc k → i ≢ k → IsMember F T used i w → IsMember F U used i w
-other_stays F T U used i k v w own number other m = record {
+other_stays : (b : Beginning) (T U : Told) (used : List ℕ) (i k : ℕ) (v w : WorkerState) → OwnReplies T v U → v.number ≡ suc k → i ≢ k → IsMember b T used i w → IsMember b U used i w
+other_stays b T U used i k v w own number other m = record {
   formula = m.formula;
+  base = m.base;
   number = m.number;
   known = m.known;
   honest = others_told T U w own.more (λ name r h. go name r (own.own _ r h)) m.honest;
@@ -113,31 +117,33 @@ more_used T used number known = record {
   decided = λ s v h. Contains-append_left used (number ∷ []) s (known.decided s v h);
 }
 
-member_later : (F : Cnf) (T : Told) (used : List ℕ) (number i : ℕ) (w : WorkerState) → IsMember F T used i w → IsMember F T (used ++ number ∷ []) i w
-member_later F T used number i w m = record {
+member_later : (b : Beginning) (T : Told) (used : List ℕ) (number i : ℕ) (w : WorkerState) → IsMember b T used i w → IsMember b T (used ++ number ∷ []) i w
+member_later b T used number i w m = record {
   formula = m.formula;
+  base = m.base;
   number = m.number;
   known = Contains-append_left used (number ∷ []) w.incarnation m.known;
   honest = m.honest;
 }
 
 -- an event at a worker leaves it a member
-member_after : (F : Cnf) (U : Told) (used : List ℕ) (i : ℕ) (w after : WorkerState) (answer : Reaction) → w.formula ≡ F → w.number ≡ suc i → Contains used w.incarnation → IsFine U w answer after → IsMember F U used i after
-member_after F U used i w after answer formula number known fine = record {
-  formula = fine.formula ∙ formula;
-  number = fine.number ∙ number;
-  known = subst (Contains used) (sym fine.incarnation) known;
+member_after : (b : Beginning) (T U : Told) (used : List ℕ) (i : ℕ) (w after : WorkerState) (answer : Reaction) → IsMember b T used i w → IsFine U w answer after → IsMember b U used i after
+member_after b T U used i w after answer m fine = record {
+  formula = fine.formula ∙ m.formula;
+  base = fine.base ∙ m.base;
+  number = fine.number ∙ m.number;
+  known = subst (Contains used) (sym fine.incarnation) m.known;
   honest = fine.honest;
 }
 
 -- the members, where one of them changed
-members_set : (F : Cnf) (U : Told) (used : List ℕ) (workers : List WorkerState) (i : ℕ) (after : WorkerState) → IsMember F U used i after
-    → ((k : ℕ) (w : WorkerState) → k ≢ i → slice_get workers k ≡ Some w → IsMember F U used k w)
-    → (k : ℕ) (w : WorkerState) → slice_get (slice_set workers i after) k ≡ Some w → IsMember F U used k w
-members_set F U used workers i after member others k w h = go (got_set_cases workers i k after w h)
+members_set : (b : Beginning) (U : Told) (used : List ℕ) (workers : List WorkerState) (i : ℕ) (after : WorkerState) → IsMember b U used i after
+    → ((k : ℕ) (w : WorkerState) → k ≢ i → slice_get workers k ≡ Some w → IsMember b U used k w)
+    → (k : ℕ) (w : WorkerState) → slice_get (slice_set workers i after) k ≡ Some w → IsMember b U used k w
+members_set b U used workers i after member others k w h = go (got_set_cases workers i k after w h)
   where
-    go : ((k ≡ i) × (k < length workers) × (after ≡ w)) ⊎ ((k ≢ i) × (slice_get workers k ≡ Some w)) → IsMember F U used k w
-    go (inl p) = subst (λ (n : ℕ). IsMember F U used n w) (sym p.0) (subst (IsMember F U used i) p.2 member)
+    go : ((k ≡ i) × (k < length workers) × (after ≡ w)) ⊎ ((k ≢ i) × (slice_get workers k ≡ Some w)) → IsMember b U used k w
+    go (inl p) = subst (λ (n : ℕ). IsMember b U used n w) (sym p.0) (subst (IsMember b U used i) p.2 member)
     go (inr p) = others k w p.0 p.1
 
 -- a tree has a leaf
@@ -145,53 +151,10 @@ leaves_some : {path : Cube} {list : List Cube} → Leaves path list → 0 < leng
 leaves_some leaf = omega arith
 leaves_some (fork {left = left} {right = right} x free first second) = let some : 0 < length left = leaves_some first in omega (arith, some, length-append left right)
 
--- a coordinator that begins
-pub new_is : (F : Cnf) (tree : List Cube) (limit n session : ℕ) → IsFormula F → IsTreeOf F tree → 1 ≤ n → n ≤ 64 → IsCoordinator (new_coordinator F tree limit n session)
-new_is F tree limit n session formula planted some_worker few_workers = record {
-  right = tt;
-  ended = λ all. absurd (not_all (length tree) (leaves_some planted.is_tree.leaves) all);
-  grounds = record { formula = formula; planted_is = planted; tree_is = planted };
-  tables = record {
-    each_leaf = length-replicate (length tree) Open;
-    each_fragment = length-replicate (length tree) [];
-    some_worker = subst (λ (k : ℕ). 1 ≤ k) (sym (length-replicate n None)) some_worker;
-    few_workers = subst (λ (k : ℕ). k ≤ 64) (sym (length-replicate n None)) few_workers;
-    each_want = length-replicate n None ∙ sym (length-replicate n None);
-  };
-  jobs = λ desk j h. absurd (none_given n desk j h);
-  closing = λ i h. absurd (not_closed (length tree) i h);
-  next = omega arith;
-  stuck = λ e. refl;
-  short = omega arith;
-  wanted = λ worker offset h. absurd (none_noted worker offset h);
-}
-  where
-    not_closed : (k i : ℕ) → slice_get (replicate k Open) i ≡ Some Closed → ⊥
-    not_closed zero i h = cc
-    not_closed (suc k) zero h = cc
-    not_closed (suc k) (suc i) h = not_closed k i h
-
-    none_given : (k i : ℕ) (j : Job) → get_or (replicate k None) i None ≡ Some j → ⊥
-    none_given zero i j h = cc
-    none_given (suc k) zero j h = cc
-    none_given (suc k) (suc i) j h = none_given k i j h
-
-    no_note : (k i offset : ℕ) → get_or (replicate k None) i None ≡ Some offset → ⊥
-    no_note zero i offset h = cc
-    no_note (suc k) zero offset h = cc
-    no_note (suc k) (suc i) offset h = no_note k i offset h
-
-    none_noted : (worker offset : ℕ) → want_at (new_coordinator F tree limit n session) worker ≡ Some offset → ⊥
-    none_noted zero offset h = cc
-    none_noted (suc k) offset h = no_note n k offset h
-
-    not_all : (k : ℕ) → 0 < k → AreClosed (replicate k Open) → ⊥
-    not_all zero some all = absurd (omega (arith, some))
-    not_all (suc k) some all = let e : Open ≡ Closed = all 0 Open (omega arith) in cc
-
-pub new_honest : (T : Told) (F : Cnf) (tree : List Cube) (limit n session : ℕ) → ((name : JobName) (q : Cube) → Contains T.asked (asks name q) → name.session ≡ session → ⊥)
-    → ((v : Verdict) → Contains T.decided (decides session v) → ⊥) → IsHonestCoordinator T (new_coordinator F tree limit n session)
-new_honest T F tree limit n session not_asked not_decided = record {
+-- a coordinator that begins has said nothing
+pub new_honest : (T : Told) (F : Cnf) (d : Definitions) (tree : List Cube) (limit n session : ℕ) → ((name : JobName) (q : Cube) → Contains T.asked (asks name q) → name.session ≡ session → ⊥)
+    → ((v : Verdict) → Contains T.decided (decides session v) → ⊥) → IsHonestCoordinator T (beginning F d tree limit n session)
+new_honest T F d tree limit n session not_asked not_decided = record {
   jobs = λ worker j from_1 h. absurd (no_job n (worker - 1) j h);
   next = λ name q h e. absurd (not_asked name q h e);
   decided = λ some. absurd (some refl);
@@ -208,107 +171,127 @@ abbrev pub CoordinatorsStay : Type 0
 CoordinatorsStay = (old : CoordinatorState) (event : Event) (given : Given) (new : CoordinatorState) → CoordinatorStep old event given new → IsCoordinator old → IsCoordinator new
 
 -- what an event leaves
-abbrev pub Keeps : Cnf → ℕ → Reaction → ClosedState → Type 0
-Keeps F limit answer new = (U : Told) × IsHonestCluster F limit U new × IsPlain answer
+abbrev pub Keeps : Beginning → Reaction → ClosedState → Type 0
+Keeps b answer new = (U : Told) × IsHonestCluster b U new × IsPlain answer
 
-nothing_new : (F : Cnf) (limit : ℕ) (T : Told) (s : ClosedState) (answer r : Reaction) (new : ClosedState) → IsHonestCluster F limit T s → answer ≡ r → IsPlain r → new ≡ s → Keeps F limit answer new
-nothing_new F limit T s answer r new is a plain same = (T, subst (IsHonestCluster F limit T) (sym same) is, plain_by answer r a plain)
+nothing_new : (b : Beginning) (T : Told) (s : ClosedState) (answer r : Reaction) (new : ClosedState) → IsHonestCluster b T s → answer ≡ r → IsPlain r → new ≡ s → Keeps b answer new
+nothing_new b T s answer r new is a plain same = (T, subst (IsHonestCluster b T) (sym same) is, plain_by answer r a plain)
+
+-- what was told is settled for a node's own formula and base
+settled_for : {F f : Cnf} (B base : Cnf) (T : Told) → f ≡ F → base ≡ B → IsSettled F B T → IsSettled f base T
+settled_for {F} {f} B base T same over settled = subst (λ (g : Cnf). IsSettled g base T) (sym same) (subst (λ (k : Cnf). IsSettled F k T) (sym over) settled)
+
+shared : (b : Beginning) (c : CoordinatorState) → c.formula ≡ b.formula → c.definitions ≡ b.definitions → coordinator_base c ≡ shared_base b
+shared b c same defined = ap (λ (F : Cnf). base_with F c.definitions.pairs) same ∙ ap (λ (d : Definitions). base_with b.formula d.pairs) defined
+
+settled_there : (b : Beginning) (T : Told) (s : ClosedState) → IsHonestCluster b T s → IsSettled s.coordinator.formula (coordinator_base s.coordinator) T
+settled_there b T s is = settled_for (shared_base b) (coordinator_base s.coordinator) T is.formula (shared b s.coordinator is.formula is.definitions) is.settled
+
+settled_at : (b : Beginning) (T : Told) (s : ClosedState) (i : ℕ) (w : WorkerState) → IsHonestCluster b T s → IsMember b T s.used i w → IsSettled w.formula w.base T
+settled_at b T s i w is m = settled_for (shared_base b) w.base T m.formula m.base is.settled
 
 -- the coordinator changed, and told more
-coordinator_keeps : (F : Cnf) (limit : ℕ) (T U : Told) (s : ClosedState) (answer : Reaction) (c : CoordinatorState) → IsHonestCluster F limit T s
-    → OwnSayings T s.coordinator U → IsSettled s.coordinator.formula U → IsFair U s.coordinator answer c → IsCoordinator c → IsHonestCluster F limit U (with_coordinator s c)
-coordinator_keeps F limit T U s answer c is own settled fair is_c = record {
-  settled = subst (λ (f : Cnf). IsSettled f U) is.formula settled;
+coordinator_keeps : (b : Beginning) (T U : Told) (s : ClosedState) (answer : Reaction) (c : CoordinatorState) → IsHonestCluster b T s
+    → OwnSayings T s.coordinator U → IsSettled s.coordinator.formula (coordinator_base s.coordinator) U → IsFair U s.coordinator answer c → IsCoordinator c → IsHonestCluster b U (with_coordinator s c)
+coordinator_keeps b T U s answer c is own settled fair is_c = record {
+  settled = settled_for (coordinator_base s.coordinator) (shared_base b) U (sym is.formula) (sym (shared b s.coordinator is.formula is.definitions)) settled;
   formula = fair.formula ∙ is.formula;
+  definitions = fair.definitions ∙ is.definitions;
   limit_is = fair.limit ∙ is.limit_is;
   session = subst (Contains s.used) (sym fair.session) is.session;
   coordinator = is_c;
   honest = fair.honest;
-  workers = λ i w h. member_stays F T U s.coordinator s.used i w own (is.workers i w h);
-  frames = frames_stay T U limit s.frames own.more is.frames;
+  workers = λ i w h. member_stays b T U s.coordinator s.used i w own (is.workers i w h);
+  frames = frames_stay T U b.limit s.frames own.more is.frames;
   used = used_by_coordinator T U s.coordinator s.used own is.session is.used;
 }
 
 -- a worker changed, and told more
-worker_keeps : (F : Cnf) (limit : ℕ) (T U : Told) (s : ClosedState) (answer : Reaction) (i : ℕ) (w after : WorkerState) → IsHonestCluster F limit T s → slice_get s.workers i ≡ Some w
-    → OwnReplies T w U → IsSettled w.formula U → IsFine U w answer after → IsHonestCluster F limit U (with_worker s i after)
-worker_keeps F limit T U s answer i w after is at own settled fine = record {
-  settled = subst (λ (f : Cnf). IsSettled f U) m.formula settled;
+worker_keeps : (b : Beginning) (T U : Told) (s : ClosedState) (answer : Reaction) (i : ℕ) (w after : WorkerState) → IsHonestCluster b T s → slice_get s.workers i ≡ Some w
+    → OwnReplies T w U → IsSettled w.formula w.base U → IsFine U w answer after → IsHonestCluster b U (with_worker s i after)
+worker_keeps b T U s answer i w after is at own settled fine = record {
+  settled = settled_for w.base (shared_base b) U (sym m.formula) (sym m.base) settled;
   formula = is.formula;
+  definitions = is.definitions;
   limit_is = is.limit_is;
   session = is.session;
   coordinator = is.coordinator;
   honest = reply_told T U w s.coordinator own is.honest;
-  workers = members_set F U s.used s.workers i after (member_after F U s.used i w after answer m.formula m.number m.known fine)
-      (λ k v other h. other_stays F T U s.used k i w v own m.number other (is.workers k v h));
-  frames = frames_stay T U limit s.frames own.more is.frames;
+  workers = members_set b U s.used s.workers i after (member_after b T U s.used i w after answer m fine)
+      (λ k v other h. other_stays b T U s.used k i w v own m.number other (is.workers k v h));
+  frames = frames_stay T U b.limit s.frames own.more is.frames;
   used = used_by_worker T U w s.used own m.known is.used;
 }
   where
-    m : IsMember F T s.used i w
+    m : IsMember b T s.used i w
     m = is.workers i w at
 
 no_replies : (T : Told) (w : WorkerState) → OwnReplies T w T
 no_replies T w = record { more = as_much T; asked = λ a h. h; decided = λ d h. h; own = λ attempt r h. inl h }
 
 -- a frame that is sent joins the list
-frame_keeps : (F : Cnf) (limit : ℕ) (T : Told) (s : ClosedState) (frame : Frame) → IsHonestCluster F limit T s → IsTold T limit frame → IsHonestCluster F limit T (with_frame s frame)
-frame_keeps F limit T s frame is told = record {
+frame_keeps : (b : Beginning) (T : Told) (s : ClosedState) (frame : Frame) → IsHonestCluster b T s → IsTold T b.limit frame → IsHonestCluster b T (with_frame s frame)
+frame_keeps b T s frame is told = record {
   settled = is.settled;
   formula = is.formula;
+  definitions = is.definitions;
   limit_is = is.limit_is;
   session = is.session;
   coordinator = is.coordinator;
   honest = is.honest;
   workers = is.workers;
-  frames = All-push (IsTold T limit) s.frames frame is.frames told;
+  frames = All-push (IsTold T b.limit) s.frames frame is.frames told;
   used = is.used;
 }
 
 -- the frame at a place is true
-pub frame_at : (F : Cnf) (limit : ℕ) (T : Told) (s : ClosedState) (place : ℕ) (frame : Frame) → IsHonestCluster F limit T s → slice_get s.frames place ≡ Some frame → IsTold T limit frame
-frame_at F limit T s place frame is at =
-    subst (IsTold T limit) (get_or_from_slice_get s.frames place frame frame at) (is.frames place frame (slice_get_within s.frames place frame at))
+pub frame_at : (b : Beginning) (T : Told) (s : ClosedState) (place : ℕ) (frame : Frame) → IsHonestCluster b T s → slice_get s.frames place ≡ Some frame → IsTold T b.limit frame
+frame_at b T s place frame is at =
+    subst (IsTold T b.limit) (get_or_from_slice_get s.frames place frame frame at) (is.frames place frame (slice_get_within s.frames place frame at))
 
--- what was told is settled for a node's own formula
-settled_for : (F f : Cnf) (T : Told) → f ≡ F → IsSettled F T → IsSettled f T
-settled_for F f T same settled = subst (λ (g : Cnf). IsSettled g T) (sym same) settled
-
-delivered_keeps : CoordinatorsStay → (F : Cnf) (limit : ℕ) (T : Told) (s : ClosedState) (node : ℕ) (frame : Frame) (answer : Reaction) (new : ClosedState)
-    → IsHonestCluster F limit T s → IsTold T limit frame → StepsAt s node (Delivered frame) (Reacted answer) new → Keeps F limit answer new
-delivered_keeps law F limit T s zero frame answer new is told (c, step, now) =
+delivered_keeps : CoordinatorsStay → (b : Beginning) (T : Told) (s : ClosedState) (node : ℕ) (frame : Frame) (answer : Reaction) (new : ClosedState)
+    → IsHonestCluster b T s → IsTold T b.limit frame → StepsAt s node (Delivered frame) (Reacted answer) new → Keeps b answer new
+delivered_keeps law b T s zero frame answer new is told (c, step, now) =
     let is_c : IsCoordinator c = law s.coordinator (Delivered frame) (Reacted answer) c step is.coordinator in
-    let h = frame_fair T limit s.coordinator frame answer c (settled_for F _ T is.formula is.settled) is.honest is_c told step in
-    (h.0, subst (IsHonestCluster F limit h.0) (sym now) (coordinator_keeps F limit T h.0 s answer c is h.1 h.2 h.3 is_c), h.3.plain)
-delivered_keeps law F limit T s (suc i) frame answer new is told (w, after, there, step, now) =
-    let m : IsMember F T s.used i w = is.workers i w there in
-    let settled : IsSettled w.formula T = settled_for F _ T m.formula is.settled in
-    let fine : IsFine T w answer after = delivery_fine T limit w frame answer after settled m.honest told step in
-    (T, subst (IsHonestCluster F limit T) (sym now) (worker_keeps F limit T T s answer i w after is there (no_replies T w) settled fine), fine.plain)
+    let h = frame_fair T b.limit s.coordinator frame answer c (settled_there b T s is) is.honest is_c told step in
+    (h.0, subst (IsHonestCluster b h.0) (sym now) (coordinator_keeps b T h.0 s answer c is h.1 h.2 h.3 is_c), h.3.plain)
+delivered_keeps law b T s (suc i) frame answer new is told (w, after, there, step, now) =
+    let m : IsMember b T s.used i w = is.workers i w there in
+    let settled : IsSettled w.formula w.base T = settled_at b T s i w is m in
+    let fine : IsFine T w answer after = delivery_fine T b.limit w frame answer after settled m.honest told step in
+    (T, subst (IsHonestCluster b T) (sym now) (worker_keeps b T T s answer i w after is there (no_replies T w) settled fine), fine.plain)
 
-deliver_keeps : CoordinatorsStay → (F : Cnf) (limit : ℕ) (T : Told) (s : ClosedState) (node place : ℕ) (answer : Reaction) (new : ClosedState)
-    → IsHonestCluster F limit T s → HappensDeliver s node place answer new → Keeps F limit answer new
-deliver_keeps law F limit T s node place answer new is (HappensDeliver.strays none ignored) = nothing_new F limit T s answer _ new is ignored.0 tt ignored.1
-deliver_keeps law F limit T s node place answer new is (HappensDeliver.delivers frame found step) =
-    delivered_keeps law F limit T s node frame answer new is (frame_at F limit T s place frame is found) step
+deliver_keeps : CoordinatorsStay → (b : Beginning) (T : Told) (s : ClosedState) (node place : ℕ) (answer : Reaction) (new : ClosedState)
+    → IsHonestCluster b T s → HappensDeliver s node place answer new → Keeps b answer new
+deliver_keeps law b T s node place answer new is (HappensDeliver.strays none ignored) = nothing_new b T s answer _ new is ignored.0 tt ignored.1
+deliver_keeps law b T s node place answer new is (HappensDeliver.delivers frame found step) =
+    delivered_keeps law b T s node frame answer new is (frame_at b T s place frame is found) step
 
-worked_keeps : (F : Cnf) (limit : ℕ) (T : Told) (s : ClosedState) (node : ℕ) (answer : Reaction) (new : ClosedState)
-    → IsHonestCluster F limit T s → StepsAt s node Worked (Reacted answer) new → Keeps F limit answer new
-worked_keeps F limit T s zero answer new is (c, step, now) = absurd step
-worked_keeps F limit T s (suc i) answer new is (w, after, there, step, now) =
-    let m : IsMember F T s.used i w = is.workers i w there in
-    let h = work_fine T w answer after (settled_for F _ T m.formula is.settled) m.honest step in
-    (h.0, subst (IsHonestCluster F limit h.0) (sym now) (worker_keeps F limit T h.0 s answer i w after is there h.1 h.2 h.3), h.3.plain)
+-- the base of a worker is one with definitions of its formula
+worker_base : (b : Beginning) (T : Told) (s : ClosedState) (i : ℕ) (w : WorkerState) → IsHonestCluster b T s → IsMember b T s.used i w → IsDefinedBase w.formula w.base
+worker_base b T s i w is m = record {
+  limits = subst IsFormula (is.formula ∙ sym m.formula) is.coordinator.grounds.formula;
+  pairs = b.definitions.pairs;
+  is = m.base ∙ ap (λ (F : Cnf). base_with F b.definitions.pairs) (sym m.formula);
+}
 
-work_keeps : (F : Cnf) (limit : ℕ) (T : Told) (s : ClosedState) (node : ℕ) (answer : Reaction) (new : ClosedState)
-    → IsHonestCluster F limit T s → HappensWork s node answer new → Keeps F limit answer new
-work_keeps F limit T s node answer new is (HappensWork.strays none ignored) = nothing_new F limit T s answer _ new is ignored.0 tt ignored.1
-work_keeps F limit T s node answer new is (HappensWork.works step) = worked_keeps F limit T s node answer new is step
+worked_keeps : (b : Beginning) (T : Told) (s : ClosedState) (node : ℕ) (answer : Reaction) (new : ClosedState)
+    → IsHonestCluster b T s → StepsAt s node Worked (Reacted answer) new → Keeps b answer new
+worked_keeps b T s zero answer new is (c, step, now) = absurd step
+worked_keeps b T s (suc i) answer new is (w, after, there, step, now) =
+    let m : IsMember b T s.used i w = is.workers i w there in
+    let h = work_fine T w answer after (worker_base b T s i w is m) (settled_at b T s i w is m) m.honest step in
+    (h.0, subst (IsHonestCluster b h.0) (sym now) (worker_keeps b T h.0 s answer i w after is there h.1 h.2 h.3), h.3.plain)
+
+work_keeps : (b : Beginning) (T : Told) (s : ClosedState) (node : ℕ) (answer : Reaction) (new : ClosedState)
+    → IsHonestCluster b T s → HappensWork s node answer new → Keeps b answer new
+work_keeps b T s node answer new is (HappensWork.strays none ignored) = nothing_new b T s answer _ new is ignored.0 tt ignored.1
+work_keeps b T s node answer new is (HappensWork.works step) = worked_keeps b T s node answer new is step
 
 -- a coordinator that was polled, with its frame in the list
-coordinator_polled : CoordinatorsStay → (F : Cnf) (limit : ℕ) (T : Told) (s : ClosedState) (worker : ℕ) (frame : Frame) (c : CoordinatorState)
-    → IsHonestCluster F limit T s → CoordinatorStep s.coordinator (Polled worker) (Sent frame) c → (U : Told) × IsHonestCluster F limit U (with_frame (with_coordinator s c) frame)
-coordinator_polled law F limit T s worker frame c is step = go step.1
+coordinator_polled : CoordinatorsStay → (b : Beginning) (T : Told) (s : ClosedState) (worker : ℕ) (frame : Frame) (c : CoordinatorState)
+    → IsHonestCluster b T s → CoordinatorStep s.coordinator (Polled worker) (Sent frame) c → (U : Told) × IsHonestCluster b U (with_frame (with_coordinator s c) frame)
+coordinator_polled law b T s worker frame c is step = go step.1
   where
     same_frame : (f g : Frame) → Sent f ≡ Sent g → f ≡ g
     same_frame f g e = cc
@@ -316,76 +299,80 @@ coordinator_polled law F limit T s worker frame c is step = go step.1
     never : (f : Frame) → Sent f ≡ Reacted reaction.NoMemory → ⊥
     never f e = cc
 
-    go : CoordinatorPolls s.coordinator worker (Sent frame) c → (U : Told) × IsHonestCluster F limit U (with_frame (with_coordinator s c) frame)
+    go : CoordinatorPolls s.coordinator worker (Sent frame) c → (U : Told) × IsHonestCluster b U (with_frame (with_coordinator s c) frame)
     go (CoordinatorPolls.no_memory grows a now) = absurd (never frame a)
     go (CoordinatorPolls.sends sent now) =
-        let h = poll_fair T limit s.coordinator worker (settled_for F _ T is.formula is.settled) is.honest is.coordinator is.limit_is step.0.0 in
+        let h = poll_fair T b.limit s.coordinator worker (settled_there b T s is) is.honest is.coordinator is.limit_is step.0.0 in
         let fair : IsFair h.0 s.coordinator reaction.Taken c = subst (IsFair h.0 s.coordinator reaction.Taken) (sym now) h.4 in
-        let told : IsTold h.0 limit frame = subst (IsTold h.0 limit) (sym (same_frame _ _ sent)) h.3 in
+        let told : IsTold h.0 b.limit frame = subst (IsTold h.0 b.limit) (sym (same_frame _ _ sent)) h.3 in
         let is_c : IsCoordinator c = law s.coordinator (Polled worker) (Sent frame) c step is.coordinator in
-        (h.0, frame_keeps F limit h.0 (with_coordinator s c) frame (coordinator_keeps F limit T h.0 s reaction.Taken c is h.1 h.2 fair is_c) told)
+        (h.0, frame_keeps b h.0 (with_coordinator s c) frame (coordinator_keeps b T h.0 s reaction.Taken c is h.1 h.2 fair is_c) told)
 
 -- a worker that was polled, with its frame in the list
-worker_polled : (F : Cnf) (limit : ℕ) (T : Told) (s : ClosedState) (i worker : ℕ) (frame : Frame) (w after : WorkerState) → IsHonestCluster F limit T s
-    → slice_get s.workers i ≡ Some w → WorkerPolls w (Sent frame) after → IsHonestCluster F limit T (with_frame (with_worker s i after) frame)
-worker_polled F limit T s i worker frame w after is there (WorkerPolls.no_memory grows a now) = absurd (never frame a)
+worker_polled : (b : Beginning) (T : Told) (s : ClosedState) (i worker : ℕ) (frame : Frame) (w after : WorkerState) → IsHonestCluster b T s
+    → slice_get s.workers i ≡ Some w → WorkerPolls w (Sent frame) after → IsHonestCluster b T (with_frame (with_worker s i after) frame)
+worker_polled b T s i worker frame w after is there (WorkerPolls.no_memory grows a now) = absurd (never frame a)
   where
     never : (f : Frame) → Sent f ≡ Reacted reaction.NoMemory → ⊥
     never f e = cc
-worker_polled F limit T s i worker frame w after is there (WorkerPolls.sends sent now) =
-    let m : IsMember F T s.used i w = is.workers i w there in
-    let fine : IsFine T w reaction.Taken (worker_after w) = record { honest = poll_honest T w m.honest; plain = tt; formula = refl; number = refl; incarnation = refl } in
-    let told : IsTold T limit frame = subst (IsTold T limit) (sym (same_frame _ _ sent)) (poll_told T limit w m.honest) in
-    frame_keeps F limit T (with_worker s i after) frame
-    (worker_keeps F limit T T s reaction.Taken i w after is there (no_replies T w) (settled_for F _ T m.formula is.settled) (subst (IsFine T w reaction.Taken) (sym now) fine)) told
+worker_polled b T s i worker frame w after is there (WorkerPolls.sends sent now) =
+    let m : IsMember b T s.used i w = is.workers i w there in
+    let fine : IsFine T w reaction.Taken (worker_after w) = record { honest = poll_honest T w m.honest; plain = tt; formula = refl; base = refl; number = refl; incarnation = refl } in
+    let told : IsTold T b.limit frame = subst (IsTold T b.limit) (sym (same_frame _ _ sent)) (poll_told T b.limit w m.honest) in
+    frame_keeps b T (with_worker s i after) frame
+    (worker_keeps b T T s reaction.Taken i w after is there (no_replies T w) (settled_at b T s i w is m) (subst (IsFine T w reaction.Taken) (sym now) fine)) told
   where
     same_frame : (f g : Frame) → Sent f ≡ Sent g → f ≡ g
     same_frame f g e = cc
 
-polled_keeps : CoordinatorsStay → (F : Cnf) (limit : ℕ) (T : Told) (s : ClosedState) (node worker : ℕ) (frame : Frame) (after : ClosedState)
-    → IsHonestCluster F limit T s → StepsAt s node (Polled worker) (Sent frame) after → (U : Told) × IsHonestCluster F limit U (with_frame after frame)
-polled_keeps law F limit T s zero worker frame after is (c, step, now) =
-    let h = coordinator_polled law F limit T s worker frame c is step in (h.0, subst (λ (n : ClosedState). IsHonestCluster F limit h.0 (with_frame n frame)) (sym now) h.1)
-polled_keeps law F limit T s (suc i) worker frame after is (w, v, there, step, now) =
-    (T, subst (λ (n : ClosedState). IsHonestCluster F limit T (with_frame n frame)) (sym now) (worker_polled F limit T s i worker frame w v is there step))
+polled_keeps : CoordinatorsStay → (b : Beginning) (T : Told) (s : ClosedState) (node worker : ℕ) (frame : Frame) (after : ClosedState)
+    → IsHonestCluster b T s → StepsAt s node (Polled worker) (Sent frame) after → (U : Told) × IsHonestCluster b U (with_frame after frame)
+polled_keeps law b T s zero worker frame after is (c, step, now) =
+    let h = coordinator_polled law b T s worker frame c is step in (h.0, subst (λ (n : ClosedState). IsHonestCluster b h.0 (with_frame n frame)) (sym now) h.1)
+polled_keeps law b T s (suc i) worker frame after is (w, v, there, step, now) =
+    (T, subst (λ (n : ClosedState). IsHonestCluster b T (with_frame n frame)) (sym now) (worker_polled b T s i worker frame w v is there step))
 
-poll_keeps : CoordinatorsStay → (F : Cnf) (limit : ℕ) (T : Told) (s : ClosedState) (node worker : ℕ) (answer : Reaction) (new : ClosedState)
-    → IsHonestCluster F limit T s → HappensPoll s node worker answer new → Keeps F limit answer new
-poll_keeps law F limit T s node worker answer new is (HappensPoll.strays none ignored) = nothing_new F limit T s answer _ new is ignored.0 tt ignored.1
-poll_keeps law F limit T s node worker answer new is (HappensPoll.no_memory poll a now) = nothing_new F limit T s answer _ new is a tt now
-poll_keeps law F limit T s node worker answer new is (HappensPoll.sends frame after step a now) =
-    let h = polled_keeps law F limit T s node worker frame after is step in (h.0, subst (IsHonestCluster F limit h.0) (sym now) h.1, plain_by answer _ a tt)
+poll_keeps : CoordinatorsStay → (b : Beginning) (T : Told) (s : ClosedState) (node worker : ℕ) (answer : Reaction) (new : ClosedState)
+    → IsHonestCluster b T s → HappensPoll s node worker answer new → Keeps b answer new
+poll_keeps law b T s node worker answer new is (HappensPoll.strays none ignored) = nothing_new b T s answer _ new is ignored.0 tt ignored.1
+poll_keeps law b T s node worker answer new is (HappensPoll.no_memory poll a now) = nothing_new b T s answer _ new is a tt now
+poll_keeps law b T s node worker answer new is (HappensPoll.sends frame after step a now) =
+    let h = polled_keeps law b T s node worker frame after is step in (h.0, subst (IsHonestCluster b h.0) (sym now) h.1, plain_by answer _ a tt)
 
 -- a new coordinator has said nothing yet
-coordinator_anew : (F : Cnf) (limit : ℕ) (T : Told) (s : ClosedState) (number : ℕ) → IsHonestCluster F limit T s → ¬ (Contains s.used number)
-    → IsHonestCluster F limit T (with_number (with_coordinator s (restarted_coordinator s.coordinator number)) number)
-coordinator_anew F limit T s number is fresh = record {
+coordinator_anew : (b : Beginning) (T : Told) (s : ClosedState) (number : ℕ) → IsHonestCluster b T s → ¬ (Contains s.used number)
+    → IsHonestCluster b T (with_number (with_coordinator s (restarted_coordinator s.coordinator number)) number)
+coordinator_anew b T s number is fresh = record {
   settled = is.settled;
   formula = is.formula;
+  definitions = is.definitions;
   limit_is = is.limit_is;
   session = Contains-push s.used number;
-  coordinator = new_is s.coordinator.formula s.coordinator.planted s.coordinator.limit (length s.coordinator.jobs) number is.coordinator.grounds.formula is.coordinator.grounds.planted_is is.coordinator.tables.some_worker is.coordinator.tables.few_workers;
-  honest = new_honest T s.coordinator.formula s.coordinator.planted s.coordinator.limit (length s.coordinator.jobs) number
+  coordinator = begins s.coordinator.formula s.coordinator.definitions s.coordinator.planted s.coordinator.limit (length s.coordinator.jobs) number is.coordinator.grounds.formula
+      is.coordinator.grounds.defined is.coordinator.grounds.planted_is is.coordinator.tables.some_worker is.coordinator.tables.few_workers;
+  honest = new_honest T s.coordinator.formula s.coordinator.definitions s.coordinator.planted s.coordinator.limit (length s.coordinator.jobs) number
       (λ name q h e. fresh (subst (Contains s.used) e (is.used.asked name q h)))
       (λ v h. fresh (is.used.decided number v h));
-  workers = λ i w h. member_later F T s.used number i w (is.workers i w h);
+  workers = λ i w h. member_later b T s.used number i w (is.workers i w h);
   frames = is.frames;
   used = more_used T s.used number is.used;
 }
 
 -- nor has a new worker
-worker_anew : (F : Cnf) (limit : ℕ) (T : Told) (s : ClosedState) (i number : ℕ) (w : WorkerState) → IsHonestCluster F limit T s → slice_get s.workers i ≡ Some w → ¬ (Contains s.used number)
-    → IsHonestCluster F limit T (with_number (with_worker s i (restarted_worker w number)) number)
-worker_anew F limit T s i number w is there fresh = record {
+worker_anew : (b : Beginning) (T : Told) (s : ClosedState) (i number : ℕ) (w : WorkerState) → IsHonestCluster b T s → slice_get s.workers i ≡ Some w → ¬ (Contains s.used number)
+    → IsHonestCluster b T (with_number (with_worker s i (restarted_worker w number)) number)
+worker_anew b T s i number w is there fresh = record {
   settled = is.settled;
   formula = is.formula;
+  definitions = is.definitions;
   limit_is = is.limit_is;
   session = Contains-append_left s.used (number ∷ []) s.coordinator.session is.session;
   coordinator = is.coordinator;
   honest = is.honest;
-  workers = members_set F T (s.used ++ number ∷ []) s.workers i (restarted_worker w number)
+  workers = members_set b T (s.used ++ number ∷ []) s.workers i (restarted_worker w number)
       (record {
         formula = m.formula;
+        base = m.base;
         number = m.number;
         known = Contains-push s.used number;
         honest = record {
@@ -395,39 +382,39 @@ worker_anew F limit T s i number w is there fresh = record {
           right = tt;
         };
       })
-      (λ k v other h. member_later F T s.used number k v (is.workers k v h));
+      (λ k v other h. member_later b T s.used number k v (is.workers k v h));
   frames = is.frames;
   used = more_used T s.used number is.used;
 }
   where
-    m : IsMember F T s.used i w
+    m : IsMember b T s.used i w
     m = is.workers i w there
 
-anew_keeps : (F : Cnf) (limit : ℕ) (T : Told) (s : ClosedState) (node number : ℕ) (after : ClosedState) → IsHonestCluster F limit T s → ¬ (Contains s.used number)
-    → RestartsAt s node number after → IsHonestCluster F limit T (with_number after number)
-anew_keeps F limit T s zero number after is fresh now =
-    subst (λ (n : ClosedState). IsHonestCluster F limit T (with_number n number)) (sym now) (coordinator_anew F limit T s number is fresh)
-anew_keeps F limit T s (suc i) number after is fresh (w, there, now) =
-    subst (λ (n : ClosedState). IsHonestCluster F limit T (with_number n number)) (sym now) (worker_anew F limit T s i number w is there fresh)
+anew_keeps : (b : Beginning) (T : Told) (s : ClosedState) (node number : ℕ) (after : ClosedState) → IsHonestCluster b T s → ¬ (Contains s.used number)
+    → RestartsAt s node number after → IsHonestCluster b T (with_number after number)
+anew_keeps b T s zero number after is fresh now =
+    subst (λ (n : ClosedState). IsHonestCluster b T (with_number n number)) (sym now) (coordinator_anew b T s number is fresh)
+anew_keeps b T s (suc i) number after is fresh (w, there, now) =
+    subst (λ (n : ClosedState). IsHonestCluster b T (with_number n number)) (sym now) (worker_anew b T s i number w is there fresh)
 
-restart_keeps : (F : Cnf) (limit : ℕ) (T : Told) (s : ClosedState) (node number : ℕ) (answer : Reaction) (new : ClosedState)
-    → IsHonestCluster F limit T s → HappensRestart s node number answer new → Keeps F limit answer new
-restart_keeps F limit T s node number answer new is (HappensRestart.strays none ignored) = nothing_new F limit T s answer _ new is ignored.0 tt ignored.1
-restart_keeps F limit T s node number answer new is (HappensRestart.no_memory node_is fresh a now) = nothing_new F limit T s answer _ new is a tt now
-restart_keeps F limit T s node number answer new is (HappensRestart.anew after fresh restarts a now) =
-    (T, subst (IsHonestCluster F limit T) (sym now) (anew_keeps F limit T s node number after is fresh restarts), plain_by answer _ a tt)
+restart_keeps : (b : Beginning) (T : Told) (s : ClosedState) (node number : ℕ) (answer : Reaction) (new : ClosedState)
+    → IsHonestCluster b T s → HappensRestart s node number answer new → Keeps b answer new
+restart_keeps b T s node number answer new is (HappensRestart.strays none ignored) = nothing_new b T s answer _ new is ignored.0 tt ignored.1
+restart_keeps b T s node number answer new is (HappensRestart.no_memory node_is fresh a now) = nothing_new b T s answer _ new is a tt now
+restart_keeps b T s node number answer new is (HappensRestart.anew after fresh restarts a now) =
+    (T, subst (IsHonestCluster b T) (sym now) (anew_keeps b T s node number after is fresh restarts), plain_by answer _ a tt)
 
 -- every event keeps what holds of a closed cluster, and is not refused
-pub event_keeps : CoordinatorsStay → (F : Cnf) (limit : ℕ) (T : Told) (s : ClosedState) (event : ClosedEvent) (answer : Reaction) (new : ClosedState)
-    → IsHonestCluster F limit T s → HappensClosed s event answer new → Keeps F limit answer new
-event_keeps law F limit T s (Deliver node place) answer new is step = deliver_keeps law F limit T s node place answer new is step
-event_keeps law F limit T s (WorkEvent node) answer new is step = work_keeps F limit T s node answer new is step
-event_keeps law F limit T s (PollEvent node worker) answer new is step = poll_keeps law F limit T s node worker answer new is step
-event_keeps law F limit T s (Restart node number) answer new is step = restart_keeps F limit T s node number answer new is step
+pub event_keeps : CoordinatorsStay → (b : Beginning) (T : Told) (s : ClosedState) (event : ClosedEvent) (answer : Reaction) (new : ClosedState)
+    → IsHonestCluster b T s → HappensClosed s event answer new → Keeps b answer new
+event_keeps law b T s (Deliver node place) answer new is step = deliver_keeps law b T s node place answer new is step
+event_keeps law b T s (WorkEvent node) answer new is step = work_keeps b T s node answer new is step
+event_keeps law b T s (PollEvent node worker) answer new is step = poll_keeps law b T s node worker answer new is step
+event_keeps law b T s (Restart node number) answer new is step = restart_keeps b T s node number answer new is step
 
 -- and so does every run
-pub run_keeps : CoordinatorsStay → (F : Cnf) (limit : ℕ) (T : Told) (s : ClosedState) (events : List ClosedEvent) (new : ClosedState)
-    → IsHonestCluster F limit T s → RunsClosed s events new → (U : Told) × IsHonestCluster F limit U new
-run_keeps law F limit T s [] new is same = (T, subst (IsHonestCluster F limit T) (sym same) is)
-run_keeps law F limit T s (event ∷ events) new is (answer, mid, happens, runs) =
-    let h = event_keeps law F limit T s event answer mid is happens in run_keeps law F limit h.0 mid events new h.1 runs
+pub run_keeps : CoordinatorsStay → (b : Beginning) (T : Told) (s : ClosedState) (events : List ClosedEvent) (new : ClosedState)
+    → IsHonestCluster b T s → RunsClosed s events new → (U : Told) × IsHonestCluster b U new
+run_keeps law b T s [] new is same = (T, subst (IsHonestCluster b T) (sym same) is)
+run_keeps law b T s (event ∷ events) new is (answer, mid, happens, runs) =
+    let h = event_keeps law b T s event answer mid is happens in run_keeps law b h.0 mid events new h.1 runs

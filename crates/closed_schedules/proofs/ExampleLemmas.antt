@@ -21,11 +21,13 @@ use Rattle.frames.specs.declared.answer.Outcome.TheVariants as told
 use Rattle.frames.specs.declared.frame.Attempt.{Attempt}
 use Rattle.frames.specs.declared.frame.Frame.{Frame}
 use Rattle.frames.specs.declared.frame.Frame.TheVariants.{Task, Done, Fetch, Piece, Verdict as VerdictFrame, Want, Part, Idle, Rest}
+use Rattle.cube_split.specs.Choice.{Choice}
+use Rattle.cube_split.specs.Choosing.{Chooses, IsChosen}
 use Rattle.evidence.specs.Evidence.{IsRightEvidence, answer_in, bytes_in}
 use Rattle.evidence.proofs.EvidenceLemmas.{borne_out, bears_out}
 use Rattle.worker_core.specs.Worker.{WorkerState, new_worker, WorkerDelivers, WorkerWorks, worker_frame, worker_after, DeliversTask, DeliversFetch, DeliversVerdict, DeliversPart, Collects, IsNews, candidate_of}
 use Rattle.worker_core.specs.declared.work.Work.TheVariants.{Free, Waiting, Found}
-use Rattle.coordinator_core.specs.Coordinator.{CoordinatorState, IsAwaited, Gathers, EndsFragment, EndsAssignment, MeetsLimit, AnswersFirst, DeliversDone, DeliversPiece, DeliversIdle, CoordinatorDelivers, new_coordinator, coordinator_poll, first_answer, fixing, with_job, reopened, after_loss}
+use Rattle.coordinator_core.specs.Coordinator.{CoordinatorState, IsAwaited, Gathers, EndsFragment, EndsAssignment, MeetsLimit, AnswersFirst, DeliversDone, DeliversPiece, DeliversIdle, CoordinatorDelivers, new_coordinator, coordinator_opening, coordinator_poll, first_answer, fixing, with_job, reopened, after_loss}
 use Rattle.coordinator_core.specs.declared.desks.Fixed.{Fixed}
 use Rattle.coordinator_core.specs.declared.desks.Job.{Job}
 use Rattle.closed_schedules.specs.Examples.{two, four, asked, ninth}
@@ -140,7 +142,15 @@ lost_job = refl
 
 -- the limit makes it stuck: both variables have a pure literal, so that there is none to split on
 limit_met : CoordinatorDelivers c1 (Done attempt told.Limit) reaction.Taken (record c1 { stuck = true })
-limit_met = DeliversDone.first the_job awaited refl (AnswersFirst.limited refl (MeetsLimit.stops (λ v can. let some : 0 < 0 = can.choice.some in absurd (omega (arith, some))) refl refl))
+limit_met = DeliversDone.first the_job awaited refl (AnswersFirst.limited refl (MeetsLimit.stops (λ v can. none v can.choice) refl refl))
+  where
+    apart : (v : Option ℕ) → Choice two (Pos 1 ∷ Neg 2 ∷ []) v → (w : ℕ) → v ≡ Some w → ⊥
+    apart None choice w e = none_some w e
+    apart (Some v) choice w e = let some : 0 < 0 = choice.some in absurd (omega (arith, some))
+
+    none : (v : ℕ) → Chooses two (coordinator_opening c1) [] (Some v) → ⊥
+    none v (IsChosen.defined i is_open lowest is) = none_some is_open.pair is_open.there
+    none v (IsChosen.plain closed choice) = apart (Some v) choice v refl
 
 stuck_rests : (coordinator_poll (record c1 { stuck = true }) 1).frame ≡ Rest
 stuck_rests = refl

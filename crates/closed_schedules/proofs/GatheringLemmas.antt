@@ -2,7 +2,6 @@
 use Rattle.std.proofs.Common.{◌≡◌, ◌≢◌, ℕ, ◌-◌, ◌<◌, ◌≤◌, Bool, true, List, ◌++◌, length, Contains, Some, None, slice_get, slice_set, get_or, refl, subst, sym, ap, ◌∙◌, ◌⊎◌, inl, inr, arith}
 use Rattle.std.proofs.lemmas.Option.{slice_get_within}
 use Rattle.std.proofs.lemmas.List.Elements.{Contains-push, Contains-push_cases}
-use Rattle.dimacs.specs.logic.Base.{base_of}
 use Rattle.dimacs.specs.logic.Cnf.{Cnf}
 use Rattle.icnf.specs.Leaves.{Cube}
 use Rattle.lrat_text.specs.Log.{Closes}
@@ -23,7 +22,7 @@ use Rattle.evidence.specs.Evidence.{answer_in, bytes_in, finding_of, HasWrongLen
 use Rattle.evidence.specs.Jobs.{name_of, attempt_at}
 use Rattle.evidence.specs.Evidence.{IsComplete, with_bytes}
 use Rattle.evidence.specs.declared.job.JobName.{JobName}
-use Rattle.coordinator_core.specs.Coordinator.{CoordinatorState, Gathers, EndsFragment, EndsAssignment, MeetsLimit, AnswersFirst, DeliversDone, DeliversPiece, DeliversIdle, DeliversWant, CoordinatorDelivers, CanSplit, IsAwaited, first_answer, cube_at, job_at, with_job, closed, split, fixing, job_name}
+use Rattle.coordinator_core.specs.Coordinator.{CoordinatorState, coordinator_base, Gathers, EndsFragment, EndsAssignment, MeetsLimit, AnswersFirst, DeliversDone, DeliversPiece, DeliversIdle, DeliversWant, CoordinatorDelivers, IsAwaited, first_answer, cube_at, job_at, with_job, closed, split, fixing, job_name}
 use Rattle.coordinator_core.specs.Splits.{doubled, shifted}
 use Rattle.coordinator_core.proofs.SplitLemmas.{branched_read, doubled_at, doubled_set, job_before, shift_at}
 use Rattle.coordinator_core.specs.declared.desks.Fixed.{Fixed}
@@ -54,6 +53,7 @@ pub record IsFair (U : Told) (c : CoordinatorState) (answer : Reaction) (new : C
   pub honest : IsHonestCoordinator U new
   pub plain : IsPlain answer
   pub formula : new.formula ≡ c.formula
+  pub definitions : new.definitions ≡ c.definitions
   pub session : new.session ≡ c.session
   pub limit : new.limit ≡ c.limit
 
@@ -62,6 +62,7 @@ unchanged T c answer r new honest is plain same = subst (λ (n : CoordinatorStat
   honest = honest;
   plain = plain_by answer r is plain;
   formula = refl;
+  definitions = refl;
   session = refl;
   limit = refl;
 })
@@ -131,6 +132,7 @@ drops T c worker j l fragments stuck answer r new honest from_1 at is plain now 
   };
   plain = plain_by answer r is plain;
   formula = refl;
+  definitions = refl;
   session = refl;
   limit = refl;
 })
@@ -154,8 +156,8 @@ jobs_with T U c worker k v more honest from_1 job w i w_from_1 h = go (read_set_
         job_stays T U c (record (with_job c worker (Some k)) { verdict = v }) w i more refl refl was.given was
 
 -- a verdict is told of under the session
-settled_deciding : (T : Told) (c : CoordinatorState) (v : Verdict) → IsSettled c.formula T → IsHonestCoordinator T c → c.verdict ≡ Nothing → v ≢ Nothing → Right c.formula v
-    → IsSettled c.formula (deciding T (decides c.session v))
+settled_deciding : (T : Told) (c : CoordinatorState) (v : Verdict) → IsSettled c.formula (coordinator_base c) T → IsHonestCoordinator T c → c.verdict ≡ Nothing → v ≢ Nothing → Right c.formula v
+    → IsSettled c.formula (coordinator_base c) (deciding T (decides c.session v))
 settled_deciding T c v settled honest undecided some right = record {
   one_cube = settled.one_cube;
   inside = settled.inside;
@@ -197,36 +199,36 @@ says_deciding T c v = record {
 
 -- what an event leaves, with what was told then
 abbrev pub IsFairStep : Told → CoordinatorState → Reaction → CoordinatorState → Type 0
-IsFairStep T c answer new = (U : Told) × OwnSayings T c U × IsSettled c.formula U × IsFair U c answer new
+IsFairStep T c answer new = (U : Told) × OwnSayings T c U × IsSettled c.formula (coordinator_base c) U × IsFair U c answer new
 
-quiet : (T : Told) (c : CoordinatorState) (answer : Reaction) (new : CoordinatorState) → IsSettled c.formula T → IsFair T c answer new → IsFairStep T c answer new
+quiet : (T : Told) (c : CoordinatorState) (answer : Reaction) (new : CoordinatorState) → IsSettled c.formula (coordinator_base c) T → IsFair T c answer new → IsFairStep T c answer new
 quiet T c answer new settled fair = (T, says_nothing T c, settled, fair)
 
 -- the reply that a job's evidence is a front of is true of the job's leaf
-fragment_closes : (T : Told) (c : CoordinatorState) (worker : ℕ) (j : Job) (x : Fixed) → IsSettled c.formula T → IsHonestJob T c worker (fixing j x) → IsComplete x.evidence
-    → answer_of x.evidence.finding ≡ answers.Refuted → Closes (base_of c.formula) (cube_at c j.leaf) x.evidence.bytes
+fragment_closes : (T : Told) (c : CoordinatorState) (worker : ℕ) (j : Job) (x : Fixed) → IsSettled c.formula (coordinator_base c) T → IsHonestJob T c worker (fixing j x) → IsComplete x.evidence
+    → answer_of x.evidence.finding ≡ answers.Refuted → Closes (coordinator_base c) (cube_at c j.leaf) x.evidence.bytes
 fragment_closes T c worker j x settled job complete refuted =
     let h = job.fixed x refl in
     let all_is : x.evidence.bytes ≡ h.1 = all_there x.evidence h.0 h.1 h.3 complete in
     let answer_is : h.0 ≡ answers.Refuted = sym (answer_there x.evidence h.0 h.1 h.3) ∙ refuted in
-    let t : IsTrueReply c.formula T.asked (job_name c j) (Shown h.0 h.1) = settled.true_reply _ _ h.2 in
-    let u : IsTrueReply c.formula T.asked (job_name c j) (Shown answers.Refuted h.1) = subst (λ (a : Answer). IsTrueReply c.formula T.asked (job_name c j) (Shown a h.1)) answer_is t in
+    let t : IsTrueReply c.formula (coordinator_base c) T.asked (job_name c j) (Shown h.0 h.1) = settled.true_reply _ _ h.2 in
+    let u : IsTrueReply c.formula (coordinator_base c) T.asked (job_name c j) (Shown answers.Refuted h.1) = subst (λ (a : Answer). IsTrueReply c.formula (coordinator_base c) T.asked (job_name c j) (Shown a h.1)) answer_is t in
     let cube_is : u.0 ≡ cube_at c j.leaf = settled.one_cube (job_name c j) u.0 (cube_at c j.leaf) u.1 job.asked in
-    subst (Closes (base_of c.formula) (cube_at c j.leaf)) (sym all_is) (subst (λ (q : Cube). Closes (base_of c.formula) q h.1) cube_is u.2)
+    subst (Closes (coordinator_base c) (cube_at c j.leaf)) (sym all_is) (subst (λ (q : Cube). Closes (coordinator_base c) q h.1) cube_is u.2)
 
-assignment_right : (T : Told) (c : CoordinatorState) (worker : ℕ) (j : Job) (x : Fixed) → IsSettled c.formula T → IsHonestJob T c worker (fixing j x) → IsComplete x.evidence
+assignment_right : (T : Told) (c : CoordinatorState) (worker : ℕ) (j : Job) (x : Fixed) → IsSettled c.formula (coordinator_base c) T → IsHonestJob T c worker (fixing j x) → IsComplete x.evidence
     → answer_of x.evidence.finding ≡ answers.Assignment → (v : Verdict) × IsRightEvidence c.formula answers.Assignment x.evidence.bytes v
 assignment_right T c worker j x settled job complete assigned =
     let h = job.fixed x refl in
     let all_is : x.evidence.bytes ≡ h.1 = all_there x.evidence h.0 h.1 h.3 complete in
     let answer_is : h.0 ≡ answers.Assignment = sym (answer_there x.evidence h.0 h.1 h.3) ∙ assigned in
-    let t : IsTrueReply c.formula T.asked (job_name c j) (Shown h.0 h.1) = settled.true_reply _ _ h.2 in
-    let u : IsTrueReply c.formula T.asked (job_name c j) (Shown answers.Assignment h.1) = subst (λ (a : Answer). IsTrueReply c.formula T.asked (job_name c j) (Shown a h.1)) answer_is t in
+    let t : IsTrueReply c.formula (coordinator_base c) T.asked (job_name c j) (Shown h.0 h.1) = settled.true_reply _ _ h.2 in
+    let u : IsTrueReply c.formula (coordinator_base c) T.asked (job_name c j) (Shown answers.Assignment h.1) = subst (λ (a : Answer). IsTrueReply c.formula (coordinator_base c) T.asked (job_name c j) (Shown a h.1)) answer_is t in
     (u.0, subst (λ (b : List ℕ). IsRightEvidence c.formula answers.Assignment b u.0) (sym all_is) u.1)
 
 -- a whole fragment that is true is not refused
 fragment_fair : (T : Told) (c : CoordinatorState) (worker : ℕ) (j : Job) (text : List ℕ) (answer : Reaction) (new : CoordinatorState)
-    → IsSettled c.formula T → IsHonestCoordinator T c → IsCoordinator new → c.verdict ≡ Nothing → 1 ≤ worker → desk_of c worker ≡ Some j → Closes (base_of c.formula) (cube_at c j.leaf) text
+    → IsSettled c.formula (coordinator_base c) T → IsHonestCoordinator T c → IsCoordinator new → c.verdict ≡ Nothing → 1 ≤ worker → desk_of c worker ≡ Some j → Closes (coordinator_base c) (cube_at c j.leaf) text
     → EndsFragment c worker j text answer new → IsFairStep T c answer new
 fragment_fair T c worker j text answer new settled honest is undecided from_1 at true_text (EndsFragment.wrong wrong a now) = absurd (wrong true_text)
 fragment_fair T c worker j text answer new settled honest is undecided from_1 at true_text (EndsFragment.closes closes some a now) =
@@ -248,6 +250,7 @@ fragment_fair T c worker j text answer new settled honest is undecided from_1 at
         };
         plain = plain_by answer _ a tt;
         formula = refl;
+        definitions = refl;
         session = refl;
         limit = refl;
       }),
@@ -257,7 +260,7 @@ fragment_fair T c worker j text answer new settled honest is undecided from_1 at
 
 -- nor is a whole assignment
 assignment_fair : (T : Told) (c : CoordinatorState) (worker : ℕ) (j : Job) (x : Fixed) (answer : Reaction) (new : CoordinatorState)
-    → IsSettled c.formula T → IsHonestCoordinator T c → c.verdict ≡ Nothing → 1 ≤ worker → IsHonestJob T c worker (fixing j x)
+    → IsSettled c.formula (coordinator_base c) T → IsHonestCoordinator T c → c.verdict ≡ Nothing → 1 ≤ worker → IsHonestJob T c worker (fixing j x)
     → (w : Verdict) → IsRightEvidence c.formula answers.Assignment x.evidence.bytes w → EndsAssignment c worker j x answer new → IsFairStep T c answer new
 assignment_fair T c worker j x answer new settled honest undecided from_1 job w true_bytes (EndsAssignment.holds v evidence a now) =
     let d : Decision = decides c.session v in
@@ -275,6 +278,7 @@ assignment_fair T c worker j x answer new settled honest undecided from_1 job w 
         };
         plain = plain_by answer _ a tt;
         formula = refl;
+        definitions = refl;
         session = refl;
         limit = refl;
       }),
@@ -283,7 +287,7 @@ assignment_fair T c worker j x answer new settled honest undecided from_1 job w 
 
 -- what is gathered of a true answer is not refused
 pub gathers_fair : (T : Told) (c : CoordinatorState) (worker : ℕ) (j : Job) (x : Fixed) (answer : Reaction) (new : CoordinatorState)
-    → IsSettled c.formula T → IsHonestCoordinator T c → IsCoordinator new → c.verdict ≡ Nothing → 1 ≤ worker → desk_of c worker ≡ Some j → IsHonestJob T c worker (fixing j x)
+    → IsSettled c.formula (coordinator_base c) T → IsHonestCoordinator T c → IsCoordinator new → c.verdict ≡ Nothing → 1 ≤ worker → desk_of c worker ≡ Some j → IsHonestJob T c worker (fixing j x)
     → Gathers c worker j x answer new → IsFairStep T c answer new
 gathers_fair T c worker j x answer new settled honest is undecided from_1 at job (Gathers.waits more a now) =
     quiet T c answer new settled (subst (λ (n : CoordinatorState). IsFair T c answer n) (sym now) (record {
@@ -295,6 +299,7 @@ gathers_fair T c worker j x answer new settled honest is undecided from_1 at job
       };
       plain = plain_by answer _ a tt;
       formula = refl;
+      definitions = refl;
       session = refl;
       limit = refl;
     }))
@@ -325,9 +330,9 @@ finding_told (Shown answer all) finding e = (answer, all, refl, same e)
     same : told.Decided finding ≡ told.Decided (finding_of answer (length all)) → finding ≡ finding_of answer (length all)
     same p = cc
 
-shown_length : (F : Cnf) (asked : List Asked) (name : JobName) (answer : Answer) (all : List ℕ) → IsTrueReply F asked name (Shown answer all) → HasWrongLength F (finding_of answer (length all)) → ⊥
-shown_length F asked name answers.Refuted all is_true wrong = wrong
-shown_length F asked name answers.Assignment all is_true wrong = go is_true.0 is_true.1
+shown_length : (F B : Cnf) (asked : List Asked) (name : JobName) (answer : Answer) (all : List ℕ) → IsTrueReply F B asked name (Shown answer all) → HasWrongLength F (finding_of answer (length all)) → ⊥
+shown_length F B asked name answers.Refuted all is_true wrong = wrong
+shown_length F B asked name answers.Assignment all is_true wrong = go is_true.0 is_true.1
   where
     go : (v : Verdict) → IsRightEvidence F answers.Assignment all v → ⊥
     go v e =
@@ -387,6 +392,7 @@ limit_fair T c worker j answer new honest at (MeetsLimit.splits v can a now) = s
   };
   plain = plain_by answer _ a tt;
   formula = refl;
+  definitions = refl;
   session = refl;
   limit = refl;
 })
@@ -399,6 +405,7 @@ limit_fair T c worker j answer new honest at (MeetsLimit.stops whole a now) = su
   };
   plain = plain_by answer _ a tt;
   formula = refl;
+  definitions = refl;
   session = refl;
   limit = refl;
 })
@@ -406,14 +413,14 @@ limit_fair T c worker j answer new honest at (MeetsLimit.no_memory may a now) = 
 
 -- a first answer that is true is not refused
 first_fair : (T : Told) (c : CoordinatorState) (attempt : Attempt) (j : Job) (outcome : Outcome) (answer : Reaction) (new : CoordinatorState)
-    → IsSettled c.formula T → IsHonestCoordinator T c → IsCoordinator new → (reply : Reply) → Contains T.answered (answers_so attempt reply) → outcome ≡ outcome_of reply
+    → IsSettled c.formula (coordinator_base c) T → IsHonestCoordinator T c → IsCoordinator new → (reply : Reply) → Contains T.answered (answers_so attempt reply) → outcome ≡ outcome_of reply
     → IsAwaited c attempt.session attempt.job attempt.worker j → AnswersFirst c attempt j outcome answer new → IsFairStep T c answer new
 first_fair T c attempt j outcome answer new settled honest is reply known says awaited (AnswersFirst.limited end meets) =
     quiet T c answer new settled (limit_fair T c attempt.worker j answer new honest awaited.job meets)
 first_fair T c attempt j outcome answer new settled honest is reply known says awaited (AnswersFirst.wrong_length finding end wrong a now) =
     let h = finding_told reply finding (sym end ∙ says) in
     let shown : Contains T.answered (answers_so attempt (Shown h.0 h.1)) = subst (λ (r : Reply). Contains T.answered (answers_so attempt r)) h.2 known in
-    absurd (shown_length c.formula T.asked (name_of attempt) h.0 h.1 (settled.true_reply attempt _ shown) (subst (HasWrongLength c.formula) h.3 wrong))
+    absurd (shown_length c.formula (coordinator_base c) T.asked (name_of attempt) h.0 h.1 (settled.true_reply attempt _ shown) (subst (HasWrongLength c.formula) h.3 wrong))
 first_fair T c attempt j outcome answer new settled honest is reply known says awaited (AnswersFirst.fixes finding end long gathers) =
     let h = finding_told reply finding (sym end ∙ says) in
     let shown : Contains T.answered (answers_so attempt (Shown h.0 h.1)) = subst (λ (r : Reply). Contains T.answered (answers_so attempt r)) h.2 known in
@@ -424,7 +431,7 @@ first_fair T c attempt j outcome answer new settled honest is reply known says a
 
 -- an answer that is true is not refused
 done_fair : (T : Told) (c : CoordinatorState) (attempt : Attempt) (outcome : Outcome) (answer : Reaction) (new : CoordinatorState)
-    → IsSettled c.formula T → IsHonestCoordinator T c → IsCoordinator new → (reply : Reply) → Contains T.answered (answers_so attempt reply) → outcome ≡ outcome_of reply
+    → IsSettled c.formula (coordinator_base c) T → IsHonestCoordinator T c → IsCoordinator new → (reply : Reply) → Contains T.answered (answers_so attempt reply) → outcome ≡ outcome_of reply
     → DeliversDone c attempt outcome answer new → IsFairStep T c answer new
 done_fair T c attempt outcome answer new settled honest is reply known says (DeliversDone.strays none a now) = quiet T c answer new settled (unchanged T c answer _ new honest a tt now)
 done_fair T c attempt outcome answer new settled honest is reply known says (DeliversDone.first j awaited free answered) =
@@ -435,7 +442,7 @@ done_fair T c attempt outcome answer new settled honest is reply known says (Del
 
 -- a piece that is true is not refused
 piece_fair : (T : Told) (c : CoordinatorState) (attempt : Attempt) (offset : ℕ) (bytes : List ℕ) (answer : Reaction) (new : CoordinatorState)
-    → IsSettled c.formula T → IsHonestCoordinator T c → IsCoordinator new → (shown : Answer) (all : List ℕ) → Contains T.answered (answers_so attempt (Shown shown all)) → StandsIn all offset bytes
+    → IsSettled c.formula (coordinator_base c) T → IsHonestCoordinator T c → IsCoordinator new → (shown : Answer) (all : List ℕ) → Contains T.answered (answers_so attempt (Shown shown all)) → StandsIn all offset bytes
     → DeliversPiece c attempt offset bytes answer new → IsFairStep T c answer new
 piece_fair T c attempt offset bytes answer new settled honest is shown all known stands (DeliversPiece.strays none a now) = quiet T c answer new settled (unchanged T c answer _ new honest a tt now)
 piece_fair T c attempt offset bytes answer new settled honest is shown all known stands (DeliversPiece.appends j x fits gathers) =
@@ -477,13 +484,14 @@ want_fair T c session worker offset answer new honest (DeliversWant.notes wanted
   };
   plain = plain_by answer _ a tt;
   formula = refl;
+  definitions = refl;
   session = refl;
   limit = refl;
 })
 
 -- a frame that tells what is true leaves a coordinator honest, and is not refused
 pub frame_fair : (T : Told) (limit : ℕ) (c : CoordinatorState) (frame : Frame) (answer : Reaction) (new : CoordinatorState)
-    → IsSettled c.formula T → IsHonestCoordinator T c → IsCoordinator new → IsTold T limit frame → CoordinatorDelivers c frame answer new → IsFairStep T c answer new
+    → IsSettled c.formula (coordinator_base c) T → IsHonestCoordinator T c → IsCoordinator new → IsTold T limit frame → CoordinatorDelivers c frame answer new → IsFairStep T c answer new
 frame_fair T limit c (Done attempt outcome) answer new settled honest is says step = done_fair T c attempt outcome answer new settled honest is says.0 says.1 says.2 step
 frame_fair T limit c (Piece attempt offset bytes) answer new settled honest is says step = piece_fair T c attempt offset bytes answer new settled honest is says.0 says.1 says.2 says.3 step
 frame_fair T limit c (Idle worker incarnation) answer new settled honest is says step = quiet T c answer new settled (idle_fair T c worker incarnation answer new honest step)

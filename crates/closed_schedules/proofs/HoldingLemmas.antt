@@ -8,11 +8,11 @@ use Rattle.lrat_check.specs.declared.verdict.Verdict.{Verdict}
 use Rattle.lrat_check.specs.declared.verdict.Verdict.TheVariants.{Nothing}
 use Rattle.frames.specs.declared.frame.Frame.{Frame}
 use Rattle.evidence.specs.Events.{Event, Given, Reacted}
-use Rattle.worker_core.specs.Worker.{WorkerState, WorkerStep}
+use Rattle.worker_core.specs.Worker.{WorkerState, WorkerStep, restarted_worker}
 use Rattle.coordinator_core.specs.Coordinator.{CoordinatorState, CoordinatorStep}
 use Rattle.closed_schedules.specs.declared.event.ClosedEvent.{ClosedEvent}
 use Rattle.closed_schedules.specs.declared.event.ClosedEvent.TheVariants.{Deliver, Work as WorkEvent, Poll as PollEvent, Restart}
-use Rattle.closed_schedules.specs.ClosedSchedule.{ClosedState, StepsAt, RestartsAt, HappensDeliver, HappensWork, HappensPoll, HappensRestart, HappensClosed, with_coordinator, with_worker, with_frame, with_number, held_by, verdict_at, restarted_worker}
+use Rattle.closed_schedules.specs.ClosedSchedule.{ClosedState, StepsAt, RestartsAt, HappensDeliver, HappensWork, HappensPoll, HappensRestart, HappensClosed, with_coordinator, with_worker, with_frame, with_number, held_by, verdict_at}
 use Rattle.closed_schedules.specs.ClosedLaws.{VerdictsStay, RestartsDrop, NothingChanges}
 use Rattle.closed_schedules.proofs.Places.{got_set_other, got_set_same, same_some, none_some}
 
@@ -84,7 +84,7 @@ unchanged : (event : ClosedEvent) (s new : ClosedState) (k : ℕ) (v : Verdict) 
 unchanged event s new k v same held = inl (subst (λ (n : ClosedState). verdict_at n k ≡ Some v) (sym same) held)
 
 pub verdicts_stay : WorkersHold → CoordinatorsHold → VerdictsStay
-verdicts_stay workers coordinators F tree limit n s r event answer new happens k v held some = go event happens
+verdicts_stay workers coordinators b s r event answer new happens k v held some = go event happens
   where
     delivers : (node place : ℕ) → HappensDeliver s node place answer new → Holds (Deliver node place) k v new
     delivers node place (HappensDeliver.strays none ignored) = unchanged _ s new k v ignored.1 held
@@ -154,7 +154,7 @@ taken_is_not answer a (inr e) = never (sym a ∙ e)
     never p = cc
 
 pub nothing_changes : WorkersRest → CoordinatorsRest → NothingChanges
-nothing_changes workers coordinators F tree limit n s r event answer new happens idle = go event happens
+nothing_changes workers coordinators b s r event answer new happens idle = go event happens
   where
     delivers : (node place : ℕ) → HappensDeliver s node place answer new → new ≡ s
     delivers node place (HappensDeliver.strays none ignored) = ignored.1
@@ -181,7 +181,7 @@ nothing_changes workers coordinators F tree limit n s r event answer new happens
     go (Restart node number) h = restarts node number h
 
 pub restarts_drop : RestartsDrop
-restarts_drop F tree limit n s r node number new happens = go happens
+restarts_drop b s r node number new happens = go happens
   where
     not_ignored : reaction.Taken ≡ reaction.Ignored → ⊥
     not_ignored e = cc

@@ -4,7 +4,6 @@ use Rattle.std.specs.Prelude.{position}
 use Rattle.std.proofs.lemmas.List.Elements.{Contains-push, Contains-push_cases}
 use Rattle.std.proofs.lemmas.List.Quantifiers.{position-Some}
 use Rattle.std.proofs.lemmas.Option.{slice_get-get_or}
-use Rattle.dimacs.specs.logic.Base.{base_of}
 use Rattle.icnf.specs.Leaves.{Cube}
 use Rattle.lrat_check.specs.declared.verdict.Verdict.{Verdict}
 use Rattle.lrat_check.specs.declared.verdict.Verdict.TheVariants.{Nothing, Model, Proof}
@@ -15,7 +14,7 @@ use Rattle.evidence.specs.Evidence.{bytes_in, finding_in}
 use Rattle.evidence.specs.Jobs.{IsInside, attempt_at}
 use Rattle.evidence.specs.Events.{chunk}
 use Rattle.evidence.specs.declared.job.JobName.{JobName}
-use Rattle.coordinator_core.specs.Coordinator.{CoordinatorState, Poll, says, cube_at, job_at, want_at, job_name, new_job, gives, is_open, verdict_poll, leaf_poll, fixed_poll, job_poll, stuck_poll, poll_by, coordinator_poll, task_of}
+use Rattle.coordinator_core.specs.Coordinator.{CoordinatorState, coordinator_base, Poll, says, cube_at, job_at, want_at, job_name, new_job, gives, is_open, verdict_poll, leaf_poll, fixed_poll, job_poll, stuck_poll, poll_by, coordinator_poll, task_of}
 use Rattle.coordinator_core.specs.declared.desks.Fixed.{Fixed}
 use Rattle.coordinator_core.specs.declared.desks.Job.{Job}
 use Rattle.coordinator_core.specs.declared.desks.LeafState.{LeafState}
@@ -30,19 +29,19 @@ use Rattle.closed_schedules.proofs.GatheringLemmas.{OwnSayings, says_nothing, Is
 
 -- a poll says what is true, with what was told then
 abbrev pub IsFairPoll : Told → ℕ → CoordinatorState → Poll → Type 0
-IsFairPoll T limit c p = (U : Told) × OwnSayings T c U × IsSettled c.formula U × IsTold U limit p.frame × IsFair U c reaction.Taken p.after
+IsFairPoll T limit c p = (U : Told) × OwnSayings T c U × IsSettled c.formula (coordinator_base c) U × IsTold U limit p.frame × IsFair U c reaction.Taken p.after
 
-says_so : (T : Told) (limit : ℕ) (c : CoordinatorState) (frame : Frame) → IsSettled c.formula T → IsHonestCoordinator T c → IsTold T limit frame → IsFairPoll T limit c (says frame c)
+says_so : (T : Told) (limit : ℕ) (c : CoordinatorState) (frame : Frame) → IsSettled c.formula (coordinator_base c) T → IsHonestCoordinator T c → IsTold T limit frame → IsFairPoll T limit c (says frame c)
 says_so T limit c frame settled honest told = (T, says_nothing T c, settled, told, unchanged T c reaction.Taken reaction.Taken c honest refl tt refl)
 
 -- a leaf is given by a new job
-settled_asking : (T : Told) (c : CoordinatorState) (cube : Cube) → IsSettled c.formula T → IsHonestCoordinator T c → IsInside (base_of c.formula) cube
-    → IsSettled c.formula (asking T (asks (record { session = c.session; job = c.next }) cube))
+settled_asking : (T : Told) (c : CoordinatorState) (cube : Cube) → IsSettled c.formula (coordinator_base c) T → IsHonestCoordinator T c → IsInside (coordinator_base c) cube
+    → IsSettled c.formula (coordinator_base c) (asking T (asks (record { session = c.session; job = c.next }) cube))
 settled_asking T c cube settled honest inside = record {
   one_cube = λ name p q hp hq. one name p q (Contains-push_cases T.asked _ _ hp) (Contains-push_cases T.asked _ _ hq);
   inside = λ name q h. within name q (Contains-push_cases T.asked _ _ h);
   one_reply = settled.one_reply;
-  true_reply = λ attempt r h. true_stays T (asking T (asks (record { session = c.session; job = c.next }) cube)) c.formula _ (asking_more T _) r (settled.true_reply attempt r h);
+  true_reply = λ attempt r h. true_stays T (asking T (asks (record { session = c.session; job = c.next }) cube)) c.formula (coordinator_base c) _ (asking_more T _) r (settled.true_reply attempt r h);
   one_verdict = settled.one_verdict;
   decision = settled.decision;
   right = settled.right;
@@ -65,9 +64,9 @@ settled_asking T c cube settled honest inside = record {
     one name p q (inr a) (inl b) = absurd (not_asked name q b (ap (λ (k : Asked). k.name) a))
     one name p q (inr a) (inr b) = sym (ap (λ (k : Asked). k.cube) a) ∙ ap (λ (k : Asked). k.cube) b
 
-    within : (name : JobName) (q : Cube) → Contains T.asked (asks name q) ⊎ (asks (record { session = c.session; job = c.next }) cube ≡ asks name q) → IsInside (base_of c.formula) q
+    within : (name : JobName) (q : Cube) → Contains T.asked (asks name q) ⊎ (asks (record { session = c.session; job = c.next }) cube ≡ asks name q) → IsInside (coordinator_base c) q
     within name q (inl a) = settled.inside name q a
-    within name q (inr a) = subst (IsInside (base_of c.formula)) (ap (λ (k : Asked). k.cube) a) inside
+    within name q (inr a) = subst (IsInside (coordinator_base c)) (ap (λ (k : Asked). k.cube) a) inside
 
 jobs_given : (T : Told) (c : CoordinatorState) (worker leaf : ℕ) → IsHonestCoordinator T c → 1 ≤ worker → slice_get c.leaves leaf ≡ Some Open → leaf < length c.leaves
     → (w : ℕ) (i : Job) → 1 ≤ w → desk_of (gives c worker leaf) w ≡ Some i
@@ -104,7 +103,7 @@ is_open_is Open e = refl
 is_open_is (GivenTo worker) e = cc
 is_open_is Closed e = cc
 
-gives_fair : (T : Told) (limit : ℕ) (c : CoordinatorState) (worker leaf : ℕ) → IsSettled c.formula T → IsHonestCoordinator T c → IsCoordinator c → c.limit ≡ limit → 1 ≤ worker
+gives_fair : (T : Told) (limit : ℕ) (c : CoordinatorState) (worker leaf : ℕ) → IsSettled c.formula (coordinator_base c) T → IsHonestCoordinator T c → IsCoordinator c → c.limit ≡ limit → 1 ≤ worker
     → position is_open c.leaves ≡ Some leaf → IsFairPoll T limit c (leaf_poll c worker true (Some leaf))
 gives_fair T limit c worker leaf settled honest is bound from_1 at =
     let p = position-Some is_open c.leaves leaf Closed at in
@@ -126,6 +125,7 @@ gives_fair T limit c worker leaf settled honest is bound from_1 at =
         };
         plain = tt;
         formula = refl;
+        definitions = refl;
         session = refl;
         limit = refl;
       },
@@ -148,23 +148,23 @@ gives_fair T limit c worker leaf settled honest is bound from_1 at =
       decided = λ session v h. inl h;
     }
 
-leaf_polled : (T : Told) (limit : ℕ) (c : CoordinatorState) (worker : ℕ) (more : Bool) (o : Option ℕ) → IsSettled c.formula T → IsHonestCoordinator T c → IsCoordinator c → c.limit ≡ limit → 1 ≤ worker
+leaf_polled : (T : Told) (limit : ℕ) (c : CoordinatorState) (worker : ℕ) (more : Bool) (o : Option ℕ) → IsSettled c.formula (coordinator_base c) T → IsHonestCoordinator T c → IsCoordinator c → c.limit ≡ limit → 1 ≤ worker
     → position is_open c.leaves ≡ o → IsFairPoll T limit c (leaf_poll c worker more o)
 leaf_polled T limit c worker true (Some leaf) settled honest is bound from_1 at = gives_fair T limit c worker leaf settled honest is bound from_1 at
 leaf_polled T limit c worker true None settled honest is bound from_1 at = says_so T limit c Rest settled honest tt
 leaf_polled T limit c worker false o settled honest is bound from_1 at = says_so T limit c Rest settled honest tt
 
-fixed_polled : (T : Told) (limit : ℕ) (c : CoordinatorState) (worker : ℕ) (j : Job) (o : Option Fixed) → IsSettled c.formula T → IsHonestCoordinator T c → c.limit ≡ limit
+fixed_polled : (T : Told) (limit : ℕ) (c : CoordinatorState) (worker : ℕ) (j : Job) (o : Option Fixed) → IsSettled c.formula (coordinator_base c) T → IsHonestCoordinator T c → c.limit ≡ limit
     → IsHonestJob T c worker j → j.fixed ≡ o → IsFairPoll T limit c (fixed_poll c worker j o)
 fixed_polled T limit c worker j (Some x) settled honest bound job fixed = let h = job.fixed x fixed in says_so T limit c (Fetch (attempt_at (job_name c j) worker x.incarnation) (length x.evidence.bytes)) settled honest (h.0, h.1, h.2)
 fixed_polled T limit c worker j None settled honest bound job fixed = says_so T limit c (task_of c j) settled honest (bound, job.asked)
 
-job_polled : (T : Told) (limit : ℕ) (c : CoordinatorState) (worker : ℕ) (o : Option Job) → IsSettled c.formula T → IsHonestCoordinator T c → IsCoordinator c → c.limit ≡ limit → 1 ≤ worker
+job_polled : (T : Told) (limit : ℕ) (c : CoordinatorState) (worker : ℕ) (o : Option Job) → IsSettled c.formula (coordinator_base c) T → IsHonestCoordinator T c → IsCoordinator c → c.limit ≡ limit → 1 ≤ worker
     → job_at c worker ≡ o → IsFairPoll T limit c (job_poll c worker o)
 job_polled T limit c worker (Some j) settled honest is bound from_1 at = fixed_polled T limit c worker j j.fixed settled honest bound (honest.jobs worker j from_1 (desk_job c worker (Some j) from_1 at)) refl
 job_polled T limit c worker None settled honest is bound from_1 at = leaf_polled T limit c worker _ _ settled honest is bound from_1 refl
 
-stuck_polled : (T : Told) (limit : ℕ) (c : CoordinatorState) (worker : ℕ) (stuck : Bool) → IsSettled c.formula T → IsHonestCoordinator T c → IsCoordinator c → c.limit ≡ limit → 1 ≤ worker
+stuck_polled : (T : Told) (limit : ℕ) (c : CoordinatorState) (worker : ℕ) (stuck : Bool) → IsSettled c.formula (coordinator_base c) T → IsHonestCoordinator T c → IsCoordinator c → c.limit ≡ limit → 1 ≤ worker
     → IsFairPoll T limit c (stuck_poll c worker stuck)
 stuck_polled T limit c worker true settled honest is bound from_1 = says_so T limit c Rest settled honest tt
 stuck_polled T limit c worker false settled honest is bound from_1 = job_polled T limit c worker _ settled honest is bound from_1 refl
@@ -180,17 +180,18 @@ noted_fair T c wants honest = record {
   };
   plain = tt;
   formula = refl;
+  definitions = refl;
   session = refl;
   limit = refl;
 }
 
-verdict_polled : (T : Told) (limit : ℕ) (c : CoordinatorState) (worker : ℕ) (o : Option ℕ) → IsSettled c.formula T → IsHonestCoordinator T c → IsCoordinator c → c.verdict ≢ Nothing
+verdict_polled : (T : Told) (limit : ℕ) (c : CoordinatorState) (worker : ℕ) (o : Option ℕ) → IsSettled c.formula (coordinator_base c) T → IsHonestCoordinator T c → IsCoordinator c → c.verdict ≢ Nothing
     → want_at c worker ≡ o → IsFairPoll T limit c (verdict_poll c worker o)
 verdict_polled T limit c worker (Some offset) settled honest is some wants =
     (T, says_nothing T c, settled, (c.verdict, honest.decided some, refl, chunk_stands (bytes_in c.verdict) offset chunk (is.wanted worker offset wants)), noted_fair T c _ honest)
 verdict_polled T limit c worker None settled honest is some wants = says_so T limit c (VerdictFrame c.session (finding_in c.verdict)) settled honest (c.verdict, honest.decided some, refl)
 
-pub poll_fair : (T : Told) (limit : ℕ) (c : CoordinatorState) (worker : ℕ) → IsSettled c.formula T → IsHonestCoordinator T c → IsCoordinator c → c.limit ≡ limit → 1 ≤ worker
+pub poll_fair : (T : Told) (limit : ℕ) (c : CoordinatorState) (worker : ℕ) → IsSettled c.formula (coordinator_base c) T → IsHonestCoordinator T c → IsCoordinator c → c.limit ≡ limit → 1 ≤ worker
     → IsFairPoll T limit c (coordinator_poll c worker)
 poll_fair T limit c worker settled honest is bound from_1 = go c.verdict refl
   where

@@ -74,10 +74,10 @@ told_stays T U limit more (Want session worker offset) h = tt
 told_stays T U limit more (Idle worker incarnation) h = tt
 told_stays T U limit more Rest h = tt
 
-pub true_stays : (T U : Told) (F : Cnf) (name : JobName) → IsMore T U → (r : Reply) → IsTrueReply F T.asked name r → IsTrueReply F U.asked name r
-true_stays T U F name more Met h = tt
-true_stays T U F name more (Shown answers.Refuted bytes) h = (h.0, more.asked _ h.1, h.2)
-true_stays T U F name more (Shown answers.Assignment bytes) h = h
+pub true_stays : (T U : Told) (F B : Cnf) (name : JobName) → IsMore T U → (r : Reply) → IsTrueReply F B T.asked name r → IsTrueReply F B U.asked name r
+true_stays T U F B name more Met h = tt
+true_stays T U F B name more (Shown answers.Refuted bytes) h = (h.0, more.asked _ h.1, h.2)
+true_stays T U F B name more (Shown answers.Assignment bytes) h = h
 
 -- names are ordered
 pub before_before : (a b c : JobName) → IsBefore a b → IsBefore b c → IsBefore a c

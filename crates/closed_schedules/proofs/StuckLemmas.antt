@@ -1,5 +1,5 @@
 -- Why a coordinator is stuck.
-use Rattle.std.proofs.Common.{◌≡◌, ◌≢◌, ℕ, zero, suc, ◌+◌, ◌-◌, ◌<◌, ◌≤◌, ◌^◌, Bool, true, false, List, [], ◌∷◌, ◌++◌, length, Contains, Option, Some, None, slice_get, get_or, refl, subst, sym, ap, ◌∙◌, ◌⊎◌, inl, inr}
+use Rattle.std.proofs.Common.{◌≡◌, ◌≢◌, ℕ, zero, suc, ◌+◌, ◌-◌, ◌<◌, Bool, true, false, List, [], ◌∷◌, ◌++◌, length, Contains, Option, Some, None, slice_get, get_or, refl, subst, sym, ap, ◌∙◌, ◌⊎◌, inl, inr}
 use Rattle.std.proofs.lemmas.List.Elements.{Contains-append_left}
 use Rattle.std.proofs.lemmas.Option.{slice_get_within, get_or_from_slice_get}
 use Rattle.dimacs.specs.logic.Base.{pure_literals}
@@ -13,10 +13,11 @@ use Rattle.frames.specs.declared.answer.Outcome.TheVariants as told
 use Rattle.frames.specs.declared.frame.Attempt.{Attempt}
 use Rattle.frames.specs.declared.frame.Frame.{Frame}
 use Rattle.frames.specs.declared.frame.Frame.TheVariants.{Task, Done, Fetch, Piece, Verdict as VerdictFrame, Want, Part, Idle, Rest}
-use Rattle.cube_split.specs.Choice.{IsChoice}
-use Rattle.proof_join.specs.Joining.{JoinedUnits}
-use Rattle.evidence.specs.Events.{Given, Reacted, Sent}
-use Rattle.coordinator_core.specs.Coordinator.{CoordinatorState, CanSplit, AreClosed, EndsFragment, EndsAssignment, Gathers, MeetsLimit, AnswersFirst, DeliversDone, DeliversPiece, DeliversIdle, DeliversWant, CoordinatorDelivers, CoordinatorPolls, coordinator_poll, poll_by, stuck_poll, job_poll, fixed_poll, leaf_poll, verdict_poll, cube_at, want_at, job_at}
+use Rattle.cube_split.specs.Choosing.{Chooses}
+use Rattle.cube_split.specs.Pairs.{Definitions}
+use Rattle.proof_join.specs.Definitions.{JoinedOver}
+use Rattle.evidence.specs.Events.{Sent}
+use Rattle.coordinator_core.specs.Coordinator.{CoordinatorState, CanSplit, AreClosed, EndsFragment, EndsAssignment, Gathers, MeetsLimit, AnswersFirst, DeliversDone, DeliversPiece, DeliversIdle, DeliversWant, CoordinatorDelivers, CoordinatorPolls, coordinator_poll, poll_by, stuck_poll, job_poll, fixed_poll, leaf_poll, verdict_poll, want_at, job_at}
 use Rattle.coordinator_core.specs.Invariant.{IsCoordinator}
 use Rattle.coordinator_core.specs.declared.desks.Fixed.{Fixed}
 use Rattle.coordinator_core.specs.declared.desks.Job.{Job}
@@ -24,7 +25,7 @@ use Rattle.coordinator_core.specs.declared.desks.LeafState.{LeafState}
 use Rattle.coordinator_core.specs.declared.desks.LeafState.TheVariants.{GivenTo, Closed}
 use Rattle.closed_schedules.specs.declared.event.ClosedEvent.{ClosedEvent}
 use Rattle.closed_schedules.specs.declared.event.ClosedEvent.TheVariants.{Deliver, Work as WorkEvent, Poll as PollEvent, Restart}
-use Rattle.closed_schedules.specs.ClosedSchedule.{ClosedState, HappensDeliver, HappensWork, HappensPoll, HappensRestart, HappensClosed, RunsClosed, new_closed}
+use Rattle.closed_schedules.specs.ClosedSchedule.{Beginning, ClosedState, HappensDeliver, HappensWork, HappensPoll, HappensRestart, HappensClosed, RunsClosed, new_closed}
 use Rattle.closed_schedules.specs.ClosedLaws.{HasWholeLeaf, HasMetLimit, IsTooLong, IsStuckRightly, StuckRightly}
 use Rattle.closed_schedules.proofs.Told.{Told, IsHonestCluster}
 use Rattle.closed_schedules.proofs.Desks.{job_desk}
@@ -34,13 +35,14 @@ use Rattle.closed_schedules.proofs.Moments.{new_closed_is}
 -- nothing that a reason speaks of changes
 record IsFrozen (c d : CoordinatorState) : Type 0 where
   formula : d.formula ≡ c.formula
+  definitions : d.definitions ≡ c.definitions
   session : d.session ≡ c.session
   tree : d.tree ≡ c.tree
   leaves : d.leaves ≡ c.leaves
   fragments : d.fragments ≡ c.fragments
 
 frozen_same : (c d : CoordinatorState) → d ≡ c → IsFrozen c d
-frozen_same c d e = record { formula = ap (λ k. k.formula) e; session = ap (λ k. k.session) e; tree = ap (λ k. k.tree) e; leaves = ap (λ k. k.leaves) e; fragments = ap (λ k. k.fragments) e }
+frozen_same c d e = record { formula = ap (λ k. k.formula) e; definitions = ap (λ k. k.definitions) e; session = ap (λ k. k.session) e; tree = ap (λ k. k.tree) e; leaves = ap (λ k. k.leaves) e; fragments = ap (λ k. k.fragments) e }
 
 not_both : (b : Bool) → b ≡ true → b ≡ false → ⊥
 not_both b t f = let e : true ≡ false = sym t ∙ f in cc
@@ -56,7 +58,7 @@ frozen c (Piece attempt offset bytes) answer new stuck (DeliversPiece.appends j 
 frozen c (Idle worker incarnation) answer new stuck (DeliversIdle.strays none a now) = frozen_same c new now
 frozen c (Idle worker incarnation) answer new stuck (DeliversIdle.anew j stale a now) = absurd (not_both c.stuck stuck stale.deciding.going)
 frozen c (Want session worker offset) answer new stuck (DeliversWant.strays none a now) = frozen_same c new now
-frozen c (Want session worker offset) answer new stuck (DeliversWant.notes wanted a now) = subst (IsFrozen c) (sym now) (record { formula = refl; session = refl; tree = refl; leaves = refl; fragments = refl })
+frozen c (Want session worker offset) answer new stuck (DeliversWant.notes wanted a now) = subst (IsFrozen c) (sym now) (record { formula = refl; definitions = refl; session = refl; tree = refl; leaves = refl; fragments = refl })
 frozen c (Task session job limit cube) answer new stuck step = frozen_same c new step.1
 frozen c (Fetch attempt offset) answer new stuck step = frozen_same c new step.1
 frozen c (VerdictFrame session finding) answer new stuck step = frozen_same c new step.1
@@ -138,6 +140,10 @@ reason c (VerdictFrame session finding) answer new is free stuck step = stays_fr
 reason c (Part session part offset bytes) answer new is free stuck step = stays_free c c new _ free refl step.1 stuck
 reason c Rest answer new is free stuck step = stays_free c c new _ free refl step.1 stuck
 
+-- the split rule chooses a variable for a leaf
+abbrev Splits : Cnf → Definitions → List Cube → ℕ → ℕ → Type 0
+Splits F d tree leaf v = Chooses F (record { units = pure_literals F; pairs = d.pairs }) (get_or tree leaf []) (Some v)
+
 -- a reason stays one of a frozen coordinator
 whole_stays : (c d : CoordinatorState) → IsFrozen c d → HasWholeLeaf c → HasWholeLeaf d
 whole_stays c d f h = record {
@@ -152,16 +158,18 @@ whole_stays c d f h = record {
         short = subst (λ (t : List Cube). length (get_or t h.leaf []) < 64) f.tree can.may.short;
         few = subst (λ (t : List Cube). length t < 65536) f.tree can.may.few;
       };
-      choice = subst (λ (t : List Cube). IsChoice c.formula (pure_literals c.formula ++ get_or t h.leaf []) v) f.tree
-          (subst (λ (F : Cnf). IsChoice F (pure_literals F ++ get_or d.tree h.leaf []) v) f.formula can.choice);
+      choice = subst (λ (t : List Cube). Splits c.formula c.definitions t h.leaf v) f.tree (subst (λ (e : Definitions). Splits c.formula e d.tree h.leaf v) f.definitions
+          (subst (λ (F : Cnf). Splits F d.definitions d.tree h.leaf v) f.formula can.choice));
     }
 
 long_stays : (c d : CoordinatorState) → IsFrozen c d → IsTooLong c → IsTooLong d
 long_stays c d f h = record {
   all = subst AreClosed (sym f.leaves) h.all;
   text = h.text;
-  joined = subst (λ (F : Cnf). JoinedUnits F d.tree d.fragments h.text) (sym f.formula) (subst (λ (t : List Cube). JoinedUnits c.formula t d.fragments h.text) (sym f.tree)
-      (subst (λ (fs : List (List ℕ)). JoinedUnits c.formula c.tree fs h.text) (sym f.fragments) h.joined));
+  joined = subst (λ (F : Cnf). JoinedOver F d.definitions.pairs d.tree d.fragments h.text) (sym f.formula)
+      (subst (λ (e : Definitions). JoinedOver c.formula e.pairs d.tree d.fragments h.text) (sym f.definitions)
+      (subst (λ (t : List Cube). JoinedOver c.formula c.definitions.pairs t d.fragments h.text) (sym f.tree)
+      (subst (λ (fs : List (List ℕ)). JoinedOver c.formula c.definitions.pairs c.tree fs h.text) (sym f.fragments) h.joined)));
   long = h.long;
 }
 
@@ -187,7 +195,7 @@ frozen_itself : (c : CoordinatorState) → IsFrozen c c
 frozen_itself c = frozen_same c c refl
 
 verdict_poll_frozen : (c : CoordinatorState) (worker : ℕ) (o : Option ℕ) → (verdict_poll c worker o).after.stuck ≡ true → (c.stuck ≡ true) × IsFrozen c (verdict_poll c worker o).after
-verdict_poll_frozen c worker (Some offset) stuck = (stuck, record { formula = refl; session = refl; tree = refl; leaves = refl; fragments = refl })
+verdict_poll_frozen c worker (Some offset) stuck = (stuck, record { formula = refl; definitions = refl; session = refl; tree = refl; leaves = refl; fragments = refl })
 verdict_poll_frozen c worker None stuck = (stuck, frozen_itself c)
 
 poll_frozen : (c : CoordinatorState) (worker : ℕ) → (coordinator_poll c worker).after.stuck ≡ true → (c.stuck ≡ true) × IsFrozen c (coordinator_poll c worker).after
@@ -223,9 +231,9 @@ delivered_stuck s place frame answer c is found rightly step stuck = by s.coordi
     by true e = reason_stays s.frames s.frames s.coordinator c (λ f h. h) (frozen s.coordinator frame answer c e step) (rightly e)
     by false e = why (reason s.coordinator frame answer c is e stuck step)
 
-event_stuck : (F : Cnf) (limit : ℕ) (T : Told) (s : ClosedState) (event : ClosedEvent) (answer : Reaction) (new : ClosedState)
-    → IsHonestCluster F limit T s → StuckRightly s → HappensClosed s event answer new → StuckRightly new
-event_stuck F limit T s event answer new is rightly happens = go event happens
+event_stuck : (b : Beginning) (T : Told) (s : ClosedState) (event : ClosedEvent) (answer : Reaction) (new : ClosedState)
+    → IsHonestCluster b T s → StuckRightly s → HappensClosed s event answer new → StuckRightly new
+event_stuck b T s event answer new is rightly happens = go event happens
   where
     delivers : (node place : ℕ) → HappensDeliver s node place answer new → StuckRightly new
     delivers node place (HappensDeliver.strays none ignored) = subst StuckRightly (sym ignored.1) rightly
@@ -265,17 +273,17 @@ event_stuck F limit T s event answer new is rightly happens = go event happens
     go (PollEvent node worker) h = polls node worker h
     go (Restart node number) h = restarts node number h
 
-run_stuck : CoordinatorsStay → (F : Cnf) (limit : ℕ) (T : Told) (s : ClosedState) (events : List ClosedEvent) (new : ClosedState)
-    → IsHonestCluster F limit T s → StuckRightly s → RunsClosed s events new → StuckRightly new
-run_stuck law F limit T s [] new is rightly same = subst StuckRightly (sym same) rightly
-run_stuck law F limit T s (event ∷ events) new is rightly (answer, mid, happens, runs) =
-    let h = event_keeps law F limit T s event answer mid is happens in
-    run_stuck law F limit h.0 mid events new h.1 (event_stuck F limit T s event answer mid is rightly happens) runs
+run_stuck : CoordinatorsStay → (b : Beginning) (T : Told) (s : ClosedState) (events : List ClosedEvent) (new : ClosedState)
+    → IsHonestCluster b T s → StuckRightly s → RunsClosed s events new → StuckRightly new
+run_stuck law b T s [] new is rightly same = subst StuckRightly (sym same) rightly
+run_stuck law b T s (event ∷ events) new is rightly (answer, mid, happens, runs) =
+    let h = event_keeps law b T s event answer mid is happens in
+    run_stuck law b h.0 mid events new h.1 (event_stuck b T s event answer mid is rightly happens) runs
 
 -- a coordinator is stuck for a reason
 pub stuck_rightly : CoordinatorsStay → IsStuckRightly
-stuck_rightly law F tree limit n s r =
-    run_stuck law F limit _ (new_closed F tree limit n) r.events s (new_closed_is F tree limit n r.formula r.planted r.some_worker r.few_workers) (λ stuck. absurd (never stuck)) r.runs
+stuck_rightly law b s r =
+    run_stuck law b _ (new_closed b) r.events s (new_closed_is b r.formula r.defined r.planted r.some_worker r.few_workers) (λ stuck. absurd (never stuck)) r.runs
   where
     never : false ≡ true → ⊥
     never e = cc

@@ -1,7 +1,6 @@
 -- What was said once and for all in a closed schedule: a job's name fixes its cube, an attempt at a job fixes one reply,
 -- a session fixes one verdict. Frames and nodes say nothing else. Nobody has to read this to believe the laws.
 use Rattle.std.specs.Prelude.{◌≡◌, ◌≢◌, ℕ, suc, ◌-◌, ◌<◌, ◌≤◌, List, ◌++◌, length, Contains, All, Option, Some, None, slice_get, slice_index_or, ◌⊎◌}
-use Rattle.dimacs.specs.logic.Base.{base_of}
 use Rattle.dimacs.specs.logic.Cnf.{Cnf}
 use Rattle.icnf.specs.Leaves.{Cube}
 use Rattle.lrat_text.specs.Log.{Closes}
@@ -15,6 +14,7 @@ use Rattle.frames.specs.declared.answer.Outcome.TheVariants as told
 use Rattle.frames.specs.declared.frame.Attempt.{Attempt}
 use Rattle.frames.specs.declared.frame.Frame.{Frame}
 use Rattle.frames.specs.declared.frame.Frame.TheVariants.{Task, Done, Fetch, Piece, Verdict as VerdictFrame, Want, Part, Idle, Rest}
+use Rattle.cube_split.specs.Definitions.{base_with}
 use Rattle.evidence.specs.Evidence.{finding_of, answer_in, bytes_in, finding_in, IsRightEvidence}
 use Rattle.evidence.specs.declared.evidence.Evidence.{Evidence}
 use Rattle.evidence.specs.Jobs.{name_of, attempt_at, IsBefore, IsInside}
@@ -28,7 +28,7 @@ use Rattle.coordinator_core.specs.declared.desks.Fixed.{Fixed}
 use Rattle.coordinator_core.specs.declared.desks.Job.{Job}
 use Rattle.coordinator_core.specs.declared.desks.LeafState.TheVariants.{GivenTo}
 use Rattle.coordinator_core.specs.Invariant.{IsCoordinator}
-use Rattle.closed_schedules.specs.ClosedSchedule.{ClosedState}
+use Rattle.closed_schedules.specs.ClosedSchedule.{Beginning, ClosedState}
 use Rattle.closed_schedules.specs.ClosedLaws.{StandsIn}
 
 -- a job of this name has this cube
@@ -87,18 +87,18 @@ IsTold T limit (Want session worker offset) = Unit {0}
 IsTold T limit (Idle worker incarnation) = Unit {0}
 IsTold T limit Rest = Unit {0}
 
--- a reply is true: a fragment closes the cube of its job, an assignment satisfies the formula
-abbrev pub IsTrueReply : Cnf → List Asked → JobName → Reply → Type 0
-IsTrueReply F asked name Met = Unit {0}
-IsTrueReply F asked name (Shown answers.Refuted bytes) = (cube : Cube) × Contains asked (asks name cube) × Closes (base_of F) cube bytes
-IsTrueReply F asked name (Shown answers.Assignment bytes) = (v : Verdict) × IsRightEvidence F answers.Assignment bytes v
+-- a reply is true: a fragment closes the cube of its job over the base, an assignment satisfies the formula
+abbrev pub IsTrueReply : Cnf → Cnf → List Asked → JobName → Reply → Type 0
+IsTrueReply F B asked name Met = Unit {0}
+IsTrueReply F B asked name (Shown answers.Refuted bytes) = (cube : Cube) × Contains asked (asks name cube) × Closes B cube bytes
+IsTrueReply F B asked name (Shown answers.Assignment bytes) = (v : Verdict) × IsRightEvidence F answers.Assignment bytes v
 
 -- names fix cubes, attempts fix replies, sessions fix verdicts, and all of these are true
-pub record IsSettled (F : Cnf) (T : Told) : Type 0 where
+pub record IsSettled (F B : Cnf) (T : Told) : Type 0 where
   pub one_cube : (name : JobName) (p q : Cube) → Contains T.asked (asks name p) → Contains T.asked (asks name q) → p ≡ q
-  pub inside : (name : JobName) (q : Cube) → Contains T.asked (asks name q) → IsInside (base_of F) q
+  pub inside : (name : JobName) (q : Cube) → Contains T.asked (asks name q) → IsInside B q
   pub one_reply : (attempt : Attempt) (r s : Reply) → Contains T.answered (answers_so attempt r) → Contains T.answered (answers_so attempt s) → r ≡ s
-  pub true_reply : (attempt : Attempt) (r : Reply) → Contains T.answered (answers_so attempt r) → IsTrueReply F T.asked (name_of attempt) r
+  pub true_reply : (attempt : Attempt) (r : Reply) → Contains T.answered (answers_so attempt r) → IsTrueReply F B T.asked (name_of attempt) r
   pub one_verdict : (session : ℕ) (v w : Verdict) → Contains T.decided (decides session v) → Contains T.decided (decides session w) → v ≡ w
   pub decision : (session : ℕ) (v : Verdict) → Contains T.decided (decides session v) → v ≢ Nothing
   pub right : (session : ℕ) (v : Verdict) → Contains T.decided (decides session v) → Right F v
@@ -161,21 +161,27 @@ pub record AreUsed (T : Told) (used : List ℕ) : Type 0 where
   pub answered : (attempt : Attempt) (r : Reply) → Contains T.answered (answers_so attempt r) → Contains used attempt.incarnation
   pub decided : (session : ℕ) (v : Verdict) → Contains T.decided (decides session v) → Contains used session
 
+-- the base that all nodes share
+abbrev pub shared_base : Beginning → Cnf
+shared_base b = base_with b.formula b.definitions.pairs
+
 -- a worker of a closed cluster
-pub record IsMember (F : Cnf) (T : Told) (used : List ℕ) (place : ℕ) (w : WorkerState) : Type 0 where
-  pub formula : w.formula ≡ F
+pub record IsMember (b : Beginning) (T : Told) (used : List ℕ) (place : ℕ) (w : WorkerState) : Type 0 where
+  pub formula : w.formula ≡ b.formula
+  pub base : w.base ≡ shared_base b
   pub number : w.number ≡ suc place
   pub known : Contains used w.incarnation
   pub honest : IsHonestWorker T w
 
--- what holds of a closed cluster of a formula, with what was told so far
-pub record IsHonestCluster (F : Cnf) (limit : ℕ) (T : Told) (s : ClosedState) : Type 0 where
-  pub settled : IsSettled F T
-  pub formula : s.coordinator.formula ≡ F
-  pub limit_is : s.coordinator.limit ≡ limit
+-- what holds of a closed cluster that began so, with what was told so far
+pub record IsHonestCluster (b : Beginning) (T : Told) (s : ClosedState) : Type 0 where
+  pub settled : IsSettled b.formula (shared_base b) T
+  pub formula : s.coordinator.formula ≡ b.formula
+  pub definitions : s.coordinator.definitions ≡ b.definitions
+  pub limit_is : s.coordinator.limit ≡ b.limit
   pub session : Contains s.used s.coordinator.session
   pub coordinator : IsCoordinator s.coordinator
   pub honest : IsHonestCoordinator T s.coordinator
-  pub workers : (i : ℕ) (w : WorkerState) → slice_get s.workers i ≡ Some w → IsMember F T s.used i w
-  pub frames : All (IsTold T limit) s.frames
+  pub workers : (i : ℕ) (w : WorkerState) → slice_get s.workers i ≡ Some w → IsMember b T s.used i w
+  pub frames : All (IsTold T b.limit) s.frames
   pub used : AreUsed T s.used

@@ -1,21 +1,20 @@
 -- A worker that works or is polled under closed schedules.
-use Rattle.std.proofs.Common.{◌≡◌, ℕ, ◌+◌, ◌^◌, nat_lt, Bool, true, false, List, [], ◌∷◌, ◌++◌, length, map, take, Contains, Option, Some, None, refl, subst, sym, ap, ◌∙◌, ◌⊎◌, inl, inr, arith}
+use Rattle.std.proofs.Common.{◌≡◌, ℕ, ◌^◌, nat_lt, Bool, true, false, List, length, map, take, Contains, Option, Some, None, refl, subst, sym, ap, ◌∙◌, ◌⊎◌, inl, inr}
 use Rattle.std.specs.Prelude.{if◌then◌else◌}
-use Rattle.std.proofs.lemmas.List.{take_all, get_or_append_left, length-append}
 use Rattle.std.proofs.lemmas.List.Elements.{Contains-push, Contains-push_cases}
-use Rattle.dimacs.specs.logic.Base.{base_of, pure_literals}
-use Rattle.dimacs.specs.logic.Cnf.{Cnf, Sat, assignment_of}
-use Rattle.dimacs.specs.logic.Literal.{Clause, IsTrueIn}
+use Rattle.dimacs.specs.logic.Cnf.{Cnf, IsFormula}
 use Rattle.cube_solve.specs.Outcome.{IsModel}
 use Rattle.cube_solve.specs.declared.outcome.Outcome.{Outcome}
 use Rattle.cube_solve.specs.declared.outcome.Outcome.TheVariants as outcome
 use Rattle.icnf.specs.Leaves.{Cube}
-use Rattle.lrat_check.specs.Verdicts.{Right}
 use Rattle.lrat_check.specs.declared.verdict.Verdict.TheVariants.{Model}
 use Rattle.lrat_check.specs.declared.verdict.Reaction.{Reaction}
 use Rattle.frames.specs.declared.answer.Answer.TheVariants as answers
 use Rattle.frames.specs.declared.frame.Attempt.{Attempt}
 use Rattle.lrat_check.specs.Judging.{value_byte}
+use Rattle.cube_split.specs.Definitions.{base_with}
+use Rattle.cube_split.specs.declared.pair.Pair.{Pair}
+use Rattle.proof_join.proofs.CutLemmas.{cut_back}
 use Rattle.evidence.specs.Evidence.{IsRightEvidence}
 use Rattle.evidence.specs.Jobs.{name_of}
 use Rattle.evidence.specs.Events.{chunk}
@@ -57,29 +56,30 @@ kept_is name vars (outcome.Refuted text) = go (nat_lt (length text.items) (2 ^ 3
     go false = refl
 kept_is name vars (outcome.Limit text) = refl
 
--- what satisfies the base satisfies the formula
-base_sat : (F : Cnf) (a : ℕ → Bool) → Sat a (base_of F) → Sat a F
-base_sat F a sat k d inside =
-    let units : List Clause = map (λ l. l ∷ []) (pure_literals F) in
-    let long : length (F.clauses ++ units) ≡ length F.clauses + length units = length-append F.clauses units in
-    subst (IsTrueIn a) (get_or_append_left F.clauses units d k inside) (sat k d (omega arith))
+-- a base with definitions
+pub record IsDefinedBase (F B : Cnf) : Type 0 where
+  pub limits : IsFormula F
+  pub pairs : List Pair
+  pub is : B ≡ base_with F pairs
 
-model_true : (F : Cnf) (cube : Cube) (values : List Bool) → IsModel (base_of F) cube values → IsRightEvidence F answers.Assignment (map value_byte (take F.vars values)) (Model (take F.vars values))
-model_true F cube values model =
-    let all : take F.vars values ≡ values = take_all F.vars values (omega (arith, model.whole)) in
+-- what satisfies the base, cut back to the formula's variables, satisfies the formula
+model_true : (F B : Cnf) (cube : Cube) (values : List Bool) → IsDefinedBase F B → IsModel B cube values
+    → IsRightEvidence F answers.Assignment (map value_byte (take F.vars values)) (Model (take F.vars values))
+model_true F B cube values base model =
+    let there : IsModel (base_with F base.pairs) cube values = subst (λ (k : Cnf). IsModel k cube values) base.is model in
     bears_out F answers.Assignment (map value_byte (take F.vars values)) (Model (take F.vars values))
     (record { some = λ e. cc; answer_is = refl; bytes_are = refl })
-    (subst (λ (k : List Bool). Right F (Model k)) (sym all) (model.whole, base_sat F (assignment_of values) model.base))
+    (cut_back F base.pairs values base.limits there.whole there.base)
 
-reply_true : (F : Cnf) (asked : List Asked) (name : JobName) (cube : Cube) (limit : ℕ) (end : Outcome) → Contains asked (asks name cube) → MayEnd (base_of F) cube limit end
-    → IsTrueReply F asked name (reply_of F.vars end)
-reply_true F asked name cube limit (outcome.Model values) known ends = (Model (take F.vars values), model_true F cube values ends)
-reply_true F asked name cube limit (outcome.Refuted text) known ends = go (nat_lt (length text.items) (2 ^ 32))
+reply_true : (F B : Cnf) (asked : List Asked) (name : JobName) (cube : Cube) (limit : ℕ) (end : Outcome) → IsDefinedBase F B → Contains asked (asks name cube) → MayEnd B cube limit end
+    → IsTrueReply F B asked name (reply_of F.vars end)
+reply_true F B asked name cube limit (outcome.Model values) base known ends = (Model (take F.vars values), model_true F B cube values base ends)
+reply_true F B asked name cube limit (outcome.Refuted text) base known ends = go (nat_lt (length text.items) (2 ^ 32))
   where
-    go : (b : Bool) → IsTrueReply F asked name (if b then Shown answers.Refuted text.items else Met)
+    go : (b : Bool) → IsTrueReply F B asked name (if b then Shown answers.Refuted text.items else Met)
     go true = (cube, known, ends.0)
     go false = tt
-reply_true F asked name cube limit (outcome.Limit text) known ends = tt
+reply_true F B asked name cube limit (outcome.Limit text) base known ends = tt
 
 same_answered : (a b : Attempt) (r s : Reply) → answers_so a r ≡ answers_so b s → (a ≡ b) × (r ≡ s)
 same_answered a b r s e = (ap (λ k. k.attempt) e, ap (λ k. k.reply) e)
@@ -91,8 +91,8 @@ not_told T w name cube limit attempt r honest waits told same =
     let own : Contains T.answered (answers_so (own_attempt w name) r) = subst (λ (a : Attempt). Contains T.answered (answers_so a r)) (sym same) told in
     not_before_itself name (subst (λ (k : Work). IsBehind w k name) waits (honest.behind name r own))
 
-settled_answering : (T : Told) (w : WorkerState) (name : JobName) (cube : Cube) (limit : ℕ) (reply : Reply) → IsSettled w.formula T → IsHonestWorker T w → w.work ≡ Waiting name cube limit
-    → IsTrueReply w.formula T.asked name reply → IsSettled w.formula (answering T (answers_so (own_attempt w name) reply))
+settled_answering : (T : Told) (w : WorkerState) (name : JobName) (cube : Cube) (limit : ℕ) (reply : Reply) → IsSettled w.formula w.base T → IsHonestWorker T w → w.work ≡ Waiting name cube limit
+    → IsTrueReply w.formula w.base T.asked name reply → IsSettled w.formula w.base (answering T (answers_so (own_attempt w name) reply))
 settled_answering T w name cube limit reply settled honest waits is_true = record {
   one_cube = settled.one_cube;
   inside = settled.inside;
@@ -112,13 +112,13 @@ settled_answering T w name cube limit reply settled honest waits is_true = recor
     one attempt r s (inr p) (inr q) = sym (same_answered _ _ _ _ p).1 ∙ (same_answered _ _ _ _ q).1
 
     all_true : (attempt : Attempt) (r : Reply)
-        → Contains T.answered (answers_so attempt r) ⊎ (answers_so (own_attempt w name) reply ≡ answers_so attempt r) → IsTrueReply w.formula T.asked (name_of attempt) r
+        → Contains T.answered (answers_so attempt r) ⊎ (answers_so (own_attempt w name) reply ≡ answers_so attempt r) → IsTrueReply w.formula w.base T.asked (name_of attempt) r
     all_true attempt r (inl p) = settled.true_reply attempt r p
     all_true attempt r (inr p) =
         let at : own_attempt w name ≡ attempt = (same_answered _ _ _ _ p).0 in
         let same : reply ≡ r = (same_answered _ _ _ _ p).1 in
-        let named : IsTrueReply w.formula T.asked (name_of attempt) reply = subst (λ (a : Attempt). IsTrueReply w.formula T.asked (name_of a) reply) at is_true in
-        subst (IsTrueReply w.formula T.asked (name_of attempt)) same named
+        let named : IsTrueReply w.formula w.base T.asked (name_of attempt) reply = subst (λ (a : Attempt). IsTrueReply w.formula w.base T.asked (name_of a) reply) at is_true in
+        subst (IsTrueReply w.formula w.base T.asked (name_of attempt)) same named
 
 none_noted : (bytes : List ℕ) → IsNote None bytes
 none_noted bytes = λ o e. cc
@@ -150,21 +150,21 @@ honest_answering T w name cube limit reply honest waits = record {
     is_behind (Shown answer bytes) n h = h
 
 -- work leaves a worker honest, and tells at most one reply, its own
-pub work_fine : (T : Told) (w : WorkerState) (answer : Reaction) (new : WorkerState) → IsSettled w.formula T → IsHonestWorker T w → WorkerWorks w answer new
-    → (U : Told) × OwnReplies T w U × IsSettled w.formula U × IsFine U w answer new
-work_fine T w answer new settled honest (WorkerWorks.rests none is same) = (T, nothing_told T w, settled, stays T w answer _ new honest is tt same)
+pub work_fine : (T : Told) (w : WorkerState) (answer : Reaction) (new : WorkerState) → IsDefinedBase w.formula w.base → IsSettled w.formula w.base T → IsHonestWorker T w → WorkerWorks w answer new
+    → (U : Told) × OwnReplies T w U × IsSettled w.formula w.base U × IsFine U w answer new
+work_fine T w answer new base settled honest (WorkerWorks.rests none is same) = (T, nothing_told T w, settled, stays T w answer _ new honest is tt same)
   where
     nothing_told : (T : Told) (w : WorkerState) → OwnReplies T w T
     nothing_told T w = record { more = as_much T; asked = λ a h. h; decided = λ d h. h; own = λ attempt r h. inl h }
-work_fine T w answer new settled honest (WorkerWorks.no_memory name cube limit waits is same) = (T, nothing_told T w, settled, stays T w answer _ new honest is tt same)
+work_fine T w answer new base settled honest (WorkerWorks.no_memory name cube limit waits is same) = (T, nothing_told T w, settled, stays T w answer _ new honest is tt same)
   where
     nothing_told : (T : Told) (w : WorkerState) → OwnReplies T w T
     nothing_told T w = record { more = as_much T; asked = λ a h. h; decided = λ d h. h; own = λ attempt r h. inl h }
-work_fine T w answer new settled honest (WorkerWorks.finishes name cube limit waits end ends is now) =
+work_fine T w answer new base settled honest (WorkerWorks.finishes name cube limit waits end ends is now) =
     let reply : Reply = reply_of w.formula.vars end in
     let entry : Answered = answers_so (own_attempt w name) reply in
     let was : IsHonestWork T w (Waiting name cube limit) = subst (IsHonestWork T w) waits honest.work in
-    let is_true : IsTrueReply w.formula T.asked name reply = reply_true w.formula T.asked name cube limit end was.1 ends in
+    let is_true : IsTrueReply w.formula w.base T.asked name reply = reply_true w.formula w.base T.asked name cube limit end base was.1 ends in
     let after : new ≡ record w { work = work_for name reply } = now ∙ ap (λ (k : Work). record w { work = k }) (kept_is name w.formula.vars end) in (
       answering T entry,
       told entry refl,
@@ -173,6 +173,7 @@ work_fine T w answer new settled honest (WorkerWorks.finishes name cube limit wa
         honest = honest_answering T w name cube limit reply honest waits;
         plain = plain_by answer _ is tt;
         formula = refl;
+        base = refl;
         number = refl;
         incarnation = refl;
       }),

@@ -27,6 +27,7 @@ pub record IsFine (T : Told) (w : WorkerState) (answer : Reaction) (new : Worker
   pub honest : IsHonestWorker T new
   pub plain : IsPlain answer
   pub formula : new.formula ≡ w.formula
+  pub base : new.base ≡ w.base
   pub number : new.number ≡ w.number
   pub incarnation : new.incarnation ≡ w.incarnation
 
@@ -36,6 +37,7 @@ stays T w answer r new honest is plain same = subst (λ (n : WorkerState). IsFin
   honest = honest;
   plain = plain_by answer r is plain;
   formula = refl;
+  base = refl;
   number = refl;
   incarnation = refl;
 })
@@ -56,7 +58,7 @@ behind_before T w (Limited last) name later honest behind is_later = reached_bef
 behind_before T w (Found last answer bytes noted) name later honest behind is_later = reached_before w.last name later behind is_later
 
 task_fine : (T : Told) (w : WorkerState) (name : JobName) (limit : ℕ) (cube : Cube) (answer : Reaction) (new : WorkerState)
-    → IsSettled w.formula T → IsHonestWorker T w → Contains T.asked (asks name cube) → DeliversTask w name limit cube answer new → IsFine T w answer new
+    → IsSettled w.formula w.base T → IsHonestWorker T w → Contains T.asked (asks name cube) → DeliversTask w name limit cube answer new → IsFine T w answer new
 task_fine T w name limit cube answer new settled honest asked (DeliversTask.repeated why is same) = stays T w answer _ new honest is tt same
 task_fine T w name limit cube answer new settled honest asked (DeliversTask.foreign later outside is same) = absurd (outside (settled.inside name cube asked))
 task_fine T w name limit cube answer new settled honest asked (DeliversTask.no_memory later inside some is same) = stays T w answer _ new honest is tt same
@@ -70,6 +72,7 @@ task_fine T w name limit cube answer new settled honest asked (DeliversTask.take
       };
       plain = plain_by answer _ is tt;
       formula = refl;
+      base = refl;
       number = refl;
       incarnation = refl;
     })
@@ -88,6 +91,7 @@ fetch_fine T w attempt offset answer new honest (DeliversFetch.notes found bytes
       };
       plain = plain_by answer _ is tt;
       formula = refl;
+      base = refl;
       number = refl;
       incarnation = refl;
     })
@@ -108,6 +112,7 @@ with_candidate T w answer r o v new honest known right is plain now =
       honest = record { work = honest_work w.work honest.work; behind = λ n r told. still_behind w.work n (honest.behind n r told); candidate = known; right = right };
       plain = plain_by answer r is plain;
       formula = refl;
+      base = refl;
       number = refl;
       incarnation = refl;
     })
@@ -125,7 +130,7 @@ with_candidate T w answer r o v new honest known right is plain now =
     still_behind (Found name a bytes noted) n h = h
 
 collects_fine : (T : Told) (w : WorkerState) (c : Candidate) (answer : Reaction) (new : WorkerState)
-    → IsSettled w.formula T → IsHonestWorker T w → IsHonestCandidate T c → Collects w c answer new → IsFine T w answer new
+    → IsSettled w.formula w.base T → IsHonestWorker T w → IsHonestCandidate T c → Collects w c answer new → IsFine T w answer new
 collects_fine T w c answer new settled honest known (Collects.waits more is now) =
     with_candidate T w answer _ (Some c) w.verdict new honest (λ d e. subst (IsHonestCandidate T) (same d e) known) honest.right is tt now
   where
@@ -139,7 +144,7 @@ collects_fine T w c answer new settled honest known (Collects.wrong complete non
 collects_fine T w c answer new settled honest known (Collects.no_memory grows is same) = stays T w answer _ new honest is tt same
 
 verdict_fine : (T : Told) (w : WorkerState) (session : ℕ) (finding : Finding) (answer : Reaction) (new : WorkerState)
-    → IsSettled w.formula T → IsHonestWorker T w → (v : Verdict) → Contains T.decided (decides session v) → finding ≡ finding_in v
+    → IsSettled w.formula w.base T → IsHonestWorker T w → (v : Verdict) → Contains T.decided (decides session v) → finding ≡ finding_in v
     → DeliversVerdict w session finding answer new → IsFine T w answer new
 verdict_fine T w session finding answer new settled honest v decided says (DeliversVerdict.stale old is same) = stays T w answer _ new honest is tt same
 verdict_fine T w session finding answer new settled honest v decided says (DeliversVerdict.wrong_length news wrong is same) =
@@ -148,7 +153,7 @@ verdict_fine T w session finding answer new settled honest v decided says (Deliv
     collects_fine T w (candidate_of session finding) answer new settled honest (v, decided, record { finding = says; front = empty_front (bytes_in v) }) collects
 
 part_fine : (T : Told) (w : WorkerState) (session : ℕ) (part : Answer) (offset : ℕ) (bytes : List ℕ) (answer : Reaction) (new : WorkerState)
-    → IsSettled w.formula T → IsHonestWorker T w → (v : Verdict) → Contains T.decided (decides session v) → StandsIn (bytes_in v) offset bytes
+    → IsSettled w.formula w.base T → IsHonestWorker T w → (v : Verdict) → Contains T.decided (decides session v) → StandsIn (bytes_in v) offset bytes
     → DeliversPart w session part offset bytes answer new → IsFine T w answer new
 part_fine T w session part offset bytes answer new settled honest v decided stands (DeliversPart.strays none is same) = stays T w answer _ new honest is tt same
 part_fine T w session part offset bytes answer new settled honest v decided stands (DeliversPart.appends c fits collects) =
@@ -161,7 +166,7 @@ part_fine T w session part offset bytes answer new settled honest v decided stan
 
 -- a frame that tells what is true leaves a worker honest, and is not refused
 pub delivery_fine : (T : Told) (limit : ℕ) (w : WorkerState) (frame : Frame) (answer : Reaction) (new : WorkerState)
-    → IsSettled w.formula T → IsHonestWorker T w → IsTold T limit frame → WorkerDelivers w frame answer new → IsFine T w answer new
+    → IsSettled w.formula w.base T → IsHonestWorker T w → IsTold T limit frame → WorkerDelivers w frame answer new → IsFine T w answer new
 delivery_fine T limit w (Task session job bound cube) answer new settled honest told step = task_fine T w _ bound cube answer new settled honest told.1 step
 delivery_fine T limit w (Fetch attempt offset) answer new settled honest told step = fetch_fine T w attempt offset answer new honest step
 delivery_fine T limit w (VerdictFrame session finding) answer new settled honest told step = verdict_fine T w session finding answer new settled honest told.0 told.1 told.2 step

@@ -16,7 +16,9 @@ use Rattle.frames.specs.declared.answer.Outcome.TheVariants as told
 use Rattle.frames.specs.declared.frame.Attempt.{Attempt}
 use Rattle.frames.specs.declared.frame.Frame.{Frame}
 use Rattle.frames.specs.declared.frame.Frame.TheVariants.{Task, Done, Piece, Part, Verdict as VerdictFrame}
-use Rattle.proof_join.specs.Joining.{JoinedUnits}
+use Rattle.cube_split.specs.Definitions.{base_with}
+use Rattle.cube_split.specs.Pairs.{AreOf}
+use Rattle.proof_join.specs.Definitions.{JoinedOver}
 use Rattle.evidence.specs.Evidence.{IsComplete, with_bytes}
 use Rattle.worker_core.specs.Worker.{WorkerState, IsOfCandidate, IsNews}
 use Rattle.worker_core.specs.declared.candidate.Candidate.{Candidate}
@@ -25,22 +27,24 @@ use Rattle.coordinator_core.specs.Invariant.{HasJoined, IsTreeOf}
 use Rattle.coordinator_core.specs.declared.desks.Fixed.{Fixed}
 use Rattle.coordinator_core.specs.declared.desks.Job.{Job}
 use Rattle.coordinator_core.specs.declared.desks.LeafState.TheVariants.{Closed}
-use Rattle.closed_schedules.specs.ClosedSchedule.{ClosedState, HappensClosed, RunsClosed, new_closed, verdict_at}
+use Rattle.closed_schedules.specs.ClosedSchedule.{Beginning, ClosedState, HappensClosed, RunsClosed, new_closed, verdict_at}
 use Rattle.closed_schedules.specs.declared.event.ClosedEvent.{ClosedEvent}
 use Rattle.closed_schedules.specs.declared.event.ClosedEvent.TheVariants.{Deliver, Restart}
 
--- a moment of a closed schedule: the cluster begins with a tree over the formula's variables and with 1 to 64 workers, and some events happen
-pub record IsMoment (F : Cnf) (tree : List Cube) (limit n : ℕ) (s : ClosedState) : Type 0 where
-  pub formula : IsFormula F
-  pub planted : IsTreeOf F tree
-  pub some_worker : 1 ≤ n
-  pub few_workers : n ≤ 64
+-- a moment of a closed schedule: the cluster begins with definitions of the formula, a tree over the variables of the base and 1 to 64
+-- workers, and some events happen
+pub record IsMoment (b : Beginning) (s : ClosedState) : Type 0 where
+  pub formula : IsFormula b.formula
+  pub defined : AreOf b.formula b.definitions
+  pub planted : IsTreeOf (base_with b.formula b.definitions.pairs) b.tree
+  pub some_worker : 1 ≤ b.workers
+  pub few_workers : b.workers ≤ 64
   pub events : List ClosedEvent
-  pub runs : RunsClosed (new_closed F tree limit n) events s
+  pub runs : RunsClosed (new_closed b) events s
 
 -- at every moment of every closed schedule
 abbrev pub Always : (Cnf → ClosedState → Type 0) → Type 0
-Always P = (F : Cnf) (tree : List Cube) (limit n : ℕ) (s : ClosedState) → IsMoment F tree limit n s → P F s
+Always P = (b : Beginning) (s : ClosedState) → IsMoment b s → P b.formula s
 
 -- whatever happens at such a moment
 abbrev pub AtEvery : (ClosedState → ClosedEvent → Reaction → ClosedState → Type 0) → Type 0
@@ -113,7 +117,7 @@ pub record HasMetLimit (frames : List Frame) (c : CoordinatorState) : Type 0 whe
 pub record IsTooLong (c : CoordinatorState) : Type 0 where
   pub all : AreClosed c.leaves
   pub text : List ℕ
-  pub joined : JoinedUnits c.formula c.tree c.fragments text
+  pub joined : JoinedOver c.formula c.definitions.pairs c.tree c.fragments text
   pub long : 2 ^ 32 ≤ length text
 
 abbrev pub StuckRightly : ClosedState → Type 0
@@ -127,9 +131,9 @@ IsStuckRightly = Always (λ F s. StuckRightly s)
 abbrev pub AlwaysRight : Type 0
 AlwaysRight = Always (λ F s. (node : ℕ) (v : Verdict) → verdict_at s node ≡ Some v → Right F v)
 
--- No two verdicts differ, at one moment or at two, whatever the schedules between.
+-- No two verdicts on one formula differ, at one moment or at two, whatever the schedules between, and whatever is defined.
 abbrev pub NeverDiffer : Type 0
-NeverDiffer = Always (λ F s. (tree : List Cube) (limit n : ℕ) (t : ClosedState) → IsMoment F tree limit n t
+NeverDiffer = Always (λ F s. (b : Beginning) (t : ClosedState) → b.formula ≡ F → IsMoment b t
     → (node other : ℕ) (v w : Verdict) → verdict_at s node ≡ Some v → verdict_at t other ≡ Some w → ¬ (Differ v w))
 
 -- Every node keeps the formula.

@@ -9,8 +9,10 @@ use Rattle.lrat_check.specs.declared.verdict.Reaction.TheVariants as reaction
 use Rattle.lrat_check.specs.declared.verdict.Verdict.{Verdict}
 use Rattle.frames.specs.declared.frame.Frame.{Frame}
 use Rattle.evidence.specs.Events.{Event, Delivered, Worked, Polled, Given, Reacted, Sent, Ignores}
-use Rattle.worker_core.specs.Worker.{WorkerState, WorkerStep, new_worker}
-use Rattle.coordinator_core.specs.Coordinator.{CoordinatorState, CoordinatorStep, IsWorker, new_coordinator}
+use Rattle.cube_split.specs.Definitions.{base_with}
+use Rattle.cube_split.specs.Pairs.{Definitions}
+use Rattle.worker_core.specs.Worker.{WorkerState, WorkerStep, new_worker, restarted_worker}
+use Rattle.coordinator_core.specs.Coordinator.{CoordinatorState, CoordinatorStep, IsWorker, new_coordinator, restarted_coordinator}
 use Rattle.closed_schedules.specs.declared.event.ClosedEvent.{ClosedEvent}
 use Rattle.closed_schedules.specs.declared.event.ClosedEvent.TheVariants.{Deliver, Work, Poll, Restart}
 
@@ -22,13 +24,26 @@ pub record ClosedState : Type 0 where
   pub frames : List Frame
   pub used : List ℕ
 
--- one coordinator, under session 1, and workers 1 to n, worker w under incarnation w + 1
-abbrev pub new_closed : Cnf → List Cube → ℕ → ℕ → ClosedState
-new_closed F tree limit n = record {
-  coordinator = new_coordinator F tree limit n 1;
-  workers = map (λ w. new_worker F w (w + 1)) (numbers_from 1 n);
+-- How a closed cluster begins: with a formula and definitions that all its nodes share, with the coordinator's tree and limit, and with so
+-- many workers.
+pub record Beginning : Type 0 where
+  pub formula : Cnf
+  pub definitions : Definitions
+  pub tree : List Cube
+  pub limit : ℕ
+  pub workers : ℕ
+
+-- a worker of it, under the number w, and the incarnation w + 1
+abbrev pub first_worker : Cnf → Definitions → ℕ → WorkerState
+first_worker F d w = record (new_worker F w (w + 1)) { wanted = d.wanted; base = base_with F d.pairs }
+
+-- one coordinator, under session 1, and the workers, from number 1 on
+abbrev pub new_closed : Beginning → ClosedState
+new_closed b = record {
+  coordinator = record (new_coordinator b.formula b.tree b.limit b.workers 1) { definitions = b.definitions };
+  workers = map (first_worker b.formula b.definitions) (numbers_from 1 b.workers);
   frames = [];
-  used = numbers_from 1 (n + 1);
+  used = numbers_from 1 (b.workers + 1);
 }
 
 abbrev pub with_coordinator : ClosedState → CoordinatorState → ClosedState
@@ -83,13 +98,6 @@ pub data HappensPoll (s : ClosedState) (node worker : ℕ) (answer : Reaction) (
       → answer ≡ reaction.Taken → new ≡ with_frame after frame → HappensPoll s node worker answer new
   -- no room for the frame, or for it in the list
   no_memory : ¬ (IsNoPoll s node worker) → answer ≡ reaction.NoMemory → new ≡ s → HappensPoll s node worker answer new
-
--- the coordinator, or a worker, as it was made, under a new number
-abbrev pub restarted_coordinator : CoordinatorState → ℕ → CoordinatorState
-restarted_coordinator c number = new_coordinator c.formula c.planted c.limit (length c.jobs) number
-
-abbrev pub restarted_worker : WorkerState → ℕ → WorkerState
-restarted_worker w number = new_worker w.formula w.number number
 
 -- a node is as it was made, under a new number; no other changes
 abbrev pub RestartsAt : ClosedState → ℕ → ℕ → ClosedState → Type 0

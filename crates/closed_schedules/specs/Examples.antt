@@ -5,8 +5,9 @@ use Rattle.dimacs.specs.logic.Literal.{Pos, Neg}
 use Rattle.lrat_check.specs.declared.verdict.Reaction.{Reaction}
 use Rattle.lrat_check.specs.declared.verdict.Reaction.TheVariants.{Ignored, Taken, Finished, Verdict}
 use Rattle.frames.specs.declared.frame.Attempt.{Attempt}
+use Rattle.cube_split.specs.Pairs.{no_definitions}
 use Rattle.coordinator_core.specs.Coordinator.{CoordinatorState, new_coordinator, coordinator_poll}
-use Rattle.closed_schedules.specs.ClosedSchedule.{ClosedState, HappensClosed, new_closed}
+use Rattle.closed_schedules.specs.ClosedSchedule.{Beginning, ClosedState, HappensClosed, new_closed}
 use Rattle.closed_schedules.specs.declared.event.ClosedEvent.{ClosedEvent}
 use Rattle.closed_schedules.specs.declared.event.ClosedEvent.TheVariants.{Deliver, Work, Poll, Restart}
 
@@ -19,8 +20,11 @@ abbrev pub four : Cnf
 four = record { vars = 2; clauses = (Pos 1 ∷ Pos 2 ∷ []) ∷ (Neg 1 ∷ Pos 2 ∷ []) ∷ (Pos 1 ∷ Neg 2 ∷ []) ∷ (Neg 1 ∷ Neg 2 ∷ []) ∷ [] }
 
 -- a cluster of one worker, and a tree of one leaf
+abbrev pub beginning : Beginning
+beginning = record { formula = two; definitions = no_definitions; tree = [] ∷ []; limit = 100000; workers = 1 }
+
 abbrev pub begun : ClosedState
-begun = new_closed two ([] ∷ []) 100000 1
+begun = new_closed beginning
 
 -- an event, and what it is answered
 pub record Turn : Type 0 where

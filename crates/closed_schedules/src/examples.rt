@@ -9,14 +9,14 @@ ghost use Rattle.frames.specs.declared.frame.Frame.TheVariants.{Task, Done, Piec
 ghost use Rattle.coordinator_core.specs.Coordinator.{CoordinatorState, CoordinatorDelivers, coordinator_poll};
 ghost use Rattle.closed_schedules.specs.ClosedSchedule.{ClosedState, verdict_at};
 ghost use Rattle.closed_schedules.specs.ClosedLaws.{IsMoment};
-ghost use Rattle.closed_schedules.specs.Examples.{two, four, begun, Plays, whole_run, restart_run, asked, second, ninth};
+ghost use Rattle.closed_schedules.specs.Examples.{two, four, beginning, begun, Plays, whole_run, restart_run, asked, second, ninth};
 
 /// What small runs come to.
 pub fn worked_closed_runs()
     // A whole run, at the end of which the coordinator holds the worker's assignment.
-    ensures decided { (s : ClosedState) × Plays begun whole_run s × IsMoment two ([] ∷ []) 100000 1 s × (verdict_at s 0 ≡ Some (Model (true ∷ false ∷ []))) }
+    ensures decided { (s : ClosedState) × Plays begun whole_run s × IsMoment beginning s × (verdict_at s 0 ≡ Some (Model (true ∷ false ∷ []))) }
     // A run in which the worker begins anew, at the end of which its leaf was given again under the next number.
-    ensures anew { (s : ClosedState) × Plays begun restart_run s × IsMoment two ([] ∷ []) 100000 1 s
+    ensures anew { (s : ClosedState) × Plays begun restart_run s × IsMoment beginning s
         × (s.frames ≡ Task 1 1 100000 [] ∷ Done second (told.Decided (findings.Assignment 2)) ∷ Idle 1 3 ∷ Task 1 2 100000 [] ∷ []) }
     // A fragment that is no log, the bytes of `x` and LF, is refused, and the leaf is given again.
     ensures no_log { (c d : CoordinatorState) × CoordinatorDelivers (asked four) (Done ninth (told.Decided (findings.Refuted 2))) reaction.Taken c

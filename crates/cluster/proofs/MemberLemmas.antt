@@ -8,10 +8,13 @@ use Rattle.dimacs.specs.logic.Base.{numbers_from}
 use Rattle.dimacs.specs.logic.Cnf.{Cnf}
 use Rattle.lrat_check.specs.declared.verdict.Reaction.TheVariants as reaction
 use Rattle.frames.specs.declared.frame.Frame.{Frame}
+use Rattle.cube_split.specs.Definitions.{base_with}
+use Rattle.cube_split.specs.Pairs.{AreDefined, AreOf, Definitions, IsBaseWith}
+use Rattle.cube_split.specs.declared.pair.Pair.{Pair}
 use Rattle.evidence.specs.Events.{Event, Polled, Given, Reacted}
 use Rattle.worker_core.specs.Worker.{WorkerState, WorkerStep, WorkerPolls, new_worker}
 use Rattle.coordinator_core.specs.Coordinator.{CoordinatorPolls}
-use Rattle.closed_schedules.specs.ClosedSchedule.{ClosedState, StepsAt, IsNoPoll, with_coordinator, with_worker}
+use Rattle.closed_schedules.specs.ClosedSchedule.{ClosedState, StepsAt, IsNoPoll, first_worker, with_coordinator, with_worker}
 use Rattle.cluster.specs.Members.{closed_of}
 use Rattle.cluster.specs.inner.Members.{new_workers, MayBePolled}
 use Rattle.cluster.specs.declared.members.Members.{Members}
@@ -29,15 +32,22 @@ numbers_more count =
     let last : 1 + count ≡ count + 1 = omega arith in
     ap (numbers_from 1) next ∙ numbers_push 1 count ∙ ap (λ (n : ℕ). numbers_from 1 count ++ n ∷ []) last
 
--- one worker more
-pub same_worker : (F G : Cnf) (a b i j : ℕ) → F ≡ G → a ≡ b → i ≡ j → new_worker F a i ≡ new_worker G b j
-same_worker F G a b i j e h k = cc
+-- one formula and one number of definitions have one list of pairs
+abbrev pub AreSettled : Type 0
+AreSettled = (F : Cnf) (defs : ℕ) (ps qs : List Pair) → AreDefined F defs [] ps → AreDefined F defs [] qs → ps ≡ qs
 
-pub new_workers_more : (F : Cnf) (n : ℕ) → new_workers F (n + 1) ≡ new_workers F n ++ new_worker F (n + 1) (n + 2) ∷ []
-new_workers_more F n =
-    let made : ℕ → WorkerState = λ (w : ℕ). new_worker F w (w + 1) in
-    let last : made (n + 1) ≡ new_worker F (n + 1) (n + 2) = same_worker F F (n + 1) (n + 1) ((n + 1) + 1) (n + 2) refl refl (omega arith) in
-    ap (map made) (numbers_more n) ∙ map-append made (numbers_from 1 n) ((n + 1) ∷ []) ∙ ap (λ (w : WorkerState). new_workers F n ++ w ∷ []) last
+-- so a worker with as many definitions searches over the base with these
+pub same_base : AreSettled → (F B : Cnf) (defs : ℕ) (d : Definitions) → IsBaseWith F defs B → AreOf F d → d.wanted ≡ defs → B ≡ base_with F d.pairs
+same_base settled F B defs d is defined wanted =
+    is.is ∙ ap (base_with F) (settled F defs is.pairs d.pairs is.defined (subst (λ (n : ℕ). AreDefined F n [] d.pairs) wanted defined.defined))
+
+-- one worker more
+pub same_worker : (F G B C : Cnf) (a b i j m n : ℕ) → F ≡ G → a ≡ b → i ≡ j → m ≡ n → B ≡ C → record (new_worker F a i) { wanted = m; base = B } ≡ record (new_worker G b j) { wanted = n; base = C }
+same_worker F G B C a b i j m n e h k p q = cc
+
+pub new_workers_more : (F : Cnf) (d : Definitions) (n : ℕ) → new_workers F d (n + 1) ≡ new_workers F d n ++ first_worker F d (n + 1) ∷ []
+new_workers_more F d n =
+    ap (map (first_worker F d)) (numbers_more n) ∙ map-append (first_worker F d) (numbers_from 1 n) ((n + 1) ∷ [])
 
 -- the worker at a place is the node after it
 pub worker_steps : (s : ClosedState) (node : ℕ) (event : Event) (given : Given) (w v : WorkerState) → 1 ≤ node → slice_get s.workers (node - 1) ≡ Some w → WorkerStep w event given v

@@ -1,10 +1,9 @@
 -- An event that is ignored, or finds no memory, changes nothing.
-use Rattle.std.proofs.Common.{◌≡◌, ◌⊎◌, inl, inr, ℕ, Option, None, Some, List, MatchOption, slice_get, slice_set, get_or, refl, subst, sym, ap, ◌∙◌}
+use Rattle.std.proofs.Common.{◌≡◌, ◌⊎◌, inl, inr, ℕ, Option, None, Some, List, MatchOption, slice_get, slice_set, get_or, refl, sym, ap, ◌∙◌}
 use Rattle.std.proofs.lemmas.List.{set-get_or}
 use Rattle.std.proofs.lemmas.Option.{get_or_from_slice_get}
 use Rattle.lrat_check.specs.declared.verdict.Reaction.{Reaction}
 use Rattle.lrat_check.specs.declared.verdict.Reaction.TheVariants as reaction
-use Rattle.frames.specs.declared.frame.Frame.{Frame}
 use Rattle.evidence.specs.Events.{Event, Delivered, Worked, Polled, Given, Reacted, Ignores}
 use Rattle.dimacs.specs.logic.Cnf.{Cnf}
 use Rattle.worker_core.specs.Extending.{ExtendsWorker}

@@ -1,5 +1,5 @@
 -- What every open schedule keeps: nodes are sound, and each has its formula, with the clauses that it took.
-use Rattle.std.proofs.Common.{◌≡◌, ℕ, zero, suc, Option, None, Some, List, [], ◌∷◌, ◌++◌, length, Result, Ok, Err, slice_get, slice_set, MatchOption, refl, subst, sym, ap, ◌∙◌}
+use Rattle.std.proofs.Common.{◌≡◌, ℕ, zero, suc, Option, None, Some, List, [], ◌∷◌, ◌++◌, Result, Ok, Err, slice_get, slice_set, MatchOption, refl, subst, sym, ap, ◌∙◌}
 use Rattle.std.proofs.lemmas.List.Elements.{All-set}
 use Rattle.std.proofs.lemmas.Option.{slice_get_within, get_or_from_slice_get}
 use Rattle.dimacs.specs.logic.Cnf.{Cnf}
@@ -12,7 +12,7 @@ use Rattle.evidence.specs.Keeping.{formula_after}
 use Rattle.worker_core.specs.Extending.{ExtendsWorker}
 use Rattle.worker_core.specs.Worker.{WorkerState, WorkerStep}
 use Rattle.coordinator_core.specs.Extending.{ExtendsCoordinator}
-use Rattle.coordinator_core.specs.Coordinator.{CoordinatorState, CoordinatorStep, new_coordinator}
+use Rattle.coordinator_core.specs.Coordinator.{CoordinatorState, CoordinatorStep, restarted_coordinator}
 use Rattle.coordinator_core.specs.Invariant.{IsCoordinator}
 use Rattle.cluster.specs.declared.event.OpenEvent.{OpenEvent}
 use Rattle.cluster.specs.declared.event.OpenEvent.TheVariants.{Deliver, Work, Poll, Restart, Extend}
@@ -33,7 +33,7 @@ pub record Keeping : Type 0 where
   pub longer_worker_formula : (old : WorkerState) (x : Cnf) (number : ℕ) (answer : Reaction) (new : WorkerState) → ExtendsWorker old x number answer new → new.formula ≡ formula_after x answer old.formula
   pub longer_coordinator : (old : CoordinatorState) (x : Cnf) (number : ℕ) (answer : Reaction) (new : CoordinatorState) → IsCoordinator old → ExtendsCoordinator old x number answer new → IsCoordinator new
   pub longer_coordinator_formula : (old : CoordinatorState) (x : Cnf) (number : ℕ) (answer : Reaction) (new : CoordinatorState) → ExtendsCoordinator old x number answer new → new.formula ≡ formula_after x answer old.formula
-  pub anew : (c : CoordinatorState) (session : ℕ) → IsCoordinator c → IsCoordinator (new_coordinator c.formula c.planted c.limit (length c.jobs) session)
+  pub anew : (c : CoordinatorState) (session : ℕ) → IsCoordinator c → IsCoordinator (restarted_coordinator c session)
 
 -- a node is as sound as it was, and has its formula
 pub record Keeps (old new : Node) : Type 0 where

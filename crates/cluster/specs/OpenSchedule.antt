@@ -1,5 +1,5 @@
 -- Open schedules: any list of events, whatever they bring.
-use Rattle.std.specs.Prelude.{◌≡◌, ◌⊎◌, ℕ, List, [], ◌∷◌, length, MatchOption, slice_get, slice_set}
+use Rattle.std.specs.Prelude.{◌≡◌, ◌⊎◌, ℕ, List, [], ◌∷◌, MatchOption, slice_get, slice_set}
 use Rattle.lrat_check.specs.declared.verdict.Reaction.{Reaction}
 use Rattle.lrat_check.specs.declared.verdict.Reaction.TheVariants as reaction
 use Rattle.dimacs.specs.logic.Cnf.{Cnf}
@@ -7,9 +7,9 @@ use Rattle.frames.specs.Stream.{BeginsWith, BeginsNoFrame}
 use Rattle.frames.specs.declared.frame.Frame.{Frame}
 use Rattle.evidence.specs.Events.{Event, Delivered, Worked, Polled, Given, Reacted, Sent, Ignores}
 use Rattle.worker_core.specs.Extending.{ExtendsWorker}
-use Rattle.worker_core.specs.Worker.{WorkerState, WorkerStep, new_worker}
+use Rattle.worker_core.specs.Worker.{WorkerState, WorkerStep, restarted_worker}
 use Rattle.coordinator_core.specs.Extending.{ExtendsCoordinator}
-use Rattle.coordinator_core.specs.Coordinator.{CoordinatorState, CoordinatorStep, IsWorker, new_coordinator}
+use Rattle.coordinator_core.specs.Coordinator.{CoordinatorState, CoordinatorStep, IsWorker, restarted_coordinator}
 use Rattle.cluster.specs.declared.event.OpenEvent.{OpenEvent}
 use Rattle.cluster.specs.declared.event.OpenEvent.TheVariants.{Deliver, Work, Poll, Restart, Extend}
 use Rattle.cluster.specs.declared.node.Node.{Node}
@@ -47,8 +47,8 @@ pub data Polls (old : Node) (worker : ℕ) (answer : Reaction) (new : Node) : Ty
 
 -- the node as it was made, under another number
 abbrev pub restarted : Node → ℕ → Node
-restarted (Worker w) number = Worker (new_worker w.formula w.number number)
-restarted (Coordinator c) number = Coordinator (new_coordinator c.formula c.planted c.limit (length c.jobs) number)
+restarted (Worker w) number = Worker (restarted_worker w number)
+restarted (Coordinator c) number = Coordinator (restarted_coordinator c number)
 
 -- A node begins anew.
 pub data Restarts (old : Node) (number : ℕ) (answer : Reaction) (new : Node) : Type 0 where

@@ -1,8 +1,10 @@
 //! A cluster under a closed schedule: what comes to a node was sent by one of them, and a restart brings a new number.
 
 ghost use Rattle.std.specs.Prelude.{◌≡◌, ◌≢◌, ◌≤◌, ℕ, All, IfOk, IfSome, option_copied};
+ghost use Rattle.dimacs.specs.logic.Cnf.{Cnf};
 ghost use Rattle.lrat_check.specs.Verdicts.{Right};
 ghost use Rattle.lrat_check.specs.declared.verdict.Reaction.TheVariants as reaction;
+ghost use Rattle.cube_split.specs.Pairs.{AreOf, Definitions, IsBaseWith, no_definitions};
 ghost use Rattle.evidence.specs.Jobs.{IsInside};
 ghost use Rattle.closed_schedules.specs.ClosedSchedule.{HappensClosed, RunsClosed, new_closed, verdict_at};
 ghost use Rattle.cluster.specs.Closed.{HoldRight, IsJoined, IsReached};
@@ -54,13 +56,32 @@ impl ClosedCluster {
     ) -> Result<ClosedCluster, AllocError>
         requires inside { All (IsInside formula.now) tree }
         requires workers { (1 ≤ workers) × (workers ≤ 64) }
-        ensures { IfOk result (λ c. c ≡ new_closed formula.now tree limit workers) }
+        ensures { IfOk result (λ c. c ≡ new_closed (record { formula = formula.now; definitions = no_definitions; tree = tree; limit = limit; workers = workers })) }
+    {
+        ClosedCluster::with_defs(alloc, formula, tree, limit, workers, 0)
+    }
+
+    /// The same, over a base with as many definitions, 0 to 64, or fewer where no pair is left, which all nodes share. It asks that the
+    /// tree's variables are the base's.
+    pub fn with_defs(
+        alloc: Global,
+        formula: &Formula,
+        tree: Tree,
+        limit: u64,
+        workers: u32,
+        defs: u32,
+    ) -> Result<ClosedCluster, AllocError>
+        requires inside { (B : Cnf) → IsBaseWith formula.now defs B → All (IsInside B) tree }
+        requires workers { (1 ≤ workers) × (workers ≤ 64) }
+        requires defs { defs ≤ 64 }
+        ensures { IfOk result (λ c. (d : Definitions) × AreOf formula.now d × (d.wanted ≡ defs)
+            × (c ≡ new_closed (record { formula = formula.now; definitions = d; tree = tree; limit = limit; workers = workers }))) }
     {
         // That both are within the limits.
         let _ = formula.vars();
         let _ = tree.leaves();
         Ok(ClosedCluster {
-            schedule: Schedule::new(alloc, formula, tree, limit, workers)?,
+            schedule: Schedule::new(alloc, formula, tree, limit, workers, defs)?,
         })
     }
 

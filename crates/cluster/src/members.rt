@@ -1,14 +1,16 @@
 //! The nodes of a closed cluster.
 
 ghost use Rattle.std.specs.Prelude.{◌≡◌, ◌≤◌, [], All, IfOk, OnOk, OnErr, MatchBool, nat_le, length, option_copied};
+ghost use Rattle.dimacs.specs.logic.Cnf.{Cnf};
+ghost use Rattle.cube_split.specs.Pairs.{AreOf, Definitions, IsBaseWith};
 ghost use Rattle.evidence.specs.Events.{Delivered, Worked, Polled, Reacted, given_by};
 ghost use Rattle.evidence.specs.Jobs.{IsInside};
-ghost use Rattle.coordinator_core.specs.Coordinator.{new_coordinator};
 ghost use Rattle.closed_schedules.specs.ClosedSchedule.{IsNoPoll, verdict_at};
 ghost use Rattle.cluster.specs.Members.{closed_of};
-ghost use Rattle.cluster.specs.inner.Members.{IsMember, MayBePolled, MemberSteps, MemberRestarts, new_workers};
+ghost use Rattle.cluster.specs.inner.Members.{AreNew, IsMember, MayBePolled, MemberSteps, MemberRestarts, new_workers};
 
 use coordinator_core::Coordinator;
+use cube_split::definitions_are_settled;
 use dimacs::Formula;
 use frames::{Frame, WorkerNumber};
 use icnf::Tree;
@@ -31,36 +33,47 @@ impl Drop for Members {
     }
 }
 
-/// Workers 1 to `count`, worker w under incarnation w + 1.
-fn workers_of(alloc: Global, formula: &Formula, count: u32) -> Result<Vec<Worker>, AllocError>
-    requires { count ≤ 64 }
-    ensures { IfOk result (λ v. v.items ≡ new_workers formula.now count) }
+/// Workers 1 to `count`, worker w under incarnation w + 1, with as many definitions, which are those of the formula.
+fn workers_of(
+    alloc: Global,
+    formula: &Formula,
+    count: u32,
+    defs: u32,
+) -> Result<Vec<Worker>, AllocError>
+    requires count { count ≤ 64 }
+    requires defs { defs ≤ 64 }
+    ensures { IfOk result (λ v. (d : Definitions) → AreOf formula.now d → d.wanted ≡ defs → v.items ≡ new_workers formula.now d count) }
 {
+    definitions_are_settled();
     let mut workers = Vec::with_capacity(alloc, count as usize)?;
     for i in 0..count {
         let number = WorkerNumber::new(i + 1);
         let incarnation = u64::from(i) + 2;
-        workers.push(Worker::new(alloc, formula.copy(alloc)?, number, incarnation)?)?;
+        let formula = formula.copy(alloc)?;
+        let worker = Worker::with_defs(alloc, formula, number, incarnation, defs)?;
+        workers.push(worker)?;
     }
     Ok(workers)
 }
 
 impl Members {
-    /// A coordinator under session 1, and workers 1 to `workers`, worker w under incarnation w + 1.
+    /// A coordinator under session 1, and workers 1 to `workers`, worker w under incarnation w + 1, all with as many definitions.
     pub(crate) fn new(
         alloc: Global,
         formula: &Formula,
         tree: Tree,
         limit: u64,
         workers: u32,
+        defs: u32,
     ) -> Result<Members, AllocError>
-        requires inside { All (IsInside formula.now) tree }
+        requires inside { (B : Cnf) → IsBaseWith formula.now defs B → All (IsInside B) tree }
         requires workers { (1 ≤ workers) × (workers ≤ 64) }
-        ensures coordinator { IfOk result (λ m. m.coordinator ≡ new_coordinator formula.now tree limit workers 1) }
-        ensures workers { IfOk result (λ m. m.workers.items ≡ new_workers formula.now workers) }
+        requires defs { defs ≤ 64 }
+        ensures { IfOk result (AreNew formula.now tree limit workers defs) }
     {
-        let coordinator = Coordinator::new(alloc, formula.copy(alloc)?, tree, limit, workers, 1)?;
-        let workers = workers_of(alloc, formula, workers)?;
+        let copy = formula.copy(alloc)?;
+        let coordinator = Coordinator::with_defs(alloc, copy, tree, limit, workers, 1, defs)?;
+        let workers = workers_of(alloc, formula, workers, defs)?;
         Ok(Members {
             coordinator,
             workers,

@@ -2,6 +2,8 @@
 
 ghost use Rattle.std.specs.Prelude.{◌≡◌, ◌+◌, ◌≤◌, All, IfOk};
 ghost use Rattle.dimacs.specs.logic.Base.{numbers_from};
+ghost use Rattle.dimacs.specs.logic.Cnf.{Cnf};
+ghost use Rattle.cube_split.specs.Pairs.{AreOf, Definitions, IsBaseWith};
 ghost use Rattle.evidence.specs.Jobs.{IsInside};
 ghost use Rattle.closed_schedules.specs.ClosedSchedule.{HappensClosed, HappensDeliver, HappensWork, HappensPoll, HappensRestart, new_closed};
 ghost use Rattle.cluster.specs.Members.{state_of};
@@ -50,13 +52,16 @@ impl Schedule {
         tree: Tree,
         limit: u64,
         workers: u32,
+        defs: u32,
     ) -> Result<Schedule, AllocError>
-        requires inside { All (IsInside formula.now) tree }
+        requires inside { (B : Cnf) → IsBaseWith formula.now defs B → All (IsInside B) tree }
         requires workers { (1 ≤ workers) × (workers ≤ 64) }
-        ensures { IfOk result (λ s. state_of s ≡ new_closed formula.now tree limit workers) }
+        requires defs { defs ≤ 64 }
+        ensures { IfOk result (λ s. (d : Definitions) × AreOf formula.now d × (d.wanted ≡ defs)
+            × (state_of s ≡ new_closed (record { formula = formula.now; definitions = d; tree = tree; limit = limit; workers = workers }))) }
     {
         Ok(Schedule {
-            members: Members::new(alloc, formula, tree, limit, workers)?,
+            members: Members::new(alloc, formula, tree, limit, workers, defs)?,
             frames: Vec::new(alloc),
             used: first_numbers(alloc, workers + 1)?,
         })

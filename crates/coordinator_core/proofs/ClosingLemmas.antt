@@ -2,15 +2,14 @@
 use Rattle.std.proofs.Common.{◌≡◌, ℕ, zero, suc, ◌-◌, ◌<◌, ◌≤◌, ◌^◌, Bool, true, false, List, [], length, Option, Some, None, slice_set, get_or, refl, subst, sym, ap, ◌∙◌, inl, inr, arith}
 use Rattle.std.proofs.lemmas.List.{length-set, get_or-set_same}
 use Rattle.std.proofs.lemmas.Option.{slice_get-get_or}
-use Rattle.dimacs.specs.logic.Base.{base_of}
 use Rattle.lrat_text.specs.Log.{Closes}
 use Rattle.lrat_text.specs.Proof.{Accepts}
 use Rattle.lrat_check.specs.Verdicts.{Right}
 use Rattle.lrat_check.specs.declared.verdict.Verdict.{Verdict}
 use Rattle.lrat_check.specs.declared.verdict.Verdict.TheVariants.{Nothing, Proof}
 use Rattle.lrat_check.specs.declared.verdict.Reaction.TheVariants as reaction
-use Rattle.dimacs.specs.logic.Base.{pure_literals}
-use Rattle.proof_join.specs.Joining.{JoinedUnits, AllClose, unit_steps}
+use Rattle.proof_join.specs.Definitions.{JoinedOver, preamble_steps}
+use Rattle.proof_join.specs.Joining.{AllClose}
 use Rattle.proof_join.proofs.ShapeLemmas.{joined_some}
 use Rattle.evidence.specs.Evidence.{bytes_in}
 use Rattle.coordinator_core.specs.inner.Calls.{IsFixed, UnlessRefused}
@@ -83,13 +82,13 @@ shut_is c s w n job text rows o v stuck h =
 
 -- the text closes the leaf of the job
 pub text_closes : (c s : CoordinatorState) (w n : ℕ) (job : Job) (text : List ℕ) (rows : LeafRows) (o : Option Job) → IsShut c s w n job text rows o
-    → Closes (base_of s.formula) (cube_at s job.leaf) text
+    → Closes (coordinator_base s) (cube_at s job.leaf) text
 text_closes c s w n job text rows o h =
     let may = h.taken.may in
     let same : may.0 ≡ job = same_some may.0 job (sym may.2.job ∙ h.taken.at) in
     let fixed : job.fixed ≡ Some may.1 = ap (λ (j : Job). j.fixed) (sym same) ∙ may.2.fixed in
-    subst (λ (j : Job). Closes (base_of s.formula) (cube_at s j.leaf) text) same
-    (subst (λ (t : List ℕ). Closes (base_of s.formula) (cube_at s may.0.leaf) t) (sym (h.text_is may.1 fixed)) may.3)
+    subst (λ (j : Job). Closes (coordinator_base s) (cube_at s j.leaf) text) same
+    (subst (λ (t : List ℕ). Closes (coordinator_base s) (cube_at s may.0.leaf) t) (sym (h.text_is may.1 fixed)) may.3)
 
 pub state_is : (c s : CoordinatorState) (w n : ℕ) (job : Job) → IsTaken c s w n job → IsCoordinator s
 state_is c s w n job t = subst IsCoordinator t.same t.is
@@ -116,14 +115,14 @@ goes_on c s w n job text rows o h some =
     kept c s w n job text rows o c.verdict c.stuck h (rw (← h.taken.same) is.right) is.short is.stuck (λ all. absurd (some (rw (rows_closed c s w n job text rows o h) all)))
 
 pub all_there : (c s : CoordinatorState) (w n : ℕ) (job : Job) (text : List ℕ) (rows : LeafRows) (o : Option Job) (texts : List (List ℕ)) → IsShut c s w n job text rows o
-    → AreClosed rows.states → texts ≡ rows.fragments → AllClose (base_of c.formula) c.tree texts
+    → AreClosed rows.states → texts ≡ rows.fragments → AllClose (coordinator_base c) c.tree texts
 all_there c s w n job text rows o texts h all are =
     let e : texts ≡ (closed s w job text).fragments = are ∙ rows_texts c s w n job text rows o h in
     rw (e, h.taken.same) (closed_all s w job text (state_is c s w n job h.taken) (text_closes c s w n job text rows o h) (rw (← rows_closed c s w n job text rows o h) all))
 
 -- the fragments are joined
 pub joined_is : (c s : CoordinatorState) (w n : ℕ) (job : Job) (text : List ℕ) (rows : LeafRows) (o : Option Job) (texts : List (List ℕ)) (proof : List ℕ) (v : Verdict) → IsShut c s w n job text rows o
-    → texts ≡ rows.fragments → v ≡ Proof proof → JoinedUnits c.formula c.tree texts proof → length proof < 2 ^ 32 → Accepts c.formula proof → IsCoordinator (shut c n rows o v c.stuck)
+    → texts ≡ rows.fragments → v ≡ Proof proof → JoinedOver c.formula c.definitions.pairs c.tree texts proof → length proof < 2 ^ 32 → Accepts c.formula proof → IsCoordinator (shut c n rows o v c.stuck)
 joined_is c s w n job text rows o texts proof v h are v_is joined short accepted =
     let e : texts ≡ (closed s w job text).fragments = are ∙ rows_texts c s w n job text rows o h in
     subst (λ (u : Verdict). IsCoordinator (shut c n rows o u c.stuck)) (sym v_is)
@@ -135,7 +134,7 @@ joined_is c s w n job text rows o texts proof v h are v_is joined short accepted
 
 -- they are too long
 pub too_long_is : (c s : CoordinatorState) (w n : ℕ) (job : Job) (text : List ℕ) (rows : LeafRows) (o : Option Job) (texts : List (List ℕ)) (proof : List ℕ) → IsShut c s w n job text rows o
-    → texts ≡ rows.fragments → JoinedUnits c.formula c.tree texts proof → 2 ^ 32 ≤ length proof → IsCoordinator (shut c n rows o c.verdict true)
+    → texts ≡ rows.fragments → JoinedOver c.formula c.definitions.pairs c.tree texts proof → 2 ^ 32 ≤ length proof → IsCoordinator (shut c n rows o c.verdict true)
 too_long_is c s w n job text rows o texts proof h are joined long =
     let e : texts ≡ (closed s w job text).fragments = are ∙ rows_texts c s w n job text rows o h in
     let is = h.taken.is in
@@ -164,7 +163,7 @@ ends_closed c s w n job text rows o h some =
     (inr (EndsFragment.closes (text_closes c s w n job text rows o h) (λ all. some (rw (rows_closed c s w n job text rows o h) all)) refl (plain_is c s w n job text rows o h)))
 
 pub ends_joined : (c s : CoordinatorState) (w n : ℕ) (job : Job) (text : List ℕ) (rows : LeafRows) (o : Option Job) (texts : List (List ℕ)) (proof : List ℕ) (v : Verdict) → IsShut c s w n job text rows o
-    → AreClosed rows.states → texts ≡ rows.fragments → v ≡ Proof proof → JoinedUnits c.formula c.tree texts proof → length proof < 2 ^ 32
+    → AreClosed rows.states → texts ≡ rows.fragments → v ≡ Proof proof → JoinedOver c.formula c.definitions.pairs c.tree texts proof → length proof < 2 ^ 32
     → (j : Job) (x : Fixed) → IsFixed s w j x
     → UnlessRefused s reaction.Verdict (shut c n rows o v c.stuck) (EndsFragment s w j x.evidence.bytes reaction.Verdict (shut c n rows o v c.stuck))
 ends_joined c s w n job text rows o texts proof v h all are v_is joined short =
@@ -175,7 +174,7 @@ ends_joined c s w n job text rows o texts proof v h all are v_is joined short =
     (inr (EndsFragment.joins (text_closes c s w n job text rows o h) (rw (← rows_closed c s w n job text rows o h) all) proof (rw (← e, ← h.taken.same) joined) short refl now))
 
 pub ends_too_long : (c s : CoordinatorState) (w n : ℕ) (job : Job) (text : List ℕ) (rows : LeafRows) (o : Option Job) (texts : List (List ℕ)) (proof : List ℕ) → IsShut c s w n job text rows o
-    → AreClosed rows.states → texts ≡ rows.fragments → JoinedUnits c.formula c.tree texts proof → 2 ^ 32 ≤ length proof
+    → AreClosed rows.states → texts ≡ rows.fragments → JoinedOver c.formula c.definitions.pairs c.tree texts proof → 2 ^ 32 ≤ length proof
     → (j : Job) (x : Fixed) → IsFixed s w j x
     → UnlessRefused s reaction.Taken (shut c n rows o c.verdict true) (EndsFragment s w j x.evidence.bytes reaction.Taken (shut c n rows o c.verdict true))
 ends_too_long c s w n job text rows o texts proof h all are joined long =
@@ -187,9 +186,9 @@ ends_too_long c s w n job text rows o texts proof h all are joined long =
 
 -- there is a joined text
 pub some_joined : (c s : CoordinatorState) (w n : ℕ) (job : Job) (text : List ℕ) (rows : LeafRows) (o : Option Job) (texts : List (List ℕ)) → IsShut c s w n job text rows o
-    → AreClosed rows.states → texts ≡ rows.fragments → (proof : List ℕ) × JoinedUnits c.formula c.tree texts proof
+    → AreClosed rows.states → texts ≡ rows.fragments → (proof : List ℕ) × JoinedOver c.formula c.definitions.pairs c.tree texts proof
 some_joined c s w n job text rows o texts h all are =
-    joined_some c.formula (base_of c.formula) (unit_steps (length c.formula.clauses) (pure_literals c.formula)) c.tree texts h.taken.is.grounds.tree_is.is_tree.leaves (all_there c s w n job text rows o texts h all are)
+    joined_some c.formula (coordinator_base c) (preamble_steps c.formula c.definitions.pairs) c.tree texts h.taken.is.grounds.tree_is.is_tree.leaves (all_there c s w n job text rows o texts h all are)
 
 -- what was closed is given back
 pub given_back : (c s : CoordinatorState) (w n : ℕ) (job back : Job) (text before : List ℕ) (rows again : LeafRows) (o : Option Job) → IsShut c s w n job text rows o

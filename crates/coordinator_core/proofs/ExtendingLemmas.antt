@@ -7,6 +7,8 @@ use Rattle.dimacs.specs.logic.Cnf.{Cnf, IsFormula}
 use Rattle.dimacs.specs.logic.Extension.{extended}
 use Rattle.dimacs.specs.logic.Literal.{IsWithin}
 use Rattle.icnf.specs.Leaves.{Leaves, IsTree}
+use Rattle.cube_split.specs.Definitions.{base_with}
+use Rattle.cube_split.specs.Pairs.{AreOf, Definitions}
 use Rattle.lrat_check.specs.Judging.{value_byte}
 use Rattle.lrat_check.specs.Verdicts.{Right}
 use Rattle.lrat_check.specs.declared.verdict.Reaction.{Reaction}
@@ -17,18 +19,18 @@ use Rattle.evidence.specs.Evidence.{bytes_in}
 use Rattle.evidence.specs.Jobs.{IsInside}
 use Rattle.evidence.specs.Keeping.{IsGrown, Stays, values_in}
 use Rattle.evidence.specs.declared.keeping.Grown.{Grown}
-use Rattle.coordinator_core.specs.Coordinator.{CoordinatorState, IsDeciding, new_coordinator}
+use Rattle.coordinator_core.specs.Coordinator.{CoordinatorState, IsDeciding}
 use Rattle.coordinator_core.specs.Extending.{ExtendsCoordinator}
 use Rattle.coordinator_core.specs.Invariant.{IsCoordinator}
-use Rattle.coordinator_core.proofs.BeginLemmas.{begins}
+use Rattle.coordinator_core.proofs.BeginLemmas.{beginning, begins}
 use Rattle.coordinator_core.proofs.KeptLemmas.{is_decided}
 
 -- ---- the tree of one leaf
 one_leaf : IsTree ([] ∷ [])
 one_leaf = record { leaves = Leaves.leaf; count = omega arith; short = All-cons (λ c. length c ≤ 64) [] [] (omega arith) (All-nil (λ c. length c ≤ 64)) }
 
-pub leaf_inside : (F : Cnf) → All (IsInside F) ([] ∷ [])
-leaf_inside F = All-cons (IsInside F) [] [] (All-nil (IsWithin F.vars)) (All-nil (IsInside F))
+pub leaf_inside : (B : Cnf) → All (IsInside B) ([] ∷ [])
+leaf_inside B = All-cons (IsInside B) [] [] (All-nil (IsWithin B.vars)) (All-nil (IsInside B))
 
 -- ---- what is kept fits a frame
 short_of : (F x : Cnf) (old new : Verdict) → IsFormula (extended F x) → Right (extended F x) new → Stays F x old new → length (bytes_in new) < 2 ^ 32
@@ -47,9 +49,15 @@ grown_short F x held g is right = short_of F x held g.verdict is.limits (subst (
 
 -- ---- a coordinator that goes on from the longer formula
 pub begins_grown : (c : CoordinatorState) (x : Cnf) (session : ℕ) (g : Grown) (new : CoordinatorState) → IsGrown c.formula x c.verdict g
-    → new ≡ record (new_coordinator g.formula ([] ∷ []) c.limit (length c.jobs) session) { verdict = g.verdict } → ExtendsCoordinator c x session Taken new
-begins_grown c x session g new is now =
-    ExtendsCoordinator.taken is.limits g.verdict is.stays refl (now ∙ ap (λ (F : Cnf). record (new_coordinator F ([] ∷ []) c.limit (length c.jobs) session) { verdict = g.verdict }) is.formula)
+    → (d : Definitions) × AreOf g.formula d × (d.wanted ≡ c.definitions.wanted) × (new ≡ record (beginning g.formula d ([] ∷ []) c.limit (length c.jobs) session) { verdict = g.verdict })
+    → ExtendsCoordinator c x session Taken new
+begins_grown c x session g new is (d, defined, wanted, now) =
+    ExtendsCoordinator.taken is.limits g.verdict is.stays refl (record {
+      definitions = d;
+      wanted = wanted;
+      defined = subst (λ (F : Cnf). AreOf F d) is.formula defined;
+      made = now ∙ ap (λ (F : Cnf). record (beginning F d ([] ∷ []) c.limit (length c.jobs) session) { verdict = g.verdict }) is.formula;
+    })
 
 -- what stays of what is right is right
 abbrev pub KeepsRight : Type 0
@@ -57,11 +65,13 @@ KeepsRight = (F x : Cnf) (old new : Verdict) → Right F old → Stays F x old n
 
 pub extended_sound : KeepsRight → (old : CoordinatorState) (x : Cnf) (session : ℕ) (answer : Reaction) (new : CoordinatorState) → ExtendsCoordinator old x session answer new → IsCoordinator old → IsCoordinator new
 extended_sound keeps old x session answer new (ExtendsCoordinator.too_large large a now) is = subst IsCoordinator (sym now) is
-extended_sound keeps old x session answer new (ExtendsCoordinator.taken limits held stays a now) is =
+extended_sound keeps old x session answer new (ExtendsCoordinator.taken limits held stays a made) is =
     let F : Cnf = extended old.formula x in
     let right : Right F held = keeps old.formula x old.verdict held is.right stays in
-    let fresh : CoordinatorState = new_coordinator F ([] ∷ []) old.limit (length old.jobs) session in
-    let begun : IsCoordinator fresh = begins F ([] ∷ []) old.limit (length old.jobs) session limits one_leaf (leaf_inside F) is.tables.some_worker is.tables.few_workers in
+    let d : Definitions = made.definitions in
+    let fresh : CoordinatorState = beginning F d ([] ∷ []) old.limit (length old.jobs) session in
+    let begun : IsCoordinator fresh =
+    begins F d ([] ∷ []) old.limit (length old.jobs) session limits made.defined (record { is_tree = one_leaf; inside = leaf_inside (base_with F d.pairs) }) is.tables.some_worker is.tables.few_workers in
     let deciding : IsDeciding fresh = record { undecided = refl; going = refl } in
-    subst IsCoordinator (sym now) (is_decided fresh held deciding right (short_of old.formula x old.verdict held limits right stays) begun)
+    subst IsCoordinator (sym made.made) (is_decided fresh held deciding right (short_of old.formula x old.verdict held limits right stays) begun)
 extended_sound keeps old x session answer new (ExtendsCoordinator.no_memory limits a now) is = subst IsCoordinator (sym now) is

@@ -2,7 +2,6 @@
 use Rattle.std.proofs.Common.{◌≡◌, ◌≢◌, ℕ, zero, suc, ◌+◌, ◌-◌, ◌<◌, ◌≤◌, ◌^◌, Bool, true, false, ◌==◌, List, ◌++◌, length, take, Option, Some, None, Result, Ok, Err, slice_set, get_or, OnOk, OnErr, is_err, refl, subst, sym, ap, ◌∙◌, ◌⊎◌, inl, inr, arith}
 use Rattle.std.proofs.lemmas.List.{length-append, length-map, set-set, take_at, get_or-set_same}
 use Rattle.std.proofs.lemmas.Bool.{false≢true}
-use Rattle.dimacs.specs.logic.Base.{base_of}
 use Rattle.dimacs.specs.logic.Cnf.{Cnf, IsFormula}
 use Rattle.icnf.specs.Leaves.{Cube}
 use Rattle.lrat_text.specs.Log.{Closes}
@@ -223,13 +222,13 @@ grown_err s t u w job o (Ok unit) took put was e = e
 grown_err s t u w job o (Err f) took put was e = unfixed s t u w job o took put was e
 
 -- the fragment of a leaf, by the names that the code has for its base and cube
-pub closes_here : (c s : CoordinatorState) (B : Cnf) (q : Cube) (leaf : ℕ) (text : List ℕ) → c ≡ s → B ≡ base_of c.formula → q ≡ cube_at c leaf → Closes B q text → Closes (coordinator_base s) (cube_at s leaf) text
+pub closes_here : (c s : CoordinatorState) (B : Cnf) (q : Cube) (leaf : ℕ) (text : List ℕ) → c ≡ s → B ≡ coordinator_base c → q ≡ cube_at c leaf → Closes B q text → Closes (coordinator_base s) (cube_at s leaf) text
 closes_here c s B q leaf text same base cube closes =
-    subst (λ (d : CoordinatorState). Closes (coordinator_base d) (cube_at d leaf) text) same (subst (λ (p : Cube). Closes (base_of c.formula) p text) cube (subst (λ (D : Cnf). Closes D q text) base closes))
+    subst (λ (d : CoordinatorState). Closes (coordinator_base d) (cube_at d leaf) text) same (subst (λ (p : Cube). Closes (coordinator_base c) p text) cube (subst (λ (D : Cnf). Closes D q text) base closes))
 
-pub closes_there : (c s : CoordinatorState) (B : Cnf) (q : Cube) (leaf : ℕ) (text : List ℕ) → c ≡ s → B ≡ base_of c.formula → q ≡ cube_at c leaf → Closes (coordinator_base s) (cube_at s leaf) text → Closes B q text
+pub closes_there : (c s : CoordinatorState) (B : Cnf) (q : Cube) (leaf : ℕ) (text : List ℕ) → c ≡ s → B ≡ coordinator_base c → q ≡ cube_at c leaf → Closes (coordinator_base s) (cube_at s leaf) text → Closes B q text
 closes_there c s B q leaf text same base cube closes =
-    subst (λ (D : Cnf). Closes D q text) (sym base) (subst (λ (p : Cube). Closes (base_of c.formula) p text) (sym cube) (subst (λ (d : CoordinatorState). Closes (coordinator_base d) (cube_at d leaf) text) (sym same) closes))
+    subst (λ (D : Cnf). Closes D q text) (sym base) (subst (λ (p : Cube). Closes (coordinator_base c) p text) (sym cube) (subst (λ (d : CoordinatorState). Closes (coordinator_base d) (cube_at d leaf) text) (sym same) closes))
 
 -- where no memory was wanting, a text that closes is taken
 pub unrefused : (r : Result (Unit {0}) CheckFault) (f : CheckFault) (b : Bool) → (r ≡ Ok tt) ⊎ (r ≡ Err no_memory) → r ≡ Err f → b ≡ (f.number == 14) → b ≡ false → ⊥

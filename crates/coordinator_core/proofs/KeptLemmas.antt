@@ -1,18 +1,20 @@
 -- What a coordinator keeps under every schedule: its verdict is right, and closed leaves have fragments that close them.
 use Rattle.std.proofs.Common.{◌≡◌, ◌≢◌, ℕ, zero, suc, ◌+◌, ◌-◌, ◌<◌, ◌≤◌, ◌^◌, Bool, true, false, List, [], ◌∷◌, length, Option, Some, None, slice_get, slice_set, get_or, refl, subst, sym, ap, ◌∙◌, ◌⊎◌, inl, inr, arith}
+use Rattle.std.specs.Prelude.{All}
 use Rattle.std.proofs.lemmas.Bool.{cases_lt}
 use Rattle.std.proofs.lemmas.List.{length-set, get_or-set_same, get_or-set_other, set_past}
 use Rattle.std.proofs.lemmas.Option.{slice_get-get_or}
-use Rattle.dimacs.specs.logic.Base.{base_of}
 use Rattle.dimacs.specs.logic.Cnf.{Cnf}
 use Rattle.icnf.specs.Leaves.{Cube}
 use Rattle.lrat_text.specs.Log.{Closes}
 use Rattle.lrat_check.specs.Verdicts.{Right}
 use Rattle.lrat_check.specs.declared.verdict.Verdict.{Verdict}
 use Rattle.lrat_check.specs.declared.verdict.Verdict.TheVariants.{Nothing, Proof}
+use Rattle.cube_split.specs.Definitions.{IsPairOf}
+use Rattle.cube_split.proofs.DefinedLemmas.{all_chosen, few_chosen}
 use Rattle.proof_join.specs.Joining.{AllClose}
 use Rattle.evidence.specs.Evidence.{bytes_in}
-use Rattle.coordinator_core.specs.Coordinator.{CoordinatorState, AreClosed, IsDeciding, cube_at, job_at, want_at, with_job, reopened, closed, gives, new_job}
+use Rattle.coordinator_core.specs.Coordinator.{CoordinatorState, AreClosed, IsDeciding, coordinator_base, cube_at, job_at, want_at, with_job, reopened, closed, gives, new_job}
 use Rattle.coordinator_core.specs.Invariant.{IsCoordinator, HasJoined, HasTables, IsJobAt, FitsFixed, IsNote}
 use Rattle.coordinator_core.specs.declared.desks.Job.{Job}
 use Rattle.coordinator_core.specs.declared.desks.LeafState.{LeafState}
@@ -53,10 +55,10 @@ not_ended c is deciding all = let h = is.ended all in go h.text h.end
     go text (inr p) = let e : false ≡ true = sym deciding.going ∙ p.0 in cc
 
 -- what is held stays where only tables change
-still_joined : (c new : CoordinatorState) → HasJoined c → new.formula ≡ c.formula → new.tree ≡ c.tree → new.fragments ≡ c.fragments → new.verdict ≡ c.verdict → new.stuck ≡ c.stuck → HasJoined new
-still_joined c new h f t g v s = record {
+still_joined : (c new : CoordinatorState) → HasJoined c → new.formula ≡ c.formula → new.definitions ≡ c.definitions → new.tree ≡ c.tree → new.fragments ≡ c.fragments → new.verdict ≡ c.verdict → new.stuck ≡ c.stuck → HasJoined new
+still_joined c new h f d t g v s = record {
   text = h.text;
-  joined = rw (f, t, g) h.joined;
+  joined = rw (f, d, t, g) h.joined;
   end = rw (v, s) h.end;
 }
 
@@ -126,7 +128,7 @@ dropped_jobs c worker j l is at k i h = go (read_set_cases c.jobs (worker - 1) k
 pub with_job_is : (c : CoordinatorState) (worker : ℕ) (o : Option Job) → ((j : Job) → o ≡ Some j → IsJobAt c.leaves (worker - 1) j) → IsCoordinator c → IsCoordinator (with_job c worker o)
 with_job_is c worker o fair is = record {
   right = is.right;
-  ended = λ all. still_joined c (with_job c worker o) (is.ended all) refl refl refl refl refl;
+  ended = λ all. still_joined c (with_job c worker o) (is.ended all) refl refl refl refl refl refl;
   grounds = is.grounds;
   tables = resized c.tree c.leaves c.leaves c.fragments c.fragments c.jobs (slice_set c.jobs (worker - 1) o) c.wants c.wants is.tables refl refl (length-set c.jobs (worker - 1) o) refl;
   jobs = λ n i h. go n i (read_set_cases c.jobs (worker - 1) n o None (Some i) h);
@@ -150,7 +152,7 @@ with_fixed_is c worker j k at leaf fits is =
 pub is_reopened : (c : CoordinatorState) (worker : ℕ) (j : Job) → job_at c worker ≡ Some j → IsCoordinator c → IsCoordinator (reopened c worker j)
 is_reopened c worker j at is = record {
   right = is.right;
-  ended = λ all. still_joined c (reopened c worker j) (is.ended (unclosed c j.leaf Open open_is_not_closed all)) refl refl refl refl refl;
+  ended = λ all. still_joined c (reopened c worker j) (is.ended (unclosed c j.leaf Open open_is_not_closed all)) refl refl refl refl refl refl;
   grounds = is.grounds;
   tables = resized c.tree c.leaves (slice_set c.leaves j.leaf Open) c.fragments c.fragments c.jobs (slice_set c.jobs (worker - 1) None) c.wants c.wants is.tables
       (length-set c.leaves j.leaf Open) refl (length-set c.jobs (worker - 1) None) refl;
@@ -165,7 +167,7 @@ is_reopened c worker j at is = record {
 pub is_given : (c : CoordinatorState) (worker leaf : ℕ) → 1 ≤ worker → c.next < 2 ^ 64 → slice_get c.leaves leaf ≡ Some Open → leaf < length c.leaves → IsCoordinator c → IsCoordinator (gives c worker leaf)
 is_given c worker leaf from_1 left free inside is = record {
   right = is.right;
-  ended = λ all. still_joined c (gives c worker leaf) (is.ended (unclosed c leaf (GivenTo worker) (given_is_not_closed worker) all)) refl refl refl refl refl;
+  ended = λ all. still_joined c (gives c worker leaf) (is.ended (unclosed c leaf (GivenTo worker) (given_is_not_closed worker) all)) refl refl refl refl refl refl;
   grounds = is.grounds;
   tables = resized c.tree c.leaves (slice_set c.leaves leaf (GivenTo worker)) c.fragments c.fragments c.jobs (slice_set c.jobs (worker - 1) (Some (new_job c leaf))) c.wants c.wants is.tables
       (length-set c.leaves leaf (GivenTo worker)) refl (length-set c.jobs (worker - 1) (Some (new_job c leaf))) refl;
@@ -228,22 +230,22 @@ is_decided c v deciding right short is = record {
 }
 
 -- after a leaf was closed each closed leaf has a fragment that closes it
-closed_closing : (c : CoordinatorState) (worker : ℕ) (j : Job) (text : List ℕ) → IsCoordinator c → Closes (base_of c.formula) (cube_at c j.leaf) text
-    → (i : ℕ) → slice_get (closed c worker j text).leaves i ≡ Some Closed → Closes (base_of c.formula) (cube_at c i) (get_or (closed c worker j text).fragments i [])
+closed_closing : (c : CoordinatorState) (worker : ℕ) (j : Job) (text : List ℕ) → IsCoordinator c → Closes (coordinator_base c) (cube_at c j.leaf) text
+    → (i : ℕ) → slice_get (closed c worker j text).leaves i ≡ Some Closed → Closes (coordinator_base c) (cube_at c i) (get_or (closed c worker j text).fragments i [])
 closed_closing c worker j text is closes i h = go (got_set_cases c.leaves j.leaf i Closed Closed h)
   where
     go : ((i ≡ j.leaf) × (i < length c.leaves) × (Closed ≡ Closed)) ⊎ ((i ≢ j.leaf) × (slice_get c.leaves i ≡ Some Closed))
-        → Closes (base_of c.formula) (cube_at c i) (get_or (slice_set c.fragments j.leaf text) i [])
+        → Closes (coordinator_base c) (cube_at c i) (get_or (slice_set c.fragments j.leaf text) i [])
     go (inl p) =
         let at : i ≡ j.leaf = p.0 in
         let lt : i < length c.leaves = p.1 in
         let inside : j.leaf < length c.fragments = omega (arith, at, lt, is.tables.each_leaf, is.tables.each_fragment) in
         let now : get_or (slice_set c.fragments j.leaf text) j.leaf [] ≡ text = get_or-set_same c.fragments j.leaf text [] inside in
-        let there : Closes (base_of c.formula) (cube_at c j.leaf) (get_or (slice_set c.fragments j.leaf text) j.leaf []) = subst (Closes (base_of c.formula) (cube_at c j.leaf)) (sym now) closes in
-        subst (λ (k : ℕ). Closes (base_of c.formula) (cube_at c k) (get_or (slice_set c.fragments j.leaf text) k [])) (sym at) there
+        let there : Closes (coordinator_base c) (cube_at c j.leaf) (get_or (slice_set c.fragments j.leaf text) j.leaf []) = subst (Closes (coordinator_base c) (cube_at c j.leaf)) (sym now) closes in
+        subst (λ (k : ℕ). Closes (coordinator_base c) (cube_at c k) (get_or (slice_set c.fragments j.leaf text) k [])) (sym at) there
     go (inr p) =
         let now : get_or (slice_set c.fragments j.leaf text) i [] ≡ get_or c.fragments i [] = get_or-set_other c.fragments j.leaf i text [] p.0 in
-        subst (Closes (base_of c.formula) (cube_at c i)) (sym now) (is.closing i p.1)
+        subst (Closes (coordinator_base c) (cube_at c i)) (sym now) (is.closing i p.1)
 
 -- fragments that close the leaves place by place
 pub all_close : (B : Cnf) (tree : List Cube) (texts : List (List ℕ)) → length texts ≡ length tree → ((i : ℕ) → i < length tree → Closes B (get_or tree i []) (get_or texts i [])) → AllClose B tree texts
@@ -253,10 +255,10 @@ all_close B (q ∷ tree) [] e h = absurd (omega (arith, e))
 all_close B (q ∷ tree) (t ∷ texts) e h = (h 0 (omega arith), all_close B tree texts (omega (arith, e)) (λ i lt. h (suc i) (omega (arith, lt))))
 
 -- where all leaves are closed then, all have their fragments
-pub closed_all : (c : CoordinatorState) (worker : ℕ) (j : Job) (text : List ℕ) → IsCoordinator c → Closes (base_of c.formula) (cube_at c j.leaf) text
-    → AreClosed (closed c worker j text).leaves → AllClose (base_of c.formula) c.tree (closed c worker j text).fragments
+pub closed_all : (c : CoordinatorState) (worker : ℕ) (j : Job) (text : List ℕ) → IsCoordinator c → Closes (coordinator_base c) (cube_at c j.leaf) text
+    → AreClosed (closed c worker j text).leaves → AllClose (coordinator_base c) c.tree (closed c worker j text).fragments
 closed_all c worker j text is closes all =
-    all_close (base_of c.formula) c.tree (closed c worker j text).fragments (length-set c.fragments j.leaf text ∙ is.tables.each_fragment) (λ i lt.
+    all_close (coordinator_base c) c.tree (closed c worker j text).fragments (length-set c.fragments j.leaf text ∙ is.tables.each_fragment) (λ i lt.
     let inside : i < length (closed c worker j text).leaves = omega (arith, lt, is.tables.each_leaf, length-set c.leaves j.leaf Closed) in
     let got : slice_get (closed c worker j text).leaves i ≡ Some Closed =
     slice_get-get_or (closed c worker j text).leaves i Open inside ∙ ap (λ (l : LeafState). Some l) (all i Open inside) in
@@ -264,7 +266,7 @@ closed_all c worker j text is closes all =
 
 -- a leaf was closed; if it was the last one, as the law of the end says
 pub is_closed : (c : CoordinatorState) (worker : ℕ) (j : Job) (text : List ℕ) (v : Verdict) (stuck : Bool) → job_at c worker ≡ Some j → IsCoordinator c → c.verdict ≡ Nothing
-    → Closes (base_of c.formula) (cube_at c j.leaf) text → Right c.formula v → length (bytes_in v) < 2 ^ 32 → (stuck ≡ true → v ≡ Nothing)
+    → Closes (coordinator_base c) (cube_at c j.leaf) text → Right c.formula v → length (bytes_in v) < 2 ^ 32 → (stuck ≡ true → v ≡ Nothing)
     → (AreClosed (closed c worker j text).leaves → HasJoined (record (closed c worker j text) { verdict = v; stuck = stuck }))
     → IsCoordinator (record (closed c worker j text) { verdict = v; stuck = stuck })
 is_closed c worker j text v stuck at is undecided closes right short alone ended = record {
@@ -285,7 +287,7 @@ is_closed c worker j text v stuck at is undecided closes right short alone ended
 pub is_noted : (c : CoordinatorState) (worker : ℕ) (o : Option ℕ) → 1 ≤ worker → IsNote o (bytes_in c.verdict) → IsCoordinator c → IsCoordinator (record c { wants = slice_set c.wants (worker - 1) o })
 is_noted c worker o from_1 noted is = record {
   right = is.right;
-  ended = λ all. still_joined c (record c { wants = slice_set c.wants (worker - 1) o }) (is.ended all) refl refl refl refl refl;
+  ended = λ all. still_joined c (record c { wants = slice_set c.wants (worker - 1) o }) (is.ended all) refl refl refl refl refl refl;
   grounds = is.grounds;
   tables = resized c.tree c.leaves c.leaves c.fragments c.fragments c.jobs c.jobs c.wants (slice_set c.wants (worker - 1) o) is.tables refl refl refl (length-set c.wants (worker - 1) o);
   jobs = is.jobs;
@@ -318,6 +320,14 @@ note_is c s n offset same from_1 within is =
 
 pub unnoted_is : (c : CoordinatorState) (n : ℕ) → 1 ≤ n → IsCoordinator c → IsCoordinator (record c { wants = slice_set c.wants (n - 1) None })
 unnoted_is c n from_1 is = is_noted c n None from_1 (λ o e. absurd (none_some o e)) is
+
+-- the pairs that are defined are of its formula, and few
+pub pairs_inside : (c : CoordinatorState) → IsCoordinator c → All (IsPairOf c.formula.vars) c.definitions.pairs
+pairs_inside c is = all_chosen c.formula c.definitions.wanted c.definitions.pairs is.grounds.defined.defined
+
+pub pairs_few : (c : CoordinatorState) → IsCoordinator c → length c.definitions.pairs ≤ 64
+pairs_few c is =
+    let few = few_chosen c.formula c.definitions.wanted c.definitions.pairs is.grounds.defined.defined in omega (arith, few, is.grounds.defined.few)
 
 -- the leaf of a job has a place, and is not closed
 pub leaf_within : (leaves : List LeafState) (desk : ℕ) (j : Job) → IsJobAt leaves desk j → j.leaf < length leaves

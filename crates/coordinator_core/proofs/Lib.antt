@@ -10,4 +10,3 @@ pub mod PollLemmas
 pub mod TableLemmas
 pub mod StepLemmas
 pub mod ExtendingLemmas
-pub mod PlainLemmas

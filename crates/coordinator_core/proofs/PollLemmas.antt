@@ -32,7 +32,7 @@ use Rattle.coordinator_core.specs.declared.desks.Fixed.{Fixed}
 use Rattle.coordinator_core.specs.declared.desks.Job.{Job}
 use Rattle.coordinator_core.proofs.Places.{any_default}
 use Rattle.coordinator_core.proofs.TableLemmas.{open_leaf}
-use Rattle.coordinator_core.proofs.KeptLemmas.{HasLeaf, task_leaf, job_is, is_given}
+use Rattle.coordinator_core.proofs.KeptLemmas.{HasLeaf, task_leaf, job_is, is_given, pairs_few}
 
 pub leaf_there : (c s : CoordinatorState) (w leaf : ℕ) → c ≡ s → IsCoordinator c → HasLeaf s w leaf → leaf < length s.tree
 leaf_there c s w leaf same is has = subst (λ (d : CoordinatorState). leaf < length d.tree) same (task_leaf c s w leaf same is has)
@@ -48,7 +48,7 @@ cube_is c s leaf q same is inside here =
     let lt : leaf < length c.tree = subst (λ (d : CoordinatorState). leaf < length d.tree) (sym same) inside in
     subst IsCube (sym here) (record {
       short = t.is_tree.short leaf [] lt;
-      within = λ k d within. let one = t.inside leaf [] lt k d within in (one.0, omega (arith, one.1, is.grounds.formula.vars));
+      within = λ k d within. let one = t.inside leaf [] lt k d within in (one.0, omega (arith, one.1, is.grounds.formula.vars, pairs_few c is));
       distinct = leaves_distinct none_twice t.is_tree.leaves leaf [] lt;
     })
 

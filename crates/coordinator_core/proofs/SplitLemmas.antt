@@ -1,15 +1,12 @@
 -- What stands where after a leaf was split.
-use Rattle.std.proofs.Common.{◌≡◌, ◌≢◌, ℕ, zero, suc, ◌+◌, ◌<◌, ◌≤◌, Bool, List, [], ◌∷◌, ◌++◌, length, map, take, drop, Option, Some, None, slice_get, slice_set, get_or, refl, subst, sym, ap, ◌∙◌, ◌⊎◌, inl, inr, arith, add-one}
+use Rattle.std.proofs.Common.{◌≡◌, ◌≢◌, ℕ, zero, suc, ◌+◌, ◌<◌, ◌≤◌, Bool, List, [], ◌∷◌, ◌++◌, length, map, take, drop, Option, Some, None, slice_get, slice_set, get_or, refl, sym, ap, ◌∙◌, ◌⊎◌, inl, inr, arith, add-one}
 use Rattle.std.specs.Prelude.{if◌then◌else◌}
 use Rattle.std.specs.List.{All, insert}
-use Rattle.std.proofs.lemmas.Bool.{cases_lt, cases_eq, lt-ltb, le-ltb}
-use Rattle.std.proofs.lemmas.List.{length-append, get_or-append-add, set-set}
+use Rattle.std.proofs.lemmas.Bool.{cases_lt, lt-ltb, le-ltb}
+use Rattle.std.proofs.lemmas.List.{set-set}
 use Rattle.std.proofs.lemmas.List.Elements.{All-cons, All-head, All-tail}
-use Rattle.dimacs.specs.logic.Cnf.{Cnf, IsFormula}
-use Rattle.dimacs.specs.logic.Literal.{Literal, Pos, Neg}
+use Rattle.dimacs.specs.logic.Literal.{Pos, Neg}
 use Rattle.icnf.specs.Leaves.{Cube, branched}
-use Rattle.cube_split.specs.Choice.{IsChoice}
-use Rattle.cube_split.proofs.ChoiceLemmas.{stands_nowhere}
 use Rattle.coordinator_core.specs.Splits.{shifted, doubled, shifted_job}
 use Rattle.coordinator_core.specs.declared.desks.Job.{Job}
 use Rattle.coordinator_core.proofs.Places.{any_default}
@@ -138,26 +135,11 @@ job_before i (Some j) k e = (j, refl, same (record j { leaf = shifted i j.leaf }
     same : (a b : Job) → Some a ≡ Some b → a ≡ b
     same a b h = cc
 
-pub all_right : {X : Type 0} (P : X → Type 0) (xs ys : List X) → All P (xs ++ ys) → All P ys
-all_right P xs ys h k d lt = subst P (get_or-append-add xs ys k d) (h (length xs + k) d (omega (arith, lt, length-append xs ys)))
-
 -- what holds of all cubes and of both branches
 pub all_branched : (P : Cube → Type 0) (xs : List Cube) (i v : ℕ) → P (get_or xs i [] ++ Pos v ∷ []) → P (get_or xs i [] ++ Neg v ∷ []) → All P xs → All P (branched i v xs)
 all_branched P [] i v pos neg all = all
 all_branched P (x ∷ xs) zero v pos neg all = All-cons P (x ++ Pos v ∷ []) ((x ++ Neg v ∷ []) ∷ xs) pos (All-cons P (x ++ Neg v ∷ []) xs neg (All-tail P x xs all))
 all_branched P (x ∷ xs) (suc i) v pos neg all = All-cons P x (branched i v xs) (All-head P x xs all) (all_branched P xs i v pos neg (All-tail P x xs all))
-
--- the split rule chooses a variable of the formula
-pub choice_within : (F : Cnf) (S : List Literal) (v : ℕ) → IsFormula F → IsChoice F S v → (0 < v) × (v ≤ F.vars)
-choice_within F S v formula choice = go (cases_eq v 0) (cases_lt F.vars v)
-  where
-    nowhere : (v ≡ 0) ⊎ (F.vars < v) → ⊥
-    nowhere out = let none = stands_nowhere F.vars v F.clauses S out formula.within in absurd (omega (arith, choice.some, none))
-
-    go : (v ≡ 0) ⊎ (v ≡ 0 → ⊥) → (F.vars < v) ⊎ (v ≤ F.vars) → (0 < v) × (v ≤ F.vars)
-    go (inl zero_is) _ = absurd (nowhere (inl zero_is))
-    go (inr some) (inl past) = absurd (nowhere (inr past))
-    go (inr some) (inr le) = (omega (arith, some), le)
 
 -- how the code doubles an entry
 pub inserted : {X : Type 0} (xs : List X) (i : ℕ) (x : X) → i < length xs → insert (slice_set xs i x) i x ≡ doubled i x xs

@@ -1,11 +1,10 @@
 -- Every step of a coordinator keeps what it is.
 use Rattle.std.proofs.Common.{◌≡◌, ℕ, ◌+◌, ◌<◌, ◌≤◌, ◌^◌, nat_lt, Bool, true, false, List, length, map, Option, Some, None, refl, subst, sym, ap, ◌∙◌, inl, inr, arith, length-append}
-use Rattle.std.specs.Prelude.{position}
+use Rattle.std.specs.Prelude.{All, position}
 use Rattle.std.proofs.lemmas.Bool.{ltb-true}
 use Rattle.std.proofs.lemmas.List.{length-map}
 use Rattle.std.proofs.lemmas.List.Quantifiers.{position-Some}
 use Rattle.std.proofs.lemmas.Option.{slice_get-get_or}
-use Rattle.dimacs.specs.logic.Base.{base_of}
 use Rattle.dimacs.specs.logic.Cnf.{Cnf, IsFormula}
 use Rattle.icnf.specs.Leaves.{Cube}
 use Rattle.lrat_text.specs.Proof.{Accepts}
@@ -19,22 +18,25 @@ use Rattle.frames.specs.declared.answer.Outcome.{Outcome}
 use Rattle.frames.specs.declared.frame.Attempt.{Attempt}
 use Rattle.frames.specs.declared.frame.Frame.{Frame}
 use Rattle.frames.specs.declared.frame.Frame.TheVariants.{Task, Done, Fetch, Piece, Verdict as VerdictFrame, Want, Part, Idle, Rest}
-use Rattle.proof_join.specs.Joining.{AllClose, JoinedUnits}
+use Rattle.cube_split.specs.Definitions.{IsPairOf, base_with}
+use Rattle.cube_split.specs.declared.pair.Pair.{Pair}
+use Rattle.proof_join.specs.Definitions.{JoinedOver}
+use Rattle.proof_join.specs.Joining.{AllClose}
 use Rattle.evidence.specs.Evidence.{bytes_in, with_bytes, IsRightEvidence}
 use Rattle.evidence.specs.Events.{Event, Delivered, Worked, Polled, Lost, Given, Reacted, Sent, Silent}
-use Rattle.coordinator_core.specs.Coordinator.{CoordinatorState, IsDeciding, EndsFragment, EndsAssignment, Gathers, MeetsLimit, AnswersFirst, DeliversDone, DeliversPiece, DeliversIdle, DeliversWant, CoordinatorDelivers, CoordinatorPolls, CoordinatorStep, with_job, fixing, job_at, want_at, is_open, verdict_poll, leaf_poll, fixed_poll, job_poll, stuck_poll, poll_by, lost_by}
+use Rattle.coordinator_core.specs.Coordinator.{CoordinatorState, IsDeciding, EndsFragment, EndsAssignment, Gathers, MeetsLimit, AnswersFirst, DeliversDone, DeliversPiece, DeliversIdle, DeliversWant, CoordinatorDelivers, CoordinatorPolls, CoordinatorStep, coordinator_base, with_job, fixing, job_at, want_at, is_open, verdict_poll, leaf_poll, fixed_poll, job_poll, stuck_poll, poll_by, lost_by}
 use Rattle.coordinator_core.specs.Invariant.{IsCoordinator, IsNote}
 use Rattle.coordinator_core.specs.declared.desks.Fixed.{Fixed}
 use Rattle.coordinator_core.specs.declared.desks.Job.{Job}
 use Rattle.coordinator_core.specs.declared.desks.LeafState.{LeafState}
 use Rattle.coordinator_core.specs.declared.desks.LeafState.TheVariants.{Open, GivenTo, Closed}
 use Rattle.coordinator_core.proofs.SplitStates.{is_split}
-use Rattle.coordinator_core.proofs.KeptLemmas.{with_fixed_is, is_reopened, is_given, is_stuck, is_decided, closed_all, is_closed, is_noted}
+use Rattle.coordinator_core.proofs.KeptLemmas.{pairs_few, pairs_inside, with_fixed_is, is_reopened, is_given, is_stuck, is_decided, closed_all, is_closed, is_noted}
 
 -- what is joined of fragments that close all leaves is an accepted proof
 abbrev pub JoiningLaw : Type 0
-JoiningLaw = (F : Cnf) (leaves : List Cube) (texts : List (List ℕ)) (text : List ℕ)
-    → IsFormula F → AllClose (base_of F) leaves texts → JoinedUnits F leaves texts text → length text < 2 ^ 32 → Accepts F text
+JoiningLaw = (F : Cnf) (pairs : List Pair) (leaves : List Cube) (texts : List (List ℕ)) (text : List ℕ)
+    → IsFormula F → All (IsPairOf F.vars) pairs → length pairs ≤ 64 → AllClose (base_with F pairs) leaves texts → JoinedOver F pairs leaves texts text → length text < 2 ^ 32 → Accepts F text
 
 -- the values of a formula's variables are few
 values_short : (F : Cnf) (bytes : List ℕ) (v : Verdict) → IsFormula F → IsRightEvidence F answers.Assignment bytes v → length (bytes_in v) < 2 ^ 32
@@ -50,6 +52,12 @@ fits_some x y h e = subst (λ (z : Fixed). length z.evidence.bytes ≤ length_of
     same p = cc
 
 module _ (law : JoiningLaw) where
+  -- so is what is joined at a coordinator
+  joined_accepts : (c : CoordinatorState) (texts : List (List ℕ)) (text : List ℕ) → IsCoordinator c → AllClose (coordinator_base c) c.tree texts
+      → JoinedOver c.formula c.definitions.pairs c.tree texts text → length text < 2 ^ 32 → Accepts c.formula text
+  joined_accepts c texts text is closes joined short =
+      law c.formula c.definitions.pairs c.tree texts text is.grounds.formula (pairs_inside c is) (pairs_few c is) closes joined short
+
   fragment_keeps : (c : CoordinatorState) (worker : ℕ) (j : Job) (text : List ℕ) (answer : Reaction) (new : CoordinatorState)
       → IsCoordinator c → job_at c worker ≡ Some j → IsDeciding c → EndsFragment c worker j text answer new → IsCoordinator new
   fragment_keeps c worker j text answer new is at deciding (EndsFragment.wrong never a now) = subst IsCoordinator (sym now) (is_reopened c worker j at is)
@@ -57,7 +65,7 @@ module _ (law : JoiningLaw) where
       subst IsCoordinator (sym now) (is_closed c worker j text c.verdict c.stuck at is deciding.undecided closes is.right is.short is.stuck (λ all. absurd (some all)))
   fragment_keeps c worker j text answer new is at deciding (EndsFragment.joins closes all proof joined short a now) =
       subst IsCoordinator (sym now) (is_closed c worker j text (Proof proof) c.stuck at is deciding.undecided closes
-      (law c.formula c.tree _ proof is.grounds.formula (closed_all c worker j text is closes all) joined short) short (λ stuck. not_both stuck)
+      (joined_accepts c _ proof is (closed_all c worker j text is closes all) joined short) short (λ stuck. not_both stuck)
       (λ _. record { text = proof; joined = joined; end = inl refl }))
     where
       not_both : c.stuck ≡ true → Proof proof ≡ Nothing

@@ -1,6 +1,6 @@
 -- The coordinator: it gives the leaves of a tree to workers, checks what they found, and hands out the verdict.
-use Rattle.std.specs.Prelude.{◌≡◌, ◌≢◌, ℕ, zero, suc, ◌+◌, ◌-◌, ◌<◌, ◌≤◌, ◌^◌, nat_lt, Bool, true, false, List, [], ◌++◌, length, map, take, drop, Option, Some, None, All, slice_index_or, slice_set, position, replicate, ◌⊎◌}
-use Rattle.dimacs.specs.logic.Base.{base_of, pure_literals}
+use Rattle.std.specs.Prelude.{◌≡◌, ◌≢◌, ℕ, zero, suc, ◌+◌, ◌-◌, ◌<◌, ◌≤◌, ◌^◌, nat_lt, Bool, true, false, List, [], length, map, take, drop, Option, Some, None, All, slice_index_or, slice_set, position, replicate, ◌⊎◌}
+use Rattle.dimacs.specs.logic.Base.{pure_literals}
 use Rattle.dimacs.specs.logic.Cnf.{Cnf}
 use Rattle.icnf.specs.Leaves.{Cube, branched}
 use Rattle.lrat_text.specs.Log.{Closes}
@@ -16,8 +16,10 @@ use Rattle.frames.specs.declared.answer.Outcome.TheVariants as told
 use Rattle.frames.specs.declared.frame.Attempt.{Attempt}
 use Rattle.frames.specs.declared.frame.Frame.{Frame}
 use Rattle.frames.specs.declared.frame.Frame.TheVariants.{Task, Done, Fetch, Piece, Verdict as VerdictFrame, Want, Part, Idle, Rest}
-use Rattle.cube_split.specs.Choice.{IsChoice}
-use Rattle.proof_join.specs.Joining.{JoinedUnits}
+use Rattle.cube_split.specs.Choosing.{Chooses}
+use Rattle.cube_split.specs.Definitions.{Opening, base_with}
+use Rattle.cube_split.specs.Pairs.{Definitions, no_definitions}
+use Rattle.proof_join.specs.Definitions.{JoinedOver}
 use Rattle.evidence.specs.Evidence.{announced, with_bytes, IsComplete, ComeNext, IsRightEvidence, IsWrongEvidence, HasWrongLength, answer_in, bytes_in, finding_in}
 use Rattle.evidence.specs.Events.{chunk, Event, Delivered, Worked, Polled, Lost, Given, Reacted, Sent, Silent, Ignores, Grows}
 use Rattle.evidence.specs.Jobs.{attempt_at}
@@ -30,6 +32,7 @@ use Rattle.coordinator_core.specs.declared.desks.LeafState.TheVariants.{Open, Gi
 
 pub record CoordinatorState : Type 0 where
   pub formula : Cnf
+  pub definitions : Definitions
   pub session : ℕ
   pub limit : ℕ
   -- the cubes of the tree that it was made with, and of the tree as it is
@@ -46,10 +49,11 @@ pub record CoordinatorState : Type 0 where
   pub stuck : Bool
   pub verdict : Verdict
 
--- a coordinator that begins
+-- a coordinator that begins, without definitions
 abbrev pub new_coordinator : Cnf → List Cube → ℕ → ℕ → ℕ → CoordinatorState
 new_coordinator F tree limit workers session = record {
   formula = F;
+  definitions = no_definitions;
   session = session;
   limit = limit;
   planted = tree;
@@ -63,8 +67,16 @@ new_coordinator F tree limit workers session = record {
   verdict = Nothing;
 }
 
+-- the coordinator as it was made, in another session
+abbrev pub restarted_coordinator : CoordinatorState → ℕ → CoordinatorState
+restarted_coordinator c session = record (new_coordinator c.formula c.planted c.limit (length c.jobs) session) { definitions = c.definitions }
+
+-- what it adds to the formula before that is split, and the base that this makes
+abbrev pub coordinator_opening : CoordinatorState → Opening
+coordinator_opening c = record { units = pure_literals c.formula; pairs = c.definitions.pairs }
+
 abbrev pub coordinator_base : CoordinatorState → Cnf
-coordinator_base c = base_of c.formula
+coordinator_base c = base_with c.formula c.definitions.pairs
 
 -- the job of a worker, if it has one; workers are numbered from 1
 abbrev pub job_at : CoordinatorState → ℕ → Option Job
@@ -103,7 +115,7 @@ pub record MaySplit (c : CoordinatorState) (leaf : ℕ) : Type 0 where
 -- and the split rule chooses this variable
 pub record CanSplit (c : CoordinatorState) (leaf v : ℕ) : Type 0 where
   pub may : MaySplit c leaf
-  pub choice : IsChoice c.formula (pure_literals c.formula ++ cube_at c leaf) v
+  pub choice : Chooses c.formula (coordinator_opening c) (cube_at c leaf) (Some v)
 
 -- the leaf of a worker's job is split on a variable, and both branches are open; the worker has no job, and the leaves behind stand one
 -- place further
@@ -151,11 +163,11 @@ pub data EndsFragment (c : CoordinatorState) (worker : ℕ) (j : Job) (text : Li
       → answer ≡ reaction.Taken → new ≡ closed c worker j text → EndsFragment c worker j text answer new
   -- it closes the last leaf: the fragments are joined
   joins : Closes (coordinator_base c) (cube_at c j.leaf) text → AreClosed (closed c worker j text).leaves
-      → (proof : List ℕ) → JoinedUnits c.formula c.tree (closed c worker j text).fragments proof → length proof < 2 ^ 32
+      → (proof : List ℕ) → JoinedOver c.formula c.definitions.pairs c.tree (closed c worker j text).fragments proof → length proof < 2 ^ 32
       → answer ≡ reaction.Verdict → new ≡ record (closed c worker j text) { verdict = Proof proof } → EndsFragment c worker j text answer new
   -- the joined text is too long to be sent
   too_long : Closes (coordinator_base c) (cube_at c j.leaf) text → AreClosed (closed c worker j text).leaves
-      → (proof : List ℕ) → JoinedUnits c.formula c.tree (closed c worker j text).fragments proof → 2 ^ 32 ≤ length proof
+      → (proof : List ℕ) → JoinedOver c.formula c.definitions.pairs c.tree (closed c worker j text).fragments proof → 2 ^ 32 ≤ length proof
       → answer ≡ reaction.Taken → new ≡ record (closed c worker j text) { stuck = true } → EndsFragment c worker j text answer new
 
 -- The assignment of a job is whole.

@@ -7,6 +7,7 @@ use Rattle.frames.specs.declared.answer.Outcome.TheVariants as told
 use Rattle.frames.specs.declared.frame.Attempt.{Attempt}
 use Rattle.frames.specs.declared.frame.Frame.{Frame}
 use Rattle.frames.specs.declared.frame.Frame.TheVariants.{Done}
+use Rattle.cube_split.specs.Pairs.{Definitions}
 use Rattle.coordinator_core.specs.Coordinator.{CoordinatorState, new_coordinator, coordinator_poll, CoordinatorDelivers}
 
 -- p cnf 2 4, 1 2 0, -1 2 0, 1 -2 0, -1 -2 0
@@ -16,6 +17,18 @@ four = record { vars = 2; clauses = (Pos 1 ∷ Pos 2 ∷ []) ∷ (Neg 1 ∷ Pos 
 -- one worker, a tree of one leaf, and a limit of 100
 abbrev pub begun : CoordinatorState
 begun = new_coordinator four ([] ∷ []) 100 1 1
+
+-- p cnf 2 2, 1 -2 0, -1 2 0
+abbrev pub same_two : Cnf
+same_two = record { vars = 2; clauses = (Pos 1 ∷ Neg 2 ∷ []) ∷ (Neg 1 ∷ Pos 2 ∷ []) ∷ [] }
+
+-- one definition: 3 stands for 1 and -2 together
+abbrev pub one_defined : Definitions
+one_defined = record { wanted = 1; pairs = record { first = Pos 1; second = Neg 2 } ∷ [] }
+
+-- the same coordinator over these clauses, with this definition
+abbrev pub begun_with_one : CoordinatorState
+begun_with_one = record (new_coordinator same_two ([] ∷ []) 100 1 1) { definitions = one_defined }
 
 -- what it sends to the worker, and the coordinator that has sent it
 abbrev pub sent : CoordinatorState → Frame

@@ -5,18 +5,22 @@ use Rattle.dimacs.specs.logic.Extension.{extended}
 use Rattle.lrat_check.specs.declared.verdict.Reaction.{Reaction}
 use Rattle.lrat_check.specs.declared.verdict.Reaction.TheVariants as reaction
 use Rattle.lrat_check.specs.declared.verdict.Verdict.{Verdict}
+use Rattle.cube_split.specs.Pairs.{Definitions, AreOf}
 use Rattle.evidence.specs.Keeping.{Stays}
 use Rattle.coordinator_core.specs.Coordinator.{CoordinatorState, new_coordinator}
 
--- the coordinator as made new from the extended formula with a tree of one leaf, in a session, but for what it holds
-abbrev pub extended_coordinator : CoordinatorState → Cnf → ℕ → Verdict → CoordinatorState
-extended_coordinator c x session held = record (new_coordinator (extended c.formula x) ([] ∷ []) c.limit (length c.jobs) session) { verdict = held }
+-- the coordinator as made new from the extended formula with as many definitions and a tree of one leaf, in a session, but for what it holds
+pub record IsExtended (c : CoordinatorState) (x : Cnf) (session : ℕ) (held : Verdict) (new : CoordinatorState) : Type 0 where
+  pub definitions : Definitions
+  pub wanted : definitions.wanted ≡ c.definitions.wanted
+  pub defined : AreOf (extended c.formula x) definitions
+  pub made : new ≡ record (new_coordinator (extended c.formula x) ([] ∷ []) c.limit (length c.jobs) session) { definitions = definitions; verdict = held }
 
 -- Clauses are added at a coordinator, which goes on in another session.
 pub data ExtendsCoordinator (c : CoordinatorState) (x : Cnf) (session : ℕ) (answer : Reaction) (new : CoordinatorState) : Type 0 where
   -- the formula would be above a limit
   too_large : ¬ (IsFormula (extended c.formula x)) → answer ≡ reaction.Refused 4 → new ≡ c → ExtendsCoordinator c x session answer new
   -- it begins anew, but for what stays of its verdict
-  taken : IsFormula (extended c.formula x) → (held : Verdict) → Stays c.formula x c.verdict held → answer ≡ reaction.Taken → new ≡ extended_coordinator c x session held → ExtendsCoordinator c x session answer new
+  taken : IsFormula (extended c.formula x) → (held : Verdict) → Stays c.formula x c.verdict held → answer ≡ reaction.Taken → IsExtended c x session held new → ExtendsCoordinator c x session answer new
   -- no room
   no_memory : IsFormula (extended c.formula x) → answer ≡ reaction.NoMemory → new ≡ c → ExtendsCoordinator c x session answer new

@@ -12,6 +12,7 @@ VerdictStays old new = old.verdict ≢ Nothing → new.verdict ≡ old.verdict
 -- what it was made with stays
 pub record StaysItself (old new : CoordinatorState) : Type 0 where
   pub formula : new.formula ≡ old.formula
+  pub definitions : new.definitions ≡ old.definitions
   pub session : new.session ≡ old.session
   pub limit : new.limit ≡ old.limit
   pub planted : new.planted ≡ old.planted

@@ -1,10 +1,6 @@
 //! Fragments close leaves, and behind the last one they are joined.
 
 ghost use Rattle.std.specs.Prelude.{◌≡◌, ℕ, ◌^◌, ◌<◌, ◌≤◌, List, length, map, Some, IfOk, IfErr};
-ghost use Rattle.cube_split.specs.Definitions.{pure_opening};
-ghost use Rattle.dimacs.specs.logic.Base.{base_of};
-ghost use Rattle.lrat_text.specs.Proof.{Accepts};
-ghost use Rattle.proof_join.specs.Joining.{AllClose, JoinedUnits};
 ghost use Rattle.frames.specs.declared.answer.Answer.TheVariants as answers;
 ghost use Rattle.frames.specs.Answers.{answer_of};
 ghost use Rattle.lrat_text.specs.Log.{Closes};
@@ -16,11 +12,8 @@ ghost use Rattle.coordinator_core.specs.declared.desks.Job.{Job};
 
 use crate::coordinator::Coordinator;
 use crate::desks::{Fixed, Job};
-use cube_split::Preamble;
-use dimacs::Formula;
 use evidence::{Bytes, Evidence};
 use frames::WorkerNumber;
-use icnf::Tree;
 use lrat_check::{ProofText, Reaction, Verdict, check_fragment};
 use proof_join::{JoinFault, join};
 use std::alloc::Global;
@@ -96,25 +89,6 @@ fn filled(job: Job, bytes: Vec<u8>) -> Job
     }
 }
 
-/// Joins the fragments of a tree's leaves over the units of the pure literals.
-fn join_over_units(
-    alloc: Global,
-    formula: &Formula,
-    preamble: &Preamble,
-    tree: &Tree,
-    fragments: &[Vec<u8>],
-) -> Result<Vec<u8>, JoinFault>
-    requires plain { preamble.now ≡ pure_opening formula.now }
-    requires closed { AllClose (base_of formula.now) tree.now (map (λ v. v.items) fragments.now) }
-    ensures joined { IfOk result (λ text. JoinedUnits formula.now tree.now (map (λ v. v.items) fragments.now) text.items) }
-    ensures short { IfOk result (λ text. length text.items < 2 ^ 32) }
-    ensures long { IfErr result (λ f. f ≡ JoinFault.TooLong → (text : List ℕ)
-        → JoinedUnits formula.now tree.now (map (λ v. v.items) fragments.now) text → 2 ^ 32 ≤ length text) }
-    ensures accepted { IfOk result (λ text. Accepts formula.now text.items) }
-{
-    join(alloc, formula, preamble, tree, fragments)
-}
-
 impl Coordinator {
     /// Tests the fragment of a worker's job.
     fn test_fragment(&self, worker: WorkerNumber) -> Tested
@@ -172,7 +146,7 @@ impl Coordinator {
         if !self.leaves.are_closed() {
             return Reaction::Taken;
         }
-        match join_over_units(
+        match join(
             self.alloc,
             &self.formula,
             &self.preamble,

@@ -1,19 +1,20 @@
 //! The coordinator: what it keeps, and how it begins.
 
 ghost use Rattle.std.specs.Prelude.{◌≡◌, ◌-◌, ◌≤◌, ◌<◌, ◌^◌, ◌↔◌, IsTrue, length, true, replicate, All, IfOk, OnOk, OnErr, OnSome, IfSome, MatchOption, None, Some};
-ghost use Rattle.dimacs.specs.logic.Cnf.{IsFormula};
+ghost use Rattle.dimacs.specs.logic.Cnf.{Cnf};
+ghost use Rattle.cube_split.specs.Pairs.{AreOf, Definitions, IsBaseWith};
 ghost use Rattle.lrat_check.specs.Verdicts.{Right};
 ghost use Rattle.lrat_check.specs.declared.verdict.Verdict.TheVariants.{Nothing};
 ghost use Rattle.evidence.specs.Evidence.{bytes_in};
 ghost use Rattle.evidence.specs.Events.{Lost, Silent};
 ghost use Rattle.evidence.specs.Jobs.{IsInside};
-ghost use Rattle.coordinator_core.specs.Coordinator.{CoordinatorStep, IsDeciding, IsWorker, job_at, new_coordinator, with_job};
+ghost use Rattle.coordinator_core.specs.Coordinator.{CoordinatorStep, IsDeciding, IsWorker, job_at, new_coordinator, restarted_coordinator, with_job};
 ghost use Rattle.coordinator_core.specs.Invariant.{IsCoordinator, IsJobAt};
 ghost use Rattle.coordinator_core.specs.declared.desks.Job.{Job};
 
 use crate::desks::Job;
 use crate::leaves::LeafTable;
-use cube_split::{Chooser, Preamble, preamble};
+use cube_split::{Chooser, Preamble, preamble_with};
 use dimacs::{Base, Formula};
 use frames::WorkerNumber;
 use icnf::Tree;
@@ -25,6 +26,8 @@ use std::marker::Model;
 pub struct Coordinator {
     pub(crate) alloc: Global,
     pub(crate) formula: Formula,
+    // how many definitions it wants, at most 64
+    pub(crate) defs: u32,
     pub(crate) preamble: Preamble,
     // made at the first split, so that later ones take no memory for it
     pub(crate) chooser: Option<Chooser>,
@@ -45,9 +48,9 @@ pub struct Coordinator {
 }
 
 impl Model for Coordinator {
-    ghost use Rattle.std.specs.Prelude.{◌≡◌};
-    ghost use Rattle.cube_split.specs.Definitions.{pure_opening};
-    ghost use Rattle.dimacs.specs.logic.Base.{base_of};
+    ghost use Rattle.std.specs.Prelude.{◌≡◌, ◌+◌, length};
+    ghost use Rattle.cube_split.specs.Definitions.{base_with};
+    ghost use Rattle.dimacs.specs.logic.Base.{pure_literals};
     ghost use Rattle.coordinator_core.specs.Coordinator.{CoordinatorState};
     ghost use Rattle.coordinator_core.specs.Invariant.{IsCoordinator};
     ghost use Rattle.coordinator_core.specs.Tables.{next_of};
@@ -57,6 +60,7 @@ impl Model for Coordinator {
 
     ghost view = { λ c. record {
       formula = c.formula;
+      definitions = record { wanted = c.defs; pairs = c.preamble.pairs };
       session = c.session;
       limit = c.limit;
       planted = c.planted;
@@ -70,8 +74,9 @@ impl Model for Coordinator {
       verdict = c.verdict;
     } };
 
-    ghost invariant = { λ c. (c.preamble ≡ pure_opening c.formula) × (c.base ≡ base_of c.formula) × IsCoordinator (record {
+    ghost invariant = { λ c. (c.preamble.units ≡ pure_literals c.formula) × (c.base ≡ base_with c.formula c.preamble.pairs) × IsCoordinator (record {
       formula = c.formula;
+      definitions = record { wanted = c.defs; pairs = c.preamble.pairs };
       session = c.session;
       limit = c.limit;
       planted = c.planted;
@@ -83,7 +88,7 @@ impl Model for Coordinator {
       next = next_of c.next;
       stuck = c.stuck;
       verdict = c.verdict;
-    }) × HasRoom c.formula.vars c.chooser };
+    }) × HasRoom (c.formula.vars + length c.preamble.pairs) c.chooser };
 }
 
 impl Drop for Coordinator {
@@ -91,6 +96,7 @@ impl Drop for Coordinator {
         let Coordinator {
             alloc: _,
             formula: _,
+            defs: _,
             preamble: _,
             chooser: _,
             base: _,
@@ -142,8 +148,27 @@ impl Coordinator {
         requires workers { (1 ≤ workers) × (workers ≤ 64) }
         ensures { IfOk result (λ c. c ≡ new_coordinator formula tree limit workers session) }
     {
+        Coordinator::with_defs(alloc, formula, tree, limit, workers, session, 0)
+    }
+
+    /// The same, over a base with as many definitions, 0 to 64, or fewer where no pair is left. It asks that the tree's variables are
+    /// the base's.
+    pub fn with_defs(
+        alloc: Global,
+        formula: Formula,
+        tree: Tree,
+        limit: u64,
+        workers: u32,
+        session: u64,
+        defs: u32,
+    ) -> Result<Coordinator, AllocError>
+        requires defs { defs ≤ 64 }
+        requires inside { (B : Cnf) → IsBaseWith formula defs B → All (IsInside B) tree }
+        requires workers { (1 ≤ workers) × (workers ≤ 64) }
+        ensures { IfOk result (λ c. (d : Definitions) × AreOf formula d × (d.wanted ≡ defs) × (c ≡ record (new_coordinator formula tree limit workers session) { definitions = d })) }
+    {
         let _ = formula.vars();
-        let preamble = preamble(alloc, &formula)?;
+        let preamble = preamble_with(alloc, &formula, defs)?;
         let base = preamble.base(alloc, &formula)?;
         let planted = tree.copy(alloc)?;
         let leaves = LeafTable::new(alloc, tree.leaves())?;
@@ -152,6 +177,7 @@ impl Coordinator {
         Ok(Coordinator {
             alloc,
             formula,
+            defs,
             preamble,
             chooser: None,
             base,
@@ -168,9 +194,9 @@ impl Coordinator {
         })
     }
 
-    /// Begins anew in another session, with the tree of its making. Want of memory leaves it as it was.
+    /// Begins anew in another session, with the tree of its making; the definitions stay. Want of memory leaves it as it was.
     pub fn restart(&mut self, session: u64) -> Result<(), AllocError>
-        ensures ok { OnOk result (self.new ≡ new_coordinator self.old.formula self.old.planted self.old.limit (length self.old.jobs) session) }
+        ensures ok { OnOk result (self.new ≡ restarted_coordinator self.old session) }
         ensures err { OnErr result (self.new ≡ self.old) }
     {
         let tree = self.planted.copy(self.alloc)?;
@@ -240,6 +266,7 @@ impl Coordinator {
         let Coordinator {
             alloc: _,
             formula: _,
+            defs: _,
             preamble: _,
             chooser: _,
             base: _,

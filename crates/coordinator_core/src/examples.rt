@@ -4,10 +4,12 @@ ghost use Rattle.std.specs.Prelude.{◌≡◌, [], ◌∷◌, true};
 ghost use Rattle.dimacs.specs.logic.Literal.{Pos, Neg};
 ghost use Rattle.lrat_check.specs.declared.verdict.Reaction.TheVariants.{Ignored, Taken};
 ghost use Rattle.frames.specs.declared.frame.Frame.TheVariants.{Task, Rest};
+ghost use Rattle.cube_split.specs.Pairs.{AreOf};
 ghost use Rattle.coordinator_core.specs.Coordinator.{CoordinatorState};
-ghost use Rattle.coordinator_core.specs.Examples.{begun, polled, sent, MetLimit};
+ghost use Rattle.coordinator_core.specs.Examples.{begun, begun_with_one, one_defined, polled, same_two, sent, MetLimit};
 
-/// The searches of one worker on every clause over two variables meet their limit, one after the other.
+/// The searches of one worker meet their limit, one after the other: on every clause over two variables, and on two clauses with a
+/// definition.
 pub fn worked_splits()
     // The whole formula is split on 1: the answer is taken once, and the cube `1` is asked for next.
     ensures first { (c : CoordinatorState) × (sent begun ≡ Task 1 1 100 []) × MetLimit (polled begun) 1 Taken c
@@ -16,4 +18,9 @@ pub fn worked_splits()
     ensures second { (c d e : CoordinatorState) × MetLimit (polled begun) 1 Taken c × MetLimit (polled c) 2 Taken d
         × (d.tree ≡ (Pos 1 ∷ Pos 2 ∷ []) ∷ (Pos 1 ∷ Neg 2 ∷ []) ∷ (Neg 1 ∷ []) ∷ [])
         × (sent d ≡ Task 1 3 100 (Pos 1 ∷ Pos 2 ∷ [])) × MetLimit (polled d) 3 Taken e × (e.stuck ≡ true) × (sent e ≡ Rest) }
+    // Of `1 -2` and `-1 2` the pair that is defined is 1 and -2, as 3.
+    ensures pair { AreOf same_two one_defined }
+    // It is split on 3; in the cube `3` both of the pair hold, so it cannot be split.
+    ensures defined { (c d : CoordinatorState) × MetLimit (polled begun_with_one) 1 Taken c × (c.tree ≡ (Pos 3 ∷ []) ∷ (Neg 3 ∷ []) ∷ [])
+        × (sent c ≡ Task 1 2 100 (Pos 3 ∷ [])) × MetLimit (polled c) 2 Taken d × (d.stuck ≡ true) }
 {}

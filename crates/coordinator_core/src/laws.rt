@@ -8,27 +8,27 @@ ghost use Rattle.lrat_check.specs.declared.verdict.Verdict.TheVariants.{Nothing}
 ghost use Rattle.frames.specs.declared.frame.Frame.TheVariants.{Idle};
 ghost use Rattle.evidence.specs.Events.{Event, Delivered, Given};
 ghost use Rattle.evidence.specs.Keeping.{formula_after};
-ghost use Rattle.coordinator_core.specs.Coordinator.{CoordinatorState, CoordinatorStep, new_coordinator};
+ghost use Rattle.coordinator_core.specs.Coordinator.{CoordinatorState, CoordinatorStep, restarted_coordinator};
 ghost use Rattle.coordinator_core.specs.Extending.{ExtendsCoordinator};
 ghost use Rattle.coordinator_core.specs.Invariant.{IsCoordinator};
 ghost use Rattle.coordinator_core.specs.Laws.{VerdictStays, StaysItself, ChangesNothing};
 
 use evidence::what_is_kept_is_right;
-use proof_join::joined_is_accepted;
+use proof_join::definitions_are_a_preamble;
 
 /// Whatever happens to a coordinator: what its type keeps is kept, and so at a restart; a verdict that it holds it keeps; the formula,
-/// the session, the limit, the tree that it was made with and the number of its workers stay; what it ignores, or finds no memory for,
-/// changes nothing; where it is stuck it holds no verdict, and the news that a worker has nothing to do brings none.
+/// the definitions, the session, the limit, the tree that it was made with and the number of its workers stay; what it ignores, or
+/// finds no memory for, changes nothing; where it is stuck it holds no verdict, and the news that a worker has nothing to do brings none.
 pub fn coordinators_keep_what_they_hold()
     ensures sound { (old : CoordinatorState) (event : Event) (given : Given) (new : CoordinatorState) → CoordinatorStep old event given new → IsCoordinator old → IsCoordinator new }
-    ensures anew { (c : CoordinatorState) (session : ℕ) → IsCoordinator c → IsCoordinator (new_coordinator c.formula c.planted c.limit (length c.jobs) session) }
+    ensures anew { (c : CoordinatorState) (session : ℕ) → IsCoordinator c → IsCoordinator (restarted_coordinator c session) }
     ensures verdict { (old : CoordinatorState) (event : Event) (given : Given) (new : CoordinatorState) → CoordinatorStep old event given new → VerdictStays old new }
     ensures itself { (old : CoordinatorState) (event : Event) (given : Given) (new : CoordinatorState) → CoordinatorStep old event given new → StaysItself old new }
     ensures nothing { (old : CoordinatorState) (event : Event) (given : Given) (new : CoordinatorState) → CoordinatorStep old event given new → ChangesNothing given old new }
     ensures stuck { (c : CoordinatorState) → IsCoordinator c → c.stuck ≡ true → c.verdict ≡ Nothing }
     ensures idle { (old : CoordinatorState) (worker incarnation : ℕ) (given : Given) (new : CoordinatorState) → CoordinatorStep old (Delivered (Idle worker incarnation)) given new → new.verdict ≡ old.verdict }
 {
-    joined_is_accepted();
+    definitions_are_a_preamble();
 }
 
 /// What the type of a coordinator keeps is kept where clauses are added to its formula; the formula that it has then is the one with

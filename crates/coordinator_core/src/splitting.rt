@@ -1,9 +1,9 @@
 //! A leaf whose search met its limit is split.
 
-ghost use Rattle.std.specs.Prelude.{◌≡◌, ℕ, ◌<◌, ◌++◌, ◌↔◌, IsTrue, [], length, map, slice_index_or, Some, None, IfOk, OnOk, OnErr};
-ghost use Rattle.dimacs.specs.logic.Base.{pure_literals};
-ghost use Rattle.cube_split.specs.Choice.{Choice};
-ghost use Rattle.coordinator_core.specs.Coordinator.{CanSplit, IsDeciding, MaySplit, MeetsLimit, cube_at, job_at, split};
+ghost use Rattle.std.specs.Prelude.{◌≡◌, ℕ, ◌+◌, ◌<◌, ◌↔◌, All, IsTrue, length, map, slice_index_or, Some, None, IfOk, OnOk, OnErr};
+ghost use Rattle.cube_split.specs.Choosing.{Chooses};
+ghost use Rattle.cube_split.specs.Definitions.{IsPairOf};
+ghost use Rattle.coordinator_core.specs.Coordinator.{CanSplit, IsDeciding, MaySplit, MeetsLimit, coordinator_opening, cube_at, job_at, split};
 ghost use Rattle.coordinator_core.specs.Splits.{shifted, shifted_job};
 ghost use Rattle.coordinator_core.specs.inner.Tables.{HasRoom};
 ghost use Rattle.coordinator_core.specs.declared.desks.Job.{Job};
@@ -24,14 +24,14 @@ fn choose(
     preamble: &Preamble,
     cube: &[Lit],
 ) -> Result<Option<Var>, AllocError>
-    requires room { HasRoom formula.now.vars tables.old }
-    requires plain { preamble.now.pairs ≡ [] }
-    ensures room { HasRoom formula.now.vars tables.new }
-    ensures choice { IfOk result (Choice formula.now (preamble.now.units ++ cube.now)) }
+    requires room { HasRoom (formula.now.vars + length preamble.now.pairs) tables.old }
+    requires pairs { All (IsPairOf formula.now.vars) preamble.now.pairs }
+    ensures room { HasRoom (formula.now.vars + length preamble.now.pairs) tables.new }
+    ensures choice { IfOk result (Chooses formula.now preamble.now cube.now) }
 {
     let mut chooser = match tables.take() {
         Some(chooser) => chooser,
-        None => Chooser::reserve(alloc, formula.vars())?,
+        None => Chooser::reserve(alloc, formula.vars() + preamble.pairs().len() as u32)?,
     };
     let choice = chooser.choose(formula, preamble, cube);
     *tables = Some(chooser);
@@ -117,7 +117,7 @@ impl Coordinator {
     /// The variable on which the leaf of a worker's job is split, if the rule chooses one. Nothing that shows changes.
     fn choice(&mut self, worker: WorkerNumber, leaf: usize) -> Result<Option<Var>, AllocError>
         requires { (j : Job) × (job_at self.old worker ≡ Some j) × (j.leaf ≡ leaf) }
-        ensures choice { IfOk result (Choice self.old.formula (pure_literals self.old.formula ++ cube_at self.old leaf)) }
+        ensures choice { IfOk result (Chooses self.old.formula (coordinator_opening self.old) (cube_at self.old leaf)) }
         ensures same { self.new ≡ self.old }
     {
         choose(

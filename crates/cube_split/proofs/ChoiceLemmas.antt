@@ -27,7 +27,7 @@ not_negative : (w : ℕ) (l : Literal) → var_of l ≢ w → same (Neg w) l ≡
 not_negative w (Pos v) ne = refl
 not_negative w (Neg v) ne = ne_eqb w v (λ e. ne (sym e))
 
-free_from : (S : List Literal) (w : ℕ) → has S (Pos w) ≡ false → has S (Neg w) ≡ false → IsFree S w
+pub free_from : (S : List Literal) (w : ℕ) → has S (Pos w) ≡ false → has S (Neg w) ≡ false → IsFree S w
 free_from [] w p n = All-nil (λ l. var_of l ≢ w)
 free_from (l ∷ S) w p n =
     let ps = or_parts (same (Pos w) l) (has S (Pos w)) p in

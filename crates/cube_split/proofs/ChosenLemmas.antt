@@ -1,5 +1,5 @@
 -- Trees over definitions.
-use Rattle.std.proofs.Common.{◌≡◌, ◌≢◌, ℕ, suc, ◌+◌, ◌<◌, ◌≤◌, ◌⊎◌, inl, inr, List, [], ◌∷◌, ◌++◌, length, Option, Some, None, IfSome, sym, ap, ◌∙◌, subst, arith, append_assoc}
+use Rattle.std.proofs.Common.{◌≡◌, ◌≢◌, ℕ, suc, ◌+◌, ◌<◌, ◌≤◌, ◌⊎◌, inl, inr, List, [], ◌∷◌, ◌++◌, length, Some, None, sym, ap, ◌∙◌, subst, arith, append_assoc}
 use Rattle.std.specs.List.{All}
 use Rattle.std.proofs.lemmas.Bool.{cases_eq, cases_lt}
 use Rattle.std.proofs.lemmas.List.Elements.{All-nil, All-cons, All-append}
@@ -21,7 +21,7 @@ free_below : (F : Cnf) (o : Opening) (path : Cube) (v : ℕ) → IsFree (holding
 free_below F o path v free =
     all_back (λ l. var_of l ≢ v) o.units path (all_front (λ l. var_of l ≢ v) (o.units ++ path) (held_by (o.units ++ path) (F.vars + 1) o.pairs) free)
 
-chosen_free : (F : Cnf) (o : Opening) (path : Cube) (v : ℕ) → Chooses F o path (Some v) → IsFree path v
+pub chosen_free : (F : Cnf) (o : Opening) (path : Cube) (v : ℕ) → Chooses F o path (Some v) → IsFree path v
 chosen_free F o path v (IsChosen.defined i unknown lowest e) = subst (IsFree path) (sym (same_number v (F.vars + 1 + i) e)) (free_below F o path (F.vars + 1 + i) unknown.itself)
 chosen_free F o path v (IsChosen.plain none choice) = free_below F o path v choice.free
 
@@ -88,7 +88,3 @@ pub chosen_all : (F : Cnf) (o : Opening) (levels : ℕ) (path : Cube) (before af
 chosen_all F o levels path before after none start h =
     let all : after ≡ h.cubes = h.appended ∙ ap (λ (cs : List Cube). cs ++ h.cubes) none in
     subst (λ (q : Cube). IsSplitBy (Chooses F o) levels q after) start (subst (IsSplitBy (Chooses F o) levels path) (sym all) h.below)
-
-pub some_chosen : (F : Cnf) (o : Opening) (path : Cube) (levels : ℕ) (r : Option ℕ) → 0 < levels → Chooses F o path r → IfSome r (λ v. (0 < levels) × Chooses F o path (Some v))
-some_chosen F o path levels None some h = tt
-some_chosen F o path levels (Some v) some h = (some, h)

@@ -19,7 +19,7 @@ use Rattle.cube_split.proofs.ChoiceLemmas.{free_unmarked, unmarked_from}
 use Rattle.cube_split.proofs.MarkLemmas.{marked_at, marked_same}
 
 -- ---- what is held
-abbrev brings : List Literal → ℕ → Pair → List Literal
+abbrev pub brings : List Literal → ℕ → Pair → List Literal
 brings S d p = cond (has S (Pos d)) (p.first ∷ p.second ∷ []) []
 
 held_push : (S : List Literal) (d : ℕ) (xs : List Pair) (p : Pair) → held_by S d (xs ++ p ∷ []) ≡ held_by S d xs ++ brings S (d + length xs) p
@@ -28,7 +28,7 @@ held_push S d (x ∷ xs) p =
     ap (λ (ls : List Literal). brings S d x ++ ls) (held_push S (d + 1) xs p ∙ ap (λ (n : ℕ). held_by S (d + 1) xs ++ brings S n p) (let e : d + 1 + length xs ≡ d + length (x ∷ xs) = omega arith in e))
     ∙ sym (append_assoc (brings S d x) (held_by S (d + 1) xs) (brings S (d + length (x ∷ xs)) p))
 
-has_append : (xs ys : List Literal) (l : Literal) → has (xs ++ ys) l ≡ (has xs l || has ys l)
+pub has_append : (xs ys : List Literal) (l : Literal) → has (xs ++ ys) l ≡ (has xs l || has ys l)
 has_append xs ys l = list_any-append (same l) xs ys
 
 -- a literal of a higher variable is in no pair

@@ -1,42 +1,27 @@
 -- Trees that are split by the rule.
-use Rattle.std.proofs.Common.{◌≡◌, ◌≢◌, ℕ, suc, ◌*◌, ◌^◌, ◌<◌, ◌≤◌, List, [], ◌∷◌, ◌++◌, length, ap, ◌∙◌, arith, ⊎_elim, ◌⊎◌, inl, inr, length-append, append_assoc, take, ◌-◌, Result, Ok, Err, IfOk, OnOk}
+use Rattle.std.proofs.Common.{◌≡◌, ℕ, suc, ◌*◌, ◌^◌, ◌<◌, ◌≤◌, List, [], ◌∷◌, ◌++◌, ap, arith, ⊎_elim, inl, inr, None, Some, refl, subst, Result, Ok, Err, IfOk, OnOk}
 use Rattle.std.specs.List.{All}
 use Rattle.std.proofs.lemmas.List.Elements.{All-append, All-cons, All-nil, All-push}
 use Rattle.std.proofs.Math.Nat.{pow-suc}
 use Rattle.std.proofs.lemmas.Nat.{pow_pos, pow_below}
 use Rattle.std.proofs.lemmas.Bool.{cases_lt, cases_eq}
-use Rattle.std.proofs.lemmas.List.{take_at}
-use Rattle.std.proofs.lemmas.List.Elements.{All-tail}
+use Rattle.dimacs.specs.logic.Base.{pure_literals}
 use Rattle.dimacs.specs.logic.Cnf.{Cnf, AreWithin, greatest_in}
-use Rattle.dimacs.specs.logic.Literal.{Literal, Pos, Neg, var_of, IsWithin}
-use Rattle.icnf.specs.Leaves.{Cube, IsFree, Leaves, leaf, fork}
+use Rattle.dimacs.specs.logic.Literal.{Literal, Pos, Neg, IsWithin}
+use Rattle.icnf.specs.Leaves.{Cube}
 use Rattle.icnf.proofs.StateLemmas.{clauses_within}
-use Rattle.cube_split.specs.Choice.{IsChoice, HasNoChoice}
+use Rattle.cube_split.specs.Choice.{IsChoice}
+use Rattle.cube_split.specs.Choosing.{Chooses, IsSplitBy, IsTreeWith}
+use Rattle.cube_split.specs.Definitions.{Opening, pure_opening}
 use Rattle.cube_split.specs.Splitting.{IsSplit, full, whole, split, IsTreeOf}
-use Rattle.cube_split.specs.inner.Splitting.{AppendsSplit}
 use Rattle.cube_split.proofs.ChoiceLemmas.{stands_nowhere}
-
-free_behind : (xs ys : List Literal) (v : ℕ) → IsFree (xs ++ ys) v → IsFree ys v
-free_behind [] ys v h = h
-free_behind (x ∷ xs) ys v h = free_behind xs ys v (All-tail (λ l. var_of l ≢ v) x (xs ++ ys) h)
-
--- the cubes are the leaves below the path
-pub split_leaves : {f : Cnf} {units : List Literal} {levels : ℕ} {path : Cube} {cubes : List Cube} → IsSplit f units levels path cubes → Leaves path cubes
-split_leaves full = leaf
-split_leaves (whole none) = leaf
-split_leaves {units = units} (split {path = path} v choice left right) = fork (Pos v) (free_behind units path v choice.free) (split_leaves left) (split_leaves right)
+use Rattle.cube_split.proofs.HeldLemmas.{plain_choice}
 
 pub double : (k : ℕ) → 2 ^ suc k ≡ 2 * 2 ^ k
 double k = omega (arith, pow-suc 2 k)
 
 pub power_some : (k : ℕ) → 0 < 2 ^ k
 power_some k = pow_pos k
-
--- no more cubes than so many levels give
-pub split_count : {f : Cnf} {units : List Literal} {levels : ℕ} {path : Cube} {cubes : List Cube} → IsSplit f units levels path cubes → length cubes ≤ 2 ^ levels
-split_count full = omega arith
-split_count (whole {levels = k} none) = omega (arith, power_some k)
-split_count (split {levels = k} {left = l} {right = r} v choice left right) = omega (arith, split_count left, split_count right, double k, length-append l r)
 
 -- one cube alone
 one_within : (n : ℕ) (path : Cube) → All (IsWithin n) path → AreWithin n (path ∷ [])
@@ -65,39 +50,25 @@ split_within {f = f} {units = units} within h (split {path = path} {left = l} {r
     (split_within within (All-push (IsWithin (greatest_in f.clauses)) path (Pos v) h here) left)
     (split_within within (All-push (IsWithin (greatest_in f.clauses)) path (Neg v) h here) right)
 
--- the path alone
-pub appends_leaf : (f : Cnf) (units : List Literal) (levels : ℕ) (path : Cube) (before after : List Cube) → after ≡ before ++ path ∷ [] → (levels ≡ 0) ⊎ HasNoChoice f (units ++ path) → AppendsSplit f units levels path before after
-appends_leaf f units levels path before after e why = record {
-  cubes = path ∷ [];
-  appended = e;
-  below = ⊎_elim (λ (z : levels ≡ 0). rw z full) (λ (none : HasNoChoice f (units ++ path)). whole none) why;
-}
+-- without definitions they are the trees of the plain rule
+pub plain_split : (F : Cnf) (units : List Literal) (levels : ℕ) (path : Cube) (cubes : List Cube) → IsSplitBy (Chooses F (record { units = units; pairs = [] })) levels path cubes → IsSplit F units levels path cubes
+plain_split F units _ path _ IsSplitBy.full = full
+plain_split F units _ path _ (IsSplitBy.whole none) = whole (plain_choice F units [] path None refl none)
+plain_split F units _ path _ (IsSplitBy.split {levels = levels} {left = left} {right = right} v choice one two) =
+    split v (plain_choice F units [] path (Some v) refl choice) (plain_split F units levels (path ++ Pos v ∷ []) left one) (plain_split F units levels (path ++ Neg v ∷ []) right two)
 
--- the cubes of both branches
-pub appends_both : (f : Cnf) (units : List Literal) (levels less v : ℕ) (path : Cube) (before between after : List Cube) → levels ≡ suc less → IsChoice f (units ++ path) v
-    → AppendsSplit f units less (path ++ Pos v ∷ []) before between → AppendsSplit f units less (path ++ Neg v ∷ []) between after → AppendsSplit f units levels path before after
-appends_both f units levels less v path before between after e choice left right = record {
-  cubes = left.cubes ++ right.cubes;
-  appended = right.appended ∙ ap (λ (cs : List Cube). cs ++ right.cubes) left.appended ∙ append_assoc before left.cubes right.cubes;
-  below = rw e (split v choice left.below right.below);
-}
+pub plain_tree : (E : Type 0) (F : Cnf) (o : Opening) (depth : ℕ) (r : Result (List Cube) E) → o ≡ pure_opening F → IfOk r (IsTreeWith F o depth) → IfOk r (IsTreeOf F depth)
+plain_tree E F o depth (Ok t) pure h = plain_split F (pure_literals F) depth [] t (subst (λ (q : Opening). IsTreeWith F q depth t) pure h)
+plain_tree E F o depth (Err e) pure h = tt
+
+pub plain_within : (E : Type 0) (F : Cnf) (depth : ℕ) (r : Result (List Cube) E) → AreWithin F.vars F.clauses → IfOk r (IsTreeOf F depth) → IfOk r (AreWithin (greatest_in F.clauses))
+plain_within E F depth (Ok t) within h = split_within within (All-nil (IsWithin (greatest_in F.clauses))) h
+plain_within E F depth (Err e) within h = tt
 
 -- a fact of what an Ok leaves
 pub on_ok : {A E : Type 0} (r : Result A E) (P Q : Type 0) → (P → Q) → OnOk r P → OnOk r Q
 on_ok (Ok x) P Q f h = f h
 on_ok (Err e) P Q f h = h
-
--- a path without its last literal
-pub popped : (old new path : List Literal) (n : ℕ) (l : Literal) → old ≡ path ++ l ∷ [] → n ≡ length old → new ≡ take (n - 1) old → new ≡ path
-popped old new path n l is len e =
-    let size : length path ≡ n - 1 = omega (arith, ap (λ (xs : List Literal). length xs) is, length-append path (l ∷ [])) in
-    e ∙ ap (take (n - 1)) is ∙ take_at path (l ∷ []) (n - 1) size
-
--- all cubes, where none stood before
-pub appends_all : (f : Cnf) (units : List Literal) (levels : ℕ) (path : Cube) (before after : List Cube) → before ≡ [] → path ≡ [] → AppendsSplit f units levels path before after → IsSplit f units levels [] after
-appends_all f units levels path before after none start h =
-    let all : after ≡ h.cubes = h.appended ∙ ap (λ (cs : List Cube). cs ++ h.cubes) none in
-    rw (all, ← start) h.below
 
 -- a tree of no levels is one leaf
 pub leaf_alone : (E : Type 0) (f : Cnf) (r : Result (List Cube) E) → IfOk r (λ t. t ≡ [] ∷ []) → IfOk r (IsTreeOf f 0)

@@ -1,22 +1,24 @@
 -- The tables of a walk, as its path goes on and back.
-use Rattle.std.proofs.Common.{◌≡◌, ℕ, ◌+◌, ◌*◌, ◌<◌, ◌≤◌, Bool, true, false, ◌||◌, List, [], ◌∷◌, ◌++◌, length, get_or, set, take, All, Option, IfSome, IfNone, ◌-◌, if◌then◌else◌, not, refl, sym, ap, subst, ◌∙◌, arith, ⊎_elim, inr, append_assoc, get_or-set_same, get_or-set_other, length-set, length-append}
+use Rattle.std.proofs.Common.{◌≡◌, ℕ, ◌+◌, ◌*◌, ◌<◌, ◌≤◌, Bool, true, false, ◌||◌, List, [], ◌∷◌, ◌++◌, length, get_or, set, take, All, Option, IfSome, IfNone, ◌-◌, if◌then◌else◌, not, refl, sym, ap, ◌∙◌, arith, ⊎_elim, append_assoc, get_or-set_same, get_or-set_other, length-set, length-append}
 use Rattle.std.specs.List.{list_any}
 use Rattle.std.proofs.lemmas.Bool.{cases_eq, cases_lt, ne_eqb}
 use Rattle.std.proofs.Math.Seq.{get_or-append_seam}
 use Rattle.std.proofs.lemmas.List.{get_or_append_left, get_or-take, length-take-le, append-nil}
+use Rattle.std.proofs.lemmas.List.Elements.{All-weaker}
 use Rattle.std.proofs.lemmas.List.Folds.{list_any-append}
-use Rattle.dimacs.specs.logic.Cnf.{Cnf, IsFormula}
+use Rattle.dimacs.specs.logic.Cnf.{Cnf, AreWithin, IsFormula}
 use Rattle.dimacs.specs.inner.Codes.{index_of-literal_of}
-use Rattle.dimacs.specs.logic.Literal.{Literal, Pos, Neg, Clause, same, has, var_of, index_of, literal_of}
+use Rattle.dimacs.specs.logic.Literal.{Literal, Pos, Neg, Clause, IsWithin, same, has, var_of, index_of, literal_of}
 use Rattle.icnf.specs.Leaves.{Cube, IsFree}
-use Rattle.cube_split.specs.Choice.{Choice, IsChoice, stands_in}
+use Rattle.cube_split.specs.Choice.{Choice, stands_in}
+use Rattle.cube_split.specs.Definitions.{Opening}
 use Rattle.cube_split.specs.inner.Marks.{AreMarked, IsUnmarked, IsGreatest}
 use Rattle.cube_split.specs.inner.Open.{AreTurned, open_count}
 use Rattle.cube_split.specs.inner.Places.{clause_of, ArePlaced, AreChained}
 use Rattle.cube_split.specs.inner.Tallies.{AreListed}
-use Rattle.cube_split.specs.inner.Walking.{StandsAt, IsClosedBy, closed_at}
+use Rattle.cube_split.specs.inner.Walking.{StandsAt, IsClosedBy, closed_at, from_start, widened}
 use Rattle.cube_split.specs.declared.walk.Walk.{Walk}
-use Rattle.cube_split.proofs.ChoiceLemmas.{free_positive, free_negative, AreTables, choice_is, stands_nowhere}
+use Rattle.cube_split.proofs.ChoiceLemmas.{free_positive, free_negative, AreTables, choice_is}
 use Rattle.cube_split.proofs.LevelLemmas.{closed_more, closed_less, stands_are, stands_less}
 use Rattle.cube_split.proofs.PlaceLemmas.{indexed}
 use Rattle.cube_split.proofs.MarkLemmas.{mark_one, mark_none, marked_same, literal_of-index_of, same_by_place}
@@ -66,11 +68,11 @@ marked_less marks units path l inside free h = record {
 
 -- one literal on
 pub entered : (f : Cnf) (units : List Literal) (path : Cube) (l : Literal) (s t : Walk) → StandsAt f units path s → index_of l < length s.marks.items → t.places ≡ s.places → t.variables ≡ s.variables
-    → t.marks.items ≡ set s.marks.items (index_of l) true → AreTurned (length s.closed.items) (clauses_of s) l 0 (length path + 2) s.closed.items t.closed.items → length t.counts.items ≡ length s.counts.items
+    → t.level ≡ s.level + 1 → t.marks.items ≡ set s.marks.items (index_of l) true → AreTurned (length s.closed.items) (clauses_of s) l 0 s.level s.closed.items t.closed.items → length t.counts.items ≡ length s.counts.items
     → ((w : ℕ) → w < length s.counts.items → get_or t.counts.items w 0 ≡ open_count (length s.closed.items) (clauses_of s) t.closed.items w) → StandsAt f units (path ++ l ∷ []) t
-entered f units path l s t h inside places variables marks turned size counted =
+entered f units path l s t h inside places variables level marks turned size counted =
     let rows : (i : ℕ) → i < length f.clauses → get_or t.closed.items i 0 ≡ closed_at units (path ++ l ∷ []) (clauses_of s i) =
-    closed_more (length f.clauses) (clauses_of s) units path l s.closed.items t.closed.items (subst (λ (n : ℕ). AreTurned n (clauses_of s) l 0 (length path + 2) s.closed.items t.closed.items) h.size turned) (closed_by f units path s h) in
+    closed_more (length f.clauses) (clauses_of s) units path l s.closed.items t.closed.items (rw (← h.level, ← h.size) turned) (closed_by f units path s h) in
     record {
       vars = h.vars;
       few = h.few;
@@ -85,16 +87,18 @@ entered f units path l s t h inside places variables marks turned size counted =
       listed = rw variables h.listed;
       marked = rw marks (marked_more s.marks.items units path l inside h.marked);
       closed = λ i b. rows i b ∙ ap (closed_at units (path ++ l ∷ [])) (h.clauses i b);
+      level = omega (arith, level, h.level, length-append path (l ∷ []));
       counted = λ w b. counted w (omega arith) ∙ ap (λ (n : ℕ). open_count n (clauses_of s) t.closed.items w) h.size ∙ stands_are f.clauses (clauses_of s) units (path ++ l ∷ []) t.closed.items w h.clauses rows;
     }
 
 -- and back
 pub left : (f : Cnf) (units : List Literal) (path : Cube) (l : Literal) (s t : Walk) → StandsAt f units (path ++ l ∷ []) s → IsFree (units ++ path) (var_of l) → index_of l < length s.marks.items → t.places ≡ s.places → t.variables ≡ s.variables
-    → t.marks.items ≡ set s.marks.items (index_of l) false → AreTurned (length s.closed.items) (clauses_of s) l (length path + 2) 0 s.closed.items t.closed.items → length t.counts.items ≡ length s.counts.items
+    → t.level + 1 ≡ s.level → t.marks.items ≡ set s.marks.items (index_of l) false → AreTurned (length s.closed.items) (clauses_of s) l t.level 0 s.closed.items t.closed.items → length t.counts.items ≡ length s.counts.items
     → ((w : ℕ) → w < length s.counts.items → get_or t.counts.items w 0 ≡ open_count (length s.closed.items) (clauses_of s) t.closed.items w) → StandsAt f units path t
-left f units path l s t h free inside places variables marks turned size counted =
+left f units path l s t h free inside places variables level marks turned size counted =
+    let here : t.level ≡ length path + 2 = omega (arith, level, h.level, length-append path (l ∷ [])) in
     let rows : (i : ℕ) → i < length f.clauses → get_or t.closed.items i 0 ≡ closed_at units path (clauses_of s i) =
-    closed_less (length f.clauses) (clauses_of s) units path l s.closed.items t.closed.items (subst (λ (n : ℕ). AreTurned n (clauses_of s) l (length path + 2) 0 s.closed.items t.closed.items) h.size turned) (closed_by f units (path ++ l ∷ []) s h) in
+    closed_less (length f.clauses) (clauses_of s) units path l s.closed.items t.closed.items (rw (← here, ← h.size) turned) (closed_by f units (path ++ l ∷ []) s h) in
     record {
       vars = h.vars;
       few = h.few;
@@ -109,6 +113,7 @@ left f units path l s t h free inside places variables marks turned size counted
       listed = rw variables h.listed;
       marked = rw marks (marked_less s.marks.items units path l inside free h.marked);
       closed = λ i b. rows i b ∙ ap (closed_at units path) (h.clauses i b);
+      level = here;
       counted = λ w b. counted w (omega arith) ∙ ap (λ (n : ℕ). open_count n (clauses_of s) t.closed.items w) h.size ∙ stands_are f.clauses (clauses_of s) units path t.closed.items w h.clauses rows;
     }
 
@@ -119,19 +124,19 @@ index_fits (Neg v) vars n m h e x = omega arith
 
 -- the same, where the tables were lent
 pub entered_by : (f : Cnf) (units : List Literal) (path : Cube) (l : Literal) (s t : Walk) (oc on nc nn : List ℕ) → StandsAt f units path s → index_of l < length s.marks.items → t.places ≡ s.places → t.variables ≡ s.variables
-    → t.marks.items ≡ set s.marks.items (index_of l) true → oc ≡ s.closed.items → on ≡ s.counts.items → t.closed.items ≡ nc → t.counts.items ≡ nn → AreTurned (length oc) (clauses_of s) l 0 (length path + 2) oc nc → length nn ≡ length on
+    → t.level ≡ s.level + 1 → t.marks.items ≡ set s.marks.items (index_of l) true → oc ≡ s.closed.items → on ≡ s.counts.items → t.closed.items ≡ nc → t.counts.items ≡ nn → AreTurned (length oc) (clauses_of s) l 0 s.level oc nc → length nn ≡ length on
     → ((w : ℕ) → w < length on → get_or nn w 0 ≡ open_count (length oc) (clauses_of s) nc w) → StandsAt f units (path ++ l ∷ []) t
-entered_by f units path l s t oc on nc nn h inside places variables marks olds oldn news newn turned size counted =
-    entered f units path l s t h inside places variables marks
+entered_by f units path l s t oc on nc nn h inside places variables level marks olds oldn news newn turned size counted =
+    entered f units path l s t h inside places variables level marks
     (rw (news, ← olds) turned)
     (rw (newn, ← oldn) size)
     (rw (newn, news, ← olds, ← oldn) counted)
 
 pub left_by : (f : Cnf) (units : List Literal) (path : Cube) (l : Literal) (s t : Walk) (oc on nc nn : List ℕ) → StandsAt f units (path ++ l ∷ []) s → IsFree (units ++ path) (var_of l) → index_of l < length s.marks.items → t.places ≡ s.places → t.variables ≡ s.variables
-    → t.marks.items ≡ set s.marks.items (index_of l) false → oc ≡ s.closed.items → on ≡ s.counts.items → t.closed.items ≡ nc → t.counts.items ≡ nn → AreTurned (length oc) (clauses_of s) l (length path + 2) 0 oc nc → length nn ≡ length on
+    → t.level + 1 ≡ s.level → t.marks.items ≡ set s.marks.items (index_of l) false → oc ≡ s.closed.items → on ≡ s.counts.items → t.closed.items ≡ nc → t.counts.items ≡ nn → AreTurned (length oc) (clauses_of s) l t.level 0 oc nc → length nn ≡ length on
     → ((w : ℕ) → w < length on → get_or nn w 0 ≡ open_count (length oc) (clauses_of s) nc w) → StandsAt f units path t
-left_by f units path l s t oc on nc nn h free inside places variables marks olds oldn news newn turned size counted =
-    left f units path l s t h free inside places variables marks
+left_by f units path l s t oc on nc nn h free inside places variables level marks olds oldn news newn turned size counted =
+    left f units path l s t h free inside places variables level marks
     (rw (news, ← olds) turned)
     (rw (newn, ← oldn) size)
     (rw (newn, news, ← olds, ← oldn) counted)
@@ -185,38 +190,38 @@ closed_push test clauses i x closed below is h =
 pub closed_none : (test : Literal → Bool) (clauses : List Clause) → IsClosedBy test (take 0 clauses) []
 closed_none test clauses = record { size = refl; level = λ k b. absurd (omega arith) }
 
--- a walk at the empty path
-pub begins : (f : Cnf) (units : List Literal) (s : Walk) → IsFormula f → ArePlaced f.clauses (length f.clauses) s.places.places.items s.places.starts.items → AreChained s.places.places.items s.places.latest.items
-    → All (λ e. var_of e.literal < f.vars + 1) s.places.places.items → length s.places.latest.items ≡ 2 * (f.vars + 1) → AreMarked s.marks.items (has units) → length s.marks.items ≡ 2 * (f.vars + 1) → IsClosedBy (has units) f.clauses s.closed.items
-    → ((w : ℕ) → w ≤ f.vars → get_or s.counts.items w 0 ≡ stands_in f.clauses units w) → length s.counts.items ≡ f.vars + 1 → AreListed s.counts.items s.variables.items → StandsAt f units [] s
-begins f units s valid placed chained within latest marked marks closed counted size listed =
+within_more : (n m : ℕ) (clauses : List Clause) → n ≤ m → AreWithin n clauses → AreWithin m clauses
+within_more n m clauses le h = All-weaker (All (IsWithin n)) (All (IsWithin m)) (λ C w. All-weaker (IsWithin n) (IsWithin m) (λ l i. (i.0, omega (arith, i.1))) C w) clauses h
+
+-- a walk at the empty trail
+pub begins : (F : Cnf) (o : Opening) (rows : ℕ) (s : Walk) → IsFormula F → length o.pairs ≤ 64 → rows ≡ F.vars + length o.pairs + 1
+    → ArePlaced F.clauses (length F.clauses) s.places.places.items s.places.starts.items → AreChained s.places.places.items s.places.latest.items
+    → All (λ e. var_of e.literal < rows) s.places.places.items → length s.places.latest.items ≡ 2 * rows → AreMarked s.marks.items (has (from_start F o)) → length s.marks.items ≡ 2 * rows
+    → IsClosedBy (has (from_start F o)) F.clauses s.closed.items → ((w : ℕ) → w < rows → get_or s.counts.items w 0 ≡ stands_in F.clauses (from_start F o) w) → length s.counts.items ≡ rows
+    → AreListed s.counts.items s.variables.items → s.level ≡ 2 → StandsAt (widened F o) (from_start F o) [] s
+begins F o rows s valid few number placed chained within latest marked marks closed counted size listed level =
+    let units : List Literal = from_start F o in
     let all : units ++ [] ≡ units = append-nil units in
     record {
-      vars = valid.vars;
+      vars = omega (arith, valid.vars);
       few = valid.clauses;
-      within = valid.within;
-      rows = size;
+      within = within_more F.vars (F.vars + length o.pairs) F.clauses (omega arith) valid.within;
+      rows = size ∙ number;
       marks = omega arith;
       latest = omega arith;
       size = closed.size;
-      indexed = indexed f.clauses s.places.places.items s.places.starts.items s.places.latest.items placed chained;
+      indexed = indexed F.clauses s.places.places.items s.places.starts.items s.places.latest.items placed chained;
       clauses = λ i b. (placed.here i b).literals;
       inside = rw size within;
       listed = record {
         inside = λ k b. let was = listed.inside k b in (was.0, omega (arith, was.1));
-        listed = λ w a b some. listed.listed w a (omega arith) (omega (arith, counted w b));
+        listed = λ w a b some. listed.listed w a (omega arith) (omega (arith, counted w (omega arith)));
       };
       marked = rw all marked;
-      closed = λ i b. closed.level i b ∙ level (list_any (has units) (get_or f.clauses i []));
+      closed = λ i b. closed.level i b ∙ at_start (list_any (has units) (get_or F.clauses i []));
+      level = level;
       counted = λ w b. rw all (counted w (omega arith));
     } where
-      level : (b : Bool) → ◌≡◌ {A = ℕ} (if b then 1 else 0) (if not b then 0 else 1)
-      level true = refl
-      level false = refl
-
--- a chosen variable is one of the formula's
-pub choice_inside : (f : Cnf) (units : List Literal) (path : Cube) (s : Walk) (v : ℕ) → StandsAt f units path s → IsChoice f (units ++ path) v → v ≤ f.vars
-choice_inside f units path s v h choice = ⊎_elim
-    (λ (out : f.vars < v). let none = stands_nowhere f.vars v f.clauses (units ++ path) (inr out) h.within in absurd (omega (arith, choice.some)))
-    (λ (inside : v ≤ f.vars). inside)
-    (cases_lt f.vars v)
+      at_start : (b : Bool) → ◌≡◌ {A = ℕ} (if b then 1 else 0) (if not b then 0 else 1)
+      at_start true = refl
+      at_start false = refl

@@ -3,7 +3,7 @@ use Rattle.std.specs.Prelude.{◌≡◌, ◌≢◌, ℕ, zero, suc, ◌<◌, ◌
 use Rattle.dimacs.specs.logic.Base.{pure_literals}
 use Rattle.dimacs.specs.logic.Cnf.{Cnf}
 use Rattle.dimacs.specs.logic.Literal.{Literal, Clause, has, var_of, is_negative}
-use Rattle.cube_split.specs.Definitions.{IsPairOf}
+use Rattle.cube_split.specs.Definitions.{IsPairOf, base_with}
 use Rattle.cube_split.specs.declared.pair.Pair.{Pair}
 
 -- how many distinct literals a clause has
@@ -50,3 +50,22 @@ pub data AreDefined (F : Cnf) : ℕ → List Pair → List Pair → Type 0 where
   all : {taken : List Pair} → AreDefined F zero taken []
   none : {left : ℕ} {taken : List Pair} → ((q : Pair) → IsCandidate F q → ¬ (Contains taken q) → together F.clauses q ≡ 0) → AreDefined F left taken []
   next : {left : ℕ} {taken pairs : List Pair} (p : Pair) → IsNext F taken p → AreDefined F left (taken ++ p ∷ []) pairs → AreDefined F (suc left) taken (p ∷ pairs)
+
+-- how many definitions are wanted, and the pairs that are defined
+pub record Definitions : Type 0 where
+  pub wanted : ℕ
+  pub pairs : List Pair
+
+abbrev pub no_definitions : Definitions
+no_definitions = record { wanted = 0; pairs = [] }
+
+-- they are the formula's, and few
+pub record AreOf (F : Cnf) (d : Definitions) : Type 0 where
+  pub defined : AreDefined F d.wanted [] d.pairs
+  pub few : d.wanted ≤ 64
+
+-- the base of a formula with as many definitions as are wanted
+pub record IsBaseWith (F : Cnf) (wanted : ℕ) (B : Cnf) : Type 0 where
+  pub pairs : List Pair
+  pub defined : AreDefined F wanted [] pairs
+  pub is : B ≡ base_with F pairs

@@ -1,7 +1,7 @@
 //! Defined variables in a table of marks: what they bring with them, and which are open.
 
-ghost use Rattle.std.specs.Prelude.{◌≡◌, ℕ, ◌+◌, ◌*◌, ◌<◌, ◌≤◌, ◌++◌, ◌&&◌, not, Bool, List, true, false, length, All, IfSome, IfNone};
-ghost use Rattle.dimacs.specs.logic.Literal.{Literal, has, var_of};
+ghost use Rattle.std.specs.Prelude.{◌≡◌, ◌≢◌, ℕ, ◌+◌, ◌*◌, ◌<◌, ◌≤◌, ◌++◌, ◌&&◌, not, Bool, List, Some, true, false, length, slice_get, All, IfSome, IfNone};
+ghost use Rattle.dimacs.specs.logic.Literal.{Literal, Pos, has, var_of};
 ghost use Rattle.cube_split.specs.Choosing.{held_by};
 ghost use Rattle.cube_split.specs.Definitions.{IsPairOf};
 ghost use Rattle.cube_split.specs.inner.Marks.{AreMarked, IsUnmarked, IsOpenBy, literals_of};
@@ -24,6 +24,23 @@ pub(crate) fn mark_held(marks: &mut [bool], vars: u32, pairs: &[Pair])
         if marks[Lit::positive(Var::new(variable)).index()] {
             mark(marks, &[pair.first, pair.second]);
         }
+    }
+}
+
+/// The pair that holds with a literal, which is then a defined variable.
+pub(crate) fn held_pair(vars: u32, pairs: &[Pair], literal: Lit) -> Option<Pair>
+    ensures some { IfSome result (λ p. (i : ℕ) × (literal ≡ Pos (vars + 1 + i)) × (slice_get pairs.now i ≡ Some p)) }
+    ensures none { IfNone result ((i : ℕ) → i < length pairs.now → literal ≢ Pos (vars + 1 + i)) }
+{
+    let variable = literal.var().number();
+    if literal.is_negative() || variable <= vars {
+        return None;
+    }
+    let place = (variable - vars) as usize - 1;
+    if place < pairs.len() {
+        Some(pairs[place])
+    } else {
+        None
     }
 }
 

@@ -6,8 +6,8 @@
 #![tactic(auto)]
 
 mod chooser;
-mod defined_tree;
 mod definitions;
+mod descent;
 mod gathering;
 mod greatest;
 mod laws;
@@ -23,9 +23,8 @@ mod units;
 mod walk;
 
 pub use chooser::Chooser;
-pub use defined_tree::tree_with;
-pub use laws::units_are_rat;
+pub use laws::{choices_are_free, definitions_are_settled, units_are_rat, without_definitions};
 pub use pair::Pair;
 pub use pure::{preamble, preamble_with};
-pub use splitting::{grow, tree};
+pub use splitting::{grow, tree, tree_with};
 pub use units::Preamble;

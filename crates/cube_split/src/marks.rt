@@ -22,7 +22,7 @@ pub(crate) fn mark(marks: &mut [bool], literals: &[Lit])
 
 /// The marks of some literals, by which each variable up to `vars` has two places.
 pub(crate) fn marks_of(alloc: Global, literals: &[Lit], vars: u32) -> Result<Vec<bool>, AllocError>
-    requires { vars ≤ 1000000 }
+    requires { vars ≤ 1000064 }
     ensures marked { IfOk result (λ m. AreMarked m.items (has literals.now)) }
     ensures size { IfOk result (λ m. length m.items ≡ 2 * (vars + 1)) }
 {

@@ -89,14 +89,14 @@ fn append_clauses(
 }
 
 impl Places {
-    /// The places of a formula's literals.
-    pub(crate) fn of(alloc: Global, formula: &Formula) -> Result<Places, AllocError>
+    /// The places of a formula's literals, with so many rows for variables.
+    pub(crate) fn of(alloc: Global, formula: &Formula, rows: usize) -> Result<Places, AllocError>
+        requires rows { (formula.now.vars < rows) × (rows ≤ 1000065) }
         ensures placed { IfOk result (λ p. ArePlaced formula.now.clauses (length formula.now.clauses) p.places.items p.starts.items) }
         ensures chained { IfOk result (λ p. AreChained p.places.items p.latest.items) }
-        ensures within { IfOk result (λ p. All (λ e. var_of e.literal < formula.now.vars + 1) p.places.items) }
-        ensures size { IfOk result (λ p. length p.latest.items ≡ 2 * (formula.now.vars + 1)) }
+        ensures within { IfOk result (λ p. All (λ e. var_of e.literal < rows) p.places.items) }
+        ensures size { IfOk result (λ p. length p.latest.items ≡ 2 * rows) }
     {
-        let rows = formula.vars() as usize + 1;
         let mut latest = vec![in alloc; 0; 2 * rows]?;
         let mut last = vec![in alloc; 0; rows]?;
         let mut places = Vec::new(alloc);

@@ -1,16 +1,18 @@
 //! Trees that are grown leaf by leaf, or by the split rule.
 
-ghost use Rattle.std.specs.Prelude.{◌≡◌, ◌+◌, ◌^◌, ◌<◌, ◌≤◌, List, [], ◌∷◌, ◌++◌, ◌⊎◌, length, slice_index_or, vec_len, IfOk, IfSome, IfNone, OnOk, OnErr};
+ghost use Rattle.std.specs.Prelude.{◌≡◌, ◌+◌, ◌^◌, ◌<◌, ◌≤◌, List, [], ◌∷◌, ◌++◌, ◌⊎◌, Some, None, length, slice_index_or, vec_len, All, IfOk, IfSome, IfNone, OnOk, OnErr};
 ghost use Rattle.dimacs.specs.logic.Cnf.{Cnf, AreWithin, greatest_in};
 ghost use Rattle.dimacs.specs.logic.Literal.{Literal, var_of};
 ghost use Rattle.icnf.specs.Leaves.{Cube, IsFree, branched};
-ghost use Rattle.cube_split.specs.Choice.{IsChoice, HasNoChoice};
+ghost use Rattle.cube_split.specs.Choosing.{Chooses, IsTreeWith};
+ghost use Rattle.cube_split.specs.Definitions.{IsPairOf, Opening};
 ghost use Rattle.cube_split.specs.Splitting.{IsTreeOf};
-ghost use Rattle.cube_split.specs.inner.Splitting.{AppendsSplit};
-ghost use Rattle.cube_split.specs.inner.Walking.{StandsAt};
+ghost use Rattle.cube_split.specs.inner.Choosing.{AppendsChosen};
+ghost use Rattle.cube_split.specs.inner.Descending.{IsAt};
 
+use crate::descent::Descent;
 use crate::pure::preamble;
-use crate::walk::Walk;
+use crate::units::Preamble;
 use dimacs::{Formula, Lit, Var};
 use icnf::{Tree, TreeBuilder};
 use std::alloc::{AllocError, Global};
@@ -29,10 +31,10 @@ pub fn grow(tree: &mut Tree, leaf: usize, var: Var) -> Result<(), AllocError>
 }
 
 /// The variable on which the cube of a walk's path is split, where so many levels may follow.
-fn next_split(walk: &Walk, levels: u32) -> Option<Var>
-    requires { (f : Cnf) × (units : List Literal) × (path : Cube) × StandsAt f units path walk.now }
-    ensures none { IfNone result ((f : Cnf) (units : List Literal) (path : Cube) → StandsAt f units path walk.now → (levels ≡ 0) ⊎ HasNoChoice f (units ++ path)) }
-    ensures some { IfSome result (λ v. (f : Cnf) (units : List Literal) (path : Cube) → StandsAt f units path walk.now → (0 < levels) × IsChoice f (units ++ path) v) }
+fn next_choice(walk: &Descent, levels: u32) -> Option<Var>
+    requires { (F : Cnf) × (opening : Opening) × (path : Cube) × (trail : Cube) × IsAt F opening path trail walk.now }
+    ensures none { IfNone result ((F : Cnf) (opening : Opening) (path trail : Cube) → IsAt F opening path trail walk.now → (levels ≡ 0) ⊎ Chooses F opening path None) }
+    ensures some { IfSome result (λ v. (F : Cnf) (opening : Opening) (path trail : Cube) → IsAt F opening path trail walk.now → (0 < levels) × Chooses F opening path (Some v)) }
 {
     if levels == 0 {
         return None;
@@ -40,55 +42,78 @@ fn next_split(walk: &Walk, levels: u32) -> Option<Var>
     walk.choice()
 }
 
-/// Appends the cubes below a path that goes on along a literal, split by the rule so many levels deep.
+/// Appends the cubes below a path that goes on along a literal of the chosen variable, split by the rule so many levels deep.
 #[cycle(growing)]
 fn append_branch(
-    walk: &mut Walk,
+    walk: &mut Descent,
     leaves: &mut TreeBuilder,
     path: &mut Vec<Lit>,
     literal: Lit,
     levels: u32,
 ) -> Result<(), AllocError>
-    requires stands { (f : Cnf) × (units : List Literal) × StandsAt f units path.old.items walk.old × IsFree (units ++ path.old.items) (var_of literal) × (var_of literal ≤ f.vars) }
+    requires stands { (F : Cnf) × (opening : Opening) × (trail : Cube) × IsAt F opening path.old.items trail walk.old × Chooses F opening path.old.items (Some (var_of literal)) }
     requires room { length leaves.old + 2 ^ levels ≤ 65536 }
     requires short { vec_len path.old + levels < 64 }
-    ensures stands { OnOk result ((f : Cnf) (units : List Literal) → StandsAt f units path.old.items walk.old → IsFree (units ++ path.old.items) (var_of literal) → StandsAt f units path.old.items walk.new) }
+    ensures stands { OnOk result ((F : Cnf) (opening : Opening) (trail : Cube) → IsAt F opening path.old.items trail walk.old → Chooses F opening path.old.items (Some (var_of literal)) →
+        IsAt F opening path.old.items trail walk.new) }
     ensures path { OnOk result (path.new.items ≡ path.old.items) }
     ensures room { OnOk result (length leaves.new ≤ length leaves.old + 2 ^ levels) }
-    ensures split { OnOk result ((f : Cnf) (units : List Literal) → StandsAt f units path.old.items walk.old →
-        AppendsSplit f units levels (path.old.items ++ literal ∷ []) leaves.old leaves.new) }
+    ensures split { OnOk result ((F : Cnf) (opening : Opening) (trail : Cube) → IsAt F opening path.old.items trail walk.old →
+        AppendsChosen F opening levels (path.old.items ++ literal ∷ []) leaves.old leaves.new) }
 {
-    walk.enter(path, literal);
+    walk.enter(literal);
     path.push(literal)?;
     append_below(walk, leaves, path, levels)?;
     path.pop();
-    walk.leave(path, literal);
+    walk.leave(literal);
     Ok(())
 }
 
 /// Appends the cubes below a path, split by the rule so many levels deep.
 #[cycle(growing)]
 fn append_below(
-    walk: &mut Walk,
+    walk: &mut Descent,
     leaves: &mut TreeBuilder,
     path: &mut Vec<Lit>,
     levels: u32,
 ) -> Result<(), AllocError>
-    requires stands { (f : Cnf) × (units : List Literal) × StandsAt f units path.old.items walk.old }
+    requires stands { (F : Cnf) × (opening : Opening) × (trail : Cube) × IsAt F opening path.old.items trail walk.old }
     requires room { length leaves.old + 2 ^ levels ≤ 65536 }
     requires short { vec_len path.old + levels ≤ 64 }
-    ensures stands { OnOk result ((f : Cnf) (units : List Literal) → StandsAt f units path.old.items walk.old → StandsAt f units path.old.items walk.new) }
+    ensures stands { OnOk result ((F : Cnf) (opening : Opening) (trail : Cube) → IsAt F opening path.old.items trail walk.old → IsAt F opening path.old.items trail walk.new) }
     ensures path { OnOk result (path.new.items ≡ path.old.items) }
     ensures room { OnOk result (length leaves.new ≤ length leaves.old + 2 ^ levels) }
-    ensures split { OnOk result ((f : Cnf) (units : List Literal) → StandsAt f units path.old.items walk.old → AppendsSplit f units levels path.old.items leaves.old leaves.new) }
+    ensures split { OnOk result ((F : Cnf) (opening : Opening) (trail : Cube) → IsAt F opening path.old.items trail walk.old →
+        AppendsChosen F opening levels path.old.items leaves.old leaves.new) }
 {
-    match next_split(walk, levels) {
+    match next_choice(walk, levels) {
         None => leaves.push(path),
         Some(var) => {
             append_branch(walk, leaves, path, Lit::positive(var), levels - 1)?;
             append_branch(walk, leaves, path, Lit::negative(var), levels - 1)
         }
     }
+}
+
+/// The tree that the split rule makes of a formula over a preamble: each leaf shorter than `depth` is split on the variable that
+/// `choose` answers for it, where there is one.
+pub fn tree_with(
+    alloc: Global,
+    formula: &Formula,
+    preamble: &Preamble,
+    depth: u32,
+) -> Result<Tree, AllocError>
+    requires depth { depth ≤ 16 }
+    requires pairs { All (IsPairOf formula.now.vars) preamble.now.pairs }
+    ensures split { IfOk result (IsTreeWith formula.now preamble.now depth) }
+    // No cube has a variable that is neither the formula's nor defined.
+    ensures within { IfOk result (AreWithin (formula.now.vars + length preamble.now.pairs)) }
+{
+    let mut walk = Descent::begin(alloc, formula, preamble)?;
+    let mut leaves = TreeBuilder::new(alloc);
+    let mut path = Vec::new(alloc);
+    append_below(&mut walk, &mut leaves, &mut path, depth)?;
+    Ok(leaves.finish())
 }
 
 /// The tree that the split rule makes of a formula: each leaf shorter than `depth` is split on the variable that `choose`
@@ -102,10 +127,7 @@ pub fn tree(alloc: Global, formula: &Formula, depth: u32) -> Result<Tree, AllocE
     if depth == 0 {
         return Tree::leaf(alloc);
     }
+    let _ = formula.vars();
     let preamble = preamble(alloc, formula)?;
-    let mut walk = Walk::begin(alloc, formula, &preamble)?;
-    let mut leaves = TreeBuilder::new(alloc);
-    let mut path = Vec::new(alloc);
-    append_below(&mut walk, &mut leaves, &mut path, depth)?;
-    Ok(leaves.finish())
+    tree_with(alloc, formula, &preamble, depth)
 }

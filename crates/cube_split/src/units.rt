@@ -72,21 +72,6 @@ impl Preamble {
             &self.pairs,
         )
     }
-
-    /// The same base, of a formula that is no longer needed: its lists become the base's.
-    pub fn base_from(&self, formula: Formula) -> Result<Base, AllocError>
-        requires units { All (IsWithin formula.vars) self.now.units }
-        requires pairs { All (IsPairOf formula.vars) self.now.pairs }
-        ensures opened { IfOk result (λ b. b ≡ opened formula self.now) }
-        ensures base { self.now.units ≡ pure_literals formula → IfOk result (λ b. b ≡ base_with formula self.now.pairs) }
-        ensures plain { self.now ≡ pure_opening formula → IfOk result (λ b. b ≡ base_of formula) }
-    {
-        let _ = formula.vars();
-        append_definitions(
-            append_units(Base::from_formula(formula), &self.units)?,
-            &self.pairs,
-        )
-    }
 }
 
 /// Appends unit clauses to a base that is a formula alone.

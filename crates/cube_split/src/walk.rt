@@ -1,6 +1,6 @@
-//! A walk over the tree that the split rule makes: the clauses that its path leaves open, and where the path goes on.
+//! A walk along literals: the clauses that they leave open, and which variable stands in the most of these.
 
-ghost use Rattle.std.specs.Prelude.{◌≡◌, ℕ, ◌+◌, ◌*◌, ◌<◌, ◌≤◌, ◌++◌, ◌∷◌, ◌&&◌, not, Bool, List, [], length, slice_index, count_by, IfOk};
+ghost use Rattle.std.specs.Prelude.{◌≡◌, ℕ, ◌+◌, ◌*◌, ◌<◌, ◌≤◌, ◌++◌, ◌∷◌, ◌&&◌, not, Bool, List, [], length, slice_index, count_by, All, IfOk};
 ghost use Rattle.std.specs.List.{list_any};
 ghost use Rattle.dimacs.specs.logic.Cnf.{Cnf};
 ghost use Rattle.dimacs.specs.logic.Literal.{Literal, var_of, has};
@@ -8,8 +8,10 @@ ghost use Rattle.icnf.specs.Leaves.{Cube, IsFree};
 ghost use Rattle.cube_split.specs.Choice.{Choice, has_variable};
 ghost use Rattle.cube_split.specs.inner.Marks.{AreMarked};
 ghost use Rattle.cube_split.specs.inner.Tallies.{IsTally};
-ghost use Rattle.cube_split.specs.inner.Walking.{StandsAt, IsClosedBy};
+ghost use Rattle.cube_split.specs.Definitions.{IsPairOf};
+ghost use Rattle.cube_split.specs.inner.Walking.{StandsAt, IsClosedBy, from_start, widened};
 
+use crate::definitions::mark_held;
 use crate::greatest::greatest;
 use crate::marks::{is_apart, marks_of};
 use crate::open::{close, reopen};
@@ -25,13 +27,15 @@ pub(crate) struct Walk {
     pub places: Places,
     /// The variables that stand in clauses apart from the units.
     pub variables: Vec<Var>,
-    /// By literal, whether it is one of the units or of the path.
+    /// By literal, whether it is one of the units or of the trail.
     pub marks: Vec<bool>,
-    /// By clause, the level at which it was closed: 1 by the units, 2 by the first literal of the path, and so on; 0 while it
+    /// By clause, the level at which it was closed: 1 by the units, 2 by the first literal of the trail, and so on; 0 while it
     /// is open.
     pub closed: Vec<u32>,
     /// By variable, in how many open clauses it stands.
     pub counts: Vec<usize>,
+    /// The level of the next literal.
+    pub level: u32,
 }
 
 /// By clause, whether it holds a literal that is marked: 1 or 0.
@@ -53,31 +57,43 @@ fn closed_by_units(alloc: Global, marks: &[bool], formula: &Formula) -> Result<V
 }
 
 /// Counts for each variable the clauses without a marked literal in which it stands.
-fn tally_of(alloc: Global, marks: &[bool], formula: &Formula) -> Result<Tally, AllocError>
-    requires { length marks.now ≡ 2 * (formula.now.vars + 1) }
+fn tally_of(
+    alloc: Global,
+    marks: &[bool],
+    formula: &Formula,
+    rows: usize,
+) -> Result<Tally, AllocError>
+    requires rows { formula.now.vars < rows }
+    requires marks { length marks.now ≡ 2 * rows }
     ensures tally { IfOk result IsTally }
-    ensures counted { IfOk result (λ t. (test : Literal → Bool) → AreMarked marks.now test → (w : ℕ) → w ≤ formula.now.vars →
+    ensures counted { IfOk result (λ t. (test : Literal → Bool) → AreMarked marks.now test → (w : ℕ) → w < rows →
         slice_index t.counts.items w ≡ count_by (λ C. not (list_any test C) && has_variable C w) formula.now.clauses) }
-    ensures size { IfOk result (λ t. length t.counts.items ≡ formula.now.vars + 1) }
+    ensures size { IfOk result (λ t. length t.counts.items ≡ rows) }
 {
-    let mut tally = Tally::new(alloc, formula.vars() as usize + 1)?;
+    let mut tally = Tally::new(alloc, rows)?;
     tally.count_clauses(marks, formula);
     Ok(tally)
 }
 
 impl Walk {
-    /// A walk at the empty path.
+    /// A walk that has not gone anywhere, over the preamble's units and what they hold.
     pub(crate) fn begin(
         alloc: Global,
         formula: &Formula,
         preamble: &Preamble,
     ) -> Result<Walk, AllocError>
-        ensures { IfOk result (λ s. StandsAt formula.now preamble.now.units [] s) }
+        requires { All (IsPairOf formula.now.vars) preamble.now.pairs }
+        ensures { IfOk result (λ s. StandsAt (widened formula.now preamble.now) (from_start formula.now preamble.now) [] s) }
     {
-        let places = Places::of(alloc, formula)?;
-        let marks = marks_of(alloc, preamble.units(), formula.vars())?;
+        let vars = formula.vars();
+        let pairs = preamble.pairs();
+        let last = vars + pairs.len() as u32;
+        let rows = last as usize + 1;
+        let places = Places::of(alloc, formula, rows)?;
+        let mut marks = marks_of(alloc, preamble.units(), last)?;
+        mark_held(&mut marks, vars, pairs);
         let closed = closed_by_units(alloc, &marks, formula)?;
-        let tally = tally_of(alloc, &marks, formula)?;
+        let tally = tally_of(alloc, &marks, formula, rows)?;
         let (variables, counts) = tally.into_parts();
         Ok(Walk {
             places,
@@ -85,22 +101,22 @@ impl Walk {
             marks,
             closed,
             counts,
+            level: 2,
         })
     }
 
-    /// The variable on which the cube of the path is split.
+    /// The variable without a literal in units and trail that stands in the most open clauses.
     pub(crate) fn choice(&self) -> Option<Var>
-        requires { (f : Cnf) × (units : List Literal) × (path : Cube) × StandsAt f units path self.now }
-        ensures { (f : Cnf) (units : List Literal) (path : Cube) → StandsAt f units path self.now → Choice f (units ++ path) result }
+        requires { (f : Cnf) × (units : List Literal) × (trail : Cube) × StandsAt f units trail self.now }
+        ensures { (f : Cnf) (units : List Literal) (trail : Cube) → StandsAt f units trail self.now → Choice f (units ++ trail) result }
     {
         greatest(&self.marks, &self.counts, &self.variables)
     }
 
-    /// Goes on along a literal of a variable that is not in the path.
-    pub(crate) fn enter(&mut self, path: &[Lit], literal: Lit)
-        requires stands { (f : Cnf) × (units : List Literal) × StandsAt f units path.now self.old × (var_of literal ≤ f.vars) }
-        requires short { length path.now ≤ 64 }
-        ensures { (f : Cnf) (units : List Literal) → StandsAt f units path.now self.old → StandsAt f units (path.now ++ literal ∷ []) self.new }
+    /// Goes on along a literal.
+    pub(crate) fn enter(&mut self, literal: Lit)
+        requires { (f : Cnf) × (units : List Literal) × (trail : Cube) × StandsAt f units trail self.old × (var_of literal ≤ f.vars) × (length trail ≤ 1000) }
+        ensures { (f : Cnf) (units : List Literal) (trail : Cube) → StandsAt f units trail self.old → StandsAt f units (trail ++ literal ∷ []) self.new }
     {
         self.marks[literal.index()] = true;
         close(
@@ -108,23 +124,24 @@ impl Walk {
             &mut self.closed,
             &mut self.counts,
             literal,
-            path.len() as u32 + 2,
+            self.level,
         );
+        self.level += 1;
     }
 
-    /// Goes back along the last literal of a path, behind which is this one.
-    pub(crate) fn leave(&mut self, path: &[Lit], literal: Lit)
-        requires stands { (f : Cnf) × (units : List Literal) × StandsAt f units (path.now ++ literal ∷ []) self.old × IsFree (units ++ path.now) (var_of literal) × (var_of literal ≤ f.vars) }
-        requires short { length path.now ≤ 64 }
-        ensures { (f : Cnf) (units : List Literal) → StandsAt f units (path.now ++ literal ∷ []) self.old → IsFree (units ++ path.now) (var_of literal) → StandsAt f units path.now self.new }
+    /// Goes back along this literal, the last of the trail and the only one of its variable.
+    pub(crate) fn leave(&mut self, literal: Lit)
+        requires { (f : Cnf) × (units : List Literal) × (trail : Cube) × StandsAt f units (trail ++ literal ∷ []) self.old × IsFree (units ++ trail) (var_of literal) × (var_of literal ≤ f.vars) }
+        ensures { (f : Cnf) (units : List Literal) (trail : Cube) → StandsAt f units (trail ++ literal ∷ []) self.old → IsFree (units ++ trail) (var_of literal) → StandsAt f units trail self.new }
     {
+        self.level -= 1;
         self.marks[literal.index()] = false;
         reopen(
             &self.places,
             &mut self.closed,
             &mut self.counts,
             literal,
-            path.len() as u32 + 2,
+            self.level,
         );
     }
 }

@@ -11,7 +11,7 @@ use Rattle.dimacs.proofs.BaseLemmas.{count_take}
 use Rattle.dimacs.proofs.BuilderLemmas.{within_more}
 use Rattle.dimacs.proofs.FlatLemmas.{length_parts}
 use Rattle.dimacs.proofs.FlatPush.{fills_count}
-use Rattle.dimacs.proofs.FrontLemmas.{all_filled}
+use Rattle.dimacs.proofs.FilledLemmas.{all_filled}
 
 pub count_append : (cs ds : List Clause) → literal_count (cs ++ ds) ≡ literal_count cs + literal_count ds
 count_append [] ds = omega arith

@@ -4,10 +4,10 @@ pub mod BodyLemmas
 pub mod BuilderLemmas
 pub mod ExampleLemmas
 pub mod ExtensionLemmas
+pub mod FilledLemmas
 pub mod FlatLemmas
 pub mod FlatPush
 pub mod FormulaLemmas
-pub mod FrontLemmas
 pub mod HeaderLemmas
 pub mod LiteralLemmas
 pub mod Members

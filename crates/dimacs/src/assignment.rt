@@ -42,14 +42,6 @@ impl Assignment {
         &self.values
     }
 
-    /// The values themselves.
-    pub fn into_values(self) -> Vec<bool>
-        ensures { result.items ≡ self }
-    {
-        let Assignment { values } = self;
-        values
-    }
-
     /// Whether a literal is true.
     pub fn holds(&self, literal: Lit) -> bool
         requires { IsWithin (length self.now) literal }

@@ -1,7 +1,7 @@
 //! A formula with further clauses numbered on after it.
 
-ghost use Rattle.std.specs.Prelude.{◌≡◌, ◌+◌, ◌<◌, ◌≤◌, [], ◌∷◌, ◌++◌, length, slice_index_or, take, All, IfOk, OnOk, OnErr, vec_len};
-ghost use Rattle.dimacs.specs.logic.Cnf.{IsBase, IsFormula, literal_count};
+ghost use Rattle.std.specs.Prelude.{◌≡◌, ◌+◌, ◌<◌, ◌≤◌, [], ◌∷◌, ◌++◌, length, slice_index_or, All, IfOk, OnOk, OnErr, vec_len};
+ghost use Rattle.dimacs.specs.logic.Cnf.{IsBase, literal_count};
 ghost use Rattle.dimacs.specs.layout.Flat.{parts, ArePlaces};
 ghost use Rattle.dimacs.specs.logic.Literal.{IsWithin};
 
@@ -47,34 +47,6 @@ impl Base {
             base.push_clause(formula.clause(i))?;
         }
         Ok(base)
-    }
-
-    /// The formula alone, whose lists become its own.
-    pub fn from_formula(formula: Formula) -> Base
-        ensures { result ≡ formula }
-    {
-        let (vars, literals, places) = formula.into_parts();
-        Base {
-            vars,
-            literals,
-            places,
-        }
-    }
-
-    /// The formula of its first clauses, to which its lists are handed back.
-    pub fn into_formula(self, clauses: usize) -> Formula
-        requires there { clauses ≤ length self.clauses }
-        requires formula { IsFormula (record self { clauses = take clauses self.clauses }) }
-        ensures { result ≡ record self { clauses = take clauses self.clauses } }
-    {
-        let Base {
-            vars,
-            mut literals,
-            mut places,
-        } = self;
-        places.truncate(clauses + 1);
-        literals.truncate(places[clauses] as usize);
-        Formula::from_parts(vars, literals, places)
     }
 
     // No clause, with room for so many literals and places.

@@ -1,19 +1,18 @@
 -- Drills: a turn more, and what no turn brings.
-use Rattle.std.proofs.Common.{◌≡◌, ℕ, zero, suc, ◌+◌, ◌<◌, ◌≤◌, List, [], ◌∷◌, ◌++◌, length, Contains, Option, Some, None, refl, subst, sym, ap, ◌∙◌, inl, inr, ◌⊎◌, arith}
+use Rattle.std.proofs.Common.{◌≡◌, ℕ, zero, suc, ◌+◌, ◌<◌, ◌≤◌, List, [], ◌∷◌, ◌++◌, length, map, Contains, Option, Some, None, refl, subst, sym, ap, ◌∙◌, inl, inr, ◌⊎◌, arith}
 use Rattle.std.proofs.lemmas.List.{length-set}
 use Rattle.std.proofs.lemmas.List.Elements.{Contains-append_cases}
-use Rattle.dimacs.specs.logic.Cnf.{Cnf}
-use Rattle.icnf.specs.Leaves.{Cube}
+use Rattle.dimacs.specs.logic.Base.{numbers_from}
 use Rattle.lrat_check.specs.declared.verdict.Reaction.{Reaction}
 use Rattle.lrat_check.specs.declared.verdict.Reaction.TheVariants as reaction
 use Rattle.evidence.specs.Events.{Event, Given}
 use Rattle.closed_schedules.specs.ClosedLaws.{IsMoment, NeverRefused, NeverDiffer}
-use Rattle.closed_schedules.specs.ClosedSchedule.{ClosedState, HappensClosed, HappensDeliver, HappensWork, HappensPoll, HappensRestart, StepsAt, RestartsAt}
+use Rattle.closed_schedules.specs.ClosedSchedule.{Beginning, ClosedState, HappensClosed, HappensDeliver, HappensWork, HappensPoll, HappensRestart, StepsAt, RestartsAt, first_worker, new_closed}
 use Rattle.closed_schedules.specs.declared.event.ClosedEvent.{ClosedEvent}
 use Rattle.closed_schedules.specs.declared.event.ClosedEvent.TheVariants.{Deliver, Work, Poll, Restart}
 use Rattle.closed_schedules.proofs.Moments.{next_moment}
 use Rattle.closed_schedules.proofs.Places.{same_some, none_some}
-use Rattle.node_main.specs.Drilling.{DrillState, Counts, Disagrees, Drills, IsRefusedReaction, Occurs, TakesTurn, next_after}
+use Rattle.node_main.specs.Drilling.{DrillState, Counts, Disagrees, Drills, IsNew, IsRefusedReaction, Occurs, TakesTurn, next_after}
 
 -- a turn more
 pub drills_more : (old : DrillState) (turns : List (List ℕ)) (mid : DrillState) (words : List ℕ) (new : DrillState)
@@ -45,6 +44,12 @@ happens_length s (Restart node number) answer new (HappensRestart.strays why ign
 happens_length s (Restart node number) answer new (HappensRestart.anew after fresh restarts taken same) = same_length _ new same ∙ restarts_length s node number after restarts
 happens_length s (Restart node number) answer new (HappensRestart.no_memory known fresh none same) = same_length s new same
 
+-- of a cluster of three there are three
+pub new_length : (s : ClosedState) → IsNew 3 s → length s.workers ≡ 3
+new_length s new =
+    let many : ℕ → ℕ = λ n. length (map (first_worker new.beginning.formula new.beginning.definitions) (numbers_from 1 n)) in
+    same_length (new_closed new.beginning) s new.made ∙ ap many new.many
+
 pub occurs_length : (s : ClosedState) (event : Option ClosedEvent) (answer : Option Reaction) (new : ClosedState) → Occurs s event answer new → length new.workers ≡ length s.workers
 occurs_length s None None new same = same_length s new same
 occurs_length s (Some event) (Some answer) new happens = happens_length s event answer new happens.0
@@ -52,21 +57,21 @@ occurs_length s None (Some answer) new never = absurd never
 occurs_length s (Some event) None new never = absurd never
 
 -- the moment after what occurs
-occurs_moment : (F : Cnf) (tree : List Cube) (limit n : ℕ) (s : ClosedState) (event : Option ClosedEvent) (answer : Option Reaction) (new : ClosedState)
-    → IsMoment F tree limit n s → Occurs s event answer new → IsMoment F tree limit n new
-occurs_moment F tree limit n s None None new is same = subst (IsMoment F tree limit n) (sym same) is
-occurs_moment F tree limit n s (Some event) (Some answer) new is happens = next_moment F tree limit n s event answer new is happens.0
-occurs_moment F tree limit n s None (Some answer) new is never = absurd never
-occurs_moment F tree limit n s (Some event) None new is never = absurd never
+occurs_moment : (b : Beginning) (s : ClosedState) (event : Option ClosedEvent) (answer : Option Reaction) (new : ClosedState)
+    → IsMoment b s → Occurs s event answer new → IsMoment b new
+occurs_moment b s None None new is same = subst (IsMoment b) (sym same) is
+occurs_moment b s (Some event) (Some answer) new is happens = next_moment b s event answer new is happens.0
+occurs_moment b s None (Some answer) new is never = absurd never
+occurs_moment b s (Some event) None new is never = absurd never
 
 -- is no refusal
-occurs_plain : NeverRefused → (F : Cnf) (tree : List Cube) (limit n : ℕ) (s : ClosedState) (event : Option ClosedEvent) (answer : Option Reaction) (new : ClosedState)
-    → IsMoment F tree limit n s → Occurs s event answer new → IsRefusedReaction answer → ⊥
-occurs_plain law F tree limit n s None None new is same refusal = none_some _ refusal.1
-occurs_plain law F tree limit n s (Some event) (Some answer) new is happens refusal =
-    law F tree limit n s is event answer new happens.0 refusal.0 (same_some answer (reaction.Refused refusal.0) refusal.1)
-occurs_plain law F tree limit n s None (Some answer) new is never refusal = absurd never
-occurs_plain law F tree limit n s (Some event) None new is never refusal = absurd never
+occurs_plain : NeverRefused → (b : Beginning) (s : ClosedState) (event : Option ClosedEvent) (answer : Option Reaction) (new : ClosedState)
+    → IsMoment b s → Occurs s event answer new → IsRefusedReaction answer → ⊥
+occurs_plain law b s None None new is same refusal = none_some _ refusal.1
+occurs_plain law b s (Some event) (Some answer) new is happens refusal =
+    law b s is event answer new happens.0 refusal.0 (same_some answer (reaction.Refused refusal.0) refusal.1)
+occurs_plain law b s None (Some answer) new is never refusal = absurd never
+occurs_plain law b s (Some event) None new is never refusal = absurd never
 
 -- a count of what is not so stays
 uncounted : (P : Type 0) (old new : ℕ) → ¬ P → Counts P old new → new ≡ old
@@ -94,46 +99,46 @@ turn_grows old words new turn = (
 )
 
 -- each of some moments is one of the same cluster
-AreMoments : Cnf → List Cube → ℕ → ℕ → List ClosedState → Type 0
-AreMoments F tree limit n moments = (s : ClosedState) → Contains moments s → IsMoment F tree limit n s
+AreMoments : Beginning → List ClosedState → Type 0
+AreMoments b moments = (s : ClosedState) → Contains moments s → IsMoment b s
 
-one_more : (F : Cnf) (tree : List Cube) (limit n : ℕ) (moments : List ClosedState) (new : ClosedState) (all : List ClosedState)
-    → all ≡ moments ++ new ∷ [] → AreMoments F tree limit n moments → IsMoment F tree limit n new → AreMoments F tree limit n all
+one_more : (b : Beginning) (moments : List ClosedState) (new : ClosedState) (all : List ClosedState)
+    → all ≡ moments ++ new ∷ [] → AreMoments b moments → IsMoment b new → AreMoments b all
 unfolding AreMoments
-one_more F tree limit n moments new all same are is s among = go (Contains-append_cases moments (new ∷ []) s (subst (λ (m : List ClosedState). Contains m s) same among))
+one_more b moments new all same are is s among = go (Contains-append_cases moments (new ∷ []) s (subst (λ (m : List ClosedState). Contains m s) same among))
   where
-    only : Contains (new ∷ []) s → IsMoment F tree limit n s
-    only (zero, lt, at) = subst (IsMoment F tree limit n) at is
+    only : Contains (new ∷ []) s → IsMoment b s
+    only (zero, lt, at) = subst (IsMoment b) at is
     only (suc k, lt, at) = absurd (omega (arith, lt))
 
-    go : Contains moments s ⊎ Contains (new ∷ []) s → IsMoment F tree limit n s
+    go : Contains moments s ⊎ Contains (new ∷ []) s → IsMoment b s
     go (inl old) = are s old
     go (inr last) = only last
 
 -- no verdicts disagree
-never_disagrees : NeverDiffer → (F : Cnf) (tree : List Cube) (limit n : ℕ) (moments : List ClosedState) (s : ClosedState)
-    → AreMoments F tree limit n moments → IsMoment F tree limit n s → Disagrees moments s → ⊥
+never_disagrees : NeverDiffer → (b : Beginning) (moments : List ClosedState) (s : ClosedState)
+    → AreMoments b moments → IsMoment b s → Disagrees moments s → ⊥
 unfolding AreMoments
-never_disagrees law F tree limit n moments s are is (v, w, held, also, differ) =
-    law F tree limit n s is tree limit n also.0 (are also.0 also.1) held.0 also.2.0 v w held.1 also.2.1 differ
+never_disagrees law b moments s are is (v, w, held, also, differ) =
+    law b s is b also.0 refl (are also.0 also.1) held.0 also.2.0 v w held.1 also.2.1 differ
 
-drills_calm : NeverRefused → NeverDiffer → (F : Cnf) (tree : List Cube) (limit n : ℕ) (old : DrillState) (turns : List (List ℕ)) (new : DrillState)
-    → IsMoment F tree limit n old.cluster → AreMoments F tree limit n old.moments → Drills old turns new
+drills_calm : NeverRefused → NeverDiffer → (b : Beginning) (old : DrillState) (turns : List (List ℕ)) (new : DrillState)
+    → IsMoment b old.cluster → AreMoments b old.moments → Drills old turns new
     → (new.refused ≡ old.refused) × (new.disagreements ≡ old.disagreements)
-drills_calm refused differ F tree limit n old [] new is are same = (ap (λ (d : DrillState). d.refused) same, ap (λ (d : DrillState). d.disagreements) same)
-drills_calm refused differ F tree limit n old (words ∷ turns) new is are (mid, turn, drills) =
-    let here = occurs_moment F tree limit n old.cluster _ turn.answer mid.cluster is turn.occurs in
-    let all = one_more F tree limit n old.moments mid.cluster mid.moments turn.moments are here in
-    let rest = drills_calm refused differ F tree limit n mid turns new here all drills in
-    let first = uncounted _ old.refused mid.refused (occurs_plain refused F tree limit n old.cluster _ turn.answer mid.cluster is turn.occurs) turn.refused in
-    let second = uncounted _ old.disagreements mid.disagreements (never_disagrees differ F tree limit n mid.moments mid.cluster all here) turn.disagreements in
+drills_calm refused differ b old [] new is are same = (ap (λ (d : DrillState). d.refused) same, ap (λ (d : DrillState). d.disagreements) same)
+drills_calm refused differ b old (words ∷ turns) new is are (mid, turn, drills) =
+    let here = occurs_moment b old.cluster _ turn.answer mid.cluster is turn.occurs in
+    let all = one_more b old.moments mid.cluster mid.moments turn.moments are here in
+    let rest = drills_calm refused differ b mid turns new here all drills in
+    let first = uncounted _ old.refused mid.refused (occurs_plain refused b old.cluster _ turn.answer mid.cluster is turn.occurs) turn.refused in
+    let second = uncounted _ old.disagreements mid.disagreements (never_disagrees differ b mid.moments mid.cluster all here) turn.disagreements in
     (rest.0 ∙ first, rest.1 ∙ second)
 
 -- over no turn so far
-pub begun_calm : NeverRefused → NeverDiffer → (F : Cnf) (tree : List Cube) (limit n : ℕ) (s : ClosedState) (turns : List (List ℕ)) (old new : DrillState)
-    → IsMoment F tree limit n s → old.cluster ≡ s → old.moments ≡ [] → Drills old turns new
+pub begun_calm : NeverRefused → NeverDiffer → (b : Beginning) (s : ClosedState) (turns : List (List ℕ)) (old new : DrillState)
+    → IsMoment b s → old.cluster ≡ s → old.moments ≡ [] → Drills old turns new
     → (new.refused ≡ old.refused) × (new.disagreements ≡ old.disagreements)
 unfolding AreMoments
-begun_calm refused differ F tree limit n s turns old new is at none drills =
-    drills_calm refused differ F tree limit n old turns new (subst (IsMoment F tree limit n) (sym at) is)
+begun_calm refused differ b s turns old new is at none drills =
+    drills_calm refused differ b old turns new (subst (IsMoment b) (sym at) is)
     (λ t among. let lt : among.0 < 0 = subst (λ (m : List ClosedState). among.0 < length m) none among.1 in absurd (omega (arith, lt))) drills

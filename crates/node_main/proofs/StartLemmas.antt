@@ -5,6 +5,7 @@ use Rattle.dimacs.specs.text.Spelling.{Spells}
 use Rattle.icnf.specs.Leaves.{Cube}
 use Rattle.node_main.specs.Deciding.{Decides}
 use Rattle.node_main.specs.Solving.{Solves, Works}
+use Rattle.node_main.specs.inner.Splitting.{StaysInside}
 use Rattle.node_main.specs.inner.Starting.{Starts}
 use Rattle.node_main.specs.declared.options.Options.{Options}
 use Rattle.node_main.specs.declared.report.Report.{Report}
@@ -17,6 +18,9 @@ pub started_solves : {E : Type 0} (r : Result Report E) (input : List ℕ) (cube
 started_solves (Ok x) input cubes o s F leaves same starts is =
     let h : Starts input cubes o (With F leaves) = subst (Starts input cubes o) same starts in inl (F, h.0, By leaves, h.1, is)
 started_solves (Err e) input cubes o s F leaves same starts is = tt
+
+pub started_inside : (input : List ℕ) (cubes : Option (List ℕ)) (o : Options) (s : Start) (F : Cnf) (leaves : List Cube) → s ≡ With F leaves → Starts input cubes o s → StaysInside F o.defs (By leaves)
+started_inside input cubes o s F leaves same starts = let h : Starts input cubes o (With F leaves) = subst (Starts input cubes o) same starts in h.2
 
 pub read_works : {E : Type 0} (r : Result Report E) (input : List ℕ) (o : Options) (F : Cnf) → Spells input F → IfOk r (Decides F o) → IfOk r (Works input o)
 read_works (Ok x) input o F spells is = inl (F, spells, is)

@@ -49,6 +49,7 @@ pub record NamesOptions (rows : List Row) (options : Options) : Type 0 where
   pub session_is : NamesNumberOr rows (codes "session") 0 (2 ^ 64 - 1) 1 options.session
   pub number_is : NamesNumberOr rows (codes "number") 1 64 1 options.number
   pub incarnation_is : NamesNumberOr rows (codes "incarnation") 0 (2 ^ 64 - 1) 1 options.incarnation
+  pub defs_is : NamesNumberOr rows (codes "defs") 0 64 0 options.defs
   pub ahead_is : NamesFlag rows (codes "ahead") options.ahead
   pub quiet_is : NamesFlag rows (codes "quiet") options.quiet
   pub witness_is : NamesFlag rows (codes "no-witness") (not options.witness)

@@ -1,10 +1,11 @@
 -- What is printed of a drill.
 use Rattle.std.specs.Prelude.{◌≡◌, ℕ, zero, List, ◌++◌, length, None, Result, Ok, Err, codes, decimal}
+use Rattle.cube_split.specs.Pairs.{no_definitions}
 use Rattle.cube_split.specs.Splitting.{IsTreeOf}
 use Rattle.dimacs.specs.declared.fault.DimacsFault.{DimacsFault}
 use Rattle.dimacs.specs.logic.Cnf.{Cnf}
 use Rattle.icnf.specs.Leaves.{Cube}
-use Rattle.closed_schedules.specs.ClosedSchedule.{ClosedState, new_closed}
+use Rattle.closed_schedules.specs.ClosedSchedule.{Beginning, ClosedState, new_closed}
 use Rattle.node_main.specs.Drawing.{AreDrawn}
 use Rattle.node_main.specs.Drilling.{HasDrilled}
 use Rattle.node_main.specs.Reports.{input_fault_text}
@@ -33,6 +34,10 @@ pub record IsCalm (turns : ℕ) (r : Report) : Type 0 where
   pub status : r.status ≡ 0
   pub proof : r.proof ≡ None
 
+-- three workers, a limit of 1,000, and no definitions
+abbrev pub beginning : Cnf → List Cube → Beginning
+beginning F cubes = record { formula = F; definitions = no_definitions; tree = cubes; limit = 1000; workers = 3 }
+
 -- what is reported of a formula: a drill of a cluster of three workers, with the tree of depth 2 and the limit 1,000, by the words of the seed
 pub record DrillsFormula (F : Cnf) (seed turns : ℕ) (r : Report) : Type 0 where
   pub cubes : List Cube
@@ -40,7 +45,7 @@ pub record DrillsFormula (F : Cnf) (seed turns : ℕ) (r : Report) : Type 0 wher
   pub words : List (List ℕ)
   pub drawn : AreDrawn seed turns words
   pub last : ClosedState
-  pub reports : ReportsDrill (new_closed F cubes 1000 3) words last r
+  pub reports : ReportsDrill (new_closed (beginning F cubes)) words last r
   pub calm : IsCalm turns r
 
 -- what is reported of a faulty input

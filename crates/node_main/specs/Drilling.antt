@@ -1,12 +1,10 @@
 -- Drills: closed schedules that are drawn. A turn has three words, a, b and c: a says what happens, c at which node, and b the rest.
 use Rattle.std.specs.Prelude.{◌≡◌, ◌≢◌, ℕ, ◌+◌, ◌%◌, ◌==◌, nat_lt, List, [], ◌∷◌, ◌++◌, length, Contains, slice_index, Option, Some, None, if◌then◌else◌}
-use Rattle.dimacs.specs.logic.Cnf.{Cnf}
-use Rattle.icnf.specs.Leaves.{Cube}
 use Rattle.lrat_check.specs.Verdicts.{Differ}
 use Rattle.lrat_check.specs.declared.verdict.Reaction.{Reaction}
 use Rattle.lrat_check.specs.declared.verdict.Reaction.TheVariants as reaction
 use Rattle.lrat_check.specs.declared.verdict.Verdict.{Verdict}
-use Rattle.closed_schedules.specs.ClosedSchedule.{ClosedState, HappensClosed, new_closed, verdict_at}
+use Rattle.closed_schedules.specs.ClosedSchedule.{Beginning, ClosedState, HappensClosed, new_closed, verdict_at}
 use Rattle.closed_schedules.specs.declared.event.ClosedEvent.{ClosedEvent}
 use Rattle.closed_schedules.specs.declared.event.ClosedEvent.TheVariants.{Deliver, Work, Poll, Restart}
 
@@ -51,10 +49,9 @@ begun s = record { cluster = s; next = 5; moments = []; refused = 0; disagreemen
 
 -- a cluster of so many workers, as it was made
 pub record IsNew (workers : ℕ) (s : ClosedState) : Type 0 where
-  pub formula : Cnf
-  pub tree : List Cube
-  pub limit : ℕ
-  pub made : s ≡ new_closed formula tree limit workers
+  pub beginning : Beginning
+  pub many : beginning.workers ≡ workers
+  pub made : s ≡ new_closed beginning
 
 -- Nothing happens, or an event does; at want of memory the drill ends.
 abbrev pub Occurs : ClosedState → Option ClosedEvent → Option Reaction → ClosedState → Type 0

@@ -48,11 +48,11 @@ with_search a =
     (number_rule (codes "depth") 0 16 (codes "4"))) (number_rule (codes "limit") 1 1000000000 (codes "100000")))
     (named_file_rule (codes "cubes"))
 
--- `[-q] [-n] INPUT [PROOF]`
+-- `[--defs K] [-q] [-n] INPUT [PROOF]`: K from 0 to 64, else 0
 abbrev pub with_files : App → App
 with_files a =
-    with_rule (with_rule (with_rule (with_rule a (flag_rule (codes "quiet") (byte "q"))) (flag_rule (codes "no-witness") (byte "n")))
-    (file_rule (codes "INPUT") true)) (file_rule (codes "PROOF") false)
+    with_rule (with_rule (with_rule (with_rule (with_rule a (number_rule (codes "defs") 0 64 (codes "0"))) (flag_rule (codes "quiet") (byte "q")))
+    (flag_rule (codes "no-witness") (byte "n"))) (file_rule (codes "INPUT") true)) (file_rule (codes "PROOF") false)
 
 -- `check INPUT PROOF`
 abbrev pub check_app : App
@@ -72,7 +72,7 @@ serve_app =
     with_files (with_search (with_rule (with_rule (new_app (codes "serve")) (needed_number_rule (codes "port") 1 65535))
     (number_rule (codes "session") 0 (2 ^ 64 - 1) (codes "1"))))
 
--- `work --port P [--number W] [--incarnation I] [--ahead] [-q] [-n] INPUT [PROOF]`: W from 1 to 64, else 1, and I any number of
+-- `work --port P [--number W] [--incarnation I] [--ahead]`, and files: W from 1 to 64, else 1, and I any number of
 -- 64 bits, else 1
 abbrev pub work_app : App
 work_app =

@@ -12,7 +12,7 @@ use Rattle.node_main.specs.declared.report.Report.{Report}
 use Rattle.node_main.specs.declared.splitting.Split.{Split}
 use Rattle.node_main.specs.declared.splitting.Split.TheVariants.{By, Faulty, OtherFormula}
 
--- 1 to 64 workers, a depth of at most 16, a limit from 1 to 1,000,000,000, and a worker's number from 1 to 64
+-- 1 to 64 workers, a depth of at most 16, a limit from 1 to 1,000,000,000, a worker's number from 1 to 64, and at most 64 definitions
 pub record AreOptions (options : Options) : Type 0 where
   pub some_worker : 1 ≤ options.workers
   pub few_workers : options.workers ≤ 64
@@ -21,6 +21,7 @@ pub record AreOptions (options : Options) : Type 0 where
   pub most : options.limit ≤ 1000000000
   pub first_number : 1 ≤ options.number
   pub last_number : options.number ≤ 64
+  pub few_definitions : options.defs ≤ 64
 
 -- 1: what is wrong is printed, but for `quiet`
 pub record IsRefused (line : List ℕ) (options : Options) (r : Report) : Type 0 where
@@ -42,7 +43,7 @@ Answers F options r OtherFormula = IsRefused other_formula_text options r
 -- what is reported of an input, and of the cubes that are handed in with it
 abbrev pub Solves : List ℕ → Option (List ℕ) → Options → Report → Type 0
 Solves input cubes options r =
-    ((F : Cnf) × Spells input F × (split : Split) × Splits F cubes options.depth split × Answers F options r split)
+    ((F : Cnf) × Spells input F × (split : Split) × Splits F cubes options.depth options.defs split × Answers F options r split)
     ⊎ IsFaulty input options r
 
 -- what is reported of an input at a worker, which splits nothing

@@ -21,6 +21,8 @@ pub struct Options {
     pub number: u32,
     /// Its incarnation; else 1.
     pub incarnation: u64,
+    /// How many variables are defined, each for two literals that stand together in many clauses, from 0 to 64; else 0.
+    pub defs: u32,
     /// Whether the worker sends before it works, so that the coordinator goes on to others; else not.
     pub ahead: bool,
     /// Whether `c` lines are left out.
@@ -35,11 +37,13 @@ impl Options {
         ensures workers { result.workers ≡ self.now.workers }
         ensures limit { result.limit ≡ self.now.limit }
         ensures session { result.session ≡ self.now.session }
+        ensures defs { result.defs ≡ self.now.defs }
     {
         CoordinatorPlan {
             workers: self.workers,
             limit: self.limit,
             session: self.session,
+            defs: self.defs,
         }
     }
 
@@ -48,11 +52,13 @@ impl Options {
         requires { AreOptions self.now }
         ensures number { result.number ≡ self.now.number }
         ensures incarnation { result.incarnation ≡ self.now.incarnation }
+        ensures defs { result.defs ≡ self.now.defs }
         ensures order { result.order ≡ (if self.now.ahead then Order.SendThenWork else Order.WorkThenSend) }
     {
         WorkerPlan {
             number: WorkerNumber::new(self.number),
             incarnation: self.incarnation,
+            defs: self.defs,
             order: if self.ahead {
                 Order::SendThenWork
             } else {

@@ -1,10 +1,10 @@
 //! How a formula is split: by the cubes that are handed in, or else by the split rule.
 
-ghost use Rattle.std.specs.Prelude.{◌≡◌, ◌≤◌, ◌↔◌, IsTrue, IfOk, None, option_map};
-ghost use Rattle.node_main.specs.Splitting.{Splits, SplitsByText};
-ghost use Rattle.node_main.specs.inner.Splitting.{StaysWithin};
+ghost use Rattle.std.specs.Prelude.{◌≡◌, ◌≤◌, ◌↔◌, ℕ, IsTrue, IfOk, option_map};
+ghost use Rattle.node_main.specs.Splitting.{Splits, SplitsByRule, SplitsByText};
+ghost use Rattle.node_main.specs.inner.Splitting.{StaysInside};
 
-use cube_split::tree;
+use cube_split::{definitions_are_settled, preamble_with, tree_with};
 use dimacs::Formula;
 use icnf::{IcnfFault, Kind, Tree};
 use std::alloc::{AllocError, Global};
@@ -38,7 +38,7 @@ fn has_clauses_of(formula: &Formula, other: &Formula) -> bool
 /// The tree of an iCNF text, where its clauses are the formula's.
 fn read_split(alloc: Global, formula: &Formula, cubes: &[u8]) -> Result<Split, AllocError>
     ensures splits { IfOk result (SplitsByText formula.now cubes.now) }
-    ensures within { IfOk result (StaysWithin formula.now.vars) }
+    ensures inside { (defs : ℕ) → IfOk result (StaysInside formula.now defs) }
 {
     let _ = formula.vars();
     let (other, tree) = match icnf::read(alloc, cubes) {
@@ -53,20 +53,39 @@ fn read_split(alloc: Global, formula: &Formula, cubes: &[u8]) -> Result<Split, A
     }
 }
 
-/// The tree of the cubes that are handed in, and where there are none that of the split rule, as deep as this.
+/// The tree of the split rule over so many definitions, as deep as this.
+fn split_by_rule(
+    alloc: Global,
+    formula: &Formula,
+    depth: u32,
+    defs: u32,
+) -> Result<Split, AllocError>
+    requires depth { depth ≤ 16 }
+    requires defs { defs ≤ 64 }
+    ensures splits { IfOk result (SplitsByRule formula.now depth defs) }
+    ensures inside { IfOk result (StaysInside formula.now defs) }
+{
+    definitions_are_settled();
+    let preamble = preamble_with(alloc, formula, defs)?;
+    Ok(Split::By(tree_with(alloc, formula, &preamble, depth)?))
+}
+
+/// The tree of the cubes that are handed in, and where there are none that of the split rule over so many definitions, as deep as this.
 pub(crate) fn split_of(
     alloc: Global,
     formula: &Formula,
     cubes: Option<&[u8]>,
     depth: u32,
+    defs: u32,
 ) -> Result<Split, AllocError>
-    requires { depth ≤ 16 }
-    ensures splits { IfOk result (Splits formula.now (option_map (λ t. t.now) cubes.entry) depth) }
-    ensures within { IfOk result (StaysWithin formula.now.vars) }
+    requires depth { depth ≤ 16 }
+    requires defs { defs ≤ 64 }
+    ensures splits { IfOk result (Splits formula.now (option_map (λ t. t.now) cubes.entry) depth defs) }
+    ensures inside { IfOk result (StaysInside formula.now defs) }
 {
     let _ = formula.vars();
     match cubes {
         Some(cubes) => read_split(alloc, formula, cubes),
-        None => Ok(Split::By(tree(alloc, formula, depth)?)),
+        None => split_by_rule(alloc, formula, depth, defs),
     }
 }

@@ -1,7 +1,7 @@
 //! What a run begins with: the formula of its input, and the tree by which it is split.
 
-ghost use Rattle.std.specs.Prelude.{◌≡◌, IfOk, option_map};
-ghost use Rattle.node_main.specs.Reports.{input_fault_text};
+ghost use Rattle.std.specs.Prelude.{◌≡◌, IfOk, IfSome, IfNone, option_map};
+ghost use Rattle.node_main.specs.Reports.{cubes_fault_text, input_fault_text, other_formula_text};
 ghost use Rattle.node_main.specs.Solving.{AreOptions, IsRefused};
 ghost use Rattle.node_main.specs.inner.Starting.{Starts};
 
@@ -9,7 +9,7 @@ use crate::options::Options;
 use crate::report::{Report, faulty_cubes, faulty_input, other_formula};
 use crate::splitting::{Split, split_of};
 use dimacs::{DimacsFault, Formula, Kind};
-use icnf::Tree;
+use icnf::{IcnfFault, Tree};
 use std::alloc::{AllocError, Global};
 
 /// What a run begins with.
@@ -36,6 +36,24 @@ pub(crate) fn refused_input(
     }
 }
 
+/// The report of cubes that are refused: of their fault, or else that they are of another formula.
+fn refused_cubes(
+    alloc: Global,
+    fault: Option<IcnfFault>,
+    options: &Options,
+) -> Result<Report, AllocError>
+    ensures faulty { IfSome fault (λ f. IfOk result (IsRefused (cubes_fault_text f) options.now)) }
+    ensures other { IfNone fault (IfOk result (IsRefused other_formula_text options.now)) }
+{
+    if options.quiet {
+        return Report::of(alloc, b"", 1);
+    }
+    match fault {
+        Some(fault) => faulty_cubes(alloc, fault),
+        None => other_formula(alloc),
+    }
+}
+
 /// Reads a formula, and splits it by the cubes of an iCNF text or by the split rule.
 pub(crate) fn begin(
     alloc: Global,
@@ -51,11 +69,10 @@ pub(crate) fn begin(
         Err(fault) if fault.kind == Kind::NoMemory => return Err(AllocError),
         Err(fault) => return Ok(Start::Refused(refused_input(alloc, fault, options)?)),
     };
-    let report = match split_of(alloc, &formula, cubes, options.depth)? {
+    let report = match split_of(alloc, &formula, cubes, options.depth, options.defs)? {
         Split::By(tree) => return Ok(Start::With(formula, tree)),
-        Split::Faulty(_) | Split::OtherFormula if options.quiet => Report::of(alloc, b"", 1)?,
-        Split::Faulty(fault) => faulty_cubes(alloc, fault)?,
-        Split::OtherFormula => other_formula(alloc)?,
+        Split::Faulty(fault) => refused_cubes(alloc, Some(fault), options)?,
+        Split::OtherFormula => refused_cubes(alloc, None, options)?,
     };
     Ok(Start::Refused(report))
 }

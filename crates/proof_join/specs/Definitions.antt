@@ -3,11 +3,12 @@ use Rattle.std.specs.Prelude.{ℕ, ◌+◌, List, [], ◌∷◌, ◌++◌, lengt
 use Rattle.dimacs.specs.logic.Base.{pure_literals}
 use Rattle.dimacs.specs.logic.Cnf.{Cnf}
 use Rattle.dimacs.specs.logic.Literal.{Literal}
+use Rattle.icnf.specs.Leaves.{Cube}
 use Rattle.lrat_text.specs.declared.step.Step.{Step}
 use Rattle.lrat_text.specs.declared.step.Step.TheVariants.{Add}
 use Rattle.cube_split.specs.Definitions.{both_clause, part_clause}
 use Rattle.cube_split.specs.declared.pair.Pair.{Pair}
-use Rattle.proof_join.specs.Joining.{unit_steps}
+use Rattle.proof_join.specs.Joining.{Joined, unit_steps}
 
 -- the lines that define d, behind number top; the first is the one candidate of the others
 abbrev pub definition_steps : ℕ → ℕ → Pair → List Step
@@ -28,3 +29,7 @@ preamble_steps F pairs =
     let m : ℕ = length F.clauses in
     let units : List Literal = pure_literals F in
     unit_steps m units ++ all_steps (m + length units) (F.vars + 1) pairs
+
+-- the text joined of a formula with definitions of these pairs
+abbrev pub JoinedOver : Cnf → List Pair → List Cube → List (List ℕ) → List ℕ → Type 0
+JoinedOver F pairs leaves texts text = Joined F (preamble_steps F pairs) leaves texts text

@@ -1,6 +1,5 @@
 -- One proof of the fragments that close the leaves of a splitting tree.
 use Rattle.std.specs.Prelude.{◌≡◌, ℕ, ◌+◌, not, ◌||◌, List, [], ◌∷◌, ◌++◌, length, map, filter, All, if◌then◌else◌}
-use Rattle.dimacs.specs.logic.Base.{pure_literals}
 use Rattle.dimacs.specs.logic.ClauseMap.{ClauseMap, map_of, live_in}
 use Rattle.dimacs.specs.logic.Cnf.{Cnf}
 use Rattle.dimacs.specs.logic.Literal.{Literal, Clause, negation, has, var_of}
@@ -104,10 +103,6 @@ pub record Joined (F : Cnf) (preamble : List Step) (leaves : List Cube) (texts :
 abbrev pub unit_steps : ℕ → List Literal → List Step
 unit_steps top [] = []
 unit_steps top (l ∷ units) = Add (top + 1) (l ∷ []) [] [] ∷ unit_steps (top + 1) units
-
--- the text joined of a formula over the units of its pure literals
-abbrev pub JoinedUnits : Cnf → List Cube → List (List ℕ) → List ℕ → Type 0
-JoinedUnits F leaves texts text = Joined F (unit_steps (length F.clauses) (pure_literals F)) leaves texts text
 
 -- the fragment at each place closes the cube there
 abbrev pub AllClose : Cnf → List Cube → List (List ℕ) → Type 0

@@ -5,8 +5,8 @@ ghost use Rattle.cube_split.specs.Definitions.{IsPairOf, base_with};
 ghost use Rattle.dimacs.specs.logic.Base.{pure_literals};
 ghost use Rattle.dimacs.specs.logic.Literal.{IsWithin};
 ghost use Rattle.lrat_text.specs.Proof.{Accepts};
-ghost use Rattle.proof_join.specs.Definitions.{all_steps, definition_steps, preamble_steps};
-ghost use Rattle.proof_join.specs.Joining.{AllClose, Joined, cubes, part, unit_steps};
+ghost use Rattle.proof_join.specs.Definitions.{JoinedOver, all_steps, definition_steps, preamble_steps};
+ghost use Rattle.proof_join.specs.Joining.{AllClose, cubes, part, unit_steps};
 ghost use Rattle.lrat_text.specs.Runs.{text_of};
 ghost use Rattle.proof_join.specs.inner.Steps.{IsBelow, IsFragment, Writes, steps_each};
 
@@ -212,10 +212,10 @@ pub fn join(
     requires units { preamble.now.units ≡ pure_literals formula.now }
     requires pairs { All (IsPairOf formula.now.vars) preamble.now.pairs }
     requires closed { AllClose (base_with formula.now preamble.now.pairs) tree.now (map (λ v. v.items) fragments.now) }
-    ensures joined { IfOk result (λ text. Joined formula.now (preamble_steps formula.now preamble.now.pairs) tree.now (map (λ v. v.items) fragments.now) text.items) }
+    ensures joined { IfOk result (λ text. JoinedOver formula.now preamble.now.pairs tree.now (map (λ v. v.items) fragments.now) text.items) }
     ensures short { IfOk result (λ text. length text.items < 2 ^ 32) }
     ensures long { IfErr result (λ f. f ≡ JoinFault.TooLong → (text : List ℕ)
-        → Joined formula.now (preamble_steps formula.now preamble.now.pairs) tree.now (map (λ v. v.items) fragments.now) text → 2 ^ 32 ≤ length text) }
+        → JoinedOver formula.now preamble.now.pairs tree.now (map (λ v. v.items) fragments.now) text → 2 ^ 32 ≤ length text) }
     // What is joined is a proof of the formula alone.
     ensures accepted { IfOk result (λ text. Accepts formula.now text.items) }
 {

@@ -11,6 +11,8 @@ pub struct CoordinatorPlan {
     pub limit: u64,
     /// The number of its session.
     pub session: u64,
+    /// How many variables are defined, from 0 to 64.
+    pub defs: u32,
 }
 
 /// What a worker is to do.
@@ -20,6 +22,8 @@ pub struct WorkerPlan {
     pub number: WorkerNumber,
     /// Its incarnation, which no other worker of that number has had.
     pub incarnation: u64,
+    /// How many variables are defined, from 0 to 64.
+    pub defs: u32,
     /// What comes first in its rounds.
     pub order: Order,
 }

@@ -3,6 +3,8 @@
 ghost use Rattle.std.specs.Prelude.{◌≡◌, ◌≤◌, ◌+◌, ◌*◌, ◌⊎◌, ℕ, length, [], All, OnOk, OnErr, IfOk, true, false, not};
 ghost use Rattle.std.specs.List.{list_all};
 ghost use Rattle.coordinator_core.specs.Coordinator.{IsWorker};
+ghost use Rattle.dimacs.specs.logic.Cnf.{Cnf};
+ghost use Rattle.cube_split.specs.Pairs.{IsBaseWith};
 ghost use Rattle.evidence.specs.Jobs.{IsInside};
 ghost use Rattle.lrat_check.specs.Verdicts.{Right};
 ghost use Rattle.lrat_check.specs.declared.verdict.Verdict.TheVariants.{Nothing};
@@ -296,14 +298,23 @@ pub fn serve<L: Links>(
     plan: &CoordinatorPlan,
     links: &mut L,
 ) -> Result<Verdict, AllocError>
-    requires inside { All (IsInside formula) tree }
+    requires inside { (B : Cnf) → IsBaseWith formula plan.now.defs B → All (IsInside B) tree }
     requires workers { (1 ≤ plan.now.workers) × (plan.now.workers ≤ 64) }
+    requires defs { plan.now.defs ≤ 64 }
     ensures right { IfOk result (Right formula) }
     ensures used { IfOk result (HasBegun (L.call_count links.old) (L.call_count links.new)) }
     ensures most { L.call_count links.new ≤ L.call_count links.old + 4039000000 * plan.now.workers }
     ensures refusals { L.refusal_count links.new ≤ L.refusal_count links.old + plan.now.workers }
 {
-    let made = Coordinator::new(alloc, formula, tree, plan.limit, plan.workers, plan.session);
+    let made = Coordinator::with_defs(
+        alloc,
+        formula,
+        tree,
+        plan.limit,
+        plan.workers,
+        plan.session,
+        plan.defs,
+    );
     let mut coordinator = match made {
         Ok(coordinator) => coordinator,
         Err(error) => return Err(error),

@@ -198,12 +198,14 @@ pub fn work<L: Links>(
     plan: &WorkerPlan,
     links: &mut L,
 ) -> Result<Verdict, AllocError>
+    requires { plan.now.defs ≤ 64 }
     ensures right { IfOk result (Right formula) }
     ensures used { IfOk result (HasBegun (L.call_count links.old) (L.call_count links.new)) }
     ensures most { L.call_count links.new ≤ L.call_count links.old + 4038000001 }
     ensures refusals { L.refusal_count links.new ≤ L.refusal_count links.old + 1 }
 {
-    let mut worker = match Worker::new(alloc, formula, plan.number, plan.incarnation) {
+    let made = Worker::with_defs(alloc, formula, plan.number, plan.incarnation, plan.defs);
+    let mut worker = match made {
         Ok(worker) => worker,
         Err(error) => return Err(error),
     };

@@ -6,6 +6,7 @@ use Rattle.lrat_check.specs.Verdicts.{Right}
 use Rattle.lrat_check.specs.declared.verdict.Reaction.{Reaction}
 use Rattle.lrat_check.specs.declared.verdict.Reaction.TheVariants.{Taken}
 use Rattle.lrat_check.specs.declared.verdict.Verdict.{Verdict}
+use Rattle.cube_split.specs.Pairs.{IsBaseWith}
 use Rattle.evidence.specs.Keeping.{IsGrown, Stays}
 use Rattle.evidence.specs.declared.keeping.Grown.{Grown}
 use Rattle.worker_core.specs.Extending.{ExtendsWorker}
@@ -16,11 +17,21 @@ use Rattle.worker_core.specs.Worker.{WorkerState, new_worker}
 abbrev pub KeepsRight : Type 0
 KeepsRight = (F x : Cnf) (old new : Verdict) → Right F old → Stays F x old new → Right (extended F x) new
 
-pub begins_grown : (w : WorkerState) (x : Cnf) (n : ℕ) (g : Grown) (new : WorkerState) → IsGrown w.formula x w.verdict g → new ≡ record (new_worker g.formula w.number n) { verdict = g.verdict } → ExtendsWorker w x n Taken new
-begins_grown w x n g new is now =
-    ExtendsWorker.taken is.limits g.verdict is.stays refl (now ∙ ap (λ (F : Cnf). record (new_worker F w.number n) { verdict = g.verdict }) is.formula)
+-- it begins anew from what has grown, over a base of that formula with as many definitions
+abbrev pub BeginsGrown : WorkerState → Grown → ℕ → WorkerState → Type 0
+BeginsGrown w g n new =
+    (B : Cnf) × IsBaseWith g.formula w.wanted B × (new ≡ record (new_worker g.formula w.number n) { wanted = w.wanted; base = B; verdict = g.verdict })
+
+pub begins_grown : (w : WorkerState) (x : Cnf) (n : ℕ) (g : Grown) (new : WorkerState) → IsGrown w.formula x w.verdict g → BeginsGrown w g n new → ExtendsWorker w x n Taken new
+begins_grown w x n g new is h =
+    ExtendsWorker.taken is.limits g.verdict is.stays refl
+    (record {
+      base = h.0;
+      with_definitions = subst (λ (F : Cnf). IsBaseWith F w.wanted h.0) is.formula h.1;
+      made = h.2 ∙ ap (λ (F : Cnf). record (new_worker F w.number n) { wanted = w.wanted; base = h.0; verdict = g.verdict }) is.formula;
+    })
 
 pub extended_right : KeepsRight → (old : WorkerState) (x : Cnf) (n : ℕ) (answer : Reaction) (new : WorkerState) → ExtendsWorker old x n answer new → HoldsRight old → HoldsRight new
 extended_right keeps old x n answer new (ExtendsWorker.too_large large a now) right = subst HoldsRight (sym now) right
-extended_right keeps old x n answer new (ExtendsWorker.taken limits held stays a now) right = subst HoldsRight (sym now) (keeps old.formula x old.verdict held right stays)
+extended_right keeps old x n answer new (ExtendsWorker.taken limits held stays a anew) right = subst HoldsRight (sym anew.made) (keeps old.formula x old.verdict held right stays)
 extended_right keeps old x n answer new (ExtendsWorker.no_memory limits a now) right = subst HoldsRight (sym now) right

@@ -1,10 +1,10 @@
 -- What a worker that works needs to show, over plain values.
-use Rattle.std.proofs.Common.{◌≡◌, ℕ, ◌<◌, ◌^◌, nat_lt, Bool, true, false, List, [], ◌∷◌, ◌++◌, length, take, None, refl, ap, ◌∙◌, arith}
+use Rattle.std.proofs.Common.{◌≡◌, ℕ, ◌<◌, ◌≤◌, ◌^◌, nat_lt, Bool, true, false, List, [], ◌∷◌, ◌++◌, length, take, None, refl, ap, ◌∙◌, arith}
 use Rattle.std.specs.Prelude.{if◌then◌else◌}
 use Rattle.std.proofs.lemmas.Bool.{ltb-true}
 use Rattle.std.proofs.lemmas.List.{length-append, length-take-le, length-map}
-use Rattle.dimacs.specs.logic.Base.{base_of}
 use Rattle.dimacs.specs.logic.Cnf.{Cnf}
+use Rattle.cube_split.specs.Pairs.{IsBaseWith}
 use Rattle.cube_solve.specs.Outcome.{IsRightOutcome}
 use Rattle.cube_solve.specs.declared.outcome.Outcome.{Outcome}
 use Rattle.cube_solve.specs.declared.outcome.Outcome.TheVariants as outcome
@@ -47,21 +47,25 @@ closes_some B q text closes = go closes.0 closes.1 closes.3.0 closes.3.1 closes.
     go [] spells front last e = absurd (none front last e)
     go (step ∷ steps) spells front last e = some_byte text step steps spells
 
+-- the base has the variables of the formula, and perhaps more
+pub as_many_vars : (F : Cnf) (wanted : ℕ) (B : Cnf) → IsBaseWith F wanted B → F.vars ≤ B.vars
+as_many_vars F wanted B is = omega (arith, ap (λ (C : Cnf). C.vars) is.is)
+
 -- what is kept of an end is in order
-pub kept_is_work : (F : Cnf) (name : JobName) (cube : Cube) (limit : ℕ) (end : Outcome) → MayEnd (base_of F) cube limit end → IsWork F (kept name F.vars end)
-kept_is_work F name cube limit (outcome.Model values) ends =
-    (length-map (take F.vars values) value_byte ∙ length-take-le F.vars values (omega (arith, ends.whole)), tt)
-kept_is_work F name cube limit (outcome.Refuted text) ends = go (nat_lt (length text.items) (2 ^ 32)) refl
+pub kept_is_work : (F B : Cnf) (name : JobName) (cube : Cube) (limit : ℕ) (end : Outcome) → F.vars ≤ B.vars → MayEnd B cube limit end → IsWork F B (kept name F.vars end)
+kept_is_work F B name cube limit (outcome.Model values) few ends =
+    (length-map (take F.vars values) value_byte ∙ length-take-le F.vars values (omega (arith, few, ends.whole)), tt)
+kept_is_work F B name cube limit (outcome.Refuted text) few ends = go (nat_lt (length text.items) (2 ^ 32)) refl
   where
     some : 0 < length text.items
-    some = closes_some (base_of F) cube text.items ends.0
+    some = closes_some B cube text.items ends.0
 
-    go : (b : Bool) → nat_lt (length text.items) (2 ^ 32) ≡ b → IsWork F (if b then Found name answers.Refuted text.items None else Limited name)
+    go : (b : Bool) → nat_lt (length text.items) (2 ^ 32) ≡ b → IsWork F B (if b then Found name answers.Refuted text.items None else Limited name)
     go true short = ((omega (arith, some), ltb-true (length text.items) (2 ^ 32) short), tt)
     go false long = tt
-kept_is_work F name cube limit (outcome.Limit text) ends = tt
+kept_is_work F B name cube limit (outcome.Limit text) few ends = tt
 
-pub finishes : (w : WorkerState) (name : JobName) (cube : Cube) (limit : ℕ) (end : Outcome) (work : Work) → w.work ≡ Waiting name cube limit → MayEnd (base_of w.formula) cube limit end
+pub finishes : (w : WorkerState) (name : JobName) (cube : Cube) (limit : ℕ) (end : Outcome) (work : Work) → w.work ≡ Waiting name cube limit → MayEnd w.base cube limit end
     → work ≡ kept name w.formula.vars end → WorkerWorks w reaction.Finished (record w { work = work })
 finishes w name cube limit end work waits ends same =
     WorkerWorks.finishes name cube limit waits end ends refl (ap (λ (k : Work). record w { work = k }) same)

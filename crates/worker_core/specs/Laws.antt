@@ -10,9 +10,11 @@ use Rattle.worker_core.specs.Worker.{WorkerState}
 abbrev pub VerdictStays : WorkerState → WorkerState → Type 0
 VerdictStays old new = old.verdict ≢ Nothing → new.verdict ≡ old.verdict
 
--- the formula, the number and the incarnation stay
+-- the formula and the base, the number and the incarnation stay
 pub record StaysItself (old new : WorkerState) : Type 0 where
   pub formula : new.formula ≡ old.formula
+  pub wanted : new.wanted ≡ old.wanted
+  pub base : new.base ≡ old.base
   pub number : new.number ≡ old.number
   pub incarnation : new.incarnation ≡ old.incarnation
 

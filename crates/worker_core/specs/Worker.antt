@@ -32,6 +32,9 @@ use Rattle.worker_core.specs.declared.work.Work.TheVariants.{Free, Waiting, Limi
 
 pub record WorkerState : Type 0 where
   pub formula : Cnf
+  -- how many definitions it wants, and the base that it searches over
+  pub wanted : ℕ
+  pub base : Cnf
   pub number : ℕ
   pub incarnation : ℕ
   pub last : Option JobName
@@ -39,10 +42,12 @@ pub record WorkerState : Type 0 where
   pub candidate : Option Candidate
   pub verdict : Verdict
 
--- a worker that begins
+-- a worker that begins, without definitions
 abbrev pub new_worker : Cnf → ℕ → ℕ → WorkerState
 new_worker F number incarnation = record {
   formula = F;
+  wanted = 0;
+  base = base_of F;
   number = number;
   incarnation = incarnation;
   last = None;
@@ -51,20 +56,20 @@ new_worker F number incarnation = record {
   verdict = Nothing;
 }
 
--- the base that it searches over
-abbrev pub worker_base : WorkerState → Cnf
-worker_base w = base_of w.formula
+-- the worker as it was made, under another incarnation
+abbrev pub restarted_worker : WorkerState → ℕ → WorkerState
+restarted_worker w incarnation = record (new_worker w.formula w.number incarnation) { wanted = w.wanted; base = w.base }
 
 -- A task comes.
 pub data DeliversTask (w : WorkerState) (name : JobName) (limit : ℕ) (cube : Cube) (answer : Reaction) (new : WorkerState) : Type 0 where
   -- one as late was taken before
   repeated : ¬ (IsLater w.last name) → answer ≡ reaction.Ignored → new ≡ w → DeliversTask w name limit cube answer new
   -- it names a variable that the base has not got
-  foreign : IsLater w.last name → ¬ (IsInside (worker_base w) cube) → answer ≡ reaction.Refused 3 → new ≡ w → DeliversTask w name limit cube answer new
+  foreign : IsLater w.last name → ¬ (IsInside w.base cube) → answer ≡ reaction.Refused 3 → new ≡ w → DeliversTask w name limit cube answer new
   -- it waits, and what was kept is dropped
-  taken : IsLater w.last name → IsInside (worker_base w) cube → answer ≡ reaction.Taken → new ≡ record w { last = Some name; work = Waiting name cube limit } → DeliversTask w name limit cube answer new
+  taken : IsLater w.last name → IsInside w.base cube → answer ≡ reaction.Taken → new ≡ record w { last = Some name; work = Waiting name cube limit } → DeliversTask w name limit cube answer new
   -- no room for its cube
-  no_memory : IsLater w.last name → IsInside (worker_base w) cube → 0 < length cube → answer ≡ reaction.NoMemory → new ≡ w → DeliversTask w name limit cube answer new
+  no_memory : IsLater w.last name → IsInside w.base cube → 0 < length cube → answer ≡ reaction.NoMemory → new ≡ w → DeliversTask w name limit cube answer new
 
 -- the worker keeps the bytes that a fetch asks for
 pub record Keeps (w : WorkerState) (attempt : Attempt) (offset : ℕ) (answer : Answer) (bytes : List ℕ) : Type 0 where
@@ -154,7 +159,7 @@ kept name vars (outcome.Limit text) = Limited name
 -- The worker is to work.
 pub data WorkerWorks (w : WorkerState) (answer : Reaction) (new : WorkerState) : Type 0 where
   rests : ((name : JobName) (cube : Cube) (limit : ℕ) → w.work ≢ Waiting name cube limit) → answer ≡ reaction.Ignored → new ≡ w → WorkerWorks w answer new
-  finishes : (name : JobName) (cube : Cube) (limit : ℕ) → w.work ≡ Waiting name cube limit → (end : Outcome) → MayEnd (worker_base w) cube limit end → answer ≡ reaction.Finished → new ≡ record w { work = kept name w.formula.vars end } → WorkerWorks w answer new
+  finishes : (name : JobName) (cube : Cube) (limit : ℕ) → w.work ≡ Waiting name cube limit → (end : Outcome) → MayEnd w.base cube limit end → answer ≡ reaction.Finished → new ≡ record w { work = kept name w.formula.vars end } → WorkerWorks w answer new
   no_memory : (name : JobName) (cube : Cube) (limit : ℕ) → w.work ≡ Waiting name cube limit → answer ≡ reaction.NoMemory → new ≡ w → WorkerWorks w answer new
 
 -- the attempt of this worker at a job

@@ -12,8 +12,8 @@ ghost use Rattle.worker_core.specs.Worker.{WorkerState, WorkerStep};
 
 use evidence::what_is_kept_is_right;
 
-/// Whatever happens to a worker: a verdict that it holds it keeps, and one that is right stays right; its formula, its number and its
-/// incarnation stay; what it ignores, or finds no memory for, changes nothing.
+/// Whatever happens to a worker: a verdict that it holds it keeps, and one that is right stays right; its formula and its base, its
+/// number and its incarnation stay; what it ignores, or finds no memory for, changes nothing.
 pub fn workers_keep_what_they_hold()
     ensures verdict { (old : WorkerState) (event : Event) (given : Given) (new : WorkerState) → WorkerStep old event given new → VerdictStays old new }
     ensures right { (old : WorkerState) (event : Event) (given : Given) (new : WorkerState) → WorkerStep old event given new → HoldsRight old → HoldsRight new }

@@ -1,13 +1,15 @@
 //! A worker, and what it can be asked.
 
-ghost use Rattle.std.specs.Prelude.{◌≡◌, IfOk};
+ghost use Rattle.std.specs.Prelude.{◌≡◌, ◌≤◌, ℕ, IfOk};
+ghost use Rattle.dimacs.specs.logic.Cnf.{Cnf};
+ghost use Rattle.cube_split.specs.Pairs.{IsBaseWith};
 ghost use Rattle.lrat_check.specs.Verdicts.{Right};
-ghost use Rattle.worker_core.specs.Worker.{new_worker};
+ghost use Rattle.worker_core.specs.Worker.{new_worker, restarted_worker};
 
 use crate::candidate::Candidate;
 use crate::follower::Follower;
 use crate::work::Work;
-use cube_split::preamble;
+use cube_split::{preamble_with, without_definitions};
 use dimacs::{Base, Formula};
 use evidence::JobName;
 use frames::WorkerNumber;
@@ -19,6 +21,8 @@ use std::marker::Model;
 pub struct Worker {
     pub(crate) alloc: Global,
     pub(crate) formula: Formula,
+    /// How many definitions it wants, at most 64.
+    pub(crate) defs: u32,
     /// What it searches over.
     pub(crate) base: Base,
     pub(crate) number: WorkerNumber,
@@ -40,6 +44,8 @@ impl Model for Worker {
 
     ghost view = { λ w. record {
       formula = w.formula;
+      wanted = w.defs;
+      base = w.base;
       number = w.number;
       incarnation = w.incarnation;
       last = w.last;
@@ -48,7 +54,7 @@ impl Model for Worker {
       verdict = w.verdict;
     } };
 
-    ghost invariant = { λ w. IsWorker w.formula w.base w.work w.candidate w.follower w.verdict };
+    ghost invariant = { λ w. IsWorker w.formula w.defs w.base w.work w.candidate w.follower w.verdict };
 }
 
 // By hand, so that a crate above drops a worker by one call, and no proof there goes through its parts.
@@ -57,6 +63,7 @@ impl Drop for Worker {
         let Worker {
             alloc: _,
             formula: _,
+            defs: _,
             base: _,
             number: _,
             incarnation: _,
@@ -79,10 +86,26 @@ impl Worker {
     ) -> Result<Worker, AllocError>
         ensures { IfOk result (λ w. w ≡ new_worker formula number incarnation) }
     {
-        let base = preamble(alloc, &formula)?.base(alloc, &formula)?;
+        without_definitions();
+        Worker::with_defs(alloc, formula, number, incarnation, 0)
+    }
+
+    /// The same, over a base with as many definitions, 0 to 64, or fewer where no pair is left.
+    pub fn with_defs(
+        alloc: Global,
+        formula: Formula,
+        number: WorkerNumber,
+        incarnation: u64,
+        defs: u32,
+    ) -> Result<Worker, AllocError>
+        requires { defs ≤ 64 }
+        ensures { IfOk result (λ w. (B : Cnf) × IsBaseWith formula defs B × (w ≡ record (new_worker formula number incarnation) { wanted = defs; base = B })) }
+    {
+        let base = preamble_with(alloc, &formula, defs)?.base(alloc, &formula)?;
         Ok(Worker {
             alloc,
             formula,
+            defs,
             base,
             number,
             incarnation,
@@ -94,9 +117,9 @@ impl Worker {
         })
     }
 
-    /// It begins anew, under another incarnation, and drops what it held. It takes no memory.
+    /// It begins anew, under another incarnation, and drops what it held; the definitions stay. It takes no memory.
     pub fn restart(&mut self, incarnation: u64)
-        ensures { self.new ≡ new_worker self.old.formula self.old.number incarnation }
+        ensures { self.new ≡ restarted_worker self.old incarnation }
     {
         self.incarnation = incarnation;
         self.last = None;
@@ -143,6 +166,7 @@ impl Worker {
         let Worker {
             alloc: _,
             formula: _,
+            defs: _,
             base: _,
             number: _,
             incarnation: _,

@@ -1,18 +1,28 @@
 -- The members of a closed cluster, called one at a time.
-use Rattle.std.specs.Prelude.{◌≡◌, ℕ, ◌+◌, ◌≤◌, List, length, map}
+use Rattle.std.specs.Prelude.{◌≡◌, ℕ, ◌≤◌, List, length, map}
 use Rattle.dimacs.specs.logic.Base.{numbers_from}
 use Rattle.dimacs.specs.logic.Cnf.{Cnf}
+use Rattle.icnf.specs.Leaves.{Cube}
 use Rattle.frames.specs.declared.frame.Frame.{Frame}
+use Rattle.cube_split.specs.Pairs.{AreOf, Definitions}
 use Rattle.evidence.specs.Events.{Event, Given}
-use Rattle.worker_core.specs.Worker.{WorkerState, new_worker}
-use Rattle.coordinator_core.specs.Coordinator.{IsWorker}
-use Rattle.closed_schedules.specs.ClosedSchedule.{StepsAt, RestartsAt}
+use Rattle.worker_core.specs.Worker.{WorkerState}
+use Rattle.coordinator_core.specs.Coordinator.{IsWorker, new_coordinator}
+use Rattle.closed_schedules.specs.ClosedSchedule.{StepsAt, RestartsAt, first_worker}
 use Rattle.cluster.specs.declared.members.Members.{Members}
 use Rattle.cluster.specs.Members.{closed_of}
 
--- workers 1 to n, worker w under incarnation w + 1
-abbrev pub new_workers : Cnf → ℕ → List WorkerState
-new_workers F n = map (λ w. new_worker F w (w + 1)) (numbers_from 1 n)
+-- workers 1 to n, worker w under incarnation w + 1, over the base with these definitions
+abbrev pub new_workers : Cnf → Definitions → ℕ → List WorkerState
+new_workers F d n = map (first_worker F d) (numbers_from 1 n)
+
+-- members that begin, with as many definitions of the formula as are wanted
+pub record AreNew (F : Cnf) (tree : List Cube) (limit count wanted : ℕ) (m : Members) : Type 0 where
+  pub definitions : Definitions
+  pub defined : AreOf F definitions
+  pub as_wanted : definitions.wanted ≡ wanted
+  pub coordinator : m.coordinator ≡ record (new_coordinator F tree limit count 1) { definitions = definitions }
+  pub workers : m.workers.items ≡ new_workers F definitions count
 
 abbrev pub IsMember : Members → ℕ → Type 0
 IsMember m node = node ≤ length m.workers.items

@@ -1,11 +1,13 @@
--- How far the variables of cubes go.
-use Rattle.std.specs.Prelude.{ℕ}
-use Rattle.dimacs.specs.logic.Cnf.{AreWithin}
+-- That cubes are over the variables of a base.
+use Rattle.std.specs.Prelude.{ℕ, All}
+use Rattle.cube_split.specs.Pairs.{IsBaseWith}
+use Rattle.dimacs.specs.logic.Cnf.{Cnf}
+use Rattle.evidence.specs.Jobs.{IsInside}
 use Rattle.node_main.specs.declared.splitting.Split.{Split}
 use Rattle.node_main.specs.declared.splitting.Split.TheVariants.{By, Faulty, OtherFormula}
 
--- the cubes name no variable above this one
-abbrev pub StaysWithin : ℕ → Split → Type 0
-StaysWithin vars (By leaves) = AreWithin vars leaves
-StaysWithin vars (Faulty fault) = Unit {0}
-StaysWithin vars OtherFormula = Unit {0}
+-- each variable of the cubes is one of the base with so many definitions
+abbrev pub StaysInside : Cnf → ℕ → Split → Type 0
+StaysInside F defs (By leaves) = (B : Cnf) → IsBaseWith F defs B → All (IsInside B) leaves
+StaysInside F defs (Faulty fault) = Unit {0}
+StaysInside F defs OtherFormula = Unit {0}

@@ -1,9 +1,9 @@
 -- What a run begins with.
 use Rattle.std.specs.Prelude.{◌≡◌, ℕ, List, Option}
-use Rattle.dimacs.specs.logic.Cnf.{AreWithin}
 use Rattle.dimacs.specs.text.Spelling.{Spells}
 use Rattle.node_main.specs.Solving.{Solves}
 use Rattle.node_main.specs.Splitting.{Splits}
+use Rattle.node_main.specs.inner.Splitting.{StaysInside}
 use Rattle.node_main.specs.declared.options.Options.{Options}
 use Rattle.node_main.specs.declared.splitting.Split.TheVariants.{By}
 use Rattle.node_main.specs.declared.starting.Start.{Start}
@@ -11,5 +11,5 @@ use Rattle.node_main.specs.declared.starting.Start.TheVariants.{With, Refused}
 
 -- the formula of the input, split so, or what is reported of it at once
 abbrev pub Starts : List ℕ → Option (List ℕ) → Options → Start → Type 0
-Starts input cubes options (With F leaves) = Spells input F × Splits F cubes options.depth (By leaves) × AreWithin F.vars leaves
+Starts input cubes options (With F leaves) = Spells input F × Splits F cubes options.depth options.defs (By leaves) × StaysInside F options.defs (By leaves)
 Starts input cubes options (Refused r) = Solves input cubes options r × (r.status ≡ 1)

@@ -29,16 +29,23 @@ pub(crate) fn searching<'a>(alloc: Global, command: Command<'a>) -> Result<Comma
     command.arg(workers)?.arg(depth)?.arg(limit)?.arg(cubes)
 }
 
-/// A command with the words of its files and of what it prints.
+/// A command with the words of its definitions, of its files, and of what it prints.
 pub(crate) fn on_files<'a>(alloc: Global, command: Command<'a>) -> Result<Command<'a>, AllocError>
     ensures { IfOk result (λ c. app_of c ≡ with_files (app_of command.entry)) }
 {
+    const DEFS: &str = "How many variables are defined before INPUT is split, from 0 to 64";
     const PROOF: &str = "The file to which an LRAT proof is written, where nothing satisfies INPUT";
+    let defs = number(alloc, "defs", 0, 64, "0", DEFS);
     let quiet = flag(alloc, "quiet", 'q', "Print no c lines, but for c usage");
     let no_witness = flag(alloc, "no-witness", 'n', "Print no v lines");
     let input = file(alloc, "INPUT", true, INPUT);
     let proof = file(alloc, "PROOF", false, PROOF);
-    command.arg(quiet)?.arg(no_witness)?.arg(input)?.arg(proof)
+    command
+        .arg(defs)?
+        .arg(quiet)?
+        .arg(no_witness)?
+        .arg(input)?
+        .arg(proof)
 }
 
 /// The options that the words of a run name; the usual one where its command has no word for it.
@@ -53,6 +60,7 @@ pub(crate) fn options_of(matches: &ArgMatches) -> Option<Options>
     let session = number_or(matches, "session", 0, u64::MAX, 1)?;
     let number = number_or(matches, "number", 1, 64, 1)?;
     let incarnation = number_or(matches, "incarnation", 0, u64::MAX, 1)?;
+    let defs = number_or(matches, "defs", 0, 64, 0)?;
     Some(Options {
         workers: workers as u32,
         depth: depth as u32,
@@ -60,6 +68,7 @@ pub(crate) fn options_of(matches: &ArgMatches) -> Option<Options>
         session,
         number: number as u32,
         incarnation,
+        defs: defs as u32,
         ahead: matches.get_flag("ahead"),
         quiet: matches.get_flag("quiet"),
         witness: !matches.get_flag("no-witness"),

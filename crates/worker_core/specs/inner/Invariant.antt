@@ -1,7 +1,7 @@
 -- What a worker keeps: what the code needs of its parts between two events.
 use Rattle.std.specs.Prelude.{◌≡◌, ℕ, ◌<◌, ◌≤◌, ◌^◌, List, length, take, Option, Some, None}
-use Rattle.dimacs.specs.logic.Base.{base_of}
 use Rattle.dimacs.specs.logic.Cnf.{Cnf}
+use Rattle.cube_split.specs.Pairs.{IsBaseWith}
 use Rattle.lrat_check.specs.Stream.{HasTaken}
 use Rattle.lrat_check.specs.Verdicts.{Right}
 use Rattle.lrat_check.specs.declared.verdict.Verdict.{Verdict}
@@ -25,11 +25,11 @@ IsNote None n = Unit {0}
 IsNote (Some offset) n = offset < n
 
 -- a task that waits is inside the base; of an answer as many bytes are kept as bear it out
-abbrev pub IsWork : Cnf → Work → Type 0
-IsWork F Free = Unit {0}
-IsWork F (Waiting name cube limit) = IsInside (base_of F) cube
-IsWork F (Limited name) = Unit {0}
-IsWork F (Found name answer bytes noted) = IsLength F answer (length bytes) × IsNote noted (length bytes)
+abbrev pub IsWork : Cnf → Cnf → Work → Type 0
+IsWork F B Free = Unit {0}
+IsWork F B (Waiting name cube limit) = IsInside B cube
+IsWork F B (Limited name) = Unit {0}
+IsWork F B (Found name answer bytes noted) = IsLength F answer (length bytes) × IsNote noted (length bytes)
 
 -- the bytes of a candidate are within what was announced
 abbrev pub IsCandidate : Option Candidate → Type 0
@@ -51,10 +51,11 @@ abbrev pub FollowsCandidate : Cnf → Option Follower → Option Candidate → T
 FollowsCandidate F follower None = follower ≡ None
 FollowsCandidate F follower (Some c) = Follows F follower c.evidence.bytes
 
--- the base is that of the formula, the verdict is right, and each part is in order
-pub record IsWorker (F base : Cnf) (work : Work) (candidate : Option Candidate) (follower : Option Follower) (verdict : Verdict) : Type 0 where
-  pub base_is : base ≡ base_of F
+-- the base is that of the formula with few definitions, the verdict is right, and each part is in order
+pub record IsWorker (F : Cnf) (wanted : ℕ) (B : Cnf) (work : Work) (candidate : Option Candidate) (follower : Option Follower) (verdict : Verdict) : Type 0 where
+  pub base_is : IsBaseWith F wanted B
+  pub few : wanted ≤ 64
   pub right : Right F verdict
-  pub work_is : IsWork F work
+  pub work_is : IsWork F B work
   pub candidate_is : IsCandidate candidate
   pub follows : FollowsCandidate F follower candidate

@@ -1,7 +1,8 @@
 use Rattle.std.proofs.Common.{◌≡◌}
+use Rattle.cube_split.specs.Pairs.{AreOf, Definitions}
 use Rattle.cluster.specs.inner.Members.{new_workers}
 use Rattle.cluster.proofs.members.workers_of.Given as goal
 
 -- the first workers were made
 abbrev pub invariant-loop-i : goal.invariant-loop-i
-invariant-loop-i l = l.workers.items ≡ new_workers l.formula l.i
+invariant-loop-i l = (d : Definitions) → AreOf l.formula d → d.wanted ≡ l.defs → l.workers.items ≡ new_workers l.formula d l.i

@@ -1,9 +1,9 @@
-use Rattle.std.proofs.Common.{subst, sym}
-use Rattle.cluster.specs.Closed.{IsReached}
-use Rattle.cluster.proofs.ClosedLemmas.{new_reached}
+use Rattle.coordinator_core.proofs.BeginLemmas.{plain_inside}
+use Rattle.cluster.proofs.ClosedLemmas.{plain_closed}
 use Rattle.cluster.proofs.closed.ClosedCluster.new.Goals as goal
 
-pub invariant_of-result : goal.invariant_of-result
-invariant_of-result c =
-    subst IsReached (sym c.in_ok-new.ensures)
-    (new_reached c.args.formula.now c.args.tree c.args.limit c.args.workers c.vars.ensures.valid c.leaves.ensures.valid c.requires.inside c.requires.workers)
+pub with_defs-requires-clause-inside : goal.with_defs-requires-clause-inside
+with_defs-requires-clause-inside c = plain_inside c.args.formula.now c.args.tree c.requires.inside
+
+pub returns : goal.returns
+returns c = plain_closed c.args.formula.now c.args.tree c.args.limit c.args.workers c.with_defs.result c.with_defs.ensures

@@ -8,7 +8,7 @@ invariant_of-self c = next_reached (state_of c.self.inside.schedule) c.args.even
 pub returns-clause-refused : goal.returns-clause-refused
 returns-clause-refused c =
     let r = c.self.invariant in
-    c.honest_work_is_never_refused.ensures.refused r.formula r.tree r.limit r.workers (state_of c.self.inside.schedule) r.moment c.args.event.now c.happen.result (state_of c.happen.new.self) c.happen.ensures
+    c.honest_work_is_never_refused.ensures.refused r.beginning (state_of c.self.inside.schedule) r.moment c.args.event.now c.happen.result (state_of c.happen.new.self) c.happen.ensures
 
 pub returns-clause-right : goal.returns-clause-right
 returns-clause-right c =

@@ -18,5 +18,5 @@ returns-in-Err c =
     let frames = c.args.self.now.frames.items in
     let used = c.args.self.now.used.items in
     HappensPoll.no_memory (may_be_polled members c.args.node c.args.worker c.if-not-may_be_polled.ensures frames used) refl
-    (ap (λ (fs : List Frame). closed_of c.poll.new.self fs used) c.reserve.ensures.items
+    (ap (λ (fs : List Frame). closed_of c.poll.new.self fs used) (search rules)
     ∙ poll_rests (closed_of members frames used) c.args.node c.args.worker (closed_of c.poll.new.self frames used) (c.in-Err.ensures frames used))

@@ -4,7 +4,7 @@ use Rattle.lrat_check.specs.declared.verdict.Verdict.TheVariants.{Proof}
 use Rattle.coordinator_core.specs.inner.Calls.{refilled}
 use Rattle.coordinator_core.specs.Invariant.{IsCoordinator}
 use Rattle.coordinator_core.proofs.ClosingLemmas.{IsShut, taken_at, desk_is, job_fair, goes_on, all_there, joined_is, too_long_is, ends_closed, ends_joined, ends_too_long, some_joined, given_back, refused, text_back, leaf_back}
-use Rattle.coordinator_core.proofs.KeptLemmas.{leaf_within, leaf_unclosed}
+use Rattle.coordinator_core.proofs.KeptLemmas.{leaf_within, leaf_unclosed, pairs_inside}
 use Rattle.coordinator_core.proofs.coordinator.Coordinator.close.Goals as goal
 
 pub close-before-requires-clause-inside : goal.close-before-requires-clause-inside
@@ -31,8 +31,11 @@ returns-then-not-are_closed c =
     record { taken = t; text_is = c.emptied-job.ensures.bytes; rows_are = c.close-before.ensures.now; none = c.take.ensures.after } in
     ends_closed _ _ _ _ _ _ _ _ h (λ all. false≢true (sym c.if-not-are_closed.true ∙ c.are_closed.ensures.1 all))
 
-pub join_over_units-requires-clause-closed : goal.join_over_units-requires-clause-closed
-join_over_units-requires-clause-closed c =
+pub join-requires-clause-pairs : goal.join-requires-clause-pairs
+join-requires-clause-pairs c = pairs_inside _ c.self.invariant.2
+
+pub join-requires-clause-closed : goal.join-requires-clause-closed
+join-requires-clause-closed c =
     let t = taken_at _ c.args.self.now c.args.worker c.number.result _ _ _ c.self.view_is c.number.ensures.value c.self.invariant.2 c.requires.closes c.index_mut.ensures.value c.take.ensures.value c.in-Some.is in
     let h : IsShut _ c.args.self.now c.args.worker c.number.result c.in-Some.job c.emptied-job.result.1.items c.close-before.new.self c.take.new.self =
     record { taken = t; text_is = c.emptied-job.ensures.bytes; rows_are = c.close-before.ensures.now; none = c.take.ensures.after } in

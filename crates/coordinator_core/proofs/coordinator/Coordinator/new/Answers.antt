@@ -1,14 +1,16 @@
-use Rattle.std.proofs.Common.{◌≡◌, None}
-use Rattle.std.specs.Prelude.{replicate}
-use Rattle.coordinator_core.proofs.BeginLemmas.{begin_is}
+use Rattle.std.proofs.Common.{◌≡◌}
+use Rattle.std.proofs.lemmas.Result.{IfOk-weaker}
+use Rattle.cube_split.specs.Pairs.{AreOf, Definitions}
+use Rattle.coordinator_core.specs.Coordinator.{CoordinatorState, new_coordinator}
+use Rattle.coordinator_core.proofs.BeginLemmas.{beginning, begins_plain, plain_inside}
 use Rattle.coordinator_core.proofs.coordinator.Coordinator.new.Goals as goal
 
-pub invariant_of-result : goal.invariant_of-result
-invariant_of-result c =
-    let unwanted : c.in_ok-wants.wants.items ≡ replicate c.args.workers None = c.in_ok-wants.ensures in (
-      c.in_ok-preamble.ensures.units,
-      c.in_ok-base.ensures.plain c.in_ok-preamble.ensures.units,
-      begin_is c.args.formula c.in_ok-planted.planted c.args.tree c.args.limit c.args.workers c.args.session c.leaves.result c.in_ok-leaves.leaves c.in_ok-jobs.jobs.items c.in_ok-wants.wants.items
-          c.vars.ensures.valid c.leaves.ensures.valid c.requires.inside c.requires.workers.0 c.requires.workers.1 c.in_ok-planted.ensures c.leaves.ensures.value c.in_ok-leaves.ensures c.in_ok-jobs.ensures unwanted,
-      tt,
-    )
+pub with_defs-requires-clause-inside : goal.with_defs-requires-clause-inside
+with_defs-requires-clause-inside c = plain_inside c.args.formula c.args.tree c.requires.inside
+
+pub returns : goal.returns
+returns c =
+    IfOk-weaker c.with_defs.result
+    (λ (s : CoordinatorState). (d : Definitions) × AreOf c.args.formula d × (d.wanted ≡ 0) × (s ≡ beginning c.args.formula d c.args.tree c.args.limit c.args.workers c.args.session))
+    (λ (s : CoordinatorState). s ≡ new_coordinator c.args.formula c.args.tree c.args.limit c.args.workers c.args.session)
+    (begins_plain c.args.formula c.args.tree c.args.limit c.args.workers c.args.session) c.with_defs.ensures

@@ -1,4 +1,4 @@
-use Rattle.std.proofs.Common.{arith, ◌≡◌, ◌<◌, [], ◌∷◌, ◌++◌, refl, length}
+use Rattle.std.proofs.Common.{arith, ◌≡◌, ◌<◌, [], ◌∷◌, ◌++◌, refl, length, length-append}
 use Rattle.std.proofs.lemmas.List.{with_items_is}
 use Rattle.dimacs.specs.logic.Literal.{index_of}
 use Rattle.cube_split.proofs.WalkLemmas.{left_by, walk_counted, index_fits}
@@ -6,12 +6,12 @@ use Rattle.cube_split.proofs.walk.Walk.leave.Goals as goal
 
 pub reopen-requires-clause-counted : goal.reopen-requires-clause-counted
 reopen-requires-clause-counted c =
-    rw (c.deref_mut-2.ensures.value, c.deref_mut.ensures.value) (walk_counted c.requires.stands.0 c.requires.stands.1 (c.args.path.now ++ c.args.literal ∷ []) c.args.self.now c.requires.stands.2)
+    rw (c.deref_mut-2.ensures.value, c.deref_mut.ensures.value) (walk_counted c.requires.0 c.requires.1 (c.requires.2 ++ c.args.literal ∷ []) c.args.self.now c.requires.3)
 
 pub returns : goal.returns
-returns c = λ f units h free.
-    let inside : index_of c.args.literal < length c.args.self.now.marks.items = index_fits c.args.literal c.requires.stands.0.vars (length c.args.self.now.counts.items) (length c.args.self.now.marks.items) c.requires.stands.4 c.requires.stands.2.rows c.requires.stands.2.marks in
+returns c = λ f units trail h free.
+    let inside : index_of c.args.literal < length c.args.self.now.marks.items = index_fits c.args.literal c.requires.0.vars (length c.args.self.now.counts.items) (length c.args.self.now.marks.items) c.requires.5 c.requires.3.rows c.requires.3.marks in
     let index : c.index.result ≡ index_of c.args.literal = c.index.ensures.value in
     let closed = with_items_is c.args.self.now.closed c.reopen.new.closed (omega (arith, c.reopen.auto.closed, c.deref_mut.ensures.len)) in
     let counts = with_items_is c.args.self.now.counts c.reopen.new.counts (omega (arith, c.reopen.auto.counts, c.deref_mut-2.ensures.len)) in
-    left_by f units c.args.path.now c.args.literal c.args.self.now _ c.deref_mut.result.now c.deref_mut-2.result.now c.reopen.new.closed c.reopen.new.counts h free inside refl refl (rw index refl) c.deref_mut.ensures.value c.deref_mut-2.ensures.value closed counts c.reopen.ensures.turned c.reopen.auto.counts c.reopen.ensures.counted
+    left_by f units trail c.args.literal c.args.self.now _ c.deref_mut.result.now c.deref_mut-2.result.now c.reopen.new.closed c.reopen.new.counts h free inside refl refl (omega (arith, h.level, length-append trail (c.args.literal ∷ []))) (rw index refl) c.deref_mut.ensures.value c.deref_mut-2.ensures.value closed counts c.reopen.ensures.turned c.reopen.auto.counts c.reopen.ensures.counted

@@ -7,6 +7,10 @@ pub returns-in_err-incarnation-clause-none : goal.returns-in_err-incarnation-cla
 returns-in_err-incarnation-clause-none c =
     if_none c.from_residual-in_err-incarnation.result _ (λ options names. c.in_err-incarnation.ensures.none options.incarnation names.incarnation_is)
 
+pub returns-in_err-defs-clause-none : goal.returns-in_err-defs-clause-none
+returns-in_err-defs-clause-none c =
+    if_none c.from_residual-in_err-defs.result _ (λ options names. c.in_err-defs.ensures.none options.defs names.defs_is)
+
 pub returns-clause-found : goal.returns-clause-found
 returns-clause-found c =
     let f = found_of c.args.matches.now in
@@ -20,6 +24,7 @@ returns-clause-found c =
       session_is = c.in_ok-session.ensures.found;
       number_is = c.in_ok-number.ensures.found;
       incarnation_is = c.in_ok-incarnation.ensures.found;
+      defs_is = c.in_ok-defs.ensures.found;
       ahead_is = read_flag f (codes "ahead") c.get_flag.result ahead.none ahead.value ahead.other;
       quiet_is = read_flag f (codes "quiet") c.get_flag-2.result quiet.none quiet.value quiet.other;
       witness_is = read_no_flag f (codes "no-witness") c.get_flag-3.result silent.none silent.value silent.other;

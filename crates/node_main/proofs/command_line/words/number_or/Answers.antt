@@ -1,7 +1,7 @@
-use Rattle.std.proofs.Common.{◌≡◌, ◌∙◌, ap, refl, sym, Some, None, option_map}
+use Rattle.std.proofs.Common.{◌∙◌, ap, option_map}
 use Rattle.std.proofs.lemmas.Option.{IfSome_then}
-use Rattle.clap.specs.Words.{first_of, found_of, rows_of}
-use Rattle.node_main.specs.CommandLine.{IsNumber, NamesNumberOr}
+use Rattle.clap.specs.Words.{found_of, rows_of}
+use Rattle.node_main.specs.CommandLine.{NamesNumberOr}
 use Rattle.node_main.proofs.WordLemmas.{given_is, left_out_is, read_text, unread}
 use Rattle.node_main.proofs.command_line.words.number_or.Goals as goal
 

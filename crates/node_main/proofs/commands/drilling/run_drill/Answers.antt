@@ -48,7 +48,7 @@ returns-clause-reports c =
 pub returns-clause-calm : goal.returns-clause-calm
 returns-clause-calm c =
     let reached = c.look.ensures in
-    let none = begun_calm c.honest_work_is_never_refused.ensures.refused c.honest_work_is_never_refused.ensures.agree reached.formula reached.tree reached.limit reached.workers
+    let none = begun_calm c.honest_work_is_never_refused.ensures.refused c.honest_work_is_never_refused.ensures.agree reached.beginning
     c.args.cluster.now (take c.loop-turn.turn-index c.args.words.now) (begun c.args.cluster.now) c.loop-turn.invariant.0 reached.moment refl refl c.loop-turn.invariant.1
     in
     let tally = c.loop-turn.invariant.2 in

@@ -1,6 +1,11 @@
-use Rattle.node_main.proofs.StartLemmas.{started_solves}
+use Rattle.node_main.proofs.StartLemmas.{started_inside, started_solves}
 use Rattle.node_main.proofs.TruthLemmas.{solves_true}
 use Rattle.node_main.proofs.commands.serve.run_serve.Goals as goal
+
+pub serve-requires-clause-inside : goal.serve-requires-clause-inside
+serve-requires-clause-inside g c =
+    let at = c.in-Ok-With in
+    rw c.coordinator_plan.ensures.defs (started_inside c.args.input.now _ c.args.options.now at.field-0 at.formula at.tree at.field-0-is at.ensures)
 
 pub returns-in-Ok-clause-report : goal.returns-in-Ok-clause-report
 returns-in-Ok-clause-report g c =

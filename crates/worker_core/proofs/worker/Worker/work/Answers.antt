@@ -1,11 +1,9 @@
 use Rattle.std.proofs.Common.{◌≡◌, ◌∙◌, refl, ap, subst, sym}
-use Rattle.dimacs.specs.logic.Base.{base_of}
-use Rattle.dimacs.specs.logic.Cnf.{Cnf}
 use Rattle.cube_solve.specs.Outcome.{IsRightOutcome}
 use Rattle.icnf.specs.Leaves.{Cube}
 use Rattle.worker_core.specs.inner.Invariant.{IsWork}
 use Rattle.worker_core.specs.Worker.{WorkerWorks, kept}
-use Rattle.worker_core.proofs.WorkingLemmas.{may_end, kept_is_work, finishes}
+use Rattle.worker_core.proofs.WorkingLemmas.{may_end, as_many_vars, kept_is_work, finishes}
 use Rattle.worker_core.proofs.worker.Worker.work.Goals as goal
 
 pub returns-in_default-solve : goal.returns-in_default-solve
@@ -19,16 +17,18 @@ returns-in_default-keep c =
 pub invariant_of-self : goal.invariant_of-self
 invariant_of-self c =
     let F = c.self.inside.formula in
+    let B = c.self.inside.base in
     let inv = c.self.invariant in
-    let right : IsRightOutcome (base_of F) c.in-Waiting.cube c.in-Waiting.limit c.in-Ok.end
-    = subst (λ (B : Cnf). IsRightOutcome B c.in-Waiting.cube c.in-Waiting.limit c.in-Ok.end) inv.base_is
-    (subst (λ (q : Cube). IsRightOutcome c.self.inside.base q c.in-Waiting.limit c.in-Ok.end) c.as_slice.ensures.value c.in-Ok.ensures) in
+    let right : IsRightOutcome B c.in-Waiting.cube c.in-Waiting.limit c.in-Ok.end
+    = subst (λ (q : Cube). IsRightOutcome B q c.in-Waiting.limit c.in-Ok.end) c.as_slice.ensures.value c.in-Ok.ensures in
     let same : c.in-Ok-keep.work ≡ kept c.in-Waiting.name F.vars c.in-Ok.end
     = c.in-Ok-keep.ensures ∙ ap (λ n. kept c.in-Waiting.name n c.in-Ok.end) c.vars.ensures.value in
     record {
       base_is = inv.base_is;
+      few = inv.few;
       right = inv.right;
-      work_is = subst (IsWork F) (sym same) (kept_is_work F c.in-Waiting.name c.in-Waiting.cube c.in-Waiting.limit c.in-Ok.end (may_end (base_of F) c.in-Waiting.cube c.in-Waiting.limit c.in-Ok.end right));
+      work_is = subst (IsWork F B) (sym same) (kept_is_work F B c.in-Waiting.name c.in-Waiting.cube c.in-Waiting.limit c.in-Ok.end
+          (as_many_vars F c.self.inside.defs B inv.base_is) (may_end B c.in-Waiting.cube c.in-Waiting.limit c.in-Ok.end right));
       candidate_is = inv.candidate_is;
       follows = inv.follows;
     }
@@ -36,12 +36,12 @@ invariant_of-self c =
 pub returns : goal.returns
 returns c =
     let F = c.self.inside.formula in
-    let right : IsRightOutcome (base_of F) c.in-Waiting.cube c.in-Waiting.limit c.in-Ok.end
-    = subst (λ (B : Cnf). IsRightOutcome B c.in-Waiting.cube c.in-Waiting.limit c.in-Ok.end) c.self.invariant.base_is
-    (subst (λ (q : Cube). IsRightOutcome c.self.inside.base q c.in-Waiting.limit c.in-Ok.end) c.as_slice.ensures.value c.in-Ok.ensures) in
+    let B = c.self.inside.base in
+    let right : IsRightOutcome B c.in-Waiting.cube c.in-Waiting.limit c.in-Ok.end
+    = subst (λ (q : Cube). IsRightOutcome B q c.in-Waiting.limit c.in-Ok.end) c.as_slice.ensures.value c.in-Ok.ensures in
     let same : c.in-Ok-keep.work ≡ kept c.in-Waiting.name F.vars c.in-Ok.end
     = c.in-Ok-keep.ensures ∙ ap (λ n. kept c.in-Waiting.name n c.in-Ok.end) c.vars.ensures.value in
     record {
       step = rw (← c.self.view_is) (finishes _ c.in-Waiting.name c.in-Waiting.cube c.in-Waiting.limit c.in-Ok.end c.in-Ok-keep.work c.in-Waiting.is
-          (may_end (base_of F) c.in-Waiting.cube c.in-Waiting.limit c.in-Ok.end right) same);
+          (may_end B c.in-Waiting.cube c.in-Waiting.limit c.in-Ok.end right) same);
     }

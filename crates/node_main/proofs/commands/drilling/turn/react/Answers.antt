@@ -4,5 +4,5 @@ use Rattle.node_main.proofs.commands.drilling.turn.react.Goals as goal
 pub returns-in-NoMemory-clause-stays : goal.returns-in-NoMemory-clause-stays
 returns-in-NoMemory-clause-stays c =
     let reached = c.look.ensures in
-    c.closed_clusters_keep_their_word.ensures.nothing reached.formula reached.tree reached.limit reached.workers c.args.cluster.now reached.moment
+    c.closed_clusters_keep_their_word.ensures.nothing reached.beginning c.args.cluster.now reached.moment
     c.in-Some.event _ c.step.new.self c.in-NoMemory.ensures.happens (inr refl)
