@@ -132,6 +132,13 @@ fn first_literal(frame: &Frame) -> i32 {
     }
 }
 
+/// What a coordinator tells a worker.
+fn told(rt: &impl Abort, coordinator: &mut Coordinator, worker: u32) -> Result<Frame, Fail> {
+    assert!(rt; worker >= 1 && worker <= coordinator.workers());
+    let frame = coordinator.poll(WorkerNumber::new(worker))?;
+    Ok(frame)
+}
+
 #[test]
 fn a_coordinator_splits_on_a_defined_variable(rt: HostRuntime) -> Result<(), Fail> {
     let a = rt.alloc();
@@ -150,6 +157,7 @@ fn a_coordinator_splits_on_a_defined_variable(rt: HostRuntime) -> Result<(), Fai
         outcome: Outcome::Limit,
     };
     assert_eq!(rt; coordinator.deliver(&limited), Reaction::Taken);
-    assert_eq!(rt; first_literal(&coordinator.poll(one)?), 3);
+    let next = told(&rt, &mut coordinator, 1)?;
+    assert_eq!(rt; first_literal(&next), 3);
     Ok(())
 }

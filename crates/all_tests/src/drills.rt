@@ -44,7 +44,8 @@ fn cluster_of(alloc: Global, formula: &Formula) -> Result<ClosedCluster, AllocEr
 {
     let _ = formula.vars();
     let tree = tree(alloc, formula, 2)?;
-    ClosedCluster::new(alloc, formula, tree, 1000, 3)
+    let cluster = ClosedCluster::new(alloc, formula, tree, 1000, 3)?;
+    Ok(cluster)
 }
 
 /// The event of a turn, once more.
