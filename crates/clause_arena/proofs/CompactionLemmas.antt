@@ -12,7 +12,7 @@ use Rattle.std.proofs.lemmas.List.Sums.{sum_by-cons}
 use Rattle.std.proofs.lemmas.List.Elements.{Contains-get_or}
 use Rattle.dimacs.specs.logic.Literal.{Literal, Clause, same}
 use Rattle.clause_arena.specs.declared.reference.Ref.{Ref}
-use Rattle.clause_arena.specs.declared.slots.Slot.{Slot}
+use Rattle.clause_arena.specs.declared.slot.Slot.{Slot}
 use Rattle.clause_arena.specs.Slots.{Slots}
 use Rattle.clause_arena.specs.inner.Slots.{near_entries, slots_of, IsApart}
 use Rattle.clause_arena.specs.Contents.{clause_at, value_at, entry_at, contents}
@@ -150,6 +150,12 @@ module _ (ws : List Literal) (index : Slots) (arena : IsArena ws index) where
       let a = get_or moves i d in
       let h = told_has_moved (entries index) 0 a.0 a.1 (entries_sorted index) (Contains-get_or moves i d lt) in
       subst (λ o. IsSome o) (sym (ap (get index) h.number ∙ get-entries index a.0.number ∙ h.before)) refl
+
+  pub moves_placed : (i : ℕ) (d : Ref × Ref) → i < length moves → (get_or moves i d).1.place ≤ length literals
+  moves_placed i d lt =
+      let a = get_or moves i d in
+      let h = told_has_moved (entries index) 0 a.0 a.1 (entries_sorted index) (Contains-get_or moves i d lt) in
+      omega (arith, (came a.0.number (slot_of a.1) (get-after a.0.number ∙ h.after)).carried.within)
 
 -- what stands behind the first of a list
 pub lent : (D old more : List (Ref × Ref)) (n : ℕ) → n ≡ length old → D ≡ old ++ more → take (length D - n) (drop n D) ≡ more

@@ -9,7 +9,7 @@ use Rattle.std.proofs.lemmas.Bool.{eqb-true}
 use Rattle.std.proofs.lemmas.List.{drop_at, take_at}
 use Rattle.dimacs.specs.logic.Literal.{Literal}
 use Rattle.clause_arena.specs.declared.reference.Ref.{Ref}
-use Rattle.clause_arena.specs.declared.slots.Slot.{Slot}
+use Rattle.clause_arena.specs.declared.slot.Slot.{Slot}
 use Rattle.clause_arena.specs.Slots.{Slots}
 use Rattle.clause_arena.specs.Contents.{clause_at}
 use Rattle.clause_arena.specs.inner.Contents.{slot_of, IsPlaced}

@@ -11,7 +11,7 @@ use Rattle.std.proofs.lemmas.List.Sorted.{IsPermutation-swap}
 use Rattle.std.proofs.lemmas.Map.Keys.{IsDistinct-IsPermutation}
 use Rattle.dimacs.specs.logic.Literal.{Literal, Clause, same, Pos}
 use Rattle.dimacs.proofs.LiteralLemmas.{same-flips}
-use Rattle.clause_arena.specs.declared.slots.Slot.{Slot}
+use Rattle.clause_arena.specs.declared.slot.Slot.{Slot}
 use Rattle.clause_arena.specs.Slots.{Slots}
 use Rattle.clause_arena.specs.Contents.{clause_at, value_at, contents}
 use Rattle.clause_arena.specs.inner.Contents.{IsArena}

@@ -2,7 +2,7 @@
 use Rattle.std.specs.Prelude.{ℕ, List, map, take, drop}
 use Rattle.std.specs.FinMap.{from_entries, entries}
 use Rattle.dimacs.specs.logic.Literal.{Literal, Clause}
-use Rattle.clause_arena.specs.declared.slots.Slot.{Slot}
+use Rattle.clause_arena.specs.declared.slot.Slot.{Slot}
 use Rattle.clause_arena.specs.Slots.{Slots}
 use Rattle.clause_arena.specs.Clauses.{Clauses}
 

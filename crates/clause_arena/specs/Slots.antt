@@ -1,7 +1,7 @@
 -- Slots by numbers.
 use Rattle.std.specs.FinMap.{FinMap}
 use Rattle.std.specs.Ordering.{nat_cmp}
-use Rattle.clause_arena.specs.declared.slots.Slot.{Slot}
+use Rattle.clause_arena.specs.declared.slot.Slot.{Slot}
 
 -- from the number of each live clause to its slot
 abbrev pub Slots : Type 0

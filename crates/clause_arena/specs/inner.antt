@@ -1,4 +1,5 @@
 -- What only private contracts, invariants and proofs name. Nothing here is to be believed.
+pub mod Cell
 pub mod Clauses
 pub mod Contents
 pub mod Packing

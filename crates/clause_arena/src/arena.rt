@@ -12,7 +12,7 @@ use crate::compaction::gather;
 use crate::index::Index;
 use crate::literals::{exchange, literals_at};
 use crate::reference::Ref;
-use crate::slots::Slot;
+use crate::slot::Slot;
 use dimacs::Lit;
 use std::alloc::{AllocError, Global};
 use std::marker::Model;

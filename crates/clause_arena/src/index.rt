@@ -1,12 +1,13 @@
 //! The index of an arena: the slots of the live clauses by their numbers.
 
-ghost use Rattle.std.specs.Prelude.{◌≡◌, ℕ, ◌<◌, ◌++◌, length, slice_index_or, IsSome, OnOk, OnErr};
+ghost use Rattle.std.specs.Prelude.{◌≡◌, ℕ, ◌-◌, ◌^◌, ◌<◌, ◌++◌, length, slice_index_or, IsSome, OnOk, OnErr};
 ghost use Rattle.std.specs.FinMap.{get, insert, remove, empty};
 ghost use Rattle.clause_arena.specs.declared.reference.Ref.{Ref};
 ghost use Rattle.clause_arena.specs.inner.Packing.{refs_of, moved_by};
 
 use crate::reference::Ref;
-use crate::slots::{Far, Slot, find, list, put, replace, reserve_place, take};
+use crate::slot::{Cell, Slot};
+use crate::slots::{Far, find, list, put, replace, reserve_place, take};
 use std::alloc::{AllocError, Global};
 use std::collections::BTreeMap;
 use std::marker::Model;
@@ -14,7 +15,7 @@ use std::marker::Model;
 /// The slots of the live clauses, by their numbers.
 #[derive(Drop)]
 pub(crate) struct Index {
-    near: Vec<Option<Slot>>,
+    near: Vec<Cell>,
     far: Far,
     /// How many clauses were ever put in: it bounds how many places may be free.
     taken: u64,
@@ -56,6 +57,7 @@ impl Index {
 
     /// Puts a slot under a number.
     pub(crate) fn insert(&mut self, number: u64, slot: Slot) -> Result<(), AllocError>
+        requires { slot.place < 2 ^ 64 - 1 }
         ensures ok { OnOk result (self.new ≡ insert self.old number slot) }
         ensures err { OnErr result (self.new ≡ self.old) }
     {
@@ -73,7 +75,8 @@ impl Index {
 
     /// Puts another slot under a number that has one.
     pub(crate) fn replace(&mut self, number: u64, slot: Slot)
-        requires { IsSome (get self.old number) }
+        requires live { IsSome (get self.old number) }
+        requires room { slot.place < 2 ^ 64 - 1 }
         ensures { self.new ≡ insert self.old number slot }
     {
         replace(&mut self.near, &mut self.far, number, slot);
@@ -81,7 +84,8 @@ impl Index {
 
     /// Puts each clause where it has moved.
     pub(crate) fn move_all(&mut self, moves: &[(Ref, Ref)])
-        requires { (i : ℕ) (d : Ref × Ref) → i < length moves.now → IsSome (get self.old (slice_index_or moves.now i d).1.number) }
+        requires live { (i : ℕ) (d : Ref × Ref) → i < length moves.now → IsSome (get self.old (slice_index_or moves.now i d).1.number) }
+        requires room { (i : ℕ) (d : Ref × Ref) → i < length moves.now → (slice_index_or moves.now i d).1.place < 2 ^ 64 - 1 }
         ensures { self.new ≡ moved_by self.old moves.now }
     {
         for (_, to) in moves {

@@ -11,6 +11,7 @@ mod compaction;
 mod index;
 mod literals;
 mod reference;
+mod slot;
 mod slots;
 
 pub use arena::Arena;

@@ -2,7 +2,7 @@
 //! from it do, are places of a table; the others are keys of a map, so that a great number takes no more room than any
 //! other.
 
-ghost use Rattle.std.specs.Prelude.{◌≡◌, ℕ, ◌+◌, ◌*◌, ◌≤◌, ◌<◌, max, ◌++◌, length, map, vec_len, OnOk, OnErr, None, Some, IsSome};
+ghost use Rattle.std.specs.Prelude.{◌≡◌, ℕ, ◌+◌, ◌-◌, ◌*◌, ◌^◌, ◌≤◌, ◌<◌, max, ◌++◌, length, map, vec_len, OnOk, OnErr, None, Some, IsSome};
 ghost use Rattle.std.specs.FinMap.{get, insert, remove};
 ghost use Rattle.std.specs.Ordering.{nat_cmp};
 ghost use Rattle.std.specs.BTreeMap as tree;
@@ -11,15 +11,9 @@ ghost use Rattle.clause_arena.specs.inner.Slots.{near_entries, slots_of, IsApart
 ghost use Rattle.clause_arena.specs.inner.Packing.{ref_of, refs_of};
 
 use crate::reference::Ref;
+use crate::slot::{Cell, Slot};
 use std::alloc::AllocError;
 use std::collections::BTreeMap;
-
-/// Where the literals of a clause stand.
-#[derive(Clone, Copy)]
-pub(crate) struct Slot {
-    pub(crate) place: usize,
-    pub(crate) len: usize,
-}
 
 pub(crate) type Far = BTreeMap<u64, Slot>;
 
@@ -36,20 +30,20 @@ fn find_far(far: &Far, number: u64) -> Option<Slot>
 
 /// The slot of a number.
 #[inline(always)]
-pub(crate) fn find(near: &[Option<Slot>], far: &Far, number: u64) -> Option<Slot>
+pub(crate) fn find(near: &[Cell], far: &Far, number: u64) -> Option<Slot>
     requires { IsApart near.now far.now }
     ensures { result ≡ get (slots_of near.now far.now) number }
 {
     let place = number as usize;
     if place < near.len() {
-        near[place]
+        near[place].slot()
     } else {
         find_far(far, number)
     }
 }
 
 /// Puts a slot at a place, or frees it.
-pub(crate) fn set_near(near: &mut [Option<Slot>], far: &Far, place: usize, slot: Option<Slot>)
+pub(crate) fn set_near(near: &mut [Cell], far: &Far, place: usize, slot: Cell)
     requires apart { IsApart near.old far.now }
     requires here { place < length near.old }
     ensures some { (s : Slot) → slot ≡ Some s → slots_of near.new far.now ≡ insert (slots_of near.old far.now) place s }
@@ -61,7 +55,7 @@ pub(crate) fn set_near(near: &mut [Option<Slot>], far: &Far, place: usize, slot:
 }
 
 /// Puts a slot under a number that has no place.
-fn put_far(near: &[Option<Slot>], far: &mut Far, number: u64, slot: Slot) -> Result<(), AllocError>
+fn put_far(near: &[Cell], far: &mut Far, number: u64, slot: Slot) -> Result<(), AllocError>
     requires apart { IsApart near.now far.old }
     requires beyond { length near.now ≤ number }
     ensures ok { OnOk result (slots_of near.now far.new ≡ insert (slots_of near.now far.old) number slot) }
@@ -74,7 +68,7 @@ fn put_far(near: &[Option<Slot>], far: &mut Far, number: u64, slot: Slot) -> Res
 }
 
 /// Takes out the slot of a number that has no place.
-fn take_far(near: &[Option<Slot>], far: &mut Far, number: u64)
+fn take_far(near: &[Cell], far: &mut Far, number: u64)
     requires apart { IsApart near.now far.old }
     requires beyond { length near.now ≤ number }
     ensures after { slots_of near.now far.new ≡ remove (slots_of near.now far.old) number }
@@ -85,7 +79,7 @@ fn take_far(near: &[Option<Slot>], far: &mut Far, number: u64)
 }
 
 /// Puts another slot under a key.
-fn replace_far(near: &[Option<Slot>], far: &mut Far, number: u64, slot: Slot)
+fn replace_far(near: &[Cell], far: &mut Far, number: u64, slot: Slot)
     requires apart { IsApart near.now far.old }
     requires beyond { length near.now ≤ number }
     requires live { IsSome (tree.get nat_cmp far.old number) }
@@ -99,7 +93,7 @@ fn replace_far(near: &[Option<Slot>], far: &mut Far, number: u64, slot: Slot)
 }
 
 /// Makes places up to this one, below the keys of the map. The new ones are free.
-fn make_place(near: &mut Vec<Option<Slot>>, far: &Far, place: usize) -> Result<(), AllocError>
+fn make_place(near: &mut Vec<Cell>, far: &Far, place: usize) -> Result<(), AllocError>
     requires apart { IsApart near.old.items far.now }
     requires below { (q : ℕ) → IsSome (tree.get nat_cmp far.now q) → place < q }
     ensures same { slots_of near.new.items far.now ≡ slots_of near.old.items far.now }
@@ -109,7 +103,7 @@ fn make_place(near: &mut Vec<Option<Slot>>, far: &Far, place: usize) -> Result<(
 {
     let _ = far;
     while near.len() <= place {
-        near.push(None)?;
+        near.push(Cell::free())?;
     }
     Ok(())
 }
@@ -117,7 +111,7 @@ fn make_place(near: &mut Vec<Option<Slot>>, far: &Far, place: usize) -> Result<(
 /// Makes a place for a number that follows the others closely, where no key of the map stands in the way. The table has
 /// at most four places for each clause that was ever put in and 32,768 more, however great a number is.
 pub(crate) fn reserve_place(
-    near: &mut Vec<Option<Slot>>,
+    near: &mut Vec<Cell>,
     far: &Far,
     taken: u64,
     number: u64,
@@ -144,19 +138,20 @@ pub(crate) fn reserve_place(
 
 /// Puts a slot under a number.
 pub(crate) fn put(
-    near: &mut [Option<Slot>],
+    near: &mut [Cell],
     far: &mut Far,
     number: u64,
     slot: Slot,
 ) -> Result<(), AllocError>
-    requires { IsApart near.old far.old }
+    requires apart { IsApart near.old far.old }
+    requires room { slot.place < 2 ^ 64 - 1 }
     ensures ok { OnOk result (slots_of near.new far.new ≡ insert (slots_of near.old far.old) number slot) }
     ensures err { OnErr result (slots_of near.new far.new ≡ slots_of near.old far.old) }
     ensures apart { IsApart near.new far.new }
 {
     let place = number as usize;
     if place < near.len() {
-        set_near(near, far, place, Some(slot));
+        set_near(near, far, place, Cell::of(slot));
         Ok(())
     } else {
         put_far(near, far, number, slot)
@@ -164,40 +159,41 @@ pub(crate) fn put(
 }
 
 /// Takes out the slot of a number.
-pub(crate) fn take(near: &mut [Option<Slot>], far: &mut Far, number: u64)
+pub(crate) fn take(near: &mut [Cell], far: &mut Far, number: u64)
     requires { IsApart near.old far.old }
     ensures after { slots_of near.new far.new ≡ remove (slots_of near.old far.old) number }
     ensures apart { IsApart near.new far.new }
 {
     let place = number as usize;
     if place < near.len() {
-        set_near(near, far, place, None);
+        set_near(near, far, place, Cell::free());
     } else {
         take_far(near, far, number);
     }
 }
 
 /// Puts another slot under a number that has one.
-pub(crate) fn replace(near: &mut [Option<Slot>], far: &mut Far, number: u64, slot: Slot)
+pub(crate) fn replace(near: &mut [Cell], far: &mut Far, number: u64, slot: Slot)
     requires apart { IsApart near.old far.old }
     requires live { IsSome (get (slots_of near.old far.old) number) }
+    requires room { slot.place < 2 ^ 64 - 1 }
     ensures after { slots_of near.new far.new ≡ insert (slots_of near.old far.old) number slot }
     ensures apart { IsApart near.new far.new }
 {
     let place = number as usize;
     if place < near.len() {
-        set_near(near, far, place, Some(slot));
+        set_near(near, far, place, Cell::of(slot));
     } else {
         replace_far(near, far, number, slot);
     }
 }
 
 /// Appends where the clauses of the table stand.
-fn list_near(near: &[Option<Slot>], refs: &mut Vec<Ref>) -> Result<(), AllocError>
+fn list_near(near: &[Cell], refs: &mut Vec<Ref>) -> Result<(), AllocError>
     ensures { OnOk result (refs.new.items ≡ refs.old.items ++ map ref_of (near_entries 0 near.now)) }
 {
-    for (i, slot) in near.iter().enumerate() {
-        if let Some(slot) = slot {
+    for (i, cell) in near.iter().enumerate() {
+        if let Some(slot) = cell.slot() {
             refs.push(Ref {
                 number: i as u64,
                 place: slot.place,
@@ -224,7 +220,7 @@ fn list_far(far: &Far, refs: &mut Vec<Ref>) -> Result<(), AllocError>
 }
 
 /// Where the clauses stand, by rising numbers.
-pub(crate) fn list(near: &[Option<Slot>], far: &Far, refs: &mut Vec<Ref>) -> Result<(), AllocError>
+pub(crate) fn list(near: &[Cell], far: &Far, refs: &mut Vec<Ref>) -> Result<(), AllocError>
     requires { IsApart near.now far.now }
     ensures { OnOk result (refs.new.items ≡ refs.old.items ++ refs_of (slots_of near.now far.now)) }
 {

@@ -1,5 +1,5 @@
 -- Trees over definitions.
-use Rattle.std.proofs.Common.{◌≡◌, ◌≢◌, ℕ, suc, ◌+◌, ◌<◌, ◌≤◌, ◌⊎◌, inl, inr, List, [], ◌∷◌, ◌++◌, length, Some, None, sym, ap, ◌∙◌, subst, arith, append_assoc}
+use Rattle.std.proofs.Common.{◌≡◌, ◌≢◌, ℕ, suc, ◌+◌, ◌<◌, ◌≤◌, ◌⊎◌, inl, inr, List, [], ◌∷◌, ◌++◌, length, Some, None, sym, ap, ◌∙◌, subst, arith, append_assoc, Result, Ok, Err, IfOk}
 use Rattle.std.specs.List.{All}
 use Rattle.std.proofs.lemmas.Bool.{cases_eq, cases_lt}
 use Rattle.std.proofs.lemmas.List.Elements.{All-nil, All-cons, All-append}
@@ -88,3 +88,8 @@ pub chosen_all : (F : Cnf) (o : Opening) (levels : ℕ) (path : Cube) (before af
 chosen_all F o levels path before after none start h =
     let all : after ≡ h.cubes = h.appended ∙ ap (λ (cs : List Cube). cs ++ h.cubes) none in
     subst (λ (q : Cube). IsSplitBy (Chooses F o) levels q after) start (subst (IsSplitBy (Chooses F o) levels path) (sym all) h.below)
+
+-- a tree of no levels is one leaf
+pub leaf_alone : (E : Type 0) (F : Cnf) (o : Opening) (r : Result (List Cube) E) → IfOk r (λ t. t ≡ [] ∷ []) → IfOk r (IsTreeWith F o 0)
+leaf_alone E F o (Ok t) h = rw h IsSplitBy.full
+leaf_alone E F o (Err e) h = tt

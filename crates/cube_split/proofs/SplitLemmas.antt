@@ -70,11 +70,6 @@ pub on_ok : {A E : Type 0} (r : Result A E) (P Q : Type 0) → (P → Q) → OnO
 on_ok (Ok x) P Q f h = f h
 on_ok (Err e) P Q f h = h
 
--- a tree of no levels is one leaf
-pub leaf_alone : (E : Type 0) (f : Cnf) (r : Result (List Cube) E) → IfOk r (λ t. t ≡ [] ∷ []) → IfOk r (IsTreeOf f 0)
-leaf_alone E f (Ok t) h = rw h full
-leaf_alone E f (Err e) h = tt
-
 -- a tree of the greatest depth has room
 pub room_for : (depth : ℕ) → depth ≤ 16 → 2 ^ depth ≤ 65536
 room_for depth le = elim (cases_lt depth 16) [

@@ -109,6 +109,9 @@ pub fn tree_with(
     // No cube has a variable that is neither the formula's nor defined.
     ensures within { IfOk result (AreWithin (formula.now.vars + length preamble.now.pairs)) }
 {
+    if depth == 0 {
+        return Tree::leaf(alloc);
+    }
     let mut walk = Descent::begin(alloc, formula, preamble)?;
     let mut leaves = TreeBuilder::new(alloc);
     let mut path = Vec::new(alloc);
@@ -124,9 +127,6 @@ pub fn tree(alloc: Global, formula: &Formula, depth: u32) -> Result<Tree, AllocE
     // No cube has a variable that stands in no clause.
     ensures within { IfOk result (AreWithin (greatest_in formula.now.clauses)) }
 {
-    if depth == 0 {
-        return Tree::leaf(alloc);
-    }
     let _ = formula.vars();
     let preamble = preamble(alloc, formula)?;
     tree_with(alloc, formula, &preamble, depth)

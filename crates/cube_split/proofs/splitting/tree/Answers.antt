@@ -1,8 +1,5 @@
-use Rattle.cube_split.proofs.SplitLemmas.{leaf_alone, plain_tree, plain_within}
+use Rattle.cube_split.proofs.SplitLemmas.{plain_tree, plain_within}
 use Rattle.cube_split.proofs.splitting.tree.Goals as goal
-
-pub returns-then-depth-eq0-clause-split : goal.returns-then-depth-eq0-clause-split
-returns-then-depth-eq0-clause-split c = rw c.if-depth-eq0.true (leaf_alone _ c.args.formula.now c.leaf.result c.leaf.ensures)
 
 pub returns-clause-split : goal.returns-clause-split
 returns-clause-split c = plain_tree _ c.args.formula.now c.in_ok-preamble.preamble c.args.depth c.tree_with.result c.in_ok-preamble.ensures.units c.tree_with.ensures.split

@@ -1,8 +1,11 @@
 use Rattle.std.proofs.Common.{List, [], length, arith, ap}
 use Rattle.icnf.specs.Leaves.{Cube}
-use Rattle.cube_split.proofs.ChosenLemmas.{chosen_all, tree_inside, tree_leaves}
+use Rattle.cube_split.proofs.ChosenLemmas.{chosen_all, leaf_alone, tree_inside, tree_leaves}
 use Rattle.cube_split.proofs.SplitLemmas.{room_for}
 use Rattle.cube_split.proofs.splitting.tree_with.Goals as goal
+
+pub returns-then-depth-eq0-clause-split : goal.returns-then-depth-eq0-clause-split
+returns-then-depth-eq0-clause-split c = rw c.if-depth-eq0.true (leaf_alone _ c.args.formula.now c.args.preamble.now c.leaf.result c.leaf.ensures)
 
 pub append_below-requires-clause-room : goal.append_below-requires-clause-room
 append_below-requires-clause-room c = let n = ap (λ (cs : List Cube). length cs) c.new-leaves.ensures in omega (arith, n, room_for c.args.depth c.requires.depth)

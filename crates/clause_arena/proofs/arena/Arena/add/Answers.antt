@@ -1,6 +1,6 @@
 use Rattle.std.proofs.Common.{◌≡◌, ◌∙◌, ap, subst, sym, refl, length, arith, ◌++◌}
 use Rattle.std.specs.FinMap.{insert}
-use Rattle.clause_arena.specs.declared.slots.Slot.{Slot}
+use Rattle.clause_arena.specs.declared.slot.Slot.{Slot}
 use Rattle.clause_arena.specs.Contents.{contents}
 use Rattle.clause_arena.specs.inner.Contents.{IsArena}
 use Rattle.clause_arena.proofs.ContentLemmas.{arena-add, contents-add}

@@ -6,7 +6,7 @@ use Rattle.clause_arena.specs.Contents.{contents}
 use Rattle.clause_arena.specs.inner.Contents.{slot_of, IsPlaced, IsArena}
 use Rattle.clause_arena.specs.Compaction.{IsCompacted}
 use Rattle.clause_arena.specs.inner.Packing.{refs_of, gathered, moves_from, moved_by}
-use Rattle.clause_arena.proofs.CompactionLemmas.{arena-compacted, compacted, refs_placed, moves_live, lent}
+use Rattle.clause_arena.proofs.CompactionLemmas.{arena-compacted, compacted, refs_placed, moves_live, moves_placed, lent}
 use Rattle.clause_arena.proofs.arena.Arena.compact.Goals as goal
 
 pub gather-requires : goal.gather-requires
@@ -17,14 +17,24 @@ gather-requires c =
     (subst (λ ws. (i : ℕ) (d : Ref) → i < length (refs_of c.self.inside.index) → IsPlaced ws (slot_of (get_or (refs_of c.self.inside.index) i d))) (sym c.deref.ensures.value)
     (refs_placed c.self.inside.literals.items c.self.inside.index c.self.invariant))
 
-pub move_all-requires : goal.move_all-requires
-move_all-requires c =
+pub move_all-requires-clause-live : goal.move_all-requires-clause-live
+move_all-requires-clause-live c =
     let refs = c.deref-2.ensures.value ∙ c.in_ok-list.ensures ∙ ap (λ xs. xs ++ refs_of c.self.inside.index) c.new-refs.ensures.items in
     let before : c.len-before.result ≡ length c.args.moved.now.items = omega arith in
     let is = lent c.deref-in-Ok.result.now c.args.moved.now.items (moves_from 0 (refs_of c.self.inside.index)) c.len-before.result before
     (c.deref-in-Ok.ensures.value ∙ c.in-Ok.ensures.moves ∙ ap (λ xs. c.args.moved.now.items ++ moves_from 0 xs) refs) in
     let P : List (Ref × Ref) → Type 0 = λ xs. (i : ℕ) (d : Ref × Ref) → i < length xs → IsSome (get c.self.inside.index (get_or xs i d).1.number) in
     subst P (sym is) (moves_live c.self.inside.literals.items c.self.inside.index c.self.invariant)
+
+pub move_all-requires-clause-room : goal.move_all-requires-clause-room
+move_all-requires-clause-room c =
+    let refs = c.deref-2.ensures.value ∙ c.in_ok-list.ensures ∙ ap (λ xs. xs ++ refs_of c.self.inside.index) c.new-refs.ensures.items in
+    let before : c.len-before.result ≡ length c.args.moved.now.items = omega arith in
+    let is = lent c.deref-in-Ok.result.now c.args.moved.now.items (moves_from 0 (refs_of c.self.inside.index)) c.len-before.result before
+    (c.deref-in-Ok.ensures.value ∙ c.in-Ok.ensures.moves ∙ ap (λ xs. c.args.moved.now.items ++ moves_from 0 xs) refs) in
+    let literals = c.in-Ok.ensures.literals ∙ ap (λ ws. gathered ws c.deref-2.result.now) c.deref.ensures.value ∙ ap (gathered c.self.inside.literals.items) refs in
+    let P : List (Ref × Ref) → Type 0 = λ xs. (i : ℕ) (d : Ref × Ref) → i < length xs → (get_or xs i d).1.place < 18446744073709551615 in
+    subst P (sym is) (λ i d lt. omega (arith, moves_placed c.self.inside.literals.items c.self.inside.index c.self.invariant i d lt, ap length literals, c.in-Ok.fresh.small))
 
 pub invariant_of-self : goal.invariant_of-self
 invariant_of-self c =
