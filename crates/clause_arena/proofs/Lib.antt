@@ -6,3 +6,4 @@ pub mod PackingLemmas
 pub mod SlotLemmas
 pub mod SortedLemmas
 pub mod SwapLemmas
+pub mod TableLemmas

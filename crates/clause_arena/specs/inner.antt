@@ -4,3 +4,4 @@ pub mod Clauses
 pub mod Contents
 pub mod Packing
 pub mod Slots
+pub mod Table

@@ -6,8 +6,9 @@ ghost use Rattle.clause_arena.specs.declared.reference.Ref.{Ref};
 ghost use Rattle.clause_arena.specs.inner.Packing.{refs_of, moved_by};
 
 use crate::reference::Ref;
-use crate::slot::{Cell, Slot};
+use crate::slot::Slot;
 use crate::slots::{Far, find, list, put, replace, reserve_place, take};
+use crate::table::Table;
 use std::alloc::{AllocError, Global};
 use std::collections::BTreeMap;
 use std::marker::Model;
@@ -15,14 +16,14 @@ use std::marker::Model;
 /// The slots of the live clauses, by their numbers.
 #[derive(Drop)]
 pub(crate) struct Index {
-    near: Vec<Cell>,
+    near: Table,
     far: Far,
     /// How many clauses were ever put in: it bounds how many places may be free.
     taken: u64,
 }
 
 impl Model for Index {
-    ghost use Rattle.std.specs.Prelude.{◌+◌, ◌*◌, ◌≤◌, vec_len};
+    ghost use Rattle.std.specs.Prelude.{◌+◌, ◌*◌, ◌≤◌, length};
     ghost use Rattle.clause_arena.specs.Slots.{Slots};
     ghost use Rattle.clause_arena.specs.inner.Slots.{slots_code, slots_of, IsApart};
 
@@ -30,9 +31,9 @@ impl Model for Index {
 
     ghost coded = { slots_code };
 
-    ghost view = { λ i. slots_of i.near.items i.far };
+    ghost view = { λ i. slots_of i.near i.far };
 
-    ghost invariant = { λ i. IsApart i.near.items i.far × (vec_len i.near ≤ 4 * (i.taken + 8192)) };
+    ghost invariant = { λ i. IsApart i.near i.far × (length i.near ≤ 4 * (i.taken + 8192)) };
 }
 
 impl Index {
@@ -41,7 +42,7 @@ impl Index {
         ensures { result ≡ empty }
     {
         Index {
-            near: Vec::new(alloc),
+            near: Table::new(alloc),
             far: BTreeMap::new(alloc),
             taken: 0,
         }
@@ -100,9 +101,10 @@ impl Index {
     }
 
     /// Appends where the clauses stand, by rising numbers.
-    pub(crate) fn list(&self, refs: &mut Vec<Ref>) -> Result<(), AllocError>
-        ensures { OnOk result (refs.new.items ≡ refs.old.items ++ refs_of self.now) }
+    pub(crate) fn list(&mut self, refs: &mut Vec<Ref>) -> Result<(), AllocError>
+        ensures same { self.new ≡ self.old }
+        ensures listed { OnOk result (refs.new.items ≡ refs.old.items ++ refs_of self.old) }
     {
-        list(&self.near, &self.far, refs)
+        list(&mut self.near, &self.far, refs)
     }
 }

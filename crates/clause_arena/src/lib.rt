@@ -13,6 +13,7 @@ mod literals;
 mod reference;
 mod slot;
 mod slots;
+mod table;
 
 pub use arena::Arena;
 pub use reference::Ref;

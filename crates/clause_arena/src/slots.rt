@@ -11,7 +11,8 @@ ghost use Rattle.clause_arena.specs.inner.Slots.{near_entries, slots_of, IsApart
 ghost use Rattle.clause_arena.specs.inner.Packing.{ref_of, refs_of};
 
 use crate::reference::Ref;
-use crate::slot::{Cell, Slot};
+use crate::slot::Slot;
+use crate::table::Table;
 use std::alloc::AllocError;
 use std::collections::BTreeMap;
 
@@ -30,32 +31,45 @@ fn find_far(far: &Far, number: u64) -> Option<Slot>
 
 /// The slot of a number.
 #[inline(always)]
-pub(crate) fn find(near: &[Cell], far: &Far, number: u64) -> Option<Slot>
+pub(crate) fn find(near: &Table, far: &Far, number: u64) -> Option<Slot>
     requires { IsApart near.now far.now }
     ensures { result ≡ get (slots_of near.now far.now) number }
 {
     let place = number as usize;
     if place < near.len() {
-        near[place].slot()
+        near.get(place)
     } else {
         find_far(far, number)
     }
 }
 
-/// Puts a slot at a place, or frees it.
-pub(crate) fn set_near(near: &mut [Cell], far: &Far, place: usize, slot: Cell)
+/// Puts a slot at a place.
+fn put_near(near: &mut Table, far: &Far, place: usize, slot: Slot)
     requires apart { IsApart near.old far.now }
     requires here { place < length near.old }
-    ensures some { (s : Slot) → slot ≡ Some s → slots_of near.new far.now ≡ insert (slots_of near.old far.now) place s }
-    ensures none { slot ≡ None → slots_of near.new far.now ≡ remove (slots_of near.old far.now) place }
+    requires room { slot.place < 2 ^ 64 - 1 }
+    ensures after { slots_of near.new far.now ≡ insert (slots_of near.old far.now) place slot }
     ensures apart { IsApart near.new far.now }
+    ensures len { length near.new ≡ length near.old }
 {
     let _ = far;
-    near[place] = slot;
+    near.set(place, slot);
+}
+
+/// Frees a place.
+fn free_near(near: &mut Table, far: &Far, place: usize)
+    requires apart { IsApart near.old far.now }
+    requires here { place < length near.old }
+    ensures after { slots_of near.new far.now ≡ remove (slots_of near.old far.now) place }
+    ensures apart { IsApart near.new far.now }
+    ensures len { length near.new ≡ length near.old }
+{
+    let _ = far;
+    near.free(place);
 }
 
 /// Puts a slot under a number that has no place.
-fn put_far(near: &[Cell], far: &mut Far, number: u64, slot: Slot) -> Result<(), AllocError>
+fn put_far(near: &Table, far: &mut Far, number: u64, slot: Slot) -> Result<(), AllocError>
     requires apart { IsApart near.now far.old }
     requires beyond { length near.now ≤ number }
     ensures ok { OnOk result (slots_of near.now far.new ≡ insert (slots_of near.now far.old) number slot) }
@@ -68,7 +82,7 @@ fn put_far(near: &[Cell], far: &mut Far, number: u64, slot: Slot) -> Result<(), 
 }
 
 /// Takes out the slot of a number that has no place.
-fn take_far(near: &[Cell], far: &mut Far, number: u64)
+fn take_far(near: &Table, far: &mut Far, number: u64)
     requires apart { IsApart near.now far.old }
     requires beyond { length near.now ≤ number }
     ensures after { slots_of near.now far.new ≡ remove (slots_of near.now far.old) number }
@@ -79,7 +93,7 @@ fn take_far(near: &[Cell], far: &mut Far, number: u64)
 }
 
 /// Puts another slot under a key.
-fn replace_far(near: &[Cell], far: &mut Far, number: u64, slot: Slot)
+fn replace_far(near: &Table, far: &mut Far, number: u64, slot: Slot)
     requires apart { IsApart near.now far.old }
     requires beyond { length near.now ≤ number }
     requires live { IsSome (tree.get nat_cmp far.old number) }
@@ -93,17 +107,17 @@ fn replace_far(near: &[Cell], far: &mut Far, number: u64, slot: Slot)
 }
 
 /// Makes places up to this one, below the keys of the map. The new ones are free.
-fn make_place(near: &mut Vec<Cell>, far: &Far, place: usize) -> Result<(), AllocError>
-    requires apart { IsApart near.old.items far.now }
+fn make_place(near: &mut Table, far: &Far, place: usize) -> Result<(), AllocError>
+    requires apart { IsApart near.old far.now }
     requires below { (q : ℕ) → IsSome (tree.get nat_cmp far.now q) → place < q }
-    ensures same { slots_of near.new.items far.now ≡ slots_of near.old.items far.now }
-    ensures apart { IsApart near.new.items far.now }
-    ensures here { OnOk result (place < vec_len near.new) }
-    ensures few { vec_len near.new ≤ max (vec_len near.old) (place + 1) }
+    ensures same { slots_of near.new far.now ≡ slots_of near.old far.now }
+    ensures apart { IsApart near.new far.now }
+    ensures here { OnOk result (place < length near.new) }
+    ensures few { length near.new ≤ max (length near.old) (place + 1) }
 {
     let _ = far;
     while near.len() <= place {
-        near.push(Cell::free())?;
+        near.grow()?;
     }
     Ok(())
 }
@@ -111,15 +125,15 @@ fn make_place(near: &mut Vec<Cell>, far: &Far, place: usize) -> Result<(), Alloc
 /// Makes a place for a number that follows the others closely, where no key of the map stands in the way. The table has
 /// at most four places for each clause that was ever put in and 32,768 more, however great a number is.
 pub(crate) fn reserve_place(
-    near: &mut Vec<Cell>,
+    near: &mut Table,
     far: &Far,
     taken: u64,
     number: u64,
 ) -> Result<(), AllocError>
-    requires { IsApart near.old.items far.now }
-    ensures same { slots_of near.new.items far.now ≡ slots_of near.old.items far.now }
-    ensures apart { IsApart near.new.items far.now }
-    ensures few { vec_len near.new ≤ max (vec_len near.old) (4 * (taken + 8192)) }
+    requires { IsApart near.old far.now }
+    ensures same { slots_of near.new far.now ≡ slots_of near.old far.now }
+    ensures apart { IsApart near.new far.now }
+    ensures few { length near.new ≤ max (length near.old) (4 * (taken + 8192)) }
 {
     if number >= taken.saturating_add(8192).saturating_mul(4) {
         return Ok(());
@@ -138,7 +152,7 @@ pub(crate) fn reserve_place(
 
 /// Puts a slot under a number.
 pub(crate) fn put(
-    near: &mut [Cell],
+    near: &mut Table,
     far: &mut Far,
     number: u64,
     slot: Slot,
@@ -148,10 +162,11 @@ pub(crate) fn put(
     ensures ok { OnOk result (slots_of near.new far.new ≡ insert (slots_of near.old far.old) number slot) }
     ensures err { OnErr result (slots_of near.new far.new ≡ slots_of near.old far.old) }
     ensures apart { IsApart near.new far.new }
+    ensures len { length near.new ≡ length near.old }
 {
     let place = number as usize;
     if place < near.len() {
-        set_near(near, far, place, Cell::of(slot));
+        put_near(near, far, place, slot);
         Ok(())
     } else {
         put_far(near, far, number, slot)
@@ -159,49 +174,35 @@ pub(crate) fn put(
 }
 
 /// Takes out the slot of a number.
-pub(crate) fn take(near: &mut [Cell], far: &mut Far, number: u64)
+pub(crate) fn take(near: &mut Table, far: &mut Far, number: u64)
     requires { IsApart near.old far.old }
     ensures after { slots_of near.new far.new ≡ remove (slots_of near.old far.old) number }
     ensures apart { IsApart near.new far.new }
+    ensures len { length near.new ≡ length near.old }
 {
     let place = number as usize;
     if place < near.len() {
-        set_near(near, far, place, Cell::free());
+        free_near(near, far, place);
     } else {
         take_far(near, far, number);
     }
 }
 
 /// Puts another slot under a number that has one.
-pub(crate) fn replace(near: &mut [Cell], far: &mut Far, number: u64, slot: Slot)
+pub(crate) fn replace(near: &mut Table, far: &mut Far, number: u64, slot: Slot)
     requires apart { IsApart near.old far.old }
     requires live { IsSome (get (slots_of near.old far.old) number) }
     requires room { slot.place < 2 ^ 64 - 1 }
     ensures after { slots_of near.new far.new ≡ insert (slots_of near.old far.old) number slot }
     ensures apart { IsApart near.new far.new }
+    ensures len { length near.new ≡ length near.old }
 {
     let place = number as usize;
     if place < near.len() {
-        set_near(near, far, place, Cell::of(slot));
+        put_near(near, far, place, slot);
     } else {
         replace_far(near, far, number, slot);
     }
-}
-
-/// Appends where the clauses of the table stand.
-fn list_near(near: &[Cell], refs: &mut Vec<Ref>) -> Result<(), AllocError>
-    ensures { OnOk result (refs.new.items ≡ refs.old.items ++ map ref_of (near_entries 0 near.now)) }
-{
-    for (i, cell) in near.iter().enumerate() {
-        if let Some(slot) = cell.slot() {
-            refs.push(Ref {
-                number: i as u64,
-                place: slot.place,
-                len: slot.len,
-            })?;
-        }
-    }
-    Ok(())
 }
 
 /// Appends where the clauses of the map stand.
@@ -220,10 +221,11 @@ fn list_far(far: &Far, refs: &mut Vec<Ref>) -> Result<(), AllocError>
 }
 
 /// Where the clauses stand, by rising numbers.
-pub(crate) fn list(near: &[Cell], far: &Far, refs: &mut Vec<Ref>) -> Result<(), AllocError>
-    requires { IsApart near.now far.now }
-    ensures { OnOk result (refs.new.items ≡ refs.old.items ++ refs_of (slots_of near.now far.now)) }
+pub(crate) fn list(near: &mut Table, far: &Far, refs: &mut Vec<Ref>) -> Result<(), AllocError>
+    requires { IsApart near.old far.now }
+    ensures same { near.new ≡ near.old }
+    ensures listed { OnOk result (refs.new.items ≡ refs.old.items ++ refs_of (slots_of near.old far.now)) }
 {
-    list_near(near, refs)?;
+    near.list(refs)?;
     list_far(far, refs)
 }

@@ -1,7 +1,7 @@
-use Rattle.std.proofs.Common.{subst, IsSome}
+use Rattle.std.proofs.Common.{subst, IsSome, arith}
 use Rattle.clause_arena.proofs.SlotLemmas.{get_far}
 use Rattle.clause_arena.proofs.slots.replace.Goals as goal
 
 pub replace_far-requires-clause-live : goal.replace_far-requires-clause-live
 replace_far-requires-clause-live c =
-    subst (λ o. IsSome o) (get_far c.args.near.now c.args.far.now c.args.number c.if-place-near.false) c.requires.live
+    subst (λ o. IsSome o) (get_far c.args.near.now c.args.far.now c.args.number (omega (arith, c.len.ensures, c.if-place-len.false))) c.requires.live
