@@ -6,7 +6,7 @@ ghost use Rattle.dimacs.specs.logic.Literal.{IsWithin};
 ghost use Rattle.conflict_analysis.specs.Built.{AreInside};
 ghost use Rattle.conflict_analysis.specs.inner.Minimising.{HasRoom};
 
-use crate::seen::Seen;
+use crate::seen::{Seen, clear, make_room};
 use clause_arena::Arena;
 use dimacs::{Lit, Var};
 use std::alloc::{AllocError, Global};
@@ -24,18 +24,24 @@ enum Standing {
 
 /// Finds out which entries follow, by their reasons, from entries that a walk has met. It keeps what it found until the next
 /// walk begins: what a walk meets on its way follows from what it met before, so that no answer changes.
+///
+/// An answer is a stamp in one table, by variable, so that it costs one look: new stamps forget all answers.
 #[derive(Drop)]
 pub(crate) struct Minimiser {
-    pub(crate) removable: Seen,
-    pub(crate) poison: Seen,
+    pub(crate) answers: Vec<u32>,
+    /// The stamp of a variable whose entry follows.
+    pub(crate) removable: u32,
+    /// The stamp of one whose entry does not.
+    pub(crate) poison: u32,
 }
 
 impl Minimiser {
     /// Without room for a variable.
     pub(crate) fn new(alloc: Global) -> Minimiser {
         Minimiser {
-            removable: Seen::new(alloc),
-            poison: Seen::new(alloc),
+            answers: Vec::new(alloc),
+            removable: 0,
+            poison: 0,
         }
     }
 
@@ -43,8 +49,13 @@ impl Minimiser {
     pub(crate) fn begin(&mut self, vars: u32) -> Result<(), AllocError>
         ensures { OnOk result (HasRoom vars self.new) }
     {
-        self.removable.restart(vars)?;
-        self.poison.restart(vars)?;
+        make_room(&mut self.answers, vars as usize + 1)?;
+        if self.poison >= u32::MAX - 1 {
+            clear(&mut self.answers);
+            self.poison = 0;
+        }
+        self.removable = self.poison + 1;
+        self.poison = self.removable + 1;
         Ok(())
     }
 
@@ -93,10 +104,14 @@ impl Minimiser {
         requires room { HasRoom trail.now.vars self.now }
     {
         let var = literal.var();
-        if met.has(var) || self.removable.has(var) {
+        if met.has(var) {
             return Standing::Follows;
         }
-        if self.poison.has(var) {
+        let answer = self.answers[var.number() as usize];
+        if answer == self.removable {
+            return Standing::Follows;
+        }
+        if answer == self.poison {
             return Standing::Fails;
         }
         match trail.value(literal) {
@@ -115,15 +130,13 @@ impl Minimiser {
 
     /// Keeps an answer.
     fn note(&mut self, var: Var, removable: bool)
-        requires removable { var < length self.old.removable }
-        requires poison { var < length self.old.poison }
-        ensures removable { length self.new.removable ≡ length self.old.removable }
-        ensures poison { length self.new.poison ≡ length self.old.poison }
+        requires { var < length self.old.answers.items }
+        ensures { length self.new.answers.items ≡ length self.old.answers.items }
     {
-        if removable {
-            self.removable.insert(var);
+        self.answers[var.number() as usize] = if removable {
+            self.removable
         } else {
-            self.poison.insert(var);
-        }
+            self.poison
+        };
     }
 }

@@ -10,8 +10,8 @@ use std::marker::Model;
 /// A set of variables. One is in it where its stamp is the present one, so that a new stamp empties it.
 #[derive(Drop)]
 pub(crate) struct Seen {
-    stamps: Vec<u64>,
-    stamp: u64,
+    stamps: Vec<u32>,
+    stamp: u32,
 }
 
 impl Model for Seen {
@@ -52,7 +52,7 @@ impl Seen {
         ensures none { OnOk result ((v : ℕ) → met self.new v ≡ false) }
     {
         make_room(&mut self.stamps, vars as usize + 1)?;
-        if self.stamp == u64::MAX {
+        if self.stamp == u32::MAX {
             clear(&mut self.stamps);
             self.stamp = 0;
         }
@@ -80,7 +80,7 @@ impl Seen {
 }
 
 /// Makes at least so many places. The new ones have no stamp.
-fn make_room(stamps: &mut Vec<u64>, places: usize) -> Result<(), AllocError>
+pub(crate) fn make_room(stamps: &mut Vec<u32>, places: usize) -> Result<(), AllocError>
     ensures room { OnOk result (places ≤ length stamps.new.items) }
     ensures bounded { (n : ℕ) → All (λ s. s ≤ n) stamps.old.items → All (λ s. s ≤ n) stamps.new.items }
 {
@@ -91,7 +91,7 @@ fn make_room(stamps: &mut Vec<u64>, places: usize) -> Result<(), AllocError>
 }
 
 /// Takes each stamp away.
-fn clear(stamps: &mut Vec<u64>)
+pub(crate) fn clear(stamps: &mut Vec<u32>)
     ensures len { length stamps.new.items ≡ length stamps.old.items }
     ensures cleared { All (λ s. s ≤ 0) stamps.new.items }
 {

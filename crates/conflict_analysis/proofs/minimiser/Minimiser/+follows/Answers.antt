@@ -19,14 +19,8 @@ within t c =
 pub standing-requires-clause-within : goal.standing-requires-clause-within
 standing-requires-clause-within t c = within t ((goal.at.standing-requires-clause-within t c).After-literal-item)
 
-pub note-requires-clause-removable : goal.note-requires-clause-removable
-note-requires-clause-removable t c =
-    let high = (within t ((goal.at.note-requires-clause-removable t c).After-literal-item)).1 in
-    let room = c.follows-removable.ensures.room.removable in
-    rw c.var.ensures (omega (arith, high, room))
-
-pub note-requires-clause-poison : goal.note-requires-clause-poison
-note-requires-clause-poison t c =
-    let high = (within t ((goal.at.note-requires-clause-poison t c).After-literal-item)).1 in
-    let room = c.follows-removable.ensures.room.poison in
+pub note-requires : goal.note-requires
+note-requires t c =
+    let high = (within t ((goal.at.note-requires t c).After-literal-item)).1 in
+    let room = c.follows-removable.ensures.room in
     rw c.var.ensures (omega (arith, high, room))
