@@ -1,4 +1,5 @@
 pub mod Assuming
+pub mod Blocks
 pub mod Building
 pub mod Fronts
 pub mod Closed

@@ -1,21 +1,24 @@
 -- A walk meets one literal more.
-use Rattle.std.proofs.Common.{◌≡◌, ℕ, ◌+◌, ◌<◌, ◌||◌, inl, inr, Bool, true, false, eqb, List, [], ◌∷◌, ◌++◌, length, set, sym, ◌∙◌, subst, arith}
+use Rattle.std.proofs.Common.{◌≡◌, ℕ, ◌+◌, ◌/◌, ◌<◌, ◌||◌, inl, inr, Bool, true, false, eqb, List, [], ◌∷◌, ◌++◌, length, get_or, set, ap, sym, ◌∙◌, subst, arith}
 use Rattle.std.specs.List.{Contains}
 use Rattle.std.proofs.lemmas.Bool.{both_ways}
 use Rattle.std.proofs.lemmas.List.{length-set}
+use Rattle.dimacs.proofs.LiteralLemmas.{var_of-negation}
 use Rattle.dimacs.specs.logic.Literal.{Literal, IsWithin, negation, var_of}
 use Rattle.watches.specs.Trails.{TrailValue, holds}
 use Rattle.watches.specs.declared.trail.Assigned.{Assigned}
 use Rattle.conflict_analysis.specs.declared.walk.Walk.{Walk}
 use Rattle.conflict_analysis.specs.inner.Seen.{met}
-use Rattle.conflict_analysis.specs.inner.Walks.{AreCounted, AreListed, HasMet, IsKnown, IsWalk}
+use Rattle.conflict_analysis.specs.inner.Walks.{AreCounted, AreListed, AreMarked, HasMet, IsKnown, IsWalk}
+use Rattle.conflict_analysis.proofs.Blocks.{marks_more}
 use Rattle.conflict_analysis.proofs.HasMet.{met_none}
 use Rattle.conflict_analysis.proofs.Meeting.{met_set, lists, meets_present, meets_lower}
 use Rattle.conflict_analysis.proofs.Tracing.{mark_one}
 
 module _ (t : TrailValue) (front : List Assigned) (w : Walk) (k : Literal) (e : Assigned)
     (walk : IsWalk t front w) (within : IsWithin t.vars k) (known : IsKnown front (met w.seen) k) (new : met w.seen (var_of k) ≡ false)
-    (here : Contains t.entries e) (is : e.literal ≡ negation k) where
+    (here : Contains t.entries e) (is : e.literal ≡ negation k)
+    (p : ℕ) (inside : p < length t.entries) (stands : (d : Assigned) → (get_or t.entries p d).literal ≡ negation k) where
   abbrev after : List Bool
   after = set w.seen (var_of k) true
 
@@ -31,26 +34,31 @@ module _ (t : TrailValue) (front : List Assigned) (w : Walk) (k : Literal) (e : 
   listed : AreListed t.vars (met after) (w.met.items ++ var_of k ∷ [])
   listed = lists t.vars (met w.seen) (met after) w.met.items (var_of k) walk.listed within.0 within.1 new grown
 
-  walks : (v : Walk) → v.seen ≡ after → v.present ≡ w.present → v.met.items ≡ w.met.items ++ var_of k ∷ []
+  marks : AreMarked t.entries (met after) (set w.blocks (p / 8) true)
+  marks = marks_more t.entries (met w.seen) (met after) w.blocks (var_of k) p walk.valid.apart walk.wide inside (λ d. ap var_of (stands d) ∙ var_of-negation k) grown walk.marked
+
+  walks : (v : Walk) → v.seen ≡ after → v.blocks ≡ set w.blocks (p / 8) true → v.present ≡ w.present → v.met.items ≡ w.met.items ++ var_of k ∷ []
       → AreCounted t.entries front (met after) v.pending v.rest → IsWalk t front v
-  walks v s p m counted = record {
+  walks v s b q m counted = record {
     valid = walk.valid;
     before = walk.before;
     room = let r = walk.room in subst (λ xs. t.vars < length xs) (sym s) (let n = length-set w.seen (var_of k) true in omega (arith, r, n));
-    level = p ∙ walk.level;
+    level = q ∙ walk.level;
     counted = subst (λ xs. AreCounted t.entries front (met xs) v.pending v.rest) (sym s) counted;
     listed = subst (λ xs. AreListed t.vars (met xs) v.met.items) (sym s) (subst (AreListed t.vars (met after)) (sym m) listed);
+    wide = let r = walk.wide in let n = length-set w.blocks (p / 8) true in subst (λ xs. length t.entries / 8 < length xs) (sym b) (omega (arith, r, n));
+    marked = subst (λ xs. AreMarked t.entries (met xs) v.blocks) (sym s) (subst (AreMarked t.entries (met after)) (sym b) marks);
   }
 
   -- of the present level
-  pub meets_here : (v : Walk) → v.seen ≡ after → v.present ≡ w.present → v.pending ≡ w.pending + 1 → v.rest ≡ w.rest
+  pub meets_here : (v : Walk) → v.seen ≡ after → v.blocks ≡ set w.blocks (p / 8) true → v.present ≡ w.present → v.pending ≡ w.pending + 1 → v.rest ≡ w.rest
       → v.met.items ≡ w.met.items ++ var_of k ∷ [] → e.level ≡ w.present → IsWalk t front v
-  meets_here v s p a b m l = walks v s p m (rw (a, b) (meets_present t.entries front walk.valid.apart walk.before (met w.seen) (met after) k e here is is_false new grown w.pending w.rest walk.counted (l ∙ walk.level)))
+  meets_here v s c q a b m l = walks v s c q m (rw (a, b) (meets_present t.entries front walk.valid.apart walk.before (met w.seen) (met after) k e here is is_false new grown w.pending w.rest walk.counted (l ∙ walk.level)))
 
   -- of a lower one
-  pub meets_below : (v : Walk) → v.seen ≡ after → v.present ≡ w.present → v.pending ≡ w.pending → v.rest ≡ w.rest + 1
+  pub meets_below : (v : Walk) → v.seen ≡ after → v.blocks ≡ set w.blocks (p / 8) true → v.present ≡ w.present → v.pending ≡ w.pending → v.rest ≡ w.rest + 1
       → v.met.items ≡ w.met.items ++ var_of k ∷ [] → (e.level ≡ w.present → ⊥) → IsWalk t front v
-  meets_below v s p a b m l = walks v s p m (rw (a, b) (meets_lower t.entries front walk.valid.apart walk.before (met w.seen) (met after) k e here is is_false new grown w.pending w.rest walk.counted (λ q. l (q ∙ sym walk.level))))
+  meets_below v s c r a b m l = walks v s c r m (rw (a, b) (meets_lower t.entries front walk.valid.apart walk.before (met w.seen) (met after) k e here is is_false new grown w.pending w.rest walk.counted (λ q. l (q ∙ sym walk.level))))
 
   pub meets_only : (xs : List Bool) → xs ≡ after → HasMet front w.seen xs
   meets_only xs s = subst (HasMet front w.seen) (sym s) (mark_one front w.seen w.seen k below (met_none front w.seen) known)

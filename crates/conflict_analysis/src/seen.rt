@@ -7,7 +7,7 @@ use dimacs::Var;
 use std::alloc::{AllocError, Global};
 use std::marker::Model;
 
-/// A set of variables. One is in it where its stamp is the present one, so that a new stamp empties it.
+/// A set of variables, or of other numbers. One is in it where its stamp is the present one, so that a new stamp empties it.
 #[derive(Drop)]
 pub(crate) struct Seen {
     stamps: Vec<u32>,
@@ -60,13 +60,31 @@ impl Seen {
         Ok(())
     }
 
+    /// Whether a number is in.
+    #[inline(always)]
+    pub(crate) fn has_at(&self, row: usize) -> bool
+        requires { row < length self.now }
+        ensures { result ≡ met self.now row }
+    {
+        self.stamps[row] == self.stamp
+    }
+
+    /// Puts a number in.
+    #[inline(always)]
+    pub(crate) fn insert_at(&mut self, row: usize)
+        requires { row < length self.old }
+        ensures { self.new ≡ slice_set self.old row true }
+    {
+        self.stamps[row] = self.stamp;
+    }
+
     /// Whether a variable is in.
     #[inline(always)]
     pub(crate) fn has(&self, var: Var) -> bool
         requires { var < length self.now }
         ensures { result ≡ met self.now var }
     {
-        self.stamps[var.number() as usize] == self.stamp
+        self.has_at(var.number() as usize)
     }
 
     /// Puts a variable in.
@@ -75,7 +93,7 @@ impl Seen {
         requires { var < length self.old }
         ensures { self.new ≡ slice_set self.old var true }
     {
-        self.stamps[var.number() as usize] = self.stamp;
+        self.insert_at(var.number() as usize);
     }
 }
 

@@ -1,6 +1,6 @@
 //! One walk down a trail, from a false clause to the first implication point, and on to what was met of lower levels.
 
-ghost use Rattle.std.specs.Prelude.{◌≡◌, ℕ, ◌+◌, ◌<◌, ◌≤◌, max, true, [], ◌∷◌, ◌++◌, Some, length, take, slice_index_or, Contains, All, IfOk, OnOk};
+ghost use Rattle.std.specs.Prelude.{◌≡◌, ℕ, ◌+◌, ◌/◌, ◌<◌, ◌≤◌, max, true, false, [], ◌∷◌, ◌++◌, Some, length, take, slice_index_or, Contains, All, IfOk, OnOk};
 ghost use Rattle.std.specs.Bool.{OnFalse};
 ghost use Rattle.clause_arena.specs.Clauses.{live_of};
 ghost use Rattle.dimacs.specs.logic.Literal.{Literal, Clause, IsWithin, negation, var_of};
@@ -22,8 +22,12 @@ use watches::{Assigned, Trail};
 /// How many reasons in a row are looked at to find that an entry follows from others.
 const MOST_REASONS: u32 = 1000;
 
+/// How many places of a trail one mark stands for.
+const BLOCK: usize = 8;
+
 /// A walk down a trail of the level `present`. Of the entries that were met and are still before it `pending` have that
-/// level, and `rest` a lower one; `met` lists the variables that it has `seen`.
+/// level, and `rest` a lower one; `met` lists the variables that it has `seen`. Each entry that was met stands in one of the `blocks`
+/// of eight places that are marked, so that the walk comes past the others by one look each.
 ///
 /// The front, which the methods are handed, is the part of the trail that is still before the walk.
 #[derive(Drop)]
@@ -33,6 +37,7 @@ pub(crate) struct Walk {
     pub(crate) pending: usize,
     pub(crate) rest: usize,
     pub(crate) met: Vec<Var>,
+    pub(crate) blocks: Seen,
 }
 
 impl Walk {
@@ -44,6 +49,7 @@ impl Walk {
             pending: 0,
             rest: 0,
             met: Vec::new(alloc),
+            blocks: Seen::new(alloc),
         }
     }
 
@@ -53,6 +59,7 @@ impl Walk {
         ensures { OnOk result (IsWalk trail.now trail.now.entries self.new) }
     {
         self.seen.restart(trail.vars())?;
+        self.blocks.restart((trail.len() / BLOCK) as u32)?;
         self.present = trail.level();
         self.pending = 0;
         self.rest = 0;
@@ -115,9 +122,12 @@ impl Walk {
         if self.seen.has(var) {
             return Ok(());
         }
-        let entry = trail.entry_of(literal.negate());
+        let negated = literal.negate();
+        let place = trail.place_of(negated);
+        let entry = trail.entry_of(negated);
         self.met.push(var)?;
         self.seen.insert(var);
+        self.blocks.insert_at(place / BLOCK);
         if entry.level == self.present {
             self.pending += 1;
         } else {
@@ -147,10 +157,28 @@ impl Walk {
     {
         let mut i = trail.len();
         while self.pending > 0 || self.rest > 0 {
+            i = self.skip(i);
             i -= 1;
             self.look(arena, trail, minimiser, i, lemma)?;
         }
         Ok(())
+    }
+
+    /// Comes past the blocks before a place in which no entry was met, where the place is the end of one.
+    #[inline(always)]
+    fn skip(&self, end: usize) -> usize
+        requires { end / 8 ≤ length self.now.blocks }
+        ensures below { result ≤ end }
+        ensures unmarked { (k : ℕ) → result ≤ k → k < end → met self.now.blocks (k / 8) ≡ false }
+    {
+        if end % BLOCK != 0 {
+            return end;
+        }
+        let mut block = end / BLOCK;
+        while block > 0 && !self.blocks.has_at(block - 1) {
+            block -= 1;
+        }
+        block * BLOCK
     }
 
     /// Walks past an entry, the last of a front: where it was met it is resolved, by the clause that implied it, or kept.

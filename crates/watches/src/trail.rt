@@ -91,6 +91,17 @@ impl Trail {
         self.values[row]
     }
 
+    /// The place of the entry of a literal of the trail.
+    #[inline(always)]
+    pub fn place_of(&self, literal: Lit) -> usize
+        requires { holds self.now.entries literal ≡ true }
+        ensures within { result < length self.now.entries }
+        ensures literal { (d : Assigned) → (slice_index_or self.now.entries result d).literal ≡ literal }
+    {
+        let place = self.places[literal.var().number() as usize];
+        place as usize
+    }
+
     /// The entry of a literal of the trail.
     #[inline(always)]
     pub fn entry_of(&self, literal: Lit) -> Assigned
@@ -98,8 +109,7 @@ impl Trail {
         ensures member { Contains self.now.entries result }
         ensures literal { result.literal ≡ literal }
     {
-        let place = self.places[literal.var().number() as usize];
-        self.entries[place as usize]
+        self.entries[self.place_of(literal)]
     }
 
     /// Puts a literal that is neither true nor false at the end, at no lower level than those before it. It takes no memory.

@@ -1,5 +1,5 @@
 -- A walk down a trail: which variables were met, and how many of them are still to be walked.
-use Rattle.std.specs.Prelude.{◌≡◌, ℕ, Option, Some, None, unwrap_or, take, drop, reverse, ◌<◌, ◌≤◌, ◌==◌, Bool, true, not, ◌&&◌, if◌then◌else◌, List, [], ◌∷◌, ◌++◌, ◌⊎◌, length, nat_eq, All, Contains, slice_index_or}
+use Rattle.std.specs.Prelude.{◌≡◌, ℕ, Option, Some, None, unwrap_or, take, drop, reverse, ◌/◌, ◌<◌, ◌≤◌, ◌==◌, Bool, true, not, ◌&&◌, if◌then◌else◌, List, [], ◌∷◌, ◌++◌, ◌⊎◌, length, nat_eq, All, Contains, slice_index_or}
 use Rattle.std.specs.List.{IsDistinct, count_by}
 use Rattle.dimacs.specs.logic.ClauseMap.{Live}
 use Rattle.dimacs.specs.logic.Literal.{Literal, Clause, negation, var_of, same}
@@ -56,6 +56,10 @@ pub record AreCounted (entries front : List Assigned) (seen : ℕ → Bool) (pen
   pub opened : pending ≡ waiting seen (is_present entries) front
   pub remaining : rest ≡ waiting seen (is_lower entries) front
 
+-- each entry that was met stands in a block of eight places that is marked
+abbrev pub AreMarked : List Assigned → (ℕ → Bool) → List Bool → Type 0
+AreMarked entries seen blocks = (k : ℕ) (d : Assigned) → k < length entries → seen (var_of (slice_index_or entries k d).literal) ≡ true → met blocks (k / 8) ≡ true
+
 -- a walk down a trail that has this front still before it
 pub record IsWalk (t : TrailValue) (front : List Assigned) (w : Walk) : Type 0 where
   pub valid : IsTrailValue t
@@ -64,6 +68,8 @@ pub record IsWalk (t : TrailValue) (front : List Assigned) (w : Walk) : Type 0 w
   pub level : w.present ≡ present t.entries
   pub counted : AreCounted t.entries front (met w.seen) w.pending w.rest
   pub listed : AreListed t.vars (met w.seen) w.met.items
+  pub wide : length t.entries / 8 < length w.blocks
+  pub marked : AreMarked t.entries (met w.seen) w.blocks
 
 -- the entry of this place was implied by a live clause, of which each literal was met
 pub record IsSettled (live : Live) (front : List Assigned) (seen : ℕ → Bool) (e : Assigned) : Type 0 where

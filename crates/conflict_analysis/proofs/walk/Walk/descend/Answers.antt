@@ -1,11 +1,13 @@
-use Rattle.std.proofs.Common.{◌-◌, arith, sym, subst}
+use Rattle.std.proofs.Common.{◌≡◌, ◌+◌, ◌-◌, ◌<◌, ◌⊎◌, inl, inr, arith, sym, subst}
 use Rattle.std.proofs.lemmas.List.{take_all}
 use Rattle.clause_arena.specs.Clauses.{live_of}
 use Rattle.conflict_analysis.specs.inner.Seen.{met}
-use Rattle.conflict_analysis.specs.inner.Walks.{IsWalk}
+use Rattle.conflict_analysis.specs.inner.Walks.{IsUnderWay, IsWalk}
+use Rattle.conflict_analysis.proofs.Blocks.{skips_down, some_left}
 use Rattle.conflict_analysis.proofs.Concluding.{nothing_walked}
 use Rattle.conflict_analysis.proofs.HasMet.{met_further, met_in_front, met_none}
 use Rattle.conflict_analysis.proofs.walk.Walk.descend.Goals as goal
+use Rattle.conflict_analysis.proofs.walk.Walk.descend.Goals.{After-skip-i, then-self-gt0, else-self-gt0+then-self-gt0-2}
 
 pub loop-self-init : goal.loop-self-init
 loop-self-init c =
@@ -21,12 +23,31 @@ loop-self-init c =
       met_none es c.args.self.now.seen,
     )
 
+-- the way down to where the walk goes on
+way : (c : After-skip-i) → IsUnderWay (live_of c.args.arena.now) c.args.trail.now c.skip-i.result c.loop-self.self c.loop-self.lemma
+way c = let i = c.loop-self.invariant in
+    skips_down c.args.arena.now c.args.trail.now c.requires.built c.loop-self.self c.loop-self.lemma c.loop-self.i c.skip-i.result c.skip-i.ensures.below i.0 c.skip-i.ensures.unmarked i.1
+
+-- some entry is left
+some : (c : After-skip-i) → (0 < c.loop-self.self.pending) ⊎ (0 < c.loop-self.self.rest)
+some c = elim c.if-self-gt0.branch [ then-self-gt0 w ↦ inl w.if-self-gt0.true | else-self-gt0+then-self-gt0-2 w ↦ inr w.if-self-gt0-2.true ]
+
+pub overflow_sub-i : goal.overflow_sub-i
+overflow_sub-i c = some_left c.args.arena.now c.args.trail.now c.loop-self.self c.loop-self.lemma c.skip-i.result (way c) (some c)
+
+pub look-requires-clause-way : goal.look-requires-clause-way
+look-requires-clause-way c =
+    let w = (goal.at.look-requires-clause-way c).After-skip-i in
+    let above = some_left c.args.arena.now c.args.trail.now c.loop-self.self c.loop-self.lemma c.skip-i.result (way w) (some w) in
+    let is : c.skip-i.result ≡ c.skip-i.result - 1 + 1 = omega (arith, above) in
+    subst (λ k. IsUnderWay (live_of c.args.arena.now) c.args.trail.now k c.loop-self.self c.loop-self.lemma) is (way w)
+
 pub loop-self-preserved : goal.loop-self-preserved
 loop-self-preserved c =
     let i = c.loop-self.invariant in
     let e = c.in_ok-look.ensures in (
-      (let l = i.0 in omega (arith, l)),
+      (let l = i.0 in let k = c.skip-i.ensures.below in omega (arith, l, k)),
       e.way,
       e.room,
-      met_further c.args.trail.now.entries c.args.self.now.seen c.loop-self.self.seen c.look.new.self.seen i.3 (met_in_front c.args.trail.now.entries (c.loop-self.i - 1) c.loop-self.self.seen c.look.new.self.seen e.seen),
+      met_further c.args.trail.now.entries c.args.self.now.seen c.loop-self.self.seen c.look.new.self.seen i.3 (met_in_front c.args.trail.now.entries (c.skip-i.result - 1) c.loop-self.self.seen c.look.new.self.seen e.seen),
     )

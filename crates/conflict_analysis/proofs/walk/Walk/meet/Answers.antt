@@ -1,5 +1,6 @@
-use Rattle.std.proofs.Common.{◌≡◌, [], ◌∷◌, ◌++◌, true, false, refl, sym, ◌∙◌, ap, set}
+use Rattle.std.proofs.Common.{◌≡◌, [], ◌∷◌, ◌++◌, true, false, refl, sym, ◌∙◌, ap, set, get_or}
 use Rattle.dimacs.specs.logic.Literal.{negation, var_of}
+use Rattle.watches.specs.declared.trail.Assigned.{Assigned}
 use Rattle.conflict_analysis.specs.inner.Seen.{met}
 use Rattle.conflict_analysis.proofs.OneMore.{meets_here, meets_below, meets_only}
 use Rattle.conflict_analysis.proofs.walk.Walk.meet.Goals as goal
@@ -9,7 +10,10 @@ new : (c : In_ok-push) → met c.args.self.now.seen (var_of c.args.literal) ≡ 
 new c = ap (met c.args.self.now.seen) (sym c.var-var.ensures) ∙ sym c.has.ensures ∙ c.if-has.false
 
 is : (c : In_ok-push) → c.entry_of-entry.result.literal ≡ negation c.args.literal
-is c = c.entry_of-entry.ensures.literal ∙ c.negate.ensures
+is c = c.entry_of-entry.ensures.literal ∙ c.negate-negated.ensures
+
+stands : (c : In_ok-push) (d : Assigned) → (get_or c.args.trail.now.entries c.place_of-place.result d).literal ≡ negation c.args.literal
+stands c d = c.place_of-place.ensures.literal d ∙ c.negate-negated.ensures
 
 listed : (c : In_ok-push) → c.push.new.self.items ≡ c.args.self.now.met.items ++ var_of c.args.literal ∷ []
 listed c = c.in_ok-push.ensures.items ∙ ap (λ v. c.args.self.now.met.items ++ v ∷ []) c.var-var.ensures
@@ -18,22 +22,26 @@ pub returns-then-entry-self-clause-walk : goal.returns-then-entry-self-clause-wa
 returns-then-entry-self-clause-walk c =
     let b = (goal.at.returns-then-entry-self-clause-walk c).In_ok-push in
     meets_here c.args.trail.now c.args.front.now c.args.self.now c.args.literal c.entry_of-entry.result c.requires.walk c.requires.within c.requires.known (new b) c.entry_of-entry.ensures.member (is b)
-    _ (c.insert.ensures ∙ ap (λ v. set c.args.self.now.seen v true) c.var-var.ensures) refl refl refl (listed b) c.if-entry-self.true
+    c.place_of-place.result c.place_of-place.ensures.within (stands b)
+    _ (c.insert.ensures ∙ ap (λ v. set c.args.self.now.seen v true) c.var-var.ensures) c.insert_at.ensures refl refl refl (listed b) c.if-entry-self.true
 
 pub returns-else-entry-self-clause-walk : goal.returns-else-entry-self-clause-walk
 returns-else-entry-self-clause-walk c =
     let b = (goal.at.returns-else-entry-self-clause-walk c).In_ok-push in
     meets_below c.args.trail.now c.args.front.now c.args.self.now c.args.literal c.entry_of-entry.result c.requires.walk c.requires.within c.requires.known (new b) c.entry_of-entry.ensures.member (is b)
-    _ (c.insert.ensures ∙ ap (λ v. set c.args.self.now.seen v true) c.var-var.ensures) refl refl refl (listed b) c.if-entry-self.false
+    c.place_of-place.result c.place_of-place.ensures.within (stands b)
+    _ (c.insert.ensures ∙ ap (λ v. set c.args.self.now.seen v true) c.var-var.ensures) c.insert_at.ensures refl refl refl (listed b) c.if-entry-self.false
 
 pub returns-then-entry-self-clause-seen : goal.returns-then-entry-self-clause-seen
 returns-then-entry-self-clause-seen c =
     let b = (goal.at.returns-then-entry-self-clause-seen c).In_ok-push in
     meets_only c.args.trail.now c.args.front.now c.args.self.now c.args.literal c.entry_of-entry.result c.requires.walk c.requires.within c.requires.known (new b) c.entry_of-entry.ensures.member (is b)
+    c.place_of-place.result c.place_of-place.ensures.within (stands b)
     _ (c.insert.ensures ∙ ap (λ v. set c.args.self.now.seen v true) c.var-var.ensures)
 
 pub returns-else-entry-self-clause-seen : goal.returns-else-entry-self-clause-seen
 returns-else-entry-self-clause-seen c =
     let b = (goal.at.returns-else-entry-self-clause-seen c).In_ok-push in
     meets_only c.args.trail.now c.args.front.now c.args.self.now c.args.literal c.entry_of-entry.result c.requires.walk c.requires.within c.requires.known (new b) c.entry_of-entry.ensures.member (is b)
+    c.place_of-place.result c.place_of-place.ensures.within (stands b)
     _ (c.insert.ensures ∙ ap (λ v. set c.args.self.now.seen v true) c.var-var.ensures)
