@@ -9,6 +9,7 @@
 mod decision;
 mod descent;
 mod forgetting;
+mod gaps;
 mod loading;
 mod log;
 mod model;

@@ -17,6 +17,7 @@ ghost use Rattle.cube_solve.specs.inner.State.{IsAssuming};
 ghost use Rattle.cube_solve.specs.inner.Steady.{IsSteady, IsSearching};
 
 use crate::descent::Found;
+use crate::gaps::Gaps;
 use crate::log::Log;
 use crate::model::read_model;
 use crate::order::Order;
@@ -35,6 +36,7 @@ pub(crate) struct Search<'a, P> {
     /// The numbers of the live lemmas, rising.
     pub(crate) lemmas: Vec<u64>,
     pub(crate) log: Log,
+    pub(crate) gaps: Gaps,
     analyser: Analyser,
     /// The lemma of the last conflict, whose room the next one takes.
     lemma: Lemma,
@@ -48,6 +50,7 @@ impl<P> Drop for Search<'_, P> {
             state: _,
             lemmas: _,
             log: _,
+            gaps: _,
             analyser: _,
             lemma: _,
             pace: _,
@@ -81,6 +84,7 @@ impl<'a, P: Propagator> Search<'a, P> {
             state,
             lemmas: Vec::new(alloc),
             log: Log::new(alloc),
+            gaps: Gaps::new(base),
             analyser: Analyser::new(alloc),
             lemma: Lemma::new(alloc),
             pace: Pace::new(),
@@ -96,6 +100,7 @@ impl<'a, P: Propagator> Search<'a, P> {
             state: _,
             lemmas: _,
             log,
+            gaps: _,
             analyser: _,
             lemma: _,
             pace: _,

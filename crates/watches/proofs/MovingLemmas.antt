@@ -73,6 +73,14 @@ above_middle moves i n e l h r k d b u = elim (cases_eq k i) [
       subst (λ (x : Ref × Ref). n < x.0.number) (get_or_default moves k e d u) (omega arith)
 ]
 
+-- a number before the first move is none of the moves
+pub before_all : (moves : List (Ref × Ref)) (n : ℕ) (e : Ref × Ref) → 0 < length moves → n < (get_or moves 0 e).0.number → AreRising moves → IsUnmoved moves n
+before_all moves n e some less r from to h same =
+    let d : Ref × Ref = (from, to) in
+    let above = above_middle moves 0 n e some less r h.0 d (omega arith) h.1 in
+    let here : n < from.number = subst (λ (x : Ref × Ref). n < x.0.number) h.2 above in
+    absurd (omega (arith, here, same))
+
 pub found_move : (moves : List (Ref × Ref)) (i n : ℕ) (e : Ref × Ref) → i < length moves → (get_or moves i e).0.number ≡ n → IsMovedTo moves n (get_or moves i e).1
 found_move moves i n e l h = ((get_or moves i e).0, Contains-get_or moves i e l, h)
 

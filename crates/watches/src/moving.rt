@@ -5,11 +5,19 @@ ghost use Rattle.watches.specs.inner.Moving.{AreRising, IsUnmoved, IsMovedTo, Fo
 
 use clause_arena::Ref;
 
-/// Where the clause of a number moved to. The moves go by rising numbers, so that a search by halving finds it.
+/// Where the clause of a number moved to. The moves go by rising numbers, so that a search by halving finds it; most clauses have
+/// numbers before the first move.
 fn find_move(moves: &[(Ref, Ref)], number: u64) -> Option<Ref>
     ensures moved { IfSome result (IsMovedTo moves.now number) }
     ensures unmoved { IfNone result (AreRising moves.now → IsUnmoved moves.now number) }
 {
+    if moves.is_empty() {
+        return None;
+    }
+    let (first, _) = moves[0];
+    if number < first.number() {
+        return None;
+    }
     let mut low = 0;
     let mut high = moves.len();
     while low < high {

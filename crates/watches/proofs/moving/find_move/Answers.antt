@@ -1,6 +1,7 @@
-use Rattle.std.proofs.Common.{◌+◌, ◌-◌, ◌/◌, sym, ◌∙◌, arith}
+use Rattle.std.proofs.Common.{ℕ, length, ◌+◌, ◌-◌, ◌/◌, sym, ◌∙◌, arith}
+use Rattle.std.proofs.lemmas.Bool.{eqb-false}
 use Rattle.watches.proofs.Swept.{none}
-use Rattle.watches.proofs.MovingLemmas.{below_middle, above_middle, found_move}
+use Rattle.watches.proofs.MovingLemmas.{before_all, below_middle, above_middle, found_move}
 use Rattle.watches.proofs.moving.find_move.Goals as goal
 
 pub returns-then-here-number-clause-moved : goal.returns-then-here-number-clause-moved
@@ -25,3 +26,8 @@ loop-low-preserved c =
       below = c.loop-low.invariant.below;
       above = above_middle c.args.moves.now (c.loop-low.low + (c.loop-low.high - c.loop-low.low) / 2) c.args.number (none, none) (omega arith) (omega (arith, c.number-here.ensures));
     }
+
+pub returns-then-number-clause-unmoved : goal.returns-then-number-clause-unmoved
+returns-then-number-clause-unmoved c =
+    let some = eqb-false (length c.args.moves.now) 0 (sym c.if-is_empty.ensures) in
+    before_all c.args.moves.now c.args.number (none, none) (omega (arith, some)) (omega (arith, c.if-number.true, c.number.ensures))

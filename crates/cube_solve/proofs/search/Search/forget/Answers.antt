@@ -34,6 +34,6 @@ returns-clause-kept g c = on_ok_weaker c.close_gaps.result
       many = record { numbers = c.args.self.now.lemmas.items; lemmas = h; many = c.requires.many };
       written = c.in_ok-delete.ensures ∙ ap (λ (xs : List ℕ). c.args.self.now.log ++ line_of c.args.top (Delete xs)) c.deref-2.ensures.value;
       less = less_same (live_of c.args.self.now.state.arena) (live_of c.take_out_all.new.arena) (live_of c.close_gaps.new.arena) c.in_ok-gone.gone.items
-          (subst (λ (xs : List ℕ). AreLess (live_of c.args.self.now.state.arena) xs (live_of c.take_out_all.new.arena)) c.deref-3.ensures.value c.take_out_all.ensures.less) less;
+          (subst (λ (xs : List ℕ). AreLess (live_of c.args.self.now.state.arena) xs (live_of c.take_out_all.new.arena)) c.deref-4.ensures.value c.take_out_all.ensures.less) less;
     }))
     c.close_gaps.ensures.less
