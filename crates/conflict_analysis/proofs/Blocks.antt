@@ -1,5 +1,5 @@
 -- Blocks of a trail in which no entry was met.
-use Rattle.std.proofs.Common.{◌≡◌, ◌≢◌, ℕ, zero, suc, ◌+◌, ◌-◌, ◌/◌, ◌<◌, ◌≤◌, ◌⊎◌, inl, inr, Bool, true, false, cond, not, eqb, ◌||◌, ◌&&◌, List, [], ◌∷◌, ◌++◌, length, get_or, set, take, refl, ap, sym, ◌∙◌, subst, arith, drop, Some, None}
+use Rattle.std.proofs.Common.{◌≡◌, ℕ, zero, suc, ◌+◌, ◌-◌, ◌/◌, ◌<◌, ◌≤◌, ◌⊎◌, inl, inr, Bool, true, false, eqb, ◌||◌, ◌&&◌, List, [], ◌∷◌, ◌++◌, length, get_or, set, take, refl, ap, sym, ◌∙◌, subst, arith, drop, None}
 use Rattle.std.specs.List.{IsDistinct}
 use Rattle.std.proofs.lemmas.Bool.{both_ways, cases_lt, eq-eqb, eqb-true, false_from_ne_true, or_cases, or_left, or_right}
 use Rattle.std.proofs.lemmas.List.{get_or-map, length-map, take_more, take-append-drop}
@@ -12,7 +12,7 @@ use Rattle.conflict_analysis.specs.declared.lemma.Lemma.{Lemma}
 use Rattle.conflict_analysis.specs.declared.walk.Walk.{Walk}
 use Rattle.conflict_analysis.specs.Built.{AreBuilt}
 use Rattle.conflict_analysis.specs.inner.Seen.{met}
-use Rattle.conflict_analysis.specs.inner.Walks.{AreCounted, AreMarked, IsUnderWay, IsWalk, is_lower, is_present, waiting}
+use Rattle.conflict_analysis.specs.inner.Walks.{AreMarked, IsUnderWay, IsWalk, is_lower, is_present, waiting}
 use Rattle.conflict_analysis.proofs.Entries.{one_if, waiting_cons}
 use Rattle.conflict_analysis.proofs.Meeting.{met_set}
 use Rattle.conflict_analysis.proofs.OnePast.{past_unmet}
@@ -30,6 +30,7 @@ one_place es k p d apart a b same = elim (cases_lt k p) [
   where
     variable_at : (i : ℕ) → i < length es → get_or (variables es) i (var_of d.literal) ≡ var_of (get_or es i d).literal
     variable_at i lt = get_or-map (λ (e : Assigned). var_of e.literal) es i d (var_of d.literal) lt
+
     differ : (i j : ℕ) → i < j → j < length es → var_of (get_or es i d).literal ≡ var_of (get_or es j d).literal → ⊥
     differ i j lt below q =
         let n : length (variables es) ≡ length es = length-map es (λ (e : Assigned). var_of e.literal) in

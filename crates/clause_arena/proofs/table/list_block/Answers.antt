@@ -1,8 +1,7 @@
-use Rattle.std.proofs.Common.{◌≡◌, ◌∙◌, ◌+◌, ◌*◌, ◌++◌, ap, sym, subst, map, drop, length, min, arith, ℕ, List}
-use Rattle.clause_arena.specs.declared.reference.Ref.{Ref}
+use Rattle.std.proofs.Common.{◌≡◌, ◌∙◌, ◌+◌, ◌*◌, ◌++◌, ap, sym, map, drop, arith, ℕ}
 use Rattle.clause_arena.specs.inner.Packing.{ref_of}
 use Rattle.clause_arena.specs.inner.Slots.{near_entries}
-use Rattle.clause_arena.proofs.TableLemmas.{entries_skip, entries_min, free_block, unmarked_free, marked_off}
+use Rattle.clause_arena.proofs.TableLemmas.{entries_skip, unmarked_free}
 use Rattle.clause_arena.proofs.table.list_block.Goals as goal
 
 pub returns-then-not-marks-block-clause-listed : goal.returns-then-not-marks-block-clause-listed

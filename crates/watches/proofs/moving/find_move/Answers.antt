@@ -1,4 +1,4 @@
-use Rattle.std.proofs.Common.{ℕ, length, ◌+◌, ◌-◌, ◌/◌, sym, ◌∙◌, arith}
+use Rattle.std.proofs.Common.{length, ◌+◌, ◌-◌, ◌/◌, sym, ◌∙◌, arith}
 use Rattle.std.proofs.lemmas.Bool.{eqb-false}
 use Rattle.watches.proofs.Swept.{none}
 use Rattle.watches.proofs.MovingLemmas.{before_all, below_middle, above_middle, found_move}

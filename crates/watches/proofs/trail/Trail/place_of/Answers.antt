@@ -1,8 +1,7 @@
-use Rattle.std.proofs.Common.{◌≡◌, ◌<◌, ap, sym, subst, ◌∙◌, length, arith, true, get_or, List}
+use Rattle.std.proofs.Common.{◌≡◌, ◌<◌, ap, sym, subst, ◌∙◌, length, arith, true, get_or}
 use Rattle.std.proofs.lemmas.List.{get_or_read}
 use Rattle.dimacs.specs.logic.Literal.{var_of}
 use Rattle.watches.specs.Trails.{holds}
-use Rattle.watches.specs.declared.trail.Assigned.{Assigned}
 use Rattle.watches.proofs.TrailLemmas.{holds_within, place_of}
 use Rattle.watches.proofs.trail.Trail.place_of.Goals as goal
 
