@@ -98,6 +98,18 @@ fn the_preamble_comes_first(rt: HostRuntime) -> Result<(), Fail> {
 }
 
 #[test]
+fn spaces_that_are_not_needed_go(rt: HostRuntime) -> Result<(), Fail> {
+    let tree = Tree::leaf(rt.alloc())?;
+    let fragment: &'static [u8] = b"5  2 0 1 2 0\n3 d 5  0\n6 2 0 1 2 0\n7 0 6   3 4 0\n";
+    let text = joined(rt.alloc(), FOUR, 0, &tree, &[fragment])?;
+    assert_eq!(rt;
+        text.as_slice(),
+        b"5 2 0 1 2 0\n5 d 5 0\n6 2 0 1 2 0\n7 0 6 3 4 0\n".as_slice()
+    );
+    prints(&rt, rt.alloc(), FOUR, text.as_slice(), VERIFIED)
+}
+
+#[test]
 fn definitions_come_behind_the_units(rt: HostRuntime) -> Result<(), Fail> {
     let mut tree = Tree::leaf(rt.alloc())?;
     tree.split(0, Var::new(3))?;

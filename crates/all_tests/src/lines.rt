@@ -1,6 +1,6 @@
 //! Lines of proofs.
 
-use lrat_text::{next, put};
+use lrat_text::{StepBuffer, next, put, read_line, written_id};
 use std::alloc::Global;
 use std::process::Abort;
 use std::test::Fail;
@@ -104,6 +104,32 @@ fn what_was_put_is_read_back(rt: HostRuntime) -> Result<(), Fail> {
         assert_eq!(rt; out.as_slice(), *line);
     }
     Ok(())
+}
+
+/// The number of an addition that stands as it is written, where the line spells a step at all.
+fn id_of(alloc: Global, line: &[u8]) -> Option<u64> {
+    let mut buffer = StepBuffer::new(alloc);
+    match read_line(&mut buffer, line) {
+        Ok(()) => written_id(line),
+        Err(_) => None,
+    }
+}
+
+#[test]
+fn an_addition_stands_as_it_is_written(rt: HostRuntime) {
+    let rows: [(&'static [u8], Option<u64>); 8] = [
+        (b"5 2 0 1 2 0", Some(5)),
+        (b"281474976710655 0 5 -1 2 -2 0", Some(281_474_976_710_655)),
+        (b"7 0 0", Some(7)),
+        (b"5  2 0 1 2 0", None),
+        (b"5 2 0  1 2 0", None),
+        (b"5 2 0 1 2  0", None),
+        (b"5 d 1 2 0", None),
+        (b"5 d 0", None),
+    ];
+    for (line, id) in &rows {
+        assert_eq!(&rt; id_of(rt.alloc(), *line), *id);
+    }
 }
 
 #[test]

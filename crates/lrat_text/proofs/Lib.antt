@@ -15,3 +15,4 @@ pub mod SpellingLemmas
 pub mod TakingLemmas
 pub mod TokenLemmas
 pub mod WritingLemmas
+pub mod WrittenLemmas

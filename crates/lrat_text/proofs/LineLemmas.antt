@@ -23,10 +23,10 @@ use Rattle.lrat_text.proofs.SpellingLemmas.{found_spells, spelled_found}
 
 -- ---- words without spaces and LF
 
-abbrev IsInk : ℕ → Type 0
+abbrev pub IsInk : ℕ → Type 0
 IsInk b = 45 ≤ b
 
-abbrev IsWord : List ℕ → Type 0
+abbrev pub IsWord : List ℕ → Type 0
 IsWord w = (0 < length w) × AllByRecursion IsInk w
 
 digits_ink : (ds : List ℕ) → AllByRecursion IsDigitByte ds → AllByRecursion IsInk ds
@@ -64,7 +64,7 @@ group_words (g ∷ gs) h =
     (minus_word g.0 h.0.0, all_map IsClauseNumber decimal g.1 decimal_word (recursion_from_All IsClauseNumber g.1 h.0.1))
     (group_words gs h.1)
 
-step_words : (top : ℕ) (step : Step) → IsClauseNumber top → IsStep step → AllByRecursion IsWord (step_tokens top step)
+pub step_words : (top : ℕ) (step : Step) → IsClauseNumber top → IsStep step → AllByRecursion IsWord (step_tokens top step)
 step_words top (Add id lits hints groups) n h = (
   decimal_word id h.0,
   all_append IsWord (map literal_token lits) (codes "0" ∷ (map decimal hints ++ flat_map group_tokens groups ++ codes "0" ∷ []))

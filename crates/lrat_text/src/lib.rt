@@ -12,6 +12,7 @@ mod reading;
 mod step;
 mod token;
 mod writing;
+mod written;
 
 pub use buffer::StepBuffer;
 pub use fault::TextFault;
@@ -26,3 +27,4 @@ pub use reader::{StepReader, read_pieces};
 pub use reading::{cut_line, next};
 pub use step::{ClauseNumbers, Literals, Step, StepRef};
 pub use writing::{put, put_ref};
+pub use written::written_id;

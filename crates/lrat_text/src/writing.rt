@@ -1,6 +1,6 @@
 //! Steps as lines.
 
-ghost use Rattle.std.specs.Prelude.{◌≡◌, ◌+◌, ◌++◌, ◌∷◌, [], length, take, OnOk, OnErr, decimal, flat_map};
+ghost use Rattle.std.specs.Prelude.{◌≡◌, ◌+◌, ◌-◌, ◌≤◌, ◌++◌, ◌∷◌, [], length, take, drop, replicate, OnOk, OnErr, decimal, codes, flat_map};
 ghost use Rattle.lrat_text.specs.Grammar.{IsStep, IsClauseNumber};
 ghost use Rattle.lrat_text.specs.Steps.{step_of};
 ghost use Rattle.lrat_text.specs.Writing.{line_of};
@@ -9,9 +9,10 @@ ghost use Rattle.lrat_text.specs.inner.Writing.{number_text, literal_text, group
 use crate::groups::Groups;
 use crate::step::{Step, StepRef};
 use dimacs::Lit;
-use itoa::Buffer;
+use itoa::{Buffer, write_digits};
 use std::alloc::AllocError;
 
+#[inline(always)]
 fn put_text(out: &mut Vec<u8>, text: &[u8]) -> Result<(), AllocError>
     ensures ok { OnOk result (out.new.items ≡ out.old.items ++ text.now) }
     ensures begins { Begins out.old.items out.new.items }
@@ -28,14 +29,31 @@ fn put_number(out: &mut Vec<u8>, number: u64) -> Result<(), AllocError>
     put_text(out, text.as_bytes())
 }
 
+/// As many bytes as a space, a minus and a number have at most.
+const ROOM: usize = 22;
+
+/// Writes a number at the end of spaces, and tells where it begins: it goes to a text in one piece with the space before it.
+#[inline(always)]
+fn write_number(text: &mut [u8; ROOM], number: u64) -> usize
+    requires spaces { text.old ≡ replicate 22 32 }
+    ensures start { (2 ≤ result) × (result ≤ 22) }
+    ensures text { drop (result - 2) text.new ≡ codes "  " ++ decimal number }
+{
+    write_digits(number, text, ROOM)
+}
+
+#[inline(always)]
 fn put_literal(out: &mut Vec<u8>, literal: Lit) -> Result<(), AllocError>
     ensures ok { OnOk result (out.new.items ≡ out.old.items ++ literal_text literal) }
     ensures begins { Begins out.old.items out.new.items }
 {
-    put_text(out, b" ")?;
-    let mut buffer = Buffer::new();
-    let text = buffer.format(literal.number());
-    put_text(out, text.as_bytes())
+    let mut text = [b' '; ROOM];
+    let start = write_number(&mut text, u64::from(literal.var().number()));
+    if literal.is_negative() {
+        text[start - 1] = b'-';
+        return put_text(out, &text[start - 2..]);
+    }
+    put_text(out, &text[start - 1..])
 }
 
 fn put_literals(out: &mut Vec<u8>, literals: &[Lit]) -> Result<(), AllocError>
@@ -48,12 +66,14 @@ fn put_literals(out: &mut Vec<u8>, literals: &[Lit]) -> Result<(), AllocError>
     Ok(())
 }
 
+#[inline(always)]
 fn put_spaced(out: &mut Vec<u8>, number: u64) -> Result<(), AllocError>
     ensures ok { OnOk result (out.new.items ≡ out.old.items ++ number_text number) }
     ensures begins { Begins out.old.items out.new.items }
 {
-    put_text(out, b" ")?;
-    put_number(out, number)
+    let mut text = [b' '; ROOM];
+    let start = write_number(&mut text, number);
+    put_text(out, &text[start - 1..])
 }
 
 fn put_numbers(out: &mut Vec<u8>, numbers: &[u64]) -> Result<(), AllocError>

@@ -29,7 +29,6 @@ use Rattle.proof_join.proofs.PreambleLemmas.{rat_top, units_lead, units_length}
 use Rattle.cube_split.specs.Definitions.{IsPairOf, both_clause, part_clause, all_clauses, base_with}
 use Rattle.cube_split.specs.declared.pair.Pair.{Pair}
 use Rattle.proof_join.specs.Definitions.{definition_steps, all_steps, preamble_steps}
-use Rattle.cube_split.specs.Pairs.{AreDefined}
 use Rattle.proof_join.proofs.DefinitionRat.{IsUnused, both_rat, first_rat, second_rat}
 
 -- ---- live clauses have variables below d

@@ -1,33 +1,31 @@
 -- What is joined of fragments that close all leaves is an accepted proof.
-use Rattle.std.proofs.Common.{◌≡◌, ℕ, ◌+◌, ◌^◌, ◌<◌, ◌≤◌, inl, inr, List, [], ◌∷◌, ◌++◌, length, Some, Result, Ok, refl, sym, ◌∙◌, ap, subst, arith, append_assoc, length-append}
-use Rattle.std.specs.List.{All, Contains}
-use Rattle.std.specs.FinMap.{get}
-use Rattle.std.proofs.lemmas.List.Elements.{All-nil, All-cons, Contains-append_left}
+use Rattle.std.proofs.Common.{◌≡◌, ℕ, ◌^◌, ◌<◌, ◌≤◌, List, [], ◌∷◌, ◌++◌, length, Result, Ok, sym, ◌∙◌, ap, subst, arith, append_assoc, length-append}
+use Rattle.std.specs.List.{All}
+use Rattle.std.proofs.lemmas.List.Elements.{All-nil, All-cons}
 use Rattle.std.proofs.lemmas.List.{append-nil}
 use Rattle.dimacs.specs.logic.Base.{pure_literals, base_of}
 use Rattle.dimacs.specs.logic.ClauseMap.{ClauseMap, map_of, live_in}
 use Rattle.dimacs.specs.logic.Cnf.{Cnf, IsFormula}
-use Rattle.dimacs.specs.logic.Literal.{Literal, Clause, IsTautology, negation, var_of}
+use Rattle.dimacs.specs.logic.Literal.{Clause, IsTautology, negation}
 use Rattle.dimacs.specs.logic.Propagation.{Rup}
 use Rattle.dimacs.specs.text.Words
 use Rattle.dimacs.proofs.Members.{Contains-nil}
-use Rattle.icnf.specs.Leaves.{Cube, IsFree, Leaves}
-use Rattle.lrat_text.specs.Grammar.{LineSpells, SpellsStep, IsStep}
+use Rattle.icnf.specs.Leaves.{Cube}
+use Rattle.lrat_text.specs.Grammar.{LineSpells, IsStep}
 use Rattle.lrat_text.specs.Lines.{AllRead}
-use Rattle.lrat_text.specs.Log.{after_step, top_after, AreLogSteps, IsLog, Negates, EndsAt, Closes}
-use Rattle.lrat_text.specs.Proof.{AddsEmpty, Refutation, Accepts}
-use Rattle.lrat_text.specs.Reading.{step_in}
+use Rattle.lrat_text.specs.Log.{after_step, AreLogSteps, IsLog, Negates, EndsAt, Closes}
+use Rattle.lrat_text.specs.Proof.{Refutation, Accepts}
 use Rattle.lrat_text.specs.declared.fault.TextFault.{TextFault}
 use Rattle.lrat_text.specs.declared.step.Step.{Step}
 use Rattle.lrat_text.specs.declared.step.Step.TheVariants.{Add, Delete}
 use Rattle.lrat_text.proofs.LineLemmas.{spelled_read}
-use Rattle.lrat_text.specs.Runs.{after_steps, top_of, text_of}
-use Rattle.proof_join.specs.Joining.{Closed, leaf, fork, fragments, cubes, AreFree, Part, part, joined_steps, joined_text, AreSpelled, Joined, AllClose, IsPreamble, unit_steps}
-use Rattle.proof_join.proofs.LogLemmas.{log_up, log_weaker, log_refutes}
+use Rattle.lrat_text.specs.Runs.{top_of, text_of}
+use Rattle.proof_join.specs.Joining.{Closed, leaf, fork, fragments, cubes, AreFree, Part, part, joined_steps, AreSpelled, Joined, AllClose, IsPreamble, unit_steps}
+use Rattle.proof_join.proofs.LogLemmas.{log_up, log_refutes}
 use Rattle.proof_join.proofs.MapLemmas.{AreBetween, between_formula, between_without}
 use Rattle.proof_join.proofs.PreambleLemmas.{rat_top, rat_refutes, rat_spells, units_lead}
 use Rattle.proof_join.proofs.TextLemmas.{text_long, log_spells}
-use Rattle.lrat_text.proofs.RunLemmas.{top_append, text_append, spells_append}
+use Rattle.lrat_text.proofs.RunLemmas.{text_append, spells_append}
 use Rattle.proof_join.proofs.TreeLemmas.{AreClosed, IsPart, part_is, tree_added}
 
 -- ---- a text spells one list of steps

@@ -1,16 +1,16 @@
 -- Logs that follow one another.
-use Rattle.std.proofs.Common.{◌≡◌, ◌≢◌, ℕ, ◌+◌, ◌<◌, ◌≤◌, inl, inr, Bool, true, false, not, ◌||◌, List, [], ◌∷◌, ◌++◌, length, Some, None, cond, refl, sym, ◌∙◌, ap, subst, arith}
-use Rattle.std.specs.Prelude.{nat_eq, IsSome}
-use Rattle.std.specs.List.{All, Contains, list_any}
-use Rattle.std.specs.FinMap.{get, insert}
+use Rattle.std.proofs.Common.{◌≡◌, ℕ, ◌+◌, ◌<◌, ◌≤◌, inl, inr, false, not, ◌||◌, List, [], ◌∷◌, ◌++◌, length, Some, None, cond, refl, sym, ◌∙◌, ap, subst, arith}
+use Rattle.std.specs.Prelude.{nat_eq}
+use Rattle.std.specs.List.{Contains, list_any}
+use Rattle.std.specs.FinMap.{get}
 use Rattle.std.proofs.lemmas.Bool.{ne_eqb}
 use Rattle.std.proofs.lemmas.List.Elements.{All-weaker, All-contains, Contains-append_left, Contains-append_right}
-use Rattle.dimacs.specs.logic.ClauseMap.{ClauseMap, live_in}
-use Rattle.dimacs.specs.logic.Literal.{Literal, Clause}
+use Rattle.dimacs.specs.logic.ClauseMap.{ClauseMap}
+use Rattle.dimacs.specs.logic.Literal.{Clause}
 use Rattle.dimacs.specs.logic.Rat.{Group}
 use Rattle.dimacs.proofs.Members.{Contains-head, Contains-cons, Contains-cons_cases, Contains-nil}
 use Rattle.lrat_text.specs.Log.{after_step, top_after, IsLogStep, AreLogSteps}
-use Rattle.lrat_text.specs.Proof.{without, AddsEmpty, Refutation}
+use Rattle.lrat_text.specs.Proof.{AddsEmpty, Refutation}
 use Rattle.lrat_text.specs.declared.step.Step.{Step}
 use Rattle.lrat_text.specs.declared.step.Step.TheVariants.{Add, Delete}
 use Rattle.lrat_text.proofs.LogLemmas.{taken}

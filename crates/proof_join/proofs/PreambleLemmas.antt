@@ -1,10 +1,8 @@
 -- Lines of a preamble.
-use Rattle.std.proofs.Common.{◌≡◌, ℕ, zero, suc, ◌+◌, ◌*◌, ◌^◌, ◌<◌, ◌≤◌, inl, inr, not, List, [], ◌∷◌, ◌++◌, map, length, Some, None, cond, refl, sym, ◌∙◌, ap, subst, arith, append_assoc, length-append}
+use Rattle.std.proofs.Common.{◌≡◌, ℕ, zero, suc, ◌+◌, ◌*◌, ◌^◌, ◌<◌, ◌≤◌, inr, not, List, [], ◌∷◌, ◌++◌, map, length, refl, sym, ◌∙◌, ap, subst, arith, append_assoc, length-append}
 use Rattle.std.specs.List.{All, enumerate_from, flat_map}
-use Rattle.std.specs.FinMap.{get, insert, find, from_entries, get-from_entries, from_entries_push, nat_cmp-IsAntisymmetric}
-use Rattle.std.specs.Ordering.{nat_cmp}
+use Rattle.std.specs.FinMap.{insert, from_entries, get-from_entries, from_entries_push, nat_cmp-IsAntisymmetric}
 use Rattle.std.specs.Cmp.{nat_cmp_total}
-use Rattle.std.specs.Option.{unwrap_or}
 use Rattle.std.proofs.lemmas.List.Filters.{length-filter_both}
 use Rattle.std.proofs.lemmas.List.{length-map, map-append, append-nil}
 use Rattle.std.proofs.lemmas.List.Elements.{All-nil, All-cons, All-head, All-tail}
@@ -13,10 +11,8 @@ use Rattle.dimacs.specs.logic.Rat.{Rat}
 use Rattle.dimacs.specs.logic.ClauseMap.{ClauseMap, map_of, live_in}
 use Rattle.dimacs.specs.logic.Cnf.{Cnf, IsFormula}
 use Rattle.dimacs.specs.logic.Literal.{Literal, Pos, Neg, Clause, IsWithin}
-use Rattle.lrat_text.specs.Grammar.{LineSpells, SpellsStep, IsStep, IsClauseNumber, IsGroup}
-use Rattle.lrat_text.specs.Log.{after_step, top_after}
-use Rattle.lrat_text.specs.Proof.{AddsEmpty, Refutation}
-use Rattle.lrat_text.specs.Writing.{line_text, line_of}
+use Rattle.lrat_text.specs.Grammar.{LineSpells, IsStep, IsClauseNumber, IsGroup}
+use Rattle.lrat_text.specs.Proof.{Refutation}
 use Rattle.lrat_text.specs.declared.step.Step.{Step}
 use Rattle.lrat_text.specs.declared.step.Step.TheVariants.{Add, Delete}
 use Rattle.cube_split.specs.Splitting.{with_units}

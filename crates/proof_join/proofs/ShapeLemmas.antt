@@ -1,11 +1,10 @@
 -- Leaves with their fragments settle the tree, and what is joined.
-use Rattle.std.proofs.Common.{◌≡◌, ℕ, ◌+◌, ◌<◌, ◌≤◌, List, [], ◌∷◌, ◌++◌, length, refl, sym, ◌∙◌, ap, subst, arith, append_assoc, length-append}
+use Rattle.std.proofs.Common.{◌≡◌, ℕ, List, [], ◌∷◌, ◌++◌, length, refl, sym, ◌∙◌, ap, subst, arith, append_assoc, length-append}
 use Rattle.std.proofs.lemmas.List.{append-nil}
 use Rattle.dimacs.specs.logic.Cnf.{Cnf}
-use Rattle.dimacs.specs.logic.Literal.{Literal, negation, var_of}
+use Rattle.dimacs.specs.logic.Literal.{Literal, negation}
 use Rattle.icnf.specs.Leaves.{Cube, IsFree, Leaves}
 use Rattle.icnf.specs.Leaves as icnf
-use Rattle.lrat_text.specs.Grammar.{LineSpells}
 use Rattle.lrat_text.specs.declared.step.Step.{Step}
 use Rattle.proof_join.specs.Joining.{Closed, leaf, fork, fragments, cubes, AreFree, joined_text, AreSpelled, Joined, AllClose}
 use Rattle.proof_join.proofs.JoinLemmas.{spelled_once}

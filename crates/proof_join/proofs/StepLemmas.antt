@@ -1,6 +1,7 @@
 -- Steps of a text, one after the other, under other numbers.
-use Rattle.std.proofs.Common.{◌≡◌, ℕ, ◌+◌, ◌-◌, ◌^◌, ◌<◌, ◌≤◌, false, List, [], ◌∷◌, ◌++◌, map, length, Result, Ok, Err, refl, sym, ◌∙◌, ap, subst, arith, append_assoc, length-append, inl, inr}
+use Rattle.std.proofs.Common.{◌≡◌, ℕ, ◌+◌, ◌-◌, ◌^◌, ◌<◌, ◌≤◌, false, List, [], ◌∷◌, ◌++◌, map, length, Option, Some, None, MatchOption, Result, Ok, Err, refl, sym, ◌∙◌, ap, subst, arith, append_assoc, length-append, inl, inr}
 use Rattle.std.specs.Prelude.{nat_eq, ◌==◌}
+use Rattle.std.specs.Borrow.{Bor}
 use Rattle.std.specs.List.{All, Contains}
 use Rattle.std.proofs.lemmas.Bool.{cases_lt, both_ways, eq-eqb}
 use Rattle.std.proofs.lemmas.List.Elements.{All-head, All-tail, All-weaker, All-map, Contains-append_right, All-contains, All-contains_itself}
@@ -118,6 +119,11 @@ pub writes_longer : (A : Type 0) (fault : JoinFault) (new short long : List ℕ)
 writes_longer A TooLong new short long h below = omega arith
 writes_longer A NoMemory new short long h below = tt
 
+-- so it is for another call
+pub writes_else : (A B : Type 0) (fault : JoinFault) (new text : List ℕ) → Writes {A = A} (Err fault) new text → Writes {A = B} (Err fault) new text
+writes_else A B TooLong new text h = h
+writes_else A B NoMemory new text h = h
+
 -- the number of the last addition, in the fragment and behind t
 pub top_on : (b t top number : ℕ) (step : Step) → b ≤ t → t ≤ top → IsLow (b + (top - t)) step → number ≡ top_after top (renumbered (behind b t) step)
     → (top_after (b + (top - t)) step ≡ b + (number - t)) × (t ≤ number) × (number ≤ top + 1)
@@ -147,9 +153,6 @@ module _ (b t top number : ℕ) (out out' whole : List ℕ) (step : Step) (rest 
       let j = length-append out (line_of top (r step)) in
       omega arith
 
-  pub last_on : rest ≡ step ∷ later → (now now' : Step) → now' ≡ step → (end : Step) → last_of now rest ≡ end → last_of now' later ≡ end
-  last_on steps now now' is end e = ap (λ (s : Step). last_of s later) is ∙ ap (last_of now) (sym steps) ∙ e
-
   pub top_of_on : rest ≡ step ∷ later → number ≡ top_after top (renumbered (behind b t) step) → (end : ℕ) → top_of top (map (renumbered (behind b t)) rest) ≡ end → top_of number (map (renumbered (behind b t)) later) ≡ end
   top_of_on steps is end e =
       ap (λ (n : ℕ). top_of n (map (renumbered (behind b t)) later)) is ∙ ap (λ (ss : List Step). top_of top (map (renumbered (behind b t)) ss)) (sym steps) ∙ e
@@ -160,3 +163,16 @@ line_some out top step =
     let a = length-append out (line_of top step) in
     let b = length-append (line_text top step) (10 ∷ []) in
     omega arith
+
+-- the last step so far is that of the last line, or there is none yet
+abbrev LastIs : Option (Bor (List ℕ)) → Step → Step → Step → List Step → Type 0
+LastIs line now before end rest = MatchOption line ((now ≡ before) × (last_of before rest ≡ end)) (λ l. (step : Step) × SpellsStep l.now step × (last_of step rest ≡ end))
+
+pub last_at : (line : Option (Bor (List ℕ))) (now before end step : Step) (rest later : List Step) → rest ≡ step ∷ later → LastIs line now before end rest → last_of step later ≡ end
+last_at None now before end step rest later e (same, h) = ap (last_of before) (sym e) ∙ h
+last_at (Some l) now before end step rest later e (own, spells, h) = ap (last_of own) (sym e) ∙ h
+
+pub last_read : (line : Option (Bor (List ℕ))) (now before new end : Step) (rest : List Step) → rest ≡ []
+    → MatchOption line (new ≡ now) (λ l. SpellsStep l.now new) → LastIs line now before end rest → new ≡ end
+last_read None now before new end rest e is (same, h) = is ∙ same ∙ ap (last_of before) (sym e) ∙ h
+last_read (Some l) now before new end rest e is (own, spells, h) = read_same l.now new own is spells ∙ ap (last_of own) (sym e) ∙ h

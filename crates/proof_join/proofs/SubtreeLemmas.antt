@@ -1,5 +1,5 @@
 -- Subtrees, as they are written one after the other.
-use Rattle.std.proofs.Common.{◌≡◌, ◌≢◌, ℕ, zero, suc, ◌+◌, ◌-◌, ◌^◌, ◌<◌, ◌≤◌, Bool, true, false, not, cond, List, [], ◌∷◌, ◌++◌, map, length, get_or, take, drop, Result, Ok, Err, refl, sym, ◌∙◌, ap, subst, arith, append_assoc, length-append, length-drop, inl, inr, ◌⊎◌, OnOk, IfOk}
+use Rattle.std.proofs.Common.{◌≡◌, ◌≢◌, ℕ, zero, suc, ◌+◌, ◌<◌, Bool, true, false, not, cond, List, [], ◌∷◌, ◌++◌, length, get_or, take, drop, Result, Ok, Err, refl, sym, ◌∙◌, ap, subst, arith, append_assoc, length-append, length-drop, inl, inr, ◌⊎◌, OnOk, IfOk}
 use Rattle.std.specs.List.{All, Contains}
 use Rattle.std.proofs.Math.Seq.{drop-append_seam, take-append_seam, get_or-append_seam}
 use Rattle.std.proofs.lemmas.List.{append-nil, get_or-drop, length-map, get_or-map}
@@ -9,8 +9,8 @@ use Rattle.dimacs.proofs.Members.{Contains-head}
 use Rattle.icnf.specs.Leaves.{Cube}
 use Rattle.lrat_text.specs.Grammar.{LineSpells, IsStep, IsClauseNumber}
 use Rattle.lrat_text.specs.declared.step.Step.{Step}
-use Rattle.lrat_text.specs.declared.step.Step.TheVariants.{Add, Delete}
-use Rattle.proof_join.specs.Numbering.{behind, renumbered, last_clause}
+use Rattle.lrat_text.specs.declared.step.Step.TheVariants.{Add}
+use Rattle.proof_join.specs.Numbering.{last_clause}
 use Rattle.lrat_text.specs.Runs.{text_of, top_of}
 use Rattle.proof_join.specs.Joining.{Closed, leaf, fork, fragments, cubes, Part, part, leaf_part, fork_part, with_line, with_clause_of, resolvent}
 use Rattle.proof_join.specs.declared.fault.JoinFault.{JoinFault}

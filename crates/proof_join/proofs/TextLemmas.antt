@@ -1,14 +1,13 @@
 -- The text of steps spells them.
-use Rattle.std.proofs.Common.{◌≡◌, ℕ, ◌+◌, ◌^◌, ◌<◌, ◌≤◌, List, [], ◌∷◌, ◌++◌, length, Some, refl, sym, ◌∙◌, ap, subst, arith, append_assoc, length-append}
+use Rattle.std.proofs.Common.{◌≡◌, ℕ, ◌^◌, ◌<◌, ◌≤◌, List, [], ◌∷◌, ◌++◌, length, Some, refl, sym, ◌∙◌, ap, subst, arith, append_assoc, length-append}
 use Rattle.std.specs.Prelude.{IsSome}
 use Rattle.std.specs.List.{All, Contains}
 use Rattle.std.specs.FinMap.{get}
-use Rattle.std.proofs.lemmas.List.Elements.{All-nil, All-weaker, All-contains, All-contains_itself, Contains-append_left}
+use Rattle.std.proofs.lemmas.List.Elements.{All-nil, All-weaker, All-contains_itself, Contains-append_left}
 use Rattle.dimacs.specs.logic.ClauseMap.{ClauseMap, live_in}
-use Rattle.dimacs.specs.logic.Literal.{Clause, IsWithin}
-use Rattle.dimacs.specs.logic.Rat.{Group}
+use Rattle.dimacs.specs.logic.Literal.{Clause}
 use Rattle.dimacs.proofs.Members.{Contains-head, Contains-cons}
-use Rattle.lrat_text.specs.Grammar.{LineSpells, SpellsStep, IsStep, IsClauseNumber, IsGroup}
+use Rattle.lrat_text.specs.Grammar.{LineSpells, IsStep, IsClauseNumber, IsGroup}
 use Rattle.lrat_text.specs.Log.{after_step, top_after, IsLogStep, AreLogSteps}
 use Rattle.lrat_text.specs.Writing.{line_text, line_of}
 use Rattle.lrat_text.specs.declared.step.Step.{Step}

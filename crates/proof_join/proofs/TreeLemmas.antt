@@ -1,9 +1,9 @@
 -- What each part of a tree gives.
-use Rattle.std.proofs.Common.{◌≡◌, ◌≢◌, ℕ, ◌+◌, ◌<◌, ◌≤◌, inl, inr, Bool, true, false, not, ◌||◌, cond, List, [], ◌∷◌, ◌++◌, map, length, Some, refl, sym, ◌∙◌, ap, subst, arith, append_assoc}
-use Rattle.std.specs.List.{All, Contains, filter}
+use Rattle.std.proofs.Common.{◌≡◌, ℕ, ◌+◌, ◌≤◌, inl, inr, Bool, true, false, not, ◌||◌, cond, List, [], ◌∷◌, ◌++◌, map, length, Some, refl, sym, ◌∙◌, ap, subst, arith}
+use Rattle.std.specs.List.{All, Contains}
 use Rattle.std.specs.FinMap.{get}
 use Rattle.std.proofs.lemmas.List.{map-append}
-use Rattle.std.proofs.lemmas.List.Elements.{All-weaker, All-contains, All-contains_itself, Contains-append_cases, Contains-append_left, Contains-append_right}
+use Rattle.std.proofs.lemmas.List.Elements.{All-weaker, All-contains, All-contains_itself, Contains-append_cases, Contains-append_right}
 use Rattle.dimacs.specs.logic.ClauseMap.{ClauseMap, map_of, live_in}
 use Rattle.dimacs.specs.logic.Cnf.{Cnf}
 use Rattle.dimacs.specs.logic.Literal.{Literal, Clause, IsTautology, IsWithin, negation, has, var_of}
@@ -21,9 +21,9 @@ use Rattle.proof_join.specs.Numbering.{behind, renumbered, renumbered_group, las
 use Rattle.lrat_text.specs.Runs.{after_steps, top_of}
 use Rattle.proof_join.specs.Joining.{Closed, leaf, fork, Part, part, leaf_part, fork_part, with_line, with_clause_of, resolvent}
 use Rattle.proof_join.proofs.FragmentLemmas.{steps_mirrored}
-use Rattle.proof_join.proofs.LogLemmas.{log_weaker, log_up, log_keeps, Keeps, Adds, adds_left, adds_right, last_live, last_is, last_top}
+use Rattle.proof_join.proofs.LogLemmas.{log_weaker, log_up, log_keeps, Adds, adds_left, adds_right, last_live, last_is, last_top}
 use Rattle.lrat_text.proofs.RunLemmas.{after_append, top_append, log_append}
-use Rattle.proof_join.proofs.MapLemmas.{AreBetween, between_formula, get_here}
+use Rattle.proof_join.proofs.MapLemmas.{between_formula}
 use Rattle.proof_join.proofs.NumberLemmas.{behind_low}
 use Rattle.proof_join.proofs.NodeLemmas.{Negating, node_follows, negates_shorter, no_pair_longer, resolvent_negates}
 

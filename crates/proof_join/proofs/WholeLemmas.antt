@@ -1,23 +1,23 @@
 -- The fragments of a tree's leaves, and the whole text.
-use Rattle.std.proofs.Common.{◌≡◌, ℕ, ◌+◌, ◌^◌, ◌<◌, ◌≤◌, List, [], ◌∷◌, ◌++◌, map, length, take, get_or, drop, Result, Err, refl, sym, ◌∙◌, ap, subst, arith, append_assoc, length-append}
+use Rattle.std.proofs.Common.{◌≡◌, ℕ, ◌+◌, ◌^◌, ◌<◌, ◌≤◌, List, [], ◌∷◌, ◌++◌, length, take, get_or, drop, Err, refl, sym, ◌∙◌, ap, subst, arith, append_assoc, length-append}
 use Rattle.std.specs.Prelude.{IsSome}
 use Rattle.std.specs.List.{All, Contains}
 use Rattle.std.specs.FinMap.{get}
 use Rattle.std.proofs.lemmas.List.{append-nil, take_more, length-take-le, take-append-drop}
 use Rattle.std.proofs.lemmas.List.Elements.{All-nil, All-cons, All-weaker, All-contains_itself}
-use Rattle.dimacs.specs.logic.Base.{pure_literals, base_of}
+use Rattle.dimacs.specs.logic.Base.{pure_literals}
 use Rattle.dimacs.specs.logic.ClauseMap.{ClauseMap, map_of, live_in}
 use Rattle.dimacs.specs.logic.Cnf.{Cnf, IsFormula}
 use Rattle.dimacs.specs.logic.Literal.{Literal, IsWithin}
 use Rattle.icnf.specs.Leaves.{Cube, Leaves}
-use Rattle.lrat_text.specs.Grammar.{LineSpells, IsStep, IsClauseNumber, IsGroup}
-use Rattle.lrat_text.specs.Log.{after_step, top_after, IsLogStep, AreLogSteps, EndsAt, Negates, Closes}
+use Rattle.lrat_text.specs.Grammar.{LineSpells}
+use Rattle.lrat_text.specs.Log.{after_step, top_after, IsLogStep, AreLogSteps, Closes}
 use Rattle.lrat_text.specs.Writing.{line_of}
 use Rattle.lrat_text.specs.declared.step.Step.{Step}
 use Rattle.lrat_text.specs.declared.step.Step.TheVariants.{Add, Delete}
 use Rattle.lrat_text.specs.Runs.{text_of, top_of}
-use Rattle.proof_join.specs.Joining.{Closed, leaf, fork, cubes, fragments, part, joined_text, AreSpelled, Joined, AllClose, IsPreamble, unit_steps}
-use Rattle.proof_join.specs.inner.Steps.{Writes, steps_in, steps_each, IsLow, AreLow, IsOwn, IsFragment, EndsByAddition, IsBelow}
+use Rattle.proof_join.specs.Joining.{cubes, fragments, part, AreSpelled, Joined, AllClose, IsPreamble, unit_steps}
+use Rattle.proof_join.specs.inner.Steps.{Writes, steps_in, steps_each, IsLow, AreLow, IsFragment, IsBelow}
 use Rattle.proof_join.proofs.JoinLemmas.{some_clause, tree_closed, joined_accepts}
 use Rattle.lrat_text.specs.Proof.{Accepts}
 use Rattle.cube_split.proofs.PureLemmas.{pure_within}

@@ -11,7 +11,7 @@ ghost use Rattle.lrat_text.specs.Runs.{text_of};
 ghost use Rattle.proof_join.specs.inner.Steps.{IsBelow, IsFragment, Writes, steps_each};
 
 use crate::fault::JoinFault;
-use crate::lines::put_line;
+use crate::lines::{Scratch, put_line};
 use crate::subtree::{Subtree, Writer, put_fork, put_leaf};
 use cube_split::{Pair, Preamble};
 use dimacs::{Formula, Lit, Var};
@@ -230,8 +230,10 @@ pub fn join(
     let mut writer = Writer {
         out,
         top: base,
-        buffer: StepBuffer::new(alloc),
-        numbers: Vec::new(alloc),
+        scratch: Scratch {
+            buffer: StepBuffer::new(alloc),
+            numbers: Vec::new(alloc),
+        },
     };
     let mut next = 0;
     match join_below(alloc, tree, fragments, base, &mut writer, &mut next, 0) {

@@ -1,17 +1,28 @@
 //! Lines under other numbers.
 
-ghost use Rattle.std.specs.Prelude.{◌≡◌, ◌+◌, ◌-◌, ◌^◌, ◌<◌, ◌≤◌, ◌++◌, map, length, All, OnOk, IfOk};
-ghost use Rattle.lrat_text.specs.Grammar.{IsStep, IsClauseNumber};
+ghost use Rattle.std.specs.Prelude.{◌≡◌, ◌≢◌, ◌+◌, ◌-◌, ◌^◌, ◌<◌, ◌≤◌, ◌++◌, codes, map, length, All, MatchBool, MatchOption, OnOk, IfOk};
+ghost use Rattle.lrat_text.specs.Grammar.{IsStep, IsClauseNumber, SpellsStep};
 ghost use Rattle.lrat_text.specs.Log.{top_after};
 ghost use Rattle.lrat_text.specs.Steps.{step_of};
 ghost use Rattle.lrat_text.specs.Writing.{line_of};
+ghost use Rattle.lrat_text.specs.declared.step.Step.{Step};
 ghost use Rattle.proof_join.specs.Numbering.{behind, renumbered};
 ghost use Rattle.lrat_text.specs.Runs.{text_of, top_of};
 ghost use Rattle.proof_join.specs.inner.Steps.{IsLow, IsOwn, Writes, last_of, steps_in};
 
 use crate::fault::JoinFault;
-use lrat_text::{StepBuffer, StepRef, cut_line, put_ref, read_line};
+use lrat_text::{StepBuffer, StepRef, TextFault, cut_line, put_ref, read_line, written_id};
 use std::alloc::AllocError;
+
+/// A text stays below 2^32 bytes.
+fn limit(out: &Vec<u8>) -> Result<(), JoinFault>
+    ensures { Writes result out.now.items out.now.items }
+{
+    if out.len() as u64 >= 1 << 32 {
+        return Err(JoinFault::TooLong);
+    }
+    Ok(())
+}
 
 /// Appends a step's line, where the text stays below 2^32 bytes.
 pub(crate) fn put_line(out: &mut Vec<u8>, top: u64, step: StepRef<'_>) -> Result<(), JoinFault>
@@ -20,56 +31,88 @@ pub(crate) fn put_line(out: &mut Vec<u8>, top: u64, step: StepRef<'_>) -> Result
     ensures { Writes result out.new.items (out.old.items ++ line_of top (step_of step.entry)) }
 {
     match put_ref(step, top, out) {
+        Ok(()) => limit(out),
+        Err(_) => Err(JoinFault::NoMemory),
+    }
+}
+
+/// Appends a line as it stands, where the text stays below 2^32 bytes.
+fn put_copy(out: &mut Vec<u8>, line: &[u8]) -> Result<(), JoinFault>
+    ensures { Writes result out.new.items (out.old.items ++ (line.now ++ codes "\n")) }
+{
+    match out.extend_from_slice(line) {
         Ok(()) => {}
         Err(_) => return Err(JoinFault::NoMemory),
     }
-    if out.len() as u64 >= 1 << 32 {
-        return Err(JoinFault::TooLong);
-    }
-    Ok(())
-}
-
-/// The number behind `top` that stands for one behind `base`.
-fn behind(base: u64, top: u64, number: u64) -> u64
-    requires number { number < 2 ^ 48 }
-    requires top { top < 2 ^ 48 }
-    ensures { result ≡ behind base top number }
-{
-    if number <= base {
-        number
-    } else {
-        number - base + top
+    match out.push(b'\n') {
+        Ok(()) => limit(out),
+        Err(_) => Err(JoinFault::NoMemory),
     }
 }
 
-/// Puts these numbers, renumbered, in the place of those that `out` had.
-fn all_behind(base: u64, top: u64, numbers: &[u64], out: &mut Vec<u64>) -> Result<(), AllocError>
-    requires numbers { All (λ n. n < 2 ^ 48) numbers.now }
-    requires top { top < 2 ^ 48 }
-    ensures { OnOk result (out.new.items ≡ map (behind base top) numbers.now) }
-{
-    out.clear();
-    for number in numbers {
-        out.push(behind(base, top, *number))?;
-    }
-    Ok(())
+/// Where a fragment's numbers go: those up to `base` stay, and those behind it go on behind `begun`.
+#[derive(Clone, Copy)]
+pub(crate) struct Shift {
+    pub(crate) base: u64,
+    pub(crate) begun: u64,
 }
 
-/// Appends a step of a fragment, whose numbers behind `base` go on behind `begun`, and tells the number of the last addition.
+impl Shift {
+    /// Whether every number stays.
+    fn is_none(self) -> bool
+        ensures { MatchBool result (self.begun ≡ self.base) (self.begun ≢ self.base) }
+    {
+        self.begun == self.base
+    }
+
+    /// The number that stands for one.
+    fn number(self, number: u64) -> u64
+        requires number { number < 2 ^ 48 }
+        requires begun { self.begun < 2 ^ 48 }
+        ensures { result ≡ behind self.base self.begun number }
+    {
+        if number <= self.base {
+            number
+        } else {
+            number - self.base + self.begun
+        }
+    }
+
+    /// Puts these numbers, renumbered, in the place of those that `out` had.
+    fn numbers(self, numbers: &[u64], out: &mut Vec<u64>) -> Result<(), AllocError>
+        requires numbers { All (λ n. n < 2 ^ 48) numbers.now }
+        requires begun { self.begun < 2 ^ 48 }
+        ensures { OnOk result (out.new.items ≡ map (behind self.base self.begun) numbers.now) }
+    {
+        out.clear();
+        for number in numbers {
+            out.push(self.number(*number))?;
+        }
+        Ok(())
+    }
+}
+
+/// What a line of a fragment is read into, and its numbers are renumbered in.
+#[derive(Drop)]
+pub(crate) struct Scratch {
+    pub(crate) buffer: StepBuffer,
+    pub(crate) numbers: Vec<u64>,
+}
+
+/// Appends a step of a fragment, renumbered, and tells the number of the last addition.
 fn put_renumbered(
     out: &mut Vec<u8>,
     numbers: &mut Vec<u64>,
-    base: u64,
-    begun: u64,
+    shift: Shift,
     top: u64,
     step: StepRef<'_>,
 ) -> Result<u64, JoinFault>
     requires limits { IsStep (step_of step) }
-    requires low { IsLow (base + (top - begun)) (step_of step) }
-    requires begun { (1 ≤ base) × (base ≤ begun) × (begun ≤ top) }
+    requires low { IsLow (shift.base + (top - shift.begun)) (step_of step) }
+    requires begun { (1 ≤ shift.base) × (shift.base ≤ shift.begun) × (shift.begun ≤ top) }
     requires top { top + 1 < 2 ^ 48 }
-    ensures text { Writes result out.new.items (out.old.items ++ line_of top (renumbered (behind base begun) (step_of step.entry))) }
-    ensures top { IfOk result (λ n. n ≡ top_after top (renumbered (behind base begun) (step_of step.entry))) }
+    ensures text { Writes result out.new.items (out.old.items ++ line_of top (renumbered (behind shift.base shift.begun) (step_of step.entry))) }
+    ensures top { IfOk result (λ n. n ≡ top_after top (renumbered (behind shift.base shift.begun) (step_of step.entry))) }
 {
     match step {
         StepRef::Add {
@@ -78,11 +121,11 @@ fn put_renumbered(
             hints,
             groups,
         } => {
-            match all_behind(base, begun, hints, numbers) {
+            match shift.numbers(hints, numbers) {
                 Ok(()) => {}
                 Err(_) => return Err(JoinFault::NoMemory),
             }
-            let id = behind(base, begun, id);
+            let id = shift.number(id);
             let line = StepRef::Add {
                 id,
                 lits,
@@ -95,7 +138,7 @@ fn put_renumbered(
             }
         }
         StepRef::Delete { ids } => {
-            match all_behind(base, begun, ids, numbers) {
+            match shift.numbers(ids, numbers) {
                 Ok(()) => {}
                 Err(_) => return Err(JoinFault::NoMemory),
             }
@@ -107,35 +150,82 @@ fn put_renumbered(
     }
 }
 
-/// Appends a fragment, whose numbers behind `base` go on behind `begun`, and tells the number of the last addition.
+/// Appends a fragment's line, renumbered, and tells the number of the last addition.
+///
+/// Where every number stays, as in a run with one leaf, an addition that stands as it is written is copied and not read.
+fn put_fragment_line(
+    out: &mut Vec<u8>,
+    scratch: &mut Scratch,
+    shift: Shift,
+    top: u64,
+    line: &[u8],
+) -> Result<u64, JoinFault>
+    requires spelled { (step : Step) × SpellsStep line.now step }
+    requires low { (step : Step) → SpellsStep line.now step → IsLow (shift.base + (top - shift.begun)) step }
+    requires begun { (1 ≤ shift.base) × (shift.base ≤ shift.begun) × (shift.begun ≤ top) }
+    requires top { top + 1 < 2 ^ 48 }
+    ensures text { (step : Step) → SpellsStep line.now step → Writes result out.new.items (out.old.items ++ line_of top (renumbered (behind shift.base shift.begun) step)) }
+    ensures top { (step : Step) → SpellsStep line.now step → IfOk result (λ n. n ≡ top_after top (renumbered (behind shift.base shift.begun) step)) }
+{
+    if shift.is_none() {
+        if let Some(id) = written_id(line) {
+            return match put_copy(out, line) {
+                Ok(()) => Ok(id),
+                Err(fault) => Err(fault),
+            };
+        }
+    }
+    match read_line(&mut scratch.buffer, line) {
+        Ok(()) => {}
+        Err(_) => return Err(JoinFault::NoMemory),
+    }
+    put_renumbered(
+        out,
+        &mut scratch.numbers,
+        shift,
+        top,
+        scratch.buffer.as_ref(),
+    )
+}
+
+/// Reads the last line, if there is one: it may have been copied.
+fn read_last(buffer: &mut StepBuffer, last: Option<&[u8]>) -> Result<(), TextFault>
+    ensures { OnOk result (MatchOption last.entry (buffer.new ≡ buffer.old) (λ line. SpellsStep line.now buffer.new)) }
+{
+    match last {
+        Some(line) => read_line(buffer, line),
+        None => Ok(()),
+    }
+}
+
+/// Appends a fragment, renumbered, and tells the number of the last addition; the buffer has the last step.
 pub(crate) fn put_fragment(
     out: &mut Vec<u8>,
-    buffer: &mut StepBuffer,
-    numbers: &mut Vec<u64>,
-    base: u64,
-    begun: u64,
+    scratch: &mut Scratch,
+    shift: Shift,
     fragment: &[u8],
 ) -> Result<u64, JoinFault>
-    requires own { IsOwn base fragment.now }
-    requires begun { (1 ≤ base) × (base ≤ begun) × (begun ≤ base + length out.old.items) }
-    requires short { (base < 2 ^ 40) × (length out.old.items < 2 ^ 32) }
-    ensures text { Writes result out.new.items (out.old.items ++ text_of begun (map (renumbered (behind base begun)) (steps_in fragment.now))) }
-    ensures top { IfOk result (λ n. n ≡ top_of begun (map (renumbered (behind base begun)) (steps_in fragment.now))) }
-    ensures last { OnOk result (buffer.new ≡ last_of buffer.old (steps_in fragment.now)) }
-    ensures few { IfOk result (λ n. (begun ≤ n) × (n ≤ base + length out.new.items)) }
+    requires own { IsOwn shift.base fragment.now }
+    requires begun { (1 ≤ shift.base) × (shift.base ≤ shift.begun) × (shift.begun ≤ shift.base + length out.old.items) }
+    requires short { (shift.base < 2 ^ 40) × (length out.old.items < 2 ^ 32) }
+    ensures text { Writes result out.new.items (out.old.items ++ text_of shift.begun (map (renumbered (behind shift.base shift.begun)) (steps_in fragment.now))) }
+    ensures top { IfOk result (λ n. n ≡ top_of shift.begun (map (renumbered (behind shift.base shift.begun)) (steps_in fragment.now))) }
+    ensures last { OnOk result (scratch.new.buffer ≡ last_of scratch.old.buffer (steps_in fragment.now)) }
+    ensures few { IfOk result (λ n. (shift.begun ≤ n) × (n ≤ shift.base + length out.new.items)) }
 {
     let mut rest = fragment;
-    let mut top = begun;
+    let mut top = shift.begun;
+    let mut last = None;
     while let Some((line, later)) = cut_line(rest) {
-        match read_line(buffer, line) {
-            Ok(()) => {}
-            Err(_) => return Err(JoinFault::NoMemory),
-        }
-        match put_renumbered(out, numbers, base, begun, top, buffer.as_ref()) {
+        match put_fragment_line(out, scratch, shift, top, line) {
             Ok(number) => top = number,
             Err(fault) => return Err(fault),
         }
+        last = Some(line);
         rest = later;
     }
-    Ok(top)
+    match read_last(&mut scratch.buffer, last) {
+        Ok(()) => Ok(top),
+        Err(_) => Err(JoinFault::NoMemory),
+    }
 }

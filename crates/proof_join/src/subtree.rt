@@ -8,7 +8,7 @@ ghost use Rattle.lrat_text.specs.Runs.{text_of};
 ghost use Rattle.proof_join.specs.inner.Steps.{IsFragment, Writes, clause_of, own_part, steps_in};
 
 use crate::fault::JoinFault;
-use crate::lines::{put_fragment, put_line};
+use crate::lines::{Scratch, Shift, put_fragment, put_line};
 use dimacs::{Lit, has_literal};
 use lrat_text::{Groups, StepBuffer, StepRef};
 use std::alloc::{AllocError, Global};
@@ -20,13 +20,12 @@ pub(crate) struct Subtree {
     pub(crate) clause: Vec<Lit>,
 }
 
-/// The text so far with the number of its last addition, and what a fragment is read into.
+/// The text so far with the number of its last addition, and what fragments are read into.
 #[derive(Drop)]
 pub(crate) struct Writer {
     pub(crate) out: Vec<u8>,
     pub(crate) top: u64,
-    pub(crate) buffer: StepBuffer,
-    pub(crate) numbers: Vec<u64>,
+    pub(crate) scratch: Scratch,
 }
 
 /// The negations of the path's literals that stand negated in one of two clauses.
@@ -72,16 +71,14 @@ pub(crate) fn put_leaf(
     let begun = writer.top;
     match put_fragment(
         &mut writer.out,
-        &mut writer.buffer,
-        &mut writer.numbers,
-        base,
-        begun,
+        &mut writer.scratch,
+        Shift { base, begun },
         fragment,
     ) {
         Ok(top) => writer.top = top,
         Err(fault) => return Err(fault),
     }
-    match last_clause(alloc, &writer.buffer) {
+    match last_clause(alloc, &writer.scratch.buffer) {
         Ok(clause) => Ok(Subtree {
             id: writer.top,
             clause,

@@ -1,5 +1,5 @@
 -- Tokens as the code meets them.
-use Rattle.std.specs.Prelude.{ℕ, length, ◌+◌, ◌^◌, ◌≤◌, ◌<◌, Bool, ◌==◌, List, [], ◌∷◌, Option, Some, None}
+use Rattle.std.specs.Prelude.{ℕ, length, ◌+◌, ◌^◌, ◌≤◌, ◌<◌, Bool, true, false, not, ◌&&◌, ◌||◌, ◌==◌, List, [], ◌∷◌, Option, Some, None}
 use Rattle.std.specs.Borrow.{Bor}
 use Rattle.lrat_text.specs.Grammar.{space}
 use Rattle.lrat_text.specs.Reading.{line_tokens}
@@ -28,3 +28,14 @@ tokens_from (Some next) = next.0 ∷ line_tokens next.1.now
 abbrev pub left_len : Option (Token × Bor (List ℕ)) → ℕ
 left_len None = 0
 left_len (Some next) = length next.1.now + 1
+
+-- no space stands at the end of some bytes, or behind another or this byte before them
+abbrev pub is_single : ℕ → List ℕ → Bool
+is_single before [] = not (before == space)
+is_single before (b ∷ bs) = (not (before == space) || not (b == space)) && is_single b bs
+
+-- whether the letter of a deletion stands first
+abbrev pub begins_deletion : List Token → Bool
+begins_deletion [] = false
+begins_deletion (Letter ∷ ts) = true
+begins_deletion (t ∷ ts) = false

@@ -1,11 +1,7 @@
-use Rattle.std.proofs.Common.{rules, ◌≡◌, ◌≢◌, ℕ, ◌+◌, ◌-◌, ◌<◌, ◌≤◌, ◌++◌, ◌∙◌, List, [], map, length, All, OnOk, Err, arith, ap, sym, subst, take}
+use Rattle.std.proofs.Common.{◌≡◌, ◌+◌, ◌∙◌, [], map, length, arith, ap, sym, subst}
 use Rattle.std.proofs.lemmas.List.{length-map, length-take-le}
-use Rattle.dimacs.specs.logic.Literal.{Literal, Clause}
-use Rattle.icnf.specs.Leaves.{Cube}
-use Rattle.lrat_text.specs.declared.step.Step.{Step}
-use Rattle.proof_join.specs.Joining.{Closed, leaf, cubes, part, leaf_part}
-use Rattle.lrat_text.specs.Runs.{text_of}
-use Rattle.proof_join.specs.inner.Steps.{IsBelow, IsFragment, own_part, steps_in, steps_each}
+use Rattle.proof_join.specs.Joining.{Closed, cubes, part}
+use Rattle.proof_join.specs.inner.Steps.{IsFragment, steps_in, steps_each}
 use Rattle.proof_join.proofs.SubtreeLemmas.{below_inside, text_inside, leaf_tree, leaf_writes, at_fork, first_below, second_below, first_stops, second_stops, AreBranches, fork_writes, fork_values, fork_length, ok_gives, ok_always, if_ok}
 use Rattle.proof_join.specs.declared.subtree.Subtree.{Subtree}
 use Rattle.proof_join.proofs.joining.+join_below.Goals as goal

@@ -1,11 +1,11 @@
-use Rattle.std.proofs.Common.{◌≡◌, ℕ, ◌+◌, ◌<◌, ◌≤◌, ◌++◌, ◌∙◌, List, [], map, length, All, arith, ap, refl, sym, subst}
+use Rattle.std.proofs.Common.{◌≡◌, ℕ, ◌≤◌, ◌++◌, ◌∙◌, List, [], map, length, All, arith, ap, refl, sym, subst}
 use Rattle.std.proofs.lemmas.List.{append-nil}
 use Rattle.lrat_text.specs.Runs.{text_of}
 use Rattle.cube_split.specs.Definitions.{base_with}
 use Rattle.cube_split.specs.declared.pair.Pair.{Pair}
 use Rattle.proof_join.specs.Definitions.{preamble_steps}
 use Rattle.proof_join.specs.Joining.{Closed, IsPreamble, part}
-use Rattle.proof_join.specs.inner.Steps.{IsFragment, Writes}
+use Rattle.proof_join.specs.inner.Steps.{IsFragment}
 use Rattle.proof_join.specs.declared.subtree.Subtree.{Subtree}
 use Rattle.proof_join.proofs.DefinitionLemmas.{definitions_lead}
 use Rattle.proof_join.proofs.WholeLemmas.{all_below, all_fragments, base_some, too_long, whole, whole_is, whole_joined, whole_accepts, whole_long}

@@ -1,4 +1,4 @@
-use Rattle.std.proofs.Common.{arith, ◌≡◌, ℕ, ◌+◌, ◌*◌, ◌++◌, ◌∙◌, List, length, take, drop, ap}
+use Rattle.std.proofs.Common.{arith, ℕ, ◌+◌, ◌*◌, ◌++◌, ◌∙◌, List, length, take, drop, ap}
 use Rattle.lrat_text.specs.Runs.{text_of, top_of}
 use Rattle.cube_split.specs.declared.pair.Pair.{Pair}
 use Rattle.proof_join.specs.Definitions.{all_steps, definition_steps}

@@ -1,8 +1,8 @@
-use Rattle.std.proofs.Common.{rules, ◌≡◌, ◌+◌, ◌≤◌, ◌<◌, ◌∙◌, List, [], All, ℕ, ap, sym, subst, arith}
+use Rattle.std.proofs.Common.{◌≡◌, ◌∙◌, List, All, ap, sym, subst, arith}
 use Rattle.std.proofs.lemmas.List.Elements.{All-nil}
 use Rattle.dimacs.specs.logic.Literal.{Clause, IsWithin}
 use Rattle.dimacs.specs.logic.Rat.{Group}
-use Rattle.lrat_text.specs.Grammar.{IsClauseNumber, IsGroup}
+use Rattle.lrat_text.specs.Grammar.{IsGroup}
 use Rattle.proof_join.specs.Joining.{resolvent}
 use Rattle.proof_join.proofs.SubtreeLemmas.{two_numbers}
 use Rattle.proof_join.proofs.TreeLemmas.{resolvent_small}

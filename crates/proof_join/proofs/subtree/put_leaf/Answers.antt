@@ -1,4 +1,4 @@
-use Rattle.std.proofs.Common.{◌≡◌, ◌+◌, ◌≤◌, ◌∙◌, [], All, ℕ, ap, sym, subst, arith}
+use Rattle.std.proofs.Common.{◌≡◌, ◌∙◌, [], All, ap, sym, subst, arith}
 use Rattle.dimacs.specs.logic.Literal.{IsWithin}
 use Rattle.proof_join.specs.Numbering.{last_clause}
 use Rattle.proof_join.specs.inner.Steps.{clause_of, steps_in}
@@ -8,13 +8,13 @@ use Rattle.proof_join.proofs.subtree.put_leaf.Goals as goal
 pub returns-in-Ok-last_clause-clause-subtree : goal.returns-in-Ok-last_clause-clause-subtree
 returns-in-Ok-last_clause-clause-subtree c = (
   c.in-Ok.ensures.top,
-  c.in-Ok-last_clause.ensures ∙ ap clause_of c.in-Ok.ensures.last ∙ ends_clause c.args.writer.now.buffer (steps_in c.args.fragment.now) c.requires.fragment.ends,
+  c.in-Ok-last_clause.ensures ∙ ap clause_of c.in-Ok.ensures.last ∙ ends_clause c.args.writer.now.scratch.buffer (steps_in c.args.fragment.now) c.requires.fragment.ends,
 )
 
 pub returns-in-Ok-last_clause-clause-small : goal.returns-in-Ok-last_clause-clause-small
 returns-in-Ok-last_clause-clause-small c =
     let e : c.in-Ok-last_clause.clause.items ≡ last_clause [] (steps_in c.args.fragment.now) =
-    c.in-Ok-last_clause.ensures ∙ ap clause_of c.in-Ok.ensures.last ∙ ends_clause c.args.writer.now.buffer (steps_in c.args.fragment.now) c.requires.fragment.ends in
+    c.in-Ok-last_clause.ensures ∙ ap clause_of c.in-Ok.ensures.last ∙ ends_clause c.args.writer.now.scratch.buffer (steps_in c.args.fragment.now) c.requires.fragment.ends in
     let up = c.in-Ok.ensures.few in
     let a = up.0 in
     let begun = c.requires.begun in
