@@ -6,7 +6,7 @@ ghost use Rattle.dimacs.specs.logic.Literal.{Pos, Neg};
 ghost use Rattle.conflict_analysis.specs.Built.{AreInside};
 
 use clause_arena::Arena;
-use conflict_analysis::{Closing, analyse, close_cube};
+use conflict_analysis::{Analyser, Closing, analyse, close_cube};
 use dimacs::{Lit, Var};
 use std::alloc::{AllocError, Global};
 use std::process::Abort;
@@ -68,6 +68,19 @@ fn a_decision_that_implies_a_conflict_is_refused(rt: HostRuntime) -> Result<(), 
     assert_eq!(rt; lemma.lits.as_slice(), [neg(1)].as_slice());
     assert_eq!(rt; lemma.hints.as_slice(), [1, 2].as_slice());
     assert_eq!(rt; lemma.level, 0);
+    Ok(())
+}
+
+/// The false clause has both variables, and so has the reason that is resolved.
+#[test]
+fn variables_of_two_clauses_are_met_again(rt: HostRuntime) -> Result<(), Fail> {
+    let arena = two_clauses(rt.alloc())?;
+    let trail = small_trail(rt.alloc())?;
+    let mut analyser = Analyser::new(rt.alloc());
+    let _lemma = analyser.analyse(&arena, &trail, 2)?;
+    let both = [Var::new(1), Var::new(2)];
+    assert_eq!(rt; analyser.met(), both.as_slice());
+    assert_eq!(rt; analyser.met_again(), both.as_slice());
     Ok(())
 }
 

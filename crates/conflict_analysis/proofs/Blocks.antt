@@ -82,6 +82,7 @@ module _ (m : Clauses) (t : TrailValue) (built : AreBuilt (live_of m) [] t.entri
           remaining = walk.counted.remaining ∙ ap (waiting (met w.seen) (is_lower es)) more ∙ waiting_past (take i es) (met w.seen) (is_lower es) (get_or es i default) new;
         };
         listed = walk.listed;
+        again = walk.again;
         wide = walk.wide;
         marked = walk.marked;
       }

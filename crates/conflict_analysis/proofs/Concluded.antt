@@ -1,11 +1,13 @@
 -- The lemma of a walk that has ended.
-use Rattle.std.proofs.Common.{◌≡◌, ℕ, ◌<◌, [], ◌∷◌, ◌++◌, take, reverse, subst}
+use Rattle.std.proofs.Common.{◌≡◌, ℕ, ◌<◌, ◌≤◌, [], ◌∷◌, ◌++◌, take, reverse, subst}
+use Rattle.std.specs.List.{Contains}
+use Rattle.std.proofs.lemmas.List.Elements.{All-contains, All-contains_itself, All-weaker}
 use Rattle.dimacs.specs.logic.ClauseMap.{Live}
 use Rattle.dimacs.specs.logic.Literal.{Clause}
 use Rattle.watches.specs.Trails.{TrailValue}
 use Rattle.conflict_analysis.specs.declared.lemma.Lemma.{Lemma}
 use Rattle.conflict_analysis.specs.declared.walk.Walk.{Walk}
-use Rattle.conflict_analysis.specs.Lemmas.{AreApart, IsPresentConflict, IsLemmaOf}
+use Rattle.conflict_analysis.specs.Lemmas.{AreAgain, AreApart, IsPresentConflict, IsLemmaOf}
 use Rattle.conflict_analysis.specs.inner.Seen.{met}
 use Rattle.conflict_analysis.specs.inner.Walks.{AreCounted, AreMet, HasMet, IsLevelled, IsWalk, HasEnded}
 use Rattle.conflict_analysis.proofs.Concluding.{some_waits, ordered, follows, asserting, lemma_within}
@@ -19,6 +21,15 @@ conflict_waits live t number w c walk all =
 
 pub walk_apart : (live : Live) (t : TrailValue) (w : Walk) (lemma : Lemma) → HasEnded live t w lemma → AreApart t.vars w.met.items
 walk_apart live t w lemma h = let l = h.way.walk.listed in record { within = l.within; distinct = l.distinct }
+
+pub walk_again : (live : Live) (t : TrailValue) (w : Walk) (lemma : Lemma) → HasEnded live t w lemma → AreAgain t.vars w.met.items w.again.items
+walk_again live t w lemma h =
+    let l = h.way.walk.listed in
+    let among : (v : ℕ) → Contains w.again.items v → Contains w.met.items v = λ v c. l.all v (h.way.walk.again v c) in
+    record {
+      within = All-weaker (Contains w.again.items) (λ v. (0 < v) × (v ≤ t.vars)) (λ v c. All-contains (λ v. (0 < v) × (v ≤ t.vars)) w.met.items v l.within (among v c)) w.again.items (All-contains_itself w.again.items);
+      among = All-weaker (Contains w.again.items) (Contains w.met.items) among w.again.items (All-contains_itself w.again.items);
+    }
 
 pub is_lemma : (live : Live) (t : TrailValue) (number : ℕ) (v w : Walk) (lemma after : Lemma) → IsPresentConflict live t number
     → ((C : Clause) → live number C → AreMet (met v.seen) C) → HasMet t.entries v.seen w.seen → HasEnded live t w lemma

@@ -57,10 +57,20 @@ pub record IsLemmaOf (live : Live) (t : TrailValue) (number : ℕ) (lemma : Lemm
   -- each is of a variable of the trail
   pub within : All (IsWithin t.vars) lemma.lits.items
 
+-- the variables that an analysis met: each once, and those that it met again, as often as it did
+pub record Met : Type 0 where
+  pub once : List ℕ
+  pub again : List ℕ
+
 -- variables from 1 to `vars`, no one twice
 pub record AreApart (vars : ℕ) (listed : List ℕ) : Type 0 where
   pub within : All (λ v. (0 < v) × (v ≤ vars)) listed
   pub distinct : IsDistinct nat_eq listed
+
+-- variables from 1 to `vars`, each one of those that are listed
+pub record AreAgain (vars : ℕ) (listed again : List ℕ) : Type 0 where
+  pub within : All (λ v. (0 < v) × (v ≤ vars)) again
+  pub among : All (Contains listed) again
 
 -- a literal that was decided
 abbrev pub IsDecision : List Assigned → Literal → Type 0

@@ -2,7 +2,7 @@
 
 ghost use Rattle.std.specs.Prelude.{◌≡◌, IfOk, OnOk};
 ghost use Rattle.clause_arena.specs.Clauses.{live_of};
-ghost use Rattle.conflict_analysis.specs.Lemmas.{AreApart, IsPresentConflict, IsLemmaOf};
+ghost use Rattle.conflict_analysis.specs.Lemmas.{AreAgain, AreApart, IsPresentConflict, IsLemmaOf};
 
 use crate::lemma::Lemma;
 use crate::minimiser::Minimiser;
@@ -23,11 +23,11 @@ pub struct Analyser {
 }
 
 impl Model for Analyser {
-    ghost use Rattle.std.specs.Prelude.{ℕ, List};
+    ghost use Rattle.conflict_analysis.specs.Lemmas.{Met};
 
-    ghost Value = { List ℕ };
+    ghost Value = { Met };
 
-    ghost view = { λ a. a.walk.met.items };
+    ghost view = { λ a. record { once = a.walk.met.items; again = a.walk.again.items } };
 }
 
 impl Analyser {
@@ -42,9 +42,17 @@ impl Analyser {
 
     /// The variables that the last analysis met, no one twice.
     pub fn met(&self) -> &[Var]
-        ensures { result.now ≡ self.now }
+        ensures { result.now ≡ self.now.once }
     {
         &self.walk.met
+    }
+
+    /// The variables that it met again: of the false clause and of each reason of an entry of the present level that it
+    /// resolved, those that it had met before.
+    pub fn met_again(&self) -> &[Var]
+        ensures { result.now ≡ self.now.again }
+    {
+        &self.walk.again
     }
 
     /// The lemma of a false clause that has a literal of the present level, which is above 0: by its hints, in trail order
@@ -59,7 +67,8 @@ impl Analyser {
     ) -> Result<Lemma, AllocError>
         requires { IsPresentConflict (live_of arena.now) trail.now number }
         ensures lemma { IfOk result (λ lemma. IsLemmaOf (live_of arena.now) trail.now number lemma) }
-        ensures met { IfOk result (λ lemma. AreApart trail.now.vars self.new) }
+        ensures met { IfOk result (λ lemma. AreApart trail.now.vars self.new.once) }
+        ensures again { IfOk result (λ lemma. AreAgain trail.now.vars self.new.once self.new.again) }
     {
         let mut lemma = Lemma::new(self.alloc);
         self.analyse_into(arena, trail, number, &mut lemma)?;
@@ -76,7 +85,8 @@ impl Analyser {
     ) -> Result<(), AllocError>
         requires { IsPresentConflict (live_of arena.now) trail.now number }
         ensures lemma { OnOk result (IsLemmaOf (live_of arena.now) trail.now number lemma.new) }
-        ensures met { OnOk result (AreApart trail.now.vars self.new) }
+        ensures met { OnOk result (AreApart trail.now.vars self.new.once) }
+        ensures again { OnOk result (AreAgain trail.now.vars self.new.once self.new.again) }
     {
         let entries = trail.entries();
         lemma.clear();

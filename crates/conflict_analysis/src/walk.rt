@@ -1,6 +1,6 @@
 //! One walk down a trail, from a false clause to the first implication point, and on to what was met of lower levels.
 
-ghost use Rattle.std.specs.Prelude.{◌≡◌, ℕ, ◌+◌, ◌/◌, ◌<◌, ◌≤◌, max, true, false, [], ◌∷◌, ◌++◌, Some, length, take, slice_index_or, Contains, All, IfOk, OnOk};
+ghost use Rattle.std.specs.Prelude.{◌≡◌, ℕ, ◌+◌, ◌/◌, ◌<◌, ◌≤◌, max, true, false, [], ◌∷◌, ◌++◌, Some, length, take, slice_index_or, List, Contains, All, IfOk, OnOk};
 ghost use Rattle.std.specs.Bool.{OnFalse};
 ghost use Rattle.clause_arena.specs.Clauses.{live_of};
 ghost use Rattle.dimacs.specs.logic.Literal.{Literal, Clause, IsWithin, negation, var_of};
@@ -8,7 +8,7 @@ ghost use Rattle.conflict_analysis.specs.Built.{AreBuilt, AreInside};
 ghost use Rattle.conflict_analysis.specs.inner.Minimising.{HasRoom};
 ghost use Rattle.conflict_analysis.specs.inner.Seen.{met};
 ghost use Rattle.conflict_analysis.specs.inner.Walks.{IsKnown, AreKnown, AreMet, IsWalk, HasMet, IsUnderWay, HasEnded, IsChoice};
-ghost use Rattle.watches.specs.Trails.{IsTrailValue, present};
+ghost use Rattle.watches.specs.Trails.{TrailValue, IsTrailValue, present};
 ghost use Rattle.watches.specs.declared.trail.Assigned.{Assigned};
 
 use crate::lemma::Lemma;
@@ -26,8 +26,9 @@ const MOST_REASONS: u32 = 1000;
 const BLOCK: usize = 8;
 
 /// A walk down a trail of the level `present`. Of the entries that were met and are still before it `pending` have that
-/// level, and `rest` a lower one; `met` lists the variables that it has `seen`. Each entry that was met stands in one of the `blocks`
-/// of eight places that are marked, so that the walk comes past the others by one look each.
+/// level, and `rest` a lower one; `met` lists the variables that it has `seen`, and `again` those that a further clause of the present
+/// level has, once for each. Each entry that was met stands in one of the `blocks` of eight places that are marked, so that the walk
+/// comes past the others by one look each.
 ///
 /// The front, which the methods are handed, is the part of the trail that is still before the walk.
 #[derive(Drop)]
@@ -37,6 +38,9 @@ pub(crate) struct Walk {
     pub(crate) pending: usize,
     pub(crate) rest: usize,
     pub(crate) met: Vec<Var>,
+    pub(crate) again: Vec<Var>,
+    /// Whether the clause that is met is the false one, or the reason of an entry of the present level.
+    pub(crate) notes: bool,
     pub(crate) blocks: Seen,
 }
 
@@ -49,6 +53,8 @@ impl Walk {
             pending: 0,
             rest: 0,
             met: Vec::new(alloc),
+            again: Vec::new(alloc),
+            notes: true,
             blocks: Seen::new(alloc),
         }
     }
@@ -64,6 +70,8 @@ impl Walk {
         self.pending = 0;
         self.rest = 0;
         self.met.clear();
+        self.again.clear();
+        self.notes = true;
         Ok(())
     }
 
@@ -120,7 +128,7 @@ impl Walk {
     {
         let var = literal.var();
         if self.seen.has(var) {
-            return Ok(());
+            return self.note(var);
         }
         let negated = literal.negate();
         let place = trail.place_of(negated);
@@ -132,6 +140,19 @@ impl Walk {
             self.pending += 1;
         } else {
             self.rest += 1;
+        }
+        Ok(())
+    }
+
+    /// Notes a variable that was met before, where the clause is of the present level.
+    #[inline(always)]
+    fn note(&mut self, var: Var) -> Result<(), AllocError>
+        requires { met self.old.seen var ≡ true }
+        ensures walk { OnOk result ((t : TrailValue) (front : List Assigned) → IsWalk t front self.old → IsWalk t front self.new) }
+        ensures seen { self.new.seen ≡ self.old.seen }
+    {
+        if self.notes {
+            self.again.push(var)?;
         }
         Ok(())
     }
@@ -229,7 +250,8 @@ impl Walk {
         if !self.seen.has(entry.literal.var()) {
             return false;
         }
-        if entry.level == self.present {
+        self.notes = entry.level == self.present;
+        if self.notes {
             self.pending -= 1;
         } else {
             self.rest -= 1;

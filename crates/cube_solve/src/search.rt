@@ -141,6 +141,7 @@ impl<'a, P: Propagator> Search<'a, P> {
             .analyse_into(&state.arena, &state.trail, conflict, &mut self.lemma)?;
         self.log.write(id, &self.lemma)?;
         state.order.bump(self.analyser.met());
+        state.order.bump(self.analyser.met_again());
         state.go_back(self.lemma.level);
         add_clause(
             state.propagator,

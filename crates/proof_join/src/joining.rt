@@ -198,6 +198,26 @@ fn put_preamble(
     put_definitions(alloc, out, top, vars, preamble.pairs())
 }
 
+/// How many bytes the fragments have.
+fn size_of(fragments: &[Vec<u8>]) -> usize {
+    let mut size = 0usize;
+    for fragment in fragments {
+        size = size.saturating_add(fragment.len());
+    }
+    size
+}
+
+/// An empty text, with room for what these fragments are joined into, where that is to be had: a text that grows is copied, and
+/// stands in memory twice for a moment. Room that is not used costs nothing.
+fn begun(alloc: Global, fragments: &[Vec<u8>]) -> Vec<u8>
+    ensures { result.items ≡ [] }
+{
+    let size = size_of(fragments);
+    let mut out = Vec::new(alloc);
+    let _ = out.reserve(size.saturating_add(size / 2).saturating_add(4096));
+    out
+}
+
 /// Joins the fragments that close the leaves of a tree into one proof: the preamble's lines, and then each subtree's, the
 /// left branch before the right one and both before the fork.
 ///
@@ -222,7 +242,7 @@ pub fn join(
     let _ = tree.leaves();
     let _ = formula.vars();
     let _ = preamble.pairs();
-    let mut out = Vec::new(alloc);
+    let mut out = begun(alloc, fragments);
     let base = match put_preamble(alloc, &mut out, formula, preamble) {
         Ok(base) => base,
         Err(fault) => return Err(fault),

@@ -68,6 +68,7 @@ pub record IsWalk (t : TrailValue) (front : List Assigned) (w : Walk) : Type 0 w
   pub level : w.present ≡ present t.entries
   pub counted : AreCounted t.entries front (met w.seen) w.pending w.rest
   pub listed : AreListed t.vars (met w.seen) w.met.items
+  pub again : (v : ℕ) → Contains w.again.items v → met w.seen v ≡ true
   pub wide : length t.entries / 8 < length w.blocks
   pub marked : AreMarked t.entries (met w.seen) w.blocks
 

@@ -18,9 +18,9 @@ returns-in-Err-clause-long c = λ is text j.
     let start : List ℕ = text_of (length c.args.formula.now.clauses) (preamble_steps c.args.formula.now c.args.preamble.now.pairs) in
     let b : ℕ = length (base_with c.args.formula.now c.args.preamble.now.pairs).clauses in
     let more : List ℕ = text_of b (part b [] b (whole c.args.formula.now (base_with c.args.formula.now c.args.preamble.now.pairs) (preamble_steps c.args.formula.now c.args.preamble.now.pairs) c.args.tree.now (map (λ v. v.items) c.args.fragments.now) c.leaves.ensures.valid.leaves c.requires.closed).1.tree).steps in
-    whole_long c.args.formula.now (base_with c.args.formula.now c.args.preamble.now.pairs) (preamble_steps c.args.formula.now c.args.preamble.now.pairs) c.args.tree.now (map (λ v. v.items) c.args.fragments.now) c.leaves.ensures.valid.leaves c.requires.closed (c.new-out.result.items ++ start) more text
-    (ap (λ (o : List ℕ). (o ++ start) ++ more) c.new-out.ensures.items ∙ whole_is c.args.formula.now (base_with c.args.formula.now c.args.preamble.now.pairs) (preamble_steps c.args.formula.now c.args.preamble.now.pairs) c.args.tree.now (map (λ v. v.items) c.args.fragments.now) c.leaves.ensures.valid.leaves c.requires.closed lead b refl)
-    (too_long ℕ c.in-Err.fault c.put_preamble.new.out.items (c.new-out.result.items ++ start) is c.in-Err.ensures.text) j
+    whole_long c.args.formula.now (base_with c.args.formula.now c.args.preamble.now.pairs) (preamble_steps c.args.formula.now c.args.preamble.now.pairs) c.args.tree.now (map (λ v. v.items) c.args.fragments.now) c.leaves.ensures.valid.leaves c.requires.closed (c.begun-out.result.items ++ start) more text
+    (ap (λ (o : List ℕ). (o ++ start) ++ more) c.begun-out.ensures ∙ whole_is c.args.formula.now (base_with c.args.formula.now c.args.preamble.now.pairs) (preamble_steps c.args.formula.now c.args.preamble.now.pairs) c.args.tree.now (map (λ v. v.items) c.args.fragments.now) c.leaves.ensures.valid.leaves c.requires.closed lead b refl)
+    (too_long ℕ c.in-Err.fault c.put_preamble.new.out.items (c.begun-out.result.items ++ start) is c.in-Err.ensures.text) j
 
 pub join_below-requires-clause-below : goal.join_below-requires-clause-below
 join_below-requires-clause-below c = all_below c.args.formula.now (base_with c.args.formula.now c.args.preamble.now.pairs) (preamble_steps c.args.formula.now c.args.preamble.now.pairs) c.args.tree.now (map (λ v. v.items) c.args.fragments.now) c.leaves.ensures.valid.leaves c.requires.closed
@@ -47,7 +47,7 @@ returns-in-Err-join_below-clause-long c = λ is text j.
     let few : length c.args.preamble.now.pairs ≤ 64 = omega (arith, c.pairs.ensures.limit, ap (λ (ps : List Pair). length ps) c.pairs.ensures.value) in
     let lead : IsPreamble c.args.formula.now (base_with c.args.formula.now c.args.preamble.now.pairs) (preamble_steps c.args.formula.now c.args.preamble.now.pairs) = definitions_lead c.args.formula.now c.args.preamble.now.pairs c.vars.ensures.valid c.requires.pairs few in
     let start : List ℕ = text_of (length c.args.formula.now.clauses) (preamble_steps c.args.formula.now c.args.preamble.now.pairs) in
-    let first : c.put_preamble.new.out.items ≡ start = c.in-Ok.ensures.text.0 ∙ ap (λ (o : List ℕ). o ++ start) c.new-out.ensures.items in
+    let first : c.put_preamble.new.out.items ≡ start = c.in-Ok.ensures.text.0 ∙ ap (λ (o : List ℕ). o ++ start) c.begun-out.ensures in
     let tree : Closed = (whole c.args.formula.now (base_with c.args.formula.now c.args.preamble.now.pairs) (preamble_steps c.args.formula.now c.args.preamble.now.pairs) c.args.tree.now (map (λ v. v.items) c.args.fragments.now) c.leaves.ensures.valid.leaves c.requires.closed).1.tree in
     let all : c.put_preamble.new.out.items ++ text_of c.in-Ok.base (part c.in-Ok.base [] c.in-Ok.base tree).steps ≡ (whole c.args.formula.now (base_with c.args.formula.now c.args.preamble.now.pairs) (preamble_steps c.args.formula.now c.args.preamble.now.pairs) c.args.tree.now (map (λ v. v.items) c.args.fragments.now) c.leaves.ensures.valid.leaves c.requires.closed).0 =
     ap (λ (o : List ℕ). o ++ text_of c.in-Ok.base (part c.in-Ok.base [] c.in-Ok.base tree).steps) first ∙ whole_is c.args.formula.now (base_with c.args.formula.now c.args.preamble.now.pairs) (preamble_steps c.args.formula.now c.args.preamble.now.pairs) c.args.tree.now (map (λ v. v.items) c.args.fragments.now) c.leaves.ensures.valid.leaves c.requires.closed lead c.in-Ok.base c.in-Ok.ensures.top in
@@ -61,7 +61,7 @@ returns-clause-joined c =
     let few : length c.args.preamble.now.pairs ≤ 64 = omega (arith, c.pairs.ensures.limit, ap (λ (ps : List Pair). length ps) c.pairs.ensures.value) in
     let lead : IsPreamble c.args.formula.now (base_with c.args.formula.now c.args.preamble.now.pairs) (preamble_steps c.args.formula.now c.args.preamble.now.pairs) = definitions_lead c.args.formula.now c.args.preamble.now.pairs c.vars.ensures.valid c.requires.pairs few in
     let start : List ℕ = text_of (length c.args.formula.now.clauses) (preamble_steps c.args.formula.now c.args.preamble.now.pairs) in
-    let first : c.put_preamble.new.out.items ≡ start = c.in-Ok.ensures.text.0 ∙ ap (λ (o : List ℕ). o ++ start) c.new-out.ensures.items in
+    let first : c.put_preamble.new.out.items ≡ start = c.in-Ok.ensures.text.0 ∙ ap (λ (o : List ℕ). o ++ start) c.begun-out.ensures in
     let tree : Closed = (whole c.args.formula.now (base_with c.args.formula.now c.args.preamble.now.pairs) (preamble_steps c.args.formula.now c.args.preamble.now.pairs) c.args.tree.now (map (λ v. v.items) c.args.fragments.now) c.leaves.ensures.valid.leaves c.requires.closed).1.tree in
     let all : c.put_preamble.new.out.items ++ text_of c.in-Ok.base (part c.in-Ok.base [] c.in-Ok.base tree).steps ≡ (whole c.args.formula.now (base_with c.args.formula.now c.args.preamble.now.pairs) (preamble_steps c.args.formula.now c.args.preamble.now.pairs) c.args.tree.now (map (λ v. v.items) c.args.fragments.now) c.leaves.ensures.valid.leaves c.requires.closed).0 =
     ap (λ (o : List ℕ). o ++ text_of c.in-Ok.base (part c.in-Ok.base [] c.in-Ok.base tree).steps) first ∙ whole_is c.args.formula.now (base_with c.args.formula.now c.args.preamble.now.pairs) (preamble_steps c.args.formula.now c.args.preamble.now.pairs) c.args.tree.now (map (λ v. v.items) c.args.fragments.now) c.leaves.ensures.valid.leaves c.requires.closed lead c.in-Ok.base c.in-Ok.ensures.top in
@@ -80,7 +80,7 @@ returns-clause-accepted c =
     let few : length c.args.preamble.now.pairs ≤ 64 = omega (arith, c.pairs.ensures.limit, ap (λ (ps : List Pair). length ps) c.pairs.ensures.value) in
     let lead : IsPreamble c.args.formula.now (base_with c.args.formula.now c.args.preamble.now.pairs) (preamble_steps c.args.formula.now c.args.preamble.now.pairs) = definitions_lead c.args.formula.now c.args.preamble.now.pairs c.vars.ensures.valid c.requires.pairs few in
     let start : List ℕ = text_of (length c.args.formula.now.clauses) (preamble_steps c.args.formula.now c.args.preamble.now.pairs) in
-    let first : c.put_preamble.new.out.items ≡ start = c.in-Ok.ensures.text.0 ∙ ap (λ (o : List ℕ). o ++ start) c.new-out.ensures.items in
+    let first : c.put_preamble.new.out.items ≡ start = c.in-Ok.ensures.text.0 ∙ ap (λ (o : List ℕ). o ++ start) c.begun-out.ensures in
     let tree : Closed = (whole c.args.formula.now (base_with c.args.formula.now c.args.preamble.now.pairs) (preamble_steps c.args.formula.now c.args.preamble.now.pairs) c.args.tree.now (map (λ v. v.items) c.args.fragments.now) c.leaves.ensures.valid.leaves c.requires.closed).1.tree in
     let all : c.put_preamble.new.out.items ++ text_of c.in-Ok.base (part c.in-Ok.base [] c.in-Ok.base tree).steps ≡ (whole c.args.formula.now (base_with c.args.formula.now c.args.preamble.now.pairs) (preamble_steps c.args.formula.now c.args.preamble.now.pairs) c.args.tree.now (map (λ v. v.items) c.args.fragments.now) c.leaves.ensures.valid.leaves c.requires.closed).0 =
     ap (λ (o : List ℕ). o ++ text_of c.in-Ok.base (part c.in-Ok.base [] c.in-Ok.base tree).steps) first ∙ whole_is c.args.formula.now (base_with c.args.formula.now c.args.preamble.now.pairs) (preamble_steps c.args.formula.now c.args.preamble.now.pairs) c.args.tree.now (map (λ v. v.items) c.args.fragments.now) c.leaves.ensures.valid.leaves c.requires.closed lead c.in-Ok.base c.in-Ok.ensures.top in

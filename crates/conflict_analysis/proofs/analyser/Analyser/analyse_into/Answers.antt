@@ -2,7 +2,7 @@ use Rattle.std.proofs.Common.{subst}
 use Rattle.std.proofs.lemmas.Result.{on_ok_weaker}
 use Rattle.clause_arena.specs.Clauses.{live_of}
 use Rattle.conflict_analysis.specs.inner.Walks.{IsWalk}
-use Rattle.conflict_analysis.proofs.Concluded.{conflict_waits, is_lemma, walk_apart}
+use Rattle.conflict_analysis.proofs.Concluded.{conflict_waits, is_lemma, walk_again, walk_apart}
 use Rattle.conflict_analysis.proofs.analyser.Analyser.analyse_into.Goals as goal
 
 pub descend-requires-clause-waits : goal.descend-requires-clause-waits
@@ -20,3 +20,7 @@ returns-clause-lemma c =
 pub returns-clause-met : goal.returns-clause-met
 returns-clause-met c =
     on_ok_weaker c.conclude.result (λ hints. walk_apart (live_of c.args.arena.now) c.args.trail.now c.descend.new.self c.descend.new.lemma c.in_ok-descend.ensures.ended) c.conclude.ensures.hints
+
+pub returns-clause-again : goal.returns-clause-again
+returns-clause-again c =
+    on_ok_weaker c.conclude.result (λ hints. walk_again (live_of c.args.arena.now) c.args.trail.now c.descend.new.self c.descend.new.lemma c.in_ok-descend.ensures.ended) c.conclude.ensures.hints

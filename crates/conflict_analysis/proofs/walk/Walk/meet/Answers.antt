@@ -1,10 +1,20 @@
-use Rattle.std.proofs.Common.{◌≡◌, [], ◌∷◌, ◌++◌, true, false, refl, sym, ◌∙◌, ap, set, get_or}
+use Rattle.std.proofs.Common.{◌≡◌, [], ◌∷◌, ◌++◌, true, false, refl, sym, ◌∙◌, ap, set, get_or, subst}
+use Rattle.std.proofs.lemmas.Result.{on_ok_weaker}
 use Rattle.dimacs.specs.logic.Literal.{negation, var_of}
+use Rattle.watches.specs.Trails.{holds}
 use Rattle.watches.specs.declared.trail.Assigned.{Assigned}
 use Rattle.conflict_analysis.specs.inner.Seen.{met}
-use Rattle.conflict_analysis.proofs.OneMore.{meets_here, meets_below, meets_only}
+use Rattle.conflict_analysis.proofs.OneMore.{meets_here, meets_below, meets_only, unmet_false}
 use Rattle.conflict_analysis.proofs.walk.Walk.meet.Goals as goal
 use Rattle.conflict_analysis.proofs.walk.Walk.meet.Goals.{In_ok-push}
+
+pub returns-then-has-clause-walk : goal.returns-then-has-clause-walk
+returns-then-has-clause-walk c = on_ok_weaker c.note.result (λ w. w c.args.trail.now c.args.front.now c.requires.walk) c.note.ensures.walk
+
+pub entry_of-entry-requires : goal.entry_of-entry-requires
+entry_of-entry-requires c = subst (λ l. holds c.args.trail.now.entries l ≡ true) (sym c.negate-negated.ensures)
+    (unmet_false c.args.trail.now c.args.front.now c.args.self.now c.args.literal c.requires.walk c.requires.known
+    (ap (met c.args.self.now.seen) (sym c.var-var.ensures) ∙ sym c.has.ensures ∙ c.if-has.false))
 
 new : (c : In_ok-push) → met c.args.self.now.seen (var_of c.args.literal) ≡ false
 new c = ap (met c.args.self.now.seen) (sym c.var-var.ensures) ∙ sym c.has.ensures ∙ c.if-has.false
@@ -23,14 +33,14 @@ returns-then-entry-self-clause-walk c =
     let b = (goal.at.returns-then-entry-self-clause-walk c).In_ok-push in
     meets_here c.args.trail.now c.args.front.now c.args.self.now c.args.literal c.entry_of-entry.result c.requires.walk c.requires.within c.requires.known (new b) c.entry_of-entry.ensures.member (is b)
     c.place_of-place.result c.place_of-place.ensures.within (stands b)
-    _ (c.insert.ensures ∙ ap (λ v. set c.args.self.now.seen v true) c.var-var.ensures) c.insert_at.ensures refl refl refl (listed b) c.if-entry-self.true
+    _ (c.insert.ensures ∙ ap (λ v. set c.args.self.now.seen v true) c.var-var.ensures) c.insert_at.ensures refl refl refl (listed b) refl c.if-entry-self.true
 
 pub returns-else-entry-self-clause-walk : goal.returns-else-entry-self-clause-walk
 returns-else-entry-self-clause-walk c =
     let b = (goal.at.returns-else-entry-self-clause-walk c).In_ok-push in
     meets_below c.args.trail.now c.args.front.now c.args.self.now c.args.literal c.entry_of-entry.result c.requires.walk c.requires.within c.requires.known (new b) c.entry_of-entry.ensures.member (is b)
     c.place_of-place.result c.place_of-place.ensures.within (stands b)
-    _ (c.insert.ensures ∙ ap (λ v. set c.args.self.now.seen v true) c.var-var.ensures) c.insert_at.ensures refl refl refl (listed b) c.if-entry-self.false
+    _ (c.insert.ensures ∙ ap (λ v. set c.args.self.now.seen v true) c.var-var.ensures) c.insert_at.ensures refl refl refl (listed b) refl c.if-entry-self.false
 
 pub returns-then-entry-self-clause-seen : goal.returns-then-entry-self-clause-seen
 returns-then-entry-self-clause-seen c =

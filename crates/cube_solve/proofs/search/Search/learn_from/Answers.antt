@@ -47,7 +47,8 @@ pub go_back-requires : goal.go_back-requires
 go_back-requires g c = record {
   ready = (c.requires.steady).ready;
   state = (c.requires.steady).state;
-  order = order_same c.args.self.now.state.trail c.args.self.now.state.order c.bump.new.self c.bump.ensures (c.requires.steady).order;
+  order = let t = c.args.self.now.state.trail in
+      order_same t c.bump.new.self c.bump-2.new.self c.bump-2.ensures (order_same t c.args.self.now.state.order c.bump.new.self c.bump.ensures (c.requires.steady).order);
 }
 
 pub add_clause-requires-clause-fresh : goal.add_clause-requires-clause-fresh
