@@ -99,6 +99,7 @@ CALLS = [
     ("search_under_a_cube", "5 -1 0 2 4 0"),
     ("check", "accepted"),
     ("fragment", "accepted"),
+    ("trim", "6 0 5 3 4 0"),
     ("join_of_lines", "7 0 5 6 0"),
     ("join_with_deletions", "9 0 5 8 0"),
     ("last_part", "the proof is held"),

@@ -68,6 +68,8 @@ mod trails;
 #[cfg(test)]
 mod trees;
 #[cfg(test)]
+mod trimming;
+#[cfg(test)]
 mod units;
 #[cfg(test)]
 mod words;

@@ -24,7 +24,7 @@ enum Want {
 /// A base, the variable that is assumed, none if 0, the limit, and what comes of it.
 type Row = (&'static [u8], u32, u64, Want);
 
-fn base_of(alloc: Global, text: &[u8]) -> Result<Base, Fail> {
+pub(crate) fn base_of(alloc: Global, text: &[u8]) -> Result<Base, Fail> {
     let formula = read(alloc, text)?;
     let base = Base::of(alloc, &formula)?;
     Ok(base)

@@ -9,6 +9,7 @@ mod joining;
 mod machines;
 mod reports;
 mod searches;
+mod trimming;
 
 use call::{Answer, Tried};
 use std::alloc::Global;
@@ -25,6 +26,7 @@ fn try_call(alloc: Global, name: &str) -> Option<Tried> {
         "search_under_a_cube" => searches::under_a_cube(alloc),
         "check" => checks::checked(alloc),
         "fragment" => checks::closed(alloc),
+        "trim" => trimming::trimmed(alloc),
         "join_of_lines" => joining::joined_lines(alloc),
         "join_with_deletions" => joining::joined_deletions(alloc),
         "last_part" => machines::last_part(alloc),

@@ -5,7 +5,6 @@ use Rattle.std.proofs.lemmas.Bool.{ltb-true}
 use Rattle.std.proofs.lemmas.List.{length-append, length-take-le, length-map}
 use Rattle.dimacs.specs.logic.Cnf.{Cnf}
 use Rattle.cube_split.specs.Pairs.{IsBaseWith}
-use Rattle.cube_solve.specs.Outcome.{IsRightOutcome}
 use Rattle.cube_solve.specs.declared.outcome.Outcome.{Outcome}
 use Rattle.cube_solve.specs.declared.outcome.Outcome.TheVariants as outcome
 use Rattle.icnf.specs.Leaves.{Cube}
@@ -20,13 +19,6 @@ use Rattle.worker_core.specs.declared.work.Work.{Work}
 use Rattle.worker_core.specs.declared.work.Work.TheVariants.{Waiting, Limited, Found}
 use Rattle.worker_core.specs.inner.Invariant.{IsWork}
 use Rattle.worker_core.specs.Worker.{WorkerState, WorkerWorks, MayEnd, kept}
-
--- a search's promise covers how it may end
-pub may_end : (B : Cnf) (cube : Cube) (limit : ℕ) (end : Outcome) → IsRightOutcome B cube limit end → MayEnd B cube limit end
-may_end B cube limit (outcome.Model values) right = right.model
-may_end B cube limit (outcome.Refuted text) right =
-    (right.refuted, record { steps = right.brief.front ++ right.brief.last ∷ []; spells = right.brief.spells; count = right.brief.count })
-may_end B cube limit (outcome.Limit text) right = right.limit
 
 -- a text that spells a step has a byte
 some_byte : (text : List ℕ) (step : Step) (steps : List Step) → LineSpells text (step ∷ steps) → 0 < length text

@@ -1,14 +1,13 @@
 -- The worker: it takes tasks and searches, sends what it found, and collects a verdict that the coordinator announced.
-use Rattle.std.specs.Prelude.{◌≡◌, ◌≢◌, ℕ, ◌+◌, ◌<◌, ◌≤◌, ◌^◌, nat_lt, List, length, map, take, drop, Option, Some, None, ◌⊎◌, if◌then◌else◌}
+use Rattle.std.specs.Prelude.{◌≡◌, ◌≢◌, ℕ, ◌+◌, ◌<◌, ◌^◌, nat_lt, List, length, map, take, drop, Option, Some, None, ◌⊎◌, if◌then◌else◌}
 use Rattle.dimacs.specs.logic.Base.{base_of}
 use Rattle.dimacs.specs.logic.Cnf.{Cnf}
 use Rattle.cube_solve.specs.Outcome.{IsModel, allowed}
 use Rattle.cube_solve.specs.declared.outcome.Outcome.{Outcome}
 use Rattle.cube_solve.specs.declared.outcome.Outcome.TheVariants as outcome
 use Rattle.icnf.specs.Leaves.{Cube}
-use Rattle.lrat_text.specs.Grammar.{LineSpells}
-use Rattle.lrat_text.specs.Log.{Closes, IsHonest, additions}
-use Rattle.lrat_text.specs.declared.step.Step.{Step}
+use Rattle.lrat_text.specs.Log.{Closes, IsHonest}
+use Rattle.proof_trim.specs.Trimming.{HasAtMost}
 use Rattle.lrat_check.specs.Judging.{value_byte}
 use Rattle.lrat_check.specs.declared.verdict.Verdict.{Verdict}
 use Rattle.lrat_check.specs.declared.verdict.Verdict.TheVariants.{Nothing}
@@ -137,12 +136,6 @@ WorkerDelivers w (Piece attempt offset bytes) answer new = Ignores w answer new
 WorkerDelivers w (Want session worker offset) answer new = Ignores w answer new
 WorkerDelivers w (Idle worker incarnation) answer new = Ignores w answer new
 WorkerDelivers w Rest answer new = Ignores w answer new
-
--- the text spells steps, at most n of them additions
-pub record HasAtMost (n : ℕ) (text : List ℕ) : Type 0 where
-  pub steps : List Step
-  pub spells : LineSpells text steps
-  pub count : additions steps ≤ n
 
 -- how a search over a base may end: which way it ends is open
 abbrev pub MayEnd : Cnf → Cube → ℕ → Outcome → Type 0

@@ -1,17 +1,21 @@
 //! Work: the search under a task's cube.
 
-ghost use Rattle.std.specs.Prelude.{◌≡◌, map, take, IfOk};
+ghost use Rattle.std.specs.Prelude.{◌≡◌, map, nat_eq, take, All, IfOk};
+ghost use Rattle.std.specs.List.{IsDistinct};
+ghost use Rattle.dimacs.specs.logic.Literal.{IsWithin, var_of};
 ghost use Rattle.lrat_check.specs.Judging.{value_byte};
 ghost use Rattle.evidence.specs.Events.{Worked, Reacted};
-ghost use Rattle.worker_core.specs.Worker.{WorkerStep, kept};
+ghost use Rattle.worker_core.specs.Worker.{MayEnd, WorkerStep, kept};
 
 use crate::follower::caught_up;
 use crate::work::Work;
 use crate::worker::Worker;
 use cube_solve::{Outcome, solve};
+use dimacs::{Base, Lit};
 use evidence::{Bytes, JobName};
 use frames::Answer;
 use lrat_check::Reaction;
+use proof_trim::trim;
 use std::alloc::{AllocError, Global};
 
 /// The first length that no frame can tell.
@@ -28,7 +32,7 @@ impl Worker {
             return Reaction::Ignored;
         };
         let name = *name;
-        let Ok(end) = solve(self.alloc, &self.base, cube.as_slice(), *limit) else {
+        let Ok(end) = search(self.alloc, &self.base, cube.as_slice(), *limit) else {
             return Reaction::NoMemory;
         };
         let Ok(work) = keep(self.alloc, name, self.formula.vars(), end) else {
@@ -47,6 +51,21 @@ impl Worker {
         };
         let follower = self.follower.take();
         self.follower = caught_up(follower, candidate.evidence.bytes.as_slice());
+    }
+}
+
+/// Searches, and trims the fragment of a refutation.
+fn search(alloc: Global, base: &Base, cube: &[Lit], limit: u64) -> Result<Outcome, AllocError>
+    requires distinct { IsDistinct nat_eq (map var_of cube.now) }
+    requires within { All (IsWithin base.now.vars) cube.now }
+    ensures { IfOk result (MayEnd base.now cube.now limit) }
+{
+    match solve(alloc, base, cube, limit)? {
+        Outcome::Refuted(text) => {
+            let most = limit.min(1 << 47) + 1;
+            Ok(Outcome::Refuted(trim(alloc, base, cube, most, text)?))
+        }
+        end => Ok(end),
     }
 }
 

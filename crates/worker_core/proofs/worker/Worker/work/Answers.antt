@@ -1,13 +1,12 @@
 use Rattle.std.proofs.Common.{◌≡◌, ◌∙◌, refl, ap, subst, sym}
-use Rattle.cube_solve.specs.Outcome.{IsRightOutcome}
 use Rattle.icnf.specs.Leaves.{Cube}
 use Rattle.worker_core.specs.inner.Invariant.{IsWork}
-use Rattle.worker_core.specs.Worker.{WorkerWorks, kept}
-use Rattle.worker_core.proofs.WorkingLemmas.{may_end, as_many_vars, kept_is_work, finishes}
+use Rattle.worker_core.specs.Worker.{MayEnd, WorkerWorks, kept}
+use Rattle.worker_core.proofs.WorkingLemmas.{as_many_vars, kept_is_work, finishes}
 use Rattle.worker_core.proofs.worker.Worker.work.Goals as goal
 
-pub returns-in_default-solve : goal.returns-in_default-solve
-returns-in_default-solve c =
+pub returns-in_default-search : goal.returns-in_default-search
+returns-in_default-search c =
     record { step = WorkerWorks.no_memory c.in-Waiting.name c.in-Waiting.cube c.in-Waiting.limit (ap (λ w. w.work) (sym c.self.view_is) ∙ c.in-Waiting.is) refl refl }
 
 pub returns-in_default-keep : goal.returns-in_default-keep
@@ -19,8 +18,8 @@ invariant_of-self c =
     let F = c.self.inside.formula in
     let B = c.self.inside.base in
     let inv = c.self.invariant in
-    let right : IsRightOutcome B c.in-Waiting.cube c.in-Waiting.limit c.in-Ok.end
-    = subst (λ (q : Cube). IsRightOutcome B q c.in-Waiting.limit c.in-Ok.end) c.as_slice.ensures.value c.in-Ok.ensures in
+    let ends : MayEnd B c.in-Waiting.cube c.in-Waiting.limit c.in-Ok.end
+    = subst (λ (q : Cube). MayEnd B q c.in-Waiting.limit c.in-Ok.end) c.as_slice.ensures.value c.in-Ok.ensures in
     let same : c.in-Ok-keep.work ≡ kept c.in-Waiting.name F.vars c.in-Ok.end
     = c.in-Ok-keep.ensures ∙ ap (λ n. kept c.in-Waiting.name n c.in-Ok.end) c.vars.ensures.value in
     record {
@@ -28,7 +27,7 @@ invariant_of-self c =
       few = inv.few;
       right = inv.right;
       work_is = subst (IsWork F B) (sym same) (kept_is_work F B c.in-Waiting.name c.in-Waiting.cube c.in-Waiting.limit c.in-Ok.end
-          (as_many_vars F c.self.inside.defs B inv.base_is) (may_end B c.in-Waiting.cube c.in-Waiting.limit c.in-Ok.end right));
+          (as_many_vars F c.self.inside.defs B inv.base_is) ends);
       candidate_is = inv.candidate_is;
       follows = inv.follows;
     }
@@ -37,11 +36,11 @@ pub returns : goal.returns
 returns c =
     let F = c.self.inside.formula in
     let B = c.self.inside.base in
-    let right : IsRightOutcome B c.in-Waiting.cube c.in-Waiting.limit c.in-Ok.end
-    = subst (λ (q : Cube). IsRightOutcome B q c.in-Waiting.limit c.in-Ok.end) c.as_slice.ensures.value c.in-Ok.ensures in
+    let ends : MayEnd B c.in-Waiting.cube c.in-Waiting.limit c.in-Ok.end
+    = subst (λ (q : Cube). MayEnd B q c.in-Waiting.limit c.in-Ok.end) c.as_slice.ensures.value c.in-Ok.ensures in
     let same : c.in-Ok-keep.work ≡ kept c.in-Waiting.name F.vars c.in-Ok.end
     = c.in-Ok-keep.ensures ∙ ap (λ n. kept c.in-Waiting.name n c.in-Ok.end) c.vars.ensures.value in
     record {
       step = rw (← c.self.view_is) (finishes _ c.in-Waiting.name c.in-Waiting.cube c.in-Waiting.limit c.in-Ok.end c.in-Ok-keep.work c.in-Waiting.is
-          (may_end B c.in-Waiting.cube c.in-Waiting.limit c.in-Ok.end right) same);
+          ends same);
     }

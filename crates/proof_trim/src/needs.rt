@@ -1,0 +1,150 @@
+//! Which lemmas of a fragment its last one needs.
+
+ghost use Rattle.std.specs.Prelude.{◌≡◌, ◌<◌, ◌^◌, All, IfSome, OnOk};
+ghost use Rattle.lrat_text.specs.Grammar.{IsClauseNumber};
+
+use crate::lines::{cut_last, deletes, no_memory};
+use lrat_text::{StepBuffer, StepRef, TextFault, read_line};
+use std::alloc::{AllocError, Global};
+use std::marker::Model;
+
+/// What becomes of the lemmas of a fragment.
+#[derive(Drop)]
+pub(crate) struct Needs {
+    /// How many clauses the base has: the lemmas are numbered on behind them.
+    base: u64,
+    /// For each lemma 0 where nothing needs it, and else its place among those that are needed, from 1.
+    ranks: Vec<u32>,
+}
+
+impl Model for Needs {
+    ghost use Rattle.std.specs.Prelude.{ℕ, ◌<◌, ◌^◌};
+
+    ghost Value = { ℕ };
+
+    ghost view = { λ n. n.base };
+
+    ghost invariant = { λ n. n.base < 2 ^ 40 };
+}
+
+impl Needs {
+    /// What the last one of so many lemmas needs, itself with it.
+    pub(crate) fn of(
+        alloc: Global,
+        base: u64,
+        count: usize,
+        buffer: &mut StepBuffer,
+        text: &[u8],
+    ) -> Result<Needs, TextFault>
+        requires { base < 2 ^ 40 }
+    {
+        let mut needs = Needs {
+            base,
+            ranks: vec![in alloc; 0; count].map_err(no_memory)?,
+        };
+        needs.need(base + count as u64);
+        needs.trace(buffer, text)?;
+        Ok(needs)
+    }
+
+    /// How many clauses the base has.
+    pub(crate) fn base(&self) -> u64
+        ensures value { result ≡ self.now }
+        ensures limit { result < 2 ^ 40 }
+    {
+        self.base
+    }
+
+    /// The lemma of this number is needed, if there is one.
+    fn need(&mut self, number: u64) {
+        if number <= self.base {
+            return;
+        }
+        let place = (number - self.base - 1) as usize;
+        if place < self.ranks.len() {
+            self.ranks[place] = 1;
+        }
+    }
+
+    /// Goes through the lines from the last to the first, and marks what those that are needed need.
+    fn trace(&mut self, buffer: &mut StepBuffer, text: &[u8]) -> Result<(), TextFault> {
+        let mut place = self.ranks.len();
+        let mut rest = text;
+        while let Some((front, line)) = cut_last(rest) {
+            place = self.trace_line(buffer, line, place)?;
+            rest = front;
+        }
+        Ok(())
+    }
+
+    /// Marks what a line needs, if it adds a lemma that is needed: the last one before `place`. Tells the place of the lemma that comes
+    /// next on the way to the front.
+    fn trace_line(
+        &mut self,
+        buffer: &mut StepBuffer,
+        line: &[u8],
+        place: usize,
+    ) -> Result<usize, TextFault> {
+        let Some(own) = place.checked_sub(1) else {
+            return Ok(place);
+        };
+        if deletes(line) {
+            return Ok(place);
+        }
+        if self.has(own) {
+            read_line(buffer, line)?;
+            if let StepRef::Add { hints, .. } = buffer.as_ref() {
+                for &hint in hints {
+                    self.need(hint);
+                }
+            }
+        }
+        Ok(own)
+    }
+
+    /// Numbers those that are needed on, and tells how many they are.
+    pub(crate) fn rank(&mut self) -> usize {
+        let mut needed = 0u32;
+        for i in 0..self.ranks.len() {
+            if self.ranks[i] != 0 {
+                needed = needed.saturating_add(1);
+                self.ranks[i] = needed;
+            }
+        }
+        needed as usize
+    }
+
+    /// Whether the lemma at a place is needed.
+    pub(crate) fn has(&self, place: usize) -> bool {
+        place < self.ranks.len() && self.ranks[place] != 0
+    }
+
+    /// The number that a clause gets, if it stays.
+    pub(crate) fn number(&self, number: u64) -> Option<u64>
+        requires { IsClauseNumber number }
+        ensures { IfSome result IsClauseNumber }
+    {
+        if number <= self.base {
+            return Some(number);
+        }
+        let place = (number - self.base - 1) as usize;
+        match self.ranks.get(place) {
+            Some(rank) if *rank != 0 => Some(self.base + *rank as u64),
+            _ => None,
+        }
+    }
+
+    /// Puts the numbers that clauses get, of those that stay, in the place of those that `out` had.
+    pub(crate) fn numbers(&self, numbers: &[u64], out: &mut Vec<u64>) -> Result<(), AllocError>
+        requires { All IsClauseNumber numbers.now }
+        ensures { OnOk result (All IsClauseNumber out.new.items) }
+    {
+        out.clear();
+        for number in numbers {
+            if let Some(number) = self.number(*number) {
+                out.push(number)?;
+            }
+        }
+        Ok(())
+    }
+}

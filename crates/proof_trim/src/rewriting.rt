@@ -1,0 +1,110 @@
+//! The lines that stay, under the numbers that they get.
+
+ghost use Rattle.lrat_text.specs.Grammar.{IsStep};
+ghost use Rattle.lrat_text.specs.Steps.{step_of};
+
+use crate::lines::{deletes, no_memory};
+use crate::needs::Needs;
+use lrat_text::{Groups, StepBuffer, StepRef, TextFault, cut_line, put_ref, read_line};
+use std::alloc::{AllocError, Global};
+use std::marker::Model;
+
+/// The text so far.
+#[derive(Drop)]
+struct Rewriter {
+    out: Vec<u8>,
+    /// The number that the line of a deletion begins with.
+    top: u64,
+    /// What a line's numbers are changed in.
+    numbers: Vec<u64>,
+    groups: Groups,
+}
+
+impl Model for Rewriter {
+    ghost use Rattle.std.specs.Prelude.{◌≡◌, ℕ, List, []};
+    ghost use Rattle.lrat_text.specs.Grammar.{IsClauseNumber};
+
+    ghost Value = { List ℕ };
+
+    ghost view = { λ r. r.out.items };
+
+    ghost invariant = { λ r. IsClauseNumber r.top × (r.groups ≡ []) };
+}
+
+impl Rewriter {
+    /// Appends a step's line, if it stays.
+    fn put(&mut self, needs: &Needs, step: StepRef<'_>) -> Result<(), AllocError>
+        requires { IsStep (step_of step) }
+    {
+        match step {
+            StepRef::Add {
+                id,
+                lits,
+                hints,
+                ..
+            } => {
+                let Some(id) = needs.number(id) else {
+                    return Ok(());
+                };
+                needs.numbers(hints, &mut self.numbers)?;
+                let line = StepRef::Add {
+                    id,
+                    lits,
+                    hints: &self.numbers,
+                    groups: &self.groups,
+                };
+                put_ref(line, id, &mut self.out)?;
+                self.top = id;
+                Ok(())
+            }
+            StepRef::Delete { ids } => {
+                needs.numbers(ids, &mut self.numbers)?;
+                if self.numbers.is_empty() {
+                    return Ok(());
+                }
+                let line = StepRef::Delete { ids: &self.numbers };
+                put_ref(line, self.top, &mut self.out)
+            }
+        }
+    }
+
+    /// Reads a line, and appends what stays of it.
+    fn put_line(
+        &mut self,
+        needs: &Needs,
+        buffer: &mut StepBuffer,
+        line: &[u8],
+    ) -> Result<(), TextFault> {
+        read_line(buffer, line)?;
+        self.put(needs, buffer.as_ref()).map_err(no_memory)
+    }
+}
+
+/// A fragment with those lemmas alone that are needed.
+pub(crate) fn rewrite(
+    alloc: Global,
+    needs: &Needs,
+    buffer: &mut StepBuffer,
+    text: &[u8],
+) -> Result<Vec<u8>, TextFault> {
+    let mut rewriter = Rewriter {
+        out: Vec::new(alloc),
+        top: needs.base().max(1),
+        numbers: Vec::new(alloc),
+        groups: Groups::new(alloc),
+    };
+    let mut place = 0usize;
+    let mut rest = text;
+    while let Some((line, later)) = cut_line(rest) {
+        let adds = !deletes(line);
+        if !adds || needs.has(place) {
+            rewriter.put_line(needs, buffer, line)?;
+        }
+        if adds {
+            place = place.saturating_add(1);
+        }
+        rest = later;
+    }
+    let Rewriter { out, .. } = rewriter;
+    Ok(out)
+}
