@@ -37,31 +37,7 @@ impl Base {
     pub fn of(alloc: Global, formula: &Formula) -> Result<Base, AllocError>
         ensures { IfOk result (λ b. b ≡ formula.now) }
     {
-        let mut base = Base::with_room(
-            alloc,
-            formula.vars(),
-            formula.literal_count(),
-            formula.len() + 1,
-        )?;
-        for i in 0..formula.len() {
-            base.push_clause(formula.clause(i))?;
-        }
-        Ok(base)
-    }
-
-    // No clause, with room for so many literals and places.
-    fn with_room(
-        alloc: Global,
-        vars: u32,
-        literals: usize,
-        places: usize,
-    ) -> Result<Base, AllocError>
-        requires { vars ≤ 2000000 }
-        ensures { IfOk result (λ b. b ≡ record { vars = vars; clauses = [] }) }
-    {
-        let literals = Vec::with_capacity(alloc, literals)?;
-        let mut places = Vec::with_capacity(alloc, places)?;
-        places.push(0)?;
+        let (vars, literals, places) = formula.copy(alloc)?.into_parts();
         Ok(Base {
             vars,
             literals,

@@ -98,11 +98,6 @@ impl Formula {
         flat::clause_at(&self.literals, &self.places, i)
     }
 
-    // How many literals its clauses have.
-    pub(crate) fn literal_count(&self) -> usize {
-        self.literals.len()
-    }
-
     /// The same formula again.
     pub fn copy(&self, alloc: Global) -> Result<Formula, AllocError>
         ensures { IfOk result (λ f. f ≡ self.now) }

@@ -1,32 +1,10 @@
 //! `check`: an input is read, and a proof checked, while their files are read.
 
-use crate::files::{no_memory, refused};
+use crate::files::{PIECE, next_piece, no_memory, refused};
 use dimacs::{DimacsFault, Formula, FormulaReader};
 use node_main::{ProofCheck, Refusal, Report};
 use std::fs::{File, OpenFile};
-use std::io;
-use std::io::Read;
 use std::rt::Runtime;
-
-/// How many bytes of a file are read at a time. They stay in the nearest cache between the call that reads them and what takes
-/// them; more would be memory that a small proof does not need.
-const PIECE: usize = 16_384;
-
-/// The next bytes of a file; none at its end.
-fn next_piece<'a, F: Read>(
-    file: &mut F,
-    room: &'a mut [u8],
-    refusal: Refusal,
-) -> Result<&'a [u8], Refusal> {
-    for _ in 0..u64::MAX {
-        match file.read(room) {
-            Ok(len) => return Ok(&room[..len]),
-            Err(error) if error.kind() == io::ErrorKind::Interrupted => {}
-            Err(error) => return Err(refused(error, refusal)),
-        }
-    }
-    Err(refusal)
-}
 
 /// The formula of a file, or the first fault of its text.
 fn read_formula<R: Runtime + AllocGlobal>(

@@ -19,26 +19,49 @@ pub(crate) fn refused(error: io::Error, refusal: Refusal) -> Refusal {
     }
 }
 
-/// The file's bytes. Room for them is taken at once, where the system tells how many they are, and for one more, so that its end
-/// is met with room left: a vector that grows is copied, and each page that it takes anew costs as much as the checking of a line.
-fn read_whole<R: Runtime + AllocGlobal>(rt: &R, path: &str) -> io::Result<Vec<u8>> {
-    let mut file = File::open(rt, path)?;
-    let len = match file.metadata() {
-        Ok(metadata) => metadata.len(),
-        Err(_) => 0,
-    };
-    let mut bytes = Vec::with_capacity(rt.alloc(), (len as usize).saturating_add(1))?;
-    file.read_to_end(&mut bytes)?;
-    Ok(bytes)
+/// How many bytes of a file are read at a time. They stay in the nearest cache between the call that reads them and what takes
+/// them; more would be memory that a small proof does not need.
+pub(crate) const PIECE: usize = 16_384;
+
+/// The next bytes of a file; none at its end.
+pub(crate) fn next_piece<'a, F: Read>(
+    file: &mut F,
+    room: &'a mut [u8],
+    refusal: Refusal,
+) -> Result<&'a [u8], Refusal> {
+    for _ in 0..u64::MAX {
+        match file.read(room) {
+            Ok(len) => return Ok(&room[..len]),
+            Err(error) if error.kind() == io::ErrorKind::Interrupted => {}
+            Err(error) => return Err(refused(error, refusal)),
+        }
+    }
+    Err(refusal)
 }
 
-/// The file's bytes, or the refusal of a file that cannot be read.
+/// The file's bytes, or the refusal of a file that cannot be read. Room for them is taken at once, where the system tells how many they
+/// are: a vector that grows is copied, and each page that it takes anew costs as much as the checking of a line. They are read piece by
+/// piece, since the room that `read_to_end` reads into is filled with zeros before.
 pub(crate) fn read<R: Runtime + AllocGlobal>(
     rt: &R,
     path: &str,
     refusal: Refusal,
 ) -> Result<Vec<u8>, Refusal> {
-    read_whole(rt, path).map_err(|error| refused(error, refusal))
+    let mut file = File::open(rt, path).map_err(|error| refused(error, refusal))?;
+    let len = match file.metadata() {
+        Ok(metadata) => metadata.len(),
+        Err(_) => 0,
+    };
+    let mut bytes = Vec::with_capacity(rt.alloc(), len as usize).map_err(no_memory)?;
+    let mut room = vec![in rt.alloc(); 0; PIECE].map_err(no_memory)?;
+    for _ in 0..u64::MAX {
+        let piece = next_piece(&mut file, &mut room, refusal)?;
+        if piece.is_empty() {
+            return Ok(bytes);
+        }
+        bytes.extend_from_slice(piece).map_err(no_memory)?;
+    }
+    Err(refusal)
 }
 
 /// The bytes of the file of cubes, where one is named.

@@ -11,17 +11,21 @@ use crate::truth::Truth;
 use clause_arena::{Arena, Ref};
 use dimacs::Lit;
 
-/// The level at which a literal became false, or the greatest number where it is not false.
+/// What stands for the level of a literal that is not false: behind all levels.
+const NEVER: u64 = u64::MAX;
+
+/// The level at which a literal became false, or `NEVER`.
+#[inline(always)]
 fn falsified_at(literal: Lit, trail: &Trail) -> u64
     requires { IsWithin trail.now.vars literal }
 {
     match trail.value(literal) {
         Truth::False => u64::from(trail.entry_of(literal.negate()).level),
-        _ => u64::MAX,
+        _ => NEVER,
     }
 }
 
-/// The place of a literal that became false last, or is not false, from a place on.
+/// The first place, from one on, of a literal that is not false, or else of the one that became false last.
 fn best_from(literals: &[Lit], trail: &Trail, from: usize) -> usize
     requires within { All (IsWithin trail.now.vars) literals.now }
     requires from_in { from < length literals.now }
@@ -29,7 +33,10 @@ fn best_from(literals: &[Lit], trail: &Trail, from: usize) -> usize
 {
     let mut best = from;
     let mut latest = falsified_at(literals[from], trail);
-    for k in from..literals.len() {
+    for k in from + 1..literals.len() {
+        if latest == NEVER {
+            break;
+        }
         let level = falsified_at(literals[k], trail);
         if level > latest {
             best = k;
