@@ -2,8 +2,8 @@
 
 use dimacs::{Lit, Var};
 use lrat_text::{
-    ClauseNumbers, Groups, Literals, Step, StepBuffer, StepRef, TextFault, next, put, put_ref,
-    read_line,
+    ClauseNumbers, Groups, Literals, PackedText, Step, StepBuffer, StepRef, TextFault, next, put,
+    put_ref, read_line,
 };
 use std::alloc::Global;
 use std::test::Fail;
@@ -35,9 +35,17 @@ fn lines_are_read_and_written(rt: HostRuntime) -> Result<(), Fail> {
             b"281474976710655 2000000 -2000000 0 281474976710655 0\n",
         ),
     ];
+    let a = rt.alloc();
+    let mut buffer = StepBuffer::new(a);
+    let mut packed = PackedText::new(a);
+    let mut text = Vec::new(a);
     for (line, want) in &rows {
-        assert_eq!(&rt; again(rt.alloc(), *line)?.as_slice(), *want);
+        assert_eq!(&rt; again(a, *line)?.as_slice(), *want);
+        read_line(&mut buffer, *line)?;
+        packed.put(buffer.as_ref(), 7)?;
+        text.extend_from_slice(*want)?;
     }
+    assert_eq!(rt; packed.into_text()?.as_slice(), text.as_slice());
     Ok(())
 }
 

@@ -91,9 +91,9 @@ impl<'a, P: Propagator> Search<'a, P> {
         })
     }
 
-    /// The log as text.
-    fn into_text(self) -> Vec<u8>
-        ensures { result.items ≡ self.entry.log }
+    /// The log alone: the room of all else is given back.
+    fn into_log(self) -> Log
+        ensures { result ≡ self.entry.log }
     {
         let Search {
             alloc: _,
@@ -105,7 +105,14 @@ impl<'a, P: Propagator> Search<'a, P> {
             lemma: _,
             pace: _,
         } = self;
-        log.into_text()
+        log
+    }
+
+    /// The log as text.
+    fn into_text(self) -> Result<Vec<u8>, AllocError>
+        ensures { IfOk result (λ text. text.items ≡ self.entry.log) }
+    {
+        self.into_log().into_text()
     }
 
     /// The log, ended by the lemma that closes the cube.
@@ -119,7 +126,8 @@ impl<'a, P: Propagator> Search<'a, P> {
     {
         let lemma = close_cube(self.alloc, &self.state.arena, &self.state.trail, closing)?;
         self.log.write(id, &lemma)?;
-        Ok(self.into_text())
+        let text = self.into_text()?;
+        Ok(text)
     }
 
     /// Learns the lemma of a conflict: it is written, and joins the clauses behind a return to its level.
@@ -229,7 +237,8 @@ impl<'a, P: Propagator> Search<'a, P> {
                     }
                     if learnt == most {
                         let _entries = self.state.trail.entries(); // of the base's variables, no two of one
-                        return Ok(Outcome::Limit(self.into_text()));
+                        let log = self.into_text()?;
+                        return Ok(Outcome::Limit(log));
                     }
                     self.turn(base, number, learnt)?;
                     learnt += 1;

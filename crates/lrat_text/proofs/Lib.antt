@@ -1,11 +1,13 @@
 pub mod DigitLemmas
 pub mod ClauseMapLemmas
 pub mod CountingLemmas
+pub mod CutLemmas
 pub mod GroupLemmas
 pub mod LineLemmas
 pub mod LogLemmas
 pub mod NextLemmas
 pub mod NumberLemmas
+pub mod PackedLemmas
 pub mod PieceLemmas
 pub mod ReadStepLemmas
 pub mod RunLemmas

@@ -45,46 +45,56 @@ zero_word = (omega arith, (omega arith, tt))
 letter_word : IsWord (codes "d")
 letter_word = (omega arith, (omega arith, tt))
 
-literal_word : (l : Literal) → IsWithin 2000000 l → IsWord (literal_token l)
-literal_word (Pos v) h = decimal_word v (omega (arith, h.0), omega (arith, h.1))
-literal_word (Neg v) h = let P : List ℕ → Type 0 = IsWord in subst P (sym (negative_token v (omega (arith, h.0)))) (minus_word v (omega (arith, h.0), omega (arith, h.1)))
-
-all_append : {X : Type 0} (P : X → Type 0) (xs ys : List X) → AllByRecursion P xs → AllByRecursion P ys → AllByRecursion P (xs ++ ys)
+pub all_append : {X : Type 0} (P : X → Type 0) (xs ys : List X) → AllByRecursion P xs → AllByRecursion P ys → AllByRecursion P (xs ++ ys)
 all_append P [] ys h k = k
 all_append P (x ∷ xs) ys h k = (h.0, all_append P xs ys h.1 k)
 
-all_map : {X : Type 0} (P : X → Type 0) (f : X → List ℕ) (xs : List X) → ((x : X) → P x → IsWord (f x)) → AllByRecursion P xs → AllByRecursion IsWord (map f xs)
-all_map P f [] g h = tt
-all_map P f (x ∷ xs) g h = (g x h.0, all_map P f xs g h.1)
+-- what is so of each token of a step
+pub record IsOfTokens (W : List ℕ → Type 0) : Type 0 where
+  pub number : (n : ℕ) → IsClauseNumber n → W (decimal n)
+  pub minus : (n : ℕ) → IsClauseNumber n → W (45 ∷ decimal n)
+  pub zero : W (codes "0")
+  pub letter : W (codes "d")
 
-group_words : (gs : List Group) → AllByRecursion IsGroup gs → AllByRecursion IsWord (flat_map group_tokens gs)
-group_words [] h = tt
-group_words (g ∷ gs) h =
-    all_append IsWord (group_tokens g) (flat_map group_tokens gs)
-    (minus_word g.0 h.0.0, all_map IsClauseNumber decimal g.1 decimal_word (recursion_from_All IsClauseNumber g.1 h.0.1))
-    (group_words gs h.1)
+literal_has : (W : List ℕ → Type 0) → IsOfTokens W → (l : Literal) → IsWithin 2000000 l → W (literal_token l)
+literal_has W w (Pos v) h = w.number v (omega (arith, h.0), omega (arith, h.1))
+literal_has W w (Neg v) h = subst W (sym (negative_token v (omega (arith, h.0)))) (w.minus v (omega (arith, h.0), omega (arith, h.1)))
 
-pub step_words : (top : ℕ) (step : Step) → IsClauseNumber top → IsStep step → AllByRecursion IsWord (step_tokens top step)
-step_words top (Add id lits hints groups) n h = (
-  decimal_word id h.0,
-  all_append IsWord (map literal_token lits) (codes "0" ∷ (map decimal hints ++ flat_map group_tokens groups ++ codes "0" ∷ []))
-      (all_map (IsWithin 2000000) literal_token lits literal_word (recursion_from_All (IsWithin 2000000) lits h.1)) (
-        zero_word,
-        all_append IsWord (map decimal hints ++ flat_map group_tokens groups) (codes "0" ∷ [])
-            (all_append IsWord (map decimal hints) (flat_map group_tokens groups)
-            (all_map IsClauseNumber decimal hints decimal_word (recursion_from_All IsClauseNumber hints h.2))
-            (group_words groups (recursion_from_All IsGroup groups h.3)))
-            (zero_word, tt),
+all_map : {X : Type 0} (W : List ℕ → Type 0) (P : X → Type 0) (f : X → List ℕ) (xs : List X) → ((x : X) → P x → W (f x)) → AllByRecursion P xs → AllByRecursion W (map f xs)
+all_map W P f [] g h = tt
+all_map W P f (x ∷ xs) g h = (g x h.0, all_map W P f xs g h.1)
+
+groups_have : (W : List ℕ → Type 0) → IsOfTokens W → (gs : List Group) → AllByRecursion IsGroup gs → AllByRecursion W (flat_map group_tokens gs)
+groups_have W w [] h = tt
+groups_have W w (g ∷ gs) h =
+    all_append W (group_tokens g) (flat_map group_tokens gs)
+    (w.minus g.0 h.0.0, all_map W IsClauseNumber decimal g.1 w.number (recursion_from_All IsClauseNumber g.1 h.0.1))
+    (groups_have W w gs h.1)
+
+pub step_has : (W : List ℕ → Type 0) → IsOfTokens W → (top : ℕ) (step : Step) → IsClauseNumber top → IsStep step → AllByRecursion W (step_tokens top step)
+step_has W w top (Add id lits hints groups) n h = (
+  w.number id h.0,
+  all_append W (map literal_token lits) (codes "0" ∷ (map decimal hints ++ flat_map group_tokens groups ++ codes "0" ∷ []))
+      (all_map W (IsWithin 2000000) literal_token lits (literal_has W w) (recursion_from_All (IsWithin 2000000) lits h.1)) (
+        w.zero,
+        all_append W (map decimal hints ++ flat_map group_tokens groups) (codes "0" ∷ [])
+            (all_append W (map decimal hints) (flat_map group_tokens groups)
+            (all_map W IsClauseNumber decimal hints w.number (recursion_from_All IsClauseNumber hints h.2))
+            (groups_have W w groups (recursion_from_All IsGroup groups h.3)))
+            (w.zero, tt),
       ),
 )
-step_words top (Delete ids) n h = (
-  decimal_word top n,
+step_has W w top (Delete ids) n h = (
+  w.number top n,
   (
-    letter_word,
-    all_append IsWord (map decimal ids) (codes "0" ∷ [])
-        (all_map IsClauseNumber decimal ids decimal_word (recursion_from_All IsClauseNumber ids h)) (zero_word, tt),
+    w.letter,
+    all_append W (map decimal ids) (codes "0" ∷ [])
+        (all_map W IsClauseNumber decimal ids w.number (recursion_from_All IsClauseNumber ids h)) (w.zero, tt),
   ),
 )
+
+pub step_words : (top : ℕ) (step : Step) → IsClauseNumber top → IsStep step → AllByRecursion IsWord (step_tokens top step)
+step_words = step_has IsWord (record { number = decimal_word; minus = minus_word; zero = zero_word; letter = letter_word })
 
 -- ---- words with single spaces between them
 

@@ -7,6 +7,7 @@ mod groups;
 mod laws;
 mod line;
 mod lines;
+mod packed;
 mod reader;
 mod reading;
 mod step;
@@ -23,6 +24,7 @@ pub use laws::{
 };
 pub use line::read_line;
 pub use lines::{LineBuffer, PieceFault, TakesLines, take_lines};
+pub use packed::PackedText;
 pub use reader::{StepReader, read_pieces};
 pub use reading::{cut_line, next};
 pub use step::{ClauseNumbers, Literals, Step, StepRef};

@@ -1,13 +1,11 @@
 -- Steps of a text, one after the other, under other numbers.
-use Rattle.std.proofs.Common.{◌≡◌, ℕ, ◌+◌, ◌-◌, ◌^◌, ◌<◌, ◌≤◌, false, List, [], ◌∷◌, ◌++◌, map, length, Option, Some, None, MatchOption, Result, Ok, Err, refl, sym, ◌∙◌, ap, subst, arith, append_assoc, length-append, inl, inr}
-use Rattle.std.specs.Prelude.{nat_eq, ◌==◌}
+use Rattle.std.proofs.Common.{◌≡◌, ℕ, ◌+◌, ◌-◌, ◌^◌, ◌<◌, ◌≤◌, List, [], ◌∷◌, ◌++◌, map, length, Option, Some, None, MatchOption, Result, Ok, Err, refl, sym, ◌∙◌, ap, subst, arith, append_assoc, length-append, inl, inr}
 use Rattle.std.specs.Borrow.{Bor}
 use Rattle.std.specs.List.{All, Contains}
-use Rattle.std.proofs.lemmas.Bool.{cases_lt, both_ways, eq-eqb}
-use Rattle.std.proofs.lemmas.List.Elements.{All-head, All-tail, All-weaker, All-map, Contains-append_right, All-contains, All-contains_itself}
+use Rattle.std.proofs.lemmas.Bool.{cases_lt}
+use Rattle.std.proofs.lemmas.List.Elements.{All-weaker, All-map, All-contains, All-contains_itself}
 use Rattle.dimacs.specs.logic.Literal.{Clause}
 use Rattle.dimacs.specs.logic.Rat.{Group}
-use Rattle.dimacs.proofs.Members.{Contains-head, Contains-cons}
 use Rattle.lrat_text.specs.Grammar.{LineSpells, SpellsStep, IsStep, IsClauseNumber}
 use Rattle.lrat_text.specs.Lines.{AllRead, IsCut, IsOpen}
 use Rattle.lrat_text.specs.Log.{top_after}
@@ -15,6 +13,7 @@ use Rattle.lrat_text.specs.Writing.{line_text, line_of}
 use Rattle.lrat_text.specs.declared.fault.TextFault.{TextFault}
 use Rattle.lrat_text.specs.declared.step.Step.{Step}
 use Rattle.lrat_text.specs.declared.step.Step.TheVariants.{Add, Delete}
+use Rattle.lrat_text.proofs.CutLemmas.{cut_same, none_cut}
 use Rattle.lrat_text.proofs.LineLemmas.{spelled_read}
 use Rattle.lrat_text.proofs.SpellingLemmas.{spelled_found}
 use Rattle.dimacs.specs.text.Words
@@ -51,18 +50,6 @@ pub low_deletion : (b t k : ℕ) (ids : List ℕ) → b ≤ t → b ≤ k → t 
 low_deletion b t k ids low base few limits up = numbers_behind b t k ids low base (omega arith) up limits
 
 -- ---- the next line
-cut_same : (a c xs ys : List ℕ) → All (λ n. (n == 10) ≡ false) a → ¬ (Contains c 10) → a ++ 10 ∷ xs ≡ c ++ 10 ∷ ys → (a ≡ c) × (xs ≡ ys)
-cut_same [] [] xs ys h g e = (refl, (let t : xs ≡ ys = cc in t))
-cut_same [] (y ∷ c) xs ys h g e = absurd (g (0, omega arith, (let f : y ≡ 10 = cc in f)))
-cut_same (x ∷ a) [] xs ys h g e =
-    let f : x ≡ 10 = cc in
-    absurd (both_ways (nat_eq x 10) (All-head (λ n. (n == 10) ≡ false) x a h) (eq-eqb x 10 f))
-cut_same (x ∷ a) (y ∷ c) xs ys h g e =
-    let first : x ≡ y = cc in
-    let more : a ++ 10 ∷ xs ≡ c ++ 10 ∷ ys = cc in
-    let rest = cut_same a c xs ys (All-tail (λ n. (n == 10) ≡ false) x a h) (λ i. g (Contains-cons y 10 c i)) more in
-    (ap (λ (n : ℕ). n ∷ a) first ∙ ap (λ (ns : List ℕ). y ∷ ns) rest.0, rest.1)
-
 read_steps : (pieces : List (List ℕ)) (steps : List Step) → AllRead pieces steps → steps_of pieces ≡ steps
 read_steps [] steps h = absurd h
 read_steps (last ∷ []) steps h = sym h.1
@@ -106,8 +93,7 @@ no_line text none h = at (steps_in text) refl h
     at : (steps : List Step) → steps_in text ≡ steps → LineSpells text steps → steps_in text ≡ []
     at [] e spelled = e
     at (step ∷ steps) e (own, later, splits, one, spells, more) =
-        let all : All (λ n. (n == 10) ≡ false) (own ++ 10 ∷ later) = subst (λ (t : List ℕ). All (λ n. (n == 10) ≡ false) t) splits none in
-        absurd (both_ways (nat_eq 10 10) (All-contains (λ n. (n == 10) ≡ false) (own ++ 10 ∷ later) 10 all (Contains-append_right own (10 ∷ later) 10 (Contains-head 10 later))) refl)
+        absurd (none_cut text own later none splits)
 
 -- a line spells one step
 pub read_same : (line : List ℕ) (one two : Step) → SpellsStep line one → SpellsStep line two → one ≡ two

@@ -76,8 +76,8 @@ returns-then-learnt-most g c =
     let old = c.turns.self in
     let new = c.descend.new.self in
     let s = search_same B c.turns.learnt old.state.arena new.arena old.state.trail new.trail old.log (c.turns.invariant.searching).learnt c.descend.ensures.clauses c.descend.ensures.vars in
-    ends_at_limit B q c.args.limit c.into_text.result
-    (rw c.into_text.ensures
+    ends_at_limit B q c.args.limit c.in_ok-log-in-Clause.log
+    (rw c.in_ok-log-in-Clause.ensures
     (limited B q (allowed c.args.limit) c.turns.learnt c.in-Clause.number _ new.arena new.trail new.assumed old.log s c.descend.ensures.assuming (c.descend.ensures.steady).state c.entries-entries.ensures.valid
     c.in-Clause.ensures.found (let p = c.level.ensures.present in let t = c.if-level-self.false in omega arith) (let e = c.if-learnt-most.true in let l = c.min-most.ensures in omega arith)))
 
