@@ -2,9 +2,8 @@
 
 ghost use Rattle.std.specs.Prelude.{◌<◌, length, IfSome};
 
-use lrat_text::{TextFault, cut_line};
+use lrat_text::cut_line;
 use memchr::{memchr, memrchr};
-use std::alloc::AllocError;
 
 /// Whether a line deletes clauses: the letter `d` stands behind its number.
 pub(crate) fn deletes(line: &[u8]) -> bool {
@@ -41,9 +40,4 @@ pub(crate) fn lemma_count(text: &[u8]) -> usize {
         rest = later;
     }
     count
-}
-
-/// A refused growth as a fault.
-pub(crate) fn no_memory(_: AllocError) -> TextFault {
-    TextFault::NoMemory
 }

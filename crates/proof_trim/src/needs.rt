@@ -3,7 +3,7 @@
 ghost use Rattle.std.specs.Prelude.{◌≡◌, ◌<◌, ◌^◌, All, IfSome, OnOk};
 ghost use Rattle.lrat_text.specs.Grammar.{IsClauseNumber};
 
-use crate::lines::{cut_last, deletes, no_memory};
+use crate::lines::{cut_last, deletes};
 use lrat_text::{StepBuffer, StepRef, TextFault, read_line};
 use std::alloc::{AllocError, Global};
 use std::marker::Model;
@@ -28,23 +28,29 @@ impl Model for Needs {
 }
 
 impl Needs {
-    /// What the last one of so many lemmas needs, itself with it.
+    /// What the last one of so many lemmas needs, itself with it; `None` where that is nine tenths of their later half or more, since then
+    /// little would go.
     pub(crate) fn of(
         alloc: Global,
         base: u64,
         count: usize,
         buffer: &mut StepBuffer,
         text: &[u8],
-    ) -> Result<Needs, TextFault>
+    ) -> Result<Option<Needs>, TextFault>
         requires { base < 2 ^ 40 }
     {
         let mut needs = Needs {
             base,
-            ranks: vec![in alloc; 0; count].map_err(no_memory)?,
+            ranks: vec![in alloc; 0; count]?,
         };
         needs.need(base + count as u64);
-        needs.trace(buffer, text)?;
-        Ok(needs)
+        let half = count / 2;
+        let front = needs.trace(buffer, text, count, half)?;
+        if needs.count_from(half) >= (count - half) / 10 * 9 {
+            return Ok(None);
+        }
+        needs.trace(buffer, front, half, 0)?;
+        Ok(Some(needs))
     }
 
     /// How many clauses the base has.
@@ -66,15 +72,25 @@ impl Needs {
         }
     }
 
-    /// Goes through the lines from the last to the first, and marks what those that are needed need.
-    fn trace(&mut self, buffer: &mut StepBuffer, text: &[u8]) -> Result<(), TextFault> {
-        let mut place = self.ranks.len();
+    /// Goes back through the lines, from the lemma before one place to the lemma at another, marks what those that are needed need, and
+    /// tells what lies before.
+    fn trace<'t>(
+        &mut self,
+        buffer: &mut StepBuffer,
+        text: &'t [u8],
+        from: usize,
+        to: usize,
+    ) -> Result<&'t [u8], TextFault> {
+        let mut place = from;
         let mut rest = text;
-        while let Some((front, line)) = cut_last(rest) {
+        while place > to {
+            let Some((front, line)) = cut_last(rest) else {
+                break;
+            };
             place = self.trace_line(buffer, line, place)?;
             rest = front;
         }
-        Ok(())
+        Ok(rest)
     }
 
     /// Marks what a line needs, if it adds a lemma that is needed: the last one before `place`. Tells the place of the lemma that comes
@@ -100,6 +116,17 @@ impl Needs {
             }
         }
         Ok(own)
+    }
+
+    /// How many are needed of the lemmas from a place on.
+    fn count_from(&self, place: usize) -> usize {
+        let mut count = 0usize;
+        for i in place..self.ranks.len() {
+            if self.ranks[i] != 0 {
+                count = count.saturating_add(1);
+            }
+        }
+        count
     }
 
     /// Numbers those that are needed on, and tells how many they are.

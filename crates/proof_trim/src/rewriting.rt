@@ -3,7 +3,7 @@
 ghost use Rattle.lrat_text.specs.Grammar.{IsStep};
 ghost use Rattle.lrat_text.specs.Steps.{step_of};
 
-use crate::lines::{deletes, no_memory};
+use crate::lines::deletes;
 use crate::needs::Needs;
 use lrat_text::{Groups, StepBuffer, StepRef, TextFault, cut_line, put_ref, read_line};
 use std::alloc::{AllocError, Global};
@@ -76,7 +76,8 @@ impl Rewriter {
         line: &[u8],
     ) -> Result<(), TextFault> {
         read_line(buffer, line)?;
-        self.put(needs, buffer.as_ref()).map_err(no_memory)
+        self.put(needs, buffer.as_ref())?;
+        Ok(())
     }
 }
 

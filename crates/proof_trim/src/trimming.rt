@@ -27,7 +27,9 @@ fn shorter(alloc: Global, base: u64, text: &[u8]) -> Result<Option<Vec<u8>>, Tex
         return Ok(None);
     }
     let mut buffer = StepBuffer::new(alloc);
-    let mut needs = Needs::of(alloc, base, count, &mut buffer, text)?;
+    let Some(mut needs) = Needs::of(alloc, base, count, &mut buffer, text)? else {
+        return Ok(None);
+    };
     if needs.rank() > count / 4 * 3 {
         return Ok(None);
     }
