@@ -10,9 +10,11 @@ pub mod Finding
 pub mod HasMet
 pub mod Walking
 pub mod Meeting
+pub mod Noting
 pub mod OneMore
 pub mod OnePast
 pub mod Settling
 pub mod Stamps
+pub mod Tallying
 pub mod Tracing
 pub mod Following

@@ -1,8 +1,8 @@
 -- What a conflict teaches: a lemma with one literal of the present level, or the negations of assumptions.
-use Rattle.std.specs.Prelude.{◌≡◌, ◌≢◌, ℕ, ◌-◌, ◌<◌, ◌≤◌, Bool, true, false, if◌then◌else◌, List, [], ◌∷◌, ◌++◌, ◌⊎◌, None, nat_eq, All, Contains}
-use Rattle.std.specs.List.{IsDistinct, filter_map}
+use Rattle.std.specs.Prelude.{◌≡◌, ◌≢◌, ℕ, ◌-◌, ◌<◌, ◌≤◌, Bool, true, false, if◌then◌else◌, List, [], ◌∷◌, ◌++◌, ◌⊎◌, None, Some, map, nat_eq, reverse, sum_by, All, Contains}
+use Rattle.std.specs.List.{IsDistinct, count_by, filter_map}
 use Rattle.dimacs.specs.logic.ClauseMap.{Live}
-use Rattle.dimacs.specs.logic.Literal.{Literal, Clause, IsWithin, negation, same}
+use Rattle.dimacs.specs.logic.Literal.{Literal, Clause, IsWithin, negation, same, var_of}
 use Rattle.dimacs.specs.logic.Propagation.{IsFalse, Rup}
 use Rattle.watches.specs.Law.{IsConflict}
 use Rattle.watches.specs.Trails.{TrailValue, holds, up_to, present}
@@ -71,6 +71,34 @@ pub record AreApart (vars : ℕ) (listed : List ℕ) : Type 0 where
 pub record AreAgain (vars : ℕ) (listed again : List ℕ) : Type 0 where
   pub within : All (λ v. (0 < v) × (v ≤ vars)) again
   pub among : All (Contains listed) again
+
+-- how often a variable stands in a clause
+abbrev pub times : ℕ → Clause → ℕ
+times v C = count_by (λ k. nat_eq v (var_of k)) C
+
+-- and in clauses with their numbers
+abbrev pub often : ℕ → List (ℕ × Clause) → ℕ
+often v named = sum_by (λ (c : ℕ × Clause). times v c.1) named
+
+-- the live clause of a number is the reason of an entry, whose level a test takes
+abbrev pub IsReason : Live → List Assigned → (ℕ → Type 0) → ℕ × Clause → Type 0
+IsReason live entries at c = live c.0 c.1 × ((e : Assigned) × Contains entries e × (e.reason ≡ Some c.0) × at e.level)
+
+-- what the analysis of a false clause met: the variables of the clauses that the hints name
+pub record IsTally (live : Live) (t : TrailValue) (number : ℕ) (hints : List ℕ) (m : Met) : Type 0 where
+  -- the false clause, the reasons of the present level and those of lower ones: what the hints name, the last first
+  pub conflict : Clause
+  pub here : List (ℕ × Clause)
+  pub lower : List (ℕ × Clause)
+  pub lives : live number conflict
+  pub of_present : All (IsReason live t.entries (λ level. level ≡ present t.entries)) here
+  pub of_lower : All (IsReason live t.entries (λ level. level < present t.entries)) lower
+  pub named : reverse hints ≡ number ∷ map (λ c. c.0) (here ++ lower)
+  -- all their variables were met, and no others
+  pub were : (v : ℕ) → Contains m.once v → 0 < often v ((number, conflict) ∷ here ++ lower)
+  pub all : (v : ℕ) → 0 < often v ((number, conflict) ∷ here ++ lower) → Contains m.once v
+  -- and met again, each as often as it stands in the false clause and the reasons of the present level, but for the first time
+  pub again : (v : ℕ) → count_by (nat_eq v) m.again ≡ often v ((number, conflict) ∷ here) - 1
 
 -- a literal that was decided
 abbrev pub IsDecision : List Assigned → Literal → Type 0

@@ -2,5 +2,6 @@
 pub mod Built
 pub mod Minimising
 pub mod Seen
+pub mod Tallies
 pub mod Traces
 pub mod Walks

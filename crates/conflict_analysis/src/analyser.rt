@@ -2,7 +2,7 @@
 
 ghost use Rattle.std.specs.Prelude.{◌≡◌, IfOk, OnOk};
 ghost use Rattle.clause_arena.specs.Clauses.{live_of};
-ghost use Rattle.conflict_analysis.specs.Lemmas.{AreAgain, AreApart, IsPresentConflict, IsLemmaOf};
+ghost use Rattle.conflict_analysis.specs.Lemmas.{AreAgain, AreApart, IsPresentConflict, IsLemmaOf, IsTally};
 
 use crate::lemma::Lemma;
 use crate::minimiser::Minimiser;
@@ -40,15 +40,15 @@ impl Analyser {
         }
     }
 
-    /// The variables that the last analysis met, no one twice.
+    /// The variables of the clauses that the last lemma's hints name, no one twice.
     pub fn met(&self) -> &[Var]
         ensures { result.now ≡ self.now.once }
     {
         &self.walk.met
     }
 
-    /// The variables that it met again: of the false clause and of each reason of an entry of the present level that it
-    /// resolved, those that it had met before.
+    /// Those that stand more than once in the false clause and the reasons of entries of the present level among them: each as
+    /// often as it stands there, but for once.
     pub fn met_again(&self) -> &[Var]
         ensures { result.now ≡ self.now.again }
     {
@@ -58,7 +58,7 @@ impl Analyser {
     /// The lemma of a false clause that has a literal of the present level, which is above 0: by its hints, in trail order
     /// with the false clause last, it follows by reverse unit propagation; its literals are false, exactly one of them of
     /// the present level, the first implication point's; and the level to go back to is the greatest of the others.
-    /// What it met are variables of the trail.
+    /// What it met are the variables of the clauses that the hints name.
     pub fn analyse(
         &mut self,
         arena: &Arena,
@@ -69,6 +69,7 @@ impl Analyser {
         ensures lemma { IfOk result (λ lemma. IsLemmaOf (live_of arena.now) trail.now number lemma) }
         ensures met { IfOk result (λ lemma. AreApart trail.now.vars self.new.once) }
         ensures again { IfOk result (λ lemma. AreAgain trail.now.vars self.new.once self.new.again) }
+        ensures tally { IfOk result (λ lemma. IsTally (live_of arena.now) trail.now number lemma.hints.items self.new) }
     {
         let mut lemma = Lemma::new(self.alloc);
         self.analyse_into(arena, trail, number, &mut lemma)?;
@@ -87,6 +88,7 @@ impl Analyser {
         ensures lemma { OnOk result (IsLemmaOf (live_of arena.now) trail.now number lemma.new) }
         ensures met { OnOk result (AreApart trail.now.vars self.new.once) }
         ensures again { OnOk result (AreAgain trail.now.vars self.new.once self.new.again) }
+        ensures tally { OnOk result (IsTally (live_of arena.now) trail.now number lemma.new.hints.items self.new) }
     {
         let entries = trail.entries();
         lemma.clear();

@@ -1,12 +1,13 @@
 //! One walk down a trail, from a false clause to the first implication point, and on to what was met of lower levels.
 
-ghost use Rattle.std.specs.Prelude.{◌≡◌, ℕ, ◌+◌, ◌/◌, ◌<◌, ◌≤◌, max, true, false, [], ◌∷◌, ◌++◌, Some, length, take, slice_index_or, List, Contains, All, IfOk, OnOk};
-ghost use Rattle.std.specs.Bool.{OnFalse};
+ghost use Rattle.std.specs.Prelude.{◌≡◌, ℕ, ◌+◌, ◌/◌, ◌<◌, ◌≤◌, max, true, false, nat_eq, [], ◌∷◌, ◌++◌, Some, length, take, slice_index_or, List, Contains, All, IfOk, OnOk};
+ghost use Rattle.std.specs.Bool.{OnFalse, OnTrue};
 ghost use Rattle.clause_arena.specs.Clauses.{live_of};
 ghost use Rattle.dimacs.specs.logic.Literal.{Literal, Clause, IsWithin, negation, var_of};
 ghost use Rattle.conflict_analysis.specs.Built.{AreBuilt, AreInside};
 ghost use Rattle.conflict_analysis.specs.inner.Minimising.{HasRoom};
 ghost use Rattle.conflict_analysis.specs.inner.Seen.{met};
+ghost use Rattle.conflict_analysis.specs.inner.Tallies.{HasNoted, IsFresh, IsTallied};
 ghost use Rattle.conflict_analysis.specs.inner.Walks.{IsKnown, AreKnown, AreMet, IsWalk, HasMet, IsUnderWay, HasEnded, IsChoice};
 ghost use Rattle.watches.specs.Trails.{TrailValue, IsTrailValue, present};
 ghost use Rattle.watches.specs.declared.trail.Assigned.{Assigned};
@@ -62,7 +63,8 @@ impl Walk {
     /// Begins at the end of a trail, with nothing met.
     pub(crate) fn begin(&mut self, trail: &Trail) -> Result<(), AllocError>
         requires { IsTrailValue trail.now }
-        ensures { OnOk result (IsWalk trail.now trail.now.entries self.new) }
+        ensures walk { OnOk result (IsWalk trail.now trail.now.entries self.new) }
+        ensures fresh { OnOk result (IsFresh self.new) }
     {
         self.seen.restart(trail.vars())?;
         self.blocks.restart((trail.len() / BLOCK) as u32)?;
@@ -90,6 +92,7 @@ impl Walk {
         ensures walk { OnOk result (IsWalk trail.now front.now self.new) }
         ensures all { OnOk result ((C : Clause) → live_of arena.now number C → AreMet (met self.new.seen) C) }
         ensures seen { OnOk result (HasMet front.now self.old.seen self.new.seen) }
+        ensures noted { OnOk result ((C : Clause) × live_of arena.now number C × HasNoted self.old self.new C) }
     {
         match arena.find(number) {
             Some(at) => self.meet_clause(trail, front, arena.clause(at)),
@@ -110,6 +113,7 @@ impl Walk {
         ensures walk { OnOk result (IsWalk trail.now front.now self.new) }
         ensures all { OnOk result (AreMet (met self.new.seen) clause.now) }
         ensures seen { OnOk result (HasMet front.now self.old.seen self.new.seen) }
+        ensures noted { OnOk result (HasNoted self.old self.new clause.now) }
     {
         for &literal in clause {
             self.meet(trail, front, literal)?;
@@ -125,6 +129,7 @@ impl Walk {
         ensures walk { OnOk result (IsWalk trail.now front.now self.new) }
         ensures here { OnOk result (met self.new.seen (var_of literal) ≡ true) }
         ensures seen { OnOk result (HasMet front.now self.old.seen self.new.seen) }
+        ensures noted { OnOk result (HasNoted self.old self.new (literal ∷ [])) }
     {
         let var = literal.var();
         if self.seen.has(var) {
@@ -150,6 +155,7 @@ impl Walk {
         requires { met self.old.seen var ≡ true }
         ensures walk { OnOk result ((t : TrailValue) (front : List Assigned) → IsWalk t front self.old → IsWalk t front self.new) }
         ensures seen { self.new.seen ≡ self.old.seen }
+        ensures noted { OnOk result ((k : Literal) → var_of k ≡ var → HasNoted self.old self.new (k ∷ [])) }
     {
         if self.notes {
             self.again.push(var)?;
@@ -175,6 +181,8 @@ impl Walk {
         requires level { lemma.old.level ≡ 0 }
         ensures ended { OnOk result (HasEnded (live_of arena.now) trail.now self.new lemma.new) }
         ensures seen { OnOk result (HasMet trail.now.entries self.old.seen self.new.seen) }
+        ensures tally { OnOk result ((number : ℕ) → IsTallied (live_of arena.now) trail.now number (length trail.now.entries) self.old []
+            → (place : ℕ) × IsTallied (live_of arena.now) trail.now number place self.new lemma.new.hints.items) }
     {
         let mut i = trail.len();
         while self.pending > 0 || self.rest > 0 {
@@ -219,6 +227,8 @@ impl Walk {
         ensures room { HasRoom trail.now.vars minimiser.new }
         ensures way { OnOk result (IsUnderWay (live_of arena.now) trail.now i self.new lemma.new) }
         ensures seen { OnOk result (HasMet (take i trail.now.entries) self.old.seen self.new.seen) }
+        ensures tally { OnOk result ((number : ℕ) → IsTallied (live_of arena.now) trail.now number (i + 1) self.old lemma.old.hints.items
+            → IsTallied (live_of arena.now) trail.now number i self.new lemma.new.hints.items) }
     {
         if !self.pass(trail, i) {
             return Ok(());
@@ -244,6 +254,8 @@ impl Walk {
         ensures seen { self.new.seen ≡ self.old.seen }
         ensures here { (d : Assigned) → result ≡ met self.old.seen (var_of (slice_index_or trail.now.entries i d).literal) }
         ensures lower { (d : Assigned) → ((slice_index_or trail.now.entries i d).level ≡ present trail.now.entries → ⊥) → self.new.pending ≡ self.old.pending }
+        ensures again { self.new.again ≡ self.old.again }
+        ensures notes { (d : Assigned) → OnTrue result (self.new.notes ≡ nat_eq (slice_index_or trail.now.entries i d).level (present trail.now.entries)) }
         ensures passed { OnFalse result (self.new.pending ≡ self.old.pending) }
     {
         let entry = trail.entries()[i];

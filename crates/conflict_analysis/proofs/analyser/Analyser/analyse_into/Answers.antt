@@ -3,6 +3,7 @@ use Rattle.std.proofs.lemmas.Result.{on_ok_weaker}
 use Rattle.clause_arena.specs.Clauses.{live_of}
 use Rattle.conflict_analysis.specs.inner.Walks.{IsWalk}
 use Rattle.conflict_analysis.proofs.Concluded.{conflict_waits, is_lemma, walk_again, walk_apart}
+use Rattle.conflict_analysis.proofs.Tallying.{tally_begins, tally_ends}
 use Rattle.conflict_analysis.proofs.analyser.Analyser.analyse_into.Goals as goal
 
 pub descend-requires-clause-waits : goal.descend-requires-clause-waits
@@ -24,3 +25,13 @@ returns-clause-met c =
 pub returns-clause-again : goal.returns-clause-again
 returns-clause-again c =
     on_ok_weaker c.conclude.result (λ hints. walk_again (live_of c.args.arena.now) c.args.trail.now c.descend.new.self c.descend.new.lemma c.in_ok-descend.ensures.ended) c.conclude.ensures.hints
+
+pub returns-clause-tally : goal.returns-clause-tally
+returns-clause-tally c =
+    let live = live_of c.args.arena.now in
+    let e = c.in_ok-meet_number.ensures.noted in
+    let h = c.in_ok-descend.ensures in
+    let b = tally_begins live c.args.trail.now c.args.number c.begin.new.self c.meet_number.new.self e.0 c.in_ok-begin.ensures.fresh e.1 e.2 in
+    let p = h.tally c.args.number b in
+    on_ok_weaker c.conclude.result (λ hints. tally_ends live c.args.trail.now c.args.number p.0 c.descend.new.self c.descend.new.lemma.hints.items c.conclude.new.self.hints.items p.1
+    (h.ended.way.walk).listed hints) c.conclude.ensures.hints

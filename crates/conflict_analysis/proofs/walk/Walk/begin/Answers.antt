@@ -8,8 +8,8 @@ use Rattle.conflict_analysis.proofs.Concluding.{begins}
 use Rattle.conflict_analysis.proofs.Meeting.{lists_none}
 use Rattle.conflict_analysis.proofs.walk.Walk.begin.Goals as goal
 
-pub returns : goal.returns
-returns c = record {
+pub returns-clause-walk : goal.returns-clause-walk
+returns-clause-walk c = record {
   valid = c.requires;
   before = ([], sym (append-nil c.args.trail.now.entries));
   room = let r = c.in_ok-restart.ensures.room in let v = c.vars.ensures in omega (arith, r, v);

@@ -1,10 +1,12 @@
-use Rattle.std.proofs.Common.{◌≡◌, ◌+◌, ◌-◌, ◌<◌, ◌⊎◌, inl, inr, arith, sym, subst}
+use Rattle.std.proofs.Common.{[], length, ◌≡◌, ◌+◌, ◌-◌, ◌<◌, ◌⊎◌, inl, inr, arith, sym, subst}
 use Rattle.std.proofs.lemmas.List.{take_all}
 use Rattle.clause_arena.specs.Clauses.{live_of}
 use Rattle.conflict_analysis.specs.inner.Seen.{met}
 use Rattle.conflict_analysis.specs.inner.Walks.{IsUnderWay, IsWalk}
 use Rattle.conflict_analysis.proofs.Blocks.{skips_down, some_left}
 use Rattle.conflict_analysis.proofs.Concluding.{nothing_walked}
+use Rattle.conflict_analysis.specs.inner.Tallies.{IsTallied}
+use Rattle.conflict_analysis.proofs.Tallying.{tally_skips}
 use Rattle.conflict_analysis.proofs.HasMet.{met_further, met_in_front, met_none}
 use Rattle.conflict_analysis.proofs.walk.Walk.descend.Goals as goal
 use Rattle.conflict_analysis.proofs.walk.Walk.descend.Goals.{After-skip-i, then-self-gt0, else-self-gt0+then-self-gt0-2}
@@ -21,6 +23,8 @@ loop-self-init c =
       },
       c.requires.room,
       met_none es c.args.self.now.seen,
+      λ number h. subst (IsTallied (live_of c.args.arena.now) c.args.trail.now number c.len-i.result c.args.self.now) (sym c.requires.hints)
+          (tally_skips (live_of c.args.arena.now) c.args.trail.now number (length es) c.len-i.result c.args.self.now [] (omega (arith, n)) h),
     )
 
 -- the way down to where the walk goes on
@@ -44,10 +48,16 @@ look-requires-clause-way c =
 
 pub loop-self-preserved : goal.loop-self-preserved
 loop-self-preserved c =
+    let w = (goal.at.loop-self-preserved c).After-skip-i in
     let i = c.loop-self.invariant in
     let e = c.in_ok-look.ensures in (
       (let l = i.0 in let k = c.skip-i.ensures.below in omega (arith, l, k)),
       e.way,
       e.room,
       met_further c.args.trail.now.entries c.args.self.now.seen c.loop-self.self.seen c.look.new.self.seen i.3 (met_in_front c.args.trail.now.entries (c.skip-i.result - 1) c.loop-self.self.seen c.look.new.self.seen e.seen),
+      λ number h. e.tally number (tally_skips (live_of c.args.arena.now) c.args.trail.now number c.loop-self.i (c.skip-i.result - 1 + 1) c.loop-self.self c.loop-self.lemma.hints.items
+          (let above = some_left c.args.arena.now c.args.trail.now c.loop-self.self c.loop-self.lemma c.skip-i.result (way w) (some w) in let b = c.skip-i.ensures.below in omega (arith, above, b)) (i.4 number h)),
     )
+
+pub returns-clause-tally : goal.returns-clause-tally
+returns-clause-tally c = λ number h. (c.loop-self.i, (c.loop-self.invariant).4 number h)

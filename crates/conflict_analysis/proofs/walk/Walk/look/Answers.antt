@@ -1,11 +1,15 @@
 use Rattle.std.specs.Prelude.{max}
 use Rattle.std.proofs.Common.{◌≡◌, ◌++◌, ◌∷◌, [], ℕ, inl, inr, true, take, get_or, List, ap, sym, ◌∙◌, subst, refl, None}
+use Rattle.std.proofs.lemmas.Bool.{OnTrue_at}
 use Rattle.std.proofs.lemmas.Result.{on_ok_weaker}
 use Rattle.dimacs.specs.logic.Literal.{Pos, negation, var_of}
 use Rattle.watches.specs.declared.trail.Assigned.{Assigned}
 use Rattle.conflict_analysis.specs.inner.Seen.{met}
+use Rattle.clause_arena.specs.Clauses.{live_of}
+use Rattle.conflict_analysis.specs.inner.Tallies.{IsTallied}
 use Rattle.conflict_analysis.specs.inner.Walks.{AreKnown, HasMet, IsWalk}
 use Rattle.conflict_analysis.proofs.OnePast.{past_unmet, reason_can_be_met, reason_lives, past_resolved, past_kept}
+use Rattle.conflict_analysis.proofs.Tallying.{tally_resolves}
 use Rattle.conflict_analysis.proofs.Walking.{ok_both}
 use Rattle.conflict_analysis.proofs.walk.Walk.look.Goals as goal
 use Rattle.conflict_analysis.proofs.walk.Walk.look.Goals.{After-index-entries-i}
@@ -67,3 +71,13 @@ returns-in-None-clause-way c =
     c.keep.new.self (k.0 ∙ ap (λ (x : Assigned). lits ++ negation x.literal ∷ []) q) c.keep.ensures.hints
     (λ l. k.1.0 (level ∙ l ∙ sym p)) (λ n. k.1.1 (λ l. n (sym level ∙ l ∙ p)) ∙ ap (λ m. max c.args.lemma.now.level m) level))
     (ok_both _ _ c.keep.result c.keep.ensures.lits (ok_both _ _ c.keep.result c.keep.ensures.same c.keep.ensures.lower))
+
+pub returns-in_ok-push-in-Some-clause-tally : goal.returns-in_ok-push-in-Some-clause-tally
+returns-in_ok-push-in-Some-clause-tally c = λ number h.
+    let b = (goal.at.returns-in_ok-push-in-Some-clause-tally c).After-index-entries-i in
+    let x = c.in_ok-meet_number-in-Some.ensures.noted in
+    let live = live_of c.args.arena.now in
+    subst (IsTallied live c.args.trail.now number c.args.i c.meet_number.new.self) (sym c.in_ok-push-in-Some.ensures.items)
+    (tally_resolves live c.args.trail.now number c.args.i c.args.self.now c.pass.new.self c.args.lemma.now.hints.items h c.pass.ensures.seen c.pass.ensures.again
+    (c.pass.ensures.walk).valid c.index-entries-i.result c.requires.within c.in-Some.number x.0 x.1 (ap (λ (y : Assigned). y.reason) (sym (is b)) ∙ c.in-Some.ensures.choice.0)
+    c.meet_number.new.self (OnTrue_at c.if-not-pass.false (c.pass.ensures.notes c.index-entries-i.result)) x.2)

@@ -1,10 +1,12 @@
-use Rattle.std.proofs.Common.{◌≡◌, inl, inr, true, sym, ◌∙◌, subst}
+use Rattle.std.proofs.Common.{◌≡◌, inl, inr, true, [], ◌∷◌, ◌++◌, take, ap, sym, ◌∙◌, subst}
 use Rattle.std.specs.List.{Contains}
-use Rattle.std.proofs.lemmas.List.{take_all}
+use Rattle.std.proofs.lemmas.List.{take_all, take_more}
 use Rattle.dimacs.specs.logic.Literal.{var_of}
 use Rattle.conflict_analysis.specs.inner.Seen.{met}
 use Rattle.conflict_analysis.proofs.Fronts.{Contains-take_more}
 use Rattle.conflict_analysis.proofs.HasMet.{met_further}
+use Rattle.conflict_analysis.proofs.Noting.{noted_further}
+use Rattle.conflict_analysis.specs.inner.Tallies.{HasNoted}
 use Rattle.conflict_analysis.proofs.walk.Walk.meet_clause.Goals as goal
 
 pub loop-literal-preserved : goal.loop-literal-preserved
@@ -17,7 +19,14 @@ loop-literal-preserved c =
         | inr q ↦ let p = c.literal-item.is in subst (λ x. met c.meet.new.self.seen (var_of x) ≡ true) (p ∙ q) e.here
       ],
       met_further c.args.front.now c.args.self.now.seen c.loop-literal.self.seen c.meet.new.self.seen i.2 e.seen,
+      (let more = take_more c.args.clause.now c.loop-literal.literal-index c.literal-item.result c.loop-literal-test.true in
+          let p = c.literal-item.is in
+          subst (HasNoted c.args.self.now c.meet.new.self) (sym (more ∙ ap (λ l. take c.loop-literal.literal-index c.args.clause.now ++ l ∷ []) (sym p)))
+          (noted_further c.args.self.now c.loop-literal.self c.meet.new.self (take c.loop-literal.literal-index c.args.clause.now) (c.literal-item.result ∷ []) i.3 e.noted)),
     )
 
 pub returns-clause-all : goal.returns-clause-all
 returns-clause-all c = λ k h. (c.loop-literal.invariant).1 k (subst (λ xs. Contains xs k) (sym (take_all c.loop-literal.literal-index c.args.clause.now c.loop-literal-test.false)) h)
+
+pub returns-clause-noted : goal.returns-clause-noted
+returns-clause-noted c = subst (HasNoted c.args.self.now c.loop-literal.self) (take_all c.loop-literal.literal-index c.args.clause.now c.loop-literal-test.false) (c.loop-literal.invariant).3

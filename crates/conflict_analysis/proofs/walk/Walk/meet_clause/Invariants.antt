@@ -1,6 +1,7 @@
 use Rattle.std.proofs.Common.{take}
 use Rattle.conflict_analysis.specs.inner.Seen.{met}
 use Rattle.conflict_analysis.specs.inner.Walks.{AreMet, HasMet, IsWalk}
+use Rattle.conflict_analysis.specs.inner.Tallies.{HasNoted}
 use Rattle.conflict_analysis.proofs.walk.Walk.meet_clause.Given as goal
 
 -- the literals so far were met
@@ -9,3 +10,4 @@ invariant-loop-literal l =
     IsWalk l.trail l.front l.self
     × AreMet (met l.self.seen) (take l.literal-index l.clause)
     × HasMet l.front l.fn.self.seen l.self.seen
+    × HasNoted l.fn.self l.self (take l.literal-index l.clause)

@@ -1,0 +1,41 @@
+-- How often variables are met, one literal after the other.
+use Rattle.std.proofs.Common.{◌≡◌, ℕ, zero, suc, ◌+◌, Bool, true, false, cond, eqb, ltb, ◌||◌, zero-add, ◌++◌, refl, ap, sym, ◌∙◌, subst, arith}
+use Rattle.std.specs.List.{count_by}
+use Rattle.std.proofs.lemmas.Bool.{lt-ltb}
+use Rattle.std.proofs.lemmas.List.Sums.{sum_by-append}
+use Rattle.dimacs.specs.logic.Literal.{Literal, Clause, var_of}
+use Rattle.conflict_analysis.specs.Lemmas.{times}
+use Rattle.conflict_analysis.specs.declared.walk.Walk.{Walk}
+use Rattle.conflict_analysis.specs.inner.Seen.{met}
+use Rattle.conflict_analysis.specs.inner.Tallies.{HasNoted, again_of}
+use Rattle.conflict_analysis.proofs.Entries.{one_if}
+
+pub times_append : (v : ℕ) (C D : Clause) → times v (C ++ D) ≡ times v C + times v D
+times_append v C D = sum_by-append (λ (k : Literal). one_if (eqb v (var_of k))) C D
+
+-- ---- numbers
+seen_further : (a : Bool) (m n : ℕ) → ((a || ltb 0 m) || ltb 0 n) ≡ (a || ltb 0 (m + n))
+seen_further true m n = refl
+seen_further false zero n = ap (ltb 0) (sym (zero-add n))
+seen_further false (suc m) n = rw (lt-ltb 0 (suc m) (omega arith), lt-ltb 0 (suc m + n) (omega arith)) refl
+
+again_further : (a : Bool) (m n : ℕ) → again_of a m + again_of (a || ltb 0 m) n ≡ again_of a (m + n)
+again_further true m n = refl
+again_further false zero n = omega arith
+again_further false (suc m) n = rw (lt-ltb 0 (suc m) (omega arith)) (omega arith)
+
+again_further_if : (b a : Bool) (m n x y z : ℕ) → y ≡ x + cond b (again_of a m) 0 → z ≡ y + cond b (again_of (a || ltb 0 m) n) 0 → z ≡ x + cond b (again_of a (m + n)) 0
+again_further_if true a m n x y z h k = let f = again_further a m n in omega (arith, h, k, f)
+again_further_if false a m n x y z h k = omega (arith, h, k)
+
+-- ---- walks
+pub noted_further : (a b c : Walk) (C D : Clause) → HasNoted a b C → HasNoted b c D → HasNoted a c (C ++ D)
+noted_further a b c C D h k = record {
+  notes = k.notes ∙ h.notes;
+  seen = λ v. k.seen v ∙ ap (λ s. s || ltb 0 (times v D)) (h.seen v) ∙ seen_further (met a.seen v) (times v C) (times v D) ∙ ap (λ n. met a.seen v || ltb 0 n) (sym (times_append v C D));
+  again = λ v.
+      let second = subst (λ s. count_by (eqb v) c.again.items ≡ count_by (eqb v) b.again.items + cond a.notes (again_of s (times v D)) 0) (h.seen v)
+      (subst (λ n. count_by (eqb v) c.again.items ≡ count_by (eqb v) b.again.items + cond n (again_of (met b.seen v) (times v D)) 0) h.notes (k.again v)) in
+      subst (λ n. count_by (eqb v) c.again.items ≡ count_by (eqb v) a.again.items + cond a.notes (again_of (met a.seen v) n) 0) (sym (times_append v C D))
+      (again_further_if a.notes (met a.seen v) (times v C) (times v D) _ _ _ (h.again v) second);
+}
