@@ -12,6 +12,7 @@ ghost use Rattle.coordinator_core.specs.declared.desks.Job.{Job};
 
 use crate::coordinator::Coordinator;
 use crate::desks::{Fixed, Job};
+use cube_split::base_or;
 use evidence::{Bytes, Evidence};
 use frames::WorkerNumber;
 use lrat_check::{ProofText, Reaction, Verdict, check_fragment};
@@ -109,7 +110,8 @@ impl Coordinator {
         ensures closes { result ≡ Tested.Closes → Closes (coordinator_base self.now) (cube_at self.now leaf) text.now }
         ensures wrong { result ≡ Tested.Wrong → ¬ (Closes (coordinator_base self.now) (cube_at self.now leaf) text.now) }
     {
-        match check_fragment(self.alloc, &self.base, self.tree.cube(leaf), text) {
+        let base = base_or(&self.base, &self.formula);
+        match check_fragment(self.alloc, base, self.tree.cube(leaf), text) {
             Ok(()) => Tested::Closes,
             Err(fault) if fault.is_no_memory() => Tested::NoMemory,
             Err(_) => Tested::Wrong,

@@ -31,7 +31,8 @@ pub struct Coordinator {
     pub(crate) preamble: Preamble,
     // made at the first split, so that later ones take no memory for it
     pub(crate) chooser: Option<Chooser>,
-    pub(crate) base: Base,
+    // what fragments close their cubes over, where that is not the formula alone
+    pub(crate) base: Option<Base>,
     pub(crate) session: u64,
     pub(crate) limit: u64,
     // the tree that it was made with, and the tree as it is
@@ -48,7 +49,7 @@ pub struct Coordinator {
 }
 
 impl Model for Coordinator {
-    ghost use Rattle.std.specs.Prelude.{◌≡◌, ◌+◌, length};
+    ghost use Rattle.std.specs.Prelude.{◌≡◌, ◌+◌, length, unwrap_or};
     ghost use Rattle.cube_split.specs.Definitions.{base_with};
     ghost use Rattle.dimacs.specs.logic.Base.{pure_literals};
     ghost use Rattle.coordinator_core.specs.Coordinator.{CoordinatorState};
@@ -74,7 +75,7 @@ impl Model for Coordinator {
       verdict = c.verdict;
     } };
 
-    ghost invariant = { λ c. (c.preamble.units ≡ pure_literals c.formula) × (c.base ≡ base_with c.formula c.preamble.pairs) × IsCoordinator (record {
+    ghost invariant = { λ c. (c.preamble.units ≡ pure_literals c.formula) × (unwrap_or c.base c.formula ≡ base_with c.formula c.preamble.pairs) × IsCoordinator (record {
       formula = c.formula;
       definitions = record { wanted = c.defs; pairs = c.preamble.pairs };
       session = c.session;
@@ -169,7 +170,7 @@ impl Coordinator {
     {
         let _ = formula.vars();
         let preamble = preamble_with(alloc, &formula, defs)?;
-        let base = preamble.base(alloc, &formula)?;
+        let base = preamble.own_base(alloc, &formula)?;
         let planted = tree.copy(alloc)?;
         let leaves = LeafTable::new(alloc, tree.leaves())?;
         let jobs = no_jobs(alloc, workers as usize)?;

@@ -27,4 +27,4 @@ pub use laws::{choices_are_free, definitions_are_settled, units_are_rat, without
 pub use pair::Pair;
 pub use pure::{preamble, preamble_with};
 pub use splitting::{grow, tree, tree_with};
-pub use units::Preamble;
+pub use units::{Preamble, base_or};

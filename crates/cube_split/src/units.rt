@@ -1,6 +1,6 @@
 //! What may be added to a formula before it is split: unit clauses, and definitions.
 
-ghost use Rattle.std.specs.Prelude.{◌≡◌, ◌+◌, ◌*◌, ◌≤◌, ◌++◌, ◌∷◌, [], length, All, IfOk, OnOk};
+ghost use Rattle.std.specs.Prelude.{◌≡◌, ◌↔◌, ◌+◌, ◌*◌, ◌≤◌, ◌++◌, ◌∷◌, [], None, length, unwrap_or, All, IfOk, OnOk, OnErr};
 ghost use Rattle.dimacs.specs.logic.Base.{pure_literals, base_of};
 ghost use Rattle.dimacs.specs.logic.Cnf.{IsFormula, literal_count};
 ghost use Rattle.dimacs.specs.logic.Literal.{IsWithin};
@@ -71,6 +71,30 @@ impl Preamble {
             append_units(Base::of(alloc, formula)?, &self.units)?,
             &self.pairs,
         )
+    }
+
+    /// The same; `None` where nothing is added, and the formula is its own base, which takes no memory.
+    pub fn own_base(&self, alloc: Global, formula: &Formula) -> Result<Option<Base>, AllocError>
+        requires units { self.now.units ≡ pure_literals formula.now }
+        requires pairs { All (IsPairOf formula.now.vars) self.now.pairs }
+        ensures base { IfOk result (λ found. unwrap_or found formula.now ≡ base_with formula.now self.now.pairs) }
+        ensures none { IfOk result (λ found. found ≡ None ↔ (self.now.units ≡ []) × (self.now.pairs ≡ [])) }
+        ensures memory { OnErr result (¬ ((self.now.units ≡ []) × (self.now.pairs ≡ []))) }
+    {
+        if self.units.is_empty() && self.pairs.is_empty() {
+            return Ok(None);
+        }
+        Ok(Some(self.base(alloc, formula)?))
+    }
+}
+
+/// What was made of a formula by [`Preamble::own_base`], as a base.
+pub fn base_or<'a>(own: &'a Option<Base>, formula: &'a Formula) -> &'a Base
+    ensures { result.now ≡ unwrap_or own.now formula.now }
+{
+    match own {
+        Some(base) => base,
+        None => formula.as_base(),
     }
 }
 

@@ -2,7 +2,7 @@
 
 ghost use Rattle.std.specs.Prelude.{◌≡◌, ◌+◌, ◌<◌, ◌≤◌, [], ◌∷◌, ◌++◌, length, slice_index_or, All, IfOk, OnOk, OnErr, vec_len};
 ghost use Rattle.dimacs.specs.logic.Cnf.{IsBase, literal_count};
-ghost use Rattle.dimacs.specs.layout.Flat.{parts, ArePlaces};
+ghost use Rattle.dimacs.specs.layout.Flat.{parts, ArePlaces, Fills};
 ghost use Rattle.dimacs.specs.logic.Literal.{IsWithin};
 
 use crate::flat;
@@ -33,15 +33,54 @@ impl Model for Base {
 }
 
 impl Base {
+    pub(crate) fn from_parts(vars: u32, literals: Vec<Lit>, places: Vec<u32>) -> Base
+        requires places { Fills literals.items places.items }
+        requires valid { IsBase (record { vars = vars; clauses = parts literals.items places.items }) }
+        ensures { result ≡ record { vars = vars; clauses = parts literals.items places.items } }
+    {
+        Base {
+            vars,
+            literals,
+            places,
+        }
+    }
+
+    // Its number of variables, and its literals and places.
+    pub(crate) fn into_parts(self) -> (u32, Vec<Lit>, Vec<u32>)
+        ensures value { self ≡ record { vars = result.0; clauses = parts result.1.items result.2.items } }
+        ensures fills { Fills result.1.items result.2.items }
+    {
+        let Base {
+            vars,
+            literals,
+            places,
+        } = self;
+        (vars, literals, places)
+    }
+
+    // Its literals, clause after clause, and the places where its clauses begin, with the place where the last one ends.
+    pub(crate) fn parts(&self) -> (&[Lit], &[u32])
+        ensures clauses { parts result.0.now result.1.now ≡ self.now.clauses }
+        ensures fills { Fills result.0.now result.1.now }
+    {
+        (&self.literals, &self.places)
+    }
+
     /// The formula alone.
     pub fn of(alloc: Global, formula: &Formula) -> Result<Base, AllocError>
         ensures { IfOk result (λ b. b ≡ formula.now) }
     {
-        let (vars, literals, places) = formula.copy(alloc)?.into_parts();
+        formula.as_base().copy(alloc)
+    }
+
+    /// The same base again.
+    pub fn copy(&self, alloc: Global) -> Result<Base, AllocError>
+        ensures { IfOk result (λ b. b ≡ self.now) }
+    {
         Ok(Base {
-            vars,
-            literals,
-            places,
+            vars: self.vars,
+            literals: Vec::from_slice(alloc, &self.literals)?,
+            places: Vec::from_slice(alloc, &self.places)?,
         })
     }
 

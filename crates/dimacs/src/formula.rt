@@ -6,32 +6,27 @@ ghost use Rattle.dimacs.specs.logic.Extension.{extended};
 ghost use Rattle.dimacs.specs.layout.Flat.{parts, Fills};
 ghost use Rattle.dimacs.specs.logic.Literal.{IsWithin};
 
+use crate::base::Base;
 use crate::extension::Extension;
 use crate::flat;
 use crate::literal::Lit;
 use std::alloc::{AllocError, Global};
 use std::marker::Model;
 
-/// A formula of at most 1,000,000 variables, 4,000,000 clauses and 50,000,000 literals. Its clauses lie one after the other
-/// in one list, and the places in that list say where each begins.
+/// A formula of at most 1,000,000 variables, 4,000,000 clauses and 50,000,000 literals. It lies as a base does, and can be lent as one.
 #[derive(Drop)]
 pub struct Formula {
-    vars: u32,
-    literals: Vec<Lit>,
-    places: Vec<u32>,
+    base: Base,
 }
 
 impl Model for Formula {
-    ghost use Rattle.std.specs.Prelude.{ℕ, ◌≤◌, All, vec_len};
-    ghost use Rattle.dimacs.specs.logic.Cnf.{Cnf};
-    ghost use Rattle.dimacs.specs.logic.Literal.{IsWithin};
-    ghost use Rattle.dimacs.specs.layout.Flat.{parts, Fills};
+    ghost use Rattle.dimacs.specs.logic.Cnf.{Cnf, IsFormula};
 
     ghost Value = { Cnf };
 
-    ghost view = { λ f. record { vars = f.vars; clauses = parts f.literals.items f.places.items } };
+    ghost view = { λ f. f.base };
 
-    ghost invariant = { λ f. (f.vars ≤ 1000000) × Fills f.literals.items f.places.items × All (IsWithin f.vars) f.literals.items × (vec_len f.places ≤ 4000001) × (vec_len f.literals ≤ 50000000) };
+    ghost invariant = { λ f. IsFormula f.base };
 }
 
 /// Whether so many variables, clauses and literals are within the limits of a formula.
@@ -51,9 +46,7 @@ impl Formula {
         ensures { result ≡ record { vars = vars; clauses = parts literals.items places.items } }
     {
         Formula {
-            vars,
-            literals,
-            places,
+            base: Base::from_parts(vars, literals, places),
         }
     }
 
@@ -64,12 +57,8 @@ impl Formula {
         ensures fills { Fills result.1.items result.2.items }
         ensures valid { IsFormula self }
     {
-        let Formula {
-            vars,
-            literals,
-            places,
-        } = self;
-        (vars, literals, places)
+        let Formula { base } = self;
+        base.into_parts()
     }
 
     /// How many variables it has, at most 1,000,000: the greatest that a clause may name.
@@ -78,15 +67,14 @@ impl Formula {
         ensures limit { result ≤ 1000000 }
         ensures valid { IsFormula self.now }
     {
-        self.vars
+        self.base.vars()
     }
 
     /// How many clauses it has, at most 4,000,000.
-    #[tactic(auto, using(crate::proofs::FlatLemmas::length_parts))]
     pub fn len(&self) -> usize
         ensures { result ≡ length self.now.clauses }
     {
-        self.places.len() - 1
+        self.base.len()
     }
 
     /// The clause of this number, from 0.
@@ -95,7 +83,14 @@ impl Formula {
         ensures clause { result.now ≡ slice_index_or self.now.clauses i [] }
         ensures within { All (IsWithin self.now.vars) result.now }
     {
-        flat::clause_at(&self.literals, &self.places, i)
+        self.base.clause(i)
+    }
+
+    /// The formula as a base to which nothing was added.
+    pub fn as_base(&self) -> &Base
+        ensures { result.now ≡ self.now }
+    {
+        &self.base
     }
 
     /// The same formula again.
@@ -103,9 +98,7 @@ impl Formula {
         ensures { IfOk result (λ f. f ≡ self.now) }
     {
         Ok(Formula {
-            vars: self.vars,
-            literals: Vec::from_slice(alloc, &self.literals)?,
-            places: Vec::from_slice(alloc, &self.places)?,
+            base: self.base.copy(alloc)?,
         })
     }
 
@@ -122,14 +115,15 @@ impl Formula {
         // memory is wanting for a formula within the limits alone
         ensures limits { OnErr result (IsFormula (extended self.now extension.now)) }
     {
+        let (literals, places) = self.base.parts();
         let (more, ends) = extension.parts();
-        let vars = self.vars.max(extension.vars());
+        let vars = self.vars().max(extension.vars());
         let clauses = self.len() + extension.len();
-        let count = self.literals.len() + more.len();
+        let count = literals.len() + more.len();
         if !are_few(vars, clauses, count) {
             return Ok(None);
         }
-        let (literals, places) = flat::joined(alloc, &self.literals, &self.places, more, ends)?;
+        let (literals, places) = flat::joined(alloc, literals, places, more, ends)?;
         Ok(Some(Formula::from_parts(vars, literals, places)))
     }
 }

@@ -10,6 +10,7 @@ use crate::candidate::Candidate;
 use crate::collecting::{Collected, collect, is_next, judge};
 use crate::work::Work;
 use crate::worker::Worker;
+use cube_split::base_or;
 use dimacs::{Base, Formula, Lit};
 use evidence::{Evidence, JobName};
 use frames::{Answer, Attempt, Chunk, Cube, Finding, Frame};
@@ -57,7 +58,7 @@ impl Worker {
         if !is_later(self.last, name) {
             return Reaction::Ignored;
         }
-        if !is_inside(&self.base, cube.as_slice()) {
+        if !is_inside(base_or(&self.base, &self.formula), cube.as_slice()) {
             return Reaction::Refused(3);
         }
         let Ok(cube) = copy_of(self.alloc, cube) else {

@@ -23,8 +23,8 @@ pub struct Worker {
     pub(crate) formula: Formula,
     /// How many definitions it wants, at most 64.
     pub(crate) defs: u32,
-    /// What it searches over.
-    pub(crate) base: Base,
+    /// What it searches over, where that is not the formula alone.
+    pub(crate) base: Option<Base>,
     pub(crate) number: WorkerNumber,
     pub(crate) incarnation: u64,
     /// The last task that it took.
@@ -37,6 +37,7 @@ pub struct Worker {
 }
 
 impl Model for Worker {
+    ghost use Rattle.std.specs.Prelude.{unwrap_or};
     ghost use Rattle.worker_core.specs.Worker.{WorkerState};
     ghost use Rattle.worker_core.specs.inner.Invariant.{IsWorker};
 
@@ -45,7 +46,7 @@ impl Model for Worker {
     ghost view = { λ w. record {
       formula = w.formula;
       wanted = w.defs;
-      base = w.base;
+      base = unwrap_or w.base w.formula;
       number = w.number;
       incarnation = w.incarnation;
       last = w.last;
@@ -54,7 +55,7 @@ impl Model for Worker {
       verdict = w.verdict;
     } };
 
-    ghost invariant = { λ w. IsWorker w.formula w.defs w.base w.work w.candidate w.follower w.verdict };
+    ghost invariant = { λ w. IsWorker w.formula w.defs (unwrap_or w.base w.formula) w.work w.candidate w.follower w.verdict };
 }
 
 // By hand, so that a crate above drops a worker by one call, and no proof there goes through its parts.
@@ -101,7 +102,7 @@ impl Worker {
         requires { defs ≤ 64 }
         ensures { IfOk result (λ w. (B : Cnf) × IsBaseWith formula defs B × (w ≡ record (new_worker formula number incarnation) { wanted = defs; base = B })) }
     {
-        let base = preamble_with(alloc, &formula, defs)?.base(alloc, &formula)?;
+        let base = preamble_with(alloc, &formula, defs)?.own_base(alloc, &formula)?;
         Ok(Worker {
             alloc,
             formula,

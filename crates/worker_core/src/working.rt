@@ -11,6 +11,7 @@ use crate::follower::caught_up;
 use crate::work::Work;
 use crate::worker::Worker;
 use cube_solve::{Outcome, solve};
+use cube_split::base_or;
 use dimacs::{Base, Lit};
 use evidence::{Bytes, JobName};
 use frames::Answer;
@@ -32,7 +33,8 @@ impl Worker {
             return Reaction::Ignored;
         };
         let name = *name;
-        let Ok(end) = search(self.alloc, &self.base, cube.as_slice(), *limit) else {
+        let base = base_or(&self.base, &self.formula);
+        let Ok(end) = search(self.alloc, base, cube.as_slice(), *limit) else {
             return Reaction::NoMemory;
         };
         let Ok(work) = keep(self.alloc, name, self.formula.vars(), end) else {

@@ -1,3 +1,4 @@
+use Rattle.std.proofs.Common.{◌∙◌}
 use Rattle.coordinator_core.proofs.GatherLemmas.{closes_here, closes_there, unrefused}
 use Rattle.coordinator_core.proofs.KeptLemmas.{task_leaf}
 use Rattle.coordinator_core.proofs.coordinator.Coordinator.test_text.Goals as goal
@@ -6,8 +7,8 @@ pub cube-requires : goal.cube-requires
 cube-requires c = task_leaf _ c.args.self.now c.args.worker c.args.leaf c.self.view_is c.self.invariant.2 c.requires
 
 pub returns-in-Ok-clause-closes : goal.returns-in-Ok-clause-closes
-returns-in-Ok-clause-closes c = λ _. closes_here _ c.args.self.now c.self.inside.base c.cube.result.now c.args.leaf c.args.text.now c.self.view_is c.self.invariant.1 c.cube.ensures.cube c.in-Ok.ensures.closes
+returns-in-Ok-clause-closes c = λ _. closes_here _ c.args.self.now c.base_or-base.result.now c.cube.result.now c.args.leaf c.args.text.now c.self.view_is (c.base_or-base.ensures ∙ c.self.invariant.1) c.cube.ensures.cube c.in-Ok.ensures.closes
 
 pub returns-in-Err-2-clause-wrong : goal.returns-in-Err-2-clause-wrong
 returns-in-Err-2-clause-wrong c = λ _ closes.
-    unrefused c.check_fragment.result c.in-Err.fault c.is_no_memory.result (c.check_fragment.ensures.complete (closes_there _ c.args.self.now c.self.inside.base c.cube.result.now c.args.leaf c.args.text.now c.self.view_is c.self.invariant.1 c.cube.ensures.cube closes)) c.in-Err.is c.is_no_memory.ensures c.if-is_no_memory.false
+    unrefused c.check_fragment.result c.in-Err.fault c.is_no_memory.result (c.check_fragment.ensures.complete (closes_there _ c.args.self.now c.base_or-base.result.now c.cube.result.now c.args.leaf c.args.text.now c.self.view_is (c.base_or-base.ensures ∙ c.self.invariant.1) c.cube.ensures.cube closes)) c.in-Err.is c.is_no_memory.ensures c.if-is_no_memory.false

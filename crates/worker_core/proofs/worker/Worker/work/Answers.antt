@@ -1,4 +1,6 @@
 use Rattle.std.proofs.Common.{◌≡◌, ◌∙◌, refl, ap, subst, sym}
+use Rattle.std.specs.Prelude.{unwrap_or}
+use Rattle.dimacs.specs.logic.Cnf.{Cnf}
 use Rattle.icnf.specs.Leaves.{Cube}
 use Rattle.worker_core.specs.inner.Invariant.{IsWork}
 use Rattle.worker_core.specs.Worker.{MayEnd, WorkerWorks, kept}
@@ -16,10 +18,11 @@ returns-in_default-keep c =
 pub invariant_of-self : goal.invariant_of-self
 invariant_of-self c =
     let F = c.self.inside.formula in
-    let B = c.self.inside.base in
+    let B = unwrap_or c.self.inside.base F in
     let inv = c.self.invariant in
     let ends : MayEnd B c.in-Waiting.cube c.in-Waiting.limit c.in-Ok.end
-    = subst (λ (q : Cube). MayEnd B q c.in-Waiting.limit c.in-Ok.end) c.as_slice.ensures.value c.in-Ok.ensures in
+    = subst (λ (q : Cube). MayEnd B q c.in-Waiting.limit c.in-Ok.end) c.as_slice.ensures.value
+    (subst (λ (b : Cnf). MayEnd b c.as_slice.result.now c.in-Waiting.limit c.in-Ok.end) c.base_or-base.ensures c.in-Ok.ensures) in
     let same : c.in-Ok-keep.work ≡ kept c.in-Waiting.name F.vars c.in-Ok.end
     = c.in-Ok-keep.ensures ∙ ap (λ n. kept c.in-Waiting.name n c.in-Ok.end) c.vars.ensures.value in
     record {
@@ -35,9 +38,10 @@ invariant_of-self c =
 pub returns : goal.returns
 returns c =
     let F = c.self.inside.formula in
-    let B = c.self.inside.base in
+    let B = unwrap_or c.self.inside.base F in
     let ends : MayEnd B c.in-Waiting.cube c.in-Waiting.limit c.in-Ok.end
-    = subst (λ (q : Cube). MayEnd B q c.in-Waiting.limit c.in-Ok.end) c.as_slice.ensures.value c.in-Ok.ensures in
+    = subst (λ (q : Cube). MayEnd B q c.in-Waiting.limit c.in-Ok.end) c.as_slice.ensures.value
+    (subst (λ (b : Cnf). MayEnd b c.as_slice.result.now c.in-Waiting.limit c.in-Ok.end) c.base_or-base.ensures c.in-Ok.ensures) in
     let same : c.in-Ok-keep.work ≡ kept c.in-Waiting.name F.vars c.in-Ok.end
     = c.in-Ok-keep.ensures ∙ ap (λ n. kept c.in-Waiting.name n c.in-Ok.end) c.vars.ensures.value in
     record {
