@@ -2,6 +2,7 @@ pub mod DigitLemmas
 pub mod ClauseMapLemmas
 pub mod CountingLemmas
 pub mod CutLemmas
+pub mod GlyphLemmas
 pub mod GroupLemmas
 pub mod LineLemmas
 pub mod LogLemmas

@@ -9,7 +9,7 @@ use Rattle.lrat_text.specs.Reading.{token_of, line_tokens, first_in, is_trimmed,
 use Rattle.lrat_text.proofs.ReadStepLemmas.{chosen_ok, first_read}
 use Rattle.lrat_text.proofs.SpelledStepLemmas.{step_back}
 
-both_true : (a b : Bool) → a && b ≡ true → (a ≡ true) × (b ≡ true)
+pub both_true : (a b : Bool) → a && b ≡ true → (a ≡ true) × (b ≡ true)
 both_true true b h = (refl, h)
 both_true false b h = absurd (cc)
 

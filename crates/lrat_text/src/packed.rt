@@ -16,35 +16,39 @@ use std::marker::Model;
 /// Half a byte that stands for nothing.
 const NOTHING: u8 = 15;
 
+// Tables, since characters are as good as random, and a branch on one is foretold wrongly every other time.
+
+/// Half a byte for each character, and nothing for what is none.
+static CODES: [u8; 101] = [
+    15, 15, 15, 15, 15, 15, 15, 15, 15, 15, 13, 15, 15, 15, 15, 15, 15, 15, 15, 15, 15, 15, 15, 15,
+    15, 15, 15, 15, 15, 15, 15, 15, 10, 15, 15, 15, 15, 15, 15, 15, 15, 15, 15, 15, 15, 11, 15, 15,
+    0, 1, 2, 3, 4, 5, 6, 7, 8, 9, 15, 15, 15, 15, 15, 15, 15, 15, 15, 15, 15, 15, 15, 15, 15, 15,
+    15, 15, 15, 15, 15, 15, 15, 15, 15, 15, 15, 15, 15, 15, 15, 15, 15, 15, 15, 15, 15, 15, 15, 15,
+    15, 15, 12,
+];
+
+/// What each half of a byte stands for, where that is a character.
+static GLYPHS: [u8; 14] = *b"0123456789 -d\n";
+
 /// Half a byte for a character.
+#[tactic(auto, using(crate::proofs::GlyphLemmas::code_at, crate::proofs::GlyphLemmas::glyph_low))]
 #[inline(always)]
 fn code(glyph: u8) -> u8
     requires { is_glyph glyph ≡ true }
     ensures small { result < 14 }
     ensures text { half_text result ≡ glyph ∷ [] }
 {
-    match glyph {
-        b'0'..=b'9' => glyph - b'0',
-        b' ' => 10,
-        b'-' => 11,
-        b'd' => 12,
-        _ => 13,
-    }
+    CODES[glyph as usize]
 }
 
 /// What half a byte stands for, where that is a character.
+#[tactic(auto, using(crate::proofs::GlyphLemmas::glyph_at))]
 #[inline(always)]
 fn glyph(half: u8) -> u8
     requires { half < 14 }
     ensures { half_text half ≡ result ∷ [] }
 {
-    match half {
-        0..=9 => b'0' + half,
-        10 => b' ',
-        11 => b'-',
-        12 => b'd',
-        _ => b'\n',
-    }
+    GLYPHS[half as usize]
 }
 
 /// Appends a byte of two halves.
