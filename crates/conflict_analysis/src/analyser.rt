@@ -1,6 +1,6 @@
 //! The analysis of a conflict: the first unique implication point (Marques-Silva and Sakallah 1996).
 
-ghost use Rattle.std.specs.Prelude.{◌≡◌, IfOk, OnOk};
+ghost use Rattle.std.specs.Prelude.{◌≡◌, [], IfOk, OnOk};
 ghost use Rattle.clause_arena.specs.Clauses.{live_of};
 ghost use Rattle.conflict_analysis.specs.Lemmas.{AreAgain, AreApart, IsPresentConflict, IsLemmaOf, IsTally};
 
@@ -32,7 +32,9 @@ impl Model for Analyser {
 
 impl Analyser {
     /// An analyser that has looked at nothing.
-    pub fn new(alloc: Global) -> Analyser {
+    pub fn new(alloc: Global) -> Analyser
+        ensures { result ≡ record { once = []; again = [] } }
+    {
         Analyser {
             alloc,
             walk: Walk::new(alloc),

@@ -47,7 +47,10 @@ pub(crate) struct Walk {
 
 impl Walk {
     /// A walk that has not begun.
-    pub(crate) fn new(alloc: Global) -> Walk {
+    pub(crate) fn new(alloc: Global) -> Walk
+        ensures met { result.met.items ≡ [] }
+        ensures again { result.again.items ≡ [] }
+    {
         Walk {
             seen: Seen::new(alloc),
             present: 0,
