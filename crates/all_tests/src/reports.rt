@@ -4,10 +4,11 @@ ghost use Rattle.std.specs.Prelude.{◌≤◌};
 ghost use Rattle.node_main.specs.Solving.{AreOptions};
 
 use crate::checks::{FOUR, VERIFIED, prints};
+use dimacs::FormulaReader;
 use links::{
     Bytewise, Carrier, Counted, End, LinkFault, Links, Memory, RefusesAll, RefusesAt, Script,
 };
-use node_main::{Options, Report, run_serve, run_solve, run_work};
+use node_main::{Options, Report, run_serve, run_solve, run_solve_of, run_work};
 use std::alloc::{AllocError, Global};
 use std::process::Abort;
 use std::test::Fail;
@@ -119,6 +120,18 @@ pub(crate) fn solved(
     run_solve(alloc, input, cubes, options, &mut links)
 }
 
+/// The same of an input that comes byte by byte.
+fn solved_bytewise(alloc: Global, input: &[u8], options: &Options) -> Result<Report, AllocError>
+    requires { AreOptions options.now }
+{
+    let mut reader = FormulaReader::new(alloc);
+    for byte in input {
+        reader.feed(&[*byte]);
+    }
+    let mut links = Counted::new(Memory::new(alloc, options.workers)?);
+    run_solve_of(alloc, reader.finish(), None, options, &mut links)
+}
+
 /// The report of a run over memory, where one call is refused.
 fn solved_but(
     alloc: Global,
@@ -228,6 +241,18 @@ fn one_byte_a_call_is_as_good(rt: HostRuntime) -> Result<(), Fail> {
     match (&known.proof, &report.proof) {
         (Some(want), Some(proof)) => assert_eq!(rt; proof.as_slice(), want.as_slice()),
         _ => assert!(rt; false),
+    }
+    Ok(())
+}
+
+#[test]
+fn an_input_that_comes_byte_by_byte_is_solved_alike(rt: HostRuntime) -> Result<(), Fail> {
+    let a = rt.alloc();
+    let inputs: [&[u8]; 3] = [UNITS, FOUR, b"p cnf 1 1\n2 0\n"];
+    for input in inputs {
+        let whole = solved(a, input, None, &ALONE)?;
+        let report = solved_bytewise(a, input, &ALONE)?;
+        says(&rt, &report, whole.stdout.as_slice());
     }
     Ok(())
 }

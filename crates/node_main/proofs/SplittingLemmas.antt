@@ -1,15 +1,19 @@
 -- Cubes within a formula's variables, and within those of a base.
-use Rattle.std.proofs.Common.{◌≡◌, ℕ, ◌+◌, ◌≤◌, List, [], length, sym, ap, ◌∙◌, subst, arith}
+use Rattle.std.proofs.Common.{◌≡◌, ℕ, ◌+◌, ◌≤◌, List, [], ◌∷◌, length, sym, ap, ◌∙◌, subst, arith}
 use Rattle.std.specs.List.{All}
-use Rattle.std.proofs.lemmas.List.Elements.{All-weaker}
+use Rattle.std.proofs.lemmas.List.Elements.{All-cons, All-nil, All-weaker}
 use Rattle.dimacs.specs.logic.Cnf.{Cnf, IsFormula, AreWithin, greatest_in}
 use Rattle.dimacs.specs.logic.Literal.{Clause, IsWithin}
 use Rattle.icnf.specs.Leaves.{Cube}
 use Rattle.icnf.specs.Spelling.{Spells}
 use Rattle.icnf.proofs.StateLemmas.{clauses_greatest}
+use Rattle.cube_split.specs.Choosing.{IsSplitBy}
 use Rattle.cube_split.specs.Pairs.{AreDefined, IsBaseWith}
 use Rattle.cube_split.specs.declared.pair.Pair.{Pair}
 use Rattle.evidence.specs.Jobs.{IsInside}
+use Rattle.node_main.specs.Splitting.{SplitsByRule}
+use Rattle.node_main.specs.inner.Splitting.{StaysInside}
+use Rattle.node_main.specs.declared.splitting.Split.TheVariants.{By}
 
 within_more : (m n : ℕ) (leaves : List Cube) → m ≤ n → AreWithin m leaves → AreWithin n leaves
 within_more m n leaves h w = All-weaker (All (IsWithin m)) (All (IsWithin n)) (λ q. All-weaker (IsWithin m) (IsWithin n) (λ l at. (at.0, omega (arith, at.1))) q) leaves w
@@ -37,3 +41,10 @@ pub tree_inside : AreSettled → (F B : Cnf) (defs : ℕ) (pairs : List Pair) (l
 tree_inside settled F B defs pairs leaves defined w b =
     let e : B.vars ≡ F.vars + length pairs = base_vars F B defs b ∙ ap (λ (ps : List Pair). F.vars + length ps) (settled F defs b.pairs pairs b.defined defined) in
     subst (λ (n : ℕ). AreWithin n leaves) (sym e) w
+
+-- the one leaf of a formula that is not split, where no definition is wanted
+pub unsplit : (F : Cnf) (depth defs : ℕ) (leaves : List Cube) → depth ≡ 0 → defs ≡ 0 → leaves ≡ [] ∷ [] → SplitsByRule F depth defs (By leaves)
+unsplit F depth defs leaves no_depth no_defs is = rw (no_depth, no_defs, is) ([], AreDefined.all, IsSplitBy.full)
+
+pub unsplit_inside : (F : Cnf) (defs : ℕ) (leaves : List Cube) → leaves ≡ [] ∷ [] → StaysInside F defs (By leaves)
+unsplit_inside F defs leaves is = λ B base. rw is (All-cons (IsInside B) [] [] (All-nil (IsWithin B.vars)) (All-nil (IsInside B)))

@@ -1,17 +1,24 @@
 -- What is reported of a formula is reported of the input that spells it.
 use Rattle.std.proofs.Common.{◌≡◌, ℕ, List, Option, Result, Ok, Err, IfOk, inl, subst}
 use Rattle.dimacs.specs.logic.Cnf.{Cnf}
+use Rattle.dimacs.specs.text.Reading.{parse, GivesFormula}
 use Rattle.dimacs.specs.text.Spelling.{Spells}
+use Rattle.dimacs.specs.declared.fault.DimacsFault.{DimacsFault}
+use Rattle.dimacs.proofs.SpellingLemmas.{found_spells}
 use Rattle.icnf.specs.Leaves.{Cube}
 use Rattle.node_main.specs.Deciding.{Decides}
 use Rattle.node_main.specs.Solving.{Solves, Works}
 use Rattle.node_main.specs.inner.Splitting.{StaysInside}
-use Rattle.node_main.specs.inner.Starting.{Starts}
+use Rattle.node_main.specs.inner.Starting.{IsStart, Starts}
 use Rattle.node_main.specs.declared.options.Options.{Options}
 use Rattle.node_main.specs.declared.report.Report.{Report}
 use Rattle.node_main.specs.declared.splitting.Split.TheVariants.{By}
 use Rattle.node_main.specs.declared.starting.Start.{Start}
 use Rattle.node_main.specs.declared.starting.Start.TheVariants.{With}
+
+-- the formula that was found is the one that the input spells
+pub spelled : (input : List ℕ) (r : Result Cnf DimacsFault) (F : Cnf) → r ≡ Ok F → GivesFormula r (parse input) → Spells input F
+spelled input r F is h = subst (λ (x : Result Cnf DimacsFault). IfOk x (λ f. Spells input f)) is (found_spells input r h)
 
 pub started_solves : {E : Type 0} (r : Result Report E) (input : List ℕ) (cubes : Option (List ℕ)) (o : Options) (s : Start) (F : Cnf) (leaves : List Cube)
     → s ≡ With F leaves → Starts input cubes o s → IfOk r (Decides F o) → IfOk r (Solves input cubes o)
@@ -19,8 +26,8 @@ started_solves (Ok x) input cubes o s F leaves same starts is =
     let h : Starts input cubes o (With F leaves) = subst (Starts input cubes o) same starts in inl (F, h.0, By leaves, h.1, is)
 started_solves (Err e) input cubes o s F leaves same starts is = tt
 
-pub started_inside : (input : List ℕ) (cubes : Option (List ℕ)) (o : Options) (s : Start) (F : Cnf) (leaves : List Cube) → s ≡ With F leaves → Starts input cubes o s → StaysInside F o.defs (By leaves)
-started_inside input cubes o s F leaves same starts = let h : Starts input cubes o (With F leaves) = subst (Starts input cubes o) same starts in h.2
+pub started_inside : (o : Options) (s : Start) (F : Cnf) (leaves : List Cube) → s ≡ With F leaves → IsStart o s → StaysInside F o.defs (By leaves)
+started_inside o s F leaves same is = subst (IsStart o) same is
 
 pub read_works : {E : Type 0} (r : Result Report E) (input : List ℕ) (o : Options) (F : Cnf) → Spells input F → IfOk r (Decides F o) → IfOk r (Works input o)
 read_works (Ok x) input o F spells is = inl (F, spells, is)

@@ -54,6 +54,7 @@ fn read_split(alloc: Global, formula: &Formula, cubes: &[u8]) -> Result<Split, A
 }
 
 /// The tree of the split rule over so many definitions, as deep as this.
+#[tactic(auto, using(crate::proofs::SplittingLemmas::unsplit, crate::proofs::SplittingLemmas::unsplit_inside))]
 fn split_by_rule(
     alloc: Global,
     formula: &Formula,
@@ -66,6 +67,10 @@ fn split_by_rule(
     ensures inside { IfOk result (StaysInside formula.now defs) }
 {
     definitions_are_settled();
+    // Neither units nor definitions change the tree of one leaf, and to find them takes as long as to read the formula.
+    if depth == 0 && defs == 0 {
+        return Ok(Split::By(Tree::leaf(alloc)?));
+    }
     let preamble = preamble_with(alloc, formula, defs)?;
     Ok(Split::By(tree_with(alloc, formula, &preamble, depth)?))
 }

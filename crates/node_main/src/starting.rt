@@ -1,9 +1,10 @@
 //! What a run begins with: the formula of its input, and the tree by which it is split.
 
-ghost use Rattle.std.specs.Prelude.{◌≡◌, IfOk, IfSome, IfNone, option_map};
+ghost use Rattle.std.specs.Prelude.{◌≡◌, ℕ, List, IfOk, IfSome, IfNone, option_map};
+ghost use Rattle.dimacs.specs.text.Reading.{parse, GivesFormula};
 ghost use Rattle.node_main.specs.Reports.{cubes_fault_text, input_fault_text, other_formula_text};
 ghost use Rattle.node_main.specs.Solving.{AreOptions, IsRefused};
-ghost use Rattle.node_main.specs.inner.Starting.{Starts};
+ghost use Rattle.node_main.specs.inner.Starting.{IsStart, Starts};
 
 use crate::options::Options;
 use crate::report::{Report, faulty_cubes, faulty_input, other_formula};
@@ -54,17 +55,19 @@ fn refused_cubes(
     }
 }
 
-/// Reads a formula, and splits it by the cubes of an iCNF text or by the split rule.
+/// Splits a formula that was read by the cubes of an iCNF text or by the split rule.
+#[tactic(auto, using(crate::proofs::StartLemmas::spelled))]
 pub(crate) fn begin(
     alloc: Global,
-    input: &[u8],
+    found: Result<Formula, DimacsFault>,
     cubes: Option<&[u8]>,
     options: &Options,
 ) -> Result<Start, AllocError>
     requires { AreOptions options.now }
-    ensures { IfOk result (Starts input.now (option_map (λ t. t.now) cubes.entry) options.now) }
+    ensures starts { (input : List ℕ) → GivesFormula found (parse input) → IfOk result (Starts input (option_map (λ t. t.now) cubes.entry) options.now) }
+    ensures start { IfOk result (IsStart options.now) }
 {
-    let formula = match dimacs::read(alloc, input) {
+    let formula = match found {
         Ok(formula) => formula,
         Err(fault) if fault.kind == Kind::NoMemory => return Err(AllocError),
         Err(fault) => return Ok(Start::Refused(refused_input(alloc, fault, options)?)),

@@ -1,39 +1,20 @@
 //! `check`: an input is read, and a proof checked, while their files are read.
 
-use crate::files::{PIECE, next_piece, no_memory, refused};
-use dimacs::{DimacsFault, Formula, FormulaReader};
+use crate::files::{PIECE, next_piece, no_memory, read_formula, refused};
 use node_main::{ProofCheck, Refusal, Report};
 use std::fs::{File, OpenFile};
 use std::rt::Runtime;
-
-/// The formula of a file, or the first fault of its text.
-fn read_formula<R: Runtime + AllocGlobal>(
-    rt: &R,
-    path: &str,
-    room: &mut [u8],
-) -> Result<Result<Formula, DimacsFault>, Refusal> {
-    let mut file = File::open(rt, path).map_err(|error| refused(error, Refusal::Input))?;
-    let mut reader = FormulaReader::new(rt.alloc());
-    for _ in 0..u64::MAX {
-        let piece = next_piece(&mut file, room, Refusal::Input)?;
-        if piece.is_empty() {
-            return Ok(reader.finish());
-        }
-        reader.feed(piece);
-    }
-    Err(Refusal::Input)
-}
 
 /// Reads a proof to its end, also behind a fault, and feeds it piece by piece.
 fn feed<R: Runtime + AllocGlobal>(
     rt: &R,
     path: &str,
-    room: &mut [u8],
     check: &mut ProofCheck,
 ) -> Result<(), Refusal> {
     let mut file = File::open(rt, path).map_err(|error| refused(error, Refusal::Proof))?;
+    let mut room = vec![in rt.alloc(); 0; PIECE].map_err(no_memory)?;
     for _ in 0..u64::MAX {
-        let piece = next_piece(&mut file, room, Refusal::Proof)?;
+        let piece = next_piece(&mut file, &mut room, Refusal::Proof)?;
         if piece.is_empty() {
             return Ok(());
         }
@@ -48,9 +29,8 @@ pub(crate) fn check<R: Runtime + AllocGlobal>(
     input: &str,
     proof: &str,
 ) -> Result<Report, Refusal> {
-    let mut room = vec![in rt.alloc(); 0; PIECE].map_err(no_memory)?;
-    let found = read_formula(rt, input, &mut room)?;
+    let found = read_formula(rt, input)?;
     let mut check = ProofCheck::of(rt.alloc(), found);
-    feed(rt, proof, &mut room, &mut check)?;
+    feed(rt, proof, &mut check)?;
     check.finish().map_err(no_memory)
 }

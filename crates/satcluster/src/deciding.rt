@@ -3,10 +3,10 @@
 ghost use Rattle.node_main.specs.Solving.{AreOptions};
 
 use crate::accepting::accept_workers;
-use crate::files::{no_memory, read, read_cubes, refused};
+use crate::files::{no_memory, read_cubes, read_formula, refused};
 use crate::proof_file::write_proof;
 use links::{Counted, Joined, Loopback};
-use node_main::{Options, Refusal, Report, run_serve, run_solve, run_work};
+use node_main::{Options, Refusal, Report, run_serve_of, run_solve_of, run_work_of};
 use std::io;
 use std::net::{Ipv4Addr, Net, SocketAddr, TcpListener};
 use std::rt::Runtime;
@@ -54,17 +54,11 @@ pub(crate) fn solve<R: Runtime + AllocGlobal + Net>(
 ) -> Result<Report, Refusal>
     requires { AreOptions options.now }
 {
-    let input = read(rt, files.input, Refusal::Input)?;
+    let found = read_formula(rt, files.input)?;
     let cubes = read_cubes(rt, files.cubes)?;
     let carrier = Loopback::open(rt, rt.alloc(), options.workers).map_err(not_linked)?;
     let mut links = Counted::new(carrier);
-    let run = run_solve(
-        rt.alloc(),
-        input.as_slice(),
-        lent(&cubes),
-        options,
-        &mut links,
-    );
+    let run = run_solve_of(rt.alloc(), found, lent(&cubes), options, &mut links);
     kept(rt, run.map_err(no_memory)?, files)
 }
 
@@ -78,19 +72,13 @@ pub(crate) fn serve<R: Runtime + AllocGlobal + Net>(
 ) -> Result<Report, Refusal>
     requires { AreOptions options.now }
 {
-    let input = read(rt, files.input, Refusal::Input)?;
+    let found = read_formula(rt, files.input)?;
     let cubes = read_cubes(rt, files.cubes)?;
     let at = SocketAddr::from((Ipv4Addr::LOCALHOST, port));
     let listener = TcpListener::bind(rt, at).map_err(not_linked)?;
     let carrier = accept_workers::<R>(rt.alloc(), &listener, options.workers)?;
     let mut links = Counted::new(carrier);
-    let run = run_serve(
-        rt.alloc(),
-        input.as_slice(),
-        lent(&cubes),
-        options,
-        &mut links,
-    );
+    let run = run_serve_of(rt.alloc(), found, lent(&cubes), options, &mut links);
     kept(rt, run.map_err(no_memory)?, files)
 }
 
@@ -103,9 +91,9 @@ pub(crate) fn work<R: Runtime + AllocGlobal + Net>(
 ) -> Result<Report, Refusal>
     requires { AreOptions options.now }
 {
-    let input = read(rt, files.input, Refusal::Input)?;
+    let found = read_formula(rt, files.input)?;
     let carrier = Joined::connect(rt, port).map_err(not_linked)?;
     let mut links = Counted::new(carrier);
-    let run = run_work(rt.alloc(), input.as_slice(), options, &mut links);
+    let run = run_work_of(rt.alloc(), found, options, &mut links);
     kept(rt, run.map_err(no_memory)?, files)
 }

@@ -1,5 +1,6 @@
 //! Reads the files that a command line names.
 
+use dimacs::{DimacsFault, Formula, FormulaReader};
 use node_main::Refusal;
 use std::fs::{File, OpenFile};
 use std::io;
@@ -62,6 +63,24 @@ pub(crate) fn read<R: Runtime + AllocGlobal>(
         bytes.extend_from_slice(piece).map_err(no_memory)?;
     }
     Err(refusal)
+}
+
+/// The formula of a file, or the first fault of its text. It is read while the file is, so that its text takes no memory.
+pub(crate) fn read_formula<R: Runtime + AllocGlobal>(
+    rt: &R,
+    path: &str,
+) -> Result<Result<Formula, DimacsFault>, Refusal> {
+    let mut file = File::open(rt, path).map_err(|error| refused(error, Refusal::Input))?;
+    let mut room = vec![in rt.alloc(); 0; PIECE].map_err(no_memory)?;
+    let mut reader = FormulaReader::new(rt.alloc());
+    for _ in 0..u64::MAX {
+        let piece = next_piece(&mut file, &mut room, Refusal::Input)?;
+        if piece.is_empty() {
+            return Ok(reader.finish());
+        }
+        reader.feed(piece);
+    }
+    Err(Refusal::Input)
 }
 
 /// The bytes of the file of cubes, where one is named.

@@ -1,6 +1,7 @@
 //! `solve`: a formula is decided by a coordinator and its workers, in one process.
 
-ghost use Rattle.std.specs.Prelude.{◌≤◌, ◌+◌, ◌*◌, IfOk, option_map};
+ghost use Rattle.std.specs.Prelude.{ℕ, List, ◌≤◌, ◌+◌, ◌*◌, IfOk, option_map};
+ghost use Rattle.dimacs.specs.text.Reading.{parse, GivesFormula};
 ghost use Rattle.node_main.specs.Running.{WasRun};
 ghost use Rattle.node_main.specs.Solving.{AreOptions, Solves};
 ghost use Rattle.node_main.specs.Truth.{IsTrueReport};
@@ -9,6 +10,7 @@ use crate::deciding::decided;
 use crate::options::Options;
 use crate::report::Report;
 use crate::starting::{Start, begin};
+use dimacs::{DimacsFault, Formula};
 use links::Links;
 use lrat_check::accepted_proofs_are_sound;
 use std::alloc::{AllocError, Global};
@@ -29,8 +31,26 @@ pub fn run_solve<L: Links>(
     ensures most { L.call_count links.new ≤ L.call_count links.old + 8076000000 * options.now.workers }
     ensures refusals { L.refusal_count links.new ≤ L.refusal_count links.old + options.now.workers }
 {
+    run_solve_of(alloc, dimacs::read(alloc, input), cubes, options, links)
+}
+
+/// The same of an input that was read, or has a fault, whichever way it came.
+pub fn run_solve_of<L: Links>(
+    alloc: Global,
+    found: Result<Formula, DimacsFault>,
+    cubes: Option<&[u8]>,
+    options: &Options,
+    links: &mut L,
+) -> Result<Report, AllocError>
+    requires { AreOptions options.now }
+    ensures report { (input : List ℕ) → GivesFormula found (parse input) → IfOk result (Solves input (option_map (λ t. t.now) cubes.entry) options.now) }
+    ensures truth { (input : List ℕ) → GivesFormula found (parse input) → IfOk result (IsTrueReport input) }
+    ensures used { IfOk result (WasRun (L.call_count links.old) (L.call_count links.new)) }
+    ensures most { L.call_count links.new ≤ L.call_count links.old + 8076000000 * options.now.workers }
+    ensures refusals { L.refusal_count links.new ≤ L.refusal_count links.old + options.now.workers }
+{
     accepted_proofs_are_sound();
-    let (formula, tree) = match begin(alloc, input, cubes, options) {
+    let (formula, tree) = match begin(alloc, found, cubes, options) {
         Ok(Start::With(formula, tree)) => (formula, tree),
         Ok(Start::Refused(report)) => return Ok(report),
         Err(error) => return Err(error),

@@ -1,6 +1,7 @@
 //! `work`: one worker, whose coordinator is elsewhere.
 
-ghost use Rattle.std.specs.Prelude.{◌≤◌, ◌+◌, IfOk};
+ghost use Rattle.std.specs.Prelude.{ℕ, List, ◌≤◌, ◌+◌, IfOk};
+ghost use Rattle.dimacs.specs.text.Reading.{parse, GivesFormula};
 ghost use Rattle.node_main.specs.Running.{WasRun};
 ghost use Rattle.node_main.specs.Solving.{AreOptions, Works};
 ghost use Rattle.node_main.specs.Truth.{IsTrueReport};
@@ -9,7 +10,7 @@ use crate::deciding::decided;
 use crate::options::Options;
 use crate::report::Report;
 use crate::starting::refused_input;
-use dimacs::Kind;
+use dimacs::{DimacsFault, Formula, Kind};
 use links::Links;
 use lrat_check::accepted_proofs_are_sound;
 use std::alloc::{AllocError, Global};
@@ -29,8 +30,25 @@ pub fn run_work<L: Links>(
     ensures most { L.call_count links.new ≤ L.call_count links.old + 4038000001 }
     ensures refusals { L.refusal_count links.new ≤ L.refusal_count links.old + 1 }
 {
+    run_work_of(alloc, dimacs::read(alloc, input), options, links)
+}
+
+/// The same of an input that was read, or has a fault, whichever way it came.
+pub fn run_work_of<L: Links>(
+    alloc: Global,
+    found: Result<Formula, DimacsFault>,
+    options: &Options,
+    links: &mut L,
+) -> Result<Report, AllocError>
+    requires { AreOptions options.now }
+    ensures report { (input : List ℕ) → GivesFormula found (parse input) → IfOk result (Works input options.now) }
+    ensures truth { (input : List ℕ) → GivesFormula found (parse input) → IfOk result (IsTrueReport input) }
+    ensures used { IfOk result (WasRun (L.call_count links.old) (L.call_count links.new)) }
+    ensures most { L.call_count links.new ≤ L.call_count links.old + 4038000001 }
+    ensures refusals { L.refusal_count links.new ≤ L.refusal_count links.old + 1 }
+{
     accepted_proofs_are_sound();
-    let formula = match dimacs::read(alloc, input) {
+    let formula = match found {
         Ok(formula) => formula,
         Err(fault) if fault.kind == Kind::NoMemory => return Err(AllocError),
         Err(fault) => return refused_input(alloc, fault, options),
