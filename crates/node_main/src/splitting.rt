@@ -67,7 +67,7 @@ fn split_by_rule(
     ensures inside { IfOk result (StaysInside formula.now defs) }
 {
     definitions_are_settled();
-    // Neither units nor definitions change the tree of one leaf, and to find them takes as long as to read the formula.
+    // Neither units nor definitions change the tree of one leaf, and to find them is a pass over all clauses.
     if depth == 0 && defs == 0 {
         return Ok(Split::By(Tree::leaf(alloc)?));
     }
