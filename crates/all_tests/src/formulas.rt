@@ -87,10 +87,30 @@ fn what_is_written_is_read_again(rt: HostRuntime) -> Result<(), Fail> {
     let mut out = Vec::new(a);
     write(&formula, &mut out)?;
     assert_eq!(rt; out.as_slice(), text.as_slice());
-    let copy = formula.copy(a)?;
+    let copy = formula.copy()?;
     assert_eq!(rt; copy.len(), 2);
     assert_eq!(rt; copy.vars(), 3);
     Ok(())
+}
+
+/// The formula is `1 -2` over two variables, as it is taken apart.
+fn is_taken_apart(rt: &impl Abort, alloc: Global, formula: Formula) -> Result<(), Fail> {
+    let (vars, literals, places) = formula.into_parts(alloc)?;
+    assert_eq!(rt; vars, 2);
+    assert_eq!(rt;
+        literals.as_slice(),
+        [Lit::positive(Var::new(1)), Lit::negative(Var::new(2))].as_slice()
+    );
+    assert_eq!(rt; places.as_slice(), [0, 2].as_slice());
+    Ok(())
+}
+
+#[test]
+fn a_formula_is_taken_apart_beside_its_copy(rt: HostRuntime) -> Result<(), Fail> {
+    let formula = read(rt.alloc(), b"p cnf 2 1\n1 -2 0\n")?;
+    let copy = formula.copy()?;
+    is_taken_apart(&rt, rt.alloc(), formula)?;
+    is_taken_apart(&rt, rt.alloc(), copy)
 }
 
 /// The formula `-2 1` and the empty clause, over three variables, by hand.
@@ -100,7 +120,7 @@ fn by_hand(alloc: Global) -> Result<Formula, AllocError> {
     builder.push(Lit::positive(Var::new(1)))?;
     builder.end_clause()?;
     builder.end_clause()?;
-    Ok(builder.finish(3))
+    Ok(builder.finish(3)?)
 }
 
 #[test]

@@ -108,7 +108,7 @@ fn a_tree_is_written_leaf_by_leaf(rt: HostRuntime) -> Result<(), Fail> {
     let mut builder = Builder::new(a)?;
     builder.end_clause()?;
     let mut out = vec![in a; b'x']?;
-    write(&builder.finish(1), &tree, &mut out)?;
+    write(&builder.finish(1)?, &tree, &mut out)?;
     assert_eq!(rt; out.as_slice(), b"xp inccnf\n0\na 0\n".as_slice());
     Ok(())
 }

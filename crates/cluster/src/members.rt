@@ -49,7 +49,7 @@ fn workers_of(
     for i in 0..count {
         let number = WorkerNumber::new(i + 1);
         let incarnation = u64::from(i) + 2;
-        let formula = formula.copy(alloc)?;
+        let formula = formula.copy()?;
         let worker = Worker::with_defs(alloc, formula, number, incarnation, defs)?;
         workers.push(worker)?;
     }
@@ -71,7 +71,7 @@ impl Members {
         requires defs { defs ≤ 64 }
         ensures { IfOk result (AreNew formula.now tree limit workers defs) }
     {
-        let copy = formula.copy(alloc)?;
+        let copy = formula.copy()?;
         let coordinator = Coordinator::with_defs(alloc, copy, tree, limit, workers, 1, defs)?;
         let workers = workers_of(alloc, formula, workers, defs)?;
         Ok(Members {

@@ -156,6 +156,6 @@ impl Rows for Body {
         if clauses.len() < count as usize {
             return Err(DimacsFault::at(Kind::TooFewClauses, lines));
         }
-        Ok(clauses.finish(vars))
+        Ok(clauses.finish(vars)?)
     }
 }

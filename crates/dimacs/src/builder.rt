@@ -98,11 +98,11 @@ impl Builder {
     }
 
     /// The formula of the clauses, over the variables from 1 to `vars`.
-    pub fn finish(self, vars: u32) -> Formula
+    pub fn finish(self, vars: u32) -> Result<Formula, AllocError>
         requires limit { vars ≤ 1000000 }
         requires closed { self.open_clause ≡ [] }
         requires within { AreWithin vars self.done }
-        ensures { result ≡ record { vars = vars; clauses = self.done } }
+        ensures { IfOk result (λ f. f ≡ record { vars = vars; clauses = self.done }) }
     {
         let Builder {
             literals,

@@ -12,11 +12,14 @@ use crate::flat;
 use crate::literal::Lit;
 use std::alloc::{AllocError, Global};
 use std::marker::Model;
+use std::rc::Rc;
 
 /// A formula of at most 1,000,000 variables, 4,000,000 clauses and 50,000,000 literals. It lies as a base does, and can be lent as one.
+///
+/// Copies share what lies there, since no call changes a formula: all the nodes of a process have its clauses once.
 #[derive(Drop)]
 pub struct Formula {
-    base: Base,
+    base: Rc<Base>,
 }
 
 impl Model for Formula {
@@ -24,9 +27,9 @@ impl Model for Formula {
 
     ghost Value = { Cnf };
 
-    ghost view = { λ f. f.base };
+    ghost view = { λ f. f.base.value };
 
-    ghost invariant = { λ f. IsFormula f.base };
+    ghost invariant = { λ f. IsFormula f.base.value };
 }
 
 /// Whether so many variables, clauses and literals are within the limits of a formula.
@@ -37,28 +40,35 @@ fn are_few(vars: u32, clauses: usize, literals: usize) -> bool
 }
 
 impl Formula {
-    pub(crate) fn from_parts(vars: u32, literals: Vec<Lit>, places: Vec<u32>) -> Formula
+    pub(crate) fn from_parts(
+        vars: u32,
+        literals: Vec<Lit>,
+        places: Vec<u32>,
+    ) -> Result<Formula, AllocError>
         requires limit { vars ≤ 1000000 }
         requires places { Fills literals.items places.items }
         requires within { All (IsWithin vars) literals.items }
         requires count { vec_len places ≤ 4000001 }
         requires total { vec_len literals ≤ 50000000 }
-        ensures { result ≡ record { vars = vars; clauses = parts literals.items places.items } }
+        ensures { IfOk result (λ f. f ≡ record { vars = vars; clauses = parts literals.items places.items }) }
     {
-        Formula {
-            base: Base::from_parts(vars, literals, places),
-        }
+        let alloc = *literals.allocator();
+        let base = Rc::new(alloc, Base::from_parts(vars, literals, places))?;
+        Ok(Formula { base })
     }
 
     /// Its number of variables, its literals, clause after clause, and the places where its clauses begin, with the place where
-    /// the last one ends.
-    pub fn into_parts(self) -> (u32, Vec<Lit>, Vec<u32>)
-        ensures value { self ≡ record { vars = result.0; clauses = parts result.1.items result.2.items } }
-        ensures fills { Fills result.1.items result.2.items }
+    /// the last one ends. They are copied where a copy of the formula stands beside.
+    pub fn into_parts(self, alloc: Global) -> Result<(u32, Vec<Lit>, Vec<u32>), AllocError>
+        ensures value { IfOk result (λ p. self ≡ record { vars = p.0; clauses = parts p.1.items p.2.items }) }
+        ensures fills { IfOk result (λ p. Fills p.1.items p.2.items) }
         ensures valid { IsFormula self }
     {
         let Formula { base } = self;
-        base.into_parts()
+        match Rc::try_unwrap(base) {
+            Ok(alone) => Ok(alone.into_parts()),
+            Err(shared) => Ok(shared.copy(alloc)?.into_parts()),
+        }
     }
 
     /// How many variables it has, at most 1,000,000: the greatest that a clause may name.
@@ -93,12 +103,12 @@ impl Formula {
         &self.base
     }
 
-    /// The same formula again.
-    pub fn copy(&self, alloc: Global) -> Result<Formula, AllocError>
+    /// The same formula again, which takes no memory.
+    pub fn copy(&self) -> Result<Formula, AllocError>
         ensures { IfOk result (λ f. f ≡ self.now) }
     {
         Ok(Formula {
-            base: self.base.copy(alloc)?,
+            base: self.base.clone()?,
         })
     }
 
@@ -115,7 +125,7 @@ impl Formula {
         // memory is wanting for a formula within the limits alone
         ensures limits { OnErr result (IsFormula (extended self.now extension.now)) }
     {
-        let (literals, places) = self.base.parts();
+        let (literals, places) = self.as_base().parts();
         let (more, ends) = extension.parts();
         let vars = self.vars().max(extension.vars());
         let clauses = self.len() + extension.len();
@@ -124,6 +134,6 @@ impl Formula {
             return Ok(None);
         }
         let (literals, places) = flat::joined(alloc, literals, places, more, ends)?;
-        Ok(Some(Formula::from_parts(vars, literals, places)))
+        Ok(Some(Formula::from_parts(vars, literals, places)?))
     }
 }

@@ -272,7 +272,7 @@ impl Rows for Body {
         let kind = match walk.stage() {
             Stage::Complete => {
                 let vars = clauses.greatest();
-                return Ok((clauses.finish(vars), walk.finish()));
+                return Ok((clauses.finish(vars)?, walk.finish()));
             }
             Stage::Clauses if !clauses.is_open() => Kind::NotATree,
             Stage::Outside => Kind::NotATree,

@@ -64,7 +64,7 @@ impl StreamChecker {
     pub fn new(alloc: Global, formula: &Formula) -> Result<StreamChecker, AllocError>
         ensures { IfOk result (λ s. HasTaken formula.now s []) }
     {
-        StreamChecker::of(alloc, formula.copy(alloc)?)
+        StreamChecker::of(alloc, formula.copy()?)
     }
 
     /// The same, of a formula that is taken over.

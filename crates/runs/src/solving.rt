@@ -35,7 +35,7 @@ fn seat(
     ensures { IfOk result IsUntouched }
 {
     Ok(Seat {
-        worker: Worker::with_defs(alloc, formula.copy(alloc)?, number, INCARNATION, defs)?,
+        worker: Worker::with_defs(alloc, formula.copy()?, number, INCARNATION, defs)?,
         down: Inbox::new(alloc)?,
         up: Inbox::new(alloc)?,
         is_open: true,

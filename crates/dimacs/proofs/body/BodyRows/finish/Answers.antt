@@ -16,4 +16,4 @@ returns-then-len-count c =
 pub returns : goal.returns
 returns c =
     let b = c.self.inside in
-    rw (← c.self.view_is, c.finish.ensures) (finish_whole c.args.lines b.vars b.count _ _ _ (MatchBool-at_false _ _ c.if-is_open.false c.is_open.ensures) (omega arith))
+    rw (← c.self.view_is, c.in_ok-finish.ensures) (finish_whole c.args.lines b.vars b.count _ _ _ (MatchBool-at_false _ _ c.if-is_open.false c.is_open.ensures) (omega arith))

@@ -16,7 +16,7 @@ returns-then-not-are_few-clause-found c =
     let lie : Lie c.args.self.now c.args.extension.now c.parts.result.0.now c.parts-2.result.0.now c.parts.result.1.now c.parts-2.result.1.now = record {
       fills = c.parts.ensures.fills;
       more_fills = c.parts-2.ensures.fills;
-      clauses = c.parts.ensures.clauses ∙ ap (λ (w : Cnf). w.clauses) c.self.view_is;
+      clauses = c.parts.ensures.clauses ∙ ap (λ (w : Cnf). w.clauses) c.as_base.ensures;
       more_clauses = c.parts-2.ensures.clauses;
     } in
     above c.args.self.now c.args.extension.now c.parts.result.0.now c.parts-2.result.0.now c.parts.result.1.now c.parts-2.result.1.now lie
@@ -32,7 +32,7 @@ lie : (c : After-joined) → Lie c.args.self.now c.args.extension.now c.parts.re
 lie c = record {
   fills = c.parts.ensures.fills;
   more_fills = c.parts-2.ensures.fills;
-  clauses = c.parts.ensures.clauses ∙ ap (λ (w : Cnf). w.clauses) c.self.view_is;
+  clauses = c.parts.ensures.clauses ∙ ap (λ (w : Cnf). w.clauses) c.as_base.ensures;
   more_clauses = c.parts-2.ensures.clauses;
 }
 
@@ -58,6 +58,9 @@ returns-in_err-literals-clause-limits c =
     few_lie c.args.self.now c.args.extension.now c.parts.result.0.now c.parts-2.result.0.now c.parts.result.1.now c.parts-2.result.1.now (lie at) (few at) c.vars.ensures.valid c.vars-2.ensures.within in
     on_err c.from_residual.result is
 
+pub returns-in_err-from_parts-clause-limits : goal.returns-in_err-from_parts-clause-limits
+returns-in_err-from_parts-clause-limits c = on_err c.from_residual-in_err-from_parts.result (lists c.before.before.before.before).formula
+
 pub from_parts-requires-clause-within : goal.from_parts-requires-clause-within
 from_parts-requires-clause-within c = (lists c).within
 
@@ -68,4 +71,4 @@ pub from_parts-requires-clause-total : goal.from_parts-requires-clause-total
 from_parts-requires-clause-total c = omega (arith, (lists c).total, c.in_ok-literals.literals.ok.0)
 
 pub returns-clause-found : goal.returns-clause-found
-returns-clause-found c = (c.from_parts.ensures ∙ (lists c.before).is, (lists c.before).formula)
+returns-clause-found c = (c.in_ok-from_parts.ensures ∙ (lists c.before.before.before).is, (lists c.before.before.before).formula)

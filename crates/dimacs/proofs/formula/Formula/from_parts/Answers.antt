@@ -1,4 +1,4 @@
-use Rattle.std.proofs.Common.{refl, arith, length}
+use Rattle.std.proofs.Common.{refl, arith, length, ◌∙◌}
 use Rattle.dimacs.specs.logic.Cnf.{Cnf, IsFormula, IsBase}
 use Rattle.dimacs.specs.layout.Flat.{parts}
 use Rattle.dimacs.proofs.FormulaLemmas.{is_formula}
@@ -14,4 +14,4 @@ from_parts-requires-clause-valid c =
 
 pub invariant_of-result : goal.invariant_of-result
 invariant_of-result c =
-    rw (c.from_parts.ensures) (is_formula c.args.vars (length c.args.literals.items) c.args.literals.items c.args.places.items refl c.requires.limit c.requires.places.rise (omega (arith, c.requires.count, c.args.places.ok.0)) (omega (arith, c.requires.total, c.args.literals.ok.0)) c.requires.within)
+    rw (c.in_ok-base.ensures.ok ∙ c.from_parts.ensures) (is_formula c.args.vars (length c.args.literals.items) c.args.literals.items c.args.places.items refl c.requires.limit c.requires.places.rise (omega (arith, c.requires.count, c.args.places.ok.0)) (omega (arith, c.requires.total, c.args.literals.ok.0)) c.requires.within)

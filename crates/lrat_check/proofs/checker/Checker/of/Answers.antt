@@ -11,7 +11,7 @@ pub invariant_of-result : goal.invariant_of-result
 invariant_of-result c = (
   c.in_ok-clauses.ensures.fits,
   c.len-top.ensures
-      ∙ ap (length {A = Clause}) (ap (λ (f : Cnf). f.clauses) c.into_parts-literals.ensures.value ∙ ap (parts c.into_parts-literals.result.1.items) (sym c.deref.ensures.value))
-      ∙ len-numbered (parts c.into_parts-literals.result.1.items c.deref.result.now)
+      ∙ ap (length {A = Clause}) (ap (λ (f : Cnf). f.clauses) c.in_ok-literals.ensures.value ∙ ap (parts c.in_ok-literals.literals.items) (sym c.deref.ensures.value))
+      ∙ len-numbered (parts c.in_ok-literals.literals.items c.deref.result.now)
       ∙ ap (λ (M : ClauseMap). len M) (sym c.in_ok-clauses.ensures.clauses),
 )
