@@ -1,0 +1,135 @@
+//! Searches under a cube, each to every outcome.
+
+ghost use Rattle.dimacs.specs.logic.Literal.{IsWithin};
+
+use crate::inputs::FOUR;
+use cube_solve::{Outcome, solve};
+use dimacs::{Base, Lit, Var, read};
+use std::alloc::{AllocError, Global};
+use std::process::Abort;
+use std::test::Fail;
+
+/// No assignment of three variables satisfies these clauses.
+pub(crate) const EIGHT: &[u8] =
+    b"p cnf 3 8\n1 2 3 0\n1 2 -3 0\n1 -2 3 0\n1 -2 -3 0\n-1 2 3 0\n-1 2 -3 0\n-1 -2 3 0\n-1 -2 -3 0\n";
+
+/// The outcome that is expected.
+#[derive(Drop)]
+enum Want {
+    Model(&'static [bool]),
+    Refuted(&'static [u8]),
+    Limit(&'static [u8]),
+}
+
+/// A base, the variable that is assumed, none if 0, the limit, and what comes of it.
+type Row = (&'static [u8], u32, u64, Want);
+
+pub(crate) fn base_of(alloc: Global, text: &[u8]) -> Result<Base, Fail> {
+    let formula = read(alloc, text)?;
+    let base = Base::of(alloc, &formula)?;
+    Ok(base)
+}
+
+fn solve_alone(alloc: Global, base: &Base, limit: u64) -> Result<Outcome, AllocError> {
+    solve(alloc, base, &[], limit)
+}
+
+fn solve_under(alloc: Global, base: &Base, literal: Lit, limit: u64) -> Result<Outcome, AllocError>
+    requires { IsWithin base.now.vars literal }
+{
+    solve(alloc, base, &[literal], limit)
+}
+
+fn is_wanted(outcome: &Outcome, want: &Want) -> bool {
+    match (outcome, want) {
+        (Outcome::Model(values), Want::Model(wanted)) => values.values() == *wanted,
+        (Outcome::Refuted(text), Want::Refuted(wanted)) => text.as_slice() == *wanted,
+        (Outcome::Limit(text), Want::Limit(wanted)) => text.as_slice() == *wanted,
+        _ => false,
+    }
+}
+
+fn all_come(rt: &impl Abort, alloc: Global, rows: &[Row]) -> Result<(), Fail> {
+    for (text, assumed, limit, want) in rows {
+        let base = base_of(alloc, *text)?;
+        let outcome = if *assumed == 0 {
+            solve_alone(alloc, &base, *limit)?
+        } else {
+            assert!(rt; *assumed <= base.vars());
+            solve_under(alloc, &base, Lit::positive(Var::new(*assumed)), *limit)?
+        };
+        assert!(rt; is_wanted(&outcome, want));
+    }
+    Ok(())
+}
+
+#[test]
+fn bases_that_a_model_satisfies(rt: HostRuntime) -> Result<(), Fail> {
+    let rows: [Row; 4] = [
+        (b"p cnf 0 0\n", 0, 0, Want::Model(&[])),
+        (b"p cnf 2 0\n", 0, 0, Want::Model(&[false, false])),
+        (
+            b"p cnf 3 3\n1 1 0\n-2 0\n-1 2 3 3 0\n",
+            0,
+            0,
+            Want::Model(&[true, false, true]),
+        ),
+        (
+            b"p cnf 3 2\n1 2 3 0\n-2 -3 0\n",
+            2,
+            0,
+            Want::Model(&[false, true, false]),
+        ),
+    ];
+    all_come(&rt, rt.alloc(), &rows)
+}
+
+#[test]
+fn bases_and_cubes_that_are_refuted(rt: HostRuntime) -> Result<(), Fail> {
+    let rows: [Row; 5] = [
+        (FOUR, 0, 1, Want::Refuted(b"5 1 0 1 3 0\n6 0 5 2 4 0\n")),
+        (FOUR, 1, 0, Want::Refuted(b"5 -1 0 2 4 0\n")),
+        (
+            b"p cnf 2 2\n2 0\n-1 -2 0\n",
+            1,
+            0,
+            Want::Refuted(b"3 -1 0 1 2 0\n"),
+        ),
+        (
+            b"p cnf 1 2\n1 0\n-1 0\n",
+            0,
+            0,
+            Want::Refuted(b"3 0 2 1 0\n"),
+        ),
+        (b"p cnf 1 2\n1 0\n0\n", 0, 0, Want::Refuted(b"3 0 2 0\n")),
+    ];
+    all_come(&rt, rt.alloc(), &rows)
+}
+
+#[test]
+fn a_limit_of_0_ends_at_the_first_conflict(rt: HostRuntime) -> Result<(), Fail> {
+    let rows: [Row; 1] = [(FOUR, 0, 0, Want::Limit(b""))];
+    all_come(&rt, rt.alloc(), &rows)
+}
+
+/// The log of a search at its limit.
+fn log_of(outcome: Outcome) -> Option<Vec<u8>> {
+    match outcome {
+        Outcome::Model(_) => None,
+        Outcome::Refuted(text) => Some(text),
+        Outcome::Limit(text) => Some(text),
+    }
+}
+
+#[test]
+fn a_log_has_as_many_lemmas_as_the_limit(rt: HostRuntime) -> Result<(), Fail> {
+    let base = base_of(rt.alloc(), EIGHT)?;
+    let all = log_of(solve_alone(rt.alloc(), &base, 19)?).ok_or("no log")?;
+    for limit in 1..3u64 {
+        let log = log_of(solve_alone(rt.alloc(), &base, limit)?).ok_or("no log")?;
+        assert_eq!(rt; log.iter().filter(|b| **b == b'\n').count() as u64, limit);
+        assert!(rt; all.starts_with(&log));
+        assert!(rt; log.len() < all.len());
+    }
+    Ok(())
+}
