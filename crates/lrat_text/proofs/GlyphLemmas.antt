@@ -1,9 +1,8 @@
--- The tables of characters, place by place.
-use Rattle.std.proofs.Common.{◌≡◌, ℕ, zero, suc, ◌+◌, ◌-◌, ◌<◌, Bool, true, false, not, ◌&&◌, ◌||◌, nat_lt, List, [], ◌∷◌, bytes_eq, get_or, refl, sym, inl, inr, arith, eq-zero-or-pos, true≢false}
+-- The tables of characters and bytes, place by place.
+use Rattle.std.proofs.Common.{◌≡◌, ℕ, zero, suc, ◌-◌, ◌<◌, Bool, true, false, not, ◌&&◌, ◌||◌, nat_lt, [], ◌∷◌, bytes_eq, get_or, refl, sym, inl, inr, arith, eq-zero-or-pos, true≢false}
 use Rattle.std.proofs.lemmas.Bool.Decides.{nat_tests}
 use Rattle.std.proofs.lemmas.Slice.Eq.{bytes_eq-Decides}
 use Rattle.lrat_text.specs.Packed.{half_text}
-use Rattle.lrat_text.specs.inner.Packed.{is_glyph}
 use Rattle.lrat_text.proofs.SpellingLemmas.{both_true}
 use Rattle.lrat_text.specs.declared.packed.TheConstants.{CODES, GLYPHS}
 
@@ -24,9 +23,9 @@ half_at (suc n) h t lt =
 pub glyph_at : (h : ℕ) → h < 14 → half_text h ≡ get_or GLYPHS h 0 ∷ []
 glyph_at h lt = half_at 14 h refl lt
 
--- the first so many characters have a half that stands for them
+-- a byte's half stands for it, where that is a character's
 abbrev coded : ℕ → Bool
-coded b = not (is_glyph b) || (nat_lt (get_or CODES b 0) 14 && bytes_eq (half_text (get_or CODES b 0)) (b ∷ []))
+coded b = nat_lt (get_or CODES b 0) 16 && (not (nat_lt (get_or CODES b 0) 14) || bytes_eq (half_text (get_or CODES b 0)) (b ∷ []))
 
 abbrev codes_below : ℕ → Bool
 codes_below zero = true
@@ -45,13 +44,13 @@ implied : (a b : Bool) → not a || b ≡ true → a ≡ true → b ≡ true
 implied true b h e = h
 implied false b h e = absurd (true≢false (sym e))
 
-pub glyph_low : (b : ℕ) → is_glyph b ≡ true → b < 101
-glyph_low b h = grind (arith, nat_tests)
-
 less : (a b : ℕ) → nat_lt a b ≡ true → a < b
 less a b h = grind (arith, nat_tests)
 
-pub code_at : (b : ℕ) → is_glyph b ≡ true → (get_or CODES b 0 < 14) × (half_text (get_or CODES b 0) ≡ b ∷ [])
-code_at b h =
-    let both = both_true _ _ (implied (is_glyph b) _ (coded_at 101 b refl (glyph_low b h)) h) in
-    (less (get_or CODES b 0) 14 both.0, (bytes_eq-Decides (half_text (get_or CODES b 0)) (b ∷ [])).0 both.1)
+is_less : (a b : ℕ) → a < b → nat_lt a b ≡ true
+is_less a b h = grind (arith, nat_tests)
+
+pub code_at : (b : ℕ) → b < 256 → (get_or CODES b 0 < 16) × (get_or CODES b 0 < 14 → half_text (get_or CODES b 0) ≡ b ∷ [])
+code_at b lt =
+    let both = both_true (nat_lt (get_or CODES b 0) 16) _ (coded_at 256 b refl lt) in
+    (less (get_or CODES b 0) 16 both.0, λ small. (bytes_eq-Decides (half_text (get_or CODES b 0)) (b ∷ [])).0 (implied (nat_lt (get_or CODES b 0) 14) _ both.1 (is_less (get_or CODES b 0) 14 small)))

@@ -9,6 +9,7 @@ pub mod LogLemmas
 pub mod NextLemmas
 pub mod NumberLemmas
 pub mod PackedLemmas
+mod PackedLineLemmas
 pub mod PieceLemmas
 pub mod ReadStepLemmas
 pub mod RunLemmas

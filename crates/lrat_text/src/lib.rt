@@ -8,6 +8,7 @@ mod laws;
 mod line;
 mod lines;
 mod packed;
+mod packed_lines;
 mod reader;
 mod reading;
 mod step;
@@ -25,6 +26,7 @@ pub use laws::{
 pub use line::read_line;
 pub use lines::{LineBuffer, PieceFault, TakesLines, take_lines};
 pub use packed::PackedText;
+pub use packed_lines::PackedLines;
 pub use reader::{StepReader, read_pieces};
 pub use reading::{cut_line, next};
 pub use step::{ClauseNumbers, Literals, Step, StepRef};

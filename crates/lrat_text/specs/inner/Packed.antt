@@ -1,11 +1,10 @@
--- The characters of lines.
-use Rattle.std.specs.Prelude.{ℕ, ◌/◌, ◌<◌, ◌==◌, ◌||◌, Bool}
-use Rattle.std.specs.Char.{is_ascii_digit}
+-- Bytes of two characters.
+use Rattle.std.specs.Prelude.{◌≡◌, ℕ, ◌/◌, ◌%◌, ◌<◌, ◌≤◌, List, length, take, drop}
 
--- a digit, a space, a minus, the letter d or an LF
-abbrev pub is_glyph : ℕ → Bool
-is_glyph b = is_ascii_digit b || b == 32 || b == 45 || b == 100 || b == 10
+-- both halves of the byte stand for a character
+abbrev pub IsPair : ℕ → Type 0
+IsPair b = (b / 16 < 14) × (b % 16 < 14)
 
--- a byte whose first half stands for one
-abbrev pub IsFull : ℕ → Type 0
-IsFull b = b / 16 < 14
+-- so many bytes from the first or the second one on stand in the front as in the text
+abbrev pub IsFront : ℕ → List ℕ → List ℕ → Type 0
+IsFront count front text = (m : ℕ) → m ≤ 1 → (m ≤ length front) × (take count (drop m front) ≡ take count (drop m text))

@@ -1,8 +1,8 @@
 use Rattle.lrat_text.proofs.GlyphLemmas.{code_at}
 use Rattle.lrat_text.proofs.packed.code.Goals as goal
 
-pub returns-clause-small : goal.returns-clause-small
-returns-clause-small c = (code_at c.args.glyph c.requires).0
+pub returns-clause-half : goal.returns-clause-half
+returns-clause-half c = (code_at c.args.byte c.ranges.byte.fits).0
 
 pub returns-clause-text : goal.returns-clause-text
-returns-clause-text c = (code_at c.args.glyph c.requires).1
+returns-clause-text c = (code_at c.args.byte c.ranges.byte.fits).1
