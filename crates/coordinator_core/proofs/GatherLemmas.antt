@@ -1,10 +1,12 @@
 -- Evidence is gathered, over plain values.
-use Rattle.std.proofs.Common.{◌≡◌, ◌≢◌, ℕ, zero, suc, ◌+◌, ◌-◌, ◌<◌, ◌≤◌, ◌^◌, Bool, true, false, ◌==◌, List, ◌++◌, length, take, Option, Some, None, Result, Ok, Err, slice_set, get_or, OnOk, OnErr, is_err, refl, subst, sym, ap, ◌∙◌, ◌⊎◌, inl, inr, arith}
+use Rattle.std.proofs.Common.{◌≡◌, map, ◌∷◌, [], ◌≢◌, ℕ, zero, suc, ◌+◌, ◌-◌, ◌<◌, ◌≤◌, ◌^◌, Bool, true, false, ◌==◌, List, ◌++◌, length, take, Option, Some, None, Result, Ok, Err, slice_set, get_or, OnOk, OnErr, is_err, refl, subst, sym, ap, ◌∙◌, ◌⊎◌, inl, inr, arith}
 use Rattle.std.proofs.lemmas.List.{length-append, length-map, set-set, take_at, get_or-set_same}
 use Rattle.std.proofs.lemmas.Bool.{false≢true}
+use Rattle.std.proofs.lemmas.Bool.Decides.{nat_tests}
 use Rattle.dimacs.specs.logic.Cnf.{Cnf, IsFormula}
 use Rattle.icnf.specs.Leaves.{Cube}
 use Rattle.lrat_text.specs.Log.{Closes}
+use Rattle.lrat_text.specs.Packed.{BeginsWithCharacter, half_text}
 use Rattle.lrat_check.specs.Judging.{AreValuesOf, value_byte}
 use Rattle.lrat_check.specs.Checking.{no_memory}
 use Rattle.lrat_check.specs.declared.checking.CheckFault.{CheckFault}
@@ -242,3 +244,17 @@ unrefused r f b (inr p) e n t =
   where
     same_fault : (q : Result (Unit {0}) CheckFault) (g h : CheckFault) → q ≡ Err g → q ≡ Err h → g ≡ h
     same_fault q g h y z = cc
+
+-- ---- no values begin with a character of lines
+large : (n : ℕ) (rest : List ℕ) → n < 14 → 10 ≤ get_or (half_text n ++ rest) 0 0
+large n rest h = grind (arith, nat_tests)
+
+small : (a : List Bool) → get_or (map value_byte a) 0 0 ≤ 1
+small [] = omega arith
+small (false ∷ a) = omega arith
+small (true ∷ a) = omega arith
+
+pub no_values : (F : Cnf) (bytes : List ℕ) (v : Verdict) → BeginsWithCharacter bytes → ¬ (AreValuesOf F bytes v)
+no_values F bytes v (n, rest, is, low) are =
+    let same : get_or (half_text n ++ rest) 0 0 ≡ get_or (map value_byte are.0) 0 0 = ap (λ (t : List ℕ). get_or t 0 0) (sym is ∙ are.2) in
+    omega (arith, same, large n rest low, small are.0)

@@ -13,10 +13,11 @@ ghost use Rattle.coordinator_core.specs.declared.desks.Job.{Job};
 use crate::coordinator::Coordinator;
 use crate::desks::{Fixed, Job};
 use cube_split::base_or;
-use evidence::{Bytes, Evidence};
+use evidence::Evidence;
 use frames::WorkerNumber;
 use lrat_check::{ProofText, Reaction, Verdict, check_fragment};
-use proof_join::{JoinFault, join};
+use lrat_text::PackedText;
+use proof_join::{JoinFault, join_packed};
 use std::alloc::Global;
 
 /// What a fragment is found to be.
@@ -30,10 +31,10 @@ pub(crate) enum Tested {
 }
 
 /// A job without the bytes of its evidence, and these bytes. It takes no memory.
-fn emptied(alloc: Global, job: Job) -> (Job, Vec<u8>)
+fn emptied(alloc: Global, job: Job) -> (Job, PackedText)
     ensures leaf { result.0.leaf ≡ job.leaf }
-    ensures bytes { (x : Fixed) → job.fixed ≡ Some x → result.1.items ≡ x.evidence.bytes }
-    ensures back { refilled result.0 result.1.items ≡ job }
+    ensures bytes { (x : Fixed) → job.fixed ≡ Some x → result.1 ≡ x.evidence.bytes }
+    ensures back { refilled result.0 result.1 ≡ job }
 {
     let Job {
         number,
@@ -52,7 +53,7 @@ fn emptied(alloc: Global, job: Job) -> (Job, Vec<u8>)
             leaf,
             fixed: None,
         };
-        return (none, Vec::new(alloc));
+        return (none, PackedText::new(alloc));
     };
     let fixed = Fixed {
         incarnation,
@@ -63,12 +64,12 @@ fn emptied(alloc: Global, job: Job) -> (Job, Vec<u8>)
         leaf,
         fixed: Some(fixed),
     };
-    (emptied, bytes.into_vec())
+    (emptied, bytes)
 }
 
 /// A job with these bytes for evidence.
-fn filled(job: Job, bytes: Vec<u8>) -> Job
-    ensures { result ≡ refilled job bytes.items }
+fn filled(job: Job, bytes: PackedText) -> Job
+    ensures { result ≡ refilled job bytes }
 {
     let Job {
         number,
@@ -82,7 +83,7 @@ fn filled(job: Job, bytes: Vec<u8>) -> Job
             fixed: None,
         };
     };
-    fixed.evidence.bytes = Bytes::from_vec(bytes);
+    fixed.evidence.bytes = bytes;
     Job {
         number,
         leaf,
@@ -99,7 +100,10 @@ impl Coordinator {
             None => Tested::NoMemory,
             Some(job) => match &job.fixed {
                 None => Tested::NoMemory,
-                Some(fixed) => self.test_text(worker, job.leaf, fixed.evidence.bytes.as_slice()),
+                Some(fixed) => match fixed.evidence.bytes.to_text(self.alloc) {
+                    Ok(text) => self.test_text(worker, job.leaf, &text),
+                    Err(_) => Tested::NoMemory,
+                },
             },
         }
     }
@@ -148,7 +152,7 @@ impl Coordinator {
         if !self.leaves.are_closed() {
             return Reaction::Taken;
         }
-        match join(
+        match join_packed(
             self.alloc,
             &self.formula,
             &self.preamble,

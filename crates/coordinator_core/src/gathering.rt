@@ -195,11 +195,11 @@ impl Coordinator {
             None => Judged::NoMemory,
             Some(job) => match &job.fixed {
                 None => Judged::NoMemory,
-                Some(fixed) => judge_values(
-                    self.alloc(),
-                    self.formula(),
-                    fixed.evidence.bytes.as_slice(),
-                ),
+                Some(fixed) => match fixed.evidence.bytes.as_plain() {
+                    Some(values) => judge_values(self.alloc(), self.formula(), values),
+                    // No value is a character of a line.
+                    None => Judged::Wrong,
+                },
             },
         }
     }

@@ -1,6 +1,6 @@
 //! The leaves of a tree: the state of each, and the fragments of those that are closed.
 
-ghost use Rattle.std.specs.Prelude.{◌≡◌, ◌≢◌, ℕ, ◌<◌, ◌↔◌, IsTrue, [], length, map, replicate, position, slice_set, slice_index_or, vec_len, vec_capacity, Some, false, IfOk, OnOk, OnErr};
+ghost use Rattle.std.specs.Prelude.{◌≡◌, ◌≢◌, ℕ, ◌<◌, ◌↔◌, IsTrue, [], length, replicate, position, slice_set, slice_index_or, vec_len, vec_capacity, Some, false, IfOk, OnOk, OnErr};
 ghost use Rattle.icnf.specs.Leaves.{IsFree, branched};
 ghost use Rattle.coordinator_core.specs.Coordinator.{AreClosed, is_open};
 ghost use Rattle.coordinator_core.specs.Splits.{doubled};
@@ -11,6 +11,7 @@ use cube_split::grow;
 use dimacs::Var;
 use frames::WorkerNumber;
 use icnf::Tree;
+use lrat_text::PackedText;
 use std::alloc::{AllocError, Global};
 use std::marker::Model;
 use std::mem;
@@ -19,7 +20,7 @@ use std::mem;
 #[derive(Drop)]
 pub(crate) struct LeafTable {
     states: Vec<LeafState>,
-    fragments: Vec<Vec<u8>>,
+    fragments: Vec<PackedText>,
     // How many are not closed: that all are is asked at each fragment.
     unclosed: usize,
     // Before this place none is open, so that looking for one goes over the closed ones in front once.
@@ -27,23 +28,22 @@ pub(crate) struct LeafTable {
 }
 
 impl Model for LeafTable {
-    ghost use Rattle.std.specs.Prelude.{map};
     ghost use Rattle.coordinator_core.specs.inner.Tables.{LeafRows, IsLeafTable};
 
     ghost Value = { LeafRows };
 
-    ghost view = { λ t. record { states = t.states.items; fragments = map (λ v. v.items) t.fragments.items } };
+    ghost view = { λ t. record { states = t.states.items; fragments = t.fragments.items } };
 
-    ghost invariant = { λ t. IsLeafTable t.states.items (map (λ v. v.items) t.fragments.items) t.unclosed t.from };
+    ghost invariant = { λ t. IsLeafTable t.states.items t.fragments.items t.unclosed t.from };
 }
 
 #[tactic(auto, using(crate::proofs::TableLemmas::rows))]
-fn no_fragments(alloc: Global, count: usize) -> Result<Vec<Vec<u8>>, AllocError>
-    ensures { IfOk result (λ v. map (λ t. t.items) v.items ≡ replicate count []) }
+fn no_fragments(alloc: Global, count: usize) -> Result<Vec<PackedText>, AllocError>
+    ensures { IfOk result (λ v. v.items ≡ replicate count []) }
 {
     let mut fragments = Vec::with_capacity(alloc, count)?;
     for _ in 0..count {
-        fragments.push(Vec::new(alloc))?;
+        fragments.push(PackedText::new(alloc))?;
     }
     Ok(fragments)
 }
@@ -72,13 +72,13 @@ fn open_branches(states: &mut Vec<LeafState>, leaf: usize)
 }
 
 /// Gives neither branch of a leaf a fragment. There is room for both.
-fn empty_branches(alloc: Global, fragments: &mut Vec<Vec<u8>>, leaf: usize)
+fn empty_branches(alloc: Global, fragments: &mut Vec<PackedText>, leaf: usize)
     requires inside { leaf < vec_len fragments.old }
     requires room { vec_len fragments.old < vec_capacity fragments.old }
-    ensures { map (λ v. v.items) fragments.new.items ≡ doubled leaf [] (map (λ v. v.items) fragments.old.items) }
+    ensures { fragments.new.items ≡ doubled leaf [] fragments.old.items }
 {
-    fragments[leaf] = Vec::new(alloc);
-    fragments.insert(leaf, Vec::new(alloc)).unwrap();
+    fragments[leaf] = PackedText::new(alloc);
+    fragments.insert(leaf, PackedText::new(alloc)).unwrap();
 }
 
 impl LeafTable {
@@ -111,8 +111,8 @@ impl LeafTable {
     }
 
     /// The fragments, empty where a leaf is not closed.
-    pub(crate) fn fragments(&self) -> &[Vec<u8>]
-        ensures { map (λ v. v.items) result.now ≡ self.now.fragments }
+    pub(crate) fn fragments(&self) -> &[PackedText]
+        ensures { result.now ≡ self.now.fragments }
     {
         &self.fragments
     }
@@ -137,12 +137,11 @@ impl LeafTable {
     }
 
     /// Closes a leaf that is not closed with a fragment, and answers what stood in its place.
-    #[tactic(auto, using(crate::proofs::TableLemmas::rows))]
-    pub(crate) fn close(&mut self, leaf: usize, fragment: Vec<u8>) -> Vec<u8>
+    pub(crate) fn close(&mut self, leaf: usize, fragment: PackedText) -> PackedText
         requires inside { leaf < length self.old.states }
         requires unclosed { slice_index_or self.old.states leaf Closed ≢ Closed }
-        ensures now { self.new ≡ record self.old { states = slice_set self.old.states leaf Closed; fragments = slice_set self.old.fragments leaf fragment.items } }
-        ensures before { result.items ≡ slice_index_or self.old.fragments leaf [] }
+        ensures now { self.new ≡ record self.old { states = slice_set self.old.states leaf Closed; fragments = slice_set self.old.fragments leaf fragment } }
+        ensures before { result ≡ slice_index_or self.old.fragments leaf [] }
     {
         self.states[leaf] = LeafState::Closed;
         self.unclosed -= 1;
@@ -150,17 +149,16 @@ impl LeafTable {
     }
 
     /// Gives a closed leaf back to a worker, with what stood in the place of its fragment, which it answers.
-    #[tactic(auto, using(crate::proofs::TableLemmas::rows))]
     pub(crate) fn give_back(
         &mut self,
         leaf: usize,
         worker: WorkerNumber,
-        before: Vec<u8>,
-    ) -> Vec<u8>
+        before: PackedText,
+    ) -> PackedText
         requires inside { leaf < length self.old.states }
         requires closed { slice_index_or self.old.states leaf Open ≡ Closed }
-        ensures now { self.new ≡ record self.old { states = slice_set self.old.states leaf (GivenTo worker); fragments = slice_set self.old.fragments leaf before.items } }
-        ensures fragment { result.items ≡ slice_index_or self.old.fragments leaf [] }
+        ensures now { self.new ≡ record self.old { states = slice_set self.old.states leaf (GivenTo worker); fragments = slice_set self.old.fragments leaf before } }
+        ensures fragment { result ≡ slice_index_or self.old.fragments leaf [] }
     {
         self.states[leaf] = LeafState::GivenTo(worker);
         self.unclosed += 1;

@@ -3,15 +3,15 @@
 ghost use Rattle.std.specs.Prelude.{◌≡◌, ◌≤◌, [], ◌++◌, ℕ, List, length, IsTrue, ◌↔◌, OnOk, OnErr};
 ghost use Rattle.evidence.specs.Evidence.{ComeNext, IsComplete, announced, with_bytes};
 
-use crate::bytes::Bytes;
 use frames::Finding;
+use lrat_text::PackedText;
 use std::alloc::{AllocError, Global};
 
 /// Evidence that comes in pieces: what was announced, and the bytes so far.
 #[derive(Drop)]
 pub struct Evidence {
     pub finding: Finding,
-    pub bytes: Bytes,
+    pub bytes: PackedText,
 }
 
 impl Evidence {
@@ -21,7 +21,7 @@ impl Evidence {
     {
         Evidence {
             finding,
-            bytes: Bytes::new(alloc),
+            bytes: PackedText::new(alloc),
         }
     }
 

@@ -7,6 +7,7 @@ ghost use Rattle.lrat_check.specs.inner.Checking.{piece_refusal, text_refusal, G
 use crate::checker::Checker;
 use crate::fault::StepFault;
 use lrat_text::{PieceFault, StepBuffer, TakesLines, TextFault, read_line};
+use std::alloc::AllocError;
 use thiserror::Error;
 
 /// Why a text is not an accepted proof.
@@ -27,6 +28,14 @@ impl CheckFault {
         ensures { result ≡ (self.number == 14) }
     {
         self.number == 14
+    }
+}
+
+impl From<AllocError> for CheckFault {
+    ghost from_gives = { λ _ e. e ≡ no_memory };
+
+    fn from(_e: AllocError) -> CheckFault {
+        out_of_memory()
     }
 }
 

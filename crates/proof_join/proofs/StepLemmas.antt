@@ -1,6 +1,5 @@
 -- Steps of a text, one after the other, under other numbers.
-use Rattle.std.proofs.Common.{◌≡◌, ℕ, ◌+◌, ◌-◌, ◌^◌, ◌<◌, ◌≤◌, List, [], ◌∷◌, ◌++◌, map, length, Option, Some, None, MatchOption, Result, Ok, Err, refl, sym, ◌∙◌, ap, subst, arith, append_assoc, length-append, inl, inr}
-use Rattle.std.specs.Borrow.{Bor}
+use Rattle.std.proofs.Common.{◌≡◌, ℕ, ◌+◌, ◌-◌, ◌^◌, ◌<◌, ◌≤◌, List, [], ◌∷◌, ◌++◌, map, length, Bool, true, false, MatchBool, Result, Ok, Err, refl, sym, ◌∙◌, ap, subst, arith, append_assoc, length-append, inl, inr}
 use Rattle.std.specs.List.{All, Contains}
 use Rattle.std.proofs.lemmas.Bool.{cases_lt}
 use Rattle.std.proofs.lemmas.List.Elements.{All-weaker, All-map, All-contains, All-contains_itself}
@@ -151,14 +150,14 @@ line_some out top step =
     omega arith
 
 -- the last step so far is that of the last line, or there is none yet
-abbrev LastIs : Option (Bor (List ℕ)) → Step → Step → Step → List Step → Type 0
-LastIs line now before end rest = MatchOption line ((now ≡ before) × (last_of before rest ≡ end)) (λ l. (step : Step) × SpellsStep l.now step × (last_of step rest ≡ end))
+abbrev pub LastIs : Bool → List ℕ → Step → Step → Step → List Step → Type 0
+LastIs some line now before end rest = MatchBool some ((step : Step) × SpellsStep line step × (last_of step rest ≡ end)) ((now ≡ before) × (last_of before rest ≡ end))
 
-pub last_at : (line : Option (Bor (List ℕ))) (now before end step : Step) (rest later : List Step) → rest ≡ step ∷ later → LastIs line now before end rest → last_of step later ≡ end
-last_at None now before end step rest later e (same, h) = ap (last_of before) (sym e) ∙ h
-last_at (Some l) now before end step rest later e (own, spells, h) = ap (last_of own) (sym e) ∙ h
+pub last_at : (some : Bool) (line : List ℕ) (now before end step : Step) (rest later : List Step) → rest ≡ step ∷ later → LastIs some line now before end rest → last_of step later ≡ end
+last_at false line now before end step rest later e (same, h) = ap (last_of before) (sym e) ∙ h
+last_at true line now before end step rest later e (own, spells, h) = ap (last_of own) (sym e) ∙ h
 
-pub last_read : (line : Option (Bor (List ℕ))) (now before new end : Step) (rest : List Step) → rest ≡ []
-    → MatchOption line (new ≡ now) (λ l. SpellsStep l.now new) → LastIs line now before end rest → new ≡ end
-last_read None now before new end rest e is (same, h) = is ∙ same ∙ ap (last_of before) (sym e) ∙ h
-last_read (Some l) now before new end rest e is (own, spells, h) = read_same l.now new own is spells ∙ ap (last_of own) (sym e) ∙ h
+pub last_read : (some : Bool) (line : List ℕ) (now before new end : Step) (rest : List Step) → rest ≡ []
+    → MatchBool some (SpellsStep line new) (new ≡ now) → LastIs some line now before end rest → new ≡ end
+last_read false line now before new end rest e is (same, h) = is ∙ same ∙ ap (last_of before) (sym e) ∙ h
+last_read true line now before new end rest e is (own, spells, h) = read_same line new own is spells ∙ ap (last_of own) (sym e) ∙ h

@@ -16,13 +16,13 @@ use crate::subtree::{Subtree, Writer, put_fork, put_leaf};
 use cube_split::{Pair, Preamble};
 use dimacs::{Formula, Lit, Var};
 use icnf::Tree;
-use lrat_text::{Groups, StepBuffer, StepRef};
-use std::alloc::Global;
+use lrat_text::{Groups, PackedText, StepBuffer, StepRef};
+use std::alloc::{AllocError, Global};
 
-/// The text of the fragment at a place.
-fn text_at(fragments: &[Vec<u8>], i: usize) -> &[u8]
+/// The fragment at a place.
+fn text_at(fragments: &[PackedText], i: usize) -> &PackedText
     requires { i < length fragments.now }
-    ensures { result.now ≡ slice_index_or (map (λ v. v.items) fragments.now) i [] }
+    ensures { result.now ≡ slice_index_or fragments.now i [] }
 {
     &fragments[i]
 }
@@ -32,25 +32,25 @@ fn text_at(fragments: &[Vec<u8>], i: usize) -> &[u8]
 fn join_below(
     alloc: Global,
     tree: &Tree,
-    fragments: &[Vec<u8>],
+    fragments: &[PackedText],
     base: u64,
     writer: &mut Writer,
     next: &mut usize,
     depth: usize,
 ) -> Result<Subtree, JoinFault>
-    requires below { IsBelow tree.now (steps_each (map (λ v. v.items) fragments.now)) next.old depth }
-    requires fragments { All (IsFragment base) (map (λ v. v.items) fragments.now) }
+    requires below { IsBelow tree.now (steps_each fragments.now) next.old depth }
+    requires fragments { All (IsFragment base) fragments.now }
     requires begun { (1 ≤ base) × (base ≤ writer.old.top) × (writer.old.top ≤ base + length writer.old.out.items) }
     requires short { (base < 2 ^ 40) × (length writer.old.out.items < 2 ^ 32) }
-    ensures text { (h : IsBelow tree.now (steps_each (map (λ v. v.items) fragments.now)) next.old depth)
+    ensures text { (h : IsBelow tree.now (steps_each fragments.now) next.old depth)
         → Writes result writer.new.out.items (writer.old.out.items ++ text_of writer.old.top (part base h.path writer.old.top h.tree).steps) }
-    ensures top { OnOk result ((h : IsBelow tree.now (steps_each (map (λ v. v.items) fragments.now)) next.old depth)
+    ensures top { OnOk result ((h : IsBelow tree.now (steps_each fragments.now) next.old depth)
         → writer.new.top ≡ (part base h.path writer.old.top h.tree).top) }
-    ensures next { OnOk result ((h : IsBelow tree.now (steps_each (map (λ v. v.items) fragments.now)) next.old depth)
+    ensures next { OnOk result ((h : IsBelow tree.now (steps_each fragments.now) next.old depth)
         → next.new ≡ next.old + length (cubes h.path h.tree)) }
-    ensures id { IfOk result (λ s. (h : IsBelow tree.now (steps_each (map (λ v. v.items) fragments.now)) next.old depth)
+    ensures id { IfOk result (λ s. (h : IsBelow tree.now (steps_each fragments.now) next.old depth)
         → s.id ≡ (part base h.path writer.old.top h.tree).id) }
-    ensures clause { IfOk result (λ s. (h : IsBelow tree.now (steps_each (map (λ v. v.items) fragments.now)) next.old depth)
+    ensures clause { IfOk result (λ s. (h : IsBelow tree.now (steps_each fragments.now) next.old depth)
         → s.clause.items ≡ (part base h.path writer.old.top h.tree).clause) }
     ensures few { OnOk result ((writer.old.top ≤ writer.new.top) × (writer.new.top ≤ base + length writer.new.out.items)) }
     ensures small { IfOk result (λ s. (1 ≤ s.id) × (s.id ≤ writer.new.top) × All (IsWithin 2000000) s.clause.items) }
@@ -199,7 +199,7 @@ fn put_preamble(
 }
 
 /// How many bytes the fragments have.
-fn size_of(fragments: &[Vec<u8>]) -> usize {
+fn size_of(fragments: &[PackedText]) -> usize {
     let mut size = 0usize;
     for fragment in fragments {
         size = size.saturating_add(fragment.len());
@@ -209,7 +209,7 @@ fn size_of(fragments: &[Vec<u8>]) -> usize {
 
 /// An empty text, with room for what these fragments are joined into, where that is to be had: a text that grows is copied, and
 /// stands in memory twice for a moment. Room that is not used costs nothing.
-fn begun(alloc: Global, fragments: &[Vec<u8>]) -> Vec<u8>
+fn begun(alloc: Global, fragments: &[PackedText]) -> Vec<u8>
     ensures { result.items ≡ [] }
 {
     let size = size_of(fragments);
@@ -221,21 +221,21 @@ fn begun(alloc: Global, fragments: &[Vec<u8>]) -> Vec<u8>
 /// Joins the fragments that close the leaves of a tree into one proof: the preamble's lines, and then each subtree's, the
 /// left branch before the right one and both before the fork.
 ///
-/// It answers `TooLong` only where the text would have 2^32 bytes or more.
-pub fn join(
+/// A fragment is unpacked block by block. It answers `TooLong` only where the text would have 2^32 bytes or more.
+pub fn join_packed(
     alloc: Global,
     formula: &Formula,
     preamble: &Preamble,
     tree: &Tree,
-    fragments: &[Vec<u8>],
+    fragments: &[PackedText],
 ) -> Result<Vec<u8>, JoinFault>
     requires units { preamble.now.units ≡ pure_literals formula.now }
     requires pairs { All (IsPairOf formula.now.vars) preamble.now.pairs }
-    requires closed { AllClose (base_with formula.now preamble.now.pairs) tree.now (map (λ v. v.items) fragments.now) }
-    ensures joined { IfOk result (λ text. JoinedOver formula.now preamble.now.pairs tree.now (map (λ v. v.items) fragments.now) text.items) }
+    requires closed { AllClose (base_with formula.now preamble.now.pairs) tree.now fragments.now }
+    ensures joined { IfOk result (λ text. JoinedOver formula.now preamble.now.pairs tree.now fragments.now text.items) }
     ensures short { IfOk result (λ text. length text.items < 2 ^ 32) }
     ensures long { IfErr result (λ f. f ≡ JoinFault.TooLong → (text : List ℕ)
-        → JoinedOver formula.now preamble.now.pairs tree.now (map (λ v. v.items) fragments.now) text → 2 ^ 32 ≤ length text) }
+        → JoinedOver formula.now preamble.now.pairs tree.now fragments.now text → 2 ^ 32 ≤ length text) }
     // What is joined is a proof of the formula alone.
     ensures accepted { IfOk result (λ text. Accepts formula.now text.items) }
 {
@@ -262,4 +262,41 @@ pub fn join(
     }
     let Writer { out, .. } = writer;
     Ok(out)
+}
+
+/// Packs each of some texts.
+fn packed(alloc: Global, texts: &[Vec<u8>]) -> Result<Vec<PackedText>, AllocError>
+    ensures { IfOk result (λ all. all.items ≡ map (λ v. v.items) texts.now) }
+{
+    let mut all = Vec::with_capacity(alloc, texts.len())?;
+    for text in texts {
+        all.push(PackedText::of(alloc, text)?)?;
+    }
+    Ok(all)
+}
+
+/// Joins fragments as [`join_packed`] does, and packs them first.
+///
+/// It answers `TooLong` only where the text would have 2^32 bytes or more.
+pub fn join(
+    alloc: Global,
+    formula: &Formula,
+    preamble: &Preamble,
+    tree: &Tree,
+    fragments: &[Vec<u8>],
+) -> Result<Vec<u8>, JoinFault>
+    requires units { preamble.now.units ≡ pure_literals formula.now }
+    requires pairs { All (IsPairOf formula.now.vars) preamble.now.pairs }
+    requires closed { AllClose (base_with formula.now preamble.now.pairs) tree.now (map (λ v. v.items) fragments.now) }
+    ensures joined { IfOk result (λ text. JoinedOver formula.now preamble.now.pairs tree.now (map (λ v. v.items) fragments.now) text.items) }
+    ensures short { IfOk result (λ text. length text.items < 2 ^ 32) }
+    ensures long { IfErr result (λ f. f ≡ JoinFault.TooLong → (text : List ℕ)
+        → JoinedOver formula.now preamble.now.pairs tree.now (map (λ v. v.items) fragments.now) text → 2 ^ 32 ≤ length text) }
+    // What is joined is a proof of the formula alone.
+    ensures accepted { IfOk result (λ text. Accepts formula.now text.items) }
+{
+    match packed(alloc, fragments) {
+        Ok(fragments) => join_packed(alloc, formula, preamble, tree, &fragments),
+        Err(_) => Err(JoinFault::NoMemory),
+    }
 }

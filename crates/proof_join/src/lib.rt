@@ -19,7 +19,7 @@ mod subtree;
 
 pub use examples::{worked_definitions, worked_joins, worked_renumberings};
 pub use fault::JoinFault;
-pub use joining::join;
+pub use joining::{join, join_packed};
 pub use laws::{
     definitions_are_a_preamble, definitions_are_rat, joined_is_accepted, one_text_is_joined,
     one_text_is_renumbered, renumbered_proofs_are_accepted, units_are_a_preamble,

@@ -1,6 +1,6 @@
 //! Lines under other numbers.
 
-ghost use Rattle.std.specs.Prelude.{◌≡◌, ◌≢◌, ◌+◌, ◌-◌, ◌^◌, ◌<◌, ◌≤◌, ◌++◌, codes, map, length, All, MatchBool, MatchOption, OnOk, IfOk};
+ghost use Rattle.std.specs.Prelude.{◌≡◌, ◌≢◌, ◌+◌, ◌-◌, ◌^◌, ◌<◌, ◌≤◌, ◌++◌, codes, map, length, All, MatchBool, OnOk, IfOk};
 ghost use Rattle.lrat_text.specs.Grammar.{IsStep, IsClauseNumber, SpellsStep};
 ghost use Rattle.lrat_text.specs.Log.{top_after};
 ghost use Rattle.lrat_text.specs.Steps.{step_of};
@@ -11,8 +11,11 @@ ghost use Rattle.lrat_text.specs.Runs.{text_of, top_of};
 ghost use Rattle.proof_join.specs.inner.Steps.{IsLow, IsOwn, Writes, last_of, steps_in};
 
 use crate::fault::JoinFault;
-use lrat_text::{StepBuffer, StepRef, TextFault, cut_line, put_ref, read_line, written_id};
-use std::alloc::AllocError;
+use lrat_text::{
+    PackedLines, PackedText, StepBuffer, StepRef, TextFault, put_ref, read_line, written_id,
+};
+use std::alloc::{AllocError, Global};
+use std::mem::swap;
 
 /// A text stays below 2^32 bytes.
 fn limit(out: &Vec<u8>) -> Result<(), JoinFault>
@@ -189,21 +192,23 @@ fn put_fragment_line(
 }
 
 /// Reads the last line, if there is one: it may have been copied.
-fn read_last(buffer: &mut StepBuffer, last: Option<&[u8]>) -> Result<(), TextFault>
-    ensures { OnOk result (MatchOption last.entry (buffer.new ≡ buffer.old) (λ line. SpellsStep line.now buffer.new)) }
+fn read_last(buffer: &mut StepBuffer, some: bool, last: &[u8]) -> Result<(), TextFault>
+    ensures { OnOk result (MatchBool some (SpellsStep last.now buffer.new) (buffer.new ≡ buffer.old)) }
 {
-    match last {
-        Some(line) => read_line(buffer, line),
-        None => Ok(()),
+    if some {
+        read_line(buffer, last)
+    } else {
+        Ok(())
     }
 }
 
 /// Appends a fragment, renumbered, and tells the number of the last addition; the buffer has the last step.
 pub(crate) fn put_fragment(
+    alloc: Global,
     out: &mut Vec<u8>,
     scratch: &mut Scratch,
     shift: Shift,
-    fragment: &[u8],
+    fragment: &PackedText,
 ) -> Result<u64, JoinFault>
     requires own { IsOwn shift.base fragment.now }
     requires begun { (1 ≤ shift.base) × (shift.base ≤ shift.begun) × (shift.begun ≤ shift.base + length out.old.items) }
@@ -213,18 +218,20 @@ pub(crate) fn put_fragment(
     ensures last { OnOk result (scratch.new.buffer ≡ last_of scratch.old.buffer (steps_in fragment.now)) }
     ensures few { IfOk result (λ n. (shift.begun ≤ n) × (n ≤ shift.base + length out.new.items)) }
 {
-    let mut rest = fragment;
+    let mut lines = PackedLines::of(alloc, fragment);
+    let mut line = Vec::new(alloc);
+    let mut last = Vec::new(alloc);
+    let mut some = false;
     let mut top = shift.begun;
-    let mut last = None;
-    while let Some((line, later)) = cut_line(rest) {
-        match put_fragment_line(out, scratch, shift, top, line) {
+    while lines.next(&mut line)? {
+        match put_fragment_line(out, scratch, shift, top, &line) {
             Ok(number) => top = number,
             Err(fault) => return Err(fault),
         }
-        last = Some(line);
-        rest = later;
+        swap(&mut line, &mut last);
+        some = true;
     }
-    match read_last(&mut scratch.buffer, last) {
+    match read_last(&mut scratch.buffer, some, &last) {
         Ok(()) => Ok(top),
         Err(_) => Err(JoinFault::NoMemory),
     }

@@ -10,7 +10,7 @@ ghost use Rattle.proof_join.specs.inner.Steps.{IsFragment, Writes, clause_of, ow
 use crate::fault::JoinFault;
 use crate::lines::{Scratch, Shift, put_fragment, put_line};
 use dimacs::{Lit, has_literal};
-use lrat_text::{Groups, StepBuffer, StepRef};
+use lrat_text::{Groups, PackedText, StepBuffer, StepRef};
 use std::alloc::{AllocError, Global};
 
 /// The clause that stands for a subtree, and its number.
@@ -57,7 +57,7 @@ pub(crate) fn put_leaf(
     alloc: Global,
     writer: &mut Writer,
     base: u64,
-    fragment: &[u8],
+    fragment: &PackedText,
 ) -> Result<Subtree, JoinFault>
     requires fragment { IsFragment base fragment.now }
     requires begun { (1 ≤ base) × (base ≤ writer.old.top) × (writer.old.top ≤ base + length writer.old.out.items) }
@@ -70,6 +70,7 @@ pub(crate) fn put_leaf(
 {
     let begun = writer.top;
     match put_fragment(
+        alloc,
         &mut writer.out,
         &mut writer.scratch,
         Shift { base, begun },

@@ -12,10 +12,9 @@ ghost use Rattle.worker_core.specs.inner.Invariant.{Follows};
 use crate::candidate::Candidate;
 use crate::follower::{Follower, caught_up};
 use dimacs::Formula;
-use evidence::Evidence;
 use frames::Answer;
 use lrat_check::{CheckFault, Judged, ProofText, Verdict, check, judge_values};
-use lrat_text::reading_is_spelling;
+use lrat_text::{PackedText, reading_is_spelling};
 use std::alloc::{AllocError, Global};
 
 /// What a candidate has become with more bytes. Beside one that is kept stands what follows it, if anything does.
@@ -130,17 +129,11 @@ fn judge_text(
     requires follows { Follows formula.now follower candidate.evidence.bytes }
     ensures { Becomes formula.now candidate candidate result }
 {
-    match check_whole(
-        alloc,
-        formula,
-        follower,
-        candidate.evidence.bytes.as_slice(),
-    ) {
-        Ok(()) => {
-            let Candidate { evidence, .. } = candidate;
-            let Evidence { bytes, .. } = evidence;
-            Collected::Right(Verdict::Proof(ProofText::from_vec(bytes.into_vec())))
-        }
+    match check_whole(alloc, formula, follower, &candidate.evidence.bytes) {
+        Ok(()) => match candidate.evidence.bytes.to_text(alloc) {
+            Ok(text) => Collected::Right(Verdict::Proof(ProofText::from_vec(text))),
+            Err(_) => Collected::NoMemory(candidate, None),
+        },
         Err(fault) if fault.is_no_memory() => Collected::NoMemory(candidate, None),
         Err(_) => Collected::Wrong,
     }
@@ -151,14 +144,14 @@ fn check_whole(
     alloc: Global,
     formula: &Formula,
     follower: Option<Follower>,
-    text: &[u8],
+    text: &PackedText,
 ) -> Result<(), CheckFault>
     requires { Follows formula.now follower text.now }
     ensures accepted { OnOk result (Accepts formula.now text.now) }
     ensures complete { Accepts formula.now text.now → (result ≡ Ok tt) ⊎ (result ≡ Err no_memory) }
 {
-    let Some(follower) = caught_up(follower, text) else {
-        return check(alloc, formula, text);
+    let Some(follower) = caught_up(alloc, follower, text) else {
+        return check(alloc, formula, &text.to_text(alloc)?);
     };
     // The law by which what was read is what the text spells; there is nothing to run.
     reading_is_spelling();
@@ -171,7 +164,10 @@ fn judge_assignment(alloc: Global, formula: &Formula, candidate: Candidate) -> C
     requires assignment { answer_of candidate.evidence.finding ≡ answers.Assignment }
     ensures { Becomes formula.now candidate candidate result }
 {
-    match judge_values(alloc, formula, candidate.evidence.bytes.as_slice()) {
+    let Ok(values) = candidate.evidence.bytes.to_text(alloc) else {
+        return Collected::NoMemory(candidate, None);
+    };
+    match judge_values(alloc, formula, &values) {
         Judged::Right(verdict) => Collected::Right(verdict),
         Judged::Wrong => Collected::Wrong,
         Judged::NoMemory => Collected::NoMemory(candidate, None),

@@ -9,6 +9,7 @@ ghost use Rattle.worker_core.specs.Worker.{WorkerStep, worker_frame, candidate_f
 use crate::work::Work;
 use crate::worker::Worker;
 use frames::{Answer, Chunk, Finding, Frame, Outcome, ProofLength};
+use lrat_text::PackedText;
 use std::alloc::{AllocError, Global};
 
 impl Worker {
@@ -36,7 +37,7 @@ impl Worker {
                 bytes,
                 noted: Some(offset),
                 ..
-            } => match piece_at(self.alloc, bytes.as_slice(), *offset) {
+            } => match piece_at(self.alloc, bytes, *offset) {
                 Ok(piece) => Ok(Frame::Piece {
                     attempt: name.attempt(self.number, self.incarnation),
                     offset: *offset,
@@ -99,13 +100,12 @@ impl Worker {
 }
 
 /// The bytes from an offset on, as many as one frame carries.
-fn piece_at(alloc: Global, bytes: &[u8], offset: u32) -> Result<Chunk, AllocError>
+fn piece_at(alloc: Global, bytes: &PackedText, offset: u32) -> Result<Chunk, AllocError>
     requires { offset < length bytes.now }
     ensures { IfOk result (λ piece. piece ≡ take chunk (drop offset bytes.now)) }
 {
-    let rest = &bytes[offset as usize..];
-    let count = rest.len().min(Chunk::LONGEST);
-    Chunk::from_slice(alloc, &rest[..count])
+    let piece = bytes.read(alloc, offset as usize, Chunk::LONGEST)?;
+    Ok(Chunk::from_vec(piece))
 }
 
 /// An answer with its number of bytes.

@@ -3,8 +3,9 @@
 ghost use Rattle.std.specs.Prelude.{◌≡◌};
 ghost use Rattle.worker_core.specs.Worker.{without_note};
 
-use evidence::{Bytes, JobName};
+use evidence::JobName;
 use frames::{Answer, Cube};
+use lrat_text::PackedText;
 
 /// What a worker has to do, or has to tell.
 #[derive(Drop)]
@@ -25,7 +26,7 @@ pub enum Work {
     Found {
         name: JobName,
         answer: Answer,
-        bytes: Bytes,
+        bytes: PackedText,
         noted: Option<u32>,
     },
 }

@@ -13,9 +13,10 @@ use crate::worker::Worker;
 use cube_solve::{Outcome, solve};
 use cube_split::base_or;
 use dimacs::{Base, Lit};
-use evidence::{Bytes, JobName};
+use evidence::JobName;
 use frames::Answer;
 use lrat_check::Reaction;
+use lrat_text::PackedText;
 use proof_trim::trim;
 use std::alloc::{AllocError, Global};
 
@@ -52,7 +53,7 @@ impl Worker {
             return;
         };
         let follower = self.follower.take();
-        self.follower = caught_up(follower, candidate.evidence.bytes.as_slice());
+        self.follower = caught_up(self.alloc, follower, &candidate.evidence.bytes);
     }
 }
 
@@ -81,7 +82,7 @@ fn keep(alloc: Global, name: JobName, vars: u32, end: Outcome) -> Result<Work, A
             Ok(Work::Found {
                 name,
                 answer: Answer::Assignment,
-                bytes: Bytes::from_vec(bytes),
+                bytes: PackedText::of(alloc, &bytes)?,
                 noted: None,
             })
         }
@@ -90,7 +91,7 @@ fn keep(alloc: Global, name: JobName, vars: u32, end: Outcome) -> Result<Work, A
                 Ok(Work::Found {
                     name,
                     answer: Answer::Refuted,
-                    bytes: Bytes::from_vec(text),
+                    bytes: PackedText::of(alloc, &text)?,
                     noted: None,
                 })
             } else {

@@ -1,5 +1,8 @@
-use Rattle.std.proofs.Common.{◌≡◌, ◌+◌, ◌-◌, ◌++◌, ◌∷◌, ◌∙◌, map, length, List, [], ℕ, ap, sym, subst, arith}
+use Rattle.std.proofs.Common.{◌≡◌, ◌+◌, ◌-◌, ◌++◌, ◌∷◌, ◌∙◌, map, length, List, Vec, Global, MatchBool, [], ℕ, ap, sym, subst, arith}
+use Rattle.std.proofs.lemmas.Bool.{MatchBool-at_true, MatchBool-at_false}
 use Rattle.std.proofs.lemmas.List.{append-nil}
+use Rattle.lrat_text.specs.Grammar.{SpellsStep}
+use Rattle.lrat_text.specs.Lines.{IsCut}
 use Rattle.lrat_text.specs.Log.{top_after}
 use Rattle.lrat_text.specs.Writing.{line_of}
 use Rattle.lrat_text.specs.declared.step.Step.{Step}
@@ -11,38 +14,38 @@ use Rattle.proof_join.proofs.lines.put_fragment.Goals as goal
 
 pub put_fragment_line-requires-clause-spelled : goal.put_fragment_line-requires-clause-spelled
 put_fragment_line-requires-clause-spelled c =
-    let n = next_line c.loop-line.rest.now c.in-Some.line.now c.in-Some.later.now c.in-Some.ensures c.loop-line.invariant.spelled in
+    let n = next_line c.loop-last.lines c.deref.result.now c.next.new.self (subst (λ (l : List ℕ). IsCut c.loop-last.lines l c.next.new.self) (sym c.deref.ensures.value) (MatchBool-at_true _ _ c.if-branch.true c.in_ok-next.ensures)) c.loop-last.invariant.spelled in
     (n.step, n.spells)
 
 pub put_fragment_line-requires-clause-low : goal.put_fragment_line-requires-clause-low
 put_fragment_line-requires-clause-low c = λ step s.
-    let i = c.loop-line.invariant in
-    let k : ℕ = c.args.shift.base + (c.loop-line.top - c.args.shift.begun) in
-    let n = next_line c.loop-line.rest.now c.in-Some.line.now c.in-Some.later.now c.in-Some.ensures i.spelled in
-    subst (IsLow k) (read_same c.in-Some.line.now n.step step n.spells s) (subst (AreLow k) n.steps i.low).0
+    let i = c.loop-last.invariant in
+    let k : ℕ = c.args.shift.base + (c.loop-last.top - c.args.shift.begun) in
+    let n = next_line c.loop-last.lines c.deref.result.now c.next.new.self (subst (λ (l : List ℕ). IsCut c.loop-last.lines l c.next.new.self) (sym c.deref.ensures.value) (MatchBool-at_true _ _ c.if-branch.true c.in_ok-next.ensures)) i.spelled in
+    subst (IsLow k) (read_same c.deref.result.now n.step step n.spells s) (subst (AreLow k) n.steps i.low).0
 
 pub returns-in-Err-clause-text : goal.returns-in-Err-clause-text
 returns-in-Err-clause-text c =
-    let i = c.loop-line.invariant in
-    let n = next_line c.loop-line.rest.now c.in-Some.line.now c.in-Some.later.now c.in-Some.ensures i.spelled in
+    let i = c.loop-last.invariant in
+    let n = next_line c.loop-last.lines c.deref.result.now c.next.new.self (subst (λ (l : List ℕ). IsCut c.loop-last.lines l c.next.new.self) (sym c.deref.ensures.value) (MatchBool-at_true _ _ c.if-branch.true c.in_ok-next.ensures)) i.spelled in
     let r : Step → Step = renumbered (behind c.args.shift.base c.args.shift.begun) in
     let whole : List ℕ = c.args.out.now.items ++ text_of c.args.shift.begun (map r (steps_in c.args.fragment.now)) in
-    writes_longer ℕ c.in-Err.fault c.put_fragment_line.new.out.items (c.loop-line.out.items ++ line_of c.loop-line.top (r n.step)) whole (c.in-Err.ensures.text n.step n.spells)
-    (longer c.args.shift.base c.args.shift.begun c.loop-line.top 0 c.loop-line.out.items [] whole n.step (steps_in c.loop-line.rest.now) (steps_in c.in-Some.later.now) n.steps i.text)
+    writes_longer ℕ c.in-Err.fault c.put_fragment_line.new.out.items (c.loop-last.out.items ++ line_of c.loop-last.top (r n.step)) whole (c.in-Err.ensures.text n.step n.spells)
+    (longer c.args.shift.base c.args.shift.begun c.loop-last.top 0 c.loop-last.out.items [] whole n.step (steps_in c.loop-last.lines) (steps_in c.next.new.self) n.steps i.text)
 
-pub loop-line-preserved : goal.loop-line-preserved
-loop-line-preserved c =
-    let i = c.loop-line.invariant in
-    let n = next_line c.loop-line.rest.now c.in-Some.line.now c.in-Some.later.now c.in-Some.ensures i.spelled in
+pub loop-last-preserved : goal.loop-last-preserved
+loop-last-preserved c =
+    let i = c.loop-last.invariant in
+    let n = next_line c.loop-last.lines c.deref.result.now c.next.new.self (subst (λ (l : List ℕ). IsCut c.loop-last.lines l c.next.new.self) (sym c.deref.ensures.value) (MatchBool-at_true _ _ c.if-branch.true c.in_ok-next.ensures)) i.spelled in
     let b : ℕ = c.args.shift.base in
     let t : ℕ = c.args.shift.begun in
     let r : Step → Step = renumbered (behind b t) in
-    let top : ℕ = c.loop-line.top in
+    let top : ℕ = c.loop-last.top in
     let number : ℕ = c.in-Ok.number in
-    let out : List ℕ = c.loop-line.out.items in
+    let out : List ℕ = c.loop-last.out.items in
     let after : List ℕ = c.put_fragment_line.new.out.items in
-    let rest : List Step = steps_in c.loop-line.rest.now in
-    let later : List Step = steps_in c.in-Some.later.now in
+    let rest : List Step = steps_in c.loop-last.lines in
+    let later : List Step = steps_in c.next.new.self in
     let whole : List ℕ = c.args.out.now.items ++ text_of t (map r (steps_in c.args.fragment.now)) in
     let is : number ≡ top_after top (r n.step) = c.in-Ok.ensures.top n.step n.spells in
     let wrote = c.in-Ok.ensures.text n.step n.spells in
@@ -55,7 +58,7 @@ loop-line-preserved c =
     let few = i.few in
     record {
       text = text_on b t top number out after whole n.step rest later n.steps wrote.0 is i.text;
-      last = (n.step, n.spells, last_at c.loop-line.last c.loop-line.scratch.buffer c.args.scratch.now.buffer (last_of c.args.scratch.now.buffer (steps_in c.args.fragment.now)) n.step rest later n.steps i.last);
+      last = (n.step, subst (λ (l : Vec ℕ Global). SpellsStep l.items n.step) (sym c.swap.ensures.y_after) (subst (λ (l : List ℕ). SpellsStep l n.step) c.deref.ensures.value n.spells), last_at c.loop-last.some c.loop-last.last.items c.loop-last.scratch.buffer c.args.scratch.now.buffer (last_of c.args.scratch.now.buffer (steps_in c.args.fragment.now)) n.step rest later n.steps i.last);
       top = top_of_on b t top number out after whole n.step rest later n.steps is (top_of t (map r (steps_in c.args.fragment.now))) i.top;
       spelled = n.spelled;
       low = subst (λ (k : ℕ). AreLow k later) up.0 low.1;
@@ -66,25 +69,25 @@ loop-line-preserved c =
 
 pub returns-in-Ok-read_last-clause-text : goal.returns-in-Ok-read_last-clause-text
 returns-in-Ok-read_last-clause-text c =
-    let i = c.loop-line.invariant in
-    let e = no_line c.loop-line.rest.now c.in_default.ensures i.spelled in
+    let i = c.loop-last.invariant in
+    let e = no_line c.loop-last.lines (MatchBool-at_false _ _ c.if-branch.false c.in_ok-next.ensures) i.spelled in
     let r : Step → Step = renumbered (behind c.args.shift.base c.args.shift.begun) in
     let whole : List ℕ = c.args.out.now.items ++ text_of c.args.shift.begun (map r (steps_in c.args.fragment.now)) in
-    let f : c.loop-line.out.items ≡ whole =
-    sym (append-nil c.loop-line.out.items) ∙ ap (λ (ss : List Step). c.loop-line.out.items ++ text_of c.loop-line.top (map r ss)) (sym e) ∙ i.text in
-    let g : length c.loop-line.out.items ≡ length whole = ap length f in
+    let f : c.loop-last.out.items ≡ whole =
+    sym (append-nil c.loop-last.out.items) ∙ ap (λ (ss : List Step). c.loop-last.out.items ++ text_of c.loop-last.top (map r ss)) (sym e) ∙ i.text in
+    let g : length c.loop-last.out.items ≡ length whole = ap length f in
     let h = i.short in
     (f, omega arith)
 
 pub returns-in-Ok-read_last-clause-top : goal.returns-in-Ok-read_last-clause-top
 returns-in-Ok-read_last-clause-top c =
-    let i = c.loop-line.invariant in
-    let e = no_line c.loop-line.rest.now c.in_default.ensures i.spelled in
-    ap (λ (ss : List Step). top_of c.loop-line.top (map (renumbered (behind c.args.shift.base c.args.shift.begun)) ss)) (sym e) ∙ i.top
+    let i = c.loop-last.invariant in
+    let e = no_line c.loop-last.lines (MatchBool-at_false _ _ c.if-branch.false c.in_ok-next.ensures) i.spelled in
+    ap (λ (ss : List Step). top_of c.loop-last.top (map (renumbered (behind c.args.shift.base c.args.shift.begun)) ss)) (sym e) ∙ i.top
 
 pub returns-in-Ok-read_last-clause-last : goal.returns-in-Ok-read_last-clause-last
 returns-in-Ok-read_last-clause-last c =
-    let i = c.loop-line.invariant in
-    let e = no_line c.loop-line.rest.now c.in_default.ensures i.spelled in
-    last_read c.loop-line.last c.loop-line.scratch.buffer c.args.scratch.now.buffer c.read_last.new.buffer (last_of c.args.scratch.now.buffer (steps_in c.args.fragment.now))
-    (steps_in c.loop-line.rest.now) e c.in-Ok-read_last.ensures i.last
+    let i = c.loop-last.invariant in
+    let e = no_line c.loop-last.lines (MatchBool-at_false _ _ c.if-branch.false c.in_ok-next.ensures) i.spelled in
+    last_read c.loop-last.some c.loop-last.last.items c.loop-last.scratch.buffer c.args.scratch.now.buffer c.read_last.new.buffer (last_of c.args.scratch.now.buffer (steps_in c.args.fragment.now))
+    (steps_in c.loop-last.lines) e (subst (λ (l : List ℕ). MatchBool c.loop-last.some (SpellsStep l c.read_last.new.buffer) (c.read_last.new.buffer ≡ c.loop-last.scratch.buffer)) c.deref-2.ensures.value c.in-Ok-read_last.ensures) i.last

@@ -20,38 +20,38 @@ close-before-requires-clause-unclosed c =
 pub invariant_of-self-then-not-are_closed : goal.invariant_of-self-then-not-are_closed
 invariant_of-self-then-not-are_closed c =
     let t = taken_at _ c.args.self.now c.args.worker c.number.result _ _ _ c.self.view_is c.number.ensures.value c.self.invariant.2 c.requires.closes c.index_mut.ensures.value c.take.ensures.value c.in-Some.is in
-    let h : IsShut _ c.args.self.now c.args.worker c.number.result c.in-Some.job c.emptied-job.result.1.items c.close-before.new.self c.take.new.self =
+    let h : IsShut _ c.args.self.now c.args.worker c.number.result c.in-Some.job c.emptied-job.result.1 c.close-before.new.self c.take.new.self =
     record { taken = t; text_is = c.emptied-job.ensures.bytes; rows_are = c.close-before.ensures.now; none = c.take.ensures.after } in
     (c.self.invariant.0, c.self.invariant.1, goes_on _ _ _ _ _ _ _ _ h (λ all. false≢true (sym c.if-not-are_closed.true ∙ c.are_closed.ensures.1 all)), c.self.invariant.3)
 
 pub returns-then-not-are_closed : goal.returns-then-not-are_closed
 returns-then-not-are_closed c =
     let t = taken_at _ c.args.self.now c.args.worker c.number.result _ _ _ c.self.view_is c.number.ensures.value c.self.invariant.2 c.requires.closes c.index_mut.ensures.value c.take.ensures.value c.in-Some.is in
-    let h : IsShut _ c.args.self.now c.args.worker c.number.result c.in-Some.job c.emptied-job.result.1.items c.close-before.new.self c.take.new.self =
+    let h : IsShut _ c.args.self.now c.args.worker c.number.result c.in-Some.job c.emptied-job.result.1 c.close-before.new.self c.take.new.self =
     record { taken = t; text_is = c.emptied-job.ensures.bytes; rows_are = c.close-before.ensures.now; none = c.take.ensures.after } in
     ends_closed _ _ _ _ _ _ _ _ h (λ all. false≢true (sym c.if-not-are_closed.true ∙ c.are_closed.ensures.1 all))
 
-pub join-requires-clause-pairs : goal.join-requires-clause-pairs
-join-requires-clause-pairs c = pairs_inside _ c.self.invariant.2
+pub join_packed-requires-clause-pairs : goal.join_packed-requires-clause-pairs
+join_packed-requires-clause-pairs c = pairs_inside _ c.self.invariant.2
 
-pub join-requires-clause-closed : goal.join-requires-clause-closed
-join-requires-clause-closed c =
+pub join_packed-requires-clause-closed : goal.join_packed-requires-clause-closed
+join_packed-requires-clause-closed c =
     let t = taken_at _ c.args.self.now c.args.worker c.number.result _ _ _ c.self.view_is c.number.ensures.value c.self.invariant.2 c.requires.closes c.index_mut.ensures.value c.take.ensures.value c.in-Some.is in
-    let h : IsShut _ c.args.self.now c.args.worker c.number.result c.in-Some.job c.emptied-job.result.1.items c.close-before.new.self c.take.new.self =
+    let h : IsShut _ c.args.self.now c.args.worker c.number.result c.in-Some.job c.emptied-job.result.1 c.close-before.new.self c.take.new.self =
     record { taken = t; text_is = c.emptied-job.ensures.bytes; rows_are = c.close-before.ensures.now; none = c.take.ensures.after } in
     all_there _ _ _ _ _ _ _ _ _ h (c.are_closed.ensures.0 c.if-not-are_closed.false) c.fragments.ensures
 
 pub invariant_of-self-in-Ok : goal.invariant_of-self-in-Ok
 invariant_of-self-in-Ok c =
     let t = taken_at _ c.args.self.now c.args.worker c.number.result _ _ _ c.self.view_is c.number.ensures.value c.self.invariant.2 c.requires.closes c.index_mut.ensures.value c.take.ensures.value c.in-Some.is in
-    let h : IsShut _ c.args.self.now c.args.worker c.number.result c.in-Some.job c.emptied-job.result.1.items c.close-before.new.self c.take.new.self =
+    let h : IsShut _ c.args.self.now c.args.worker c.number.result c.in-Some.job c.emptied-job.result.1 c.close-before.new.self c.take.new.self =
     record { taken = t; text_is = c.emptied-job.ensures.bytes; rows_are = c.close-before.ensures.now; none = c.take.ensures.after } in
     (c.self.invariant.0, c.self.invariant.1, joined_is _ _ _ _ _ _ _ _ _ c.in-Ok.text.items _ h c.fragments.ensures (ap Proof c.from_vec.ensures) c.in-Ok.ensures.joined c.in-Ok.ensures.short c.in-Ok.ensures.accepted, c.self.invariant.3)
 
 pub invariant_of-self-in-Err-TooLong : goal.invariant_of-self-in-Err-TooLong
 invariant_of-self-in-Err-TooLong c =
     let t = taken_at _ c.args.self.now c.args.worker c.number.result _ _ _ c.self.view_is c.number.ensures.value c.self.invariant.2 c.requires.closes c.index_mut.ensures.value c.take.ensures.value c.in-Some.is in
-    let h : IsShut _ c.args.self.now c.args.worker c.number.result c.in-Some.job c.emptied-job.result.1.items c.close-before.new.self c.take.new.self =
+    let h : IsShut _ c.args.self.now c.args.worker c.number.result c.in-Some.job c.emptied-job.result.1 c.close-before.new.self c.take.new.self =
     record { taken = t; text_is = c.emptied-job.ensures.bytes; rows_are = c.close-before.ensures.now; none = c.take.ensures.after } in
     let some = some_joined _ _ _ _ _ _ _ _ _ h (c.are_closed.ensures.0 c.if-not-are_closed.false) c.fragments.ensures in
     let long : 2 ^ 32 ≤ length some.0 = c.in-Err-TooLong.ensures.long c.in-Err-TooLong.field-0-is some.0 some.1 in
@@ -60,14 +60,14 @@ invariant_of-self-in-Err-TooLong c =
 pub give_back-bytes-requires-clause-inside : goal.give_back-bytes-requires-clause-inside
 give_back-bytes-requires-clause-inside c =
     let t = taken_at _ c.args.self.now c.args.worker c.number.result _ _ _ c.self.view_is c.number.ensures.value c.self.invariant.2 c.requires.closes c.index_mut.ensures.value c.take.ensures.value c.in-Some.is in
-    let h : IsShut _ c.args.self.now c.args.worker c.number.result c.in-Some.job c.emptied-job.result.1.items c.close-before.new.self c.take.new.self =
+    let h : IsShut _ c.args.self.now c.args.worker c.number.result c.in-Some.job c.emptied-job.result.1 c.close-before.new.self c.take.new.self =
     record { taken = t; text_is = c.emptied-job.ensures.bytes; rows_are = c.close-before.ensures.now; none = c.take.ensures.after } in
     (leaf_back _ _ _ _ _ _ _ _ h).0
 
 pub give_back-bytes-requires-clause-closed : goal.give_back-bytes-requires-clause-closed
 give_back-bytes-requires-clause-closed c =
     let t = taken_at _ c.args.self.now c.args.worker c.number.result _ _ _ c.self.view_is c.number.ensures.value c.self.invariant.2 c.requires.closes c.index_mut.ensures.value c.take.ensures.value c.in-Some.is in
-    let h : IsShut _ c.args.self.now c.args.worker c.number.result c.in-Some.job c.emptied-job.result.1.items c.close-before.new.self c.take.new.self =
+    let h : IsShut _ c.args.self.now c.args.worker c.number.result c.in-Some.job c.emptied-job.result.1 c.close-before.new.self c.take.new.self =
     record { taken = t; text_is = c.emptied-job.ensures.bytes; rows_are = c.close-before.ensures.now; none = c.take.ensures.after } in
     (leaf_back _ _ _ _ _ _ _ _ h).1
 
@@ -78,23 +78,23 @@ index_mut-requires-2 c =
 pub invariant_of-self-2 : goal.invariant_of-self-2
 invariant_of-self-2 c =
     let t = taken_at _ c.args.self.now c.args.worker c.number.result _ _ _ c.self.view_is c.number.ensures.value c.self.invariant.2 c.requires.closes c.index_mut.ensures.value c.take.ensures.value c.in-Some.is in
-    let h : IsShut _ c.args.self.now c.args.worker c.number.result c.in-Some.job c.emptied-job.result.1.items c.close-before.new.self c.take.new.self =
+    let h : IsShut _ c.args.self.now c.args.worker c.number.result c.in-Some.job c.emptied-job.result.1 c.close-before.new.self c.take.new.self =
     record { taken = t; text_is = c.emptied-job.ensures.bytes; rows_are = c.close-before.ensures.now; none = c.take.ensures.after } in
-    let back = given_back _ _ _ _ _ c.filled.result _ c.close-before.result.items _ c.give_back-bytes.new.self _ h c.close-before.ensures.before c.give_back-bytes.ensures.now
+    let back = given_back _ _ _ _ _ c.filled.result _ c.close-before.result _ c.give_back-bytes.new.self _ h c.close-before.ensures.before c.give_back-bytes.ensures.now
     (c.filled.ensures ∙ ap (refilled c.emptied-job.result.0) (c.give_back-bytes.ensures.fragment ∙ text_back _ _ _ _ _ _ _ _ h) ∙ c.emptied-job.ensures.back) in
     (c.self.invariant.0, c.self.invariant.1, subst IsCoordinator (sym back) c.self.invariant.2, c.self.invariant.3)
 
 pub returns-in-Ok : goal.returns-in-Ok
 returns-in-Ok c =
     let t = taken_at _ c.args.self.now c.args.worker c.number.result _ _ _ c.self.view_is c.number.ensures.value c.self.invariant.2 c.requires.closes c.index_mut.ensures.value c.take.ensures.value c.in-Some.is in
-    let h : IsShut _ c.args.self.now c.args.worker c.number.result c.in-Some.job c.emptied-job.result.1.items c.close-before.new.self c.take.new.self =
+    let h : IsShut _ c.args.self.now c.args.worker c.number.result c.in-Some.job c.emptied-job.result.1 c.close-before.new.self c.take.new.self =
     record { taken = t; text_is = c.emptied-job.ensures.bytes; rows_are = c.close-before.ensures.now; none = c.take.ensures.after } in
     ends_joined _ _ _ _ _ _ _ _ _ c.in-Ok.text.items _ h (c.are_closed.ensures.0 c.if-not-are_closed.false) c.fragments.ensures (ap Proof c.from_vec.ensures) c.in-Ok.ensures.joined c.in-Ok.ensures.short
 
 pub returns-in-Err-TooLong : goal.returns-in-Err-TooLong
 returns-in-Err-TooLong c =
     let t = taken_at _ c.args.self.now c.args.worker c.number.result _ _ _ c.self.view_is c.number.ensures.value c.self.invariant.2 c.requires.closes c.index_mut.ensures.value c.take.ensures.value c.in-Some.is in
-    let h : IsShut _ c.args.self.now c.args.worker c.number.result c.in-Some.job c.emptied-job.result.1.items c.close-before.new.self c.take.new.self =
+    let h : IsShut _ c.args.self.now c.args.worker c.number.result c.in-Some.job c.emptied-job.result.1 c.close-before.new.self c.take.new.self =
     record { taken = t; text_is = c.emptied-job.ensures.bytes; rows_are = c.close-before.ensures.now; none = c.take.ensures.after } in
     let some = some_joined _ _ _ _ _ _ _ _ _ h (c.are_closed.ensures.0 c.if-not-are_closed.false) c.fragments.ensures in
     let long : 2 ^ 32 ≤ length some.0 = c.in-Err-TooLong.ensures.long c.in-Err-TooLong.field-0-is some.0 some.1 in
@@ -103,8 +103,8 @@ returns-in-Err-TooLong c =
 pub returns : goal.returns
 returns c =
     let t = taken_at _ c.args.self.now c.args.worker c.number.result _ _ _ c.self.view_is c.number.ensures.value c.self.invariant.2 c.requires.closes c.index_mut.ensures.value c.take.ensures.value c.in-Some.is in
-    let h : IsShut _ c.args.self.now c.args.worker c.number.result c.in-Some.job c.emptied-job.result.1.items c.close-before.new.self c.take.new.self =
+    let h : IsShut _ c.args.self.now c.args.worker c.number.result c.in-Some.job c.emptied-job.result.1 c.close-before.new.self c.take.new.self =
     record { taken = t; text_is = c.emptied-job.ensures.bytes; rows_are = c.close-before.ensures.now; none = c.take.ensures.after } in
-    let back = given_back _ _ _ _ _ c.filled.result _ c.close-before.result.items _ c.give_back-bytes.new.self _ h c.close-before.ensures.before c.give_back-bytes.ensures.now
+    let back = given_back _ _ _ _ _ c.filled.result _ c.close-before.result _ c.give_back-bytes.new.self _ h c.close-before.ensures.before c.give_back-bytes.ensures.now
     (c.filled.ensures ∙ ap (refilled c.emptied-job.result.0) (c.give_back-bytes.ensures.fragment ∙ text_back _ _ _ _ _ _ _ _ h) ∙ c.emptied-job.ensures.back) in
     refused _ _ _ _ c.self.view_is back

@@ -1,4 +1,4 @@
-use Rattle.std.proofs.Common.{◌≢◌, ◌<◌, ◌∙◌, ℕ, List, [], length, map, get_or, subst, sym, ap, Vec, Global}
+use Rattle.std.proofs.Common.{◌≢◌, ◌<◌, ◌∙◌, ℕ, List, [], length, get_or, subst, sym, ap}
 use Rattle.coordinator_core.specs.Splits.{doubled}
 use Rattle.coordinator_core.specs.inner.Tables.{LeafRows}
 use Rattle.coordinator_core.specs.declared.desks.LeafState.TheVariants.{Open, Closed}
@@ -11,5 +11,5 @@ invariant_of-self-2 c =
     (subst (λ (t : LeafRows). c.args.leaf < length t.states) (sym c.self.view_is) c.requires.inside)
     (subst (λ (t : LeafRows). get_or t.states c.args.leaf Closed ≢ Closed) (sym c.self.view_is) c.requires.unclosed)
     (c.open_branches.ensures ∙ ap (doubled c.args.leaf Open) c.reserve.ensures.items)
-    (c.empty_branches.ensures ∙ ap (λ (texts : List (Vec ℕ Global)). doubled c.args.leaf [] (map (λ v. v.items) texts)) c.reserve-2.ensures.items)
+    (c.empty_branches.ensures ∙ ap (doubled c.args.leaf []) c.reserve-2.ensures.items)
     c.min-self-inside.ensures
