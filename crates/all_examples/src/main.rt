@@ -58,7 +58,7 @@ fn found(alloc: Global, input: &[u8], formula: &Formula) -> Result<&'static str,
             Ok(if holds { "satisfied" } else { "NOT SATISFIED" })
         }
         (20, Some(proof)) => {
-            let accepted = check(alloc, formula, proof.as_slice()).is_ok();
+            let accepted = check(alloc, formula, proof.to_text(alloc)?.as_slice()).is_ok();
             Ok(if accepted { "refuted" } else { "NOT REFUTED" })
         }
         _ => Ok("UNKNOWN"),

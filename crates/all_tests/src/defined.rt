@@ -48,7 +48,7 @@ fn refutes(
 {
     let report = solved(alloc, input, None, options)?;
     assert_eq!(rt; report.status, 20);
-    let proof = report.proof.ok_or("no proof")?;
+    let proof = report.proof.ok_or("no proof")?.to_text(alloc)?;
     assert!(rt; proof.as_slice().starts_with(front));
     prints(rt, alloc, input, proof.as_slice(), VERIFIED)
 }

@@ -38,7 +38,7 @@ fn solve_split(
 fn refutes(rt: &impl Abort, alloc: Global, input: &[u8], report: Report) -> Result<Vec<u8>, Fail> {
     assert_eq!(rt; report.stdout.as_slice(), b"s UNSATISFIABLE\n".as_slice());
     assert_eq!(rt; report.status, 20);
-    let proof = report.proof.ok_or("no proof")?;
+    let proof = report.proof.ok_or("no proof")?.to_text(alloc)?;
     prints(rt, alloc, input, proof.as_slice(), VERIFIED)?;
     Ok(proof)
 }

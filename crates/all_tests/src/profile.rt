@@ -50,7 +50,7 @@ fn a_lemma_does_without_what_follows_by_two_reasons(rt: HostRuntime) -> Result<(
     let input = b"p cnf 7 8\n1 2 0\n-2 3 0\n4 1 5 0\n4 -3 -5 0\n-4 6 0\n-4 -6 0\n-1 7 0\n-1 -7 0\n";
     let report = solved(rt.alloc(), input, None, &ALONE)?;
     assert_eq!(rt; report.status, 20);
-    let proof = report.proof.ok_or("no proof")?;
+    let proof = report.proof.ok_or("no proof")?.to_text(rt.alloc())?;
     assert_eq!(rt;
         proof.as_slice(),
         b"9 4 1 0 1 2 3 4 0\n10 -4 0 5 6 0\n11 0 10 9 7 8 0\n".as_slice()
@@ -63,7 +63,7 @@ fn forgotten_lemmas_are_lines_of_the_proof(rt: HostRuntime) -> Result<(), Fail> 
     let input = pigeons(rt.alloc())?;
     let report = solved(rt.alloc(), input.as_str().as_bytes(), None, &ALONE)?;
     assert_eq!(rt; report.status, 20);
-    let proof = report.proof.ok_or("no proof")?;
+    let proof = report.proof.ok_or("no proof")?.to_text(rt.alloc())?;
     assert!(rt; count(proof.as_slice(), b" d ") > 0);
     assert_eq!(rt; count(proof.as_slice(), b"d 0"), 0);
     prints(

@@ -171,7 +171,7 @@ fn says(rt: &impl Abort, report: &Report, text: &[u8]) {
 fn refutes(rt: &impl Abort, alloc: Global, report: &Report) -> Result<(), Fail> {
     says(rt, report, REFUTED);
     match &report.proof {
-        Some(proof) => prints(rt, alloc, FOUR, proof.as_slice(), VERIFIED),
+        Some(proof) => prints(rt, alloc, FOUR, proof.to_text(alloc)?.as_slice(), VERIFIED),
         None => Err(Fail::from("no proof")),
     }
 }
@@ -239,7 +239,7 @@ fn one_byte_a_call_is_as_good(rt: HostRuntime) -> Result<(), Fail> {
     let report = run_solve(rt.alloc(), FOUR, None, &TWO, &mut links)?;
     refutes(&rt, rt.alloc(), &report)?;
     match (&known.proof, &report.proof) {
-        (Some(want), Some(proof)) => assert_eq!(rt; proof.as_slice(), want.as_slice()),
+        (Some(want), Some(proof)) => assert_eq!(rt; proof.as_plain(), want.as_plain()),
         _ => assert!(rt; false),
     }
     Ok(())

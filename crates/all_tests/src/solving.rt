@@ -72,7 +72,7 @@ fn a_refutation_is_a_proof_that_is_verified(rt: HostRuntime) -> Result<(), Fail>
     let report = solve_within(rt.alloc(), FOUR, 100_000)?;
     assert_eq!(rt; report.stdout.as_slice(), b"s UNSATISFIABLE\n".as_slice());
     assert_eq!(rt; report.status, 20);
-    let proof = report.proof.ok_or("no proof")?;
+    let proof = report.proof.ok_or("no proof")?.to_text(rt.alloc())?;
     prints(&rt, rt.alloc(), FOUR, proof.as_slice(), VERIFIED)
 }
 
@@ -81,7 +81,7 @@ fn a_cube_at_its_limit_is_cut_in_two(rt: HostRuntime) -> Result<(), Fail> {
     let report = solve_within(rt.alloc(), EIGHT, 1)?;
     assert_eq!(rt; report.stdout.as_slice(), b"s UNSATISFIABLE\n".as_slice());
     assert_eq!(rt; report.status, 20);
-    let proof = report.proof.ok_or("no proof")?;
+    let proof = report.proof.ok_or("no proof")?.to_text(rt.alloc())?;
     prints(&rt, rt.alloc(), EIGHT, proof.as_slice(), VERIFIED)
 }
 

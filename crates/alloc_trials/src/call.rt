@@ -1,5 +1,8 @@
 //! A call that may find no memory, and the same call again.
 
+use lrat_text::PackedText;
+use std::alloc::Global;
+
 /// What a call answers.
 #[derive(Drop)]
 pub(crate) enum Answer {
@@ -25,6 +28,14 @@ pub(crate) struct Tried {
 pub(crate) trait Call {
     /// Makes it.
     fn make(&mut self) -> Answer;
+}
+
+/// A packed text that was made.
+pub(crate) fn made(alloc: Global, text: &PackedText) -> Answer {
+    match text.to_text(alloc) {
+        Ok(text) => Answer::Made(text),
+        Err(_) => Answer::NoMemory,
+    }
 }
 
 /// Makes a call, and makes it again where memory was wanting.

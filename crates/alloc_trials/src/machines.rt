@@ -72,7 +72,7 @@ enum Held {
 /// Whether this is held.
 fn holds(verdict: &Verdict, held: Held) -> bool {
     match (verdict, held) {
-        (Verdict::Proof(text), Held::Text(wanted)) => text.as_slice() == wanted,
+        (Verdict::Proof(text), Held::Text(wanted)) => text.as_plain() == Some(wanted),
         (Verdict::Model(values), Held::Values(wanted)) => values.values() == wanted,
         _ => false,
     }
@@ -91,7 +91,7 @@ fn kept_of(reaction: Reaction, verdict: &Verdict, old: Held, new: Held) -> Answe
 /// What a reaction says, where this proof is to be held.
 fn answer_of(reaction: Reaction, verdict: &Verdict, wanted: &[u8]) -> Answer {
     match (reaction, verdict) {
-        (Reaction::Verdict, Verdict::Proof(text)) if text.as_slice() == wanted => {
+        (Reaction::Verdict, Verdict::Proof(text)) if text.as_plain() == Some(wanted) => {
             Answer::Said("the proof is held\n")
         }
         (Reaction::NoMemory, Verdict::Nothing) => Answer::NoMemory,

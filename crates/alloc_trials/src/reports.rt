@@ -2,7 +2,7 @@
 
 ghost use Rattle.node_main.specs.Solving.{AreOptions};
 
-use crate::call::{Answer, Call, Tried, try_twice};
+use crate::call::{Answer, Call, Tried, made, try_twice};
 use crate::searches::FOUR;
 use links::{Counted, Memory};
 use node_main::{Options, Report, run_solve};
@@ -48,11 +48,11 @@ fn solved(alloc: Global, input: &[u8], options: &Options) -> Result<Report, Allo
 }
 
 /// What was printed, or the proof that goes with it.
-fn text_of(report: Report) -> Vec<u8> {
+fn told(alloc: Global, report: Report) -> Answer {
     let Report { stdout, proof, .. } = report;
     match proof {
-        Some(proof) => proof,
-        None => stdout,
+        Some(proof) => made(alloc, &proof),
+        None => Answer::Made(stdout),
     }
 }
 
@@ -64,7 +64,7 @@ impl Call for Run {
             solved(self.alloc, self.input, &ALONE)
         };
         match report {
-            Ok(report) => Answer::Made(text_of(report)),
+            Ok(report) => told(self.alloc, report),
             Err(_) => Answer::NoMemory,
         }
     }

@@ -2,7 +2,7 @@
 
 ghost use Rattle.dimacs.specs.logic.Literal.{IsWithin};
 
-use crate::call::{Answer, Call, Tried, try_twice};
+use crate::call::{Answer, Call, Tried, made, try_twice};
 use cube_solve::{Outcome, solve};
 use dimacs::{Base, Lit, Var, read};
 use std::alloc::{AllocError, Global};
@@ -47,7 +47,7 @@ impl Call for Search {
         };
         match outcome {
             Ok(Outcome::Model(_)) => Answer::Said("satisfied\n"),
-            Ok(Outcome::Refuted(text)) => Answer::Made(text),
+            Ok(Outcome::Refuted(text)) => made(self.alloc, &text),
             Ok(Outcome::Limit(_)) => Answer::Said("limit\n"),
             Err(_) => Answer::NoMemory,
         }

@@ -1,8 +1,9 @@
 //! A fragment that is trimmed.
 
-use crate::call::{Answer, Call, Tried, try_twice};
+use crate::call::{Answer, Call, Tried, made, try_twice};
 use crate::searches::FOUR;
 use dimacs::{Base, read};
+use lrat_text::PackedText;
 use proof_trim::trim;
 use std::alloc::{AllocError, Global};
 use std::fmt::Write;
@@ -17,11 +18,11 @@ struct Long {
 
 impl Call for Long {
     fn make(&mut self) -> Answer {
-        let Ok(fragment) = Vec::from_slice(self.alloc, self.fragment.as_str().as_bytes()) else {
+        let Ok(fragment) = PackedText::of(self.alloc, self.fragment.as_str().as_bytes()) else {
             return Answer::NoMemory;
         };
         match trim(self.alloc, &self.base, &[], 2, fragment) {
-            Ok(text) => Answer::Made(text),
+            Ok(text) => made(self.alloc, &text),
             Err(_) => Answer::NoMemory,
         }
     }

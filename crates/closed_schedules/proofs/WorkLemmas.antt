@@ -40,7 +40,7 @@ pub record OwnReplies (T : Told) (w : WorkerState) (U : Told) : Type 0 where
 -- what is kept of an end, as a reply
 abbrev reply_of : ℕ → Outcome → Reply
 reply_of vars (outcome.Model values) = Shown answers.Assignment (map value_byte (take vars values))
-reply_of vars (outcome.Refuted text) = if nat_lt (length text.items) (2 ^ 32) then Shown answers.Refuted text.items else Met
+reply_of vars (outcome.Refuted text) = if nat_lt (length text) (2 ^ 32) then Shown answers.Refuted text else Met
 reply_of vars (outcome.Limit text) = Met
 
 abbrev work_for : JobName → Reply → Work
@@ -49,9 +49,9 @@ work_for name (Shown answer bytes) = Found name answer bytes None
 
 kept_is : (name : JobName) (vars : ℕ) (end : Outcome) → kept name vars end ≡ work_for name (reply_of vars end)
 kept_is name vars (outcome.Model values) = refl
-kept_is name vars (outcome.Refuted text) = go (nat_lt (length text.items) (2 ^ 32))
+kept_is name vars (outcome.Refuted text) = go (nat_lt (length text) (2 ^ 32))
   where
-    go : (b : Bool) → (if b then Found name answers.Refuted text.items None else Limited name) ≡ work_for name (if b then Shown answers.Refuted text.items else Met)
+    go : (b : Bool) → (if b then Found name answers.Refuted text None else Limited name) ≡ work_for name (if b then Shown answers.Refuted text else Met)
     go true = refl
     go false = refl
 kept_is name vars (outcome.Limit text) = refl
@@ -74,9 +74,9 @@ model_true F B cube values base model =
 reply_true : (F B : Cnf) (asked : List Asked) (name : JobName) (cube : Cube) (limit : ℕ) (end : Outcome) → IsDefinedBase F B → Contains asked (asks name cube) → MayEnd B cube limit end
     → IsTrueReply F B asked name (reply_of F.vars end)
 reply_true F B asked name cube limit (outcome.Model values) base known ends = (Model (take F.vars values), model_true F B cube values base ends)
-reply_true F B asked name cube limit (outcome.Refuted text) base known ends = go (nat_lt (length text.items) (2 ^ 32))
+reply_true F B asked name cube limit (outcome.Refuted text) base known ends = go (nat_lt (length text) (2 ^ 32))
   where
-    go : (b : Bool) → IsTrueReply F B asked name (if b then Shown answers.Refuted text.items else Met)
+    go : (b : Bool) → IsTrueReply F B asked name (if b then Shown answers.Refuted text else Met)
     go true = (cube, known, ends.0)
     go false = tt
 reply_true F B asked name cube limit (outcome.Limit text) base known ends = tt

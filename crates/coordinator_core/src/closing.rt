@@ -15,7 +15,7 @@ use crate::desks::{Fixed, Job};
 use cube_split::base_or;
 use evidence::Evidence;
 use frames::WorkerNumber;
-use lrat_check::{ProofText, Reaction, Verdict, check_fragment};
+use lrat_check::{Reaction, Verdict, check_packed_fragment};
 use lrat_text::PackedText;
 use proof_join::{JoinFault, join_packed};
 use std::alloc::Global;
@@ -100,22 +100,19 @@ impl Coordinator {
             None => Tested::NoMemory,
             Some(job) => match &job.fixed {
                 None => Tested::NoMemory,
-                Some(fixed) => match fixed.evidence.bytes.to_text(self.alloc) {
-                    Ok(text) => self.test_text(worker, job.leaf, &text),
-                    Err(_) => Tested::NoMemory,
-                },
+                Some(fixed) => self.test_text(worker, job.leaf, &fixed.evidence.bytes),
             },
         }
     }
 
     /// Tests a fragment of the leaf of a worker's job.
-    fn test_text(&self, worker: WorkerNumber, leaf: usize, text: &[u8]) -> Tested
+    fn test_text(&self, worker: WorkerNumber, leaf: usize, text: &PackedText) -> Tested
         requires { (j : Job) × (job_at self.now worker ≡ Some j) × (j.leaf ≡ leaf) }
         ensures closes { result ≡ Tested.Closes → Closes (coordinator_base self.now) (cube_at self.now leaf) text.now }
         ensures wrong { result ≡ Tested.Wrong → ¬ (Closes (coordinator_base self.now) (cube_at self.now leaf) text.now) }
     {
         let base = base_or(&self.base, &self.formula);
-        match check_fragment(self.alloc, base, self.tree.cube(leaf), text) {
+        match check_packed_fragment(self.alloc, base, self.tree.cube(leaf), text) {
             Ok(()) => Tested::Closes,
             Err(fault) if fault.is_no_memory() => Tested::NoMemory,
             Err(_) => Tested::Wrong,
@@ -160,7 +157,7 @@ impl Coordinator {
             self.leaves.fragments(),
         ) {
             Ok(text) => {
-                self.verdict = Verdict::Proof(ProofText::from_vec(text));
+                self.verdict = Verdict::Proof(text);
                 return Reaction::Verdict;
             }
             Err(JoinFault::TooLong) => {

@@ -28,13 +28,13 @@ fn value_bytes(alloc: Global, values: &[bool]) -> Result<Vec<u8>, AllocError>
     values.iter().map(|v| u8::from(*v)).collect(alloc)
 }
 
-/// At most 4,000 of the items from an offset on.
-fn part_of<T>(items: &[T], offset: usize) -> &[T]
-    requires { offset < length items.now }
-    ensures part { result.now ≡ take chunk (drop offset items.now) }
+/// At most 4,000 of the values from an offset on.
+fn part_of(values: &[bool], offset: usize) -> &[bool]
+    requires { offset < length values.now }
+    ensures part { result.now ≡ take chunk (drop offset values.now) }
     ensures few { length result.now ≤ 4000 }
 {
-    let (_, rest) = items.split_at(offset);
+    let (_, rest) = values.split_at(offset);
     let count = Chunk::LONGEST.min(rest.len());
     let (part, _) = rest.split_at(count);
     part
@@ -51,7 +51,10 @@ fn part(alloc: Global, verdict: &Verdict, offset: u32) -> Result<Chunk, AllocErr
             let bytes = value_bytes(alloc, part_of(values.values(), offset as usize))?;
             Ok(Chunk::from_vec(bytes))
         }
-        Verdict::Proof(text) => Chunk::from_slice(alloc, part_of(text.as_slice(), offset as usize)),
+        Verdict::Proof(text) => {
+            let bytes = text.read(alloc, offset as usize, Chunk::LONGEST)?;
+            Ok(Chunk::from_vec(bytes))
+        }
     }
 }
 

@@ -15,7 +15,7 @@ pub(crate) fn length_of(verdict: &Verdict) -> usize
     match verdict {
         Verdict::Nothing => 0,
         Verdict::Model(assignment) => assignment.len(),
-        Verdict::Proof(text) => text.as_slice().len(),
+        Verdict::Proof(text) => text.len(),
     }
 }
 

@@ -26,6 +26,7 @@ use crate::pace::Pace;
 use crate::state::State;
 use conflict_analysis::{Analyser, Closing, Lemma, close_cube};
 use dimacs::{Base, Lit};
+use lrat_text::PackedText;
 use std::alloc::{AllocError, Global};
 use watches::{Propagator, add_clause};
 
@@ -108,26 +109,25 @@ impl<'a, P: Propagator> Search<'a, P> {
         log
     }
 
-    /// The log as text.
-    fn into_text(self) -> Result<Vec<u8>, AllocError>
-        ensures { IfOk result (λ text. text.items ≡ self.entry.log) }
+    /// The text of the log as it lies. The room of all else is given back.
+    fn into_packed(self) -> PackedText
+        ensures { result ≡ self.entry.log }
     {
-        self.into_log().into_text()
+        self.into_log().into_packed()
     }
 
     /// The log, ended by the lemma that closes the cube.
-    fn close(mut self, closing: Closing, id: u64) -> Result<Vec<u8>, AllocError>
+    fn close(mut self, closing: Closing, id: u64) -> Result<PackedText, AllocError>
         requires steady { IsSteady P.is_ready P.attached self.state }
         requires closing { IsClosing (live_of self.state.arena) self.state.trail.entries closing }
         requires limit { self.state.trail.vars ≤ 2000000 }
         requires id { IsClauseNumber id }
         requires numbers { AreBelow id (live_of self.state.arena) }
-        ensures { IfOk result (λ text. (lits : Clause) × IsWritten (live_of self.entry.state.arena) self.entry.state.trail.vars id lits self.entry.log text.items × NegatesAssumptions self.entry.state.trail.entries closing lits) }
+        ensures { IfOk result (λ text. (lits : Clause) × IsWritten (live_of self.entry.state.arena) self.entry.state.trail.vars id lits self.entry.log text × NegatesAssumptions self.entry.state.trail.entries closing lits) }
     {
         let lemma = close_cube(self.alloc, &self.state.arena, &self.state.trail, closing)?;
         self.log.write(id, &lemma)?;
-        let text = self.into_text()?;
-        Ok(text)
+        Ok(self.into_packed())
     }
 
     /// Learns the lemma of a conflict: it is written, and joins the clauses behind a return to its level.
@@ -237,8 +237,7 @@ impl<'a, P: Propagator> Search<'a, P> {
                     }
                     if learnt == most {
                         let _entries = self.state.trail.entries(); // of the base's variables, no two of one
-                        let log = self.into_text()?;
-                        return Ok(Outcome::Limit(log));
+                        return Ok(Outcome::Limit(self.into_packed()));
                     }
                     self.turn(base, number, learnt)?;
                     learnt += 1;

@@ -1,15 +1,17 @@
 //! What is kept of a verdict where clauses are added to its formula.
 
-ghost use Rattle.std.specs.Prelude.{◌≡◌, ◌≤◌, length, IfOk, IfSome, MatchOption, OnErr};
+ghost use Rattle.std.specs.Prelude.{◌≡◌, ◌≤◌, ℕ, List, length, IfOk, IfSome, MatchOption, OnErr};
 ghost use Rattle.dimacs.specs.logic.Cnf.{Cnf, IsFormula};
 ghost use Rattle.dimacs.specs.logic.Extension.{extended};
 ghost use Rattle.lrat_check.specs.Verdicts.{Right};
 ghost use Rattle.lrat_check.specs.declared.verdict.Verdict.TheVariants.{Model, Proof};
+ghost use Rattle.proof_join.specs.Renumbering.{Renumbers};
 ghost use Rattle.evidence.specs.Keeping.{IsGrown, Stays, lengthened};
 ghost use Rattle.evidence.specs.inner.Keeping.{IsHeldIfAccepted};
 
 use dimacs::{Assignment, Extension, Formula, satisfies};
-use lrat_check::{ProofText, Verdict, check};
+use lrat_check::{Verdict, check};
+use lrat_text::PackedText;
 use proof_join::renumber;
 use std::alloc::{AllocError, Global};
 
@@ -66,7 +68,7 @@ fn keep(
         Verdict::Model(values) => keep_values(alloc, grown, values),
         Verdict::Proof(text) => {
             let (old, more) = (formula.len() as u64, extension.len() as u64);
-            keep_proof(alloc, grown, text.as_slice(), old, more)
+            keep_proof(alloc, grown, text, old, more)
         }
     }
 }
@@ -99,17 +101,32 @@ fn lengthen(alloc: Global, values: &[bool], vars: usize) -> Result<Vec<bool>, Al
 fn keep_proof(
     alloc: Global,
     formula: &Formula,
-    text: &[u8],
+    text: &PackedText,
     old: u64,
     more: u64,
 ) -> Result<Verdict, AllocError>
     ensures { IfOk result (λ kept. (F x : Cnf) → formula.now ≡ extended F x → old ≡ length F.clauses → more ≡ length x.clauses
         → Stays F x (Proof text.now) kept) }
 {
-    match renumber(alloc, text, old, more)? {
+    match renumbered(alloc, text, old, more)? {
         None => Ok(Verdict::Nothing),
-        Some(renumbered) => held_if_accepted(alloc, formula, renumbered),
+        Some(raised) => held_if_accepted(alloc, formula, raised),
     }
+}
+
+/// The text under raised numbers. It stands unpacked no longer than that takes.
+fn renumbered(
+    alloc: Global,
+    text: &PackedText,
+    old: u64,
+    more: u64,
+) -> Result<Option<Vec<u8>>, AllocError>
+    ensures { IfOk result (λ found. MatchOption found
+        ((new : List ℕ) → ¬ (Renumbers old more text.now new))
+        (λ new. Renumbers old more text.now new.items)) }
+{
+    let whole = text.to_text(alloc)?;
+    renumber(alloc, &whole, old, more)
 }
 
 /// The text as a verdict, where it is an accepted proof; else nothing.
@@ -117,7 +134,7 @@ fn held_if_accepted(alloc: Global, formula: &Formula, text: Vec<u8>) -> Result<V
     ensures { IfOk result (λ held. IsHeldIfAccepted formula.now text.items held) }
 {
     match check(alloc, formula, &text) {
-        Ok(()) => Ok(Verdict::Proof(ProofText::from_vec(text))),
+        Ok(()) => Ok(Verdict::Proof(PackedText::of(alloc, &text)?)),
         Err(fault) if fault.is_no_memory() => Err(AllocError),
         Err(_) => Ok(Verdict::Nothing),
     }

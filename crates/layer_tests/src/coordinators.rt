@@ -299,10 +299,10 @@ fn holds_nothing(coordinator: &Coordinator) -> bool {
     matches!(coordinator.verdict(), Verdict::Nothing)
 }
 
-/// The text of the proof that it holds, none where it holds none.
+/// The text of the short proof that it holds, none where it holds none.
 fn text_of(coordinator: &Coordinator) -> &[u8] {
     match coordinator.verdict() {
-        Verdict::Proof(text) => text.as_slice(),
+        Verdict::Proof(text) => text.as_plain().unwrap_or(&[]),
         _ => &[],
     }
 }

@@ -30,7 +30,7 @@ fn is_held(verdict: &Verdict, held: Held<'_>) -> bool {
     match (verdict, held) {
         (Verdict::Nothing, Held::Nothing) => true,
         (Verdict::Model(values), Held::Values(wanted)) => values.values() == wanted,
-        (Verdict::Proof(text), Held::Text(wanted)) => text.as_slice() == wanted,
+        (Verdict::Proof(text), Held::Text(wanted)) => text.as_plain() == Some(wanted),
         _ => false,
     }
 }

@@ -4,7 +4,7 @@ use crate::inputs::FOUR;
 use crate::searches::EIGHT;
 use cube_solve::{Outcome, solve_by};
 use dimacs::{Base, Formula, read, satisfies};
-use lrat_check::check_fragment;
+use lrat_check::check_packed_fragment;
 use std::alloc::Global;
 use std::process::Abort;
 use std::test::Fail;
@@ -19,7 +19,7 @@ const FORMULAS: [(&[u8], bool); 5] = [
     (EIGHT, false),
 ];
 
-/// The outcome of a search is the formula's, and is accepted by `satisfies` or by `check_fragment`.
+/// The outcome of a search is the formula's, and is accepted by `satisfies` or by `check_packed_fragment`.
 fn is_accepted(
     rt: &impl Abort,
     alloc: Global,
@@ -36,7 +36,7 @@ fn is_accepted(
         }
         Outcome::Refuted(text) => {
             assert!(rt; !satisfiable);
-            assert!(rt; check_fragment(alloc, base, &[], text.as_slice()).is_ok());
+            assert!(rt; check_packed_fragment(alloc, base, &[], &text).is_ok());
         }
         Outcome::Limit(_) => assert!(rt; false),
     }

@@ -43,8 +43,8 @@ fn solve_under(alloc: Global, base: &Base, literal: Lit, limit: u64) -> Result<O
 fn is_wanted(outcome: &Outcome, want: &Want) -> bool {
     match (outcome, want) {
         (Outcome::Model(values), Want::Model(wanted)) => values.values() == *wanted,
-        (Outcome::Refuted(text), Want::Refuted(wanted)) => text.as_slice() == *wanted,
-        (Outcome::Limit(text), Want::Limit(wanted)) => text.as_slice() == *wanted,
+        (Outcome::Refuted(text), Want::Refuted(wanted)) => text.as_plain() == Some(*wanted),
+        (Outcome::Limit(text), Want::Limit(wanted)) => text.as_plain() == Some(*wanted),
         _ => false,
     }
 }
@@ -113,20 +113,20 @@ fn a_limit_of_0_ends_at_the_first_conflict(rt: HostRuntime) -> Result<(), Fail> 
 }
 
 /// The log of a search at its limit.
-fn log_of(outcome: Outcome) -> Option<Vec<u8>> {
+fn log_of(alloc: Global, outcome: Outcome) -> Result<Vec<u8>, Fail> {
     match outcome {
-        Outcome::Model(_) => None,
-        Outcome::Refuted(text) => Some(text),
-        Outcome::Limit(text) => Some(text),
+        Outcome::Model(_) => Err(Fail::from("no log")),
+        Outcome::Refuted(text) => Ok(text.to_text(alloc)?),
+        Outcome::Limit(text) => Ok(text.to_text(alloc)?),
     }
 }
 
 #[test]
 fn a_log_has_as_many_lemmas_as_the_limit(rt: HostRuntime) -> Result<(), Fail> {
     let base = base_of(rt.alloc(), EIGHT)?;
-    let all = log_of(solve_alone(rt.alloc(), &base, 19)?).ok_or("no log")?;
+    let all = log_of(rt.alloc(), solve_alone(rt.alloc(), &base, 19)?)?;
     for limit in 1..3u64 {
-        let log = log_of(solve_alone(rt.alloc(), &base, limit)?).ok_or("no log")?;
+        let log = log_of(rt.alloc(), solve_alone(rt.alloc(), &base, limit)?)?;
         assert_eq!(rt; log.iter().filter(|b| **b == b'\n').count() as u64, limit);
         assert!(rt; all.starts_with(&log));
         assert!(rt; log.len() < all.len());

@@ -39,7 +39,7 @@ fn is_refuted(rt: &impl Abort, alloc: Global, workers: u32, limit: u64) -> Resul
     assert!(rt; workers >= 1 && workers <= 64);
     match verdict_of(alloc, workers, limit)? {
         Verdict::Proof(text) => {
-            assert!(rt; check(alloc, &all_eight(alloc)?, text.as_slice()).is_ok());
+            assert!(rt; check(alloc, &all_eight(alloc)?, text.to_text(alloc)?.as_slice()).is_ok());
         }
         _ => assert!(rt; false),
     }

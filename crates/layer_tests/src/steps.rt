@@ -47,7 +47,7 @@ fn lines_are_read_and_written(rt: HostRuntime) -> Result<(), Fail> {
         packed.put(buffer.as_ref(), 7, &mut scratch)?;
         text.extend_from_slice(*want)?;
     }
-    assert_eq!(rt; packed.into_text()?.as_slice(), text.as_slice());
+    assert_eq!(rt; packed.to_text(a)?.as_slice(), text.as_slice());
     Ok(())
 }
 
@@ -97,7 +97,7 @@ fn is_mended(rt: &impl Abort, alloc: Global, plain: usize, cut: usize) -> Result
     );
     packed.extend(&part(alloc, &text, cut, 9001)?)?;
     assert_eq!(rt; packed.len(), 9001);
-    assert_eq!(rt; packed.into_text()?.as_slice(), text.as_slice());
+    assert_eq!(rt; packed.to_text(alloc)?.as_slice(), text.as_slice());
     Ok(())
 }
 

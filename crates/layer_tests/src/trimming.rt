@@ -2,6 +2,7 @@
 
 use crate::inputs::FOUR;
 use crate::searches::base_of;
+use lrat_text::PackedText;
 use proof_trim::trim;
 use std::alloc::{AllocError, Global};
 use std::fmt::Write;
@@ -21,8 +22,8 @@ fn with_idle(alloc: Global, end: &str) -> Result<String, AllocError> {
 /// What a fragment over the four clauses is trimmed to, under no cube.
 fn trimmed(alloc: Global, most: u64, fragment: &str) -> Result<Vec<u8>, Fail> {
     let base = base_of(alloc, FOUR)?;
-    let fragment = Vec::from_slice(alloc, fragment.as_bytes())?;
-    Ok(trim(alloc, &base, &[], most, fragment)?)
+    let fragment = PackedText::of(alloc, fragment.as_bytes())?;
+    Ok(trim(alloc, &base, &[], most, fragment)?.to_text(alloc)?)
 }
 
 #[test]

@@ -261,7 +261,7 @@ fn a_proof_is_held_once_its_last_byte_is_there(rt: HostRuntime) -> Result<(), Fa
     let Verdict::Proof(text) = worker.into_verdict() else {
         return Err(Fail::from("a proof"));
     };
-    assert_eq!(rt; text.as_slice(), PROOF);
+    assert_eq!(rt; text.as_plain(), Some(PROOF));
     Ok(())
 }
 

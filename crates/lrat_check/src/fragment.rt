@@ -12,7 +12,7 @@ ghost use Rattle.lrat_check.specs.inner.Changes.{NoneNew};
 ghost use Rattle.lrat_check.specs.Checking.{GivesCheck, no_memory};
 ghost use Rattle.lrat_check.specs.Faults.{live_after, removed, top_after};
 ghost use Rattle.lrat_check.specs.inner.FragmentFaults.{FragmentGoesOn, FragmentStops, fragment_fault_number, fragment_refusal, number_in};
-ghost use Rattle.lrat_check.specs.Fragments.{closes, fragment_of, fragment_text, fragment_step_fault, own_addition_fault, own_deletion_fault, own_lemma_fault};
+ghost use Rattle.lrat_check.specs.Fragments.{closes, fragment_of, fragment_step_fault, own_addition_fault, own_deletion_fault, own_lemma_fault};
 ghost use Rattle.lrat_check.specs.inner.Marks.{IsUnused, AllAtMost};
 ghost use Rattle.lrat_check.specs.inner.Table.{FitsTable, AllFit};
 
@@ -24,7 +24,7 @@ use crate::loading::load;
 use crate::marks::{Marks, assume_negations};
 use crate::propagation::follow;
 use dimacs::{Base, Lit, has_literal};
-use lrat_text::{StepBuffer, StepRef, TakesLines, read_line, take_lines};
+use lrat_text::{PackedLines, PackedText, StepBuffer, StepRef, TakesLines, read_line, take_lines};
 use std::alloc::{AllocError, Global};
 
 /// The fault of a text whose last step does not close the cube.
@@ -296,13 +296,45 @@ impl<'a> TakesLines for FragmentLines<'a> {
     }
 }
 
-/// Checks line by line.
-fn check_lines(lines: &mut FragmentLines<'_>, fragment: &[u8]) -> Result<(), CheckFault>
-    ensures { GivesCheck result (fragment_text lines.old.checker.base lines.old.cube.now lines.old.checker.closed lines.old.checker.clauses lines.old.checker.top lines.old.line fragment.now) }
-{
-    match take_lines(lines, fragment) {
-        Ok(rest) => finish(NOT_CLOSED, lines.checker.closed, lines.line, rest),
-        Err(fault) => Err(fault),
+impl<'a> FragmentLines<'a> {
+    ghost use Rattle.lrat_check.specs.inner.FragmentLines.{IsBegun, text_in};
+
+    /// No line was handed on yet.
+    fn begin(alloc: Global, base: &Base, cube: &'a [Lit]) -> Result<FragmentLines<'a>, AllocError>
+        ensures { IfOk result (λ lines. IsBegun base.now cube.now lines) }
+    {
+        let checker = begin(alloc, base)?;
+        Ok(FragmentLines {
+            checker,
+            buffer: StepBuffer::new(alloc),
+            cube,
+            line: 1,
+        })
+    }
+
+    /// Checks line by line.
+    fn check(&mut self, fragment: &[u8]) -> Result<(), CheckFault>
+        ensures { GivesCheck result (text_in self.old fragment.now) }
+    {
+        match take_lines(self, fragment) {
+            Ok(rest) => finish(NOT_CLOSED, self.checker.closed, self.line, rest),
+            Err(fault) => Err(fault),
+        }
+    }
+
+    /// Checks line by line, where the lines lie packed.
+    fn check_packed(&mut self, alloc: Global, fragment: &PackedText) -> Result<(), CheckFault>
+        ensures { GivesCheck result (text_in self.old fragment.now) }
+    {
+        let mut left = PackedLines::of(alloc, fragment);
+        let mut line = Vec::new(alloc);
+        while left.next(&mut line)? {
+            match self.take_line(&line) {
+                Ok(()) => {}
+                Err(fault) => return Err(fault),
+            }
+        }
+        finish(NOT_CLOSED, self.checker.closed, self.line, &line)
     }
 }
 
@@ -319,14 +351,27 @@ pub fn check_fragment(
     // the first fault, and its line
     ensures exact { GivesCheck result (fragment_of base.now cube.now fragment.now) }
 {
-    let Ok(checker) = begin(alloc, base) else {
-        return Err(out_of_memory());
-    };
-    let mut lines = FragmentLines {
-        checker,
-        buffer: StepBuffer::new(alloc),
-        cube,
-        line: 1,
-    };
-    check_lines(&mut lines, fragment)
+    match FragmentLines::begin(alloc, base, cube) {
+        Ok(mut lines) => lines.check(fragment),
+        Err(_) => Err(out_of_memory()),
+    }
+}
+
+/// The same of a packed text, which never stands whole: its lines are unpacked one after the other.
+pub fn check_packed_fragment(
+    alloc: Global,
+    base: &Base,
+    cube: &[Lit],
+    fragment: &PackedText,
+) -> Result<(), CheckFault>
+    ensures closes { OnOk result (Closes base.now cube.now fragment.now) }
+    // a fragment that closes the cube is refused for want of memory alone
+    ensures complete { Closes base.now cube.now fragment.now → (result ≡ Ok tt) ⊎ (result ≡ Err no_memory) }
+    // the first fault, and its line
+    ensures exact { GivesCheck result (fragment_of base.now cube.now fragment.now) }
+{
+    match FragmentLines::begin(alloc, base, cube) {
+        Ok(mut lines) => lines.check_packed(alloc, fragment),
+        Err(_) => Err(out_of_memory()),
+    }
 }

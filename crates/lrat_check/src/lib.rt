@@ -30,11 +30,11 @@ mod verdict;
 pub use checker::Checker;
 pub use checking::CheckFault;
 pub use fault::StepFault;
-pub use fragment::check_fragment;
+pub use fragment::{check_fragment, check_packed_fragment};
 pub use judging::{Judged, judge_values};
 pub use laws::{
     accepted_proofs_are_sound, fragment_fault_is_exact, proof_fault_is_exact, right_verdicts_agree,
     right_verdicts_are_true, step_fault_is_exact,
 };
 pub use stream::{StreamChecker, check, check_pieces};
-pub use verdict::{ProofText, Reaction, Verdict};
+pub use verdict::{Reaction, Verdict};

@@ -4,7 +4,7 @@ use Rattle.std.proofs.lemmas.Bool.Decides.{nat_tests}
 use Rattle.std.proofs.lemmas.Slice.Eq.{bytes_eq-Decides}
 use Rattle.lrat_text.specs.Packed.{half_text}
 use Rattle.lrat_text.proofs.SpellingLemmas.{both_true}
-use Rattle.lrat_text.specs.declared.packed.TheConstants.{CODES, GLYPHS}
+use Rattle.lrat_text.specs.declared.glyphs.TheConstants.{CODES, GLYPHS}
 
 -- the first so many halves stand for their characters
 abbrev halves : ℕ → Bool

@@ -12,6 +12,7 @@ pub mod PackedLemmas
 mod PackedLineLemmas
 pub mod PieceLemmas
 pub mod ReadStepLemmas
+mod RopeLemmas
 pub mod RunLemmas
 mod ShortLemmas
 pub mod SpelledStepLemmas

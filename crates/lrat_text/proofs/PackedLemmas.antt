@@ -1,11 +1,12 @@
 -- Text, two characters in a byte.
-use Rattle.std.proofs.Common.{◌≡◌, ◌⊎◌, inl, inr, ℕ, zero, suc, ◌+◌, ◌-◌, ◌*◌, ◌/◌, ◌%◌, ◌<◌, ◌≤◌, List, [], ◌∷◌, ◌++◌, length, get_or, take, drop, All, refl, sym, ap, ◌∙◌, arith, append_assoc, length-append}
+use Rattle.std.proofs.Common.{◌≡◌, ◌⊎◌, inl, inr, ℕ, zero, suc, ◌+◌, ◌-◌, ◌*◌, ◌/◌, ◌%◌, ◌<◌, ◌≤◌, Bool, true, false, List, [], ◌∷◌, ◌++◌, length, get_or, take, drop, All, refl, sym, subst, ap, ◌∙◌, arith, append_assoc, length-append}
 use Rattle.std.specs.List.{flat_map}
+use Rattle.std.specs.Bool.{MatchBool}
 use Rattle.std.proofs.lemmas.Bool.Decides.{nat_tests}
 use Rattle.std.proofs.lemmas.Grind.{flat_map-append}
 use Rattle.std.proofs.lemmas.List.{append-nil, take_more, drop_more, get_or-take, drop_all, length-take-le, length-drop, take-append-drop, take-append-le, drop-append-le, drop-drop}
-use Rattle.std.proofs.Math.Seq.{take-append-add, drop-append-add, take-append_seam, drop-append_seam}
-use Rattle.std.proofs.lemmas.List.Elements.{All-head, All-tail, All-take, All-get_or}
+use Rattle.std.proofs.Math.Seq.{take-add, take-append-add, drop-append-add, take-append_seam, drop-append_seam}
+use Rattle.std.proofs.lemmas.List.Elements.{All-head, All-tail, All-append, All-take, All-drop, All-get_or}
 use Rattle.std.proofs.Math.Arith.{digits_div, digits_mod}
 use Rattle.lrat_text.specs.Packed.{BeginsWithCharacter, half_text, byte_text}
 use Rattle.lrat_text.specs.inner.Packed.{IsFront, IsPair}
@@ -22,9 +23,6 @@ take_front zero m xs h = refl
 take_front (suc n) zero xs h = absurd (omega arith)
 take_front (suc n) (suc m) [] h = refl
 take_front (suc n) (suc m) (x ∷ xs) h = ap (λ (ys : List ℕ). x ∷ ys) (take_front n m xs (omega arith))
-
-pub front_same : (old mid new : List ℕ) (r s : ℕ) → take s mid ≡ take s old → take r new ≡ take r mid → r ≤ s → take r new ≡ take r old
-front_same old mid new r s e f h = f ∙ sym (take_front r s mid h) ∙ ap (take r) e ∙ take_front r s old h
 
 -- ---- pairs
 half_one : (n : ℕ) → n < 14 → length (half_text n) ≡ 1
@@ -66,49 +64,44 @@ first_of_tail bs tail count h low =
     ap (λ (n : ℕ). take n (flat_map byte_text bs ++ tail)) split
     ∙ take-append-add (flat_map byte_text bs) tail (count - 2 * length bs)
 
-even_first : (bs tail : List ℕ) (k : ℕ) → All IsPair bs → k ≤ length bs → take (2 * k) (flat_map byte_text bs ++ tail) ≡ flat_map byte_text (take k bs)
-even_first bs tail k h low =
-    take-append-le (2 * k) (flat_map byte_text bs) tail (omega (arith, twice bs h, low))
-    ∙ ap (take (2 * k)) (halved bs k)
-    ∙ ap (λ (n : ℕ). take n (flat_map byte_text (take k bs) ++ flat_map byte_text (drop k bs))) (sym (front_len bs k h low))
-    ∙ take-append_seam (flat_map byte_text (take k bs)) (flat_map byte_text (drop k bs))
+-- the first blocks, and a front of the next one
+pub first_of_blocks : (bs tail block : List ℕ) (k left : ℕ) → All IsPair bs → 2048 * k ≤ length bs → block ≡ take 2048 (drop (2048 * k) bs) → length block ≡ 2048 → left < 4096
+    → take (4096 * k + left) (flat_map byte_text bs ++ tail) ≡ flat_map byte_text (take (2048 * k) bs) ++ take left (flat_map byte_text block)
+first_of_blocks bs tail block k left h inside is len few =
+    let A = flat_map byte_text (take (2048 * k) bs) in
+    let P = flat_map byte_text block in
+    let X = flat_map byte_text (drop 2048 (drop (2048 * k) bs)) ++ tail in
+    let A_len : length A ≡ 4096 * k = omega (arith, front_len bs (2048 * k) h inside) in
+    let pairs : All IsPair block = subst (λ (ys : List ℕ). All IsPair ys) (sym is) (All-take IsPair 2048 (drop (2048 * k) bs) (All-drop IsPair (2048 * k) bs h)) in
+    let P_len : left ≤ length P = omega (arith, twice block pairs, len, few) in
+    let split : flat_map byte_text bs ++ tail ≡ A ++ (P ++ X) =
+    ap (λ (t : List ℕ). t ++ tail) (halved bs (2048 * k))
+    ∙ append_assoc A (flat_map byte_text (drop (2048 * k) bs)) tail
+    ∙ ap (λ (t : List ℕ). A ++ (t ++ tail)) (halved (drop (2048 * k) bs) 2048 ∙ ap (λ (ys : List ℕ). flat_map byte_text ys ++ flat_map byte_text (drop 2048 (drop (2048 * k) bs))) (sym is))
+    ∙ ap (λ (t : List ℕ). A ++ t) (append_assoc P (flat_map byte_text (drop 2048 (drop (2048 * k) bs))) tail) in
+    ap (take (4096 * k + left)) split
+    ∙ ap (λ (n : ℕ). take (n + left) (A ++ (P ++ X))) (sym A_len)
+    ∙ take-append-add A (P ++ X) left
+    ∙ ap (λ (t : List ℕ). A ++ t) (take-append-le left P X P_len)
 
--- one character more
-odd_first : (bs tail : List ℕ) (k : ℕ) → All IsPair bs → k < length bs → take (2 * k + 1) (flat_map byte_text bs ++ tail) ≡ flat_map byte_text (take k bs) ++ half_text (get_or bs k 0 / 16)
-odd_first bs tail k h low =
-    let front = flat_map byte_text (take k bs) in
-    let b = get_or bs k 0 in
-    let pair : IsPair b = All-get_or IsPair bs k 0 low h in
-    let high = half_text (b / 16) in
-    let rest = half_text (b % 16) ++ flat_map byte_text (drop (k + 1) bs) in
-    let split : flat_map byte_text bs ≡ front ++ (high ++ rest) =
-    halved bs k ∙ ap (λ (t : List ℕ). front ++ t) (ap (flat_map byte_text) (drop_more bs k 0 low) ∙ append_assoc high (half_text (b % 16)) (flat_map byte_text (drop (k + 1) bs))) in
-    let count : 2 * k + 1 ≡ length front + 1 = omega (arith, front_len bs k h (omega (arith, low))) in
-    let one : 1 ≡ length high = omega (arith, half_one (b / 16) pair.0) in
-    take-append-le (2 * k + 1) (flat_map byte_text bs) tail (omega (arith, twice bs h, low))
-    ∙ ap (take (2 * k + 1)) split
-    ∙ ap (λ (n : ℕ). take n (front ++ (high ++ rest))) count
-    ∙ take-append-add front (high ++ rest) 1
-    ∙ ap (λ (n : ℕ). front ++ take n (high ++ rest)) one
-    ∙ ap (λ (t : List ℕ). front ++ t) (take-append_seam high rest)
+-- a part of the pairs more
+pub part_more : (old new out xs part : List ℕ) (done few : ℕ) → out ≡ old ++ flat_map byte_text (take done xs) → new ≡ out ++ flat_map byte_text part → part ≡ take few (drop done xs)
+    → new ≡ old ++ flat_map byte_text (take (done + few) xs)
+part_more old new out xs part done few so more is =
+    more
+    ∙ ap (λ (t : List ℕ). t ++ flat_map byte_text part) so
+    ∙ append_assoc old (flat_map byte_text (take done xs)) (flat_map byte_text part)
+    ∙ ap (λ (ys : List ℕ). old ++ (flat_map byte_text (take done xs) ++ flat_map byte_text ys)) is
+    ∙ ap (λ (t : List ℕ). old ++ t) (sym (flat_map-append byte_text (take done xs) (take few (drop done xs))) ∙ sym (ap (flat_map byte_text) (take-add done few xs)))
 
-pub first_even : (bs tail : List ℕ) (count : ℕ) → All IsPair bs → count < 2 * length bs → count % 2 ≡ 0 → take count (flat_map byte_text bs ++ tail) ≡ flat_map byte_text (take (count / 2) bs)
-first_even bs tail count h lt even =
-    let half : count ≡ 2 * (count / 2) = omega (arith, even) in
-    ap (λ (n : ℕ). take n (flat_map byte_text bs ++ tail)) half ∙ even_first bs tail (count / 2) h (omega (arith, lt))
+-- pairs stay pairs, whether a block came to them or not
+pub pairs_either_way : (b : Bool) (old new block : List ℕ) → All IsPair old → All IsPair block → MatchBool b (new ≡ old ++ block) (new ≡ old) → All IsPair new
+pairs_either_way true old new block h more e = subst (λ (ys : List ℕ). All IsPair ys) (sym e) (All-append IsPair old block h more)
+pairs_either_way false old new block h more e = subst (λ (ys : List ℕ). All IsPair ys) (sym e) h
 
-pub first_odd : (bs tail : List ℕ) (count : ℕ) → All IsPair bs → count < 2 * length bs → count % 2 ≡ 1 → take count (flat_map byte_text bs ++ tail) ≡ flat_map byte_text (take (count / 2) bs) ++ half_text (get_or bs (count / 2) 0 / 16)
-first_odd bs tail count h lt odd =
-    let half : count ≡ 2 * (count / 2) + 1 = omega (arith, odd) in
-    ap (λ (n : ℕ). take n (flat_map byte_text bs ++ tail)) half ∙ odd_first bs tail (count / 2) h (omega (arith, lt, odd))
-
--- the last one of an odd number
-pub last_odd : (xs : List ℕ) → length xs % 2 ≡ 1 → get_or xs (length xs - 1) 0 ∷ [] ≡ drop (2 * (length xs / 2)) xs
-last_odd xs odd =
-    let at : 2 * (length xs / 2) ≡ length xs - 1 = omega (arith, odd) in
-    let low : length xs - 1 < length xs = omega (arith, odd) in
-    let end : length xs - 1 + 1 ≡ length xs = omega (arith, odd) in
-    sym (ap (λ (n : ℕ). drop n xs) at ∙ drop_more xs (length xs - 1) 0 low ∙ ap (λ (t : List ℕ). get_or xs (length xs - 1) 0 ∷ t) (drop_all (length xs - 1 + 1) xs (omega (arith, end))))
+-- a front of a part that is a front
+pub part_of_front : (part xs : List ℕ) (few : ℕ) → part ≡ take (length part) xs → few ≤ length part → take few part ≡ take few xs
+part_of_front part xs few is low = ap (take few) is ∙ take_front few (length part) xs low
 
 -- ---- a part of a text
 -- what stands from a place on, where it stands in a front that is long enough, or in all
@@ -164,7 +157,7 @@ whole_front bs tail count more h some end m one =
     ] in
     (low, part_is out (drop more tail) m count low enough ∙ ap (λ (t : List ℕ). take count (drop m t)) whole)
 
--- ---- packing and spreading
+-- ---- packing
 pub packed_more : (old now new text : List ℕ) (i f s : ℕ) → flat_map byte_text now ≡ flat_map byte_text old ++ take (2 * i) text → flat_map byte_text new ≡ flat_map byte_text now ++ (half_text f ++ half_text s)
     → half_text f ≡ get_or text (2 * i) 0 ∷ [] → half_text s ≡ get_or text (2 * i + 1) 0 ∷ [] → 2 * i + 1 < length text → flat_map byte_text new ≡ flat_map byte_text old ++ take (2 * (i + 1)) text
 packed_more old now new text i f s so more first second lt =
@@ -174,28 +167,6 @@ packed_more old now new text i f s so more first second lt =
     ∙ ap (λ (t : List ℕ). flat_map byte_text old ++ (take (2 * i) text ++ (t ++ half_text s))) first
     ∙ ap (λ (t : List ℕ). flat_map byte_text old ++ (take (2 * i) text ++ (get_or text (2 * i) 0 ∷ t))) second
     ∙ ap (λ (t : List ℕ). flat_map byte_text old ++ t) (sym (two_more text i lt))
-
--- what is packed is where it was, up to a place, and what it stands for lies behind
-pub record IsSpread (old now : List ℕ) (packed from : ℕ) : Type 0 where
-  pub inside : from ≤ packed
-  pub len : length now ≡ length old
-  pub front : take from now ≡ take from old
-  pub behind : drop (2 * from) now ≡ flat_map byte_text (drop from (take packed old))
-
-pub spread_more : (old now new : List ℕ) (packed from : ℕ) → packed ≤ length old → IsSpread old now packed (from + 1) → length new ≡ length now → take (2 * from) new ≡ take (2 * from) now
-    → drop (2 * from) new ≡ byte_text (get_or now from 0) ++ drop (2 * (from + 1)) now → IsSpread old new packed from
-spread_more old now new packed from fits s len front behind =
-    let b = get_or now from 0 in
-    let ps = take packed old in
-    let lt : from < length ps = omega (arith, length-take-le packed old fits, s.inside) in
-    let same : b ≡ get_or ps from 0 =
-    sym (get_or-take (from + 1) now from 0 (omega arith)) ∙ ap (λ (t : List ℕ). get_or t from 0) s.front ∙ get_or-take (from + 1) old from 0 (omega arith) ∙ sym (get_or-take packed old from 0 (omega (arith, s.inside))) in
-    record {
-      inside = omega (arith, s.inside);
-      len = len ∙ s.len;
-      front = sym (take_front from (2 * from) new (omega arith)) ∙ ap (take from) front ∙ take_front from (2 * from) now (omega arith) ∙ sym (take_front from (from + 1) now (omega arith)) ∙ ap (take from) s.front ∙ take_front from (from + 1) old (omega arith);
-      behind = behind ∙ ap (λ (t : List ℕ). byte_text b ++ t) s.behind ∙ ap (λ (n : ℕ). byte_text n ++ flat_map byte_text (drop (from + 1) ps)) same ∙ sym (ap (flat_map byte_text) (drop_more ps from 0 lt));
-    }
 
 -- packed text begins with a character
 pub begins_packed : (bs tail : List ℕ) → All IsPair bs → 0 < length bs → BeginsWithCharacter (flat_map byte_text bs ++ tail)

@@ -3,6 +3,7 @@
 
 mod buffer;
 mod fault;
+mod glyphs;
 mod groups;
 mod laws;
 mod line;
@@ -11,6 +12,7 @@ mod packed;
 mod packed_lines;
 mod reader;
 mod reading;
+mod rope;
 mod step;
 mod token;
 mod writing;

@@ -72,11 +72,11 @@ impl<'t> PackedLines<'t> {
         }
     }
 
-    /// Puts the next line that an LF ends, without it, in the place of what `line` had; `false` where no LF is left.
+    /// Puts the next line that an LF ends, without it, in the place of what `line` had; where no LF is left, `false`, and all that is left.
     ///
     /// Each byte is unpacked once, and looked at once for an LF. Memory is taken for a block, and for the line.
     pub fn next(&mut self, line: &mut Vec<u8>) -> Result<bool, AllocError>
-        ensures { IfOk result (λ some. MatchBool some (IsCut self.old line.new.items self.new) (IsOpen self.old)) }
+        ensures { IfOk result (λ some. MatchBool some (IsCut self.old line.new.items self.new) (IsOpen self.old × (line.new.items ≡ self.old))) }
     {
         line.clear();
         while !take_part(&self.block, &mut self.at, line)? {

@@ -1,7 +1,6 @@
 -- What a report says of its formula is true.
 use Rattle.std.proofs.Common.{◌≡◌, ◌⊎◌, ℕ, ◌<◌, arith, List, Option, Some, None, Result, Ok, Err, IfOk, inl, inr, sym, ◌∙◌}
 use Rattle.std.specs.Prelude.{IsSome, IfSome}
-use Rattle.std.specs.Global.{Vec}
 use Rattle.dimacs.specs.logic.Cnf.{Cnf, assignment_of}
 use Rattle.dimacs.specs.text.Spelling.{Spells}
 use Rattle.lrat_text.specs.Proof.{Accepts}
@@ -16,8 +15,8 @@ use Rattle.node_main.specs.declared.splitting.Split.TheVariants.{By, Faulty, Oth
 use Rattle.node_main.specs.declared.report.Report.{Report}
 
 -- an accepted proof is there
-refuted : Soundness → (F : Cnf) (proof : Option (Vec ℕ)) → IsSome proof → IfSome proof (λ bytes. Accepts F bytes.items) → IsUnsatisfiable F
-refuted sound F (Some bytes) there accepted = sound F bytes.items accepted
+refuted : Soundness → (F : Cnf) (proof : Option (List ℕ)) → IsSome proof → IfSome proof (Accepts F) → IsUnsatisfiable F
+refuted sound F (Some bytes) there accepted = sound F bytes accepted
 refuted sound F None there accepted = cc
 
 apart : {m n : ℕ} → m ≡ n → m < n ⊎ n < m → ⊥

@@ -20,7 +20,7 @@ pub record IsSatisfied (F : Cnf) (options : Options) (r : Report) : Type 0 where
 pub record IsRefuted (F : Cnf) (options : Options) (r : Report) : Type 0 where
   pub status : r.status ≡ 20
   pub there : IsSome r.proof
-  pub accepted : IfSome r.proof (λ bytes. Accepts F bytes.items)
+  pub accepted : IfSome r.proof (Accepts F)
   pub text : r.stdout.items ≡ Lines Unsatisfiable options.witness
 
 -- 0: nothing is known

@@ -25,7 +25,7 @@ fn answered(alloc: Global, answer: Answer, witness: bool, status: u8) -> Result<
     Ok(report)
 }
 
-/// The report of a verdict. The bytes of a proof are moved into it.
+/// The report of a verdict. A proof is moved into it.
 pub(crate) fn decided(
     alloc: Global,
     verdict: Verdict,
@@ -42,7 +42,7 @@ pub(crate) fn decided(
         }
         Verdict::Proof(text) => {
             let mut report = answered(alloc, Answer::Unsatisfiable, options.witness, 20)?;
-            report.proof = Some(text.into_vec());
+            report.proof = Some(text);
             Ok(report)
         }
     }

@@ -7,6 +7,7 @@ ghost use Rattle.node_main.specs.Reports.{cubes_fault_text, fault_text, input_fa
 use dimacs::DimacsFault;
 use icnf::IcnfFault;
 use itoa::Buffer;
+use lrat_text::PackedText;
 use std::alloc::{AllocError, Global};
 
 /// The outcome of a run.
@@ -16,8 +17,8 @@ pub struct Report {
     pub stdout: Vec<u8>,
     /// The exit status.
     pub status: u8,
-    /// The proof to be written, where there is one.
-    pub proof: Option<Vec<u8>>,
+    /// The proof to be written, where there is one: its text, packed.
+    pub proof: Option<PackedText>,
 }
 
 impl Report {

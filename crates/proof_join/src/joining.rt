@@ -11,7 +11,8 @@ ghost use Rattle.lrat_text.specs.Runs.{text_of};
 ghost use Rattle.proof_join.specs.inner.Steps.{IsBelow, IsFragment, Writes, steps_each};
 
 use crate::fault::JoinFault;
-use crate::lines::{Scratch, put_line};
+use crate::lines::Scratch;
+use crate::output::{Output, put_line};
 use crate::subtree::{Subtree, Writer, put_fork, put_leaf};
 use cube_split::{Pair, Preamble};
 use dimacs::{Formula, Lit, Var};
@@ -34,16 +35,16 @@ fn join_below(
     tree: &Tree,
     fragments: &[PackedText],
     base: u64,
-    writer: &mut Writer,
+    writer: &mut Writer<'_>,
     next: &mut usize,
     depth: usize,
 ) -> Result<Subtree, JoinFault>
     requires below { IsBelow tree.now (steps_each fragments.now) next.old depth }
     requires fragments { All (IsFragment base) fragments.now }
-    requires begun { (1 ≤ base) × (base ≤ writer.old.top) × (writer.old.top ≤ base + length writer.old.out.items) }
-    requires short { (base < 2 ^ 40) × (length writer.old.out.items < 2 ^ 32) }
+    requires begun { (1 ≤ base) × (base ≤ writer.old.top) × (writer.old.top ≤ base + length writer.old.out) }
+    requires short { (base < 2 ^ 40) × (length writer.old.out < 2 ^ 32) }
     ensures text { (h : IsBelow tree.now (steps_each fragments.now) next.old depth)
-        → Writes result writer.new.out.items (writer.old.out.items ++ text_of writer.old.top (part base h.path writer.old.top h.tree).steps) }
+        → Writes result writer.new.out (writer.old.out ++ text_of writer.old.top (part base h.path writer.old.top h.tree).steps) }
     ensures top { OnOk result ((h : IsBelow tree.now (steps_each fragments.now) next.old depth)
         → writer.new.top ≡ (part base h.path writer.old.top h.tree).top) }
     ensures next { OnOk result ((h : IsBelow tree.now (steps_each fragments.now) next.old depth)
@@ -52,7 +53,7 @@ fn join_below(
         → s.id ≡ (part base h.path writer.old.top h.tree).id) }
     ensures clause { IfOk result (λ s. (h : IsBelow tree.now (steps_each fragments.now) next.old depth)
         → s.clause.items ≡ (part base h.path writer.old.top h.tree).clause) }
-    ensures few { OnOk result ((writer.old.top ≤ writer.new.top) × (writer.new.top ≤ base + length writer.new.out.items)) }
+    ensures few { OnOk result ((writer.old.top ≤ writer.new.top) × (writer.new.top ≤ base + length writer.new.out)) }
     ensures small { IfOk result (λ s. (1 ≤ s.id) × (s.id ≤ writer.new.top) × All (IsWithin 2000000) s.clause.items) }
 {
     let _ = tree.leaves();
@@ -74,11 +75,11 @@ fn join_below(
 }
 
 /// Appends the unit clauses of a preamble, numbered on behind `top`, and tells the number of the last one.
-fn put_units(alloc: Global, out: &mut Vec<u8>, top: u64, units: &[Lit]) -> Result<u64, JoinFault>
+fn put_units(alloc: Global, out: &mut Output<'_>, top: u64, units: &[Lit]) -> Result<u64, JoinFault>
     requires few { (top ≤ 4000000) × (length units.now ≤ 1000000) }
     requires within { All (IsWithin 2000000) units.now }
-    requires short { length out.old.items < 2 ^ 32 }
-    ensures text { Writes result out.new.items (out.old.items ++ text_of top (unit_steps top units.now)) }
+    requires short { length out.old < 2 ^ 32 }
+    ensures text { Writes result out.new (out.old ++ text_of top (unit_steps top units.now)) }
     ensures top { IfOk result (λ n. n ≡ top + length units.now) }
 {
     let groups = Groups::new(alloc);
@@ -102,7 +103,7 @@ fn put_units(alloc: Global, out: &mut Vec<u8>, top: u64, units: &[Lit]) -> Resul
 /// Appends the three lines that define a variable by a pair, numbered on behind `top`.
 fn put_definition(
     alloc: Global,
-    out: &mut Vec<u8>,
+    out: &mut Output<'_>,
     top: u64,
     variable: Var,
     pair: Pair,
@@ -111,7 +112,7 @@ fn put_definition(
     requires variable { (0 < variable) × (variable ≤ 2000000) }
     requires first { IsWithin 2000000 pair.first }
     requires second { IsWithin 2000000 pair.second }
-    ensures { Writes result out.new.items (out.old.items ++ text_of top (definition_steps top variable pair)) }
+    ensures { Writes result out.new (out.old ++ text_of top (definition_steps top variable pair)) }
 {
     let defined = Lit::positive(variable);
     let none = Groups::new(alloc);
@@ -153,15 +154,15 @@ fn put_definition(
 /// last one.
 fn put_definitions(
     alloc: Global,
-    out: &mut Vec<u8>,
+    out: &mut Output<'_>,
     top: u64,
     vars: u32,
     pairs: &[Pair],
 ) -> Result<u64, JoinFault>
     requires few { (top ≤ 5000000) × (vars ≤ 1000000) × (length pairs.now ≤ 64) }
     requires within { All (IsPairOf vars) pairs.now }
-    requires short { length out.old.items < 2 ^ 32 }
-    ensures text { Writes result out.new.items (out.old.items ++ text_of top (all_steps top (vars + 1) pairs.now)) }
+    requires short { length out.old < 2 ^ 32 }
+    ensures text { Writes result out.new (out.old ++ text_of top (all_steps top (vars + 1) pairs.now)) }
     ensures top { IfOk result (λ n. n ≡ top + 3 * length pairs.now) }
 {
     let mut last = top;
@@ -179,14 +180,14 @@ fn put_definitions(
 /// Appends a preamble's lines, and tells the number of the last one, or of the last clause where there is none.
 fn put_preamble(
     alloc: Global,
-    out: &mut Vec<u8>,
+    out: &mut Output<'_>,
     formula: &Formula,
     preamble: &Preamble,
 ) -> Result<u64, JoinFault>
     requires units { preamble.now.units ≡ pure_literals formula.now }
     requires pairs { All (IsPairOf formula.now.vars) preamble.now.pairs }
-    requires short { length out.old.items < 2 ^ 32 }
-    ensures text { Writes result out.new.items (out.old.items ++ text_of (length formula.now.clauses) (preamble_steps formula.now preamble.now.pairs)) }
+    requires short { length out.old < 2 ^ 32 }
+    ensures text { Writes result out.new (out.old ++ text_of (length formula.now.clauses) (preamble_steps formula.now preamble.now.pairs)) }
     ensures top { IfOk result (λ n. n ≡ length (base_with formula.now preamble.now.pairs).clauses) }
     ensures few { IfOk result (λ n. n ≤ 6000000) }
 {
@@ -198,51 +199,32 @@ fn put_preamble(
     put_definitions(alloc, out, top, vars, preamble.pairs())
 }
 
-/// How many bytes the fragments have.
-fn size_of(fragments: &[PackedText]) -> usize {
-    let mut size = 0usize;
-    for fragment in fragments {
-        size = size.saturating_add(fragment.len());
-    }
-    size
-}
-
-/// An empty text, with room for what these fragments are joined into, where that is to be had: a text that grows is copied, and
-/// stands in memory twice for a moment. Room that is not used costs nothing.
-fn begun(alloc: Global, fragments: &[PackedText]) -> Vec<u8>
-    ensures { result.items ≡ [] }
-{
-    let size = size_of(fragments);
-    let mut out = Vec::new(alloc);
-    let _ = out.reserve(size.saturating_add(size / 2).saturating_add(4096));
-    out
-}
-
 /// Joins the fragments that close the leaves of a tree into one proof: the preamble's lines, and then each subtree's, the
 /// left branch before the right one and both before the fork.
 ///
-/// A fragment is unpacked block by block. It answers `TooLong` only where the text would have 2^32 bytes or more.
+/// A fragment is unpacked block by block, and the text is packed as it is written: where it is the first fragment, both have their blocks
+/// once. It answers `TooLong` only where the text would have 2^32 bytes or more.
 pub fn join_packed(
     alloc: Global,
     formula: &Formula,
     preamble: &Preamble,
     tree: &Tree,
     fragments: &[PackedText],
-) -> Result<Vec<u8>, JoinFault>
+) -> Result<PackedText, JoinFault>
     requires units { preamble.now.units ≡ pure_literals formula.now }
     requires pairs { All (IsPairOf formula.now.vars) preamble.now.pairs }
     requires closed { AllClose (base_with formula.now preamble.now.pairs) tree.now fragments.now }
-    ensures joined { IfOk result (λ text. JoinedOver formula.now preamble.now.pairs tree.now fragments.now text.items) }
-    ensures short { IfOk result (λ text. length text.items < 2 ^ 32) }
+    ensures joined { IfOk result (λ text. JoinedOver formula.now preamble.now.pairs tree.now fragments.now text) }
+    ensures short { IfOk result (λ text. length text < 2 ^ 32) }
     ensures long { IfErr result (λ f. f ≡ JoinFault.TooLong → (text : List ℕ)
         → JoinedOver formula.now preamble.now.pairs tree.now fragments.now text → 2 ^ 32 ≤ length text) }
     // What is joined is a proof of the formula alone.
-    ensures accepted { IfOk result (λ text. Accepts formula.now text.items) }
+    ensures accepted { IfOk result (λ text. Accepts formula.now text) }
 {
     let _ = tree.leaves();
     let _ = formula.vars();
     let _ = preamble.pairs();
-    let mut out = begun(alloc, fragments);
+    let mut out = Output::new(alloc, fragments.first());
     let base = match put_preamble(alloc, &mut out, formula, preamble) {
         Ok(base) => base,
         Err(fault) => return Err(fault),
@@ -261,7 +243,7 @@ pub fn join_packed(
         Err(fault) => return Err(fault),
     }
     let Writer { out, .. } = writer;
-    Ok(out)
+    Ok(out.into_text())
 }
 
 /// Packs each of some texts.
@@ -295,8 +277,9 @@ pub fn join(
     // What is joined is a proof of the formula alone.
     ensures accepted { IfOk result (λ text. Accepts formula.now text.items) }
 {
-    match packed(alloc, fragments) {
-        Ok(fragments) => join_packed(alloc, formula, preamble, tree, &fragments),
-        Err(_) => Err(JoinFault::NoMemory),
+    let fragments = packed(alloc, fragments)?;
+    match join_packed(alloc, formula, preamble, tree, &fragments) {
+        Ok(text) => Ok(text.to_text(alloc)?),
+        Err(fault) => Err(fault),
     }
 }

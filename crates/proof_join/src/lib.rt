@@ -14,6 +14,7 @@ mod fault;
 mod joining;
 mod laws;
 mod lines;
+mod output;
 mod renumbering;
 mod subtree;
 

@@ -11,47 +11,10 @@ ghost use Rattle.lrat_text.specs.Runs.{text_of, top_of};
 ghost use Rattle.proof_join.specs.inner.Steps.{IsLow, IsOwn, Writes, last_of, steps_in};
 
 use crate::fault::JoinFault;
-use lrat_text::{
-    PackedLines, PackedText, StepBuffer, StepRef, TextFault, put_ref, read_line, written_id,
-};
+use crate::output::{Output, put_copy, put_line};
+use lrat_text::{PackedLines, PackedText, StepBuffer, StepRef, TextFault, read_line, written_id};
 use std::alloc::{AllocError, Global};
 use std::mem::swap;
-
-/// A text stays below 2^32 bytes.
-fn limit(out: &Vec<u8>) -> Result<(), JoinFault>
-    ensures { Writes result out.now.items out.now.items }
-{
-    if out.len() as u64 >= 1 << 32 {
-        return Err(JoinFault::TooLong);
-    }
-    Ok(())
-}
-
-/// Appends a step's line, where the text stays below 2^32 bytes.
-pub(crate) fn put_line(out: &mut Vec<u8>, top: u64, step: StepRef<'_>) -> Result<(), JoinFault>
-    requires limits { IsStep (step_of step) }
-    requires numbered { IsClauseNumber top }
-    ensures { Writes result out.new.items (out.old.items ++ line_of top (step_of step.entry)) }
-{
-    match put_ref(step, top, out) {
-        Ok(()) => limit(out),
-        Err(_) => Err(JoinFault::NoMemory),
-    }
-}
-
-/// Appends a line as it stands, where the text stays below 2^32 bytes.
-fn put_copy(out: &mut Vec<u8>, line: &[u8]) -> Result<(), JoinFault>
-    ensures { Writes result out.new.items (out.old.items ++ (line.now ++ codes "\n")) }
-{
-    match out.extend_from_slice(line) {
-        Ok(()) => {}
-        Err(_) => return Err(JoinFault::NoMemory),
-    }
-    match out.push(b'\n') {
-        Ok(()) => limit(out),
-        Err(_) => Err(JoinFault::NoMemory),
-    }
-}
 
 /// Where a fragment's numbers go: those up to `base` stay, and those behind it go on behind `begun`.
 #[derive(Clone, Copy)]
@@ -104,7 +67,7 @@ pub(crate) struct Scratch {
 
 /// Appends a step of a fragment, renumbered, and tells the number of the last addition.
 fn put_renumbered(
-    out: &mut Vec<u8>,
+    out: &mut Output<'_>,
     numbers: &mut Vec<u64>,
     shift: Shift,
     top: u64,
@@ -114,7 +77,7 @@ fn put_renumbered(
     requires low { IsLow (shift.base + (top - shift.begun)) (step_of step) }
     requires begun { (1 ≤ shift.base) × (shift.base ≤ shift.begun) × (shift.begun ≤ top) }
     requires top { top + 1 < 2 ^ 48 }
-    ensures text { Writes result out.new.items (out.old.items ++ line_of top (renumbered (behind shift.base shift.begun) (step_of step.entry))) }
+    ensures text { Writes result out.new (out.old ++ line_of top (renumbered (behind shift.base shift.begun) (step_of step.entry))) }
     ensures top { IfOk result (λ n. n ≡ top_after top (renumbered (behind shift.base shift.begun) (step_of step.entry))) }
 {
     match step {
@@ -157,7 +120,7 @@ fn put_renumbered(
 ///
 /// Where every number stays, as in a run with one leaf, an addition that stands as it is written is copied and not read.
 fn put_fragment_line(
-    out: &mut Vec<u8>,
+    out: &mut Output<'_>,
     scratch: &mut Scratch,
     shift: Shift,
     top: u64,
@@ -167,7 +130,7 @@ fn put_fragment_line(
     requires low { (step : Step) → SpellsStep line.now step → IsLow (shift.base + (top - shift.begun)) step }
     requires begun { (1 ≤ shift.base) × (shift.base ≤ shift.begun) × (shift.begun ≤ top) }
     requires top { top + 1 < 2 ^ 48 }
-    ensures text { (step : Step) → SpellsStep line.now step → Writes result out.new.items (out.old.items ++ line_of top (renumbered (behind shift.base shift.begun) step)) }
+    ensures text { (step : Step) → SpellsStep line.now step → Writes result out.new (out.old ++ line_of top (renumbered (behind shift.base shift.begun) step)) }
     ensures top { (step : Step) → SpellsStep line.now step → IfOk result (λ n. n ≡ top_after top (renumbered (behind shift.base shift.begun) step)) }
 {
     if shift.is_none() {
@@ -205,18 +168,18 @@ fn read_last(buffer: &mut StepBuffer, some: bool, last: &[u8]) -> Result<(), Tex
 /// Appends a fragment, renumbered, and tells the number of the last addition; the buffer has the last step.
 pub(crate) fn put_fragment(
     alloc: Global,
-    out: &mut Vec<u8>,
+    out: &mut Output<'_>,
     scratch: &mut Scratch,
     shift: Shift,
     fragment: &PackedText,
 ) -> Result<u64, JoinFault>
     requires own { IsOwn shift.base fragment.now }
-    requires begun { (1 ≤ shift.base) × (shift.base ≤ shift.begun) × (shift.begun ≤ shift.base + length out.old.items) }
-    requires short { (shift.base < 2 ^ 40) × (length out.old.items < 2 ^ 32) }
-    ensures text { Writes result out.new.items (out.old.items ++ text_of shift.begun (map (renumbered (behind shift.base shift.begun)) (steps_in fragment.now))) }
+    requires begun { (1 ≤ shift.base) × (shift.base ≤ shift.begun) × (shift.begun ≤ shift.base + length out.old) }
+    requires short { (shift.base < 2 ^ 40) × (length out.old < 2 ^ 32) }
+    ensures text { Writes result out.new (out.old ++ text_of shift.begun (map (renumbered (behind shift.base shift.begun)) (steps_in fragment.now))) }
     ensures top { IfOk result (λ n. n ≡ top_of shift.begun (map (renumbered (behind shift.base shift.begun)) (steps_in fragment.now))) }
     ensures last { OnOk result (scratch.new.buffer ≡ last_of scratch.old.buffer (steps_in fragment.now)) }
-    ensures few { IfOk result (λ n. (shift.begun ≤ n) × (n ≤ shift.base + length out.new.items)) }
+    ensures few { IfOk result (λ n. (shift.begun ≤ n) × (n ≤ shift.base + length out.new)) }
 {
     let mut lines = PackedLines::of(alloc, fragment);
     let mut line = Vec::new(alloc);

@@ -9,9 +9,7 @@ ghost use Rattle.proof_join.specs.Numbering.{renumbered, renumbered_group};
 ghost use Rattle.proof_join.specs.Renumbering.{raised, LineFits, Renumbers};
 ghost use Rattle.proof_join.specs.inner.Raising.{IsPut, Unless};
 
-use crate::fault::JoinFault;
-use crate::lines::put_line;
-use lrat_text::{Groups, StepBuffer, StepRef, TextFault, cut_line, read_line};
+use lrat_text::{Groups, StepBuffer, StepRef, TextFault, cut_line, put_ref, read_line};
 use std::alloc::{AllocError, Global};
 
 /// The least number that is no clause number.
@@ -132,11 +130,14 @@ fn put_short(out: &mut Vec<u8>, top: u64, step: StepRef<'_>) -> Result<(), Stop>
         (λ _. (out.new.items ≡ out.old.items ++ line_of top (step_of step.entry)) × (length out.new.items < 2 ^ 32))
         (λ stop. Unless stop (2 ^ 32 ≤ length (out.old.items ++ line_of top (step_of step.entry)))) }
 {
-    match put_line(out, top, step) {
-        Ok(()) => Ok(()),
-        Err(JoinFault::TooLong) => Err(Stop::NoText),
-        Err(JoinFault::NoMemory) => Err(Stop::NoMemory),
+    match put_ref(step, top, out) {
+        Ok(()) => {}
+        Err(_) => return Err(Stop::NoMemory),
     }
+    if out.len() as u64 >= 1 << 32 {
+        return Err(Stop::NoText);
+    }
+    Ok(())
 }
 
 /// Appends the line of a step under raised numbers.

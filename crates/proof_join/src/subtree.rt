@@ -8,7 +8,8 @@ ghost use Rattle.lrat_text.specs.Runs.{text_of};
 ghost use Rattle.proof_join.specs.inner.Steps.{IsFragment, Writes, clause_of, own_part, steps_in};
 
 use crate::fault::JoinFault;
-use crate::lines::{Scratch, Shift, put_fragment, put_line};
+use crate::lines::{Scratch, Shift, put_fragment};
+use crate::output::{Output, put_line};
 use dimacs::{Lit, has_literal};
 use lrat_text::{Groups, PackedText, StepBuffer, StepRef};
 use std::alloc::{AllocError, Global};
@@ -22,8 +23,8 @@ pub(crate) struct Subtree {
 
 /// The text so far with the number of its last addition, and what fragments are read into.
 #[derive(Drop)]
-pub(crate) struct Writer {
-    pub(crate) out: Vec<u8>,
+pub(crate) struct Writer<'t> {
+    pub(crate) out: Output<'t>,
     pub(crate) top: u64,
     pub(crate) scratch: Scratch,
 }
@@ -55,17 +56,17 @@ fn last_clause(alloc: Global, buffer: &StepBuffer) -> Result<Vec<Lit>, AllocErro
 /// Appends a leaf's fragment, whose numbers behind `base` go on behind those written.
 pub(crate) fn put_leaf(
     alloc: Global,
-    writer: &mut Writer,
+    writer: &mut Writer<'_>,
     base: u64,
     fragment: &PackedText,
 ) -> Result<Subtree, JoinFault>
     requires fragment { IsFragment base fragment.now }
-    requires begun { (1 ≤ base) × (base ≤ writer.old.top) × (writer.old.top ≤ base + length writer.old.out.items) }
-    requires short { (base < 2 ^ 40) × (length writer.old.out.items < 2 ^ 32) }
-    ensures text { Writes result writer.new.out.items (writer.old.out.items ++ text_of writer.old.top (leaf_part base writer.old.top (steps_in fragment.now)).steps) }
+    requires begun { (1 ≤ base) × (base ≤ writer.old.top) × (writer.old.top ≤ base + length writer.old.out) }
+    requires short { (base < 2 ^ 40) × (length writer.old.out < 2 ^ 32) }
+    ensures text { Writes result writer.new.out (writer.old.out ++ text_of writer.old.top (leaf_part base writer.old.top (steps_in fragment.now)).steps) }
     ensures top { OnOk result (writer.new.top ≡ (leaf_part base writer.old.top (steps_in fragment.now)).top) }
     ensures subtree { IfOk result (λ s. (s.id ≡ (leaf_part base writer.old.top (steps_in fragment.now)).id) × (s.clause.items ≡ (leaf_part base writer.old.top (steps_in fragment.now)).clause)) }
-    ensures few { OnOk result ((writer.old.top ≤ writer.new.top) × (writer.new.top ≤ base + length writer.new.out.items)) }
+    ensures few { OnOk result ((writer.old.top ≤ writer.new.top) × (writer.new.top ≤ base + length writer.new.out)) }
     ensures small { IfOk result (λ s. (1 ≤ s.id) × (s.id ≤ writer.new.top) × All (IsWithin 2000000) s.clause.items) }
 {
     let begun = writer.top;
@@ -91,7 +92,7 @@ pub(crate) fn put_leaf(
 /// Appends the line of a fork behind those of its branches, where one is needed.
 pub(crate) fn put_fork(
     alloc: Global,
-    writer: &mut Writer,
+    writer: &mut Writer<'_>,
     path: &[Lit],
     branch: Lit,
     left: Subtree,
@@ -100,12 +101,12 @@ pub(crate) fn put_fork(
     requires left { (1 ≤ left.id) × (left.id ≤ writer.old.top) × All (IsWithin 2000000) left.clause.items }
     requires right { (1 ≤ right.id) × (right.id ≤ writer.old.top) × All (IsWithin 2000000) right.clause.items }
     requires top { (1 ≤ writer.old.top) × (writer.old.top + 1 < 2 ^ 48) }
-    requires short { length writer.old.out.items < 2 ^ 32 }
-    ensures text { Writes result writer.new.out.items (writer.old.out.items ++ text_of writer.old.top (own_part path.now branch writer.old.top left.id left.clause.items right.id right.clause.items).steps) }
+    requires short { length writer.old.out < 2 ^ 32 }
+    ensures text { Writes result writer.new.out (writer.old.out ++ text_of writer.old.top (own_part path.now branch writer.old.top left.id left.clause.items right.id right.clause.items).steps) }
     ensures top { OnOk result (writer.new.top ≡ (own_part path.now branch writer.old.top left.id left.clause.items right.id right.clause.items).top) }
     ensures id { IfOk result (λ s. s.id ≡ (own_part path.now branch writer.old.top left.id left.clause.items right.id right.clause.items).id) }
     ensures clause { IfOk result (λ s. s.clause.items ≡ (own_part path.now branch writer.old.top left.id left.clause.items right.id right.clause.items).clause) }
-    ensures few { OnOk result ((writer.old.top ≤ writer.new.top) × (writer.new.top + length writer.old.out.items ≤ writer.old.top + length writer.new.out.items)) }
+    ensures few { OnOk result ((writer.old.top ≤ writer.new.top) × (writer.new.top + length writer.old.out ≤ writer.old.top + length writer.new.out)) }
     ensures small { IfOk result (λ s. (1 ≤ s.id) × (s.id ≤ writer.new.top) × All (IsWithin 2000000) s.clause.items) }
 {
     if !has_literal(&left.clause, branch.negate()) {

@@ -1,6 +1,7 @@
 //! Fragments without the lemmas that nothing needs.
 #![tactic(auto)]
 
+mod backwards;
 mod lines;
 mod needs;
 mod rewriting;

@@ -1,9 +1,14 @@
 //! Lines, as far as they are looked at before they are read.
 
-ghost use Rattle.std.specs.Prelude.{◌<◌, length, IfSome};
+ghost use Rattle.std.specs.Prelude.{◌≡◌, ◌==◌, count_by, IfOk};
+ghost use Rattle.lrat_text.specs.Grammar.{lf};
 
-use lrat_text::cut_line;
-use memchr::{memchr, memrchr};
+use lrat_text::PackedText;
+use memchr::memchr;
+use std::alloc::{AllocError, Global};
+
+/// So many bytes are unpacked at once. The number is even, so that each block begins with a byte of two characters.
+const BLOCK: usize = 4096;
 
 /// Whether a line deletes clauses: the letter `d` stands behind its number.
 pub(crate) fn deletes(line: &[u8]) -> bool {
@@ -16,28 +21,33 @@ pub(crate) fn deletes(line: &[u8]) -> bool {
     }
 }
 
-/// The last line of a text whose lines are ended by LF, without that LF, and the lines before it; `None` where there is none.
-pub(crate) fn cut_last(text: &[u8]) -> Option<(&[u8], &[u8])>
-    ensures { IfSome result (λ p. length p.0.now < length text.now) }
+/// How often a byte stands in a text.
+fn count(text: &[u8], byte: u8) -> usize
+    ensures { result ≡ count_by (λ b. b == byte) text.now }
 {
-    let Some((_, ended)) = text.split_last() else {
-        return None;
-    };
-    match memrchr(b'\n', ended) {
-        Some(lf) => Some((&ended[..lf + 1], &ended[lf + 1..])),
-        None => Some((&[], ended)),
-    }
+    text.iter().filter(|b| **b == byte).count()
 }
 
-/// How many lemmas a fragment has.
-pub(crate) fn lemma_count(text: &[u8]) -> usize {
-    let mut count = 0usize;
-    let mut rest = text;
-    while let Some((line, later)) = cut_line(rest) {
-        if !deletes(line) {
-            count = count.saturating_add(1);
-        }
-        rest = later;
+/// What a fragment is made of.
+#[derive(Clone, Copy)]
+pub(crate) struct Counts {
+    pub(crate) lines: usize,
+    /// How many of them are deletions.
+    pub(crate) deletions: usize,
+}
+
+/// Counts a fragment's lines by their LFs, and those that delete by the letter `d`, which no other line has.
+pub(crate) fn count_lines(alloc: Global, text: &PackedText) -> Result<Counts, AllocError>
+    ensures { IfOk result (λ counts. counts.lines ≡ count_by (λ b. b == lf) text.now) }
+{
+    let mut lines = 0usize;
+    let mut deletions = 0usize;
+    let mut from = 0usize;
+    while from < text.len() {
+        let block = text.read(alloc, from, BLOCK)?;
+        lines += count(&block, b'\n');
+        deletions = deletions.saturating_add(count(&block, b'd'));
+        from += block.len();
     }
-    count
+    Ok(Counts { lines, deletions })
 }

@@ -3,8 +3,9 @@
 ghost use Rattle.std.specs.Prelude.{◌≡◌, ◌<◌, ◌^◌, All, IfSome, OnOk};
 ghost use Rattle.lrat_text.specs.Grammar.{IsClauseNumber};
 
-use crate::lines::{cut_last, deletes};
-use lrat_text::{StepBuffer, StepRef, TextFault, read_line};
+use crate::backwards::LinesBack;
+use crate::lines::deletes;
+use lrat_text::{PackedText, StepBuffer, StepRef, TextFault, read_line};
 use std::alloc::{AllocError, Global};
 use std::marker::Model;
 
@@ -35,7 +36,7 @@ impl Needs {
         base: u64,
         count: usize,
         buffer: &mut StepBuffer,
-        text: &[u8],
+        text: &PackedText,
     ) -> Result<Option<Needs>, TextFault>
         requires { base < 2 ^ 40 }
     {
@@ -45,11 +46,12 @@ impl Needs {
         };
         needs.need(base + count as u64);
         let half = count / 2;
-        let front = needs.trace(buffer, text, count, half)?;
+        let mut lines = LinesBack::of(alloc, text);
+        needs.trace(buffer, &mut lines, count, half)?;
         if needs.count_from(half) >= (count - half) / 10 * 9 {
             return Ok(None);
         }
-        needs.trace(buffer, front, half, 0)?;
+        needs.trace(buffer, &mut lines, half, 0)?;
         Ok(Some(needs))
     }
 
@@ -72,25 +74,19 @@ impl Needs {
         }
     }
 
-    /// Goes back through the lines, from the lemma before one place to the lemma at another, marks what those that are needed need, and
-    /// tells what lies before.
-    fn trace<'t>(
+    /// Goes back through the lines, from the lemma before one place to the lemma at another, and marks what those that are needed need.
+    fn trace(
         &mut self,
         buffer: &mut StepBuffer,
-        text: &'t [u8],
+        lines: &mut LinesBack<'_>,
         from: usize,
         to: usize,
-    ) -> Result<&'t [u8], TextFault> {
+    ) -> Result<(), TextFault> {
         let mut place = from;
-        let mut rest = text;
-        while place > to {
-            let Some((front, line)) = cut_last(rest) else {
-                break;
-            };
-            place = self.trace_line(buffer, line, place)?;
-            rest = front;
+        while place > to && lines.back()? {
+            place = self.trace_line(buffer, lines.line(), place)?;
         }
-        Ok(rest)
+        Ok(())
     }
 
     /// Marks what a line needs, if it adds a lemma that is needed: the last one before `place`. Tells the place of the lemma that comes

@@ -5,14 +5,16 @@ ghost use Rattle.lrat_text.specs.Steps.{step_of};
 
 use crate::lines::deletes;
 use crate::needs::Needs;
-use lrat_text::{Groups, StepBuffer, StepRef, TextFault, cut_line, put_ref, read_line};
+use lrat_text::{Groups, PackedLines, PackedText, StepBuffer, StepRef, TextFault, read_line};
 use std::alloc::{AllocError, Global};
 use std::marker::Model;
 
 /// The text so far.
 #[derive(Drop)]
 struct Rewriter {
-    out: Vec<u8>,
+    out: PackedText,
+    /// What a line is written in before it is packed.
+    written: Vec<u8>,
     /// The number that the line of a deletion begins with.
     top: u64,
     /// What a line's numbers are changed in.
@@ -26,7 +28,7 @@ impl Model for Rewriter {
 
     ghost Value = { List ℕ };
 
-    ghost view = { λ r. r.out.items };
+    ghost view = { λ r. r.out };
 
     ghost invariant = { λ r. IsClauseNumber r.top × (r.groups ≡ []) };
 }
@@ -53,7 +55,7 @@ impl Rewriter {
                     hints: &self.numbers,
                     groups: &self.groups,
                 };
-                put_ref(line, id, &mut self.out)?;
+                self.out.put(line, id, &mut self.written)?;
                 self.top = id;
                 Ok(())
             }
@@ -63,7 +65,7 @@ impl Rewriter {
                     return Ok(());
                 }
                 let line = StepRef::Delete { ids: &self.numbers };
-                put_ref(line, self.top, &mut self.out)
+                self.out.put(line, self.top, &mut self.written)
             }
         }
     }
@@ -86,25 +88,26 @@ pub(crate) fn rewrite(
     alloc: Global,
     needs: &Needs,
     buffer: &mut StepBuffer,
-    text: &[u8],
-) -> Result<Vec<u8>, TextFault> {
+    text: &PackedText,
+) -> Result<PackedText, TextFault> {
     let mut rewriter = Rewriter {
-        out: Vec::new(alloc),
+        out: PackedText::new(alloc),
+        written: Vec::new(alloc),
         top: needs.base().max(1),
         numbers: Vec::new(alloc),
         groups: Groups::new(alloc),
     };
+    let mut lines = PackedLines::of(alloc, text);
+    let mut line = Vec::new(alloc);
     let mut place = 0usize;
-    let mut rest = text;
-    while let Some((line, later)) = cut_line(rest) {
-        let adds = !deletes(line);
+    while lines.next(&mut line)? {
+        let adds = !deletes(&line);
         if !adds || needs.has(place) {
-            rewriter.put_line(needs, buffer, line)?;
+            rewriter.put_line(needs, buffer, &line)?;
         }
         if adds {
             place = place.saturating_add(1);
         }
-        rest = later;
     }
     let Rewriter { out, .. } = rewriter;
     Ok(out)

@@ -1,28 +1,27 @@
 //! A fragment is trimmed, and tested.
 
-ghost use Rattle.std.specs.Prelude.{◌<◌, ◌≤◌, ◌^◌, List, length, IfOk};
+ghost use Rattle.std.specs.Prelude.{◌<◌, ◌^◌, IfOk};
 ghost use Rattle.std.specs.Bool.{OnTrue};
-ghost use Rattle.lrat_text.specs.Grammar.{LineSpells};
 ghost use Rattle.lrat_text.specs.Log.{Closes};
-ghost use Rattle.lrat_text.specs.declared.step.Step.{Step};
 ghost use Rattle.proof_trim.specs.Trimming.{HasAtMost, Trims};
 
-use crate::lines::lemma_count;
+use crate::lines::count_lines;
 use crate::needs::Needs;
 use crate::rewriting::rewrite;
 use dimacs::{Base, Lit};
-use lrat_check::check_fragment;
-use lrat_text::{StepBuffer, TextFault, cut_line};
+use lrat_check::check_packed_fragment;
+use lrat_text::{PackedText, StepBuffer, TextFault};
 use std::alloc::{AllocError, Global};
 
 /// A fragment with fewer lemmas than this needs nearly all of them.
 const MANY: usize = 20_000;
 
 /// The fragment without the lemmas that its last one does not need, where it has many, and at least a quarter of them go.
-fn shorter(alloc: Global, base: u64, text: &[u8]) -> Result<Option<Vec<u8>>, TextFault>
+fn shorter(alloc: Global, base: u64, text: &PackedText) -> Result<Option<PackedText>, TextFault>
     requires { base < 2 ^ 40 }
 {
-    let count = lemma_count(text);
+    let counts = count_lines(alloc, text)?;
+    let count = counts.lines.saturating_sub(counts.deletions);
     if count < MANY {
         return Ok(None);
     }
@@ -36,33 +35,22 @@ fn shorter(alloc: Global, base: u64, text: &[u8]) -> Result<Option<Vec<u8>>, Tex
     Ok(Some(rewrite(alloc, &needs, &mut buffer, text)?))
 }
 
-/// How many lines a text has.
-fn line_count(text: &[u8]) -> usize
-    ensures { (steps : List Step) → LineSpells text.now steps → length steps ≤ result }
-{
-    let mut count = 0;
-    let mut rest = text;
-    while let Some((_, later)) = cut_line(rest) {
-        count += 1;
-        rest = later;
-    }
-    count
-}
-
 /// Whether a text is a fragment that closes the cube, of at most `most` lines.
 fn is_fragment(
     alloc: Global,
     base: &Base,
     cube: &[Lit],
     most: u64,
-    text: &[u8],
+    text: &PackedText,
 ) -> Result<bool, AllocError>
     ensures { IfOk result (λ is. OnTrue is (Closes base.now cube.now text.now × HasAtMost most text.now)) }
 {
-    if line_count(text) as u64 > most {
+    let counts = count_lines(alloc, text)?;
+    let lines = counts.lines as u64;
+    if lines > most {
         return Ok(false);
     }
-    match check_fragment(alloc, base, cube, text) {
+    match check_packed_fragment(alloc, base, cube, text) {
         Ok(()) => Ok(true),
         Err(fault) if fault.is_no_memory() => Err(AllocError),
         Err(_) => Ok(false),
@@ -71,17 +59,17 @@ fn is_fragment(
 
 /// Trims a fragment: the lemmas that its last one does not need go, and the others are numbered on.
 ///
-/// What is handed out is the fragment as it was, or a shorter one of at most `most` lemmas that [`check_fragment`] accepts. So nothing is to
+/// What is handed out is the fragment as it was, or a shorter one of at most `most` lemmas that [`check_packed_fragment`] accepts. So nothing is to
 /// be believed of how it is found which lemmas are needed. A fragment stays as it is where it has fewer than 20,000 lemmas, or where less
-/// than a quarter of them would go: the check of what stays would cost more time than it saves.
+/// than a quarter of them would go: the check of what stays would cost more time than it saves. No text is unpacked whole.
 pub fn trim(
     alloc: Global,
     base: &Base,
     cube: &[Lit],
     most: u64,
-    fragment: Vec<u8>,
-) -> Result<Vec<u8>, AllocError>
-    ensures { IfOk result (λ text. Trims base.now cube.now most fragment.items text.items) }
+    fragment: PackedText,
+) -> Result<PackedText, AllocError>
+    ensures { IfOk result (λ text. Trims base.now cube.now most fragment text) }
 {
     let _vars = base.vars(); // with it comes the bound of the number of clauses
     let short = match shorter(alloc, base.len() as u64, &fragment) {

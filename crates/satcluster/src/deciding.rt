@@ -38,9 +38,7 @@ fn kept<R: Runtime + AllocGlobal>(
     files: &Files,
 ) -> Result<Report, Refusal> {
     match (files.proof, &report.proof) {
-        (Some(path), Some(bytes)) => {
-            write_proof(rt, path, bytes.as_slice(), files.input, files.cubes)?
-        }
+        (Some(path), Some(proof)) => write_proof(rt, path, proof, files.input, files.cubes)?,
         _ => {}
     }
     Ok(report)

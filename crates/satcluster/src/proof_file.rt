@@ -1,12 +1,16 @@
 //! Writes a proof to its file, whole or not at all wherever a file can be made beside it.
 
 use crate::files::refused;
+use lrat_text::PackedText;
 use node_main::Refusal;
 use std::fs::{File, Metadata, OpenFile, OpenOptions};
 use std::io::{ErrorKind, Write};
 use std::os::unix::fs::MetadataExt;
 use std::rt::Runtime;
 use std::{fs, io};
+
+/// So many bytes of a proof are unpacked and written at once.
+const PIECE: usize = 65_536;
 
 /// How many names are tried for the file beside the proof's.
 const NAMES: u32 = 100;
@@ -56,11 +60,34 @@ fn make_beside<R: Runtime + AllocGlobal>(
     Ok(None)
 }
 
-/// Fills a new file, and tells whether it could take the place of what stands at the path.
-fn replace<R: Runtime>(
+/// Writes a proof to a file, piece by piece, since it stands packed.
+fn write_text<R: Runtime + AllocGlobal>(
+    rt: &R,
+    file: &mut R::File,
+    proof: &PackedText,
+) -> io::Result<()> {
+    for i in 0..proof.len() / PIECE + 1 {
+        let piece = proof.read(rt.alloc(), PIECE * i, PIECE)?;
+        file.write_all(piece.as_slice())?;
+    }
+    Ok(())
+}
+
+/// Writes a proof to what stands at the path, in place.
+fn write_in_place<R: Runtime + AllocGlobal>(
     rt: &R,
     path: &str,
-    proof: &[u8],
+    proof: &PackedText,
+) -> io::Result<()> {
+    let mut file = File::create(rt, path)?;
+    write_text(rt, &mut file, proof)
+}
+
+/// Fills a new file, and tells whether it could take the place of what stands at the path.
+fn replace<R: Runtime + AllocGlobal>(
+    rt: &R,
+    path: &str,
+    proof: &PackedText,
     made: (R::File, &str),
     old: Option<&Metadata>,
 ) -> io::Result<bool> {
@@ -70,7 +97,7 @@ fn replace<R: Runtime>(
             return Ok(false);
         }
     }
-    file.write_all(proof)?;
+    write_text(rt, &mut file, proof)?;
     Ok(fs::rename(rt, name, path).is_ok())
 }
 
@@ -78,11 +105,11 @@ fn replace<R: Runtime>(
 fn write_beside<R: Runtime + AllocGlobal>(
     rt: &R,
     path: &str,
-    proof: &[u8],
+    proof: &PackedText,
     old: Option<&Metadata>,
 ) -> io::Result<()> {
     let Some((file, name)) = make_beside(rt, path)? else {
-        return fs::write(rt, path, proof);
+        return write_in_place(rt, path, proof);
     };
     let replaced = replace(rt, path, proof, (file, name.as_str()), old);
     if let Ok(true) = replaced {
@@ -90,14 +117,14 @@ fn write_beside<R: Runtime + AllocGlobal>(
     }
     let _ = fs::remove_file(rt, name.as_str());
     replaced?;
-    fs::write(rt, path, proof)
+    write_in_place(rt, path, proof)
 }
 
 /// Writes a proof to the file at a path, unless it is one of the files that were read.
 pub(crate) fn write_proof<R: Runtime + AllocGlobal>(
     rt: &R,
     path: &str,
-    proof: &[u8],
+    proof: &PackedText,
     input: &str,
     cubes: Option<&str>,
 ) -> Result<(), Refusal> {
@@ -111,7 +138,7 @@ pub(crate) fn write_proof<R: Runtime + AllocGlobal>(
     }
     let written = match way_to(rt, path) {
         Ok(Way::Beside(old)) => write_beside(rt, path, proof, old.as_ref()),
-        Ok(Way::InPlace) => fs::write(rt, path, proof),
+        Ok(Way::InPlace) => write_in_place(rt, path, proof),
         Err(error) => Err(error),
     };
     written.map_err(|error| refused(error, Refusal::Writing))

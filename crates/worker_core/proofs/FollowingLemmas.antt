@@ -1,6 +1,7 @@
 -- What follows a candidate's bytes, over plain values.
-use Rattle.std.proofs.Common.{◌≡◌, ℕ, List, ◌++◌, length, Option, Some, None, sym, subst, arith}
+use Rattle.std.proofs.Common.{◌≡◌, ℕ, ◌+◌, ◌≤◌, List, ◌++◌, length, take, drop, Option, Some, None, sym, ap, ◌∙◌, subst, arith}
 use Rattle.std.proofs.lemmas.List.{length-append, take-append-le, take_all}
+use Rattle.std.proofs.Math.Seq.{take-add}
 use Rattle.dimacs.specs.logic.Cnf.{Cnf}
 use Rattle.lrat_check.specs.Stream.{HasTaken}
 use Rattle.worker_core.specs.inner.Invariant.{Follows, IsBehind}
@@ -19,4 +20,18 @@ pub all_behind : (F : Cnf) (f : Follower) (bytes : List ℕ) → f.taken ≡ len
 all_behind F f bytes all taken = record {
   within = omega (arith, all);
   front = subst (HasTaken F f.stream) (sym (take_all f.taken bytes (omega (arith, all)))) taken;
+}
+
+-- and back
+pub all_taken : (F : Cnf) (f : Follower) (bytes : List ℕ) → length bytes ≤ f.taken → IsBehind F f bytes → HasTaken F f.stream bytes
+all_taken F f bytes all h = subst (HasTaken F f.stream) (take_all f.taken bytes all) h.front
+
+-- a front, and the block behind it
+pub one_block : (F : Cnf) (f g : Follower) (bytes block : List ℕ) (count : ℕ) → block ≡ take count (drop f.taken bytes) → g.taken ≡ f.taken + count → g.taken ≤ length bytes
+    → ((front : List ℕ) → HasTaken F f.stream front → HasTaken F g.stream (front ++ block)) → IsBehind F f bytes → IsBehind F g bytes
+one_block F f g bytes block count is further within feeds h = record {
+  within = within;
+  front = subst (HasTaken F g.stream)
+      (ap (λ (b : List ℕ). take f.taken bytes ++ b) is ∙ sym (take-add f.taken count bytes) ∙ ap (λ (n : ℕ). take n bytes) (sym further))
+      (feeds (take f.taken bytes) h.front);
 }

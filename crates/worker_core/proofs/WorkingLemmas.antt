@@ -47,13 +47,13 @@ as_many_vars F wanted B is = omega (arith, ap (λ (C : Cnf). C.vars) is.is)
 pub kept_is_work : (F B : Cnf) (name : JobName) (cube : Cube) (limit : ℕ) (end : Outcome) → F.vars ≤ B.vars → MayEnd B cube limit end → IsWork F B (kept name F.vars end)
 kept_is_work F B name cube limit (outcome.Model values) few ends =
     (length-map (take F.vars values) value_byte ∙ length-take-le F.vars values (omega (arith, few, ends.whole)), tt)
-kept_is_work F B name cube limit (outcome.Refuted text) few ends = go (nat_lt (length text.items) (2 ^ 32)) refl
+kept_is_work F B name cube limit (outcome.Refuted text) few ends = go (nat_lt (length text) (2 ^ 32)) refl
   where
-    some : 0 < length text.items
-    some = closes_some B cube text.items ends.0
+    some : 0 < length text
+    some = closes_some B cube text ends.0
 
-    go : (b : Bool) → nat_lt (length text.items) (2 ^ 32) ≡ b → IsWork F B (if b then Found name answers.Refuted text.items None else Limited name)
-    go true short = ((omega (arith, some), ltb-true (length text.items) (2 ^ 32) short), tt)
+    go : (b : Bool) → nat_lt (length text) (2 ^ 32) ≡ b → IsWork F B (if b then Found name answers.Refuted text None else Limited name)
+    go true short = ((omega (arith, some), ltb-true (length text) (2 ^ 32) short), tt)
     go false long = tt
 kept_is_work F B name cube limit (outcome.Limit text) few ends = tt
 

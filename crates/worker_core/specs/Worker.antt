@@ -140,13 +140,13 @@ WorkerDelivers w Rest answer new = Ignores w answer new
 -- how a search over a base may end: which way it ends is open
 abbrev pub MayEnd : Cnf → Cube → ℕ → Outcome → Type 0
 MayEnd B cube limit (outcome.Model values) = IsModel B cube values
-MayEnd B cube limit (outcome.Refuted text) = Closes B cube text.items × HasAtMost (allowed limit + 1) text.items
-MayEnd B cube limit (outcome.Limit text) = IsHonest B (allowed limit) text.items
+MayEnd B cube limit (outcome.Refuted text) = Closes B cube text × HasAtMost (allowed limit + 1) text
+MayEnd B cube limit (outcome.Limit text) = IsHonest B (allowed limit) text
 
 -- what is kept of it: the values of the formula's variables, or the fragment, if its length fits a frame
 abbrev pub kept : JobName → ℕ → Outcome → Work
 kept name vars (outcome.Model values) = Found name answers.Assignment (map value_byte (take vars values)) None
-kept name vars (outcome.Refuted text) = if nat_lt (length text.items) (2 ^ 32) then Found name answers.Refuted text.items None else Limited name
+kept name vars (outcome.Refuted text) = if nat_lt (length text) (2 ^ 32) then Found name answers.Refuted text None else Limited name
 kept name vars (outcome.Limit text) = Limited name
 
 -- The worker is to work.

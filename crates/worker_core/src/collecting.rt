@@ -3,6 +3,7 @@
 ghost use Rattle.std.specs.Prelude.{◌≡◌, ◌≤◌, ◌⊎◌, ◌↔◌, ℕ, List, length, IsTrue, IfOk, OnOk, Ok, Err};
 ghost use Rattle.lrat_text.specs.Proof.{Accepts};
 ghost use Rattle.lrat_check.specs.Checking.{no_memory};
+ghost use Rattle.lrat_check.specs.Stream.{HasTaken};
 ghost use Rattle.frames.specs.Answers.{answer_of};
 ghost use Rattle.frames.specs.declared.answer.Answer.TheVariants as answers;
 ghost use Rattle.evidence.specs.Evidence.{IsComplete};
@@ -13,7 +14,7 @@ use crate::candidate::Candidate;
 use crate::follower::{Follower, caught_up};
 use dimacs::Formula;
 use frames::Answer;
-use lrat_check::{CheckFault, Judged, ProofText, Verdict, check, judge_values};
+use lrat_check::{CheckFault, Judged, Verdict, judge_values};
 use lrat_text::{PackedText, reading_is_spelling};
 use std::alloc::{AllocError, Global};
 
@@ -130,16 +131,29 @@ fn judge_text(
     ensures { Becomes formula.now candidate candidate result }
 {
     match check_whole(alloc, formula, follower, &candidate.evidence.bytes) {
-        Ok(()) => match candidate.evidence.bytes.to_text(alloc) {
-            Ok(text) => Collected::Right(Verdict::Proof(ProofText::from_vec(text))),
-            Err(_) => Collected::NoMemory(candidate, None),
-        },
+        Ok(()) => Collected::Right(Verdict::Proof(candidate.evidence.bytes)),
         Err(fault) if fault.is_no_memory() => Collected::NoMemory(candidate, None),
         Err(_) => Collected::Wrong,
     }
 }
 
-/// Checks a whole text: by what followed it, once it has taken the rest, or from its beginning where nothing did.
+/// What has taken a whole text: what followed it, once it has taken the rest; where nothing did, one that takes it from its beginning.
+fn taken_whole(
+    alloc: Global,
+    formula: &Formula,
+    follower: Option<Follower>,
+    text: &PackedText,
+) -> Result<Follower, AllocError>
+    requires { Follows formula.now follower text.now }
+    ensures { IfOk result (λ f. HasTaken formula.now f.stream text.now) }
+{
+    if let Some(follower) = caught_up(alloc, follower, text) {
+        return Ok(follower);
+    }
+    Follower::new(alloc, formula)?.follow(alloc, text)
+}
+
+/// Checks a whole text, by what followed it, if anything did.
 fn check_whole(
     alloc: Global,
     formula: &Formula,
@@ -150,9 +164,7 @@ fn check_whole(
     ensures accepted { OnOk result (Accepts formula.now text.now) }
     ensures complete { Accepts formula.now text.now → (result ≡ Ok tt) ⊎ (result ≡ Err no_memory) }
 {
-    let Some(follower) = caught_up(alloc, follower, text) else {
-        return check(alloc, formula, &text.to_text(alloc)?);
-    };
+    let follower = taken_whole(alloc, formula, follower, text)?;
     // The law by which what was read is what the text spells; there is nothing to run.
     reading_is_spelling();
     follower.stream.finish()

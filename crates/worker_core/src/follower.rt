@@ -1,6 +1,6 @@
 //! What checks a refutation while its bytes come.
 
-ghost use Rattle.std.specs.Prelude.{◌≡◌, ◌≤◌, [], length, IfOk, IfSome};
+ghost use Rattle.std.specs.Prelude.{◌≡◌, ◌<◌, ◌≤◌, [], length, IfOk, OnOk, IfSome};
 ghost use Rattle.dimacs.specs.logic.Cnf.{Cnf};
 ghost use Rattle.lrat_check.specs.Stream.{HasTaken};
 ghost use Rattle.worker_core.specs.inner.Invariant.{Follows, IsBehind};
@@ -9,6 +9,9 @@ use dimacs::Formula;
 use lrat_check::StreamChecker;
 use lrat_text::PackedText;
 use std::alloc::{AllocError, Global};
+
+/// So many bytes are unpacked at once.
+const BLOCK: usize = 16384;
 
 /// A stream that takes the bytes of a candidate, and how many it has taken.
 #[derive(Drop)]
@@ -28,20 +31,33 @@ impl Follower {
         })
     }
 
-    /// Takes the bytes that it has not taken yet. A fault of the text stays in it; where it finds no memory it is given up.
-    fn follow(self, alloc: Global, bytes: &PackedText) -> Option<Follower>
-        requires { self.taken ≤ length bytes.now }
-        ensures { IfSome result (λ f. (f.taken ≡ length bytes.now) × ((F : Cnf) → IsBehind F self bytes.now → HasTaken F f.stream bytes.now)) }
+    /// Takes the next block of the bytes that it has not taken yet. A fault of the text stays in it.
+    fn take_block(&mut self, alloc: Global, bytes: &PackedText) -> Result<(), AllocError>
+        requires { self.old.taken < length bytes.now }
+        ensures further { OnOk result ((self.old.taken < self.new.taken) × (self.new.taken ≤ length bytes.now)) }
+        ensures behind { OnOk result ((F : Cnf) → IsBehind F self.old bytes.now → IsBehind F self.new bytes.now) }
     {
-        let Follower { mut stream, taken } = self;
-        let len = bytes.len();
-        let Ok(more) = bytes.read(alloc, taken, len - taken) else {
-            return None;
-        };
-        match stream.feed(&more) {
-            Err(fault) if fault.is_no_memory() => None,
-            _ => Some(Follower { stream, taken: len }),
+        let count = BLOCK.min(bytes.len() - self.taken);
+        let block = bytes.read(alloc, self.taken, count)?;
+        match self.stream.feed(&block) {
+            Err(fault) if fault.is_no_memory() => Err(AllocError),
+            _ => {
+                self.taken += count;
+                Ok(())
+            }
         }
+    }
+
+    /// Takes the bytes that it has not taken yet, block by block, so that they never stand whole. Where it finds no memory it is given up.
+    pub(crate) fn follow(self, alloc: Global, bytes: &PackedText) -> Result<Follower, AllocError>
+        requires { self.taken ≤ length bytes.now }
+        ensures { IfOk result (λ f. (f.taken ≡ length bytes.now) × ((F : Cnf) → IsBehind F self bytes.now → HasTaken F f.stream bytes.now)) }
+    {
+        let mut follower = self;
+        'takes: while follower.taken < bytes.len() {
+            follower.take_block(alloc, bytes)?;
+        }
+        Ok(follower)
     }
 }
 
@@ -56,6 +72,6 @@ pub(crate) fn caught_up(
 {
     match follower {
         None => None,
-        Some(follower) => follower.follow(alloc, bytes),
+        Some(follower) => follower.follow(alloc, bytes).ok(),
     }
 }

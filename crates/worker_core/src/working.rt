@@ -91,7 +91,7 @@ fn keep(alloc: Global, name: JobName, vars: u32, end: Outcome) -> Result<Work, A
                 Ok(Work::Found {
                     name,
                     answer: Answer::Refuted,
-                    bytes: PackedText::of(alloc, &text)?,
+                    bytes: text,
                     noted: None,
                 })
             } else {

@@ -11,7 +11,7 @@ use Rattle.lrat_check.specs.Numbers.{step_fault_number}
 use Rattle.lrat_check.specs.declared.fault.StepFault.{StepFault}
 use Rattle.lrat_check.specs.declared.fault.StepFault.TheVariants.{NoMemory as OutOfMemory}
 use Rattle.lrat_check.specs.declared.checking.CheckFault.{CheckFault}
-use Rattle.lrat_check.specs.Checking.{refused, check_line, no_memory}
+use Rattle.lrat_check.specs.Checking.{check_line, no_memory}
 
 -- the fault of a line that spells no step
 abbrev pub text_refusal : TextFault → ℕ → CheckFault

@@ -1,6 +1,6 @@
 use Rattle.coordinator_core.proofs.PollLemmas.{model_part}
-use Rattle.std.proofs.Common.{◌∙◌, ap, length, take, drop, arith}
-use Rattle.std.proofs.lemmas.List.{length-map}
+use Rattle.std.proofs.Common.{ℕ, List, ◌∙◌, ap, length, take, drop, arith}
+use Rattle.std.proofs.lemmas.List.{length-map, length-take}
 use Rattle.lrat_check.specs.Judging.{value_byte}
 use Rattle.coordinator_core.proofs.polling.part.Goals as goal
 
@@ -11,3 +11,7 @@ pub returns-in_ok-bytes-in-Model : goal.returns-in_ok-bytes-in-Model
 returns-in_ok-bytes-in-Model c =
     model_part c.args.verdict.now _ c.part_of.result.now c.args.offset _ c.in-Model.is (c.from_vec.ensures ∙ c.in_ok-bytes-in-Model.ensures)
     (c.part_of.ensures.part ∙ ap (λ v. take 4000 (drop c.args.offset v)) c.values.ensures)
+
+pub from_vec-requires-in-Proof-clause-below : goal.from_vec-requires-in-Proof-clause-below
+from_vec-requires-in-Proof-clause-below c =
+    omega (arith, ap (λ (ts : List ℕ). length ts) c.in_ok-bytes-in-Proof.ensures, length-take 4000 (drop c.args.offset c.in-Proof.text))

@@ -1,5 +1,4 @@
-use Rattle.std.proofs.Common.{ap, sym, ◌∙◌}
-use Rattle.lrat_check.specs.declared.verdict.Verdict.TheVariants.{Model, Proof}
+use Rattle.lrat_check.specs.declared.verdict.Verdict.TheVariants.{Model}
 use Rattle.evidence.proofs.KeepingLemmas.{of_verdict, of_text}
 use Rattle.evidence.proofs.keeping.keep.Goals as goal
 
@@ -8,5 +7,5 @@ returns-in-Model c = of_verdict c.args.formula.now c.args.extension.now c.args.g
 
 pub returns-in-Proof : goal.returns-in-Proof
 returns-in-Proof c =
-    of_text c.args.formula.now c.args.extension.now c.args.grown.now c.args.verdict.now c.as_slice.result.now c.len.result c.len-in-Proof.result c.keep_proof.result
-    (c.in-Proof.is ∙ ap Proof (sym c.as_slice.ensures)) c.requires.grown c.len.ensures c.len-in-Proof.ensures.value c.keep_proof.ensures
+    of_text c.args.formula.now c.args.extension.now c.args.grown.now c.args.verdict.now c.in-Proof.text c.len.result c.len-in-Proof.result c.keep_proof.result
+    c.in-Proof.is c.requires.grown c.len.ensures c.len-in-Proof.ensures.value c.keep_proof.ensures

@@ -6,10 +6,10 @@ use Rattle.evidence.proofs.keeping.keep_proof.Goals as goal
 pub returns-in-None : goal.returns-in-None
 returns-in-None c = λ F x grown o m.
     no_text F x c.args.old c.args.more c.args.text.now o m
-    (of_none ((new : List ℕ) → ¬ (Renumbers c.args.old c.args.more c.args.text.now new)) (λ new. Renumbers c.args.old c.args.more c.args.text.now new.items) c.in_ok-renumber.field-0 c.in-None.is c.in_ok-renumber.ensures)
+    (of_none ((new : List ℕ) → ¬ (Renumbers c.args.old c.args.more c.args.text.now new)) (λ new. Renumbers c.args.old c.args.more c.args.text.now new.items) c.in_ok-renumbered.field-0 c.in-None.is c.in_ok-renumbered.ensures)
 
 pub returns-in-Some : goal.returns-in-Some
 returns-in-Some c =
-    text_judged c.args.formula.now c.args.old c.args.more c.args.text.now c.in-Some.renumbered.items c.held_if_accepted.result
-    (of_some ((new : List ℕ) → ¬ (Renumbers c.args.old c.args.more c.args.text.now new)) (λ new. Renumbers c.args.old c.args.more c.args.text.now new.items) c.in_ok-renumber.field-0 c.in-Some.renumbered c.in-Some.is c.in_ok-renumber.ensures)
+    text_judged c.args.formula.now c.args.old c.args.more c.args.text.now c.in-Some.raised.items c.held_if_accepted.result
+    (of_some ((new : List ℕ) → ¬ (Renumbers c.args.old c.args.more c.args.text.now new)) (λ new. Renumbers c.args.old c.args.more c.args.text.now new.items) c.in_ok-renumbered.field-0 c.in-Some.raised c.in-Some.is c.in_ok-renumbered.ensures)
     c.held_if_accepted.ensures

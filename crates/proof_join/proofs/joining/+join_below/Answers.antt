@@ -27,7 +27,7 @@ overflow_add-next t c =
 pub returns-then-cube-depth-clause-text : goal.returns-then-cube-depth-clause-text
 returns-then-cube-depth-clause-text t c = λ h.
     let e = leaf_tree c.args.tree.now c.args.fragments.now c.args.next.now c.args.depth h c.cube-cube.result.now c.cube-cube.ensures.cube c.if-cube-depth.true c.text_at.result.now c.text_at.ensures in
-    leaf_writes _ c.put_leaf.result c.args.base c.args.writer.now.top h.path h.tree (steps_in c.text_at.result.now) c.put_leaf.new.writer.out.items c.args.writer.now.out.items e c.put_leaf.ensures.text
+    leaf_writes _ c.put_leaf.result c.args.base c.args.writer.now.top h.path h.tree (steps_in c.text_at.result.now) c.put_leaf.new.writer.out c.args.writer.now.out e c.put_leaf.ensures.text
 
 pub returns-then-cube-depth-clause-top : goal.returns-then-cube-depth-clause-top
 returns-then-cube-depth-clause-top t c =
@@ -63,7 +63,7 @@ join_below-requires t c =
 pub returns-in-Err-clause-text : goal.returns-in-Err-clause-text
 returns-in-Err-clause-text t c = λ h.
     let f = at_fork c.args.tree.now (steps_each c.args.fragments.now) c.args.next.now c.args.depth h c.cube-cube.result.now (sym c.cube-cube.ensures.cube) c.if-cube-depth.false in
-    first_stops c.args.tree.now (steps_each c.args.fragments.now) c.args.next.now c.args.depth h c.cube-cube.result.now f c.args.base c.args.writer.now.top Subtree Subtree c.in-Err.fault c.join_below.new.writer.out.items c.args.writer.now.out.items (c.in-Err.ensures.text (first_below c.args.tree.now (steps_each c.args.fragments.now) c.args.next.now c.args.depth h c.cube-cube.result.now f))
+    first_stops c.args.tree.now (steps_each c.args.fragments.now) c.args.next.now c.args.depth h c.cube-cube.result.now f c.args.base c.args.writer.now.top Subtree Subtree c.in-Err.fault c.join_below.new.writer.out c.args.writer.now.out (c.in-Err.ensures.text (first_below c.args.tree.now (steps_each c.args.fragments.now) c.args.next.now c.args.depth h c.cube-cube.result.now f))
 
 pub overflow_add-depth-2 : goal.overflow_add-depth-2
 overflow_add-depth-2 t c =
@@ -95,7 +95,7 @@ returns-in-Err-join_below-clause-text t c = λ h.
     let f = at_fork c.args.tree.now (steps_each c.args.fragments.now) c.args.next.now c.args.depth h c.cube-cube.result.now (sym c.cube-cube.ensures.cube) c.if-cube-depth.false in
     let h1 = first_below c.args.tree.now (steps_each c.args.fragments.now) c.args.next.now c.args.depth h c.cube-cube.result.now f in
     let h2 = second_below c.args.tree.now (steps_each c.args.fragments.now) c.args.next.now c.args.depth h c.cube-cube.result.now f c.join_below.new.next (c.in-Ok.ensures.next h1) in
-    second_stops c.args.tree.now (steps_each c.args.fragments.now) c.args.next.now c.args.depth h c.cube-cube.result.now f c.args.base c.args.writer.now.top Subtree Subtree c.in-Err-join_below.fault c.join_below-2.new.writer.out.items c.args.writer.now.out.items c.join_below.new.writer.out.items c.join_below.new.writer.top (c.in-Ok.ensures.text h1).0 (c.in-Ok.ensures.top h1) (c.in-Err-join_below.ensures.text h2)
+    second_stops c.args.tree.now (steps_each c.args.fragments.now) c.args.next.now c.args.depth h c.cube-cube.result.now f c.args.base c.args.writer.now.top Subtree Subtree c.in-Err-join_below.fault c.join_below-2.new.writer.out c.args.writer.now.out c.join_below.new.writer.out c.join_below.new.writer.top (c.in-Ok.ensures.text h1).0 (c.in-Ok.ensures.top h1) (c.in-Err-join_below.ensures.text h2)
 
 pub slice_bounds-put_fork-end : goal.slice_bounds-put_fork-end
 slice_bounds-put_fork-end t c =
@@ -163,7 +163,7 @@ returns-clause-text t c = λ h.
     let f = at_fork c.args.tree.now (steps_each c.args.fragments.now) c.args.next.now c.args.depth h c.cube-cube.result.now (sym c.cube-cube.ensures.cube) c.if-cube-depth.false in
     let h1 = first_below c.args.tree.now (steps_each c.args.fragments.now) c.args.next.now c.args.depth h c.cube-cube.result.now f in
     let h2 = second_below c.args.tree.now (steps_each c.args.fragments.now) c.args.next.now c.args.depth h c.cube-cube.result.now f c.join_below.new.next (c.in-Ok.ensures.next (h1)) in
-    let a : AreBranches h.path f.x c.args.base c.args.writer.now.top f.left f.right c.args.writer.now.out.items c.join_below.new.writer.out.items c.join_below-2.new.writer.out.items c.join_below.new.writer.top c.join_below-2.new.writer.top c.in-Ok.left.id c.in-Ok-join_below.right.id c.in-Ok.left.clause.items c.in-Ok-join_below.right.clause.items = record {
+    let a : AreBranches h.path f.x c.args.base c.args.writer.now.top f.left f.right c.args.writer.now.out c.join_below.new.writer.out c.join_below-2.new.writer.out c.join_below.new.writer.top c.join_below-2.new.writer.top c.in-Ok.left.id c.in-Ok-join_below.right.id c.in-Ok.left.clause.items c.in-Ok-join_below.right.clause.items = record {
       out1_is = (c.in-Ok.ensures.text h1).0;
       top1_is = c.in-Ok.ensures.top h1;
       i_is = c.in-Ok.ensures.id h1;
@@ -174,14 +174,14 @@ returns-clause-text t c = λ h.
       D_is = c.in-Ok-join_below.ensures.clause h2;
     } in
     let g : c.index-cube-depth.result ≡ f.x = c.index-cube-depth.is ∙ f.literal c.index-cube-depth.result in
-    fork_writes c.args.tree.now (steps_each c.args.fragments.now) c.args.next.now c.args.depth h c.cube-cube.result.now f c.args.base c.args.writer.now.top c.args.writer.now.out.items c.join_below.new.writer.out.items c.join_below-2.new.writer.out.items c.join_below.new.writer.top c.join_below-2.new.writer.top c.in-Ok.left.id c.in-Ok-join_below.right.id c.in-Ok.left.clause.items c.in-Ok-join_below.right.clause.items c.index-cube-depth.result a g _ c.put_fork.result c.put_fork.new.writer.out.items c.put_fork.ensures.text
+    fork_writes c.args.tree.now (steps_each c.args.fragments.now) c.args.next.now c.args.depth h c.cube-cube.result.now f c.args.base c.args.writer.now.top c.args.writer.now.out c.join_below.new.writer.out c.join_below-2.new.writer.out c.join_below.new.writer.top c.join_below-2.new.writer.top c.in-Ok.left.id c.in-Ok-join_below.right.id c.in-Ok.left.clause.items c.in-Ok-join_below.right.clause.items c.index-cube-depth.result a g _ c.put_fork.result c.put_fork.new.writer.out c.put_fork.ensures.text
 
 pub returns-clause-top : goal.returns-clause-top
 returns-clause-top t c = ok_gives _ c.put_fork.result _ _ (λ e h.
     let f = at_fork c.args.tree.now (steps_each c.args.fragments.now) c.args.next.now c.args.depth h c.cube-cube.result.now (sym c.cube-cube.ensures.cube) c.if-cube-depth.false in
     let h1 = first_below c.args.tree.now (steps_each c.args.fragments.now) c.args.next.now c.args.depth h c.cube-cube.result.now f in
     let h2 = second_below c.args.tree.now (steps_each c.args.fragments.now) c.args.next.now c.args.depth h c.cube-cube.result.now f c.join_below.new.next (c.in-Ok.ensures.next (h1)) in
-    let a : AreBranches h.path f.x c.args.base c.args.writer.now.top f.left f.right c.args.writer.now.out.items c.join_below.new.writer.out.items c.join_below-2.new.writer.out.items c.join_below.new.writer.top c.join_below-2.new.writer.top c.in-Ok.left.id c.in-Ok-join_below.right.id c.in-Ok.left.clause.items c.in-Ok-join_below.right.clause.items = record {
+    let a : AreBranches h.path f.x c.args.base c.args.writer.now.top f.left f.right c.args.writer.now.out c.join_below.new.writer.out c.join_below-2.new.writer.out c.join_below.new.writer.top c.join_below-2.new.writer.top c.in-Ok.left.id c.in-Ok-join_below.right.id c.in-Ok.left.clause.items c.in-Ok-join_below.right.clause.items = record {
       out1_is = (c.in-Ok.ensures.text h1).0;
       top1_is = c.in-Ok.ensures.top h1;
       i_is = c.in-Ok.ensures.id h1;
@@ -192,7 +192,7 @@ returns-clause-top t c = ok_gives _ c.put_fork.result _ _ (λ e h.
       D_is = c.in-Ok-join_below.ensures.clause h2;
     } in
     let g : c.index-cube-depth.result ≡ f.x = c.index-cube-depth.is ∙ f.literal c.index-cube-depth.result in
-    e ∙ (fork_values c.args.tree.now (steps_each c.args.fragments.now) c.args.next.now c.args.depth h c.cube-cube.result.now f c.args.base c.args.writer.now.top c.args.writer.now.out.items c.join_below.new.writer.out.items c.join_below-2.new.writer.out.items c.join_below.new.writer.top c.join_below-2.new.writer.top c.in-Ok.left.id c.in-Ok-join_below.right.id c.in-Ok.left.clause.items c.in-Ok-join_below.right.clause.items c.index-cube-depth.result a g).0) c.put_fork.ensures.top
+    e ∙ (fork_values c.args.tree.now (steps_each c.args.fragments.now) c.args.next.now c.args.depth h c.cube-cube.result.now f c.args.base c.args.writer.now.top c.args.writer.now.out c.join_below.new.writer.out c.join_below-2.new.writer.out c.join_below.new.writer.top c.join_below-2.new.writer.top c.in-Ok.left.id c.in-Ok-join_below.right.id c.in-Ok.left.clause.items c.in-Ok-join_below.right.clause.items c.index-cube-depth.result a g).0) c.put_fork.ensures.top
 
 pub returns-clause-next : goal.returns-clause-next
 returns-clause-next t c = ok_always _ c.put_fork.result _ (λ h.
@@ -206,7 +206,7 @@ returns-clause-id t c = if_ok _ c.put_fork.result _ _ (λ s e h.
     let f = at_fork c.args.tree.now (steps_each c.args.fragments.now) c.args.next.now c.args.depth h c.cube-cube.result.now (sym c.cube-cube.ensures.cube) c.if-cube-depth.false in
     let h1 = first_below c.args.tree.now (steps_each c.args.fragments.now) c.args.next.now c.args.depth h c.cube-cube.result.now f in
     let h2 = second_below c.args.tree.now (steps_each c.args.fragments.now) c.args.next.now c.args.depth h c.cube-cube.result.now f c.join_below.new.next (c.in-Ok.ensures.next (h1)) in
-    let a : AreBranches h.path f.x c.args.base c.args.writer.now.top f.left f.right c.args.writer.now.out.items c.join_below.new.writer.out.items c.join_below-2.new.writer.out.items c.join_below.new.writer.top c.join_below-2.new.writer.top c.in-Ok.left.id c.in-Ok-join_below.right.id c.in-Ok.left.clause.items c.in-Ok-join_below.right.clause.items = record {
+    let a : AreBranches h.path f.x c.args.base c.args.writer.now.top f.left f.right c.args.writer.now.out c.join_below.new.writer.out c.join_below-2.new.writer.out c.join_below.new.writer.top c.join_below-2.new.writer.top c.in-Ok.left.id c.in-Ok-join_below.right.id c.in-Ok.left.clause.items c.in-Ok-join_below.right.clause.items = record {
       out1_is = (c.in-Ok.ensures.text h1).0;
       top1_is = c.in-Ok.ensures.top h1;
       i_is = c.in-Ok.ensures.id h1;
@@ -217,14 +217,14 @@ returns-clause-id t c = if_ok _ c.put_fork.result _ _ (λ s e h.
       D_is = c.in-Ok-join_below.ensures.clause h2;
     } in
     let g : c.index-cube-depth.result ≡ f.x = c.index-cube-depth.is ∙ f.literal c.index-cube-depth.result in
-    e ∙ (fork_values c.args.tree.now (steps_each c.args.fragments.now) c.args.next.now c.args.depth h c.cube-cube.result.now f c.args.base c.args.writer.now.top c.args.writer.now.out.items c.join_below.new.writer.out.items c.join_below-2.new.writer.out.items c.join_below.new.writer.top c.join_below-2.new.writer.top c.in-Ok.left.id c.in-Ok-join_below.right.id c.in-Ok.left.clause.items c.in-Ok-join_below.right.clause.items c.index-cube-depth.result a g).1) c.put_fork.ensures.id
+    e ∙ (fork_values c.args.tree.now (steps_each c.args.fragments.now) c.args.next.now c.args.depth h c.cube-cube.result.now f c.args.base c.args.writer.now.top c.args.writer.now.out c.join_below.new.writer.out c.join_below-2.new.writer.out c.join_below.new.writer.top c.join_below-2.new.writer.top c.in-Ok.left.id c.in-Ok-join_below.right.id c.in-Ok.left.clause.items c.in-Ok-join_below.right.clause.items c.index-cube-depth.result a g).1) c.put_fork.ensures.id
 
 pub returns-clause-clause : goal.returns-clause-clause
 returns-clause-clause t c = if_ok _ c.put_fork.result _ _ (λ s e h.
     let f = at_fork c.args.tree.now (steps_each c.args.fragments.now) c.args.next.now c.args.depth h c.cube-cube.result.now (sym c.cube-cube.ensures.cube) c.if-cube-depth.false in
     let h1 = first_below c.args.tree.now (steps_each c.args.fragments.now) c.args.next.now c.args.depth h c.cube-cube.result.now f in
     let h2 = second_below c.args.tree.now (steps_each c.args.fragments.now) c.args.next.now c.args.depth h c.cube-cube.result.now f c.join_below.new.next (c.in-Ok.ensures.next (h1)) in
-    let a : AreBranches h.path f.x c.args.base c.args.writer.now.top f.left f.right c.args.writer.now.out.items c.join_below.new.writer.out.items c.join_below-2.new.writer.out.items c.join_below.new.writer.top c.join_below-2.new.writer.top c.in-Ok.left.id c.in-Ok-join_below.right.id c.in-Ok.left.clause.items c.in-Ok-join_below.right.clause.items = record {
+    let a : AreBranches h.path f.x c.args.base c.args.writer.now.top f.left f.right c.args.writer.now.out c.join_below.new.writer.out c.join_below-2.new.writer.out c.join_below.new.writer.top c.join_below-2.new.writer.top c.in-Ok.left.id c.in-Ok-join_below.right.id c.in-Ok.left.clause.items c.in-Ok-join_below.right.clause.items = record {
       out1_is = (c.in-Ok.ensures.text h1).0;
       top1_is = c.in-Ok.ensures.top h1;
       i_is = c.in-Ok.ensures.id h1;
@@ -235,4 +235,4 @@ returns-clause-clause t c = if_ok _ c.put_fork.result _ _ (λ s e h.
       D_is = c.in-Ok-join_below.ensures.clause h2;
     } in
     let g : c.index-cube-depth.result ≡ f.x = c.index-cube-depth.is ∙ f.literal c.index-cube-depth.result in
-    e ∙ (fork_values c.args.tree.now (steps_each c.args.fragments.now) c.args.next.now c.args.depth h c.cube-cube.result.now f c.args.base c.args.writer.now.top c.args.writer.now.out.items c.join_below.new.writer.out.items c.join_below-2.new.writer.out.items c.join_below.new.writer.top c.join_below-2.new.writer.top c.in-Ok.left.id c.in-Ok-join_below.right.id c.in-Ok.left.clause.items c.in-Ok-join_below.right.clause.items c.index-cube-depth.result a g).2) c.put_fork.ensures.clause
+    e ∙ (fork_values c.args.tree.now (steps_each c.args.fragments.now) c.args.next.now c.args.depth h c.cube-cube.result.now f c.args.base c.args.writer.now.top c.args.writer.now.out c.join_below.new.writer.out c.join_below-2.new.writer.out c.join_below.new.writer.top c.join_below-2.new.writer.top c.in-Ok.left.id c.in-Ok-join_below.right.id c.in-Ok.left.clause.items c.in-Ok-join_below.right.clause.items c.index-cube-depth.result a g).2) c.put_fork.ensures.clause

@@ -16,11 +16,11 @@ returns-in-Err-clause-text c =
     let d : ℕ = c.args.vars + 1 in
     let pairs : List Pair = c.args.pairs.now in
     let front : List Pair = take (n + 1) pairs in
-    let line = pair_more c.args.out.now.items c.args.top d pairs n c.loop-pair.last c.new.result c.pair-item.result c.loop-pair.out.items c.loop-pair-test.true c.pair-item.is last (omega arith) v.text in
+    let line = pair_more c.args.out.now c.args.top d pairs n c.loop-pair.last c.new.result c.pair-item.result c.loop-pair.out c.loop-pair-test.true c.pair-item.is last (omega arith) v.text in
     let more : List ℕ = text_of (top_of c.args.top (all_steps c.args.top d front)) (all_steps (c.args.top + 3 * length front) (d + length front) (drop (n + 1) pairs)) in
-    writes_more (Unit {0}) ℕ c.in-Err.fault c.put_definition.new.out.items (c.loop-pair.out.items ++ text_of c.loop-pair.last (definition_steps c.loop-pair.last c.new.result c.pair-item.result)) more
-    (c.args.out.now.items ++ text_of c.args.top (all_steps c.args.top d pairs))
-    (ap (λ (o : List ℕ). o ++ more) line ∙ pairs_front c.args.out.now.items c.args.top d (n + 1) pairs)
+    writes_more (Unit {0}) ℕ c.in-Err.fault c.put_definition.new.out (c.loop-pair.out ++ text_of c.loop-pair.last (definition_steps c.loop-pair.last c.new.result c.pair-item.result)) more
+    (c.args.out.now ++ text_of c.args.top (all_steps c.args.top d pairs))
+    (ap (λ (o : List ℕ). o ++ more) line ∙ pairs_front c.args.out.now c.args.top d (n + 1) pairs)
     c.in-Err.ensures
 
 pub loop-pair-preserved : goal.loop-pair-preserved
@@ -34,7 +34,7 @@ loop-pair-preserved c =
     let same = ap length wrote.0 in
     let below = wrote.1 in
     record {
-      text = wrote.0 ∙ pair_more c.args.out.now.items c.args.top (c.args.vars + 1) c.args.pairs.now n c.loop-pair.last c.new.result c.pair-item.result c.loop-pair.out.items c.loop-pair-test.true c.pair-item.is last (omega arith) v.text;
+      text = wrote.0 ∙ pair_more c.args.out.now c.args.top (c.args.vars + 1) c.args.pairs.now n c.loop-pair.last c.new.result c.pair-item.result c.loop-pair.out c.loop-pair-test.true c.pair-item.is last (omega arith) v.text;
       last = omega arith;
       variable = omega arith;
       short = omega arith;

@@ -24,11 +24,11 @@ returns-in-Err-clause-text c =
     let pure : List Literal = pure_literals c.args.formula.now in
     let pairs : List Pair = c.args.preamble.now.pairs in
     let units : c.units.result.now ≡ pure = c.units.ensures.value ∙ c.requires.units in
-    let out : List ℕ = c.args.out.now.items in
+    let out : List ℕ = c.args.out.now in
     let more : List ℕ = text_of (m + length pure) (all_steps (m + length pure) (c.args.formula.now.vars + 1) pairs) in
     let front : out ++ text_of c.len.result (unit_steps c.len.result c.units.result.now) ≡ out ++ text_of m (unit_steps m pure) =
     ap (λ (n : ℕ). out ++ text_of n (unit_steps n c.units.result.now)) c.len.ensures ∙ ap (λ (ls : List Literal). out ++ text_of m (unit_steps m ls)) units in
-    writes_more ℕ ℕ c.in-Err.fault c.put_units.new.out.items (out ++ text_of c.len.result (unit_steps c.len.result c.units.result.now)) more (out ++ text_of m (preamble_steps c.args.formula.now pairs))
+    writes_more ℕ ℕ c.in-Err.fault c.put_units.new.out (out ++ text_of c.len.result (unit_steps c.len.result c.units.result.now)) more (out ++ text_of m (preamble_steps c.args.formula.now pairs))
     (ap (λ (o : List ℕ). o ++ more) front ∙ preamble_whole c.args.formula.now pairs out) c.in-Err.ensures.text
 
 pub returns-clause-text : goal.returns-clause-text
@@ -37,13 +37,13 @@ returns-clause-text c =
     let pure : List Literal = pure_literals c.args.formula.now in
     let pairs : List Pair = c.args.preamble.now.pairs in
     let units : c.units.result.now ≡ pure = c.units.ensures.value ∙ c.requires.units in
-    let out : List ℕ = c.args.out.now.items in
+    let out : List ℕ = c.args.out.now in
     let more : List ℕ = text_of (m + length pure) (all_steps (m + length pure) (c.args.formula.now.vars + 1) pairs) in
     let front : out ++ text_of c.len.result (unit_steps c.len.result c.units.result.now) ≡ out ++ text_of m (unit_steps m pure) =
     ap (λ (n : ℕ). out ++ text_of n (unit_steps n c.units.result.now)) c.len.ensures ∙ ap (λ (ls : List Literal). out ++ text_of m (unit_steps m ls)) units in
     let top : c.in-Ok.top ≡ m + length pure = c.in-Ok.ensures.top ∙ ap (λ (n : ℕ). n + length c.units.result.now) c.len.ensures ∙ ap (λ (ls : List Literal). m + length ls) units in
-    let first : c.put_units.new.out.items ≡ out ++ text_of m (unit_steps m pure) = c.in-Ok.ensures.text.0 ∙ front in
-    subst (Writes c.put_definitions.result c.put_definitions.new.out.items)
+    let first : c.put_units.new.out ≡ out ++ text_of m (unit_steps m pure) = c.in-Ok.ensures.text.0 ∙ front in
+    subst (Writes c.put_definitions.result c.put_definitions.new.out)
     (ap (λ (o : List ℕ). o ++ text_of c.in-Ok.top (all_steps c.in-Ok.top (c.vars-vars.result + 1) c.pairs.result.now)) first
     ∙ ap (λ (n : ℕ). (out ++ text_of m (unit_steps m pure)) ++ text_of n (all_steps n (c.vars-vars.result + 1) c.pairs.result.now)) top
     ∙ ap (λ (n : ℕ). (out ++ text_of m (unit_steps m pure)) ++ text_of (m + length pure) (all_steps (m + length pure) (n + 1) c.pairs.result.now)) c.vars-vars.ensures.value
@@ -57,7 +57,7 @@ returns-clause-top c =
     let pure : List Literal = pure_literals c.args.formula.now in
     let pairs : List Pair = c.args.preamble.now.pairs in
     let units : c.units.result.now ≡ pure = c.units.ensures.value ∙ c.requires.units in
-    let out : List ℕ = c.args.out.now.items in
+    let out : List ℕ = c.args.out.now in
     let more : List ℕ = text_of (m + length pure) (all_steps (m + length pure) (c.args.formula.now.vars + 1) pairs) in
     let front : out ++ text_of c.len.result (unit_steps c.len.result c.units.result.now) ≡ out ++ text_of m (unit_steps m pure) =
     ap (λ (n : ℕ). out ++ text_of n (unit_steps n c.units.result.now)) c.len.ensures ∙ ap (λ (ls : List Literal). out ++ text_of m (unit_steps m ls)) units in

@@ -14,14 +14,14 @@ returns-in-Err-clause-text c =
     let n : ℕ = c.loop-unit.unit-index in
     let last = v.last in
     let id : ℕ = c.loop-unit.last + 1 in
-    let line : c.loop-unit.out.items ++ line_of id (Add id (c.unit-item.result ∷ []) [] c.new-groups.result) ≡ c.args.out.now.items ++ text_of c.args.top (unit_steps c.args.top (take (n + 1) c.args.units.now)) =
-    ap (λ (gs : List Group). c.loop-unit.out.items ++ line_of id (Add id (c.unit-item.result ∷ []) [] gs)) c.new-groups.ensures
-    ∙ unit_more c.args.out.now.items c.args.top c.args.units.now n id c.unit-item.result c.loop-unit.out.items c.loop-unit-test.true c.unit-item.is (omega arith) v.text in
-    writes_more (Unit {0}) ℕ c.in-Err.fault c.put_line.new.out.items (c.loop-unit.out.items ++ line_of id (Add id (c.unit-item.result ∷ []) [] c.new-groups.result))
+    let line : c.loop-unit.out ++ line_of id (Add id (c.unit-item.result ∷ []) [] c.new-groups.result) ≡ c.args.out.now ++ text_of c.args.top (unit_steps c.args.top (take (n + 1) c.args.units.now)) =
+    ap (λ (gs : List Group). c.loop-unit.out ++ line_of id (Add id (c.unit-item.result ∷ []) [] gs)) c.new-groups.ensures
+    ∙ unit_more c.args.out.now c.args.top c.args.units.now n id c.unit-item.result c.loop-unit.out c.loop-unit-test.true c.unit-item.is (omega arith) v.text in
+    writes_more (Unit {0}) ℕ c.in-Err.fault c.put_line.new.out (c.loop-unit.out ++ line_of id (Add id (c.unit-item.result ∷ []) [] c.new-groups.result))
     (text_of (top_of c.args.top (unit_steps c.args.top (take (n + 1) c.args.units.now))) (unit_steps (c.args.top + length (take (n + 1) c.args.units.now)) (drop (n + 1) c.args.units.now)))
-    (c.args.out.now.items ++ text_of c.args.top (unit_steps c.args.top c.args.units.now))
+    (c.args.out.now ++ text_of c.args.top (unit_steps c.args.top c.args.units.now))
     (ap (λ (o : List ℕ). o ++ text_of (top_of c.args.top (unit_steps c.args.top (take (n + 1) c.args.units.now))) (unit_steps (c.args.top + length (take (n + 1) c.args.units.now)) (drop (n + 1) c.args.units.now))) line
-    ∙ units_front c.args.out.now.items c.args.top (n + 1) c.args.units.now)
+    ∙ units_front c.args.out.now c.args.top (n + 1) c.args.units.now)
     c.in-Err.ensures
 
 pub loop-unit-preserved : goal.loop-unit-preserved
@@ -34,8 +34,8 @@ loop-unit-preserved c =
     let same = ap length wrote.0 in
     let below = wrote.1 in
     record {
-      text = wrote.0 ∙ ap (λ (gs : List Group). c.loop-unit.out.items ++ line_of id (Add id (c.unit-item.result ∷ []) [] gs)) c.new-groups.ensures
-          ∙ unit_more c.args.out.now.items c.args.top c.args.units.now n id c.unit-item.result c.loop-unit.out.items c.loop-unit-test.true c.unit-item.is (omega arith) v.text;
+      text = wrote.0 ∙ ap (λ (gs : List Group). c.loop-unit.out ++ line_of id (Add id (c.unit-item.result ∷ []) [] gs)) c.new-groups.ensures
+          ∙ unit_more c.args.out.now c.args.top c.args.units.now n id c.unit-item.result c.loop-unit.out c.loop-unit-test.true c.unit-item.is (omega arith) v.text;
       last = omega arith;
       short = omega arith;
     }

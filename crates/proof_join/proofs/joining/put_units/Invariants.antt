@@ -5,7 +5,7 @@ use Rattle.proof_join.proofs.joining.put_units.Given as goal
 
 abbrev pub invariant-loop-unit : goal.invariant-loop-unit
 invariant-loop-unit l = record {
-  text : l.out.items ≡ l.fn.out.items ++ text_of l.top (unit_steps l.top (take l.unit-index l.units));
+  text : l.out ≡ l.fn.out ++ text_of l.top (unit_steps l.top (take l.unit-index l.units));
   last : l.last ≡ l.top + l.unit-index;
-  short : length l.out.items < 2 ^ 32;
+  short : length l.out < 2 ^ 32;
 }

@@ -12,7 +12,7 @@ use Rattle.proof_join.proofs.lines.put_fragment_line.Goals as goal
 pub returns-in-Ok-clause-text : goal.returns-in-Ok-clause-text
 returns-in-Ok-clause-text c = λ step s.
     let k = copied c.args.shift.base c.args.shift.begun c.args.top c.in-Some.id c.args.line.now step c.if-is_none.ensures (sym (c.in-Some.ensures step s)) in
-    subst (λ (l : List ℕ). (c.put_copy.new.out.items ≡ c.args.out.now.items ++ l) × (length (c.args.out.now.items ++ l) < 2 ^ 32)) k.0 c.in-Ok.ensures
+    subst (λ (l : List ℕ). (c.put_copy.new.out ≡ c.args.out.now ++ l) × (length (c.args.out.now ++ l) < 2 ^ 32)) k.0 c.in-Ok.ensures
 
 pub returns-in-Ok-clause-top : goal.returns-in-Ok-clause-top
 returns-in-Ok-clause-top c = λ step s.
@@ -21,14 +21,14 @@ returns-in-Ok-clause-top c = λ step s.
 pub returns-in-Err-clause-text : goal.returns-in-Err-clause-text
 returns-in-Err-clause-text c = λ step s.
     let k = copied c.args.shift.base c.args.shift.begun c.args.top c.in-Some.id c.args.line.now step c.if-is_none.ensures (sym (c.in-Some.ensures step s)) in
-    subst (λ (l : List ℕ). Writes {A = ℕ} (Err c.in-Err.fault) c.put_copy.new.out.items (c.args.out.now.items ++ l)) k.0
-    (writes_else (Unit {0}) ℕ c.in-Err.fault c.put_copy.new.out.items (c.args.out.now.items ++ (c.args.line.now ++ codes "\n")) c.in-Err.ensures)
+    subst (λ (l : List ℕ). Writes {A = ℕ} (Err c.in-Err.fault) c.put_copy.new.out (c.args.out.now ++ l)) k.0
+    (writes_else (Unit {0}) ℕ c.in-Err.fault c.put_copy.new.out (c.args.out.now ++ (c.args.line.now ++ codes "\n")) c.in-Err.ensures)
 
 pub returns-clause-text : goal.returns-clause-text
 returns-clause-text c = λ step s.
     let is : step_of c.as_ref.result ≡ step = c.as_ref.ensures ∙ read_same c.args.line.now c.read_line.new.buffer step c.in-Ok-read_line.ensures.found s in
     subst
-    (λ (x : Step). Writes c.put_renumbered.result c.put_renumbered.new.out.items (c.args.out.now.items ++ line_of c.args.top (renumbered (behind c.args.shift.base c.args.shift.begun) x)))
+    (λ (x : Step). Writes c.put_renumbered.result c.put_renumbered.new.out (c.args.out.now ++ line_of c.args.top (renumbered (behind c.args.shift.base c.args.shift.begun) x)))
     is c.put_renumbered.ensures.text
 
 pub returns-clause-top : goal.returns-clause-top

@@ -1,6 +1,5 @@
-use Rattle.std.proofs.Common.{◌^◌, ◌≤◌, ◌∙◌, length, sym, ap, subst, arith}
+use Rattle.std.proofs.Common.{◌^◌, ◌≤◌, ◌∙◌, length, refl, sym, ap, subst, arith}
 use Rattle.std.proofs.lemmas.Bool.{false≢true}
-use Rattle.lrat_check.specs.declared.verdict.Verdict.TheVariants.{Proof}
 use Rattle.coordinator_core.specs.inner.Calls.{refilled}
 use Rattle.coordinator_core.specs.Invariant.{IsCoordinator}
 use Rattle.coordinator_core.proofs.ClosingLemmas.{IsShut, taken_at, desk_is, job_fair, goes_on, all_there, joined_is, too_long_is, ends_closed, ends_joined, ends_too_long, some_joined, given_back, refused, text_back, leaf_back}
@@ -46,7 +45,7 @@ invariant_of-self-in-Ok c =
     let t = taken_at _ c.args.self.now c.args.worker c.number.result _ _ _ c.self.view_is c.number.ensures.value c.self.invariant.2 c.requires.closes c.index_mut.ensures.value c.take.ensures.value c.in-Some.is in
     let h : IsShut _ c.args.self.now c.args.worker c.number.result c.in-Some.job c.emptied-job.result.1 c.close-before.new.self c.take.new.self =
     record { taken = t; text_is = c.emptied-job.ensures.bytes; rows_are = c.close-before.ensures.now; none = c.take.ensures.after } in
-    (c.self.invariant.0, c.self.invariant.1, joined_is _ _ _ _ _ _ _ _ _ c.in-Ok.text.items _ h c.fragments.ensures (ap Proof c.from_vec.ensures) c.in-Ok.ensures.joined c.in-Ok.ensures.short c.in-Ok.ensures.accepted, c.self.invariant.3)
+    (c.self.invariant.0, c.self.invariant.1, joined_is _ _ _ _ _ _ _ _ _ c.in-Ok.text _ h c.fragments.ensures refl c.in-Ok.ensures.joined c.in-Ok.ensures.short c.in-Ok.ensures.accepted, c.self.invariant.3)
 
 pub invariant_of-self-in-Err-TooLong : goal.invariant_of-self-in-Err-TooLong
 invariant_of-self-in-Err-TooLong c =
@@ -89,7 +88,7 @@ returns-in-Ok c =
     let t = taken_at _ c.args.self.now c.args.worker c.number.result _ _ _ c.self.view_is c.number.ensures.value c.self.invariant.2 c.requires.closes c.index_mut.ensures.value c.take.ensures.value c.in-Some.is in
     let h : IsShut _ c.args.self.now c.args.worker c.number.result c.in-Some.job c.emptied-job.result.1 c.close-before.new.self c.take.new.self =
     record { taken = t; text_is = c.emptied-job.ensures.bytes; rows_are = c.close-before.ensures.now; none = c.take.ensures.after } in
-    ends_joined _ _ _ _ _ _ _ _ _ c.in-Ok.text.items _ h (c.are_closed.ensures.0 c.if-not-are_closed.false) c.fragments.ensures (ap Proof c.from_vec.ensures) c.in-Ok.ensures.joined c.in-Ok.ensures.short
+    ends_joined _ _ _ _ _ _ _ _ _ c.in-Ok.text _ h (c.are_closed.ensures.0 c.if-not-are_closed.false) c.fragments.ensures refl c.in-Ok.ensures.joined c.in-Ok.ensures.short
 
 pub returns-in-Err-TooLong : goal.returns-in-Err-TooLong
 returns-in-Err-TooLong c =

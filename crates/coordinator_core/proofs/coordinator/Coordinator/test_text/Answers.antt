@@ -11,4 +11,4 @@ returns-in-Ok-clause-closes c = λ _. closes_here _ c.args.self.now c.base_or-ba
 
 pub returns-in-Err-2-clause-wrong : goal.returns-in-Err-2-clause-wrong
 returns-in-Err-2-clause-wrong c = λ _ closes.
-    unrefused c.check_fragment.result c.in-Err.fault c.is_no_memory.result (c.check_fragment.ensures.complete (closes_there _ c.args.self.now c.base_or-base.result.now c.cube.result.now c.args.leaf c.args.text.now c.self.view_is (c.base_or-base.ensures ∙ c.self.invariant.1) c.cube.ensures.cube closes)) c.in-Err.is c.is_no_memory.ensures c.if-is_no_memory.false
+    unrefused c.check_packed_fragment.result c.in-Err.fault c.is_no_memory.result (c.check_packed_fragment.ensures.complete (closes_there _ c.args.self.now c.base_or-base.result.now c.cube.result.now c.args.leaf c.args.text.now c.self.view_is (c.base_or-base.ensures ∙ c.self.invariant.1) c.cube.ensures.cube closes)) c.in-Err.is c.is_no_memory.ensures c.if-is_no_memory.false

@@ -1,4 +1,4 @@
-use Rattle.std.proofs.Common.{◌≢◌, ◌<◌, ◌∙◌, ℕ, List, [], length, get_or, subst, sym, ap}
+use Rattle.std.proofs.Common.{◌≢◌, ◌<◌, ◌∙◌, [], length, get_or, subst, sym, ap}
 use Rattle.coordinator_core.specs.Splits.{doubled}
 use Rattle.coordinator_core.specs.inner.Tables.{LeafRows}
 use Rattle.coordinator_core.specs.declared.desks.LeafState.TheVariants.{Open, Closed}

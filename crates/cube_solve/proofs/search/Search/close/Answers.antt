@@ -17,7 +17,7 @@ returns g c = (
     within = c.in_ok-lemma.ensures.within;
     limits = lemma_limits (live_of c.args.self.state.arena) c.args.self.state.trail.vars c.args.id c.in_ok-lemma.lemma.lits.items c.in_ok-lemma.lemma.hints.items
         c.requires.id c.requires.numbers c.requires.limit c.in_ok-lemma.ensures.within c.in_ok-lemma.ensures.rup;
-    text = c.in_ok-text.ensures ∙ c.in_ok-write.ensures;
+    text = c.into_packed.ensures ∙ c.in_ok-write.ensures;
   },
   c.in_ok-lemma.ensures.negates,
 )

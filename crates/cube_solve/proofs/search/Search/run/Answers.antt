@@ -44,7 +44,7 @@ returns-in-Assumption g c =
     let id = c.len.result + 1 + c.turns.learnt in
     let number = next_number B c.len.result c.turns.learnt c.vars-vars.ensures.valid c.len.ensures (let w = c.turns.invariant.within in let l = c.min-most.ensures in omega arith) in
     ends_refuted B q c.args.limit c.in_ok-text-in-Assumption.text
-    (closed B new.trail.vars c.turns.learnt id (live_of new.arena) e.0 old.log c.in_ok-text-in-Assumption.text.items (let n = c.len.ensures in omega arith) number s.learnt e.1 q (allowed c.args.limit)
+    (closed B new.trail.vars c.turns.learnt id (live_of new.arena) e.0 old.log c.in_ok-text-in-Assumption.text (let n = c.len.ensures in omega arith) number s.learnt e.1 q (allowed c.args.limit)
     (let w = c.turns.invariant.within in let l = c.min-most.ensures in omega arith)
     (closes_assumption q (live_of new.arena) new.trail.entries new.assumed c.in-Assumption.literal e.0 c.descend.ensures.assuming ((c.descend.ensures.steady).state).built f.0 f.1 e.2))
 
@@ -65,7 +65,7 @@ returns-then-level-self g c =
     let id = c.len.result + 1 + c.turns.learnt in
     let number = next_number B c.len.result c.turns.learnt c.vars-vars.ensures.valid c.len.ensures (let w = c.turns.invariant.within in let l = c.min-most.ensures in omega arith) in
     ends_refuted B q c.args.limit c.in_ok-text-in-Clause.text
-    (closed B new.trail.vars c.turns.learnt id (live_of new.arena) e.0 old.log c.in_ok-text-in-Clause.text.items (let n = c.len.ensures in omega arith) number s.learnt e.1 q (allowed c.args.limit)
+    (closed B new.trail.vars c.turns.learnt id (live_of new.arena) e.0 old.log c.in_ok-text-in-Clause.text (let n = c.len.ensures in omega arith) number s.learnt e.1 q (allowed c.args.limit)
     (let w = c.turns.invariant.within in let l = c.min-most.ensures in omega arith)
     (closes_clause q new.trail.entries new.assumed c.in-Clause.number e.0 c.descend.ensures.assuming (let p = c.level.ensures.present in let t = c.if-level-self.true in omega arith) e.2))
 
@@ -76,8 +76,8 @@ returns-then-learnt-most g c =
     let old = c.turns.self in
     let new = c.descend.new.self in
     let s = search_same B c.turns.learnt old.state.arena new.arena old.state.trail new.trail old.log (c.turns.invariant.searching).learnt c.descend.ensures.clauses c.descend.ensures.vars in
-    ends_at_limit B q c.args.limit c.in_ok-log-in-Clause.log
-    (rw c.in_ok-log-in-Clause.ensures
+    ends_at_limit B q c.args.limit c.into_packed.result
+    (rw c.into_packed.ensures
     (limited B q (allowed c.args.limit) c.turns.learnt c.in-Clause.number _ new.arena new.trail new.assumed old.log s c.descend.ensures.assuming (c.descend.ensures.steady).state c.entries-entries.ensures.valid
     c.in-Clause.ensures.found (let p = c.level.ensures.present in let t = c.if-level-self.false in omega arith) (let e = c.if-learnt-most.true in let l = c.min-most.ensures in omega arith)))
 

@@ -6,4 +6,4 @@ use Rattle.lrat_text.proofs.packed.PackedText.as_plain.Goals as goal
 pub returns-then-len-gt0 : goal.returns-then-len-gt0
 returns-then-len-gt0 c =
     let t = c.self.inside in
-    subst BeginsWithCharacter c.self.view_is (begins_packed t.pairs.items t.tail.items c.self.invariant.0 (omega (arith, c.len.ensures, c.if-len-gt0.true, t.pairs.ok.0)))
+    subst BeginsWithCharacter c.self.view_is (begins_packed t.pairs t.tail.items c.self.invariant.0 (omega (arith, c.len.ensures.len, c.if-len-gt0.true)))

@@ -7,4 +7,4 @@ use Rattle.lrat_text.proofs.packed.PackedText.len.Goals as goal
 pub returns : goal.returns
 returns c =
     let t = c.self.inside in
-    omega (arith, c.len.ensures, c.len-2.ensures, t.pairs.ok.0, t.tail.ok.0, twice t.pairs.items c.self.invariant.0, length-append (flat_map byte_text t.pairs.items) t.tail.items, ap length c.self.view_is)
+    omega (arith, c.len.ensures.len, c.len-2.ensures, t.tail.ok.0, twice t.pairs c.self.invariant.0, length-append (flat_map byte_text t.pairs) t.tail.items, ap length c.self.view_is)

@@ -1,6 +1,5 @@
 use Rattle.std.proofs.Common.{◌≡◌, ◌*◌, ◌/◌, ◌%◌, ◌-◌, ◌++◌, ℕ, List, length, take, drop, sym, ap, subst, ◌∙◌, arith, IfOk}
 use Rattle.std.specs.List.{flat_map}
-use Rattle.std.proofs.lemmas.List.{take_all, length-drop}
 use Rattle.lrat_text.specs.Packed.{byte_text}
 use Rattle.lrat_text.proofs.PackedLemmas.{behind_pairs, from_place}
 use Rattle.lrat_text.proofs.packed.PackedText.read.Goals as goal
@@ -8,10 +7,10 @@ use Rattle.lrat_text.proofs.packed.PackedText.read.Goals as goal
 pub returns-then-from-packed : goal.returns-then-from-packed
 returns-then-from-packed c =
     let t = c.self.inside in
-    let len : c.len-packed.result ≡ length t.pairs.items = omega (arith, c.len-packed.ensures, t.pairs.ok.0) in
+    let len : c.len-packed.result ≡ length t.pairs = omega (arith, c.len-packed.ensures.len) in
     let same : drop (c.args.from - 2 * c.len-packed.result) t.tail.items ≡ drop c.args.from c.args.self.now =
     ap (λ (k : ℕ). drop (c.args.from - 2 * k) t.tail.items) len
-    ∙ sym (behind_pairs t.pairs.items t.tail.items c.args.from c.self.invariant.0 (omega (arith, len, c.if-from-packed.true)))
+    ∙ sym (behind_pairs t.pairs t.tail.items c.args.from c.self.invariant.0 (omega (arith, len, c.if-from-packed.true)))
     ∙ ap (drop c.args.from) c.self.view_is in
     subst (λ (ts : List ℕ). IfOk c.part_of_tail.result (λ v. v.items ≡ take c.args.count ts)) same
     (subst (λ (ts : List ℕ). IfOk c.part_of_tail.result (λ v. v.items ≡ take c.args.count (drop (c.args.from - 2 * c.len-packed.result) ts))) c.deref.ensures.value c.part_of_tail.ensures)
@@ -20,14 +19,10 @@ pub returns : goal.returns
 returns c =
     let t = c.self.inside in
     let from = c.args.from in
-    let len : c.len-packed.result ≡ length t.pairs.items = omega (arith, c.len-packed.ensures, t.pairs.ok.0) in
+    let len : c.len-packed.result ≡ length t.pairs = omega (arith, c.len-packed.ensures.len) in
     let m : from - 2 * (from / 2) ≡ from % 2 = omega arith in
-    let text = flat_map byte_text (drop (from / 2) t.pairs.items) ++ t.tail.items in
-    let all : take (length c.deref-2.result.now - from / 2) (drop (from / 2) c.deref-2.result.now) ≡ drop (from / 2) c.deref-2.result.now =
-    take_all (length c.deref-2.result.now - from / 2) (drop (from / 2) c.deref-2.result.now) (omega (arith, length-drop (from / 2) c.deref-2.result.now)) in
+    let text = flat_map byte_text (drop (from / 2) t.pairs) ++ t.tail.items in
     c.cut.ensures
     ∙ (c.in_ok-out.ensures (from % 2) (omega arith)).1
-    ∙ ap (λ (ts : List ℕ). take c.args.count (drop (from % 2) ts))
-    (ap (λ (bs : List ℕ). flat_map byte_text bs ++ c.deref-3.result.now) all
-    ∙ ap (λ (bs : List ℕ). flat_map byte_text (drop (from / 2) bs) ++ c.deref-3.result.now) c.deref-2.ensures.value ∙ ap (λ (ts : List ℕ). flat_map byte_text (drop (from / 2) t.pairs.items) ++ ts) c.deref-3.ensures.value)
-    ∙ sym (ap (take c.args.count) (sym (ap (drop from) c.self.view_is) ∙ from_place t.pairs.items t.tail.items from (from / 2) c.self.invariant.0 (omega (arith, len, c.if-from-packed.false)) (omega arith) ∙ ap (λ (k : ℕ). drop k text) m))
+    ∙ ap (λ (ts : List ℕ). take c.args.count (drop (from % 2) (flat_map byte_text (drop (from / 2) t.pairs) ++ ts))) c.deref-2.ensures.value
+    ∙ sym (ap (take c.args.count) (sym (ap (drop from) c.self.view_is) ∙ from_place t.pairs t.tail.items from (from / 2) c.self.invariant.0 (omega (arith, len, c.if-from-packed.false)) (omega arith) ∙ ap (λ (k : ℕ). drop k text) m))

@@ -1,18 +1,15 @@
-use Rattle.std.proofs.Common.{◌≡◌, ℕ, ◌-◌, List, ◌++◌, length, take, drop, subst, ap, ◌∙◌, arith}
-use Rattle.std.proofs.lemmas.List.{length-drop, take_all, take-append-drop}
-use Rattle.lrat_check.specs.Stream.{HasTaken}
+use Rattle.std.proofs.Common.{arith}
+use Rattle.worker_core.proofs.FollowingLemmas.{all_taken}
 use Rattle.worker_core.proofs.follower.Follower.follow.Goals as goal
 
--- a front, and all behind it
-whole : (n : ℕ) (xs : List ℕ) → take n xs ++ take (length xs - n) (drop n xs) ≡ xs
-whole n xs = ap (λ (r : List ℕ). take n xs ++ r) (take_all (length xs - n) (drop n xs) (omega (arith, length-drop n xs))) ∙ take-append-drop n xs
+pub takes-preserved : goal.takes-preserved
+takes-preserved c = record {
+  within = c.in_ok-take_block.ensures.further.1;
+  behind = λ F h. c.in_ok-take_block.ensures.behind F (c.takes.invariant.behind F h);
+}
 
-pub returns-in_default-feed : goal.returns-in_default-feed
-returns-in_default-feed c =
-    let taken = c.args.self.taken in
-    let bytes = c.args.bytes.now in
-    let more : c.deref.result.now ≡ take (length bytes - taken) (drop taken bytes) =
-    c.deref.ensures.value ∙ c.in-Ok.ensures ∙ ap (λ (n : ℕ). take (n - taken) (drop taken bytes)) c.len-len.ensures in (
-      c.len-len.ensures,
-      λ F behind. subst (HasTaken F c.feed.new.self) (ap (λ (piece : List ℕ). take taken bytes ++ piece) more ∙ whole taken bytes) (c.feed.ensures.taken.history F (take taken bytes) behind.front),
-    )
+pub returns : goal.returns
+returns c = (
+  omega (arith, c.len.ensures, c.takes-test.false, c.takes.invariant.within),
+  λ F h. all_taken F c.takes.follower c.args.bytes.now (omega (arith, c.len.ensures, c.takes-test.false)) (c.takes.invariant.behind F h),
+)

@@ -1,5 +1,5 @@
 use Rattle.lrat_text.proofs.GlyphLemmas.{code_at}
-use Rattle.lrat_text.proofs.packed.code.Goals as goal
+use Rattle.lrat_text.proofs.glyphs.code.Goals as goal
 
 pub returns-clause-half : goal.returns-clause-half
 returns-clause-half c = (code_at c.args.byte c.ranges.byte.fits).0

@@ -1,0 +1,108 @@
+//! Bytes in blocks, which others may share.
+
+ghost use Rattle.std.specs.Prelude.{◌≡◌, ◌+◌, ◌*◌, ◌%◌, ◌^◌, ◌<◌, ◌≤◌, [], ◌++◌, MatchBool, IsTrue, length, take, drop, IfOk};
+
+use std::alloc::{AllocError, Global};
+use std::marker::Model;
+use std::rc::Rc;
+
+/// So many bytes stand in a block.
+pub(crate) const BLOCK: usize = 2048;
+
+/// There are so many blocks at most, so that the number of all bytes, and of the characters in them, is a `usize`.
+const MOST: usize = 1 << 48;
+
+/// A list of bytes, block by block. It grows with no copy of what is there, and a block may be another rope's too.
+#[derive(Drop)]
+pub(crate) struct Rope {
+    blocks: Vec<Rc<Vec<u8>>>,
+}
+
+impl Model for Rope {
+    ghost use Rattle.std.specs.Prelude.{◌≡◌, ◌≤◌, ◌^◌, List, ℕ, All, flat_map, length};
+
+    ghost Value = { List ℕ };
+
+    ghost view = { λ r. flat_map (λ b. b.value.items) r.blocks.items };
+
+    ghost invariant = { λ r. All (λ b. length b.value.items ≡ 2048) r.blocks.items × (length r.blocks.items ≤ 2 ^ 48) };
+}
+
+/// A block as it is to be held: where another rope's block is alike, that one, so that its bytes are there once.
+fn held(block: Vec<u8>, like: Option<&Rc<Vec<u8>>>) -> Result<Rc<Vec<u8>>, AllocError>
+    ensures { IfOk result (λ rc. rc.value.items ≡ block.items) }
+{
+    if let Some(other) = like {
+        if is_same(other.as_slice(), block.as_slice()) {
+            return other.clone();
+        }
+    }
+    let alloc = *block.allocator();
+    Ok(Rc::new(alloc, block)?)
+}
+
+/// Whether both are the same bytes, where it says so.
+fn is_same(one: &[u8], other: &[u8]) -> bool
+    ensures { IsTrue result → one.now ≡ other.now }
+{
+    one == other
+}
+
+impl Rope {
+    /// No bytes. It takes no memory.
+    pub(crate) fn new(alloc: Global) -> Rope
+        ensures { result ≡ [] }
+    {
+        Rope {
+            blocks: Vec::new(alloc),
+        }
+    }
+
+    /// How many bytes there are.
+    pub(crate) fn len(&self) -> usize
+        ensures len { result ≡ length self.now }
+        ensures blocks { result % 2048 ≡ 0 }
+        ensures few { result ≤ 2 ^ 59 }
+    {
+        BLOCK * self.blocks.len()
+    }
+
+    /// The bytes from a place on, to the end of the block in which it stands.
+    pub(crate) fn part(&self, from: usize) -> &[u8]
+        requires { from < length self.now }
+        ensures part { result.now ≡ take (length result.now) (drop from self.now) }
+        ensures some { 0 < length result.now }
+        ensures whole { from % 2048 ≡ 0 → length result.now ≡ 2048 }
+    {
+        let block = self.blocks[from / BLOCK].as_slice();
+        let (_, part) = block.split_at(from % BLOCK);
+        part
+    }
+
+    /// Appends a block, held with the block of another rope at the same place where both are alike. `false` where a growth is refused, or
+    /// there are too many.
+    pub(crate) fn push(&mut self, block: Vec<u8>, like: Option<&Rope>) -> bool
+        requires { length block.items ≡ 2048 }
+        ensures { MatchBool result (self.new ≡ self.old ++ block.items) (self.new ≡ self.old) }
+    {
+        let place = self.blocks.len();
+        if place >= MOST {
+            return false;
+        }
+        let other = match like {
+            Some(rope) => rope.blocks.get(place),
+            None => None,
+        };
+        match held(block, other) {
+            Ok(block) => self.blocks.push(block).is_ok(),
+            Err(_) => false,
+        }
+    }
+
+    /// Leaves so many blocks. It takes no memory.
+    pub(crate) fn truncate(&mut self, blocks: usize)
+        ensures { self.new ≡ take (2048 * blocks) self.old }
+    {
+        self.blocks.truncate(blocks);
+    }
+}

@@ -1,0 +1,103 @@
+//! The text that is written.
+
+ghost use Rattle.std.specs.Prelude.{◌≡◌, ◌<◌, ◌++◌, [], codes, length};
+ghost use Rattle.lrat_text.specs.Grammar.{IsStep, IsClauseNumber};
+ghost use Rattle.lrat_text.specs.Steps.{step_of};
+ghost use Rattle.lrat_text.specs.Writing.{line_of};
+ghost use Rattle.proof_join.specs.inner.Steps.{Writes};
+
+use crate::fault::JoinFault;
+use lrat_text::{PackedText, StepRef, put_ref};
+use std::alloc::Global;
+use std::marker::Model;
+
+/// The text so far, packed. It lies in the blocks of another one as far as it is the same: the joined text of a tree with one leaf is
+/// mostly the leaf's fragment.
+#[derive(Drop)]
+pub(crate) struct Output<'t> {
+    text: PackedText,
+    like: Option<&'t PackedText>,
+    /// The line that is put, so that its room is taken once.
+    line: Vec<u8>,
+}
+
+impl<'t> Model for Output<'t> {
+    ghost use Rattle.std.specs.Prelude.{List, ℕ};
+
+    ghost Value = { List ℕ };
+
+    ghost view = { λ o. o.text };
+}
+
+/// Appends bytes, where the text stays below 2^32 bytes.
+fn append(text: &mut PackedText, like: Option<&PackedText>, more: &[u8]) -> Result<(), JoinFault>
+    ensures { Writes result text.new (text.old ++ more.now) }
+{
+    let grown = match like {
+        Some(other) => text.extend_like(more, other),
+        None => text.extend(more),
+    };
+    match grown {
+        Ok(()) => limit(text),
+        Err(_) => Err(JoinFault::NoMemory),
+    }
+}
+
+/// A text stays below 2^32 bytes.
+fn limit(text: &PackedText) -> Result<(), JoinFault>
+    ensures { Writes result text.now text.now }
+{
+    if text.len() as u64 >= 1 << 32 {
+        return Err(JoinFault::TooLong);
+    }
+    Ok(())
+}
+
+impl<'t> Output<'t> {
+    /// No text.
+    pub(crate) fn new(alloc: Global, like: Option<&'t PackedText>) -> Output<'t>
+        ensures { result ≡ [] }
+    {
+        Output {
+            text: PackedText::new(alloc),
+            like,
+            line: Vec::new(alloc),
+        }
+    }
+
+    /// The text.
+    pub(crate) fn into_text(self) -> PackedText
+        ensures { result ≡ self.entry }
+    {
+        let Output { text, .. } = self;
+        text
+    }
+}
+
+/// Appends a step's line, where the text stays below 2^32 bytes.
+pub(crate) fn put_line(out: &mut Output<'_>, top: u64, step: StepRef<'_>) -> Result<(), JoinFault>
+    requires limits { IsStep (step_of step) }
+    requires numbered { IsClauseNumber top }
+    ensures { Writes result out.new (out.old ++ line_of top (step_of step.entry)) }
+{
+    out.line.clear();
+    match put_ref(step, top, &mut out.line) {
+        Ok(()) => append(&mut out.text, out.like, &out.line),
+        Err(_) => Err(JoinFault::NoMemory),
+    }
+}
+
+/// Appends a line as it stands, where the text stays below 2^32 bytes.
+pub(crate) fn put_copy(out: &mut Output<'_>, line: &[u8]) -> Result<(), JoinFault>
+    ensures { Writes result out.new (out.old ++ (line.now ++ codes "\n")) }
+{
+    out.line.clear();
+    match out.line.extend_from_slice(line) {
+        Ok(()) => {}
+        Err(_) => return Err(JoinFault::NoMemory),
+    }
+    match out.line.push(b'\n') {
+        Ok(()) => append(&mut out.text, out.like, &out.line),
+        Err(_) => Err(JoinFault::NoMemory),
+    }
+}
