@@ -4,9 +4,9 @@ use Rattle.std.specs.List.{flat_map}
 use Rattle.std.specs.Bool.{MatchBool}
 use Rattle.std.proofs.lemmas.Bool.Decides.{nat_tests}
 use Rattle.std.proofs.lemmas.Grind.{flat_map-append}
-use Rattle.std.proofs.lemmas.List.{append-nil, take_more, drop_more, get_or-take, drop_all, length-take-le, length-drop, take-append-drop, take-append-le, drop-append-le, drop-drop}
-use Rattle.std.proofs.Math.Seq.{take-add, take-append-add, drop-append-add, take-append_seam, drop-append_seam}
-use Rattle.std.proofs.lemmas.List.Elements.{All-head, All-tail, All-append, All-take, All-drop, All-get_or}
+use Rattle.std.proofs.lemmas.List.{append-nil, take_more, drop_all, length-take-le, length-drop, take-append-drop, take-append-le, drop-append-le, drop-drop}
+use Rattle.std.proofs.Math.Seq.{take-add, take-append-add, drop-append-add, drop-append_seam}
+use Rattle.std.proofs.lemmas.List.Elements.{All-head, All-tail, All-append, All-take, All-drop}
 use Rattle.std.proofs.Math.Arith.{digits_div, digits_mod}
 use Rattle.lrat_text.specs.Packed.{BeginsWithCharacter, half_text, byte_text}
 use Rattle.lrat_text.specs.inner.Packed.{IsFront, IsPair}
