@@ -16,6 +16,7 @@ use crate::coordinator::Coordinator;
 use crate::desks::{Fixed, Job};
 use frames::{Answer, Attempt, Chunk, WorkerNumber};
 use lrat_check::{Judged, Reaction, judge_values};
+use lrat_text::PackedText;
 use std::alloc::AllocError;
 
 /// How far the evidence for an answer has come.
@@ -55,7 +56,44 @@ fn shortened(fixed: Option<Fixed>, count: usize) -> Option<Fixed>
     }
 }
 
+/// What is fixed of a job, with its last block of evidence held with that of a text where both are alike.
+fn shared(fixed: Option<Fixed>, like: &PackedText) -> Option<Fixed>
+    ensures { result ≡ fixed }
+{
+    match fixed {
+        None => None,
+        Some(mut fixed) => {
+            fixed.evidence.bytes.share_last(like);
+            Some(fixed)
+        }
+    }
+}
+
 impl Coordinator {
+    /// What comes from a worker of this process, which has it as a text: blocks of it that are whole are held with that text, so that their
+    /// bytes are there once. Asked for after each frame it shares all of them. Nothing that a contract sees changes; it takes no memory.
+    pub fn share(&mut self, worker: WorkerNumber, found: &PackedText)
+        ensures { self.new ≡ self.old }
+    {
+        let Some(job) = self.take_job(worker) else {
+            return;
+        };
+        let Job {
+            number,
+            leaf,
+            fixed,
+        } = job;
+        let fixed = shared(fixed, found);
+        self.put_job(
+            worker,
+            Job {
+                number,
+                leaf,
+                fixed,
+            },
+        );
+    }
+
     /// Whether so many bytes from an offset on come next in the evidence of the attempt's job.
     fn comes_next(&self, attempt: &Attempt, offset: u32, count: usize) -> bool
         requires { count ≤ 4000 }

@@ -96,6 +96,7 @@ fn is_mended(rt: &impl Abort, alloc: Global, plain: usize, cut: usize) -> Result
         part(alloc, &text, 0, cut)?.as_slice()
     );
     packed.extend(&part(alloc, &text, cut, 9001)?)?;
+    packed.share_last(&PackedText::of(alloc, &text)?);
     assert_eq!(rt; packed.len(), 9001);
     assert_eq!(rt; packed.to_text(alloc)?.as_slice(), text.as_slice());
     Ok(())

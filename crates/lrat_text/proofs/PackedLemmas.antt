@@ -1,12 +1,12 @@
 -- Text, two characters in a byte.
-use Rattle.std.proofs.Common.{◌≡◌, ◌⊎◌, inl, inr, ℕ, zero, suc, ◌+◌, ◌-◌, ◌*◌, ◌/◌, ◌%◌, ◌<◌, ◌≤◌, Bool, true, false, List, [], ◌∷◌, ◌++◌, length, get_or, take, drop, All, refl, sym, subst, ap, ◌∙◌, arith, append_assoc, length-append}
+use Rattle.std.proofs.Common.{◌≡◌, ◌⊎◌, inl, inr, ℕ, zero, suc, ◌+◌, ◌-◌, ◌*◌, ◌/◌, ◌%◌, ◌<◌, ◌≤◌, Bool, true, false, List, [], ◌∷◌, ◌++◌, length, get_or, set, take, drop, All, refl, sym, subst, ap, ◌∙◌, arith, append_assoc, length-append}
 use Rattle.std.specs.List.{flat_map}
 use Rattle.std.specs.Bool.{MatchBool}
 use Rattle.std.proofs.lemmas.Bool.Decides.{nat_tests}
 use Rattle.std.proofs.lemmas.Grind.{flat_map-append}
-use Rattle.std.proofs.lemmas.List.{append-nil, take_more, drop_all, length-take-le, length-drop, take-append-drop, take-append-le, drop-append-le, drop-drop}
+use Rattle.std.proofs.lemmas.List.{append-nil, take_more, take_more_set, drop_all, length-take-le, length-drop, take-append-drop, take-append-le, drop-append-le, drop-drop}
 use Rattle.std.proofs.Math.Seq.{take-add, take-append-add, drop-append-add, drop-append_seam}
-use Rattle.std.proofs.lemmas.List.Elements.{All-head, All-tail, All-append, All-take, All-drop}
+use Rattle.std.proofs.lemmas.List.Elements.{All-nil, All-cons, All-head, All-tail, All-append, All-take, All-drop}
 use Rattle.std.proofs.Math.Arith.{digits_div, digits_mod}
 use Rattle.lrat_text.specs.Packed.{BeginsWithCharacter, half_text, byte_text}
 use Rattle.lrat_text.specs.inner.Packed.{IsFront, IsPair}
@@ -158,15 +158,20 @@ whole_front bs tail count more h some end m one =
     (low, part_is out (drop more tail) m count low enough ∙ ap (λ (t : List ℕ). take count (drop m t)) whole)
 
 -- ---- packing
-pub packed_more : (old now new text : List ℕ) (i f s : ℕ) → flat_map byte_text now ≡ flat_map byte_text old ++ take (2 * i) text → flat_map byte_text new ≡ flat_map byte_text now ++ (half_text f ++ half_text s)
-    → half_text f ≡ get_or text (2 * i) 0 ∷ [] → half_text s ≡ get_or text (2 * i + 1) 0 ∷ [] → 2 * i + 1 < length text → flat_map byte_text new ≡ flat_map byte_text old ++ take (2 * (i + 1)) text
-packed_more old now new text i f s so more first second lt =
-    more
-    ∙ ap (λ (t : List ℕ). t ++ (half_text f ++ half_text s)) so
-    ∙ append_assoc (flat_map byte_text old) (take (2 * i) text) (half_text f ++ half_text s)
-    ∙ ap (λ (t : List ℕ). flat_map byte_text old ++ (take (2 * i) text ++ (t ++ half_text s))) first
-    ∙ ap (λ (t : List ℕ). flat_map byte_text old ++ (take (2 * i) text ++ (get_or text (2 * i) 0 ∷ t))) second
-    ∙ ap (λ (t : List ℕ). flat_map byte_text old ++ t) (sym (two_more text i lt))
+pub packed_more : (pairs text : List ℕ) (i f s : ℕ) → i < length pairs → 2 * i + 1 < length text → f < 14 → s < 14 → half_text f ≡ get_or text (2 * i) 0 ∷ [] → half_text s ≡ get_or text (2 * i + 1) 0 ∷ []
+    → All IsPair (take i pairs) × (flat_map byte_text (take i pairs) ≡ take (2 * i) text)
+    → All IsPair (take (i + 1) (set pairs i (f * 16 + s))) × (flat_map byte_text (take (i + 1) (set pairs i (f * 16 + s))) ≡ take (2 * (i + 1)) text)
+packed_more pairs text i f s inside lt few_f few_s first second so =
+    let more : take (i + 1) (set pairs i (f * 16 + s)) ≡ take i pairs ++ (f * 16 + s) ∷ [] = take_more_set pairs i (f * 16 + s) inside in
+    let pair : IsPair (f * 16 + s) = (omega (arith, few_f, few_s), omega (arith, few_f, few_s)) in (
+      subst (λ (bs : List ℕ). All IsPair bs) (sym more) (All-append IsPair (take i pairs) ((f * 16 + s) ∷ []) so.0 (All-cons IsPair (f * 16 + s) [] pair (All-nil IsPair))),
+      ap (flat_map byte_text) more
+          ∙ two_halves (take i pairs) f s (omega (arith, few_s))
+          ∙ ap (λ (t : List ℕ). t ++ (half_text f ++ half_text s)) so.1
+          ∙ ap (λ (t : List ℕ). take (2 * i) text ++ (t ++ half_text s)) first
+          ∙ ap (λ (t : List ℕ). take (2 * i) text ++ (get_or text (2 * i) 0 ∷ t)) second
+          ∙ sym (two_more text i lt),
+    )
 
 -- packed text begins with a character
 pub begins_packed : (bs tail : List ℕ) → All IsPair bs → 0 < length bs → BeginsWithCharacter (flat_map byte_text bs ++ tail)

@@ -1,5 +1,5 @@
 -- Lists in blocks of one length.
-use Rattle.std.proofs.Common.{◌≡◌, ℕ, zero, suc, ◌+◌, ◌*◌, ◌/◌, ◌%◌, ◌<◌, ◌≤◌, List, [], ◌∷◌, ◌++◌, length, get_or, take, drop, All, refl, sym, ap, ◌∙◌, arith, length-append}
+use Rattle.std.proofs.Common.{◌≡◌, ℕ, zero, suc, ◌+◌, ◌*◌, ◌/◌, ◌%◌, ◌<◌, ◌≤◌, List, [], ◌∷◌, ◌++◌, length, get_or, set, take, drop, All, refl, sym, ap, ◌∙◌, arith, length-append}
 use Rattle.std.specs.List.{flat_map}
 use Rattle.std.proofs.lemmas.List.{drop-drop, drop_more, drop-append-le}
 use Rattle.std.proofs.Math.Seq.{take-append-add, drop-append-add, take-append_seam}
@@ -38,6 +38,12 @@ first_blocks f (x ∷ xs) (suc k) h =
     ap (λ (n : ℕ). take n (f x ++ flat_map f xs)) split
     ∙ take-append-add (f x) (flat_map f xs) (2048 * k)
     ∙ ap (λ (t : List ℕ). f x ++ t) (first_blocks f xs k (All-tail (λ x. length (f x) ≡ 2048) x xs h))
+
+-- another block of the same bytes
+pub block_set : {X : Type 0} (f : X → List ℕ) (xs : List X) (i : ℕ) (y d : X) → i < length xs → f y ≡ f (get_or xs i d) → flat_map f (set xs i y) ≡ flat_map f xs
+block_set f [] i y d lt e = absurd (omega (arith, lt))
+block_set f (x ∷ xs) zero y d lt e = ap (λ (t : List ℕ). t ++ flat_map f xs) e
+block_set f (x ∷ xs) (suc i) y d lt e = ap (λ (t : List ℕ). f x ++ t) (block_set f xs i y d (omega (arith, lt)) e)
 
 pub block_at : {X : Type 0} (f : X → List ℕ) (xs : List X) (k : ℕ) (d : X) → AreBlocks f xs → k < length xs → length (f (get_or xs k d)) ≡ 2048
 block_at f xs k d h lt = All-get_or (λ x. length (f x) ≡ 2048) xs k d lt h

@@ -1,9 +1,10 @@
 //! Characters of lines, two in a byte.
 
-ghost use Rattle.std.specs.Prelude.{◌≡◌, ◌+◌, ◌*◌, ◌/◌, ◌<◌, ◌++◌, ◌∷◌, [], IsTrue, ◌≤◌, length, take, vec_capacity, All, OnOk, flat_map};
+ghost use Rattle.std.specs.Prelude.{◌≡◌, ◌+◌, ◌*◌, ◌<◌, ◌++◌, ◌∷◌, [], IsTrue, IsOk, ◌≤◌, length, vec_capacity, All, OnOk, flat_map};
 ghost use Rattle.lrat_text.specs.Packed.{byte_text, half_text};
 ghost use Rattle.lrat_text.specs.inner.Packed.{IsPair};
 
+use crate::rope::BLOCK;
 use std::alloc::AllocError;
 
 // Tables, since characters are as good as random, and a branch on one is foretold wrongly every other time.
@@ -46,61 +47,46 @@ pub(crate) fn glyph(half: u8) -> u8
     GLYPHS[half as usize]
 }
 
-/// Appends a byte of two characters.
-#[tactic(auto, using(crate::proofs::PackedLemmas::two_halves))]
-#[inline(always)]
-fn put_pair(pairs: &mut Vec<u8>, first: u8, second: u8) -> Result<(), AllocError>
-    requires halves { (first < 14) × (second < 14) }
-    requires pairs { All IsPair pairs.old.items }
-    ensures pairs { OnOk result (All IsPair pairs.new.items) }
-    ensures ok { OnOk result (flat_map byte_text pairs.new.items ≡ flat_map byte_text pairs.old.items ++ (half_text first ++ half_text second)) }
+/// Packs text, two characters in a byte. `false` where a byte is no character of lines.
+pub(crate) fn pack(pairs: &mut [u8], text: &[u8]) -> bool
+    requires { length text.now ≡ 2 * length pairs.old }
+    ensures length { length pairs.new ≡ length pairs.old }
+    ensures pairs { IsTrue result → All IsPair pairs.new }
+    ensures text { IsTrue result → flat_map byte_text pairs.new ≡ text.now }
 {
-    pairs.push(first * 16 + second)?;
-    Ok(())
-}
-
-/// Packs text, two characters in a byte, but for the last one of an odd number. `false` where a byte is no character of lines, or a
-/// growth is refused.
-pub(crate) fn pack(pairs: &mut Vec<u8>, text: &[u8]) -> bool
-    requires pairs { All IsPair pairs.old.items }
-    ensures pairs { IsTrue result → All IsPair pairs.new.items }
-    ensures text { IsTrue result → flat_map byte_text pairs.new.items ≡ flat_map byte_text pairs.old.items ++ take (2 * (length text.now / 2)) text.now }
-{
-    for i in 0..text.len() / 2 {
+    let mut sound = true;
+    for i in 0..pairs.len() {
         let first = code(text[2 * i]);
         let second = code(text[2 * i + 1]);
-        if first >= 14 || second >= 14 {
-            return false;
-        }
-        match put_pair(pairs, first, second) {
-            Ok(()) => {}
-            Err(_) => return false,
-        }
+        sound &= (first < 14) & (second < 14);
+        pairs[i] = first * 16 + second;
     }
-    true
+    sound
 }
 
-/// Appends what bytes of two characters stand for.
-#[tactic(auto, using(crate::proofs::PackedLemmas::one_more))]
-pub(crate) fn unpack(out: &mut Vec<u8>, pairs: &[u8]) -> Result<(), AllocError>
-    requires { All IsPair pairs.now }
-    ensures { OnOk result (out.new.items ≡ out.old.items ++ flat_map byte_text pairs.now) }
-{
-    for &byte in pairs {
-        out.extend_from_slice(&[glyph(byte / 16), glyph(byte % 16)])?;
-    }
-    Ok(())
-}
-
-/// The same, where there is room for it.
-pub(crate) fn put_glyphs(out: &mut Vec<u8>, pairs: &[u8])
+/// Writes what bytes of two characters stand for.
+fn write_glyphs(text: &mut [u8], pairs: &[u8])
     requires pairs { All IsPair pairs.now }
-    requires room { length out.old.items + 2 * length pairs.now ≤ vec_capacity out.old }
-    ensures items { out.new.items ≡ out.old.items ++ flat_map byte_text pairs.now }
+    requires room { length text.old ≡ 2 * length pairs.now }
+    ensures { text.new ≡ flat_map byte_text pairs.now }
+{
+    for i in 0..pairs.len() {
+        let byte = pairs[i];
+        text[2 * i] = glyph(byte / 16);
+        text[2 * i + 1] = glyph(byte % 16);
+    }
+}
+
+/// Appends what the bytes of a block stand for, or of a part of one. It takes no memory where there is room.
+pub(crate) fn unpack(out: &mut Vec<u8>, pairs: &[u8]) -> Result<(), AllocError>
+    requires pairs { All IsPair pairs.now }
+    requires few { length pairs.now ≤ 2048 }
+    ensures ok { OnOk result (out.new.items ≡ out.old.items ++ flat_map byte_text pairs.now) }
+    ensures room { length out.old.items + 2 * length pairs.now ≤ vec_capacity out.old → IsOk result }
     ensures capacity { vec_capacity out.old ≤ vec_capacity out.new }
 {
-    for &byte in pairs {
-        out.push(glyph(byte / 16)).unwrap();
-        out.push(glyph(byte % 16)).unwrap();
-    }
+    let mut text = [0; 2 * BLOCK];
+    let text = &mut text[..2 * pairs.len()];
+    write_glyphs(text, pairs);
+    out.extend_from_slice(text)
 }

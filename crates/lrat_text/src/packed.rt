@@ -7,7 +7,7 @@ ghost use Rattle.lrat_text.specs.Writing.{line_of};
 ghost use Rattle.lrat_text.specs.Packed.{BeginsWithCharacter, byte_text};
 ghost use Rattle.lrat_text.specs.inner.Packed.{IsFront, IsPair};
 
-use crate::glyphs::{pack, put_glyphs, unpack};
+use crate::glyphs::{pack, unpack};
 use crate::rope;
 use crate::rope::Rope;
 use crate::step::StepRef;
@@ -20,20 +20,18 @@ const BLOCK: usize = 2 * rope::BLOCK;
 
 /// Packs a block of text behind those that are packed. `false`, and no change, where a byte is no character of lines, or a growth is
 /// refused.
-fn pack_block(alloc: Global, pairs: &mut Rope, text: &[u8], like: Option<&Rope>) -> bool
+fn pack_block(pairs: &mut Rope, text: &[u8], like: Option<&Rope>) -> bool
     requires block { length text.now ≡ 4096 }
     requires pairs { All IsPair pairs.old }
     ensures pairs { All IsPair pairs.new }
     ensures text { MatchBool result (flat_map byte_text pairs.new ≡ flat_map byte_text pairs.old ++ text.now) (pairs.new ≡ pairs.old) }
 {
-    let Ok(mut block) = Vec::with_capacity(alloc, rope::BLOCK) else {
-        return false;
-    };
-    pack(&mut block, text) && pairs.push(block, like)
+    let mut block = [0; rope::BLOCK];
+    pack(&mut block, text) && pairs.push(&block, like)
 }
 
 /// Packs what stands at the front of a text, block by block as far as it can be packed, and tells how many bytes these are.
-fn pack_front(alloc: Global, pairs: &mut Rope, text: &[u8], like: Option<&Rope>) -> usize
+fn pack_front(pairs: &mut Rope, text: &[u8], like: Option<&Rope>) -> usize
     requires pairs { All IsPair pairs.old }
     ensures pairs { All IsPair pairs.new }
     ensures front { flat_map byte_text pairs.new ≡ flat_map byte_text pairs.old ++ take result text.now }
@@ -41,7 +39,7 @@ fn pack_front(alloc: Global, pairs: &mut Rope, text: &[u8], like: Option<&Rope>)
 {
     let mut done = 0;
     while text.len() - done >= BLOCK {
-        if !pack_block(alloc, pairs, &text[done..done + BLOCK], like) {
+        if !pack_block(pairs, &text[done..done + BLOCK], like) {
             break;
         }
         done += BLOCK;
@@ -128,12 +126,13 @@ fn cut(bytes: &mut Vec<u8>, from: usize, count: usize)
 /// Puts the first so many characters of a block in the place of a tail, which has room for them.
 fn refill(tail: &mut Vec<u8>, block: &[u8], count: usize)
     requires block { All IsPair block.now }
+    requires few { length block.now ≤ 2048 }
     requires room { 2 * length block.now ≤ vec_capacity tail.old }
     ensures items { tail.new.items ≡ take count (flat_map byte_text block.now) }
     ensures capacity { vec_capacity tail.old ≤ vec_capacity tail.new }
 {
     tail.clear();
-    put_glyphs(tail, block);
+    unpack(tail, block).unwrap();
     tail.truncate(count);
 }
 
@@ -213,6 +212,15 @@ impl PackedText {
         Ok(())
     }
 
+    /// Where the last block is as that of another text at the same place, both texts have it once from now on. It takes no memory.
+    ///
+    /// A text that grows by less than a block's 4,096 characters at a time, and asks after each growth, shares all that it can.
+    pub fn share_last(&mut self, like: &PackedText)
+        ensures { self.new ≡ self.old }
+    {
+        self.pairs.share_last(&like.pairs);
+    }
+
     /// Packs what stands behind what is packed, as far as there are whole blocks that can be packed.
     fn settle(&mut self, like: Option<&Rope>)
         ensures { self.new ≡ self.old }
@@ -220,8 +228,7 @@ impl PackedText {
         if self.tail.len() < BLOCK {
             return;
         }
-        let alloc = *self.tail.allocator();
-        let done = pack_front(alloc, &mut self.pairs, &self.tail, like);
+        let done = pack_front(&mut self.pairs, &self.tail, like);
         remove_front(&mut self.tail, done);
     }
 

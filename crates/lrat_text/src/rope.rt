@@ -29,16 +29,15 @@ impl Model for Rope {
 }
 
 /// A block as it is to be held: where another rope's block is alike, that one, so that its bytes are there once.
-fn held(block: Vec<u8>, like: Option<&Rc<Vec<u8>>>) -> Result<Rc<Vec<u8>>, AllocError>
-    ensures { IfOk result (λ rc. rc.value.items ≡ block.items) }
+fn held(alloc: Global, block: &[u8], like: Option<&Rc<Vec<u8>>>) -> Result<Rc<Vec<u8>>, AllocError>
+    ensures { IfOk result (λ rc. rc.value.items ≡ block.now) }
 {
     if let Some(other) = like {
-        if is_same(other.as_slice(), block.as_slice()) {
+        if is_same(other.as_slice(), block) {
             return other.clone();
         }
     }
-    let alloc = *block.allocator();
-    Ok(Rc::new(alloc, block)?)
+    Ok(Rc::new(alloc, Vec::from_slice(alloc, block)?)?)
 }
 
 /// Whether both are the same bytes, where it says so.
@@ -72,6 +71,7 @@ impl Rope {
         requires { from < length self.now }
         ensures part { result.now ≡ take (length result.now) (drop from self.now) }
         ensures some { 0 < length result.now }
+        ensures few { length result.now ≤ 2048 }
         ensures whole { from % 2048 ≡ 0 → length result.now ≡ 2048 }
     {
         let block = self.blocks[from / BLOCK].as_slice();
@@ -81,9 +81,9 @@ impl Rope {
 
     /// Appends a block, held with the block of another rope at the same place where both are alike. `false` where a growth is refused, or
     /// there are too many.
-    pub(crate) fn push(&mut self, block: Vec<u8>, like: Option<&Rope>) -> bool
-        requires { length block.items ≡ 2048 }
-        ensures { MatchBool result (self.new ≡ self.old ++ block.items) (self.new ≡ self.old) }
+    pub(crate) fn push(&mut self, block: &[u8], like: Option<&Rope>) -> bool
+        requires { length block.now ≡ 2048 }
+        ensures { MatchBool result (self.new ≡ self.old ++ block.now) (self.new ≡ self.old) }
     {
         let place = self.blocks.len();
         if place >= MOST {
@@ -93,9 +93,26 @@ impl Rope {
             Some(rope) => rope.blocks.get(place),
             None => None,
         };
-        match held(block, other) {
+        match held(*self.blocks.allocator(), block, other) {
             Ok(block) => self.blocks.push(block).is_ok(),
             Err(_) => false,
+        }
+    }
+
+    /// Holds the last block with that of another rope at the same place, where both are alike. It takes no memory.
+    pub(crate) fn share_last(&mut self, like: &Rope)
+        ensures { self.new ≡ self.old }
+    {
+        let Some(last) = self.blocks.len().checked_sub(1) else {
+            return;
+        };
+        let Some(other) = like.blocks.get(last) else {
+            return;
+        };
+        if is_same(other.as_slice(), self.blocks[last].as_slice()) {
+            if let Ok(block) = other.clone() {
+                self.blocks[last] = block;
+            }
         }
     }
 

@@ -10,6 +10,7 @@ use coordinator_core::Coordinator;
 use frames::{Frame, WorkerNumber};
 use lrat_check::Verdict;
 use std::alloc::AllocError;
+use worker_core::Worker;
 
 /// Delivers a frame to it. Only evidence brings a verdict, so none comes with Idle.
 pub(crate) fn deliver(coordinator: &mut Coordinator, frame: &Frame) -> Result<(), Broken>
@@ -19,6 +20,15 @@ pub(crate) fn deliver(coordinator: &mut Coordinator, frame: &Frame) -> Result<()
     ensures idle { (worker incarnation : ℕ) → frame.now ≡ Frame.Idle worker incarnation → coordinator.new.verdict ≡ coordinator.old.verdict }
 {
     noted(coordinator.deliver(frame))
+}
+
+/// Has it hold what comes from a worker of this process with what the worker keeps of it, so that both have the bytes once.
+pub(crate) fn share(coordinator: &mut Coordinator, number: WorkerNumber, worker: &Worker)
+    ensures { coordinator.new ≡ coordinator.old }
+{
+    if let Some(found) = worker.found() {
+        coordinator.share(number, found);
+    }
 }
 
 /// Asks it for a frame to a worker.

@@ -7,7 +7,7 @@ ghost use Rattle.runs.specs.Accounts.{RoseBy, HasBegun};
 ghost use Rattle.runs.specs.inner.Accounts.{FirstIsUntouched, one_if_open, open_count};
 
 use crate::broken::{Broken, ended};
-use crate::coordinating::{deliver, is_over, lose, poll};
+use crate::coordinating::{deliver, is_over, lose, poll, share};
 use crate::pace::Pace;
 use crate::plan::Order;
 use crate::post::{ROUNDS, receive, send};
@@ -42,7 +42,9 @@ fn exchange<L: Links>(
     let mut pace = Pace::new(Order::WorkThenSend);
     answer(links, &mut seat.worker, &mut seat.down, &mut pace)?;
     let frame = receive(links, End::Coordinator(worker.number()), &mut seat.up)?;
-    deliver(coordinator, &frame)
+    deliver(coordinator, &frame)?;
+    share(coordinator, worker, &seat.worker);
+    Ok(())
 }
 
 /// The turn of an open link. A link that is broken is closed, and the coordinator is told.

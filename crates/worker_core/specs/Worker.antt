@@ -41,6 +41,13 @@ pub record WorkerState : Type 0 where
   pub candidate : Option Candidate
   pub verdict : Verdict
 
+-- the bytes of what it found
+abbrev pub found_bytes : Work → Option (List ℕ)
+found_bytes (Found name answer bytes noted) = Some bytes
+found_bytes Free = None
+found_bytes (Waiting name cube limit) = None
+found_bytes (Limited name) = None
+
 -- a worker that begins, without definitions
 abbrev pub new_worker : Cnf → ℕ → ℕ → WorkerState
 new_worker F number incarnation = record {

@@ -1,10 +1,10 @@
 //! A worker, and what it can be asked.
 
-ghost use Rattle.std.specs.Prelude.{◌≡◌, ◌≤◌, ℕ, IfOk};
+ghost use Rattle.std.specs.Prelude.{◌≡◌, ◌≤◌, ℕ, IfOk, MatchOption, Some, None};
 ghost use Rattle.dimacs.specs.logic.Cnf.{Cnf};
 ghost use Rattle.cube_split.specs.Pairs.{IsBaseWith};
 ghost use Rattle.lrat_check.specs.Verdicts.{Right};
-ghost use Rattle.worker_core.specs.Worker.{new_worker, restarted_worker};
+ghost use Rattle.worker_core.specs.Worker.{found_bytes, new_worker, restarted_worker};
 
 use crate::candidate::Candidate;
 use crate::follower::Follower;
@@ -14,6 +14,7 @@ use dimacs::{Base, Formula};
 use evidence::JobName;
 use frames::WorkerNumber;
 use lrat_check::Verdict;
+use lrat_text::PackedText;
 use std::alloc::{AllocError, Global};
 use std::marker::Model;
 
@@ -149,6 +150,16 @@ impl Worker {
         ensures { result ≡ self.now.incarnation }
     {
         self.incarnation
+    }
+
+    /// The bytes of what it found, as it keeps them: those that its pieces bring.
+    pub fn found(&self) -> Option<&PackedText>
+        ensures { MatchOption result (found_bytes self.now.work ≡ None) (λ text. found_bytes self.now.work ≡ Some text.now) }
+    {
+        match &self.work {
+            Work::Found { bytes, .. } => Some(bytes),
+            Work::Free | Work::Waiting { .. } | Work::Limited { .. } => None,
+        }
     }
 
     /// What it holds.

@@ -14,6 +14,6 @@ loop-done-preserved c =
     let is : take few part ≡ take few (drop done (drop from pairs)) =
     part_of_front part (drop (from + done) pairs) few c.part-part.ensures.part low ∙ ap (take few) (sym (drop-drop done from pairs)) in
     record {
-      items = part_more c.args.out.now.items c.unpack.new.out.items c.loop-done.out.items (drop from pairs) (take few part) done few c.loop-done.invariant.items c.in_ok-unpack.ensures is;
+      items = part_more c.args.out.now.items c.unpack.new.out.items c.loop-done.out.items (drop from pairs) (take few part) done few c.loop-done.invariant.items c.in_ok-unpack.ensures.ok is;
       few = omega (arith, c.min-few.ensures, c.loop-done-test.true);
     }

@@ -37,6 +37,15 @@ returns-clause-some c =
     c.as_slice-block.ensures.value ∙ ap (λ v. v.items) c.deref.ensures ∙ ap (λ b. b.value.items) c.index.ensures in
     omega (arith, ap length block, inside_block (λ b. b.value.items) r.blocks.items c.args.from d c.self.invariant.0 inside, c.split_at.ensures.back_len)
 
+pub returns-clause-few : goal.returns-clause-few
+returns-clause-few c =
+    let r = c.self.inside in
+    let inside : c.args.from < length (flat_map (λ b. b.value.items) r.blocks.items) = omega (arith, c.requires, ap length c.self.view_is) in
+    let d = c.index.result.now in
+    let block : c.as_slice-block.result.now ≡ (get_or r.blocks.items (c.args.from / 2048) d).value.items =
+    c.as_slice-block.ensures.value ∙ ap (λ v. v.items) c.deref.ensures ∙ ap (λ b. b.value.items) c.index.ensures in
+    omega (arith, ap length block, block_at (λ b. b.value.items) r.blocks.items (c.args.from / 2048) d c.self.invariant.0 (inside_blocks (λ b. b.value.items) r.blocks.items c.args.from c.self.invariant.0 inside), c.split_at.ensures.back_len)
+
 pub returns-clause-whole : goal.returns-clause-whole
 returns-clause-whole c even =
     let r = c.self.inside in
