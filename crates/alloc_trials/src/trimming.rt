@@ -22,7 +22,8 @@ impl Call for Long {
             return Answer::NoMemory;
         };
         match trim(self.alloc, &self.base, &[], 2, fragment) {
-            Ok(text) => made(self.alloc, &text),
+            Ok(Some(text)) => made(self.alloc, &text),
+            Ok(None) => Answer::Said("gone"),
             Err(_) => Answer::NoMemory,
         }
     }

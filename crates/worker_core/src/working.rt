@@ -66,7 +66,11 @@ fn search(alloc: Global, base: &Base, cube: &[Lit], limit: u64) -> Result<Outcom
     match solve(alloc, base, cube, limit)? {
         Outcome::Refuted(text) => {
             let most = limit.min(1 << 47) + 1;
-            Ok(Outcome::Refuted(trim(alloc, base, cube, most, text)?))
+            match trim(alloc, base, cube, most, text)? {
+                Some(text) => Ok(Outcome::Refuted(text)),
+                // What was left of the fragment was refused, which no run has shown, and the fragment is gone: it is searched for once more.
+                None => solve(alloc, base, cube, limit),
+            }
         }
         end => Ok(end),
     }
