@@ -2,7 +2,7 @@
 //! from it do, are places of a table; the others are keys of a map, so that a great number takes no more room than any
 //! other.
 
-ghost use Rattle.std.specs.Prelude.{◌≡◌, ℕ, ◌+◌, ◌-◌, ◌*◌, ◌^◌, ◌≤◌, ◌<◌, max, ◌++◌, length, map, vec_len, OnOk, OnErr, None, Some, IsSome};
+ghost use Rattle.std.specs.Prelude.{◌≡◌, ℕ, ◌+◌, ◌-◌, ◌*◌, ◌^◌, ◌≤◌, ◌<◌, max, ◌++◌, length, map, slice_index_or, vec_len, OnOk, OnErr, None, Some, IsSome};
 ghost use Rattle.std.specs.FinMap.{get, insert, remove};
 ghost use Rattle.std.specs.Ordering.{nat_cmp};
 ghost use Rattle.std.specs.BTreeMap as tree;
@@ -44,16 +44,31 @@ pub(crate) fn find(near: &Table, far: &Far, number: u64) -> Option<Slot>
 }
 
 /// Puts a slot at a place.
-fn put_near(near: &mut Table, far: &Far, place: usize, slot: Slot)
+fn put_near(near: &mut Table, far: &Far, place: usize, slot: Slot) -> Result<(), AllocError>
     requires apart { IsApart near.old far.now }
     requires here { place < length near.old }
+    requires room { slot.place < 2 ^ 64 - 1 }
+    ensures ok { OnOk result (slots_of near.new far.now ≡ insert (slots_of near.old far.now) place slot) }
+    ensures err { OnErr result (slots_of near.new far.now ≡ slots_of near.old far.now) }
+    ensures apart { IsApart near.new far.now }
+    ensures len { length near.new ≡ length near.old }
+{
+    let _ = far;
+    near.set(place, slot)
+}
+
+/// Puts another slot at a place.
+fn replace_near(near: &mut Table, far: &Far, place: usize, slot: Slot)
+    requires apart { IsApart near.old far.now }
+    requires here { place < length near.old }
+    requires live { IsSome (slice_index_or near.old place None) }
     requires room { slot.place < 2 ^ 64 - 1 }
     ensures after { slots_of near.new far.now ≡ insert (slots_of near.old far.now) place slot }
     ensures apart { IsApart near.new far.now }
     ensures len { length near.new ≡ length near.old }
 {
     let _ = far;
-    near.set(place, slot);
+    near.replace(place, slot);
 }
 
 /// Frees a place.
@@ -166,8 +181,7 @@ pub(crate) fn put(
 {
     let place = number as usize;
     if place < near.len() {
-        put_near(near, far, place, slot);
-        Ok(())
+        put_near(near, far, place, slot)
     } else {
         put_far(near, far, number, slot)
     }
@@ -199,7 +213,7 @@ pub(crate) fn replace(near: &mut Table, far: &mut Far, number: u64, slot: Slot)
 {
     let place = number as usize;
     if place < near.len() {
-        put_near(near, far, place, slot);
+        replace_near(near, far, place, slot);
     } else {
         replace_far(near, far, number, slot);
     }

@@ -1,10 +1,9 @@
 //! The table of slots.
 
-ghost use Rattle.std.specs.Prelude.{◌≡◌, ℕ, ◌+◌, ◌-◌, ◌*◌, ◌^◌, ◌<◌, ◌≤◌, [], ◌∷◌, ◌++◌, None, Some, List, Option, drop, length, map, slice_index_or, slice_set, false, IfOk, OnOk, OnErr};
+ghost use Rattle.std.specs.Prelude.{◌≡◌, ℕ, ◌+◌, ◌-◌, ◌^◌, ◌<◌, ◌≤◌, ◌≢◌, [], ◌∷◌, ◌++◌, None, Some, List, Option, length, map, slice_index_or, slice_set, IsSome, OnOk, OnErr};
 ghost use Rattle.clause_arena.specs.declared.slot.Slot.{Slot};
 ghost use Rattle.clause_arena.specs.inner.Packing.{ref_of};
 ghost use Rattle.clause_arena.specs.inner.Slots.{near_entries};
-ghost use Rattle.clause_arena.specs.inner.Table.{IsMarked, AreFree};
 
 use crate::reference::Ref;
 use crate::slot::{Cell, Slot};
@@ -14,72 +13,87 @@ use std::marker::Model;
 /// How many places a block has.
 const BLOCK: usize = 64;
 
-/// Slots by places. Most places are those of lemmas that were forgotten, so each block of 64 places has a mark, and where no slot
-/// stands in a block the slots are listed without a look at its places: else each reduction of a search would look at every number
-/// that it ever gave.
+/// There are so many blocks at most, so that the number of all places is a `usize`.
+const MOST: usize = 1 << 48;
+
+/// Slots by places. Most places are those of lemmas that were forgotten, so the cells of 64 places are a block of their own, which is
+/// made when a slot is first put there and given back when slots are listed and none stands in it: else a search would keep 16 bytes
+/// for each number that it ever gave.
 #[derive(Drop)]
 pub(crate) struct Table {
-    cells: Vec<Cell>,
-    /// Whether a slot may stand in a block.
-    marks: Vec<bool>,
+    /// The cells of each block; none in a block that was not made yet or was given back.
+    blocks: Vec<Vec<Cell>>,
+    /// How many places there are.
+    len: usize,
 }
 
 impl Model for Table {
-    ghost use Rattle.std.specs.Prelude.{List, Option};
+    ghost use Rattle.std.specs.Prelude.{List, Option, map};
     ghost use Rattle.clause_arena.specs.declared.slot.Slot.{Slot};
-    ghost use Rattle.clause_arena.specs.inner.Table.{IsMarked};
+    ghost use Rattle.clause_arena.specs.inner.Table.{slots_from, IsTable};
 
     ghost Value = { List (Option Slot) };
 
-    ghost view = { λ t. t.cells.items };
+    ghost view = { λ t. slots_from (map (λ b. b.items) t.blocks.items) 0 t.len };
 
-    ghost invariant = { λ t. IsMarked t.cells.items t.marks.items };
+    ghost invariant = { λ t. IsTable t.len (map (λ b. b.items) t.blocks.items) };
 }
 
-/// Appends where the clauses of the places from `from` to `to` stand. Answers whether there is one.
-fn list_places(
-    cells: &[Cell],
-    from: usize,
-    to: usize,
-    refs: &mut Vec<Ref>,
-) -> Result<bool, AllocError>
-    requires order { from ≤ to }
-    requires within { to ≤ length cells.now }
-    ensures listed { OnOk result (refs.new.items ++ map ref_of (near_entries to (drop to cells.now)) ≡ refs.old.items ++ map ref_of (near_entries from (drop from cells.now))) }
-    ensures none { IfOk result (λ some. some ≡ false → AreFree from to cells.now) }
+/// Puts a slot at a place of a block. The cells of the block are made where they are not there yet, and then memory may be refused.
+fn put(block: &mut Vec<Cell>, place: usize, slot: Slot) -> Result<(), AllocError>
+    requires within { place < 64 }
+    requires short { length block.old.items ≤ 64 }
+    requires room { slot.place < 2 ^ 64 - 1 }
+    ensures here { OnOk result (slice_index_or block.new.items place None ≡ Some slot) }
+    ensures others { (k : ℕ) → k ≢ place → slice_index_or block.new.items k None ≡ slice_index_or block.old.items k None }
+    ensures err { OnErr result (block.new.items ≡ block.old.items) }
+    ensures short { length block.new.items ≤ 64 }
 {
-    let mut some = false;
-    for i in from..to {
-        if let Some(slot) = cells[i].slot() {
+    block.resize(BLOCK, Cell::free())?;
+    block[place] = Cell::of(slot);
+    Ok(())
+}
+
+/// Frees a place of a block.
+fn free(block: &mut Vec<Cell>, place: usize)
+    ensures here { slice_index_or block.new.items place None ≡ None }
+    ensures others { (k : ℕ) → k ≢ place → slice_index_or block.new.items k None ≡ slice_index_or block.old.items k None }
+    ensures len { length block.new.items ≡ length block.old.items }
+{
+    if place < block.len() {
+        block[place] = Cell::free();
+    }
+}
+
+/// Appends where the clauses of a block stand, by rising numbers from that of its first place on.
+fn list_cells(cells: &[Cell], first: usize, refs: &mut Vec<Ref>) -> Result<(), AllocError>
+    requires { first + length cells.now < 2 ^ 64 }
+    ensures { OnOk result (refs.new.items ≡ refs.old.items ++ map ref_of (near_entries first cells.now)) }
+{
+    for (i, cell) in cells.iter().enumerate() {
+        if let Some(slot) = cell.slot() {
             refs.push(Ref {
-                number: i as u64,
+                number: (first + i) as u64,
                 place: slot.place,
                 len: slot.len,
             })?;
-            some = true;
         }
     }
-    Ok(some)
+    Ok(())
 }
 
-/// Appends where the clauses of a block stand, and takes its mark away where none does.
-fn list_block(
-    cells: &[Cell],
-    marks: &mut [bool],
-    block: usize,
-    refs: &mut Vec<Ref>,
-) -> Result<(), AllocError>
-    requires marked { IsMarked cells.now marks.old }
-    requires here { block < length marks.old }
-    ensures marked { IsMarked cells.now marks.new }
-    ensures listed { OnOk result (refs.new.items ++ map ref_of (near_entries (64 * (block + 1)) (drop (64 * (block + 1)) cells.now)) ≡ refs.old.items ++ map ref_of (near_entries (64 * block) (drop (64 * block) cells.now))) }
+/// Appends where the clauses of a block stand. Where none does, its cells are given back.
+fn list_block(block: &mut Vec<Cell>, first: usize, refs: &mut Vec<Ref>) -> Result<(), AllocError>
+    requires { first + length block.old.items < 2 ^ 64 }
+    ensures same { (k : ℕ) → slice_index_or block.new.items k None ≡ slice_index_or block.old.items k None }
+    ensures short { length block.new.items ≤ length block.old.items }
+    ensures listed { OnOk result (refs.new.items ≡ refs.old.items ++ map ref_of (near_entries first block.old.items)) }
 {
-    if !marks[block] {
-        return Ok(());
+    let before = refs.len();
+    list_cells(block, first, refs)?;
+    if refs.len() == before {
+        *block = Vec::new(*block.allocator());
     }
-    let from = block.saturating_mul(BLOCK).min(cells.len());
-    let to = (from + BLOCK).min(cells.len());
-    marks[block] = list_places(cells, from, to, refs)?;
     Ok(())
 }
 
@@ -89,8 +103,8 @@ impl Table {
         ensures { result ≡ [] }
     {
         Table {
-            cells: Vec::new(alloc),
-            marks: Vec::new(alloc),
+            blocks: Vec::new(alloc),
+            len: 0,
         }
     }
 
@@ -99,7 +113,7 @@ impl Table {
     pub(crate) fn len(&self) -> usize
         ensures { result ≡ length self.now }
     {
-        self.cells.len()
+        self.len
     }
 
     /// The slot at a place, if there is one.
@@ -108,17 +122,29 @@ impl Table {
         requires { place < length self.now }
         ensures { result ≡ slice_index_or self.now place None }
     {
-        self.cells[place].slot()
+        match self.blocks[place / BLOCK].get(place % BLOCK) {
+            Some(cell) => cell.slot(),
+            None => None,
+        }
     }
 
-    /// Puts a slot at a place.
-    pub(crate) fn set(&mut self, place: usize, slot: Slot)
+    /// Puts a slot at a place. The table stays as it is where the place's block would have to be made and memory is refused.
+    pub(crate) fn set(&mut self, place: usize, slot: Slot) -> Result<(), AllocError>
         requires here { place < length self.old }
+        requires room { slot.place < 2 ^ 64 - 1 }
+        ensures ok { OnOk result (self.new ≡ slice_set self.old place (Some slot)) }
+        ensures err { OnErr result (self.new ≡ self.old) }
+    {
+        put(&mut self.blocks[place / BLOCK], place % BLOCK, slot)
+    }
+
+    /// Puts another slot at a place where one stands. It takes no memory.
+    pub(crate) fn replace(&mut self, place: usize, slot: Slot)
+        requires here { IsSome (slice_index_or self.old place None) }
         requires room { slot.place < 2 ^ 64 - 1 }
         ensures { self.new ≡ slice_set self.old place (Some slot) }
     {
-        self.marks[place / BLOCK] = true;
-        self.cells[place] = Cell::of(slot);
+        self.blocks[place / BLOCK][place % BLOCK] = Cell::of(slot);
     }
 
     /// Frees a place.
@@ -126,7 +152,7 @@ impl Table {
         requires { place < length self.old }
         ensures { self.new ≡ slice_set self.old place None }
     {
-        self.cells[place] = Cell::free();
+        free(&mut self.blocks[place / BLOCK], place % BLOCK);
     }
 
     /// Makes one free place more.
@@ -134,20 +160,24 @@ impl Table {
         ensures ok { OnOk result (self.new ≡ self.old ++ None ∷ []) }
         ensures err { OnErr result (self.new ≡ self.old) }
     {
-        if self.cells.len() / BLOCK >= self.marks.len() {
-            self.marks.push(false)?;
+        if self.len / BLOCK >= self.blocks.len() {
+            if self.blocks.len() >= MOST {
+                return Err(AllocError);
+            }
+            let block = Vec::new(*self.blocks.allocator());
+            self.blocks.push(block)?;
         }
-        self.cells.push(Cell::free())?;
+        self.len += 1;
         Ok(())
     }
 
-    /// Appends where the clauses stand, by rising numbers. A block in which none stands loses its mark.
+    /// Appends where the clauses stand, by rising numbers. A block in which none stands is given back.
     pub(crate) fn list(&mut self, refs: &mut Vec<Ref>) -> Result<(), AllocError>
         ensures same { self.new ≡ self.old }
         ensures listed { OnOk result (refs.new.items ≡ refs.old.items ++ map ref_of (near_entries 0 self.old)) }
     {
-        for block in 0..self.marks.len() {
-            list_block(&self.cells, &mut self.marks, block, refs)?;
+        for block in 0..self.blocks.len() {
+            list_block(&mut self.blocks[block], BLOCK * block, refs)?;
         }
         Ok(())
     }

@@ -1,12 +1,19 @@
--- A table of slots, in blocks of 64 places, each of which has a mark where a slot may stand in it.
-use Rattle.std.specs.Prelude.{◌≡◌, ℕ, ◌*◌, ◌/◌, ◌<◌, ◌≤◌, Bool, true, false, List, Option, Some, None, length, slice_index_or}
+-- A table of slots, in blocks of 64 places.
+use Rattle.std.specs.Prelude.{◌≡◌, ℕ, ◌*◌, ◌/◌, ◌%◌, ◌^◌, ◌≤◌, List, [], Option, None, All, length, map, slice_index_or}
+use Rattle.std.specs.List.{range_with_len}
 use Rattle.clause_arena.specs.declared.slot.Slot.{Slot}
 
--- each place has a block, and a block in which a slot stands is marked
-pub record IsMarked (cells : List (Option Slot)) (marks : List Bool) : Type 0 where
-  pub covers : length cells ≤ 64 * length marks
-  pub marked : (q : ℕ) (s : Slot) → slice_index_or cells q None ≡ Some s → slice_index_or marks (q / 64) false ≡ true
+-- what stands at a place: nothing where its block ends before it
+abbrev pub slot_at : List (List (Option Slot)) → ℕ → Option Slot
+slot_at blocks q = slice_index_or (slice_index_or blocks (q / 64) []) (q % 64) None
 
--- no slot stands at the places from `from` to `to`
-abbrev pub AreFree : ℕ → ℕ → List (Option Slot) → Type 0
-AreFree from to cells = (q : ℕ) → from ≤ q → q < to → slice_index_or cells q None ≡ None
+-- what stands at so many places from one on
+abbrev pub slots_from : List (List (Option Slot)) → ℕ → ℕ → List (Option Slot)
+slots_from blocks q count = map (slot_at blocks) (range_with_len q count)
+
+-- each of the first `len` places has a block, of which there are not too many, none has more cells than places, and nothing stands at a later place
+pub record IsTable (len : ℕ) (blocks : List (List (Option Slot))) : Type 0 where
+  pub covers : len ≤ 64 * length blocks
+  pub few : length blocks ≤ 2 ^ 48
+  pub short : All (λ cells. length cells ≤ 64) blocks
+  pub ends : (q : ℕ) → len ≤ q → slot_at blocks q ≡ None

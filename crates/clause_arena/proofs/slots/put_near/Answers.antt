@@ -1,13 +1,11 @@
-use Rattle.std.proofs.Common.{◌∙◌, ap, refl, Some, subst, sym}
-use Rattle.clause_arena.specs.inner.Slots.{slots_of, IsApart}
-use Rattle.clause_arena.proofs.SlotLemmas.{apart-set, near-insert}
+use Rattle.std.proofs.Common.{◌∙◌, ap, refl, Some}
+use Rattle.std.proofs.lemmas.Result.{on_ok_weaker}
+use Rattle.clause_arena.specs.inner.Slots.{slots_of}
+use Rattle.clause_arena.proofs.SlotLemmas.{near-insert}
 use Rattle.clause_arena.proofs.slots.put_near.Goals as goal
 
-pub returns-clause-after : goal.returns-clause-after
-returns-clause-after c =
-    ap (λ xs. slots_of xs c.args.far.now) c.set.ensures
-    ∙ near-insert c.args.near.now c.args.far.now c.args.place c.requires.apart c.requires.here (Some c.args.slot) c.args.slot refl
-
-pub returns-clause-apart : goal.returns-clause-apart
-returns-clause-apart c =
-    subst (λ xs. IsApart xs c.args.far.now) (sym c.set.ensures) (apart-set c.args.near.now c.args.far.now c.args.place c.requires.apart c.requires.here (Some c.args.slot))
+pub returns-clause-ok : goal.returns-clause-ok
+returns-clause-ok c = on_ok_weaker c.set.result
+    (λ e. ap (λ xs. slots_of xs c.args.far.now) e
+    ∙ near-insert c.args.near.now c.args.far.now c.args.place c.requires.apart c.requires.here (Some c.args.slot) c.args.slot refl)
+    c.set.ensures.ok

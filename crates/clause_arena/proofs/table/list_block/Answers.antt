@@ -1,12 +1,17 @@
-use Rattle.std.proofs.Common.{◌≡◌, ◌∙◌, ◌+◌, ◌*◌, ◌++◌, ap, sym, map, drop, arith, ℕ}
+use Rattle.std.proofs.Common.{◌∙◌, ◌≡◌, ◌++◌, ap, sym, arith, None, get_or, length, map, []}
+use Rattle.std.proofs.lemmas.List.{get_or_past}
 use Rattle.clause_arena.specs.inner.Packing.{ref_of}
 use Rattle.clause_arena.specs.inner.Slots.{near_entries}
-use Rattle.clause_arena.proofs.TableLemmas.{entries_skip, unmarked_free}
+use Rattle.clause_arena.proofs.TableLemmas.{none_stands, none_listed}
 use Rattle.clause_arena.proofs.table.list_block.Goals as goal
 
-pub returns-then-not-marks-block-clause-listed : goal.returns-then-not-marks-block-clause-listed
-returns-then-not-marks-block-clause-listed c =
-    let off = unmarked_free c.args.cells.now c.args.marks.now c.args.block c.requires.marked c.if-not-marks-block.true in
-    let e : 64 * c.args.block + 64 ≡ 64 * (c.args.block + 1) = omega arith in
-    let h = entries_skip c.args.cells.now (64 * c.args.block) (64 * c.args.block + 64) (omega arith) off in
-    ap (λ (k : ℕ). c.args.refs.now.items ++ map ref_of (near_entries k (drop k c.args.cells.now))) (sym e) ∙ ap (λ es. c.args.refs.now.items ++ map ref_of es) (sym h)
+pub returns-then-len-before-clause-same : goal.returns-then-len-before-clause-same
+returns-then-len-before-clause-same c k =
+    let cells = c.args.block.now.items in
+    let old = c.args.refs.now in
+    let new = c.list_cells.new.refs in
+    let many : length new.items ≡ length old.items = omega (arith, new.ok, old.ok, c.if-len-before.true, c.len.ensures, c.len-before.ensures) in
+    let listed : new.items ≡ old.items ++ map ref_of (near_entries c.args.first cells) =
+    c.in_ok-list_cells.ensures ∙ ap (λ xs. old.items ++ map ref_of (near_entries c.args.first xs)) c.deref.ensures.value in
+    ap (λ xs. get_or xs k None) c.new.ensures.items ∙ get_or_past [] k None (omega arith)
+    ∙ sym (none_stands c.args.first cells (none_listed old.items new.items (near_entries c.args.first cells) listed many) k)
