@@ -22,8 +22,7 @@ impl Call for Long {
             return Answer::NoMemory;
         };
         match trim(self.alloc, &self.base, &[], 2, fragment) {
-            Ok(Some(text)) => made(self.alloc, &text),
-            Ok(None) => Answer::Said("gone"),
+            Ok(text) => made(self.alloc, &text),
             Err(_) => Answer::NoMemory,
         }
     }

@@ -99,11 +99,6 @@ pub pairs_either_way : (b : Bool) (old new block : List ℕ) → All IsPair old 
 pairs_either_way true old new block h more e = subst (λ (ys : List ℕ). All IsPair ys) (sym e) (All-append IsPair old block h more)
 pairs_either_way false old new block h more e = subst (λ (ys : List ℕ). All IsPair ys) (sym e) h
 
--- those behind a block are pairs
-pub pairs_behind : (all block rest : List ℕ) → All IsPair all → all ≡ block ++ rest → All IsPair rest
-pairs_behind all [] rest h e = subst (λ (ys : List ℕ). All IsPair ys) e h
-pairs_behind all (b ∷ block) rest h e = pairs_behind (block ++ rest) block rest (All-tail IsPair b (block ++ rest) (subst (λ (ys : List ℕ). All IsPair ys) e h)) refl
-
 -- a front of a part that is a front
 pub part_of_front : (part xs : List ℕ) (few : ℕ) → part ≡ take (length part) xs → few ≤ length part → take few part ≡ take few xs
 part_of_front part xs few is low = ap (take few) is ∙ take_front few (length part) xs low

@@ -9,7 +9,7 @@ ghost use Rattle.lrat_text.specs.inner.Packed.{IsFront, IsPair};
 
 use crate::glyphs::{pack, unpack};
 use crate::rope;
-use crate::rope::{Blocks, Rope};
+use crate::rope::Rope;
 use crate::step::StepRef;
 use crate::writing::put_ref;
 use std::alloc::{AllocError, Global};
@@ -272,15 +272,6 @@ impl PackedText {
         ensures { IfOk result (λ text. text.items ≡ self.now) }
     {
         self.read(alloc, 0, self.len())
-    }
-
-    /// Its blocks, which are packed, and what stands behind them.
-    pub(crate) fn into_blocks(self) -> (Blocks, Vec<u8>)
-        ensures text { flat_map byte_text result.0 ++ result.1.items ≡ self }
-        ensures pairs { All IsPair result.0 }
-    {
-        let PackedText { pairs, tail } = self;
-        (pairs.into_blocks(), tail)
     }
 
     /// Takes away all but the first `count` bytes. It takes no memory.

@@ -12,11 +12,7 @@ use std::marker::Model;
 const BLOCK: usize = 4096;
 
 /// Goes on with a line up to the first LF from a place on, and steps over that LF; where there is none, `false`, and with all that is left.
-pub(crate) fn take_part(
-    block: &[u8],
-    at: &mut usize,
-    line: &mut Vec<u8>,
-) -> Result<bool, AllocError>
+fn take_part(block: &[u8], at: &mut usize, line: &mut Vec<u8>) -> Result<bool, AllocError>
     requires inside { at.old ≤ length block.now }
     requires open { IsOpen line.old.items }
     ensures inside { at.new ≤ length block.now }

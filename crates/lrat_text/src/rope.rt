@@ -1,9 +1,8 @@
 //! Bytes in blocks, which others may share.
 
-ghost use Rattle.std.specs.Prelude.{◌≡◌, ◌+◌, ◌*◌, ◌%◌, ◌^◌, ◌<◌, ◌≤◌, [], ◌++◌, MatchBool, MatchOption, IsTrue, length, take, drop, IfOk};
+ghost use Rattle.std.specs.Prelude.{◌≡◌, ◌+◌, ◌*◌, ◌%◌, ◌^◌, ◌<◌, ◌≤◌, [], ◌++◌, MatchBool, IsTrue, length, take, drop, IfOk};
 
 use std::alloc::{AllocError, Global};
-use std::collections::VecDeque;
 use std::marker::Model;
 use std::rc::Rc;
 
@@ -27,31 +26,6 @@ impl Model for Rope {
     ghost view = { λ r. flat_map (λ b. b.value.items) r.blocks.items };
 
     ghost invariant = { λ r. All (λ b. length b.value.items ≡ 2048) r.blocks.items × (length r.blocks.items ≤ 2 ^ 48) };
-}
-
-/// What is left of a rope whose blocks are taken from the front, one after the other.
-#[derive(Drop)]
-pub(crate) struct Blocks {
-    left: VecDeque<Rc<Vec<u8>>>,
-}
-
-impl Model for Blocks {
-    ghost use Rattle.std.specs.Prelude.{◌≡◌, List, ℕ, All, flat_map, length};
-
-    ghost Value = { List ℕ };
-
-    ghost view = { λ b. flat_map (λ c. c.value.items) b.left.items };
-
-    ghost invariant = { λ b. All (λ c. length c.value.items ≡ 2048) b.left.items };
-}
-
-impl Blocks {
-    /// Takes the first block, if there is one.
-    pub(crate) fn pop(&mut self) -> Option<Rc<Vec<u8>>>
-        ensures { MatchOption result ((self.old ≡ []) × (self.new ≡ [])) (λ b. (self.old ≡ b.value.items ++ self.new) × (length b.value.items ≡ 2048)) }
-    {
-        self.left.pop_front()
-    }
 }
 
 /// A block as it is to be held: where another rope's block is alike, that one, so that its bytes are there once.
@@ -122,16 +96,6 @@ impl Rope {
         match held(*self.blocks.allocator(), block, other) {
             Ok(block) => self.blocks.push(block).is_ok(),
             Err(_) => false,
-        }
-    }
-
-    /// Its blocks, to be taken one after the other. It takes no memory.
-    pub(crate) fn into_blocks(self) -> Blocks
-        ensures { result ≡ self }
-    {
-        let Rope { blocks } = self;
-        Blocks {
-            left: VecDeque::from_vec(blocks),
         }
     }
 

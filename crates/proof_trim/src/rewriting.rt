@@ -5,7 +5,7 @@ ghost use Rattle.lrat_text.specs.Steps.{step_of};
 
 use crate::lines::deletes;
 use crate::needs::Needs;
-use lrat_text::{Groups, PackedText, StepBuffer, StepRef, TakenLines, TextFault, read_line};
+use lrat_text::{Groups, PackedLines, PackedText, StepBuffer, StepRef, TextFault, read_line};
 use std::alloc::{AllocError, Global};
 use std::marker::Model;
 
@@ -83,12 +83,12 @@ impl Rewriter {
     }
 }
 
-/// A fragment with those lemmas alone that are needed. It is given back as it is read.
+/// A fragment with those lemmas alone that are needed.
 pub(crate) fn rewrite(
     alloc: Global,
-    needs: Needs,
+    needs: &Needs,
     buffer: &mut StepBuffer,
-    text: PackedText,
+    text: &PackedText,
 ) -> Result<PackedText, TextFault> {
     let mut rewriter = Rewriter {
         out: PackedText::new(alloc),
@@ -97,13 +97,13 @@ pub(crate) fn rewrite(
         numbers: Vec::new(alloc),
         groups: Groups::new(alloc),
     };
-    let mut lines = TakenLines::of(alloc, text);
+    let mut lines = PackedLines::of(alloc, text);
     let mut line = Vec::new(alloc);
     let mut place = 0usize;
     while lines.next(&mut line)? {
         let adds = !deletes(&line);
         if !adds || needs.has(place) {
-            rewriter.put_line(&needs, buffer, &line)?;
+            rewriter.put_line(needs, buffer, &line)?;
         }
         if adds {
             place = place.saturating_add(1);

@@ -1,6 +1,6 @@
 //! A fragment is trimmed, and tested.
 
-ghost use Rattle.std.specs.Prelude.{◌<◌, ◌^◌, IfOk, IfSome};
+ghost use Rattle.std.specs.Prelude.{◌<◌, ◌^◌, IfOk};
 ghost use Rattle.std.specs.Bool.{OnTrue};
 ghost use Rattle.lrat_text.specs.Log.{Closes};
 ghost use Rattle.proof_trim.specs.Trimming.{HasAtMost, Trims};
@@ -16,13 +16,8 @@ use std::alloc::{AllocError, Global};
 /// A fragment with fewer lemmas than this needs nearly all of them.
 const MANY: usize = 20_000;
 
-/// Which lemmas the last one of a fragment needs, where it has many, and at least a quarter of them go.
-fn worth_cutting(
-    alloc: Global,
-    base: u64,
-    buffer: &mut StepBuffer,
-    text: &PackedText,
-) -> Result<Option<Needs>, TextFault>
+/// The fragment without the lemmas that its last one does not need, where it has many, and at least a quarter of them go.
+fn shorter(alloc: Global, base: u64, text: &PackedText) -> Result<Option<PackedText>, TextFault>
     requires { base < 2 ^ 40 }
 {
     let counts = count_lines(alloc, text)?;
@@ -30,13 +25,14 @@ fn worth_cutting(
     if count < MANY {
         return Ok(None);
     }
-    let Some(mut needs) = Needs::of(alloc, base, count, buffer, text)? else {
+    let mut buffer = StepBuffer::new(alloc);
+    let Some(mut needs) = Needs::of(alloc, base, count, &mut buffer, text)? else {
         return Ok(None);
     };
     if needs.rank() > count / 4 * 3 {
         return Ok(None);
     }
-    Ok(Some(needs))
+    Ok(Some(rewrite(alloc, &needs, &mut buffer, text)?))
 }
 
 /// Whether a text is a fragment that closes the cube, of at most `most` lines.
@@ -65,34 +61,26 @@ fn is_fragment(
 ///
 /// What is handed out is the fragment as it was, or a shorter one of at most `most` lemmas that [`check_packed_fragment`] accepts. So nothing is to
 /// be believed of how it is found which lemmas are needed. A fragment stays as it is where it has fewer than 20,000 lemmas, or where less
-/// than a quarter of them would go: the check of what stays would cost more time than it saves.
-///
-/// A fragment that is cut down is given back block by block as it is read, so that it never stands beside what is left of it. `None` where
-/// that is refused; the fragment is gone then.
+/// than a quarter of them would go: the check of what stays would cost more time than it saves. No text is unpacked whole.
 pub fn trim(
     alloc: Global,
     base: &Base,
     cube: &[Lit],
     most: u64,
     fragment: PackedText,
-) -> Result<Option<PackedText>, AllocError>
-    ensures { IfOk result (λ text. IfSome text (Trims base.now cube.now most fragment)) }
+) -> Result<PackedText, AllocError>
+    ensures { IfOk result (λ text. Trims base.now cube.now most fragment text) }
 {
     let _vars = base.vars(); // with it comes the bound of the number of clauses
-    let mut buffer = StepBuffer::new(alloc);
-    let needs = match worth_cutting(alloc, base.len() as u64, &mut buffer, &fragment) {
-        Ok(Some(needs)) => needs,
-        Err(TextFault::NoMemory) => return Err(AllocError),
-        Ok(None) | Err(_) => return Ok(Some(fragment)),
-    };
-    let len = fragment.len();
-    let short = match rewrite(alloc, needs, &mut buffer, fragment) {
+    let short = match shorter(alloc, base.len() as u64, &fragment) {
         Ok(short) => short,
         Err(TextFault::NoMemory) => return Err(AllocError),
-        Err(_) => return Ok(None),
+        Err(_) => None,
     };
-    if short.len() < len && is_fragment(alloc, base, cube, most, &short)? {
-        return Ok(Some(short));
+    if let Some(short) = short {
+        if short.len() < fragment.len() && is_fragment(alloc, base, cube, most, &short)? {
+            return Ok(short);
+        }
     }
-    Ok(None)
+    Ok(fragment)
 }

@@ -66,11 +66,7 @@ fn search(alloc: Global, base: &Base, cube: &[Lit], limit: u64) -> Result<Outcom
     match solve(alloc, base, cube, limit)? {
         Outcome::Refuted(text) => {
             let most = limit.min(1 << 47) + 1;
-            match trim(alloc, base, cube, most, text)? {
-                Some(text) => Ok(Outcome::Refuted(text)),
-                // What was left of the fragment was refused, which no run has shown, and the fragment is gone: it is searched for once more.
-                None => solve(alloc, base, cube, limit),
-            }
+            Ok(Outcome::Refuted(trim(alloc, base, cube, most, text)?))
         }
         end => Ok(end),
     }
