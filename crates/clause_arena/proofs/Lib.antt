@@ -1,3 +1,4 @@
+pub mod BlocksLemmas
 pub mod ClauseLaws
 pub mod CompactionLemmas
 pub mod ContentLemmas

@@ -7,6 +7,7 @@
 #![tactic(auto)]
 
 mod arena;
+mod blocks;
 mod compaction;
 mod index;
 mod literals;

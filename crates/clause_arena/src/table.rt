@@ -1,100 +1,34 @@
 //! The table of slots.
 
-ghost use Rattle.std.specs.Prelude.{◌≡◌, ℕ, ◌+◌, ◌-◌, ◌^◌, ◌<◌, ◌≤◌, ◌≢◌, [], ◌∷◌, ◌++◌, None, Some, List, Option, length, map, slice_index_or, slice_set, IsSome, OnOk, OnErr};
-ghost use Rattle.clause_arena.specs.declared.slot.Slot.{Slot};
+ghost use Rattle.std.specs.Prelude.{◌≡◌, ◌-◌, ◌^◌, ◌<◌, [], ◌∷◌, ◌++◌, None, Some, length, map, slice_index_or, slice_set, IsSome, OnOk, OnErr};
 ghost use Rattle.clause_arena.specs.inner.Packing.{ref_of};
 ghost use Rattle.clause_arena.specs.inner.Slots.{near_entries};
 
+use crate::blocks::{Blocks, list_cells};
 use crate::reference::Ref;
 use crate::slot::{Cell, Slot};
 use std::alloc::{AllocError, Global};
 use std::marker::Model;
 
-/// How many places a block has.
-const BLOCK: usize = 64;
-
-/// There are so many blocks at most, so that the number of all places is a `usize`.
-const MOST: usize = 1 << 48;
-
-/// Slots by places. Most places are those of lemmas that were forgotten, so the cells of 64 places are a block of their own, which is
-/// made when a slot is first put there and given back when slots are listed and none stands in it: else a search would keep 16 bytes
-/// for each number that it ever gave.
+/// Slots by places. The places that were made before a clause was taken out lie flat, so that a slot is found there by one look: the
+/// clauses of a base are among them, and a search takes none of these out. Later places lie in blocks, which are given back.
 #[derive(Drop)]
 pub(crate) struct Table {
-    /// The cells of each block; none in a block that was not made yet or was given back.
-    blocks: Vec<Vec<Cell>>,
-    /// How many places there are.
-    len: usize,
+    /// The cells of the first places.
+    flat: Vec<Cell>,
+    /// The slots of the places behind them.
+    rest: Blocks,
+    /// Whether a clause was taken out.
+    taken_out: bool,
 }
 
 impl Model for Table {
-    ghost use Rattle.std.specs.Prelude.{List, Option, map};
+    ghost use Rattle.std.specs.Prelude.{List, Option, ◌++◌};
     ghost use Rattle.clause_arena.specs.declared.slot.Slot.{Slot};
-    ghost use Rattle.clause_arena.specs.inner.Table.{slots_from, IsTable};
 
     ghost Value = { List (Option Slot) };
 
-    ghost view = { λ t. slots_from (map (λ b. b.items) t.blocks.items) 0 t.len };
-
-    ghost invariant = { λ t. IsTable t.len (map (λ b. b.items) t.blocks.items) };
-}
-
-/// Puts a slot at a place of a block. The cells of the block are made where they are not there yet, and then memory may be refused.
-fn put(block: &mut Vec<Cell>, place: usize, slot: Slot) -> Result<(), AllocError>
-    requires within { place < 64 }
-    requires short { length block.old.items ≤ 64 }
-    requires room { slot.place < 2 ^ 64 - 1 }
-    ensures here { OnOk result (slice_index_or block.new.items place None ≡ Some slot) }
-    ensures others { (k : ℕ) → k ≢ place → slice_index_or block.new.items k None ≡ slice_index_or block.old.items k None }
-    ensures err { OnErr result (block.new.items ≡ block.old.items) }
-    ensures short { length block.new.items ≤ 64 }
-{
-    block.resize(BLOCK, Cell::free())?;
-    block[place] = Cell::of(slot);
-    Ok(())
-}
-
-/// Frees a place of a block.
-fn free(block: &mut Vec<Cell>, place: usize)
-    ensures here { slice_index_or block.new.items place None ≡ None }
-    ensures others { (k : ℕ) → k ≢ place → slice_index_or block.new.items k None ≡ slice_index_or block.old.items k None }
-    ensures len { length block.new.items ≡ length block.old.items }
-{
-    if place < block.len() {
-        block[place] = Cell::free();
-    }
-}
-
-/// Appends where the clauses of a block stand, by rising numbers from that of its first place on.
-fn list_cells(cells: &[Cell], first: usize, refs: &mut Vec<Ref>) -> Result<(), AllocError>
-    requires { first + length cells.now < 2 ^ 64 }
-    ensures { OnOk result (refs.new.items ≡ refs.old.items ++ map ref_of (near_entries first cells.now)) }
-{
-    for (i, cell) in cells.iter().enumerate() {
-        if let Some(slot) = cell.slot() {
-            refs.push(Ref {
-                number: (first + i) as u64,
-                place: slot.place,
-                len: slot.len,
-            })?;
-        }
-    }
-    Ok(())
-}
-
-/// Appends where the clauses of a block stand. Where none does, its cells are given back.
-fn list_block(block: &mut Vec<Cell>, first: usize, refs: &mut Vec<Ref>) -> Result<(), AllocError>
-    requires { first + length block.old.items < 2 ^ 64 }
-    ensures same { (k : ℕ) → slice_index_or block.new.items k None ≡ slice_index_or block.old.items k None }
-    ensures short { length block.new.items ≤ length block.old.items }
-    ensures listed { OnOk result (refs.new.items ≡ refs.old.items ++ map ref_of (near_entries first block.old.items)) }
-{
-    let before = refs.len();
-    list_cells(block, first, refs)?;
-    if refs.len() == before {
-        *block = Vec::new(*block.allocator());
-    }
-    Ok(())
+    ghost view = { λ t. t.flat.items ++ t.rest };
 }
 
 impl Table {
@@ -103,8 +37,9 @@ impl Table {
         ensures { result ≡ [] }
     {
         Table {
-            blocks: Vec::new(alloc),
-            len: 0,
+            flat: Vec::new(alloc),
+            rest: Blocks::new(alloc),
+            taken_out: false,
         }
     }
 
@@ -113,7 +48,7 @@ impl Table {
     pub(crate) fn len(&self) -> usize
         ensures { result ≡ length self.now }
     {
-        self.len
+        self.flat.len() + self.rest.len()
     }
 
     /// The slot at a place, if there is one.
@@ -122,9 +57,10 @@ impl Table {
         requires { place < length self.now }
         ensures { result ≡ slice_index_or self.now place None }
     {
-        match self.blocks[place / BLOCK].get(place % BLOCK) {
-            Some(cell) => cell.slot(),
-            None => None,
+        if place < self.flat.len() {
+            self.flat[place].slot()
+        } else {
+            self.rest.get(place - self.flat.len())
         }
     }
 
@@ -135,7 +71,12 @@ impl Table {
         ensures ok { OnOk result (self.new ≡ slice_set self.old place (Some slot)) }
         ensures err { OnErr result (self.new ≡ self.old) }
     {
-        put(&mut self.blocks[place / BLOCK], place % BLOCK, slot)
+        if place < self.flat.len() {
+            self.flat[place] = Cell::of(slot);
+            Ok(())
+        } else {
+            self.rest.set(place - self.flat.len(), slot)
+        }
     }
 
     /// Puts another slot at a place where one stands. It takes no memory.
@@ -144,7 +85,11 @@ impl Table {
         requires room { slot.place < 2 ^ 64 - 1 }
         ensures { self.new ≡ slice_set self.old place (Some slot) }
     {
-        self.blocks[place / BLOCK][place % BLOCK] = Cell::of(slot);
+        if place < self.flat.len() {
+            self.flat[place] = Cell::of(slot);
+        } else {
+            self.rest.replace(place - self.flat.len(), slot);
+        }
     }
 
     /// Frees a place.
@@ -152,22 +97,24 @@ impl Table {
         requires { place < length self.old }
         ensures { self.new ≡ slice_set self.old place None }
     {
-        free(&mut self.blocks[place / BLOCK], place % BLOCK);
+        self.taken_out = true;
+        if place < self.flat.len() {
+            self.flat[place] = Cell::free();
+        } else {
+            self.rest.free(place - self.flat.len());
+        }
     }
 
-    /// Makes one free place more.
+    /// Makes one free place more: a flat one, as long as none lies behind the flat ones and no clause was taken out.
     pub(crate) fn grow(&mut self) -> Result<(), AllocError>
         ensures ok { OnOk result (self.new ≡ self.old ++ None ∷ []) }
         ensures err { OnErr result (self.new ≡ self.old) }
     {
-        if self.len / BLOCK >= self.blocks.len() {
-            if self.blocks.len() >= MOST {
-                return Err(AllocError);
-            }
-            let block = Vec::new(*self.blocks.allocator());
-            self.blocks.push(block)?;
+        if self.taken_out || self.rest.len() > 0 {
+            self.rest.grow()?;
+        } else {
+            self.flat.push(Cell::free())?;
         }
-        self.len += 1;
         Ok(())
     }
 
@@ -176,9 +123,7 @@ impl Table {
         ensures same { self.new ≡ self.old }
         ensures listed { OnOk result (refs.new.items ≡ refs.old.items ++ map ref_of (near_entries 0 self.old)) }
     {
-        for block in 0..self.blocks.len() {
-            list_block(&mut self.blocks[block], BLOCK * block, refs)?;
-        }
-        Ok(())
+        list_cells(&self.flat, 0, refs)?;
+        self.rest.list(self.flat.len(), refs)
     }
 }

@@ -1,18 +1,14 @@
-use Rattle.std.proofs.Common.{◌∙◌, ap, arith, None, length, get_or}
-use Rattle.clause_arena.proofs.TableLemmas.{has_block, has_short, changed_table, changed}
+use Rattle.std.proofs.Common.{arith, None}
+use Rattle.clause_arena.proofs.TableLemmas.{set_flat, set_rest}
 use Rattle.clause_arena.proofs.table.Table.free.Goals as goal
 
-pub index_mut-requires : goal.index_mut-requires
-index_mut-requires c = omega (arith, has_block (λ b. b.items) _ _ c.args.place _ c.self.invariant c.self.view_is c.requires)
+pub returns-then-place-len : goal.returns-then-place-len
+returns-then-place-len c =
+    set_flat c.self.inside.flat.items c.self.inside.rest _ c.args.place None c.self.view_is c.free.result
+    (omega (arith, c.if-place-len.true, c.len.ensures, c.self.inside.flat.ok)) c.free.ensures
 
-pub invariant_of-self : goal.invariant_of-self
-invariant_of-self c =
-    let short = has_short (λ b. b.items) _ _ c.args.place _ c.self.invariant c.self.view_is c.requires c.index_mut.result.now in
-    changed_table (λ b. b.items) _ _ c.args.place _ c.self.invariant c.self.view_is c.requires c.free.new.block c.index_mut.result.now
-    (λ k ne. c.free.ensures.others k ne ∙ ap (λ b. get_or b.items k None) c.index_mut.ensures.value)
-    (omega (arith, c.free.ensures.len, ap (λ b. length b.items) c.index_mut.ensures.value, short))
-
-pub returns : goal.returns
-returns c =
-    changed (λ b. b.items) _ _ c.args.place _ c.self.invariant c.self.view_is c.requires c.free.new.block c.index_mut.result.now
-    (λ k ne. c.free.ensures.others k ne ∙ ap (λ b. get_or b.items k None) c.index_mut.ensures.value) None c.free.ensures.here
+pub returns-else-place-len : goal.returns-else-place-len
+returns-else-place-len c =
+    set_rest c.self.inside.flat.items c.self.inside.rest _ c.args.place None c.self.view_is c.len-else-place-len.result c.free-else-place-len.new.self
+    (omega (arith, c.len-else-place-len.ensures, c.self.inside.flat.ok))
+    (omega (arith, c.if-place-len.false, c.len.ensures, c.len-else-place-len.ensures)) c.free-else-place-len.ensures

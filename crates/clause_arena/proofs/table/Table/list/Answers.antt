@@ -1,54 +1,13 @@
-use Rattle.std.proofs.Common.{◌≤◌, ◌%◌, ◌∙◌, ℕ, ap, sym, subst, arith, None, map, length, get_or, set, length-set}
-use Rattle.std.proofs.lemmas.List.{length-map}
-use Rattle.clause_arena.specs.inner.Table.{slots_from, IsTable}
-use Rattle.clause_arena.proofs.TableLemmas.{cell_at, block_short, held_kept, held_table, same_slots_from, next_listed, all_listed}
+use Rattle.std.proofs.Common.{◌∙◌, ◌++◌, ap, arith, map}
+use Rattle.std.proofs.lemmas.Result.{on_ok_weaker}
+use Rattle.clause_arena.specs.inner.Packing.{ref_of}
+use Rattle.clause_arena.specs.inner.Slots.{near_entries}
+use Rattle.clause_arena.proofs.TableLemmas.{listed_rest}
 use Rattle.clause_arena.proofs.table.Table.list.Goals as goal
 
-pub invariant_of-self-in_err-list_block : goal.invariant_of-self-in_err-list_block
-invariant_of-self-in_err-list_block c =
-    let was = c.loop-block in
-    let vs = was.self-inside.blocks.items in
-    let d = c.index_mut.result.now in
-    let is = c.index_mut.ensures.value in
-    let short = block_short (λ b. b.items) vs was.block (omega arith) d _ was.invariant.table in
-    subst (λ n. IsTable n (map (λ b. b.items) (set vs was.block c.list_block.new.block))) (sym was.invariant.len)
-    (held_table (λ b. b.items) vs was.block (omega arith) d c.list_block.new.block c.self.inside.len
-    (omega (arith, c.list_block.ensures.short, ap (λ b. length b.items) is, short))
-    (λ q _ _. c.list_block.ensures.same (q % 64) ∙ ap (λ b. get_or b.items (q % 64) None) is)
-    was.invariant.table)
-
-pub returns-in_err-list_block-clause-same : goal.returns-in_err-list_block-clause-same
-returns-in_err-list_block-clause-same c =
-    let was = c.loop-block in
-    let vs = was.self-inside.blocks.items in
-    let new = map (λ b. b.items) (set vs was.block c.list_block.new.block) in
-    let same = λ (q : ℕ). c.list_block.ensures.same (q % 64) ∙ ap (λ b. get_or b.items (q % 64) None) c.index_mut.ensures.value in
-    ap (λ n. slots_from new 0 n) was.invariant.len
-    ∙ same_slots_from (map (λ b. b.items) c.self.inside.blocks.items) new c.self.inside.len
-    (λ q. held_kept (λ b. b.items) vs was.block (omega arith) c.index_mut.result.now c.list_block.new.block q (λ _. same q) ∙ was.invariant.same q)
-    ∙ c.self.view_is
-
-pub loop-block-preserved : goal.loop-block-preserved
-loop-block-preserved c =
-    let was = c.loop-block in
-    let vs = was.self-inside.blocks.items in
-    let d = c.index_mut.result.now in
-    let is = c.index_mut.ensures.value in
-    let same = λ (q : ℕ). c.list_block.ensures.same (q % 64) ∙ ap (λ b. get_or b.items (q % 64) None) is in
-    let short : length d.items ≤ 64 = omega (arith, block_short (λ b. b.items) vs was.block (omega arith) d _ was.invariant.table, ap (λ b. length b.items) is) in
-    record {
-      listed = next_listed (map (λ b. b.items) c.self.inside.blocks.items) was.block d.items was.refs.items c.list_block.new.refs.items _
-          (omega (arith, length-map c.self.inside.blocks.items (λ b. b.items))) short
-          (λ q at. sym (was.invariant.same q) ∙ cell_at (λ b. b.items) vs was.block (omega arith) d q at ∙ ap (λ b. get_or b.items (q % 64) None) (sym is))
-          c.in_ok-list_block.ensures.listed was.invariant.listed;
-      same = λ q. held_kept (λ b. b.items) vs was.block (omega arith) d c.list_block.new.block q (λ _. same q) ∙ was.invariant.same q;
-      len = was.invariant.len;
-      blocks = length-set vs was.block c.list_block.new.block ∙ was.invariant.blocks;
-      table = held_table (λ b. b.items) vs was.block (omega arith) d c.list_block.new.block c.self.inside.len
-          (omega (arith, c.list_block.ensures.short, ap (λ b. length b.items) is, short)) (λ q _ _. same q) was.invariant.table;
-    }
-
 pub returns-clause-listed : goal.returns-clause-listed
-returns-clause-listed c =
-    all_listed (map (λ b. b.items) c.self.inside.blocks.items) c.self.inside.len c.loop-block.block c.args.self.now c.loop-block.refs.items c.args.refs.now.items
-    c.self.invariant c.self.view_is (omega (arith, length-map c.self.inside.blocks.items (λ b. b.items))) c.loop-block.invariant.listed
+returns-clause-listed c = on_ok_weaker c.list.result
+    (listed_rest c.self.inside.flat.items c.self.inside.rest _ c.len.result c.args.refs.now.items c.list_cells.new.refs.items c.list.new.refs.items c.self.view_is
+    (omega (arith, c.len.ensures, c.self.inside.flat.ok))
+    (c.in_ok-list_cells.ensures ∙ ap (λ xs. c.args.refs.now.items ++ map ref_of (near_entries 0 xs)) c.deref.ensures.value))
+    c.list.ensures.listed

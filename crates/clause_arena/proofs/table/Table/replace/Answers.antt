@@ -1,31 +1,14 @@
-use Rattle.std.proofs.Common.{◌∙◌, ◌<◌, ◌%◌, ap, arith, None, Some, length, get_or, get_or-set_same, get_or-set_other, length-set}
-use Rattle.clause_arena.proofs.TableLemmas.{somewhere, has_block, has_cell, has_short, changed_table, changed}
+use Rattle.std.proofs.Common.{arith, Some}
+use Rattle.clause_arena.proofs.TableLemmas.{set_flat, set_rest}
 use Rattle.clause_arena.proofs.table.Table.replace.Goals as goal
 
-pub index_mut-requires : goal.index_mut-requires
-index_mut-requires c = omega (arith, has_block (λ b. b.items) _ _ c.args.place _ c.self.invariant c.self.view_is (somewhere _ c.args.place c.requires.here))
+pub returns-then-place-len : goal.returns-then-place-len
+returns-then-place-len c =
+    set_flat c.self.inside.flat.items c.self.inside.rest _ c.args.place (Some c.args.slot) c.self.view_is c.of.result
+    (omega (arith, c.if-place-len.true, c.len.ensures, c.self.inside.flat.ok)) c.of.ensures
 
-pub index_mut-requires-2 : goal.index_mut-requires-2
-index_mut-requires-2 c =
-    let d = c.index_mut.result.now in
-    let cell = has_cell (λ b. b.items) _ _ c.args.place _ c.self.invariant c.self.view_is (somewhere _ c.args.place c.requires.here) d c.requires.here in
-    omega (arith, ap (λ b. length b.items) c.index_mut.ensures.value, cell, d.ok)
-
-pub invariant_of-self : goal.invariant_of-self
-invariant_of-self c =
-    let d = c.index_mut.result.now in
-    let within = somewhere _ c.args.place c.requires.here in
-    let short = has_short (λ b. b.items) _ _ c.args.place _ c.self.invariant c.self.view_is within d in
-    changed_table (λ b. b.items) _ _ c.args.place _ c.self.invariant c.self.view_is within _ d
-    (λ k ne. get_or-set_other d.items (c.args.place % 64) k c.of.result None ne ∙ ap (λ b. get_or b.items k None) c.index_mut.ensures.value)
-    (omega (arith, length-set d.items (c.args.place % 64) c.of.result, ap (λ b. length b.items) c.index_mut.ensures.value, short))
-
-pub returns : goal.returns
-returns c =
-    let d = c.index_mut.result.now in
-    let within = somewhere _ c.args.place c.requires.here in
-    let cell : c.args.place % 64 < length d.items =
-    omega (arith, ap (λ b. length b.items) c.index_mut.ensures.value, has_cell (λ b. b.items) _ _ c.args.place _ c.self.invariant c.self.view_is within d c.requires.here) in
-    changed (λ b. b.items) _ _ c.args.place _ c.self.invariant c.self.view_is within _ d
-    (λ k ne. get_or-set_other d.items (c.args.place % 64) k c.of.result None ne ∙ ap (λ b. get_or b.items k None) c.index_mut.ensures.value)
-    (Some c.args.slot) (get_or-set_same d.items (c.args.place % 64) c.of.result None cell ∙ c.of.ensures)
+pub returns-else-place-len : goal.returns-else-place-len
+returns-else-place-len c =
+    set_rest c.self.inside.flat.items c.self.inside.rest _ c.args.place (Some c.args.slot) c.self.view_is c.len-else-place-len.result c.replace.new.self
+    (omega (arith, c.len-else-place-len.ensures, c.self.inside.flat.ok))
+    (omega (arith, c.if-place-len.false, c.len.ensures, c.len-else-place-len.ensures)) c.replace.ensures

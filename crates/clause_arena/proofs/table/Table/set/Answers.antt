@@ -1,28 +1,16 @@
-use Rattle.std.proofs.Common.{◌∙◌, ap, arith, Some, None, length, get_or}
-use Rattle.std.proofs.lemmas.Result.{on_ok_weaker, on_err_weaker}
-use Rattle.clause_arena.proofs.TableLemmas.{has_block, has_short, changed_table, changed, unchanged}
+use Rattle.std.proofs.Common.{arith, Some}
+use Rattle.std.proofs.lemmas.Result.{on_ok_weaker}
+use Rattle.clause_arena.proofs.TableLemmas.{set_flat, set_rest}
 use Rattle.clause_arena.proofs.table.Table.set.Goals as goal
 
-pub index_mut-requires : goal.index_mut-requires
-index_mut-requires c = omega (arith, has_block (λ b. b.items) _ _ c.args.place _ c.self.invariant c.self.view_is c.requires.here)
+pub returns-then-place-len-clause-ok : goal.returns-then-place-len-clause-ok
+returns-then-place-len-clause-ok c =
+    set_flat c.self.inside.flat.items c.self.inside.rest _ c.args.place (Some c.args.slot) c.self.view_is c.of.result
+    (omega (arith, c.if-place-len.true, c.len.ensures, c.self.inside.flat.ok)) c.of.ensures
 
-pub put-requires-clause-short : goal.put-requires-clause-short
-put-requires-clause-short c =
-    omega (arith, ap (λ b. length b.items) c.index_mut.ensures.value, has_short (λ b. b.items) _ _ c.args.place _ c.self.invariant c.self.view_is c.requires.here c.index_mut.result.now)
-
-pub invariant_of-self : goal.invariant_of-self
-invariant_of-self c =
-    changed_table (λ b. b.items) _ _ c.args.place _ c.self.invariant c.self.view_is c.requires.here c.put.new.block c.index_mut.result.now
-    (λ k ne. c.put.ensures.others k ne ∙ ap (λ b. get_or b.items k None) c.index_mut.ensures.value) c.put.ensures.short
-
-pub returns-clause-ok : goal.returns-clause-ok
-returns-clause-ok c = on_ok_weaker c.put.result
-    (λ here. changed (λ b. b.items) _ _ c.args.place _ c.self.invariant c.self.view_is c.requires.here c.put.new.block c.index_mut.result.now
-    (λ k ne. c.put.ensures.others k ne ∙ ap (λ b. get_or b.items k None) c.index_mut.ensures.value) (Some c.args.slot) here)
-    c.put.ensures.here
-
-pub returns-clause-err : goal.returns-clause-err
-returns-clause-err c = on_err_weaker c.put.result
-    (λ same. unchanged (λ b. b.items) _ _ c.args.place _ c.self.invariant c.self.view_is c.requires.here c.put.new.block c.index_mut.result.now
-    (same ∙ ap (λ b. b.items) c.index_mut.ensures.value))
-    c.put.ensures.err
+pub returns-else-place-len-clause-ok : goal.returns-else-place-len-clause-ok
+returns-else-place-len-clause-ok c = on_ok_weaker c.set.result
+    (set_rest c.self.inside.flat.items c.self.inside.rest _ c.args.place (Some c.args.slot) c.self.view_is c.len-else-place-len.result c.set.new.self
+    (omega (arith, c.len-else-place-len.ensures, c.self.inside.flat.ok))
+    (omega (arith, c.if-place-len.false, c.len.ensures, c.len-else-place-len.ensures)))
+    c.set.ensures.ok

@@ -2,8 +2,8 @@ use Rattle.std.proofs.Common.{◌∙◌, ◌≡◌, ◌++◌, ap, sym, arith, No
 use Rattle.std.proofs.lemmas.List.{get_or_past}
 use Rattle.clause_arena.specs.inner.Packing.{ref_of}
 use Rattle.clause_arena.specs.inner.Slots.{near_entries}
-use Rattle.clause_arena.proofs.TableLemmas.{none_stands, none_listed}
-use Rattle.clause_arena.proofs.table.list_block.Goals as goal
+use Rattle.clause_arena.proofs.BlocksLemmas.{none_stands, none_listed}
+use Rattle.clause_arena.proofs.blocks.list_block.Goals as goal
 
 pub returns-then-len-before-clause-same : goal.returns-then-len-before-clause-same
 returns-then-len-before-clause-same c k =

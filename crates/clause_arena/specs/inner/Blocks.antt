@@ -1,4 +1,4 @@
--- A table of slots, in blocks of 64 places.
+-- Slots in blocks of 64 places.
 use Rattle.std.specs.Prelude.{◌≡◌, ℕ, ◌*◌, ◌/◌, ◌%◌, ◌^◌, ◌≤◌, List, [], Option, None, All, length, map, slice_index_or}
 use Rattle.std.specs.List.{range_with_len}
 use Rattle.clause_arena.specs.declared.slot.Slot.{Slot}
@@ -12,7 +12,7 @@ abbrev pub slots_from : List (List (Option Slot)) → ℕ → ℕ → List (Opti
 slots_from blocks q count = map (slot_at blocks) (range_with_len q count)
 
 -- each of the first `len` places has a block, of which there are not too many, none has more cells than places, and nothing stands at a later place
-pub record IsTable (len : ℕ) (blocks : List (List (Option Slot))) : Type 0 where
+pub record IsBlocks (len : ℕ) (blocks : List (List (Option Slot))) : Type 0 where
   pub covers : len ≤ 64 * length blocks
   pub few : length blocks ≤ 2 ^ 48
   pub short : All (λ cells. length cells ≤ 64) blocks

@@ -1,9 +1,9 @@
 use Rattle.std.proofs.Common.{◌<◌, ◌∙◌, ◌+◌, ◌*◌, ◌^◌, ◌++◌, ◌∷◌, [], ap, sym, subst, arith, None, map, length, length-append}
 use Rattle.std.proofs.lemmas.List.{length-map}
-use Rattle.clause_arena.specs.inner.Table.{slots_from, IsTable}
-use Rattle.clause_arena.proofs.TableLemmas.{grown, same_more, same_slots_from, table_more, table_longer}
-use Rattle.clause_arena.proofs.table.Table.grow.Goals as goal
-use Rattle.clause_arena.proofs.table.Table.grow.Goals.{then-self-len+else-len-ge-MOST+in_ok-push, else-self-len}
+use Rattle.clause_arena.specs.inner.Blocks.{slots_from, IsBlocks}
+use Rattle.clause_arena.proofs.BlocksLemmas.{grown, same_more, same_slots_from, blocks_more, blocks_longer}
+use Rattle.clause_arena.proofs.blocks.Blocks.grow.Goals as goal
+use Rattle.clause_arena.proofs.blocks.Blocks.grow.Goals.{then-self-len+else-len-ge-MOST+in_ok-push, else-self-len}
 
 pub invariant_of-self-2 : goal.invariant_of-self-2
 invariant_of-self-2 c = elim c.if-self-len.branch [
@@ -13,14 +13,14 @@ invariant_of-self-2 c = elim c.if-self-len.branch [
       let v = w.new-block.result in
       let few : length vs < 2 ^ 48 = omega (arith, r.blocks.ok, w.if-len-ge-MOST.false, w.len-then-self-len.ensures) in
       let room : r.len < 64 * length (vs ++ v ∷ []) = omega (arith, c.self.invariant.covers, length-map vs (λ b. b.items), length-append vs (v ∷ [])) in
-      subst (λ t. IsTable (t.len + 1) (map (λ b. b.items) t.blocks.items)) (sym w.self-inside-is)
-      (subst (λ bs. IsTable (r.len + 1) (map (λ b. b.items) bs)) (sym w.in_ok-push.ensures.items)
-      (table_longer (λ b. b.items) (vs ++ v ∷ []) r.len room (table_more (λ b. b.items) vs r.len v w.new-block.ensures.items few c.self.invariant)))
+      subst (λ t. IsBlocks (t.len + 1) (map (λ b. b.items) t.blocks.items)) (sym w.self-inside-is)
+      (subst (λ bs. IsBlocks (r.len + 1) (map (λ b. b.items) bs)) (sym w.in_ok-push.ensures.items)
+      (blocks_longer (λ b. b.items) (vs ++ v ∷ []) r.len room (blocks_more (λ b. b.items) vs r.len v w.new-block.ensures.items few c.self.invariant)))
   | else-self-len w ↦
       let r = c.self.inside in
       let room : r.len < 64 * length r.blocks.items = omega (arith, w.if-self-len.false, c.len.ensures, r.blocks.ok) in
-      subst (λ t. IsTable (t.len + 1) (map (λ b. b.items) t.blocks.items)) (sym w.self-inside-is)
-      (table_longer (λ b. b.items) r.blocks.items r.len room c.self.invariant)
+      subst (λ t. IsBlocks (t.len + 1) (map (λ b. b.items) t.blocks.items)) (sym w.self-inside-is)
+      (blocks_longer (λ b. b.items) r.blocks.items r.len room c.self.invariant)
 ]
 
 pub returns-clause-ok : goal.returns-clause-ok

@@ -1,7 +1,7 @@
 use Rattle.std.proofs.Common.{◌≡◌, ◌+◌, ◌++◌, map, drop}
 use Rattle.clause_arena.specs.inner.Packing.{ref_of}
 use Rattle.clause_arena.specs.inner.Slots.{near_entries}
-use Rattle.clause_arena.proofs.table.list_cells.Given as goal
+use Rattle.clause_arena.proofs.blocks.list_cells.Given as goal
 
 abbrev pub invariant-loop-i : goal.invariant-loop-i
 invariant-loop-i l =

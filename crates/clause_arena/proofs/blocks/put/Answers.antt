@@ -1,6 +1,6 @@
 use Rattle.std.proofs.Common.{◌∙◌, ◌-◌, ◌++◌, ap, None, take, replicate, get_or, get_or-set_other}
-use Rattle.clause_arena.proofs.TableLemmas.{made_whole}
-use Rattle.clause_arena.proofs.table.put.Goals as goal
+use Rattle.clause_arena.proofs.BlocksLemmas.{made_whole}
+use Rattle.clause_arena.proofs.blocks.put.Goals as goal
 
 pub returns-clause-others : goal.returns-clause-others
 returns-clause-others c k ne =

@@ -1,6 +1,6 @@
 use Rattle.std.proofs.Common.{◌%◌, ◌∙◌, ap, arith, None, get_or}
-use Rattle.clause_arena.proofs.TableLemmas.{has_block, stands}
-use Rattle.clause_arena.proofs.table.Table.get.Goals as goal
+use Rattle.clause_arena.proofs.BlocksLemmas.{has_block, stands}
+use Rattle.clause_arena.proofs.blocks.Blocks.get.Goals as goal
 
 pub index-requires : goal.index-requires
 index-requires c = omega (arith, has_block (λ b. b.items) _ _ c.args.place _ c.self.invariant c.self.view_is c.requires)
