@@ -28,26 +28,16 @@ fn count(text: &[u8], byte: u8) -> usize
     text.iter().filter(|b| **b == byte).count()
 }
 
-/// What a fragment is made of.
-#[derive(Clone, Copy)]
-pub(crate) struct Counts {
-    pub(crate) lines: usize,
-    /// How many of them are deletions.
-    pub(crate) deletions: usize,
-}
-
-/// Counts a fragment's lines by their LFs, and those that delete by the letter `d`, which no other line has.
-pub(crate) fn count_lines(alloc: Global, text: &PackedText) -> Result<Counts, AllocError>
-    ensures { IfOk result (λ counts. counts.lines ≡ count_by (λ b. b == lf) text.now) }
+/// Counts a text's lines by their LFs.
+pub(crate) fn count_lines(alloc: Global, text: &PackedText) -> Result<usize, AllocError>
+    ensures { IfOk result (λ lines. lines ≡ count_by (λ b. b == lf) text.now) }
 {
     let mut lines = 0usize;
-    let mut deletions = 0usize;
     let mut from = 0usize;
     while from < text.len() {
         let block = text.read(alloc, from, BLOCK)?;
         lines += count(&block, b'\n');
-        deletions = deletions.saturating_add(count(&block, b'd'));
         from += block.len();
     }
-    Ok(Counts { lines, deletions })
+    Ok(lines)
 }

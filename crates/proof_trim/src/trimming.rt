@@ -5,27 +5,52 @@ ghost use Rattle.std.specs.Bool.{OnTrue};
 ghost use Rattle.lrat_text.specs.Log.{Closes};
 ghost use Rattle.proof_trim.specs.Trimming.{HasAtMost, Trims};
 
+use crate::backwards::LinesBack;
 use crate::lines::count_lines;
 use crate::needs::Needs;
 use crate::rewriting::rewrite;
 use dimacs::{Base, Lit};
 use lrat_check::check_packed_fragment;
-use lrat_text::{PackedText, StepBuffer, TextFault};
+use lrat_text::{PackedText, StepBuffer, StepRef, TextFault, read_line};
 use std::alloc::{AllocError, Global};
 
 /// A fragment with fewer lemmas than this needs nearly all of them.
 const MANY: usize = 20_000;
 
+/// How many lemmas a fragment has, told by the number of its last line: a search numbers them on behind the base, and ends with one. A text that
+/// says more than it has room for is none of a search.
+fn count_lemmas(
+    alloc: Global,
+    base: u64,
+    buffer: &mut StepBuffer,
+    text: &PackedText,
+) -> Result<Option<usize>, TextFault> {
+    let mut lines = LinesBack::of(alloc, text);
+    if !lines.back()? {
+        return Ok(None);
+    }
+    read_line(buffer, lines.line())?;
+    let StepRef::Add { id, .. } = buffer.as_ref() else {
+        return Ok(None);
+    };
+    let count = id.saturating_sub(base) as usize;
+    if count > text.len() {
+        return Ok(None);
+    }
+    Ok(Some(count))
+}
+
 /// The fragment without the lemmas that its last one does not need, where it has many, and at least a quarter of them go.
 fn shorter(alloc: Global, base: u64, text: &PackedText) -> Result<Option<PackedText>, TextFault>
     requires { base < 2 ^ 40 }
 {
-    let counts = count_lines(alloc, text)?;
-    let count = counts.lines.saturating_sub(counts.deletions);
+    let mut buffer = StepBuffer::new(alloc);
+    let Some(count) = count_lemmas(alloc, base, &mut buffer, text)? else {
+        return Ok(None);
+    };
     if count < MANY {
         return Ok(None);
     }
-    let mut buffer = StepBuffer::new(alloc);
     let Some(mut needs) = Needs::of(alloc, base, count, &mut buffer, text)? else {
         return Ok(None);
     };
@@ -45,9 +70,8 @@ fn is_fragment(
 ) -> Result<bool, AllocError>
     ensures { IfOk result (λ is. OnTrue is (Closes base.now cube.now text.now × HasAtMost most text.now)) }
 {
-    let counts = count_lines(alloc, text)?;
-    let lines = counts.lines as u64;
-    if lines > most {
+    let lines = count_lines(alloc, text)?;
+    if lines as u64 > most {
         return Ok(false);
     }
     match check_packed_fragment(alloc, base, cube, text) {
