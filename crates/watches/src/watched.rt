@@ -17,6 +17,7 @@ mod outcome;
 mod places;
 mod renewal;
 mod replacement;
+mod starts;
 mod sweeping;
 mod wake;
 mod walk;
@@ -39,7 +40,8 @@ const MOST_VARS: u32 = 2_147_483_647;
 /// Behind this many places there are numbers of 32 bits for two more.
 const MOST_PLACES: usize = 4_294_967_294;
 
-/// Watches two literals of each clause, and looks at the clause only where one of them becomes false.
+/// Watches two literals of each clause, and looks at the clause only where one of them becomes false. The look for another literal
+/// to watch begins at the clause's place in `starts`, where its last one ended.
 ///
 /// A clause that is detached is only marked, in `live`; the next `propagate` takes out all that are marked in one sweep, and makes the
 /// chains anew.
@@ -48,6 +50,7 @@ pub struct Watched {
     places: Vec<Place>,
     clauses: Vec<Ref>,
     live: Vec<bool>,
+    starts: Vec<u32>,
     base: usize,
     head: usize,
     stale: bool,
@@ -73,6 +76,7 @@ impl Watched {
             places: Vec::new(alloc),
             clauses: Vec::new(alloc),
             live: Vec::new(alloc),
+            starts: Vec::new(alloc),
             base: 0,
             head: 0,
             stale: false,
@@ -100,6 +104,7 @@ impl Propagator for Watched {
         self.places = places;
         self.clauses.clear();
         self.live.clear();
+        self.starts.clear();
         self.base = base;
         self.head = 0;
         self.stale = false;
@@ -113,10 +118,12 @@ impl Propagator for Watched {
         self.clauses.reserve(1)?;
         self.live.reserve(1)?;
         self.places.reserve(2)?;
+        self.starts.reserve(1)?;
         put_best_first(arena, trail, at);
         let pair = first_two(arena.clause(at));
         self.clauses.push_reserved(at);
         self.live.push_reserved(true);
+        self.starts.push_reserved(0);
         append(&mut self.places, pair.one, pair.two);
         Ok(())
     }
@@ -146,6 +153,7 @@ impl Propagator for Watched {
             &mut self.places,
             &mut self.clauses,
             &mut self.live,
+            &mut self.starts,
             base,
             arena,
             trail,
@@ -156,6 +164,7 @@ impl Propagator for Watched {
             &mut self.places,
             &self.clauses,
             base,
+            &mut self.starts,
             arena,
             trail,
             &mut head,

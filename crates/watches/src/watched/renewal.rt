@@ -9,6 +9,7 @@ ghost use Rattle.watches.specs.inner.Ready.{AreNamed, AreWatches};
 
 use crate::trail::Trail;
 use crate::watched::places::{Place, PlaceId, append};
+use crate::watched::starts::sweep_starts;
 use crate::watched::sweeping::sweep;
 use clause_arena::{Arena, Ref};
 use dimacs::{Lit, Var};
@@ -76,6 +77,7 @@ pub(crate) fn renew(
     places: &mut Vec<Place>,
     clauses: &mut Vec<Ref>,
     live: &mut Vec<bool>,
+    starts: &mut Vec<u32>,
     base: usize,
     arena: &Arena,
     trail: &Trail,
@@ -96,6 +98,7 @@ pub(crate) fn renew(
     if !stale {
         return head;
     }
+    sweep_starts(starts, live);
     sweep(clauses, live);
     chain_all(places, clauses, base, arena, trail);
     trail.len()

@@ -15,17 +15,27 @@ pub(crate) struct Found {
     pub(crate) literal: Lit,
 }
 
-/// The place of a literal that is not false, behind the first two, with that literal.
+/// The place of a literal that is not false, behind the first two, with that literal. The look begins at a place, and ends with the
+/// literals before it.
 #[inline(always)]
-pub(crate) fn find_watch(literals: &[Lit], trail: &Trail) -> Option<Found>
+pub(crate) fn find_watch(literals: &[Lit], trail: &Trail, from: usize) -> Option<Found>
     requires { All (IsWithin trail.now.vars) literals.now }
     ensures { FindsWatch trail.now.entries literals.now result }
 {
-    for k in 2..literals.len() {
+    let len = literals.len();
+    for k in from.max(2)..len {
         let literal = literals[k];
         match trail.value(literal) {
             Truth::False => {}
             _ => return Some(Found { place: k, literal }),
+        }
+    }
+    let end = from.min(len);
+    for j in 2..end {
+        let literal = literals[j];
+        match trail.value(literal) {
+            Truth::False => {}
+            _ => return Some(Found { place: j, literal }),
         }
     }
     None

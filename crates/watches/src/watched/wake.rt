@@ -88,7 +88,7 @@ fn wake_long(
         }
     }
     let clause = owner_of(clauses, base, here);
-    match find_watch(arena.clause(clause), trail) {
+    match find_watch(arena.clause(clause), trail, 0) {
         Some(found) => {
             arena.swap(clause, here % 2, found.place);
             let next = next_place(places, here);

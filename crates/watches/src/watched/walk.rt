@@ -16,6 +16,7 @@ use crate::truth::Truth;
 use crate::watched::outcome::Outcome;
 use crate::watched::places::{Place, next_place, other_literal, owner_of, relink};
 use crate::watched::replacement::find_watch;
+use crate::watched::starts::{keep_start, start_of};
 use clause_arena::{Arena, Ref};
 use dimacs::Lit;
 
@@ -25,6 +26,7 @@ fn visit(
     places: &mut [Place],
     clauses: &[Ref],
     base: usize,
+    starts: &mut [u32],
     arena: &mut Arena,
     trail: &mut Trail,
     head: usize,
@@ -48,8 +50,11 @@ fn visit(
         _ => {}
     }
     let clause = owner_of(clauses, base, here);
-    match find_watch(arena.clause(clause), trail) {
+    let owner = (here - base) / 2;
+    let from = start_of(starts, owner);
+    match find_watch(arena.clause(clause), trail, from) {
         Some(found) => {
+            keep_start(starts, owner, found.place);
             arena.swap(clause, here % 2, found.place);
             let next = next_place(places, here);
             let head = found.literal.index();
@@ -84,6 +89,7 @@ pub(crate) fn walk(
     places: &mut [Place],
     clauses: &[Ref],
     base: usize,
+    starts: &mut [u32],
     arena: &mut Arena,
     trail: &mut Trail,
     head: usize,
@@ -114,6 +120,7 @@ pub(crate) fn walk(
             &mut *places,
             clauses,
             base,
+            &mut *starts,
             &mut *arena,
             &mut *trail,
             head,

@@ -15,16 +15,16 @@ use Rattle.watches.specs.inner.Ready.{AreNamed}
 use Rattle.watches.proofs.DetachLemmas.{all_attached}
 use Rattle.watches.proofs.watched.WatchedPropagator.propagate.Goals as goal
 
-was : (c : goal.After-self-3-1) → attached_of c.self.inside.clauses.items c.self.inside.live.items ≡ c.args.self.now.clauses
+was : (c : goal.After-self-4-1) → attached_of c.self.inside.clauses.items c.self.inside.live.items ≡ c.args.self.now.clauses
 was c = ap (λ (w : Watches). w.clauses) c.self.view_is
 
-all : (c : goal.After-self-3-1) → attached_of c.renew-head.new.clauses.items c.renew-head.new.live.items ≡ c.renew-head.new.clauses.items
+all : (c : goal.After-self-4-1) → attached_of c.renew-head.new.clauses.items c.renew-head.new.live.items ≡ c.renew-head.new.clauses.items
 all c = all_attached c.renew-head.new.clauses.items c.renew-head.new.live.items c.renew-head.ensures.marked c.renew-head.ensures.live
 
-attached : (c : goal.After-self-3-1) → numbers c.deref.result.now ≡ numbers c.args.self.now.clauses
+attached : (c : goal.After-self-4-1) → numbers c.deref.result.now ≡ numbers c.args.self.now.clauses
 attached c = ap numbers (c.deref.ensures.value ∙ c.renew-head.ensures.clauses ∙ was c)
 
-items : (c : goal.After-self-3-1) → (with_items c.renew-head.new.places c.drain-found.new.places).items ≡ c.drain-found.new.places
+items : (c : goal.After-self-4-1) → (with_items c.renew-head.new.places c.drain-found.new.places).items ≡ c.drain-found.new.places
 items c = with_items_is c.renew-head.new.places c.drain-found.new.places (omega (arith, c.drain-found.auto.places, c.deref_mut.ensures.len))
 
 pub renew-head-requires-clause-here : goal.renew-head-requires-clause-here

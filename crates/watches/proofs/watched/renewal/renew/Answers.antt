@@ -21,17 +21,17 @@ returns-then-not-stale-clause-watching c =
 pub chain_all-requires-clause-room : goal.chain_all-requires-clause-room
 chain_all-requires-clause-room c =
     let w = c.requires.watches in
-    omega (arith, c.args.places.now.ok.0, c.args.places.now.ok.1, w.whole, attached_fewer c.args.clauses.now.items c.args.live.now.items, ap length c.sweep.ensures.clauses, ap length c.deref.ensures.value)
+    omega (arith, c.args.places.now.ok.0, c.args.places.now.ok.1, w.whole, attached_fewer c.args.clauses.now.items c.args.live.now.items, ap length c.sweep.ensures.clauses, ap length c.deref-2.ensures.value)
 
 pub chain_all-requires-clause-few : goal.chain_all-requires-clause-few
 chain_all-requires-clause-few c =
     let w = c.requires.watches in
-    omega (arith, w.whole, w.few, attached_fewer c.args.clauses.now.items c.args.live.now.items, ap length c.sweep.ensures.clauses, ap length c.deref.ensures.value)
+    omega (arith, w.whole, w.few, attached_fewer c.args.clauses.now.items c.args.live.now.items, ap length c.sweep.ensures.clauses, ap length c.deref-2.ensures.value)
 
 pub chain_all-requires-clause-here : goal.chain_all-requires-clause-here
-chain_all-requires-clause-here c = subst (All (IsHere c.args.arena.now c.args.trail.now.vars)) (sym (c.deref.ensures.value ∙ c.sweep.ensures.clauses)) c.requires.here
+chain_all-requires-clause-here c = subst (All (IsHere c.args.arena.now c.args.trail.now.vars)) (sym (c.deref-2.ensures.value ∙ c.sweep.ensures.clauses)) c.requires.here
 
 pub returns-clause-no_more : goal.returns-clause-no_more
 returns-clause-no_more c =
     let w = c.requires.watches in
-    omega (arith, w.whole, attached_fewer c.args.clauses.now.items c.args.live.now.items, ap length c.sweep.ensures.clauses, ap length c.deref.ensures.value, c.chain_all.ensures.whole)
+    omega (arith, w.whole, attached_fewer c.args.clauses.now.items c.args.live.now.items, ap length c.sweep.ensures.clauses, ap length c.deref-2.ensures.value, c.chain_all.ensures.whole)
