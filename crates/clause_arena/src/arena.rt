@@ -58,10 +58,16 @@ impl Arena {
         ensures err { OnErr result (self.new ≡ self.old) }
     {
         let place = self.literals.len();
-        let len = literals.len();
+        let Some(slot) = Slot::of(place, literals.len()) else {
+            return Err(AllocError);
+        };
         self.literals.extend_from_slice(literals)?;
-        match self.index.insert(number, Slot { place, len }) {
-            Ok(()) => Ok(Ref { number, place, len }),
+        match self.index.insert(number, slot) {
+            Ok(()) => Ok(Ref {
+                number,
+                place: slot.place,
+                len: slot.len,
+            }),
             Err(error) => {
                 self.literals.truncate(place);
                 Err(error)

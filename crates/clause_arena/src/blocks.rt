@@ -43,7 +43,7 @@ impl Model for Blocks {
 fn put(block: &mut Vec<Cell>, place: usize, slot: Slot) -> Result<(), AllocError>
     requires within { place < 64 }
     requires short { length block.old.items ≤ 64 }
-    requires room { slot.place < 2 ^ 64 - 1 }
+    requires room { slot.place < 2 ^ 32 - 1 }
     ensures here { OnOk result (slice_index_or block.new.items place None ≡ Some slot) }
     ensures others { (k : ℕ) → k ≢ place → slice_index_or block.new.items k None ≡ slice_index_or block.old.items k None }
     ensures err { OnErr result (block.new.items ≡ block.old.items) }
@@ -136,7 +136,7 @@ impl Blocks {
     /// Puts a slot at a place. All stays as it is where the place's block would have to be made and memory is refused.
     pub(crate) fn set(&mut self, place: usize, slot: Slot) -> Result<(), AllocError>
         requires here { place < length self.old }
-        requires room { slot.place < 2 ^ 64 - 1 }
+        requires room { slot.place < 2 ^ 32 - 1 }
         ensures ok { OnOk result (self.new ≡ slice_set self.old place (Some slot)) }
         ensures err { OnErr result (self.new ≡ self.old) }
     {
@@ -146,7 +146,7 @@ impl Blocks {
     /// Puts another slot at a place where one stands. It takes no memory.
     pub(crate) fn replace(&mut self, place: usize, slot: Slot)
         requires here { IsSome (slice_index_or self.old place None) }
-        requires room { slot.place < 2 ^ 64 - 1 }
+        requires room { slot.place < 2 ^ 32 - 1 }
         ensures { self.new ≡ slice_set self.old place (Some slot) }
     {
         self.blocks[place / BLOCK][place % BLOCK] = Cell::of(slot);

@@ -58,7 +58,7 @@ impl Index {
 
     /// Puts a slot under a number.
     pub(crate) fn insert(&mut self, number: u64, slot: Slot) -> Result<(), AllocError>
-        requires { slot.place < 2 ^ 64 - 1 }
+        requires { slot.place < 2 ^ 32 - 1 }
         ensures ok { OnOk result (self.new ≡ insert self.old number slot) }
         ensures err { OnErr result (self.new ≡ self.old) }
     {
@@ -77,7 +77,7 @@ impl Index {
     /// Puts another slot under a number that has one.
     pub(crate) fn replace(&mut self, number: u64, slot: Slot)
         requires live { IsSome (get self.old number) }
-        requires room { slot.place < 2 ^ 64 - 1 }
+        requires room { slot.place < 2 ^ 32 - 1 }
         ensures { self.new ≡ insert self.old number slot }
     {
         replace(&mut self.near, &mut self.far, number, slot);
@@ -86,7 +86,7 @@ impl Index {
     /// Puts each clause where it has moved.
     pub(crate) fn move_all(&mut self, moves: &[(Ref, Ref)])
         requires live { (i : ℕ) (d : Ref × Ref) → i < length moves.now → IsSome (get self.old (slice_index_or moves.now i d).1.number) }
-        requires room { (i : ℕ) (d : Ref × Ref) → i < length moves.now → (slice_index_or moves.now i d).1.place < 2 ^ 64 - 1 }
+        requires room { (i : ℕ) (d : Ref × Ref) → i < length moves.now → (slice_index_or moves.now i d).1.place < 2 ^ 32 - 1 }
         ensures { self.new ≡ moved_by self.old moves.now }
     {
         for (_, to) in moves {

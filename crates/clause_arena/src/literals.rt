@@ -13,7 +13,8 @@ pub(crate) fn literals_at(literals: &[Lit], at: Ref) -> &[Lit]
     requires { IsPlaced literals.now (slot_of at) }
     ensures { result.now ≡ clause_at literals.now (slot_of at) }
 {
-    &literals[at.place..at.place + at.len]
+    let place = at.place as usize;
+    &literals[place..place + at.len as usize]
 }
 
 /// Exchanges two literals of the clause at a reference.
@@ -24,5 +25,6 @@ pub(crate) fn exchange(literals: &mut [Lit], at: Ref, i: usize, j: usize)
     requires j_in { j < at.len }
     ensures { literals.new ≡ swap literals.old (at.place + i) (at.place + j) }
 {
-    literals.swap(at.place + i, at.place + j);
+    let place = at.place as usize;
+    literals.swap(place + i, place + j);
 }

@@ -7,8 +7,8 @@ ghost use Rattle.std.specs.Prelude.{◌≡◌};
 #[derive(Clone, Copy, Debug, PartialEq, Eq)]
 pub struct Ref {
     pub(crate) number: u64,
-    pub(crate) place: usize,
-    pub(crate) len: usize,
+    pub(crate) place: u32,
+    pub(crate) len: u32,
 }
 
 impl Ref {

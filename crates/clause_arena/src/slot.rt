@@ -1,22 +1,42 @@
 //! Slots, and the cells of a table of slots.
 
-ghost use Rattle.std.specs.Prelude.{◌≡◌, ◌<◌, ◌-◌, ◌^◌, Some, None};
+ghost use Rattle.std.specs.Prelude.{◌≡◌, ◌<◌, ◌-◌, ◌^◌, Some, None, IfSome};
 
 use std::marker::Model;
 
-/// Where a clause's literals stand.
+/// No clause stands at this place or behind it, and none has more literals.
+pub(crate) const MOST: usize = u32::MAX as usize;
+
+/// Where a clause's literals stand. Numbers of 32 bits take half the room, and 16 GB of literals are within them.
 #[derive(Clone, Copy)]
 pub(crate) struct Slot {
-    pub(crate) place: usize,
-    pub(crate) len: usize,
+    pub(crate) place: u32,
+    pub(crate) len: u32,
 }
 
-/// A slot of a table, or none. No vector is so long that a clause could stand at the greatest place, so this place marks a
-/// free cell, which takes no more room than a slot; an `Option` would take half as much again.
+impl Slot {
+    /// The slot of so many literals from a place on, where there is one.
+    pub(crate) fn of(place: usize, len: usize) -> Option<Slot>
+        ensures place { IfSome result (λ slot. slot.place ≡ place) }
+        ensures len { IfSome result (λ slot. slot.len ≡ len) }
+        ensures room { IfSome result (λ slot. slot.place < 2 ^ 32 - 1) }
+    {
+        if place >= MOST || len > MOST {
+            return None;
+        }
+        Some(Slot {
+            place: place as u32,
+            len: len as u32,
+        })
+    }
+}
+
+/// A slot of a table, or none. No clause stands at the greatest place, so this place marks a free cell, which takes no more room
+/// than a slot; an `Option` would take half as much again.
 #[derive(Clone, Copy)]
 pub(crate) struct Cell {
-    place: usize,
-    len: usize,
+    place: u32,
+    len: u32,
 }
 
 impl Model for Cell {
@@ -42,14 +62,14 @@ impl Cell {
         ensures { result ≡ None }
     {
         Cell {
-            place: usize::MAX,
+            place: u32::MAX,
             len: 0,
         }
     }
 
     /// The cell of a slot.
     pub(crate) fn of(slot: Slot) -> Cell
-        requires { slot.place < 2 ^ 64 - 1 }
+        requires { slot.place < 2 ^ 32 - 1 }
         ensures { result ≡ Some slot }
     {
         Cell {
@@ -62,7 +82,7 @@ impl Cell {
     pub(crate) fn slot(self) -> Option<Slot>
         ensures { result ≡ self }
     {
-        if self.place == usize::MAX {
+        if self.place == u32::MAX {
             return None;
         }
         Some(Slot {

@@ -47,7 +47,7 @@ pub(crate) fn find(near: &Table, far: &Far, number: u64) -> Option<Slot>
 fn put_near(near: &mut Table, far: &Far, place: usize, slot: Slot) -> Result<(), AllocError>
     requires apart { IsApart near.old far.now }
     requires here { place < length near.old }
-    requires room { slot.place < 2 ^ 64 - 1 }
+    requires room { slot.place < 2 ^ 32 - 1 }
     ensures ok { OnOk result (slots_of near.new far.now ≡ insert (slots_of near.old far.now) place slot) }
     ensures err { OnErr result (slots_of near.new far.now ≡ slots_of near.old far.now) }
     ensures apart { IsApart near.new far.now }
@@ -62,7 +62,7 @@ fn replace_near(near: &mut Table, far: &Far, place: usize, slot: Slot)
     requires apart { IsApart near.old far.now }
     requires here { place < length near.old }
     requires live { IsSome (slice_index_or near.old place None) }
-    requires room { slot.place < 2 ^ 64 - 1 }
+    requires room { slot.place < 2 ^ 32 - 1 }
     ensures after { slots_of near.new far.now ≡ insert (slots_of near.old far.now) place slot }
     ensures apart { IsApart near.new far.now }
     ensures len { length near.new ≡ length near.old }
@@ -173,7 +173,7 @@ pub(crate) fn put(
     slot: Slot,
 ) -> Result<(), AllocError>
     requires apart { IsApart near.old far.old }
-    requires room { slot.place < 2 ^ 64 - 1 }
+    requires room { slot.place < 2 ^ 32 - 1 }
     ensures ok { OnOk result (slots_of near.new far.new ≡ insert (slots_of near.old far.old) number slot) }
     ensures err { OnErr result (slots_of near.new far.new ≡ slots_of near.old far.old) }
     ensures apart { IsApart near.new far.new }
@@ -206,7 +206,7 @@ pub(crate) fn take(near: &mut Table, far: &mut Far, number: u64)
 pub(crate) fn replace(near: &mut Table, far: &mut Far, number: u64, slot: Slot)
     requires apart { IsApart near.old far.old }
     requires live { IsSome (get (slots_of near.old far.old) number) }
-    requires room { slot.place < 2 ^ 64 - 1 }
+    requires room { slot.place < 2 ^ 32 - 1 }
     ensures after { slots_of near.new far.new ≡ insert (slots_of near.old far.old) number slot }
     ensures apart { IsApart near.new far.new }
     ensures len { length near.new ≡ length near.old }

@@ -67,7 +67,7 @@ impl Table {
     /// Puts a slot at a place. The table stays as it is where the place's block would have to be made and memory is refused.
     pub(crate) fn set(&mut self, place: usize, slot: Slot) -> Result<(), AllocError>
         requires here { place < length self.old }
-        requires room { slot.place < 2 ^ 64 - 1 }
+        requires room { slot.place < 2 ^ 32 - 1 }
         ensures ok { OnOk result (self.new ≡ slice_set self.old place (Some slot)) }
         ensures err { OnErr result (self.new ≡ self.old) }
     {
@@ -82,7 +82,7 @@ impl Table {
     /// Puts another slot at a place where one stands. It takes no memory.
     pub(crate) fn replace(&mut self, place: usize, slot: Slot)
         requires here { IsSome (slice_index_or self.old place None) }
-        requires room { slot.place < 2 ^ 64 - 1 }
+        requires room { slot.place < 2 ^ 32 - 1 }
         ensures { self.new ≡ slice_set self.old place (Some slot) }
     {
         if place < self.flat.len() {

@@ -7,7 +7,7 @@ use Rattle.clause_arena.specs.declared.slot.Cell.TheInside.{Inside}
 
 -- the place that marks a free cell
 abbrev pub free_place : ℕ
-free_place = 2 ^ 64 - 1
+free_place = 2 ^ 32 - 1
 
 abbrev pub slot_in : Inside → Option Slot
 slot_in c = cond (nat_eq c.place free_place) None (Some (record { place = c.place; len = c.len }))

@@ -36,8 +36,8 @@ move_all-requires-clause-room c =
     let is = lent c.deref-in-Ok.result.now c.args.moved.now.items (moves_from 0 (refs_of c.self.inside.index)) c.len-before.result before
     (c.deref-in-Ok.ensures.value ∙ c.in-Ok.ensures.moves ∙ ap (λ xs. c.args.moved.now.items ++ moves_from 0 xs) refs) in
     let literals = c.in-Ok.ensures.literals ∙ ap (λ ws. gathered ws c.deref-2.result.now) c.deref.ensures.value ∙ ap (gathered c.self.inside.literals.items) refs in
-    let P : List (Ref × Ref) → Type 0 = λ xs. (i : ℕ) (d : Ref × Ref) → i < length xs → (get_or xs i d).1.place < 18446744073709551615 in
-    subst P (sym is) (λ i d lt. omega (arith, moves_placed c.self.inside.literals.items c.self.inside.index c.self.invariant i d lt, ap length literals, c.in-Ok.fresh.small))
+    let P : List (Ref × Ref) → Type 0 = λ xs. (i : ℕ) (d : Ref × Ref) → i < length xs → (get_or xs i d).1.place < 4294967295 in
+    subst P (sym is) (λ i d lt. omega (arith, moves_placed c.self.inside.literals.items c.self.inside.index c.self.invariant i d lt, ap length literals, c.in-Ok.fresh.ok.0, c.in-Ok.ensures.few))
 
 pub invariant_of-self-in-Ok : goal.invariant_of-self-in-Ok
 invariant_of-self-in-Ok c =
