@@ -9,9 +9,11 @@ each, and ends with status 1 at the first that gives another answer. Needs gcc: 
 is asked of `malloc` and `realloc`.
 """
 import os
+import socket
 import subprocess
 import sys
 import tempfile
+import time
 
 SECONDS = 60
 
@@ -65,6 +67,10 @@ FILES = {
     "groups.lrat": "5 3 -1 -2 0 0\n6 -3 1 0 -5 0\n7 -3 2 0 -5 0\n8 2 0 1 2 0\n9 0 8 3 4 0\n",
     "unfinished.lrat": "5 2 0 1 2 0\n",
     "halves.icnf": "p inccnf\n1 2 0\n-1 2 0\n1 -2 0\n-1 -2 0\na 1 0\na -1 0\n",
+    "left.lrat": "5 -1 0 2 4 0\n",
+    "right.lrat": "5 1 0 1 3 0\n",
+    "leaf.lrat": "6 0 5 2 4 0\n",
+    "answer": "c a comment\ns SATISFIABLE\nv 1 -2 0\n",
     "kept": "what a file held before\n",
 }
 
@@ -90,7 +96,21 @@ RUNS = [
     ("solve --workers 1 --depth 1 --defs 2 four.cnf kept", "s UNSATISFIABLE", 20),
     ("solve --cubes halves.icnf eight.cnf", "c cubes of another formula", 1),
     ("drill --seed 7 --turns 30 four.cnf", "c turns 30 refused 0 disagreements 0", 0),
+    ("cubes --cubes halves.icnf --split 1 four.cnf", "p inccnf", 0),
+    ("leaf --cubes halves.icnf --leaf 1 four.cnf", "p cnf 2 5", 0),
+    ("refute --cubes halves.icnf --leaf 1 four.cnf kept", "c leaf 1 closed", 20),
+    ("lift --cubes halves.icnf --leaf 1 four.cnf leaf.lrat kept", "c leaf 1 lifted", 0),
+    ("join --cubes halves.icnf four.cnf kept left.lrat right.lrat", "s UNSATISFIABLE", 20),
+    ("join --cubes halves.icnf units.cnf kept left.lrat", "c cubes of another formula", 1),
+    ("model units.cnf answer", "s VERIFIED", 0),
 ]
+
+# A coordinator and its one worker as processes. In turn each allocation of the one is refused, and the other has ample memory.
+SERVE = "serve --port %d --workers 1 --depth 1 four.cnf kept"
+WORK = "work --port %d four.cnf"
+
+# What either may answer beside its answer with ample memory: no verdict was held, no link could be opened, and want of memory.
+WITHOUT_VERDICT = [(0, "s UNKNOWN\n"), (1, "c cannot open links\n"), (1, "c no memory\n")]
 
 # The calls that `alloc_trials` makes, and the last line of what it prints with ample memory.
 CALLS = [
@@ -222,6 +242,86 @@ def try_program(trials, program, only):
             raise Differs("%s: %r" % (run, ample[:2]))
 
 
+class Pair:
+    """A coordinator and its worker, one of which meets a refused allocation."""
+
+    def __init__(self, trials, program):
+        self.trials = trials
+        self.program = program
+        with socket.socket() as found:
+            found.bind(("127.0.0.1", 0))
+            self.port = found.getsockname()[1]
+
+    def start(self, words, refused):
+        return subprocess.Popen(
+            [self.program, *(words % self.port).split()],
+            cwd=self.trials.folder,
+            env={"LD_PRELOAD": self.trials.counter, "REFUSED_ALLOCATION": str(refused)},
+            stdout=subprocess.PIPE,
+            stderr=subprocess.PIPE,
+        )
+
+    def is_open(self):
+        """Whether the coordinator listens at its port. The look is no connection, which would take the worker's turn."""
+        with open("/proc/net/tcp") as table:
+            rows = [row.split() for row in table.readlines()[1:]]
+        return any(row[1].endswith(":%04X" % self.port) and row[3] == "0A" for row in rows)
+
+    def answers(self, at_serve, at_work):
+        """What both answer, and how many allocations each asked for."""
+        self.trials.lay()
+        serve = self.start(SERVE, at_serve)
+        while serve.poll() is None and not self.is_open():
+            time.sleep(0.001)
+        work = self.start(WORK, at_work)
+        answers = [ended(work, SECONDS)]
+        # Without memory the worker may have ended before it was linked, and a coordinator waits for one.
+        waits = answers[0][0] in WITHOUT_VERDICT
+        answers.append(ended(serve, 0.3 if waits else SECONDS, waits))
+        return answers[1], answers[0], self.trials.found()
+
+
+def ended(process, seconds, may_wait=False):
+    """What a process answers, and how many allocations it asked for. One that may wait for ever is ended, and has no verdict."""
+    try:
+        out, asked = process.communicate(timeout=seconds)
+    except subprocess.TimeoutExpired:
+        process.kill()
+        process.communicate()
+        if not may_wait:
+            raise
+        return WITHOUT_VERDICT[0], 0
+    return (process.returncode, out.decode()), int(asked)
+
+
+def try_pair(trials, program, only):
+    """Refuses each allocation of a coordinator, and then each one of its worker."""
+    if only not in SERVE + WORK:
+        return
+    pair = Pair(trials, program)
+    serve, work, files = pair.answers(0, 0)
+    if serve[0] != (20, "s UNSATISFIABLE\n") or work[0] != serve[0] or files == FILES:
+        raise Differs("%s: %r" % (SERVE, (serve, work)))
+    for name, at in [(SERVE, 0), (WORK, 1)]:
+        wanted, refused = 0, 1
+        while True:
+            numbers = [0, 0]
+            numbers[at] = refused
+            found = pair.answers(*numbers)
+            if found[at][1] < refused:
+                break
+            for answer in [found[0][0], found[1][0]]:
+                if answer != serve[0] and answer not in WITHOUT_VERDICT:
+                    raise Differs("%s, allocation %d refused: %r" % (name, refused, found[:2]))
+            if found[2] != (files if found[0][0] == serve[0] else FILES):
+                raise Differs("%s, allocation %d refused, changed a file" % (name, refused))
+            wanted += found[at][0] != serve[0]
+            refused += 1
+        if wanted == 0:
+            raise Differs("%s never wants memory" % name)
+        print("ok: %s: of %d allocations %d were wanted" % (name % pair.port, refused - 1, wanted), flush=True)
+
+
 def try_calls(trials, program, only):
     for call, line in CALLS:
         if only not in call:
@@ -242,6 +342,7 @@ def main(words):
         trials = Trials(folder)
         try:
             try_program(trials, programs[0], only)
+            try_pair(trials, programs[0], only)
             try_calls(trials, programs[1], only)
         except Differs as difference:
             print("DIFFERS: %s" % difference)

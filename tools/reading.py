@@ -2,44 +2,74 @@
 """Writes docs/READING.md: what a reader has to believe, counted from the contracts of public calls down.
 
     tools/reading.py           writes the page
-    tools/reading.py --check   fails where the page is stale
+    tools/reading.py --check   fails if the page is stale
 
-Both fail where a definition stands on the wrong side: `specs` holds what contracts of public calls name, directly or not, and
+Both fail if a definition stands on the wrong side: `specs` holds what contracts of public calls name, directly or not, and
 `specs/inner` what only private contracts, invariants and proofs name.
 """
 
 import re
 import sys
+import textwrap
 from pathlib import Path
 
 ROOT = Path(__file__).resolve().parent.parent
 PAGE = ROOT / "docs" / "READING.md"
 
-# The claims: a heading, a sentence, and the clauses of contracts that carry it.
+# The claims: a heading, a sentence, the clauses of contracts that carry it, and, where calls follow each other, the fact that one call
+# leaves to the next. One call gives it, others keep it, and the last one concludes from it: so the claim holds whatever that fact says.
 CLAIMS = [
     (
         "`s VERIFIED` is true",
-        "Where `check` ends with status 0, the input spells a formula that no assignment satisfies. Nothing of proofs has to be "
+        "If `check` ends with status 0, the input spells a formula that no assignment satisfies. Nothing of proofs has to be "
         "read for that.",
         [("node_main", "run_check", ["truth"])],
     ),
     (
         "`s SATISFIABLE` and `s UNSATISFIABLE` are true",
-        "Where a run of `solve`, `serve` or `work` ends with status 10 an assignment satisfies the formula that the input spells, and with status 20 "
+        "If a run of `solve`, `serve` or `work` ends with status 10 an assignment satisfies the formula that the input spells, and with status 20 "
         "none does, whatever the links bring.",
         [("node_main", "run_solve", ["truth"]), ("node_main", "run_serve", ["truth"]), ("node_main", "run_work", ["truth"])],
     ),
     (
         "What a node holds is true, and nodes agree",
         "Whatever events come to the nodes of a cluster, what each holds is true of the formula that it has then; two nodes, each at its "
-        "moment, never hold verdicts that differ where their formulas are equal then; and where one holds a proof, no other, earlier or later, holds an "
+        "moment, never hold verdicts that differ if their formulas are equal then; and if one holds a proof, no other, earlier or later, holds an "
         "assignment of that formula with more clauses.",
         [("cluster", "OpenCluster::run", ["formulas", "truth", "agree", "grown"]), ("cluster", "OpenCluster::verdict", ["holds"])],
     ),
     (
         "`check` accepts exactly what the definition accepts",
-        "A text is accepted where the definition accepts it, and refused for want of memory alone where it does.",
+        "A text is accepted only if the definition accepts it; one that it accepts is refused for want of memory alone.",
         [("lrat_check", "check", ["accepted", "complete"])],
+    ),
+    (
+        "`join` counts a leaf as closed where a file closes it, and nowhere else",
+        "A join is begun over the formula and the cubes of a tree, is fed a file's bytes in any pieces, ends each file or gives it up, and hands bytes of a proof "
+        "out. At its end it reports 20 exactly where every leaf is closed by a file that is a log over the formula, and then all bytes handed out are a proof of "
+        "the formula; else it reports 0 and exactly the leaves that no file closes.",
+        [
+            ("leaves", "Join::of", ["holds"]),
+            ("leaves", "Join::feed", ["holds"]),
+            ("leaves", "Join::end", ["holds"]),
+            ("leaves", "Join::abandon", ["holds"]),
+            ("leaves", "Join::written", [None]),
+            ("leaves", "Join::forget", ["holds", "out"]),
+            ("leaves", "Join::finish", ["concludes"]),
+        ],
+        "Holds",
+    ),
+    (
+        "What `lift` writes closes the leaf over the formula",
+        "Whatever bytes come as a proof of the formula under a leaf's cube, the bytes that are handed out are a log over the formula that closes the leaf where `finish` is right; "
+        "and a refutation by reverse unit propagation alone is refused for want of memory alone.",
+        [
+            ("leaves", "Lift::of", [None]),
+            ("leaves", "Lift::feed", [None]),
+            ("leaves", "Lift::forget", ["stands", "out"]),
+            ("leaves", "Lift::finish", ["closes", "complete"]),
+        ],
+        "Lifts",
     ),
 ]
 
@@ -48,6 +78,10 @@ HEAD = """# What has to be believed
 Each claim with the clauses of contracts that carry it, and all definitions that these name, directly or not, from the contract
 down: nothing else of the repository has to be read to know what is claimed. Definitions of the kit (numbers, lists, options) are not
 counted. The page is made by `tools/reading.py`, which counts them from the sources.
+
+The clauses are those of calls on whole texts. The program makes the calls that these make, on pieces of its files;
+[PROOFS.md](PROOFS.md#from-a-printed-byte-to-its-contract) tells which, and by which contracts pieces give what the whole text gives.
+The calls of a cluster are made by tests alone.
 """
 
 IDENT = re.compile(r"[A-Za-z_][A-Za-z0-9_'-]*")
@@ -130,12 +164,14 @@ def declared(module):
     return parts[1], parts[parts.index("declared") + 1 :]
 
 
-def reach(roots, names, modules, spec_here, found, types):
-    """Adds to `found`, in reading order, what the words name."""
+def reach(roots, names, modules, spec_here, found, types, carried=None):
+    """Adds to `found`, in reading order, what the words name, but for a fact that is carried from call to call."""
     queue = [(roots, names, modules, spec_here)]
     while queue:
         batch, names, modules, here = queue.pop(0)
         for word in batch:
+            if word == carried:
+                continue
             if word in modules:
                 kind = declared(modules[word])
                 if kind and kind not in types:
@@ -268,23 +304,31 @@ def typed(kind):
     return f"`{crate}::{parts[-1] if parts[-1] != 'TheVariants' else parts[-2]}`"
 
 
+def wrapped(text):
+    """Paragraphs, in lines of at most 100 characters."""
+    fill = lambda part: textwrap.fill(part, 100, break_long_words=False, break_on_hyphens=False)
+    return "\n\n".join(fill(part) for part in text.strip().split("\n\n")) + "\n"
+
+
 def page():
-    out = [HEAD]
+    out = [wrapped(HEAD)]
     totals = []
-    for title, sentence, carriers in CLAIMS:
+    for title, sentence, carriers, *carried in CLAIMS:
         found, types, clauses = [], [], []
         for crate, function, names in carriers:
             path, text, kept = contract(crate, function, names)
             clauses.append((path, function, kept))
             imported, modules = imports(text)
-            reach(words(kept), imported, modules, None, found, types)
+            reach(words(kept), imported, modules, None, found, types, *carried)
         lines = sum(len(code(spec_of(path).blocks[name])) for path, name in found)
         totals.append((title, len(found), lines))
-        out.append(f"\n## {title}\n\n{sentence}\n")
+        out.append(f"\n## {title}\n\n{wrapped(sentence)}")
         for path, function, kept in clauses:
             out.append(f"`{function}` in `{path.relative_to(ROOT)}`:\n\n```text")
             out.extend(kept)
             out.append("```\n")
+        for fact in carried:
+            out.append(wrapped(f"`{fact}` is what one call leaves to the next. It is given, kept and used by these clauses alone, so the claim holds whatever it says."))
         out.append(f"{len(found)} definitions, {lines} lines.")
         files = []
         for path, name in found:
@@ -297,7 +341,7 @@ def page():
             out.append("```")
         if types:
             names = sorted({typed(kind) for kind in types})
-            out.append(f"\nTypes of the code that they name: {', '.join(names)}.")
+            out.append("\n" + wrapped(f"Types of the code that they name: {', '.join(names)}.").rstrip("\n"))
     return "\n".join(out) + "\n"
 
 

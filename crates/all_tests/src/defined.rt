@@ -1,9 +1,9 @@
 //! Runs over defined variables.
 
-ghost use Rattle.node_main.specs.Solving.{AreOptions};
+ghost use Rattle.command_line.specs.Options.{AreOptions};
 
 use crate::checks::{FOUR, VERIFIED, prints};
-use crate::reports::{ALONE, solved};
+use crate::run_reports::{ALONE, solved};
 use node_main::Options;
 use std::alloc::Global;
 use std::process::Abort;

@@ -14,9 +14,9 @@ mod deletions;
 #[cfg(test)]
 mod drills;
 #[cfg(test)]
-mod joining;
+mod gathered;
 #[cfg(test)]
-mod leaves;
+mod joining;
 #[cfg(test)]
 mod pieces;
 #[cfg(test)]
@@ -24,9 +24,11 @@ mod profile;
 #[cfg(test)]
 mod renumbering;
 #[cfg(test)]
-mod reports;
+mod run_reports;
 #[cfg(test)]
 mod solving;
+#[cfg(test)]
+mod split_runs;
 #[cfg(test)]
 mod taking;
 #[cfg(test)]

@@ -1,7 +1,7 @@
 //! How the search goes: the values that it tries again, the literals that its lemmas do without, and the lemmas that it forgets.
 
 use crate::checks::{VERIFIED, prints};
-use crate::reports::{ALONE, solved};
+use crate::run_reports::{ALONE, solved};
 use std::alloc::{AllocError, Global};
 use std::fmt::Write;
 use std::test::Fail;

@@ -3,7 +3,7 @@
 ghost use Rattle.std.specs.Prelude.{◌≤◌};
 
 use crate::checks::{FOUR, VERIFIED, prints};
-use crate::reports::{ALONE, solved};
+use crate::run_reports::{ALONE, solved};
 use dimacs::{read, write};
 use node_main::{Options, Report};
 use std::alloc::{AllocError, Global};

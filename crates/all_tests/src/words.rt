@@ -1,6 +1,6 @@
 //! What words ask for on a command line.
 
-use node_main::{Options, Request, UsageFault, command};
+use command_line::{Options, Printing, Request, UsageFault, command};
 use std::alloc::{AllocError, Global};
 use std::process::Abort;
 use std::test::Fail;
@@ -15,6 +15,12 @@ const USUAL: Options = Options {
     incarnation: 1,
     defs: 0,
     ahead: false,
+    quiet: false,
+    witness: true,
+};
+
+/// What is printed where no word leaves anything out.
+const PRINTED: Printing = Printing {
     quiet: false,
     witness: true,
 };
@@ -40,8 +46,8 @@ fn refuses(rt: &impl Abort, alloc: Global, line: &str) -> Result<(), AllocError>
 /// Words that ask for help: it has this text, no line that begins as an answer does, and no blank at a line's end.
 fn helps(rt: &impl Abort, alloc: Global, line: &str, part: &str) -> Result<(), AllocError> {
     let words: Vec<&str> = line.split(' ').collect(alloc)?;
-    match command(alloc, words.as_slice()) {
-        Err(UsageFault::Help(text)) => {
+    match command(alloc, words.as_slice()).err() {
+        Some(UsageFault::Help(text)) => {
             assert!(rt; text.as_str().contains(part));
             for line in text.as_str().lines() {
                 assert!(rt; !line.starts_with("s "));
@@ -179,6 +185,137 @@ fn a_check_and_cubes_and_a_drill(rt: HostRuntime) -> Result<(), Fail> {
     Ok(())
 }
 
+#[test]
+fn a_leaf_is_cut_in_two(rt: HostRuntime) -> Result<(), Fail> {
+    let by_rule = Request::Split {
+        input: "f.cnf",
+        cubes: "f.icnf",
+        leaf: u32::MAX,
+        on: None,
+    };
+    let words = "satcluster cubes --cubes f.icnf --split 4294967295 f.cnf";
+    asks(&rt, rt.alloc(), words, by_rule)?;
+    let named = Request::Split {
+        input: "f.cnf",
+        cubes: "f.icnf",
+        leaf: 1,
+        on: Some(2_147_483_647),
+    };
+    let words = "satcluster cubes --on 2147483647 --split 1 f.cnf --cubes f.icnf";
+    asks(&rt, rt.alloc(), words, named)?;
+    Ok(())
+}
+
+#[test]
+fn cubes_are_completed(rt: HostRuntime) -> Result<(), Fail> {
+    let complete = Request::Complete {
+        input: "f.cnf",
+        list: "march.cubes",
+    };
+    let words = "satcluster cubes --complete march.cubes f.cnf";
+    asks(&rt, rt.alloc(), words, complete)?;
+    Ok(())
+}
+
+#[test]
+fn a_leaf_and_a_lift_and_a_model(rt: HostRuntime) -> Result<(), Fail> {
+    let alloc = rt.alloc();
+    let leaf = Request::Leaf {
+        input: "f.cnf",
+        cubes: "f.icnf",
+        leaf: u32::MAX,
+    };
+    asks(
+        &rt,
+        alloc,
+        "satcluster leaf --cubes f.icnf --leaf 4294967295 f.cnf",
+        leaf,
+    )?;
+    let lift = Request::Lift {
+        input: "f.cnf",
+        cubes: "f.icnf",
+        leaf: 1,
+        proof: "l.lrat",
+        fragment: "l.frag",
+    };
+    asks(
+        &rt,
+        alloc,
+        "satcluster lift --leaf 1 --cubes f.icnf f.cnf l.lrat l.frag",
+        lift,
+    )?;
+    let model = Request::Model {
+        input: "f.cnf",
+        output: "-",
+    };
+    asks(&rt, alloc, "satcluster model f.cnf -", model)?;
+    Ok(())
+}
+
+#[test]
+fn a_refutation_with_its_defaults_and_with_all_its_words(rt: HostRuntime) -> Result<(), Fail> {
+    let plain = Request::Refute {
+        input: "f.cnf",
+        cubes: "f.icnf",
+        leaf: 3,
+        limit: 140_737_488_355_328,
+        fragment: None,
+        printing: PRINTED,
+    };
+    asks(
+        &rt,
+        rt.alloc(),
+        "satcluster refute --cubes f.icnf --leaf 3 f.cnf",
+        plain,
+    )?;
+    let full = Request::Refute {
+        input: "f.cnf",
+        cubes: "f.icnf",
+        leaf: 3,
+        limit: 1,
+        fragment: Some("l.frag"),
+        printing: Printing {
+            quiet: true,
+            witness: false,
+        },
+    };
+    let words = "satcluster refute --cubes f.icnf --leaf 3 --limit 1 -q -n f.cnf l.frag";
+    asks(&rt, rt.alloc(), words, full)?;
+    Ok(())
+}
+
+/// Flags may stand between the names of fragments, and `-` is a name.
+#[test]
+fn fragments_by_their_names(rt: HostRuntime) -> Result<(), Fail> {
+    let alloc = rt.alloc();
+    let one = Request::Join {
+        input: "f.cnf",
+        cubes: "f.icnf",
+        proof: "f.lrat",
+        fragments: vec![in alloc; "a"]?,
+        printing: PRINTED,
+    };
+    asks(
+        &rt,
+        alloc,
+        "satcluster join --cubes f.icnf f.cnf f.lrat a",
+        one,
+    )?;
+    let three = Request::Join {
+        input: "f.cnf",
+        cubes: "f.icnf",
+        proof: "f.lrat",
+        fragments: vec![in alloc; "b", "-", "a"]?,
+        printing: Printing {
+            quiet: true,
+            ..PRINTED
+        },
+    };
+    let words = "satcluster join f.cnf f.lrat b -q - --cubes f.icnf a";
+    asks(&rt, alloc, words, three)?;
+    Ok(())
+}
+
 /// Each line goes past a bound, lacks a word, names one twice, or names one that its command has not got.
 const REFUSED: &[&'static str] = &[
     "satcluster",
@@ -212,6 +349,30 @@ const REFUSED: &[&'static str] = &[
     "satcluster drill --seed 7 --turns 7",
     "satcluster drill --seed 7 --turns 100001 f.cnf",
     "satcluster drill -q --seed 7 --turns 7 f.cnf",
+    "satcluster cubes --split 1 f.cnf",
+    "satcluster cubes --cubes f.icnf f.cnf",
+    "satcluster cubes --on 1 f.cnf",
+    "satcluster cubes --cubes f.icnf --on 1 f.cnf",
+    "satcluster cubes --cubes f.icnf --split 1 --depth 4 f.cnf",
+    "satcluster cubes --cubes f.icnf --split 0 f.cnf",
+    "satcluster cubes --cubes f.icnf --split 4294967296 f.cnf",
+    "satcluster cubes --cubes f.icnf --split 1 --on 0 f.cnf",
+    "satcluster cubes --cubes f.icnf --split 1 --on 2147483648 f.cnf",
+    "satcluster cubes --complete march.cubes --depth 4 f.cnf",
+    "satcluster cubes --complete march.cubes --cubes f.icnf f.cnf",
+    "satcluster cubes --complete march.cubes --split 1 f.cnf",
+    "satcluster cubes --complete march.cubes --on 1 f.cnf",
+    "satcluster cubes --complete march.cubes",
+    "satcluster leaf --leaf 1 f.cnf",
+    "satcluster leaf --cubes f.icnf f.cnf",
+    "satcluster leaf --cubes f.icnf --leaf 0 f.cnf",
+    "satcluster leaf --cubes f.icnf --leaf 4294967296 f.cnf",
+    "satcluster refute --cubes f.icnf --leaf 1 --to 2 f.cnf",
+    "satcluster refute --cubes f.icnf --leaf 1 --limit 140737488355329 f.cnf",
+    "satcluster join --cubes f.icnf f.cnf f.lrat",
+    "satcluster join f.cnf f.lrat l.frag",
+    "satcluster lift --cubes f.icnf --leaf 1 f.cnf l.lrat",
+    "satcluster model f.cnf",
 ];
 
 #[test]
@@ -230,8 +391,20 @@ fn a_help_is_no_answer(rt: HostRuntime) -> Result<(), Fail> {
     helps(&rt, alloc, "satcluster solve --help", "<INPUT>")?;
     helps(&rt, alloc, "satcluster check -h", "<PROOF>")?;
     helps(&rt, alloc, "satcluster cubes -h", "from 0 to 16")?;
+    helps(&rt, alloc, "satcluster cubes -h", "--split <split>")?;
+    helps(&rt, alloc, "satcluster cubes -h", "--complete <complete>")?;
     helps(&rt, alloc, "satcluster serve -h", "--port <port>")?;
     helps(&rt, alloc, "satcluster work -h", "--ahead")?;
     helps(&rt, alloc, "satcluster drill -h", "from 0 to 100000")?;
+    helps(&rt, alloc, "satcluster leaf -h", "--cubes <cubes>")?;
+    helps(
+        &rt,
+        alloc,
+        "satcluster refute -h",
+        "[default: 140737488355328]",
+    )?;
+    helps(&rt, alloc, "satcluster join -h", "<NAME>...")?;
+    helps(&rt, alloc, "satcluster lift -h", "<FRAGMENT>")?;
+    helps(&rt, alloc, "satcluster model -h", "<FILE>")?;
     Ok(())
 }

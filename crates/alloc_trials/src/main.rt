@@ -7,7 +7,7 @@ mod call;
 mod checks;
 mod joining;
 mod machines;
-mod reports;
+mod run_reports;
 mod searches;
 mod trimming;
 
@@ -34,8 +34,8 @@ fn try_call(alloc: Global, name: &str) -> Option<Tried> {
         "extended_proof" => machines::extended_proof(alloc),
         "extended_assignment" => machines::extended_assignment(alloc),
         "extended_join" => machines::extended_join(alloc),
-        "run_of_units" => reports::units(alloc),
-        "run_of_four" => reports::four(alloc),
+        "run_of_units" => run_reports::units(alloc),
+        "run_of_four" => run_reports::four(alloc),
         _ => None,
     }
 }

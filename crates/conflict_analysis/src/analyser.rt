@@ -49,8 +49,8 @@ impl Analyser {
         &self.walk.met
     }
 
-    /// Those that stand more than once in the false clause and the reasons of entries of the present level among them: each as
-    /// often as it stands there, but for once.
+    /// The variables that the false clause and the reasons of the present level name more than once: each is listed as often as
+    /// they name it, less one.
     pub fn met_again(&self) -> &[Var]
         ensures { result.now ≡ self.now.again }
     {

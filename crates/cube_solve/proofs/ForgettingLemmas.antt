@@ -104,7 +104,7 @@ state_moved m k att now t less e s = state_less m k [] less att now t
 
 -- ---- lists of lemmas
 pub spare_still : (old new : Live) (ids : List ℕ) (es : List Assigned) (n : ℕ) → AreLess old ids new → ¬ (Contains ids n) → IsSpare old es n → IsSpare new es n
-spare_still old new ids es n less out h = record { clause = h.clause; lives = less.stays n h.clause h.lives out; free = h.free }
+spare_still old new ids es n less out h = record { clause = h.clause; lives = less.stays n h.clause h.lives out; long = h.long; free = h.free }
 
 at_any : (ys : List ℕ) (j a b : ℕ) → j < length ys → get_or ys j a ≡ get_or ys j b
 at_any [] j a b l = absurd (omega arith)

@@ -2,7 +2,7 @@
 //!
 //! A conflict-driven search (Marques-Silva and Sakallah 1996) under a cube of assumptions: it propagates, assumes the cube's
 //! literals, decides the free variable of the greatest score with its last value, and learns from each conflict. It restarts
-//! from time to time, and forgets lemmas when there are many. What a layer above may rest on: the three outcomes of
+//! from time to time, and forgets the lemmas that it uses least when there are many. What a layer above may rest on: the three outcomes of
 //! [`solve`], each by its clause. It ends for every limit.
 #![tactic(auto)]
 
@@ -19,6 +19,7 @@ mod pace;
 mod search;
 mod solving;
 mod state;
+mod uses;
 
 pub use outcome::Outcome;
 pub use solving::{solve, solve_by};

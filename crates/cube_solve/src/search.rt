@@ -24,6 +24,7 @@ use crate::order::Order;
 use crate::outcome::Outcome;
 use crate::pace::Pace;
 use crate::state::State;
+use crate::uses::Uses;
 use conflict_analysis::{Analyser, Closing, Lemma, close_cube};
 use dimacs::{Base, Lit};
 use lrat_text::PackedText;
@@ -36,6 +37,7 @@ pub(crate) struct Search<'a, P> {
     pub(crate) state: State<'a, P>,
     /// The numbers of the live lemmas, rising.
     pub(crate) lemmas: Vec<u64>,
+    pub(crate) uses: Uses,
     pub(crate) log: Log,
     pub(crate) gaps: Gaps,
     analyser: Analyser,
@@ -50,6 +52,7 @@ impl<P> Drop for Search<'_, P> {
             alloc: _,
             state: _,
             lemmas: _,
+            uses: _,
             log: _,
             gaps: _,
             analyser: _,
@@ -59,12 +62,13 @@ impl<P> Drop for Search<'_, P> {
     }
 }
 
-/// Halves the scores when it is time.
-fn halve_in_time(pace: &Pace, order: &mut Order)
+/// Halves the scores and the lemmas' uses when it is time.
+fn halve_in_time(pace: &Pace, order: &mut Order, uses: &mut Uses, lemmas: &[u64])
     ensures { AreWaiting order.old order.new }
 {
     if pace.halves() {
         order.halve();
+        uses.halve(lemmas);
     }
 }
 
@@ -79,11 +83,13 @@ impl<'a, P: Propagator> Search<'a, P> {
         ensures searching { IfOk result (IsSearching P.is_ready P.attached base.now 0) }
         ensures assuming { IfOk result (λ s. (q : Cube) → IsAssuming q s.state.trail.entries s.state.assumed) }
     {
+        let _vars = base.vars(); // with it comes the bound of the number of clauses
         let state = State::new(alloc, propagator, base)?;
         Ok(Search {
             alloc,
             state,
             lemmas: Vec::new(alloc),
+            uses: Uses::new(alloc, base.len() as u64 + 1),
             log: Log::new(alloc),
             gaps: Gaps::new(base),
             analyser: Analyser::new(alloc),
@@ -100,6 +106,7 @@ impl<'a, P: Propagator> Search<'a, P> {
             alloc: _,
             state: _,
             lemmas: _,
+            uses: _,
             log,
             gaps: _,
             analyser: _,
@@ -148,6 +155,7 @@ impl<'a, P: Propagator> Search<'a, P> {
         self.analyser
             .analyse_into(&state.arena, &state.trail, conflict, &mut self.lemma)?;
         self.log.write(id, &self.lemma)?;
+        self.uses.count(&self.lemma.hints);
         state.order.bump(self.analyser.met());
         state.order.bump(self.analyser.met_again());
         state.go_back(self.lemma.level);
@@ -159,10 +167,11 @@ impl<'a, P: Propagator> Search<'a, P> {
             &self.lemma.lits,
         )?;
         self.lemmas.push(id)?;
+        self.uses.learn()?;
         Ok(())
     }
 
-    /// Counts a conflict; halves the scores, restarts and forgets lemmas when it is time.
+    /// Counts a conflict; halves the scores and the uses, restarts and forgets lemmas when it is time.
     fn keep_pace(&mut self, top: u64) -> Result<(), AllocError>
         requires steady { IsSteady P.is_ready P.attached self.old.state }
         requires rising { AreRising self.old.lemmas.items }
@@ -175,7 +184,12 @@ impl<'a, P: Propagator> Search<'a, P> {
         ensures kept { OnOk result ((first : ℕ) → AreLemmas first (live_of self.old.state.arena) self.old.lemmas.items → MayForget first (live_of self.old.state.arena) (live_of self.new.state.arena) self.old.log self.new.log) }
     {
         self.pace.count();
-        halve_in_time(&self.pace, &mut self.state.order);
+        halve_in_time(
+            &self.pace,
+            &mut self.state.order,
+            &mut self.uses,
+            &self.lemmas,
+        );
         if !self.pace.restarts() {
             return Ok(());
         }

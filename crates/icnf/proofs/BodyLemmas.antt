@@ -43,11 +43,11 @@ read_end walk old new s h e =
 
 -- ---- tokens
 
-no_number : (o : Option ℤ) → None ≡ option_map capped o → o ≡ None
+pub no_number : (o : Option ℤ) → None ≡ option_map capped o → o ≡ None
 no_number None h = refl
 no_number (Some z) h = absurd (cc)
 
-some_number : (o : Option ℤ) (r : Number) → Some r ≡ option_map capped o → (z : ℤ) × (o ≡ Some z) × (r ≡ capped z)
+pub some_number : (o : Option ℤ) (r : Number) → Some r ≡ option_map capped o → (z : ℤ) × (o ≡ Some z) × (r ≡ capped z)
 some_number None r h = absurd (cc)
 some_number (Some z) r h = (z, refl, cc)
 

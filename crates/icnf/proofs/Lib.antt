@@ -1,10 +1,15 @@
 pub mod BodyLemmas
+pub mod ComparingLemmas
+pub mod CubeLemmas
 pub mod DistinctLemmas
+pub mod KeptLemmas
 pub mod LeavesLemmas
+pub mod PieceLemmas
 pub mod RunLemmas
 pub mod SpanLemmas
 pub mod SpellingLemmas
 pub mod StateLemmas
 pub mod ToldLemmas
+pub mod TreeBodyLemmas
 pub mod WalkLemmas
 pub mod WritingLemmas

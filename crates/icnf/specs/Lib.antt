@@ -1,5 +1,7 @@
+pub mod Comparing
 pub mod Faults
 pub mod Leaves
+pub mod Pieces
 pub mod ReadState
 pub mod Reading
 pub mod Spans

@@ -8,6 +8,7 @@ ghost use Rattle.icnf.specs.Reading.{format, no_memory, start, begin, read_mark,
 ghost use Rattle.dimacs.specs.text.Rows.{read_words};
 ghost use Rattle.dimacs.specs.inner.Rows.{Gives};
 
+use crate::cubes::{begin_cube, end_cube, read_literal};
 use crate::fault::{IcnfFault, Kind};
 use crate::header::read_header;
 use crate::tree::Tree;
@@ -37,7 +38,8 @@ impl Model for Body {
     ghost invariant = { λ b. IsRead (record { clauses = b.clauses; walk = b.walk }) };
 }
 
-fn is_mark(word: &[u8]) -> bool
+/// Whether a token is `a`.
+pub(crate) fn is_mark(word: &[u8]) -> bool
     ensures { result ≡ bytes_eq word.now (codes "a") }
 {
     word == b"a".as_slice()
@@ -60,14 +62,7 @@ impl Body {
         requires closed { self.old.clauses.open_clause ≡ [] }
         ensures { Gives no_memory self.new result (begin line self.old) }
     {
-        if self.walk.cubes() >= 65_536 {
-            return Err(IcnfFault {
-                kind: Kind::AboveLimit,
-                line,
-            });
-        }
-        self.walk.begin();
-        Ok(())
+        begin_cube(&mut self.walk, line)
     }
 
     /// Reads an `a`.
@@ -139,14 +134,7 @@ impl Body {
         requires { self.old.walk.stage ≡ Stage.Inside }
         ensures { Gives no_memory self.new result (end_cube line self.old.walk.forced self.old) }
     {
-        if !self.walk.may_end() {
-            return Err(IcnfFault {
-                kind: Kind::NotATree,
-                line,
-            });
-        }
-        self.walk.end()?;
-        Ok(())
+        end_cube(&mut self.walk, line)
     }
 
     /// Reads a literal in a cube.
@@ -154,26 +142,7 @@ impl Body {
         requires { self.old.walk.stage ≡ Stage.Inside }
         ensures { Gives no_memory self.new result (literal_in_cube line literal self.old) }
     {
-        if self.walk.names(literal) {
-            return Err(IcnfFault {
-                kind: Kind::RepeatedVariable,
-                line,
-            });
-        }
-        if !self.walk.fits(literal) {
-            return Err(IcnfFault {
-                kind: Kind::NotATree,
-                line,
-            });
-        }
-        if self.walk.len() >= 64 {
-            return Err(IcnfFault {
-                kind: Kind::CubeTooLong,
-                line,
-            });
-        }
-        self.walk.push(literal)?;
-        Ok(())
+        read_literal(&mut self.walk, line, literal)
     }
 
     /// Reads a number in a cube.

@@ -3,6 +3,9 @@
 
 mod body;
 mod builder;
+mod comparison;
+mod cubes;
+mod cubes_fault;
 mod fault;
 mod header;
 mod laws;
@@ -10,12 +13,17 @@ mod place;
 mod reading;
 mod span;
 mod tree;
+mod tree_body;
+mod tree_lines;
+mod tree_reader;
 mod walk;
 mod writing;
 
 pub use builder::TreeBuilder;
+pub use cubes_fault::CubesFault;
 pub use fault::{IcnfFault, Kind};
 pub use laws::{no_text_wants_memory, reading_is_spelling, writing_is_spelling};
 pub use reading::read;
 pub use tree::Tree;
+pub use tree_reader::{TreeReader, tree_of};
 pub use writing::write;

@@ -2,11 +2,15 @@
 #![tactic(auto)]
 
 #[cfg(test)]
+mod answer_texts;
+#[cfg(test)]
 mod arenas;
 #[cfg(test)]
 mod carriers;
 #[cfg(test)]
 mod closed;
+#[cfg(test)]
+mod compared;
 #[cfg(test)]
 mod conflicts;
 #[cfg(test)]
@@ -28,9 +32,13 @@ mod inputs;
 #[cfg(test)]
 mod lines;
 #[cfg(test)]
+mod logs;
+#[cfg(test)]
 mod messages;
 #[cfg(test)]
 mod nodes;
+#[cfg(test)]
+mod profile;
 #[cfg(test)]
 mod propagators;
 #[cfg(test)]

@@ -30,7 +30,7 @@ pub(crate) fn base_of(alloc: Global, text: &[u8]) -> Result<Base, Fail> {
     Ok(base)
 }
 
-fn solve_alone(alloc: Global, base: &Base, limit: u64) -> Result<Outcome, AllocError> {
+pub(crate) fn solve_alone(alloc: Global, base: &Base, limit: u64) -> Result<Outcome, AllocError> {
     solve(alloc, base, &[], limit)
 }
 
@@ -106,6 +106,41 @@ fn bases_and_cubes_that_are_refuted(rt: HostRuntime) -> Result<(), Fail> {
     all_come(&rt, rt.alloc(), &rows)
 }
 
+/// Variables are decided in their order, false first, up to the first conflict; the last four clauses make one more.
+#[test]
+fn a_lemma_loses_what_follows_from_others(rt: HostRuntime) -> Result<(), Fail> {
+    let rows: [Row; 2] = [
+        // 4 follows from the decision of 1, which stays.
+        (
+            b"p cnf 8 8\n1 4 0\n2 5 0\n3 1 6 0\n3 -4 -6 0\n7 8 0\n-7 8 0\n7 -8 0\n-7 -8 0\n",
+            0,
+            1,
+            Want::Limit(b"9 3 1 0 1 3 4 0\n"),
+        ),
+        // 7 and 6 follow from 5 alone, of which the lemma has nothing: what was found of 5 for 7 holds for 6.
+        (
+            b"p cnf 10 9\n1 5 0\n-5 6 0\n-5 7 0\n2 -6 8 0\n2 -7 -8 0\n9 10 0\n-9 10 0\n9 -10 0\n-9 -10 0\n",
+            0,
+            1,
+            Want::Limit(b"10 2 -7 -6 0 4 5 0\n"),
+        ),
+    ];
+    all_come(&rt, rt.alloc(), &rows)
+}
+
+/// The first conflict, under the decision that 1 is false, meets 1 and 3 three times, 4 twice and 2 never, and leaves 3 true: so 3 is
+/// decided next, and true.
+#[test]
+fn what_was_met_most_is_decided_with_its_last_value(rt: HostRuntime) -> Result<(), Fail> {
+    let rows: [Row; 1] = [(
+        b"p cnf 7 9\n1 3 0\n1 -3 4 0\n1 -3 -4 0\n-1 -3 5 0\n-1 -3 -5 0\n2 6 0\n2 -6 0\n3 7 0\n3 -7 0\n",
+        0,
+        2,
+        Want::Refuted(b"10 1 0 1 2 3 0\n11 -3 0 10 4 5 0\n12 0 11 8 9 0\n"),
+    )];
+    all_come(&rt, rt.alloc(), &rows)
+}
+
 #[test]
 fn a_limit_of_0_ends_at_the_first_conflict(rt: HostRuntime) -> Result<(), Fail> {
     let rows: [Row; 1] = [(FOUR, 0, 0, Want::Limit(b""))];
@@ -113,7 +148,7 @@ fn a_limit_of_0_ends_at_the_first_conflict(rt: HostRuntime) -> Result<(), Fail> 
 }
 
 /// The log of a search at its limit.
-fn log_of(alloc: Global, outcome: Outcome) -> Result<Vec<u8>, Fail> {
+pub(crate) fn log_of(alloc: Global, outcome: Outcome) -> Result<Vec<u8>, Fail> {
     match outcome {
         Outcome::Model(_) => Err(Fail::from("no log")),
         Outcome::Refuted(text) => Ok(text.to_text(alloc)?),

@@ -1,1 +1,2 @@
 pub mod LinkedLemmas
+mod ObservedLemmas

@@ -2,3 +2,5 @@ pub mod Counts
 pub mod Counted
 pub mod Scripted
 pub mod Linked
+pub mod Arrivals
+pub mod Observed

@@ -22,7 +22,7 @@ pub struct Counted<C> {
 }
 
 /// Counts one more, up to the greatest number.
-fn count(n: &mut u64)
+pub(crate) fn count(n: &mut u64)
     ensures { n.new ≡ one_more n.old }
 {
     if *n < u64::MAX {

@@ -3,6 +3,7 @@ pub mod Faults
 pub mod Fragments
 pub mod Holding
 pub mod Judging
+pub mod Logs
 pub mod Numbers
 pub mod Soundness
 pub mod State

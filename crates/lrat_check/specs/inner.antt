@@ -3,11 +3,11 @@ pub mod Cell
 pub mod Changes
 pub mod Checking
 pub mod Faults
-pub mod FragmentFaults
-pub mod FragmentLines
 pub mod Holders
 pub mod Holding
 pub mod Lines
+pub mod LogStates
+pub mod Logs
 pub mod Marks
 pub mod Rising
 pub mod State

@@ -15,8 +15,10 @@ use thiserror::Error;
 #[error("line {line}: fault {number}")]
 pub struct CheckFault {
     /// 1 where a line spells no step, 2 to 12 the step's fault, 13 where no line adds the empty clause, 14 for want of memory.
+    /// In a log also 15, where a lemma does not follow by its hints alone, 16, where a clause of the base is deleted, and in a fragment
+    /// 17, where the last step does not close the cube.
     pub number: u8,
-    /// The line, from 1; that of 13 is one more than there are LF bytes, and that of 14 is 0.
+    /// The line, from 1; that of 13 and 17 is one more than there are LF bytes, and that of 14 is 0.
     pub line: u64,
     /// The text fault's number, 1 to 4, at 1; else 0.
     pub text: u8,

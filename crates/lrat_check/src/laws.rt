@@ -1,6 +1,6 @@
 //! Theorems on the checker's definitions. There is nothing to run: each contract is a theorem.
 
-ghost use Rattle.std.specs.Prelude.{◌≡◌, ℕ, List, None, Ok};
+ghost use Rattle.std.specs.Prelude.{◌≡◌, ◌↔◌, ℕ, List, None, Ok};
 ghost use Rattle.dimacs.specs.logic.ClauseMap.{ClauseMap};
 ghost use Rattle.dimacs.specs.logic.Cnf.{Cnf};
 ghost use Rattle.lrat_text.specs.Log.{Cube, Closes};
@@ -9,6 +9,7 @@ ghost use Rattle.lrat_text.specs.declared.step.Step.{Step};
 ghost use Rattle.lrat_check.specs.Checking.{check_of};
 ghost use Rattle.lrat_check.specs.Faults.{step_fault, live_after, top_after};
 ghost use Rattle.lrat_check.specs.Fragments.{fragment_of};
+ghost use Rattle.lrat_check.specs.Logs.{IsBegun, LogState, SpellsLog, StandsOver, TakesLogLine, log_line, log_of};
 ghost use Rattle.lrat_check.specs.Soundness.{Soundness};
 ghost use Rattle.lrat_check.specs.Verdicts.{Agreement, Truth};
 
@@ -44,4 +45,12 @@ pub fn proof_fault_is_exact()
 pub fn fragment_fault_is_exact()
     ensures closes { (B : Cnf) (q : Cube) (text : List ℕ) → fragment_of B q text ≡ Ok tt → Closes B q text }
     ensures none { (B : Cnf) (q : Cube) (text : List ℕ) → Closes B q text → fragment_of B q text ≡ Ok tt }
+{}
+
+/// A line has no fault if and only if a log takes it, and then to one state alone; a text has none if and only if it is a log.
+pub fn log_fault_is_exact()
+    ensures line { (old new : LogState) (line : List ℕ) → (log_line old line ≡ Ok new) ↔ TakesLogLine old line new }
+    ensures text { (F : Cnf) (text : List ℕ) → (log_of F text ≡ Ok tt) ↔ SpellsLog F text }
+    // where a log begins, the checker stands over the formula
+    ensures begun { (F : Cnf) (s : LogState) → IsBegun F s → StandsOver F s }
 {}

@@ -16,6 +16,8 @@ mod laws;
 mod lemma;
 mod live;
 mod loading;
+mod log;
+mod log_checker;
 mod marks;
 mod naming;
 mod propagation;
@@ -33,8 +35,9 @@ pub use fault::StepFault;
 pub use fragment::{check_fragment, check_packed_fragment};
 pub use judging::{Judged, judge_values};
 pub use laws::{
-    accepted_proofs_are_sound, fragment_fault_is_exact, proof_fault_is_exact, right_verdicts_agree,
-    right_verdicts_are_true, step_fault_is_exact,
+    accepted_proofs_are_sound, fragment_fault_is_exact, log_fault_is_exact, proof_fault_is_exact,
+    right_verdicts_agree, right_verdicts_are_true, step_fault_is_exact,
 };
+pub use log_checker::{LogChecker, check_log};
 pub use stream::{StreamChecker, check, check_pieces};
 pub use verdict::{Reaction, Verdict};

@@ -14,9 +14,10 @@ use Rattle.lrat_text.proofs.SpellingLemmas.{found_spells, spelled_found}
 use Rattle.lrat_check.specs.Checking.{GivesCheck, check_of, no_memory}
 use Rattle.lrat_check.specs.declared.checking.CheckFault.{CheckFault}
 use Rattle.lrat_check.proofs.Lines.{checked_accepted, accepted_checked}
-use Rattle.node_main.specs.Reports.{answer_text, check_text, input_fault_text}
+use Rattle.node_main.specs.Reports.{answer_text, check_text}
+use Rattle.reports.specs.Faults.{input_fault_text}
 use Rattle.node_main.specs.ProofChecks.{IsCheckReport}
-use Rattle.node_main.specs.declared.report.Report.{Report}
+use Rattle.reports.specs.declared.report.Report.{Report}
 
 -- ---- the proof's answer
 

@@ -1,9 +1,6 @@
 pub mod CheckLemmas
-pub mod RefusalLemmas
-pub mod RequestLemmas
 pub mod SplittingLemmas
 pub mod StartLemmas
-pub mod WordLemmas
 pub mod TruthLemmas
 pub mod DrawLemmas
 pub mod DrillLemmas

@@ -10,8 +10,8 @@ use Rattle.node_main.specs.Deciding.{Decides}
 use Rattle.node_main.specs.Solving.{Solves, Works}
 use Rattle.node_main.specs.inner.Splitting.{StaysInside}
 use Rattle.node_main.specs.inner.Starting.{IsStart, Starts}
-use Rattle.node_main.specs.declared.options.Options.{Options}
-use Rattle.node_main.specs.declared.report.Report.{Report}
+use Rattle.command_line.specs.declared.options.Options.{Options}
+use Rattle.reports.specs.declared.report.Report.{Report}
 use Rattle.node_main.specs.declared.splitting.Split.TheVariants.{By}
 use Rattle.node_main.specs.declared.starting.Start.{Start}
 use Rattle.node_main.specs.declared.starting.Start.TheVariants.{With}

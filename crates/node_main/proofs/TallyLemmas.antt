@@ -10,7 +10,7 @@ use Rattle.node_main.specs.inner.Kinds.{AreKinds, are_at_odds, joined}
 use Rattle.node_main.specs.inner.Tallies.{IsTally, counted}
 use Rattle.node_main.specs.declared.commands.drilling.kinds.Kinds.{Kinds}
 use Rattle.node_main.specs.declared.commands.drilling.tally.Tally.{Tally}
-use Rattle.node_main.specs.declared.report.Report.{Report}
+use Rattle.reports.specs.declared.report.Report.{Report}
 use Rattle.node_main.proofs.KindLemmas.{both_kinds, odds_are, same_kinds}
 
 -- what is counted by a flag that tells of it

@@ -9,10 +9,10 @@ use Rattle.node_main.specs.ProofChecks.{IsCheckReport}
 use Rattle.node_main.specs.Deciding.{Decides}
 use Rattle.node_main.specs.Solving.{Answers, IsRefused, Solves, Works}
 use Rattle.node_main.specs.Truth.{SpellsUnsatisfiable, IsTrueReport}
-use Rattle.node_main.specs.declared.options.Options.{Options}
+use Rattle.command_line.specs.declared.options.Options.{Options}
 use Rattle.node_main.specs.declared.splitting.Split.{Split}
 use Rattle.node_main.specs.declared.splitting.Split.TheVariants.{By, Faulty, OtherFormula}
-use Rattle.node_main.specs.declared.report.Report.{Report}
+use Rattle.reports.specs.declared.report.Report.{Report}
 
 -- an accepted proof is there
 refuted : Soundness → (F : Cnf) (proof : Option (List ℕ)) → IsSome proof → IfSome proof (Accepts F) → IsUnsatisfiable F

@@ -5,7 +5,7 @@ use Rattle.dimacs.specs.logic.Cnf.{Cnf}
 use Rattle.dimacs.specs.declared.fault.DimacsFault.{DimacsFault}
 use Rattle.icnf.specs.Leaves.{Cube}
 use Rattle.icnf.specs.Spelling.{Spells, formula_of, spelling}
-use Rattle.node_main.specs.Reports.{input_fault_text}
+use Rattle.reports.specs.Faults.{input_fault_text}
 
 -- the text spells a formula's clauses, and the cubes of its tree of this depth
 pub record ShowsCubes (F : Cnf) (depth : ℕ) (text : List ℕ) : Type 0 where

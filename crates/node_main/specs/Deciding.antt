@@ -4,8 +4,8 @@ use Rattle.dimacs.specs.text.Answer.{Lines, satisfied_lines}
 use Rattle.dimacs.specs.logic.Cnf.{Cnf, Sat, assignment_of}
 use Rattle.dimacs.specs.declared.answer.Answer.TheVariants.{Unsatisfiable, Unknown}
 use Rattle.lrat_text.specs.Proof.{Accepts}
-use Rattle.node_main.specs.declared.options.Options.{Options}
-use Rattle.node_main.specs.declared.report.Report.{Report}
+use Rattle.command_line.specs.declared.options.Options.{Options}
+use Rattle.reports.specs.declared.report.Report.{Report}
 
 -- 10: an assignment that satisfies the formula is printed
 pub record IsSatisfied (F : Cnf) (options : Options) (r : Report) : Type 0 where

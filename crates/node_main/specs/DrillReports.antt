@@ -8,8 +8,8 @@ use Rattle.icnf.specs.Leaves.{Cube}
 use Rattle.closed_schedules.specs.ClosedSchedule.{Beginning, ClosedState, new_closed}
 use Rattle.node_main.specs.Drawing.{AreDrawn}
 use Rattle.node_main.specs.Drilling.{HasDrilled}
-use Rattle.node_main.specs.Reports.{input_fault_text}
-use Rattle.node_main.specs.declared.report.Report.{Report}
+use Rattle.reports.specs.Faults.{input_fault_text}
+use Rattle.reports.specs.declared.report.Report.{Report}
 
 -- how many turns there were, how many refusals, and how many disagreements
 abbrev pub drill_text : ℕ → ℕ → ℕ → List ℕ

@@ -1,12 +1,9 @@
-pub mod CommandLine
 pub mod Cubing
 pub mod Deciding
 pub mod Drawing
 pub mod DrillReports
 pub mod Drilling
-pub mod Program
 pub mod ProofChecks
-pub mod Refusals
 pub mod Reports
 pub mod Running
 pub mod Solving

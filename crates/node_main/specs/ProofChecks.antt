@@ -9,7 +9,7 @@ use Rattle.lrat_text.specs.Proof.{Accepts}
 use Rattle.lrat_check.specs.Stream
 use Rattle.lrat_check.specs.Stream.{Progress, IsWithinLine}
 use Rattle.node_main.specs.Reports.{check_text}
-use Rattle.node_main.specs.declared.report.Report.{Report}
+use Rattle.reports.specs.declared.report.Report.{Report}
 
 -- The input was read, and these bytes of the proof have been taken. What is kept is how far the proof is checked against the
 -- formula, or why there is none: the input's fault, or want of memory.

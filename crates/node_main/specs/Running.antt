@@ -1,7 +1,7 @@
 -- What a run owes to its links.
 use Rattle.std.specs.Prelude.{◌≡◌, ℕ, ◌⊎◌}
 use Rattle.runs.specs.Accounts.{RoseBy}
-use Rattle.node_main.specs.declared.report.Report.{Report}
+use Rattle.reports.specs.declared.report.Report.{Report}
 
 -- No call was made where the input or the cubes were refused; one at least where nothing was found, and three at least where a
 -- report says what the formula is.

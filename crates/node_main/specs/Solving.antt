@@ -1,27 +1,16 @@
 -- What a run reports of an input: of the formula that it spells, or that it is refused.
-use Rattle.std.specs.Prelude.{◌≡◌, ℕ, ◌≤◌, ◌⊎◌, List, [], Option, Err, None, if◌then◌else◌}
+use Rattle.std.specs.Prelude.{◌≡◌, ℕ, ◌⊎◌, List, [], Option, Err, None, if◌then◌else◌}
 use Rattle.dimacs.specs.logic.Cnf.{Cnf}
 use Rattle.dimacs.specs.text.Reading.{parse}
 use Rattle.dimacs.specs.text.Spelling.{Spells}
 use Rattle.dimacs.specs.declared.fault.DimacsFault.{DimacsFault}
 use Rattle.node_main.specs.Deciding.{Decides}
-use Rattle.node_main.specs.Reports.{input_fault_text, cubes_fault_text, other_formula_text}
+use Rattle.reports.specs.Faults.{input_fault_text, cubes_fault_text, other_formula_text}
 use Rattle.node_main.specs.Splitting.{Splits}
-use Rattle.node_main.specs.declared.options.Options.{Options}
-use Rattle.node_main.specs.declared.report.Report.{Report}
+use Rattle.command_line.specs.declared.options.Options.{Options}
+use Rattle.reports.specs.declared.report.Report.{Report}
 use Rattle.node_main.specs.declared.splitting.Split.{Split}
 use Rattle.node_main.specs.declared.splitting.Split.TheVariants.{By, Faulty, OtherFormula}
-
--- 1 to 64 workers, a depth of at most 16, a limit from 1 to 1,000,000,000, a worker's number from 1 to 64, and at most 64 definitions
-pub record AreOptions (options : Options) : Type 0 where
-  pub some_worker : 1 ≤ options.workers
-  pub few_workers : options.workers ≤ 64
-  pub depth : options.depth ≤ 16
-  pub least : 1 ≤ options.limit
-  pub most : options.limit ≤ 1000000000
-  pub first_number : 1 ≤ options.number
-  pub last_number : options.number ≤ 64
-  pub few_definitions : options.defs ≤ 64
 
 -- 1: what is wrong is printed, but for `quiet`
 pub record IsRefused (line : List ℕ) (options : Options) (r : Report) : Type 0 where

@@ -3,7 +3,7 @@ use Rattle.std.specs.Prelude.{◌≡◌, ℕ, Bool, List}
 use Rattle.dimacs.specs.logic.Cnf.{Cnf, Sat}
 use Rattle.dimacs.specs.text.Spelling.{Spells}
 use Rattle.lrat_check.specs.Soundness.{IsUnsatisfiable}
-use Rattle.node_main.specs.declared.report.Report.{Report}
+use Rattle.reports.specs.declared.report.Report.{Report}
 
 -- the input spells a formula, and an assignment satisfies it
 abbrev pub SpellsSatisfiable : List ℕ → Type 0

@@ -1,5 +1,4 @@
 -- What only private contracts, invariants and proofs name. Nothing here is to be believed.
-pub mod CommandLine
 pub mod Kinds
 pub mod Splitting
 pub mod Starting

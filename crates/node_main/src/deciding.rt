@@ -8,10 +8,10 @@ ghost use Rattle.runs.specs.Accounts.{HasBegun};
 ghost use Rattle.node_main.specs.Deciding.{Decides};
 ghost use Rattle.node_main.specs.Running.{WasRun};
 
-use crate::options::Options;
-use crate::report::Report;
+use command_line::Options;
 use dimacs::{Answer, answer_lines};
 use lrat_check::Verdict;
+use reports::Report;
 use std::alloc::{AllocError, Global};
 
 /// The report of an answer.

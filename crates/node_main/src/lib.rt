@@ -1,25 +1,20 @@
-//! What the program does: command lines, runs over bytes, and their reports.
+//! What the program does: runs over bytes and links, and their reports.
 //!
 //! Files are read and written by the program crate above; here a run is a function of bytes, so that its contract can
-//! say what is printed.
+//! say what is printed. Its words are those of `command_line`, its reports those of `reports`.
 #![tactic(auto)]
 
-mod command_line;
 mod commands;
 mod deciding;
-mod options;
-mod report;
-mod request;
+mod plans;
 mod splitting;
 mod starting;
 
-pub use command_line::command;
+pub use command_line::{Options, Request, UsageFault, command};
 pub use commands::check::{ProofCheck, run_check};
 pub use commands::cubes::run_cubes;
 pub use commands::drilling::{draw, drill, run_drill, worked_turns};
 pub use commands::serve::{run_serve, run_serve_of};
 pub use commands::solve::{run_solve, run_solve_of};
 pub use commands::work::{run_work, run_work_of};
-pub use options::Options;
-pub use report::{Refusal, Report};
-pub use request::{Request, UsageFault};
+pub use reports::{Refusal, Report};

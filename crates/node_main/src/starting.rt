@@ -2,15 +2,16 @@
 
 ghost use Rattle.std.specs.Prelude.{◌≡◌, ℕ, List, IfOk, IfSome, IfNone, option_map};
 ghost use Rattle.dimacs.specs.text.Reading.{parse, GivesFormula};
-ghost use Rattle.node_main.specs.Reports.{cubes_fault_text, input_fault_text, other_formula_text};
-ghost use Rattle.node_main.specs.Solving.{AreOptions, IsRefused};
+ghost use Rattle.command_line.specs.Options.{AreOptions};
+ghost use Rattle.reports.specs.Faults.{cubes_fault_text, input_fault_text, other_formula_text};
+ghost use Rattle.node_main.specs.Solving.{IsRefused};
 ghost use Rattle.node_main.specs.inner.Starting.{IsStart, Starts};
 
-use crate::options::Options;
-use crate::report::{Report, faulty_cubes, faulty_input, other_formula};
 use crate::splitting::{Split, split_of};
+use command_line::Options;
 use dimacs::{DimacsFault, Formula, Kind};
 use icnf::{IcnfFault, Tree};
+use reports::{Report, faulty_cubes, faulty_input, other_formula};
 use std::alloc::{AllocError, Global};
 
 /// What a run begins with.

@@ -1,4 +1,4 @@
-//! Lines, as far as they are looked at before they are read.
+//! What is told of lines before they are read: whether one deletes, and how many there are.
 
 ghost use Rattle.std.specs.Prelude.{◌≡◌, ◌==◌, count_by, IfOk};
 ghost use Rattle.lrat_text.specs.Grammar.{lf};

@@ -63,7 +63,7 @@ fn reply<L: Links>(links: &mut L, worker: &mut Worker, pace: &mut Pace) -> Resul
     send(links, at, &frame)
 }
 
-/// It works in the rounds in which it is due.
+/// The worker works if its pace has it work in this round.
 fn toil_in_time(worker: &mut Worker, pace: &Pace) -> Result<(), Broken>
     ensures formula { worker.new.formula ≡ worker.old.formula }
     ensures verdict { worker.new.verdict ≡ worker.old.verdict }
@@ -75,7 +75,7 @@ fn toil_in_time(worker: &mut Worker, pace: &Pace) -> Result<(), Broken>
     Ok(())
 }
 
-/// It works once and sends its frame, in this order or in the other one.
+/// The worker works once and sends its frame, in this order or in the other one.
 fn work_and_reply<L: Links>(
     links: &mut L,
     worker: &mut Worker,

@@ -1,6 +1,6 @@
 //! `solve`, `serve` and `work`: opens the links, runs over them, and writes the proof.
 
-ghost use Rattle.node_main.specs.Solving.{AreOptions};
+ghost use Rattle.command_line.specs.Options.{AreOptions};
 
 use crate::accepting::accept_workers;
 use crate::files::{no_memory, read_cubes, read_formula, refused};

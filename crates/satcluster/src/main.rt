@@ -2,17 +2,28 @@
 #![tactic(auto)]
 
 ghost use Rattle.std.specs.Prelude.{◌≤◌};
-ghost use Rattle.node_main.specs.CommandLine.{IsInRange};
+ghost use Rattle.command_line.specs.CommandLine.{IsInRange};
 
 mod accepting;
 mod check;
+mod complete;
 mod deciding;
 mod files;
+mod join;
+mod leaf_runs;
+mod lift;
+mod model;
 mod proof_file;
 
 use check::check;
+use complete::complete;
 use deciding::{Files, serve, solve, work};
 use files::{no_memory, read, refused};
+use join::{JoinFiles, join};
+use leaf_runs::{LeafFiles, leaf, refute, split};
+use leaves::Search;
+use lift::lift;
+use model::model;
 use node_main::{Refusal, Report, Request, UsageFault, command, run_cubes};
 use std::alloc::AllocError;
 use std::io::Write;
@@ -86,6 +97,60 @@ fn answer<R: Runtime + AllocGlobal + Net>(rt: &R, request: &Request) -> Result<R
             work(rt, port, &files, &options)
         }
         Request::Drill { input, seed, turns } => drill(rt, input, seed, turns),
+        Request::Split {
+            input,
+            cubes,
+            leaf,
+            on,
+        } => split(rt, input, cubes, u64::from(leaf), on),
+        Request::Complete { input, list } => complete(rt, input, list),
+        Request::Leaf {
+            input,
+            cubes,
+            leaf: number,
+        } => leaf(rt, input, cubes, u64::from(number)),
+        Request::Refute {
+            input,
+            cubes,
+            leaf,
+            limit,
+            fragment,
+            printing,
+        } => {
+            let files = LeafFiles {
+                input,
+                cubes,
+                fragment,
+            };
+            let search = Search {
+                limit,
+                quiet: printing.quiet,
+                witness: printing.witness,
+            };
+            refute(rt, &files, u64::from(leaf), &search)
+        }
+        Request::Join {
+            input,
+            cubes,
+            proof,
+            ref fragments,
+            printing,
+        } => {
+            let files = JoinFiles {
+                input,
+                cubes,
+                proof,
+            };
+            join(rt, &files, fragments, printing)
+        }
+        Request::Lift {
+            input,
+            cubes,
+            leaf,
+            proof,
+            fragment,
+        } => lift(rt, input, cubes, leaf, proof, fragment),
+        Request::Model { input, output } => model(rt, input, output),
     }
 }
 
@@ -95,6 +160,7 @@ fn is_quiet(request: &Request) -> bool {
         Request::Solve { options, .. }
         | Request::Serve { options, .. }
         | Request::Work { options, .. } => options.quiet,
+        Request::Refute { printing, .. } | Request::Join { printing, .. } => printing.quiet,
         _ => false,
     }
 }

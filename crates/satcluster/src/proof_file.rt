@@ -15,49 +15,113 @@ const PIECE: usize = 65_536;
 /// How many names are tried for the file beside the proof's.
 const NAMES: u32 = 100;
 
-/// How a proof is brought to its place.
-enum Way {
-    /// In a new file beside it, which then takes the place of the old one, and its permissions.
-    Beside(Option<Metadata>),
-    /// In place: there is something else than a file.
-    InPlace,
+/// Where a proof goes: the file to which its path leads, through symbolic links, or where none is there yet.
+#[derive(Drop)]
+pub(crate) struct Place {
+    path: String,
+    /// What stands there, whose permissions the new file gets.
+    old: Option<Metadata>,
+}
+
+/// A proof in the making, in a file beside its place.
+#[derive(Drop)]
+pub(crate) struct Part<F> {
+    file: F,
+    name: String,
 }
 
 /// Whether two paths lead to one file, or are the same where there is none.
-fn is_same_file<R: Runtime>(rt: &R, path: &str, other: &str) -> bool {
+pub(crate) fn is_same_file<R: Runtime>(rt: &R, path: &str, other: &str) -> bool {
     match (fs::metadata(rt, path), fs::metadata(rt, other)) {
         (Ok(found), Ok(known)) => found.dev() == known.dev() && found.ino() == known.ino(),
         _ => path == other,
     }
 }
 
-/// What stands at the path decides how it is written. A file that may not be written is refused, though another could take
-/// its place.
-fn way_to<R: Runtime>(rt: &R, path: &str) -> io::Result<Way> {
-    match fs::symlink_metadata(rt, path) {
+/// Where the path leads; none where something else than a file stands, or a link that leads nowhere. A file that may not be written is
+/// refused, though another could take its place.
+pub(crate) fn place_of<R: Runtime + AllocGlobal>(rt: &R, path: &str) -> io::Result<Option<Place>> {
+    match fs::metadata(rt, path) {
         Ok(old) if old.is_file() => {
             let _ = OpenOptions::new().write(true).open(rt, path)?;
-            Ok(Way::Beside(Some(old)))
+            let target = fs::canonicalize(rt, path)?;
+            Ok(Some(Place {
+                path: format!(in rt.alloc(); "{}", target.as_str())?,
+                old: Some(old),
+            }))
         }
-        Err(error) if error.kind() == ErrorKind::NotFound => Ok(Way::Beside(None)),
-        _ => Ok(Way::InPlace),
+        Err(error) if error.kind() == ErrorKind::NotFound => {
+            if fs::symlink_metadata(rt, path).is_ok() {
+                return Ok(None);
+            }
+            Ok(Some(Place {
+                path: format!(in rt.alloc(); "{path}")?,
+                old: None,
+            }))
+        }
+        _ => Ok(None),
     }
 }
 
-/// A new file beside the path, and its name; none where no file can be made there.
-fn make_beside<R: Runtime + AllocGlobal>(
+/// A new file beside the place, under the permissions of what stands there; none where no such file can be made.
+pub(crate) fn make_part<R: Runtime + AllocGlobal>(
     rt: &R,
-    path: &str,
-) -> io::Result<Option<(R::File, String)>> {
+    place: &Place,
+) -> io::Result<Option<Part<R::File>>> {
+    let path = place.path.as_str();
     for number in 0..NAMES {
         let name = format!(in rt.alloc(); "{path}.part{number}")?;
         match File::create_new(rt, name.as_str()) {
-            Ok(file) => return Ok(Some((file, name))),
+            Ok(file) => return Ok(permitted(rt, Part { file, name }, place)),
             Err(error) if error.kind() == ErrorKind::AlreadyExists => {}
             Err(_) => return Ok(None),
         }
     }
     Ok(None)
+}
+
+/// The part with the permissions of what stands at its place; none where it cannot get them.
+fn permitted<R: Runtime>(rt: &R, part: Part<R::File>, place: &Place) -> Option<Part<R::File>> {
+    if let Some(old) = &place.old {
+        if part.file.set_permissions(old.permissions()).is_err() {
+            remove(rt, part);
+            return None;
+        }
+    }
+    Some(part)
+}
+
+/// Whether a path leads to the place.
+pub(crate) fn leads_to<R: Runtime>(rt: &R, place: &Place, path: &str) -> bool {
+    is_same_file(rt, path, place.path.as_str())
+}
+
+/// Writes behind what the part has.
+pub(crate) fn append<F: Write>(part: &mut Part<F>, bytes: &[u8]) -> io::Result<()> {
+    part.file.write_all(bytes)
+}
+
+/// Whether a path leads to the part.
+pub(crate) fn is_part<R: Runtime>(rt: &R, part: &Part<R::File>, path: &str) -> bool {
+    is_same_file(rt, path, part.name.as_str())
+}
+
+/// Lets the part take its place, once all of it is on the disk, and tells whether it could; else it is gone.
+pub(crate) fn keep<R: Runtime>(rt: &R, part: Part<R::File>, place: &Place) -> io::Result<bool> {
+    if let Err(error) = part.file.sync_all() {
+        remove(rt, part);
+        return Err(error);
+    }
+    if fs::rename(rt, part.name.as_str(), place.path.as_str()).is_ok() {
+        return Ok(true);
+    }
+    remove(rt, part);
+    Ok(false)
+}
+
+/// Removes the part.
+pub(crate) fn remove<R: Runtime>(rt: &R, part: Part<R::File>) {
+    let _ = fs::remove_file(rt, part.name.as_str());
 }
 
 /// Writes a proof to a file, piece by piece, since it stands packed.
@@ -83,41 +147,23 @@ fn write_in_place<R: Runtime + AllocGlobal>(
     write_text(rt, &mut file, proof)
 }
 
-/// Fills a new file, and tells whether it could take the place of what stands at the path.
-fn replace<R: Runtime + AllocGlobal>(
-    rt: &R,
-    path: &str,
-    proof: &PackedText,
-    made: (R::File, &str),
-    old: Option<&Metadata>,
-) -> io::Result<bool> {
-    let (mut file, name) = made;
-    if let Some(old) = old {
-        if file.set_permissions(old.permissions()).is_err() {
-            return Ok(false);
-        }
-    }
-    write_text(rt, &mut file, proof)?;
-    Ok(fs::rename(rt, name, path).is_ok())
-}
-
 /// Writes the proof beside its place, where no file is left; in place where none can be made beside it or put there.
 fn write_beside<R: Runtime + AllocGlobal>(
     rt: &R,
-    path: &str,
+    place: &Place,
     proof: &PackedText,
-    old: Option<&Metadata>,
 ) -> io::Result<()> {
-    let Some((file, name)) = make_beside(rt, path)? else {
-        return write_in_place(rt, path, proof);
+    let Some(mut part) = make_part(rt, place)? else {
+        return write_in_place(rt, place.path.as_str(), proof);
     };
-    let replaced = replace(rt, path, proof, (file, name.as_str()), old);
-    if let Ok(true) = replaced {
+    if let Err(error) = write_text(rt, &mut part.file, proof) {
+        remove(rt, part);
+        return Err(error);
+    }
+    if keep(rt, part, place)? {
         return Ok(());
     }
-    let _ = fs::remove_file(rt, name.as_str());
-    replaced?;
-    write_in_place(rt, path, proof)
+    write_in_place(rt, place.path.as_str(), proof)
 }
 
 /// Writes a proof to the file at a path, unless it is one of the files that were read.
@@ -136,9 +182,9 @@ pub(crate) fn write_proof<R: Runtime + AllocGlobal>(
     if was_read {
         return Err(Refusal::Writing);
     }
-    let written = match way_to(rt, path) {
-        Ok(Way::Beside(old)) => write_beside(rt, path, proof, old.as_ref()),
-        Ok(Way::InPlace) => write_in_place(rt, path, proof),
+    let written = match place_of(rt, path) {
+        Ok(Some(place)) => write_beside(rt, &place, proof),
+        Ok(None) => write_in_place(rt, path, proof),
         Err(error) => Err(error),
     };
     written.map_err(|error| refused(error, Refusal::Writing))

@@ -1,8 +1,9 @@
 -- The worker: it takes tasks and searches, sends what it found, and collects a verdict that the coordinator announced.
-use Rattle.std.specs.Prelude.{◌≡◌, ◌≢◌, ℕ, ◌+◌, ◌<◌, ◌^◌, nat_lt, List, length, map, take, drop, Option, Some, None, ◌⊎◌, if◌then◌else◌}
+use Rattle.std.specs.Prelude.{◌≡◌, ◌≢◌, ℕ, ◌+◌, ◌<◌, ◌≤◌, ◌^◌, nat_lt, List, length, map, take, drop, Option, Some, None, ◌⊎◌, if◌then◌else◌}
 use Rattle.dimacs.specs.logic.Base.{base_of}
 use Rattle.dimacs.specs.logic.Cnf.{Cnf}
-use Rattle.cube_solve.specs.Outcome.{IsModel, allowed}
+use Rattle.cube_solve.specs.Conflicts.{MeetsConflict}
+use Rattle.cube_solve.specs.Outcome.{IsFresh, IsModel, allowed}
 use Rattle.cube_solve.specs.declared.outcome.Outcome.{Outcome}
 use Rattle.cube_solve.specs.declared.outcome.Outcome.TheVariants as outcome
 use Rattle.icnf.specs.Leaves.{Cube}
@@ -144,11 +145,19 @@ WorkerDelivers w (Want session worker offset) answer new = Ignores w answer new
 WorkerDelivers w (Idle worker incarnation) answer new = Ignores w answer new
 WorkerDelivers w Rest answer new = Ignores w answer new
 
--- how a search over a base may end: which way it ends is open
+-- a search under this cube met its limit: it learnt exactly as many lemmas as the limit allows, each of them fresh, and ended at a
+-- conflict over this cube; over at most six variables, the limit is no more than three to the power of their number
+pub record MeetsLimit (B : Cnf) (cube : Cube) (limit : ℕ) (text : List ℕ) : Type 0 where
+  pub count : IsHonest B (allowed limit) text
+  pub fresh : IsFresh B text
+  pub conflict : MeetsConflict B cube text
+  pub bound : B.vars ≤ 6 → ¬ (3 ^ B.vars < limit)
+
+-- how a search over a base may end: which way it ends is open. A refutation was trimmed, so its lemmas need not be fresh
 abbrev pub MayEnd : Cnf → Cube → ℕ → Outcome → Type 0
 MayEnd B cube limit (outcome.Model values) = IsModel B cube values
 MayEnd B cube limit (outcome.Refuted text) = Closes B cube text × HasAtMost (allowed limit + 1) text
-MayEnd B cube limit (outcome.Limit text) = IsHonest B (allowed limit) text
+MayEnd B cube limit (outcome.Limit text) = MeetsLimit B cube limit text
 
 -- what is kept of it: the values of the formula's variables, or the fragment, if its length fits a frame
 abbrev pub kept : JobName → ℕ → Outcome → Work

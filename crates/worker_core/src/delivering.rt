@@ -1,9 +1,10 @@
 //! Frames that come to a worker.
 
-ghost use Rattle.std.specs.Prelude.{◌≡◌, ◌<◌, length, IsTrue, ◌↔◌, OnErr, IfOk};
+ghost use Rattle.std.specs.Prelude.{◌≡◌, ◌<◌, length, IsTrue, ◌↔◌, OnErr, IfOk, Some};
 ghost use Rattle.evidence.specs.Events.{Delivered, Reacted};
 ghost use Rattle.evidence.specs.Evidence.{HasWrongLength};
 ghost use Rattle.evidence.specs.Jobs.{IsLater, IsInside};
+ghost use Rattle.worker_core.specs.declared.candidate.Candidate.{Candidate};
 ghost use Rattle.worker_core.specs.Worker.{DeliversTask, DeliversFetch, DeliversVerdict, DeliversPart, IsNews, WorkerStep};
 
 use crate::candidate::Candidate;
@@ -136,12 +137,9 @@ impl Worker {
     fn is_news(&self, session: u64) -> bool
         ensures { IsTrue result ↔ IsNews self.now session }
     {
-        let Verdict::Nothing = self.verdict else {
-            return false;
-        };
-        match &self.candidate {
-            None => true,
-            Some(candidate) => candidate.session < session,
+        match self.verdict {
+            Verdict::Nothing => is_before(&self.candidate, session),
+            Verdict::Model(_) | Verdict::Proof(_) => false,
         }
     }
 
@@ -193,6 +191,16 @@ fn is_later(last: Option<JobName>, name: JobName) -> bool
     match last {
         None => true,
         Some(last) => last.is_before(name),
+    }
+}
+
+/// Whether the candidate, if there is one, was announced under a lower session.
+fn is_before(candidate: &Option<Candidate>, session: u64) -> bool
+    ensures { IsTrue result ↔ ((c : Candidate) → candidate.now ≡ Some c → c.session < session) }
+{
+    match candidate {
+        None => true,
+        Some(candidate) => candidate.session < session,
     }
 }
 

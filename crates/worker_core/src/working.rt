@@ -68,7 +68,8 @@ fn search(alloc: Global, base: &Base, cube: &[Lit], limit: u64) -> Result<Outcom
             let most = limit.min(1 << 47) + 1;
             Ok(Outcome::Refuted(trim(alloc, base, cube, most, text)?))
         }
-        end => Ok(end),
+        Outcome::Model(values) => Ok(Outcome::Model(values)),
+        Outcome::Limit(text) => Ok(Outcome::Limit(text)),
     }
 }
 

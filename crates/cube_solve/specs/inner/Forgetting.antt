@@ -18,10 +18,11 @@ pub record AreLemmas (first : ℕ) (live : Live) (numbers : List ℕ) : Type 0 w
   pub behind : All (λ n. first ≤ n) numbers
   pub lives : All (λ n. (C : Clause) × live n C) numbers
 
--- a live clause that is the reason of no entry
+-- a live clause of three or more literals that is the reason of no entry
 pub record IsSpare (live : Live) (entries : List Assigned) (number : ℕ) : Type 0 where
   pub clause : Clause
   pub lives : live number clause
+  pub long : 2 < length clause
   pub free : (e : Assigned) → Contains entries e → ¬ (e.reason ≡ Some number)
 
 -- the clauses but those of some numbers

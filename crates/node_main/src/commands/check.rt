@@ -10,9 +10,9 @@ ghost use Rattle.node_main.specs.Truth.{SpellsUnsatisfiable};
 
 mod proof_check;
 
-use crate::report::Report;
 use lrat_check::accepted_proofs_are_sound;
 pub use proof_check::ProofCheck;
+use reports::Report;
 use std::alloc::{AllocError, Global};
 
 /// Reads a formula and checks a proof of it. The error stands for the report `c no memory`, status 1.

@@ -6,9 +6,9 @@ ghost use Rattle.dimacs.specs.text.Spelling.{Spells};
 ghost use Rattle.dimacs.specs.text.Reading.{parse};
 ghost use Rattle.node_main.specs.Cubing.{ShowsCubes, PrintsCubes};
 
-use crate::report::{Report, faulty_input};
 use cube_split::tree;
 use dimacs::{Formula, Kind};
+use reports::{Report, faulty_input};
 use std::alloc::{AllocError, Global};
 
 /// The report of the cubes of a formula.

@@ -12,12 +12,12 @@ mod kinds;
 mod tally;
 mod turn;
 
-use crate::report::{Report, faulty_input, put_number};
 use closed_schedules::honest_work_is_never_refused;
 use cluster::ClosedCluster;
 use cube_split::tree;
 use dimacs::{Formula, Kind};
 pub use drawing::draw;
+use reports::{Report, faulty_input, put_number};
 use std::alloc::{AllocError, Global};
 use tally::Tally;
 use turn::look;

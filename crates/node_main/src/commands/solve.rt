@@ -2,17 +2,19 @@
 
 ghost use Rattle.std.specs.Prelude.{ℕ, List, ◌≤◌, ◌+◌, ◌*◌, IfOk, option_map};
 ghost use Rattle.dimacs.specs.text.Reading.{parse, GivesFormula};
+ghost use Rattle.command_line.specs.Options.{AreOptions};
 ghost use Rattle.node_main.specs.Running.{WasRun};
-ghost use Rattle.node_main.specs.Solving.{AreOptions, Solves};
+ghost use Rattle.node_main.specs.Solving.{Solves};
 ghost use Rattle.node_main.specs.Truth.{IsTrueReport};
 
 use crate::deciding::decided;
-use crate::options::Options;
-use crate::report::Report;
+use crate::plans::coordinator_plan;
 use crate::starting::{Start, begin};
+use command_line::Options;
 use dimacs::{DimacsFault, Formula};
 use links::Links;
 use lrat_check::accepted_proofs_are_sound;
+use reports::Report;
 use std::alloc::{AllocError, Global};
 
 /// Reads a formula and runs a coordinator and its workers over links between them, with the formula split by the cubes of an iCNF
@@ -55,7 +57,7 @@ pub fn run_solve_of<L: Links>(
         Ok(Start::Refused(report)) => return Ok(report),
         Err(error) => return Err(error),
     };
-    match runs::solve(alloc, formula, tree, &options.coordinator_plan(), links) {
+    match runs::solve(alloc, formula, tree, &coordinator_plan(options), links) {
         Ok(verdict) => decided(alloc, verdict, options),
         Err(error) => Err(error),
     }

@@ -2,17 +2,19 @@
 
 ghost use Rattle.std.specs.Prelude.{ℕ, List, ◌≤◌, ◌+◌, IfOk};
 ghost use Rattle.dimacs.specs.text.Reading.{parse, GivesFormula};
+ghost use Rattle.command_line.specs.Options.{AreOptions};
 ghost use Rattle.node_main.specs.Running.{WasRun};
-ghost use Rattle.node_main.specs.Solving.{AreOptions, Works};
+ghost use Rattle.node_main.specs.Solving.{Works};
 ghost use Rattle.node_main.specs.Truth.{IsTrueReport};
 
 use crate::deciding::decided;
-use crate::options::Options;
-use crate::report::Report;
+use crate::plans::worker_plan;
 use crate::starting::refused_input;
+use command_line::Options;
 use dimacs::{DimacsFault, Formula, Kind};
 use links::Links;
 use lrat_check::accepted_proofs_are_sound;
+use reports::Report;
 use std::alloc::{AllocError, Global};
 
 /// Reads a formula and runs a worker over its link, until it holds a verdict. The error stands for the report `c no memory`,
@@ -53,7 +55,7 @@ pub fn run_work_of<L: Links>(
         Err(fault) if fault.kind == Kind::NoMemory => return Err(AllocError),
         Err(fault) => return refused_input(alloc, fault, options),
     };
-    match runs::work(alloc, formula, &options.worker_plan(), links) {
+    match runs::work(alloc, formula, &worker_plan(options), links) {
         Ok(verdict) => decided(alloc, verdict, options),
         Err(error) => Err(error),
     }

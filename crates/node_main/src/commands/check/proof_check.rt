@@ -4,11 +4,12 @@ ghost use Rattle.std.specs.Prelude.{◌≡◌, ◌≢◌, ◌++◌, [], ℕ, Lis
 ghost use Rattle.dimacs.specs.text.Reading.{GivesFormula, parse};
 ghost use Rattle.lrat_check.specs.Checking.{no_memory};
 ghost use Rattle.node_main.specs.ProofChecks.{HasTaken, IsCheckReport, KeepsNoLine};
-ghost use Rattle.node_main.specs.Reports.{answer_text, input_fault_text};
+ghost use Rattle.node_main.specs.Reports.{answer_text};
+ghost use Rattle.reports.specs.Faults.{input_fault_text};
 
-use crate::report::{Report, faulty_input, put_fault};
 use dimacs::{DimacsFault, Formula, Kind};
 use lrat_check::{CheckFault, StreamChecker};
+use reports::{Report, faulty_input, put_fault};
 use std::alloc::{AllocError, Global};
 use std::marker::Model;
 

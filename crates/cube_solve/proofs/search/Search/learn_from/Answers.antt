@@ -70,7 +70,7 @@ returns-clause-steady g c =
     record {
       ready = c.in_ok-add_clause.ensures.ready;
       state = state_learned s.arena c.add_clause.new.arena c.args.id lits
-          (joined s.arena b.new.self.arena c.add_clause.new.arena c.args.id lits c.deref.result.now c.requires.numbers b.ensures.arena c.deref.ensures.value c.in_ok-add_clause.ensures.clauses)
+          (joined s.arena b.new.self.arena c.add_clause.new.arena c.args.id lits c.deref-2.result.now c.requires.numbers b.ensures.arena c.deref-2.ensures.value c.in_ok-add_clause.ensures.clauses)
           _ _ s.trail b.new.self.trail c.analyse_into.new.lemma.level (c.in_ok-add_clause.ensures.ok ∙ ap (λ (xs : List ℕ). xs ++ c.args.id ∷ []) b.ensures.attached)
           (c.requires.steady).state e.asserting e.within b.ensures.vars b.ensures.front b.ensures.kept;
       order = (b.ensures.steady).order;
@@ -94,5 +94,5 @@ returns-clause-learns g c =
         text = c.in_ok-write.ensures;
       };
       is_new = is_fresh (live_of m) es lits c.analyse_into.new.lemma.level (sound (live_of m) es s.built) s.quiet e.asserting;
-      added = joined m c.go_back.new.self.arena c.add_clause.new.arena c.args.id lits c.deref.result.now c.requires.numbers c.go_back.ensures.arena c.deref.ensures.value c.in_ok-add_clause.ensures.clauses;
+      added = joined m c.go_back.new.self.arena c.add_clause.new.arena c.args.id lits c.deref-2.result.now c.requires.numbers c.go_back.ensures.arena c.deref-2.ensures.value c.in_ok-add_clause.ensures.clauses;
     }

@@ -12,7 +12,7 @@ returns-clause-searching g c =
     let e = c.in_ok-state.ensures in
     record {
       steady = e.steady;
-      learnt = search_begins B s.arena s.trail c.new-3.result e.linked e.vars c.new-3.ensures;
+      learnt = search_begins B s.arena s.trail c.new-4.result e.linked e.vars c.new-4.ensures;
       lemmas = subst (AreLemmas (length B.clauses + 1) (live_of s.arena)) (sym c.new-2.ensures.items) (lemmas_none (length B.clauses + 1) (live_of s.arena));
     }
 

@@ -1,0 +1,50 @@
+-- An answer that comes in pieces, and a table of the literals that it names.
+use Rattle.std.specs.Prelude.{◌≡◌, ℕ, Bool, false, List, ◌++◌, Option, Some, None, Result, Ok, Err, slice_index_or}
+use Rattle.dimacs.specs.logic.Literal.{index_of}
+use Rattle.dimacs.specs.logic.Propagation.{Assumed}
+use Rattle.dimacs.specs.text.Rows.{Fails}
+use Rattle.dimacs.specs.text.Words.{lines}
+use Rattle.answers.specs.declared.fault.AnswerFault.{AnswerFault}
+use Rattle.answers.specs.Reading.{Naming, answer_of, no_memory, read_lines}
+
+-- the literals whose mark in a table is set; past its end none is
+abbrev pub named_by : List Bool → Assumed
+named_by marks = λ l. slice_index_or marks (index_of l) false
+
+-- the table of the literals named, and whether the 0 was read
+pub record Marking : Type 0 where
+  pub marks : List Bool
+  pub ended : Bool
+
+abbrev pub naming_of : Marking → Naming
+naming_of m = record { named = named_by m.marks; ended = m.ended }
+
+-- what was read of a text: how many lines have ended, what they named, and of the line that is begun what still matters
+pub record LinesRead : Type 0 where
+  pub count : ℕ
+  pub naming : Marking
+  pub begun : List ℕ
+
+-- the literals that a text names whose further bytes are these, or its first fault
+abbrev pub read_on : LinesRead → List ℕ → Result Assumed AnswerFault
+read_on read more = read_lines read.count (lines (read.begun ++ more)) (naming_of read.naming)
+
+-- what is kept of the pieces so far, or the fault that was met
+pub data Progress : Type 0 where
+  Within : LinesRead → Progress
+  Failed : AnswerFault → Progress
+
+abbrev pub progress_of : Option AnswerFault → LinesRead → Progress
+progress_of None read = Within read
+progress_of (Some fault) read = Failed fault
+
+-- These bytes of a text have been read: whatever bytes follow, what is kept tells what the whole text is. A fault is the
+-- text's, or want of memory.
+abbrev pub HasRead : Progress → List ℕ → Type 0
+HasRead (Within read) bytes = (more : List ℕ) → answer_of (bytes ++ more) ≡ read_on read more
+HasRead (Failed fault) bytes = (more : List ℕ) → Fails no_memory fault (answer_of (bytes ++ more))
+
+-- a call answers the table of what is named, or the first fault, unless memory ran out
+abbrev pub GivesNamed : Result (List Bool) AnswerFault → Result Assumed AnswerFault → Type 0
+GivesNamed (Ok marks) expected = expected ≡ Ok (named_by marks)
+GivesNamed (Err fault) expected = Fails no_memory fault expected

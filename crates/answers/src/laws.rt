@@ -1,0 +1,26 @@
+//! Laws of the definitions.
+
+ghost use Rattle.std.specs.Prelude.{◌≡◌, ◌≢◌, ℕ, Bool, List, Ok, IfErr};
+ghost use Rattle.dimacs.specs.logic.Cnf.{Cnf, Sat};
+ghost use Rattle.dimacs.specs.logic.Literal.{Literal, has};
+ghost use Rattle.dimacs.specs.logic.Propagation.{Assumed};
+ghost use Rattle.answers.specs.Grammar.{Names, Verifies};
+ghost use Rattle.answers.specs.Reading.{answer_of};
+
+use crate::fault::Kind;
+
+/// Reading gives exactly the literals that a text names.
+pub fn reading_is_naming()
+    ensures found { (text : List ℕ) (α : Assumed) → answer_of text ≡ Ok α → (named : List Literal) × Names text named × (α ≡ has named) }
+    ensures only { (text : List ℕ) (named : List Literal) → Names text named → answer_of text ≡ Ok (has named) }
+{}
+
+/// A formula that a text verifies is satisfied by some assignment.
+pub fn verified_formulas_are_satisfiable()
+    ensures { (text : List ℕ) (F : Cnf) → Verifies text F → (a : ℕ → Bool) × Sat a F }
+{}
+
+/// No text is told to want memory: only a call answers that.
+pub fn no_answer_wants_memory()
+    ensures { (text : List ℕ) → IfErr (answer_of text) (λ f. f.kind ≢ Kind.NoMemory) }
+{}

@@ -1,0 +1,4 @@
+pub mod ProgramLemmas
+pub mod RefusalLemmas
+pub mod RequestLemmas
+pub mod WordLemmas

@@ -1,0 +1,128 @@
+-- Which requests the words behind a command's name make.
+use Rattle.std.proofs.Common.{◌≡◌, ◌∙◌, ℕ, true, false, List, Option, Some, None, Box, Vec, Global, ap, ap₂, codes, option_map, refl, subst, sym}
+use Rattle.std.specs.Borrow.{Bor}
+use Rattle.std.specs.Box.{box_value}
+use Rattle.std.specs.Str.{bytes_eq}
+use Rattle.clap.specs.Words.{Row, Text, subcommand_name_of, subcommand_of, subcommand_rows, subcommand_rows_of}
+use Rattle.clap.specs.declared.parser.matches.ArgMatches.{ArgMatches}
+use Rattle.clap.specs.declared.parser.matches.ArgMatches.TheViews.{out-ArgMatches, out-SubCommand}
+use Rattle.clap.specs.declared.parser.matches.SubCommand.{SubCommand}
+use Rattle.command_line.specs.CommandLine.{AsksFor, Makes}
+use Rattle.command_line.specs.Program.{program}
+use Rattle.command_line.specs.declared.options.Options.{Options}
+use Rattle.command_line.specs.declared.printing.Printing.{Printing}
+use Rattle.command_line.specs.declared.request.Request.{Request}
+use Rattle.command_line.specs.declared.request.Request.TheVariants.{Check, Complete, Cubes, Drill, Join, Leaf, Lift, Model, Refute, Serve, Solve, Split, Work}
+
+-- two names that a test tells apart
+pub differ : (a b : Text) → bytes_eq a b ≡ false → bytes_eq b b ≡ true → a ≡ b → ⊥
+differ a b apart same is = let e : false ≡ true = sym apart ∙ ap (λ t. bytes_eq t b) is ∙ same in cc
+
+-- the name of the command of a request
+abbrev name_of : Request → Text
+name_of (Check input proof) = codes "check"
+name_of (Cubes input depth) = codes "cubes"
+name_of (Split input cubes leaf on) = codes "cubes"
+name_of (Complete input list) = codes "cubes"
+name_of (Solve input cubes proof options) = codes "solve"
+name_of (Serve port input cubes proof options) = codes "serve"
+name_of (Work port input proof options) = codes "work"
+name_of (Drill input seed turns) = codes "drill"
+name_of (Leaf input cubes leaf) = codes "leaf"
+name_of (Refute input cubes leaf limit fragment printing) = codes "refute"
+name_of (Join input cubes proof fragments printing) = codes "join"
+name_of (Lift input cubes leaf proof fragment) = codes "lift"
+name_of (Model input output) = codes "model"
+
+is_named : (name : Text) (rows : List Row) (r : Request) → Makes name rows r → name ≡ name_of r
+is_named name rows (Check input proof) makes = makes.0
+is_named name rows (Cubes input depth) makes = makes.0
+is_named name rows (Split input cubes leaf on) makes = makes.0
+is_named name rows (Complete input list) makes = makes.0
+is_named name rows (Solve input cubes proof options) makes = makes.0
+is_named name rows (Serve port input cubes proof options) makes = makes.0
+is_named name rows (Work port input proof options) makes = makes.0
+is_named name rows (Drill input seed turns) makes = makes.0
+is_named name rows (Leaf input cubes leaf) makes = makes.0
+is_named name rows (Refute input cubes leaf limit fragment printing) makes = makes.0
+is_named name rows (Join input cubes proof fragments printing) makes = makes.0
+is_named name rows (Lift input cubes leaf proof fragment) makes = makes.0
+is_named name rows (Model input output) makes = makes.0
+
+pub only_check : (rows : List Row) → ((input : Bor Text) (proof : Bor Text) → Makes (codes "check") rows (Check input proof) → ⊥) → (r : Request) → Makes (codes "check") rows r → ⊥
+only_check rows none (Check input proof) makes = none input proof makes
+only_check rows none other makes = differ (codes "check") (name_of other) refl refl (is_named (codes "check") rows other makes)
+
+pub only_cubes : (rows : List Row) → ((input : Bor Text) (depth : ℕ) → Makes (codes "cubes") rows (Cubes input depth) → ⊥) → ((input : Bor Text) (cubes : Bor Text) (leaf : ℕ) (on : Option ℕ) → Makes (codes "cubes") rows (Split input cubes leaf on) → ⊥) → ((input : Bor Text) (list : Bor Text) → Makes (codes "cubes") rows (Complete input list) → ⊥) → (r : Request) → Makes (codes "cubes") rows r → ⊥
+only_cubes rows none uncut whole (Cubes input depth) makes = none input depth makes
+only_cubes rows none uncut whole (Split input cubes leaf on) makes = uncut input cubes leaf on makes
+only_cubes rows none uncut whole (Complete input list) makes = whole input list makes
+only_cubes rows none uncut whole other makes = differ (codes "cubes") (name_of other) refl refl (is_named (codes "cubes") rows other makes)
+
+pub only_solve : (rows : List Row) → ((input : Bor Text) (cubes : Option (Bor Text)) (proof : Option (Bor Text)) (options : Options) → Makes (codes "solve") rows (Solve input cubes proof options) → ⊥) → (r : Request) → Makes (codes "solve") rows r → ⊥
+only_solve rows none (Solve input cubes proof options) makes = none input cubes proof options makes
+only_solve rows none other makes = differ (codes "solve") (name_of other) refl refl (is_named (codes "solve") rows other makes)
+
+pub only_serve : (rows : List Row) → ((port : ℕ) (input : Bor Text) (cubes : Option (Bor Text)) (proof : Option (Bor Text)) (options : Options) → Makes (codes "serve") rows (Serve port input cubes proof options) → ⊥) → (r : Request) → Makes (codes "serve") rows r → ⊥
+only_serve rows none (Serve port input cubes proof options) makes = none port input cubes proof options makes
+only_serve rows none other makes = differ (codes "serve") (name_of other) refl refl (is_named (codes "serve") rows other makes)
+
+pub only_work : (rows : List Row) → ((port : ℕ) (input : Bor Text) (proof : Option (Bor Text)) (options : Options) → Makes (codes "work") rows (Work port input proof options) → ⊥) → (r : Request) → Makes (codes "work") rows r → ⊥
+only_work rows none (Work port input proof options) makes = none port input proof options makes
+only_work rows none other makes = differ (codes "work") (name_of other) refl refl (is_named (codes "work") rows other makes)
+
+pub only_drill : (rows : List Row) → ((input : Bor Text) (seed : ℕ) (turns : ℕ) → Makes (codes "drill") rows (Drill input seed turns) → ⊥) → (r : Request) → Makes (codes "drill") rows r → ⊥
+only_drill rows none (Drill input seed turns) makes = none input seed turns makes
+only_drill rows none other makes = differ (codes "drill") (name_of other) refl refl (is_named (codes "drill") rows other makes)
+
+pub only_leaf : (rows : List Row) → ((input : Bor Text) (cubes : Bor Text) (leaf : ℕ) → Makes (codes "leaf") rows (Leaf input cubes leaf) → ⊥) → (r : Request) → Makes (codes "leaf") rows r → ⊥
+only_leaf rows none (Leaf input cubes leaf) makes = none input cubes leaf makes
+only_leaf rows none other makes = differ (codes "leaf") (name_of other) refl refl (is_named (codes "leaf") rows other makes)
+
+pub only_refute : (rows : List Row) → ((input : Bor Text) (cubes : Bor Text) (leaf limit : ℕ) (fragment : Option (Bor Text)) (printing : Printing) → Makes (codes "refute") rows (Refute input cubes leaf limit fragment printing) → ⊥) → (r : Request) → Makes (codes "refute") rows r → ⊥
+only_refute rows none (Refute input cubes leaf limit fragment printing) makes = none input cubes leaf limit fragment printing makes
+only_refute rows none other makes = differ (codes "refute") (name_of other) refl refl (is_named (codes "refute") rows other makes)
+
+pub only_join : (rows : List Row) → ((input : Bor Text) (cubes : Bor Text) (proof : Bor Text) (fragments : Vec (Bor Text) Global) (printing : Printing) → Makes (codes "join") rows (Join input cubes proof fragments printing) → ⊥) → (r : Request) → Makes (codes "join") rows r → ⊥
+only_join rows none (Join input cubes proof fragments printing) makes = none input cubes proof fragments printing makes
+only_join rows none other makes = differ (codes "join") (name_of other) refl refl (is_named (codes "join") rows other makes)
+
+pub only_lift : (rows : List Row) → ((input : Bor Text) (cubes : Bor Text) (leaf : ℕ) (proof : Bor Text) (fragment : Bor Text) → Makes (codes "lift") rows (Lift input cubes leaf proof fragment) → ⊥) → (r : Request) → Makes (codes "lift") rows r → ⊥
+only_lift rows none (Lift input cubes leaf proof fragment) makes = none input cubes leaf proof fragment makes
+only_lift rows none other makes = differ (codes "lift") (name_of other) refl refl (is_named (codes "lift") rows other makes)
+
+pub only_model : (rows : List Row) → ((input : Bor Text) (output : Bor Text) → Makes (codes "model") rows (Model input output) → ⊥) → (r : Request) → Makes (codes "model") rows r → ⊥
+only_model rows none (Model input output) makes = none input output makes
+only_model rows none other makes = differ (codes "model") (name_of other) refl refl (is_named (codes "model") rows other makes)
+
+some_same : {X : Type 0} (a b : X) → Some a ≡ Some b → a ≡ b
+some_same a b e = cc
+
+none_some : {X : Type 0} (b : X) → None ≡ Some b → ⊥
+none_some b e = cc
+
+module _ {Z : Type 0} where
+  named : (o : Option (Box SubCommand Z)) (name : Text) (rows : List Row) → option_map (λ b. (out-SubCommand (box_value b)).name.now) o ≡ Some name
+      → option_map (λ p. p.1) (subcommand_rows o) ≡ Some rows → subcommand_rows o ≡ Some (name, rows)
+  named None name rows is are = cc
+  named (Some b) name rows is are = ap₂ (λ n r. Some (n, r)) (some_same _ _ is) (some_same _ _ are)
+
+  unnamed : (o : Option (Box SubCommand Z)) → option_map (λ b. (out-SubCommand (box_value b)).name.now) o ≡ None → subcommand_rows o ≡ None
+  unnamed None is = refl
+  unnamed (Some b) is = cc
+
+-- the name and the rows of the subcommand that a parse met
+pub met : (m : ArgMatches) (name : Text) (rows : List Row) → subcommand_name_of m ≡ Some name → option_map (λ p. p.1) (subcommand_rows_of m) ≡ Some rows
+    → subcommand_rows_of m ≡ Some (name, rows)
+met m name rows is are = named (out-ArgMatches m).subcommand name rows is are
+
+-- where a parse met no subcommand, the words ask for nothing
+pub asks_nothing : (m : ArgMatches) (words : List Text) (r : Request) → subcommand_name_of m ≡ None → subcommand_rows_of m ≡ subcommand_of program words
+    → AsksFor words r → ⊥
+asks_nothing m words r none is asks =
+    none_some (asks.name, asks.rows) (sym (unnamed (out-ArgMatches m).subcommand none) ∙ is ∙ asks.command)
+
+-- what the words ask for is made of the rows of the command that they name
+pub asks_of : (words : List Text) (name : Text) (rows : List Row) (r : Request) → subcommand_of program words ≡ Some (name, rows) → AsksFor words r → Makes name rows r
+asks_of words name rows r is asks =
+    subst (λ (p : Text × List Row). Makes p.0 p.1 r) (some_same (asks.name, asks.rows) (name, rows) (sym asks.command ∙ is)) asks.makes

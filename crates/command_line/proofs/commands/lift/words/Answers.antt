@@ -1,0 +1,15 @@
+use Rattle.std.proofs.Common.{◌≡◌, ◌∙◌, ap, ap₂, codes}
+use Rattle.std.proofs.lemmas.Result.{IfOk-weaker}
+use Rattle.clap.specs.Simple.{app_of_fields}
+use Rattle.clap.specs.Words.{app_of, new_app, with_rule}
+use Rattle.command_line.specs.Program.{with_leaf}
+use Rattle.command_line.proofs.commands.lift.words.Goals as goal
+
+pub returns : goal.returns
+returns c =
+    let start : app_of c.after_help-command.result ≡ new_app (codes "lift") =
+    ap app_of_fields c.after_help-command.ensures ∙ ap app_of_fields c.about.ensures ∙ c.new.ensures.app in
+    let leaf = c.in_ok-on_leaf.ensures ∙ ap with_leaf start in
+    let first = c.in_ok-arg.ensures.shape c.file.ensures.global ∙ ap₂ with_rule leaf c.file.ensures.rule in
+    let second = c.in_ok-arg-2.ensures.shape c.file-2.ensures.global ∙ ap₂ with_rule first c.file-2.ensures.rule in
+    IfOk-weaker c.arg-3.result _ _ (λ r h. h.shape c.file-3.ensures.global ∙ ap₂ with_rule second c.file-3.ensures.rule) c.arg-3.ensures

@@ -1,0 +1,16 @@
+use Rattle.std.proofs.Common.{◌≡◌, ◌∙◌, ap, ap₂, codes}
+use Rattle.std.proofs.lemmas.Result.{IfOk-weaker}
+use Rattle.clap.specs.Simple.{app_of_fields}
+use Rattle.clap.specs.Words.{app_of, new_app, with_rule}
+use Rattle.command_line.specs.Program.{with_leaf, with_printing}
+use Rattle.command_line.proofs.commands.refute.words.Goals as goal
+
+pub returns : goal.returns
+returns c =
+    let start : app_of c.after_help-command.result ≡ new_app (codes "refute") =
+    ap app_of_fields c.after_help-command.ensures ∙ ap app_of_fields c.about.ensures ∙ c.new.ensures.app in
+    let leaf = c.in_ok-on_leaf.ensures ∙ ap with_leaf start in
+    let limited = c.in_ok-command.ensures.shape c.number.ensures.global ∙ ap₂ with_rule leaf c.number.ensures.rule in
+    let printed = c.in_ok-printing.ensures ∙ ap with_printing limited in
+    let second = c.in_ok-arg.ensures.shape c.file.ensures.global ∙ ap₂ with_rule printed c.file.ensures.rule in
+    IfOk-weaker c.arg-3.result _ _ (λ r h. h.shape c.file-2.ensures.global ∙ ap₂ with_rule second c.file-2.ensures.rule) c.arg-3.ensures

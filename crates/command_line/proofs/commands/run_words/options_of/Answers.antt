@@ -1,0 +1,30 @@
+use Rattle.std.proofs.Common.{codes}
+use Rattle.clap.specs.Words.{found_of}
+use Rattle.command_line.proofs.WordLemmas.{if_none, read_flag}
+use Rattle.command_line.proofs.commands.run_words.options_of.Goals as goal
+
+pub returns-in_err-incarnation-clause-none : goal.returns-in_err-incarnation-clause-none
+returns-in_err-incarnation-clause-none c =
+    if_none c.from_residual-in_err-incarnation.result _ (λ options names. c.in_err-incarnation.ensures.none options.incarnation names.incarnation_is)
+
+pub returns-in_err-defs-clause-none : goal.returns-in_err-defs-clause-none
+returns-in_err-defs-clause-none c =
+    if_none c.from_residual-in_err-defs.result _ (λ options names. c.in_err-defs.ensures.none options.defs names.defs_is)
+
+pub returns-clause-found : goal.returns-clause-found
+returns-clause-found c =
+    let f = found_of c.args.matches.now in
+    let ahead = c.get_flag.ensures in
+    let printing = c.printing_of-printing.ensures in
+    record {
+      workers_is = c.in_ok-workers.ensures.found;
+      depth_is = c.in_ok-depth.ensures.found;
+      limit_is = c.in_ok-limit.ensures.found;
+      session_is = c.in_ok-session.ensures.found;
+      number_is = c.in_ok-number.ensures.found;
+      incarnation_is = c.in_ok-incarnation.ensures.found;
+      defs_is = c.in_ok-defs.ensures.found;
+      ahead_is = read_flag f (codes "ahead") c.get_flag.result ahead.none ahead.value ahead.other;
+      quiet_is = printing.quiet_is;
+      witness_is = printing.witness_is;
+    }

@@ -1,0 +1,172 @@
+-- What the words of a command line ask for, by the rules of `clap`.
+use Rattle.std.specs.Prelude.{◌≡◌, ℕ, ◌-◌, ◌^◌, ◌≤◌, List, [], ◌∷◌, length, map, Bool, true, false, not, Option, Some, None, option_map, codes, IfSome, ⊤}
+use Rattle.std.specs.Borrow.{Bor}
+use Rattle.std.specs.Str.Parse.{IsNumeral, digits_value, without_leading_plus}
+use Rattle.clap.specs.Kinds.{IsAmong}
+use Rattle.clap.specs.Words.{Row, Text, all_of, fault_of, first_of, one_of, subcommand_of, takes}
+use Rattle.clap.specs.declared.error.kind.ErrorKind.TheVariants as kind
+use Rattle.command_line.specs.Program.{program}
+use Rattle.command_line.specs.Options.{AreOptions}
+use Rattle.command_line.specs.declared.options.Options.{Options}
+use Rattle.command_line.specs.declared.printing.Printing.{Printing}
+use Rattle.command_line.specs.declared.request.Request.{Request}
+use Rattle.command_line.specs.declared.request.Request.TheVariants.{Check, Complete, Cubes, Drill, Join, Leaf, Lift, Model, Refute, Serve, Solve, Split, Work}
+use Rattle.command_line.specs.declared.request.UsageFault.{UsageFault}
+use Rattle.command_line.specs.declared.request.UsageFault.TheVariants.{Help, NoMemory, Usage}
+
+-- the text is a number of the range in decimal digits, perhaps with a plus before them
+pub record IsNumber (low high : ℕ) (text : Text) (number : ℕ) : Type 0 where
+  pub numeral : IsNumeral 10 (without_leading_plus text)
+  pub value : number ≡ digits_value 10 (without_leading_plus text)
+  pub least : low ≤ number
+  pub most : number ≤ high
+
+-- the number in a range that the words give to an option
+pub record NamesNumber (rows : List Row) (name : Text) (low high : ℕ) (number : ℕ) : Type 0 where
+  pub written : Text
+  pub given : first_of name rows ≡ Some written
+  pub read : IsNumber low high written number
+
+-- the number in a range that the words give to an option, or the usual one where the option is left out or the command has none such
+pub record NamesNumberOr (rows : List Row) (name : Text) (low high usual : ℕ) (number : ℕ) : Type 0 where
+  pub given : (written : Text) → first_of name rows ≡ Some written → IsNumber low high written number
+  pub left_out : first_of name rows ≡ None → number ≡ usual
+
+-- the words give nothing to an option
+abbrev pub NamesNothing : List Row → Text → Type 0
+NamesNothing rows name = first_of name rows ≡ None
+
+-- the number in a range that the words give to an option, or that they give it none
+abbrev pub NamesAnyNumber : List Row → Text → ℕ → ℕ → Option ℕ → Type 0
+NamesAnyNumber rows name low high None = NamesNothing rows name
+NamesAnyNumber rows name low high (Some number) = NamesNumber rows name low high number
+
+-- the words say of a flag that it is given, or that it is not
+pub record NamesFlag (rows : List Row) (name : Text) (given : Bool) : Type 0 where
+  pub yes : one_of name rows ≡ Some (codes "true") → given ≡ true
+  pub no : one_of name rows ≡ Some (codes "false") → given ≡ false
+  pub none : one_of name rows ≡ None → given ≡ false
+
+-- the file that the words name, or that they name none
+abbrev pub NamesFile : List Row → Text → Option (Bor Text) → Type 0
+NamesFile rows name file = first_of name rows ≡ option_map (λ t. t.now) file
+
+-- the files that the words name, all of them in their order: one at least
+pub record NamesFiles (rows : List Row) (name : Text) (files : List (Bor Text)) : Type 0 where
+  pub given : all_of name rows ≡ Some (map (λ t. t.now) files)
+  pub some : 1 ≤ length files
+
+-- which leaf the words name, by its number
+abbrev pub NamesLeaf : List Row → ℕ → Type 0
+NamesLeaf rows leaf = NamesNumber rows (codes "leaf") 1 (2 ^ 32 - 1) leaf
+
+-- what the words say is left out of what is printed: `c` lines, and `v` lines
+pub record NamesPrinting (rows : List Row) (printing : Printing) : Type 0 where
+  pub quiet_is : NamesFlag rows (codes "quiet") printing.quiet
+  pub witness_is : NamesFlag rows (codes "no-witness") (not printing.witness)
+
+-- the options of a run, each by its word; the usual one where the command has no such word
+pub record NamesOptions (rows : List Row) (options : Options) : Type 0 where
+  pub workers_is : NamesNumberOr rows (codes "workers") 1 64 2 options.workers
+  pub depth_is : NamesNumberOr rows (codes "depth") 0 16 4 options.depth
+  pub limit_is : NamesNumberOr rows (codes "limit") 1 1000000000 100000 options.limit
+  pub session_is : NamesNumberOr rows (codes "session") 0 (2 ^ 64 - 1) 1 options.session
+  pub number_is : NamesNumberOr rows (codes "number") 1 64 1 options.number
+  pub incarnation_is : NamesNumberOr rows (codes "incarnation") 0 (2 ^ 64 - 1) 1 options.incarnation
+  pub defs_is : NamesNumberOr rows (codes "defs") 0 64 0 options.defs
+  pub ahead_is : NamesFlag rows (codes "ahead") options.ahead
+  pub quiet_is : NamesFlag rows (codes "quiet") options.quiet
+  pub witness_is : NamesFlag rows (codes "no-witness") (not options.witness)
+
+-- the words of a command of this name, of which these rows are made, say what the request does
+abbrev pub Makes : Text → List Row → Request → Type 0
+Makes name rows (Check input proof) =
+    (name ≡ codes "check") × NamesFile rows (codes "INPUT") (Some input) × NamesFile rows (codes "PROOF") (Some proof)
+Makes name rows (Cubes input depth) =
+    (name ≡ codes "cubes") × NamesFile rows (codes "INPUT") (Some input) × NamesNumberOr rows (codes "depth") 0 16 4 depth
+    × NamesNothing rows (codes "cubes") × NamesNothing rows (codes "split") × NamesNothing rows (codes "on") × NamesNothing rows (codes "complete")
+Makes name rows (Split input cubes leaf on) =
+    (name ≡ codes "cubes") × NamesFile rows (codes "INPUT") (Some input) × NamesFile rows (codes "cubes") (Some cubes)
+    × NamesNumber rows (codes "split") 1 (2 ^ 32 - 1) leaf × NamesAnyNumber rows (codes "on") 1 (2 ^ 31 - 1) on × NamesNothing rows (codes "depth")
+    × NamesNothing rows (codes "complete")
+Makes name rows (Complete input list) =
+    (name ≡ codes "cubes") × NamesFile rows (codes "INPUT") (Some input) × NamesFile rows (codes "complete") (Some list)
+    × NamesNothing rows (codes "depth") × NamesNothing rows (codes "cubes") × NamesNothing rows (codes "split") × NamesNothing rows (codes "on")
+Makes name rows (Solve input cubes proof options) =
+    (name ≡ codes "solve") × NamesFile rows (codes "INPUT") (Some input) × NamesFile rows (codes "cubes") cubes
+    × NamesFile rows (codes "PROOF") proof × NamesOptions rows options
+Makes name rows (Serve port input cubes proof options) =
+    (name ≡ codes "serve") × NamesNumber rows (codes "port") 1 65535 port × NamesFile rows (codes "INPUT") (Some input)
+    × NamesFile rows (codes "cubes") cubes × NamesFile rows (codes "PROOF") proof × NamesOptions rows options
+Makes name rows (Work port input proof options) =
+    (name ≡ codes "work") × NamesNumber rows (codes "port") 1 65535 port × NamesFile rows (codes "INPUT") (Some input)
+    × NamesFile rows (codes "PROOF") proof × NamesOptions rows options
+Makes name rows (Drill input seed turns) =
+    (name ≡ codes "drill") × NamesFile rows (codes "INPUT") (Some input) × NamesNumber rows (codes "seed") 0 (2 ^ 64 - 1) seed
+    × NamesNumber rows (codes "turns") 0 100000 turns
+Makes name rows (Leaf input cubes leaf) =
+    (name ≡ codes "leaf") × NamesFile rows (codes "INPUT") (Some input) × NamesFile rows (codes "cubes") (Some cubes) × NamesLeaf rows leaf
+Makes name rows (Refute input cubes leaf limit fragment printing) =
+    (name ≡ codes "refute") × NamesFile rows (codes "INPUT") (Some input) × NamesFile rows (codes "cubes") (Some cubes) × NamesLeaf rows leaf
+    × NamesNumber rows (codes "limit") 1 (2 ^ 47) limit × NamesFile rows (codes "FRAGMENT") fragment × NamesPrinting rows printing
+Makes name rows (Join input cubes proof fragments printing) =
+    (name ≡ codes "join") × NamesFile rows (codes "INPUT") (Some input) × NamesFile rows (codes "cubes") (Some cubes)
+    × NamesFile rows (codes "PROOF") (Some proof) × NamesFiles rows (codes "NAME") fragments.items × NamesPrinting rows printing
+Makes name rows (Lift input cubes leaf proof fragment) =
+    (name ≡ codes "lift") × NamesFile rows (codes "INPUT") (Some input) × NamesFile rows (codes "cubes") (Some cubes) × NamesLeaf rows leaf
+    × NamesFile rows (codes "PROOF") (Some proof) × NamesFile rows (codes "FRAGMENT") (Some fragment)
+Makes name rows (Model input output) =
+    (name ≡ codes "model") × NamesFile rows (codes "INPUT") (Some input) × NamesFile rows (codes "FILE") (Some output)
+
+-- the words are right by the rules of the command line
+pub record AreTaken (words : List Text) : Type 0 where
+  pub by_rules : takes program words ≡ true
+
+-- a parse of the words meets no fault
+abbrev pub IsParsed : List Text → Type 0
+IsParsed words = fault_of program words ≡ []
+
+-- the words ask for what the request says: they name its command, and behind it what the request holds
+pub record AsksFor (words : List Text) (request : Request) : Type 0 where
+  pub name : Text
+  pub rows : List Row
+  pub command : subcommand_of program words ≡ Some (name, rows)
+  pub makes : Makes name rows request
+
+-- the words ask for help: a parse of them ends there, if not for want of memory
+abbrev pub AsksForHelp : List Text → Type 0
+AsksForHelp words = fault_of program words ≡ kind.DisplayHelp ∷ []
+
+-- why words give no request
+abbrev pub IsRefusal : List Text → UsageFault → Type 0
+IsRefusal words (Help text) = IsAmong kind.DisplayHelp (fault_of program words)
+IsRefusal words Usage = AsksForHelp words → ⊥
+IsRefusal words NoMemory = ⊤
+
+-- the number is one of a port
+abbrev pub IsPort : ℕ → Type 0
+IsPort port = (1 ≤ port) × (port ≤ 65535)
+
+-- the number is one of a leaf
+abbrev pub IsLeafNumber : ℕ → Type 0
+IsLeafNumber leaf = (1 ≤ leaf) × (leaf ≤ 2 ^ 32 - 1)
+
+-- the number is one of a variable
+abbrev pub IsVariable : ℕ → Type 0
+IsVariable variable = (1 ≤ variable) × (variable ≤ 2 ^ 31 - 1)
+
+-- the numbers of a request are in their ranges
+abbrev pub IsInRange : Request → Type 0
+IsInRange (Check input proof) = ⊤
+IsInRange (Cubes input depth) = depth ≤ 16
+IsInRange (Split input cubes leaf on) = IsLeafNumber leaf × IfSome on IsVariable
+IsInRange (Complete input list) = ⊤
+IsInRange (Solve input cubes proof options) = AreOptions options
+IsInRange (Serve port input cubes proof options) = IsPort port × AreOptions options
+IsInRange (Work port input proof options) = IsPort port × AreOptions options
+IsInRange (Drill input seed turns) = turns ≤ 100000
+IsInRange (Leaf input cubes leaf) = IsLeafNumber leaf
+IsInRange (Refute input cubes leaf limit fragment printing) = IsLeafNumber leaf × (1 ≤ limit) × (limit ≤ 2 ^ 47)
+IsInRange (Join input cubes proof fragments printing) = 1 ≤ length fragments.items
+IsInRange (Lift input cubes leaf proof fragment) = IsLeafNumber leaf
+IsInRange (Model input output) = ⊤

@@ -1,0 +1,4 @@
+pub mod CommandLine
+pub mod Options
+pub mod Program
+pub mod inner

@@ -1,0 +1,161 @@
+-- The rules of the program's words, as `clap` takes them.
+use Rattle.std.specs.Prelude.{ℕ, ◌-◌, ◌^◌, Bool, true, false, [], ◌∷◌, Some, codes}
+use Rattle.std.specs.Str.{byte}
+use Rattle.clap.specs.Simple.{on_top}
+use Rattle.clap.specs.Words.{App, Rule, Text, new_app, new_rule, with_rule, with_subcommand}
+use Rattle.clap.specs.declared.builder.ArgAction.TheVariants.{Append, Set, SetTrue}
+use Rattle.clap.specs.declared.builder.value_parser.ValueParser.TheVariants as vp
+
+-- a file, which may have to be named
+abbrev pub file_rule : Text → Bool → Rule
+file_rule name required = record (new_rule name) { action = Some Set; required = required }
+
+-- one file or more, the last words of a command
+abbrev pub files_rule : Text → Rule
+files_rule name = record (new_rule name) { action = Some Append; required = true }
+
+-- `--name FILE`, which may be left out
+abbrev pub named_file_rule : Text → Rule
+named_file_rule name = record (new_rule name) { long = Some name; action = Some Set }
+
+-- `--name FILE` that has to be named
+abbrev pub needed_file_rule : Text → Rule
+needed_file_rule name = record (named_file_rule name) { required = true }
+
+-- `--name N`, a number in a range, and another text where it is left out
+abbrev pub number_rule : Text → ℕ → ℕ → Text → Rule
+number_rule name low high default = record (new_rule name) {
+  long = Some name;
+  action = Some Set;
+  parser = Some (vp.Unsigned low high);
+  defaults = default ∷ [];
+}
+
+-- `--name N`, a number in a range that has to be named
+abbrev pub needed_number_rule : Text → ℕ → ℕ → Rule
+needed_number_rule name low high = record (new_rule name) {
+  long = Some name;
+  action = Some Set;
+  parser = Some (vp.Unsigned low high);
+  required = true;
+}
+
+-- `--name N`, a number in a range, which may be left out
+abbrev pub any_number_rule : Text → ℕ → ℕ → Rule
+any_number_rule name low high = record (new_rule name) {
+  long = Some name;
+  action = Some Set;
+  parser = Some (vp.Unsigned low high);
+}
+
+-- a flag of one letter
+abbrev pub flag_rule : Text → ℕ → Rule
+flag_rule name letter = record (new_rule name) { short = Some letter; action = Some SetTrue }
+
+-- a flag `--name`
+abbrev pub long_flag_rule : Text → Rule
+long_flag_rule name = record (new_rule name) { long = Some name; action = Some SetTrue }
+
+-- `[--workers N] [--depth D] [--limit L] [--cubes FILE]`: N from 1 to 64, else 2, D from 0 to 16, else 4, and L from 1 to
+-- 1,000,000,000, else 100,000
+abbrev pub with_search : App → App
+with_search a =
+    with_rule (with_rule (with_rule (with_rule a (number_rule (codes "workers") 1 64 (codes "2")))
+    (number_rule (codes "depth") 0 16 (codes "4"))) (number_rule (codes "limit") 1 1000000000 (codes "100000")))
+    (named_file_rule (codes "cubes"))
+
+-- `[-q] [-n]`
+abbrev pub with_printing : App → App
+with_printing a = with_rule (with_rule a (flag_rule (codes "quiet") (byte "q"))) (flag_rule (codes "no-witness") (byte "n"))
+
+-- `[--defs K] [-q] [-n] INPUT [PROOF]`: K from 0 to 64, else 0
+abbrev pub with_files : App → App
+with_files a =
+    with_rule (with_rule (with_printing (with_rule a (number_rule (codes "defs") 0 64 (codes "0")))) (file_rule (codes "INPUT") true))
+    (file_rule (codes "PROOF") false)
+
+-- `--cubes FILE --leaf I`: I from 1 to 4,294,967,295
+abbrev pub with_leaf : App → App
+with_leaf a = with_rule (with_rule a (needed_file_rule (codes "cubes"))) (needed_number_rule (codes "leaf") 1 (2 ^ 32 - 1))
+
+-- `check INPUT PROOF`
+abbrev pub check_app : App
+check_app = with_rule (with_rule (new_app (codes "check")) (file_rule (codes "INPUT") true)) (file_rule (codes "PROOF") true)
+
+-- `cubes [--depth D] [--cubes FILE] [--split I] [--on V] [--complete FILE] INPUT`: D from 0 to 16, I from 1 to 4,294,967,295, and V
+-- from 1 to 2 ^ 31 - 1
+abbrev pub cubes_app : App
+cubes_app =
+    with_rule (with_rule (with_rule (with_rule (with_rule (with_rule (new_app (codes "cubes")) (any_number_rule (codes "depth") 0 16))
+    (named_file_rule (codes "cubes"))) (any_number_rule (codes "split") 1 (2 ^ 32 - 1))) (any_number_rule (codes "on") 1 (2 ^ 31 - 1)))
+    (named_file_rule (codes "complete"))) (file_rule (codes "INPUT") true)
+
+-- `solve`, a search
+abbrev pub solve_app : App
+solve_app = with_files (with_search (new_app (codes "solve")))
+
+-- `serve --port P [--session S]`, a search: P from 1 to 65,535, and S any number of 64 bits, else 1
+abbrev pub serve_app : App
+serve_app =
+    with_files (with_search (with_rule (with_rule (new_app (codes "serve")) (needed_number_rule (codes "port") 1 65535))
+    (number_rule (codes "session") 0 (2 ^ 64 - 1) (codes "1"))))
+
+-- `work --port P [--number W] [--incarnation I] [--ahead]`, and files: W from 1 to 64, else 1, and I any number of
+-- 64 bits, else 1
+abbrev pub work_app : App
+work_app =
+    with_files (with_rule (with_rule (with_rule (with_rule (new_app (codes "work")) (needed_number_rule (codes "port") 1 65535))
+    (number_rule (codes "number") 1 64 (codes "1"))) (number_rule (codes "incarnation") 0 (2 ^ 64 - 1) (codes "1")))
+    (long_flag_rule (codes "ahead")))
+
+-- `drill --seed S --turns T INPUT`: S any number of 64 bits, and T from 0 to 100,000
+abbrev pub drill_app : App
+drill_app =
+    with_rule (with_rule (with_rule (new_app (codes "drill")) (needed_number_rule (codes "seed") 0 (2 ^ 64 - 1)))
+    (needed_number_rule (codes "turns") 0 100000)) (file_rule (codes "INPUT") true)
+
+-- `leaf --cubes FILE --leaf I INPUT`
+abbrev pub leaf_app : App
+leaf_app = with_rule (with_leaf (new_app (codes "leaf"))) (file_rule (codes "INPUT") true)
+
+-- `refute --cubes FILE --leaf I [--limit L] [-q] [-n] INPUT [FRAGMENT]`: L from 1 to 140,737,488,355,328 = 2 ^ 47, which is what
+-- stands where it is left out
+abbrev pub refute_app : App
+refute_app =
+    with_rule (with_rule (with_printing (with_rule (with_leaf (new_app (codes "refute"))) (number_rule (codes "limit") 1 (2 ^ 47) (codes "140737488355328"))))
+    (file_rule (codes "INPUT") true)) (file_rule (codes "FRAGMENT") false)
+
+-- `join --cubes FILE [-q] [-n] INPUT PROOF NAME..`, of one name or more
+abbrev pub join_app : App
+join_app =
+    with_rule (with_rule (with_rule (with_printing (with_rule (new_app (codes "join")) (needed_file_rule (codes "cubes")))) (file_rule (codes "INPUT") true))
+    (file_rule (codes "PROOF") true)) (files_rule (codes "NAME"))
+
+-- `lift --cubes FILE --leaf I INPUT PROOF FRAGMENT`
+abbrev pub lift_app : App
+lift_app =
+    with_rule (with_rule (with_rule (with_leaf (new_app (codes "lift"))) (file_rule (codes "INPUT") true)) (file_rule (codes "PROOF") true))
+    (file_rule (codes "FRAGMENT") true)
+
+-- `model INPUT FILE`
+abbrev pub model_app : App
+model_app = with_rule (with_rule (new_app (codes "model")) (file_rule (codes "INPUT") true)) (file_rule (codes "FILE") true)
+
+-- the program, of which a command has to be named
+abbrev pub bare_program : App
+bare_program = on_top (λ s. record s { subcommand_required = true }) (new_app (codes "satcluster"))
+
+-- the commands on whole formulas
+abbrev pub with_formulas : App → App
+with_formulas a =
+    with_subcommand (with_subcommand (with_subcommand (with_subcommand (with_subcommand (with_subcommand a solve_app.top) check_app.top) cubes_app.top)
+    serve_app.top) work_app.top) drill_app.top
+
+-- the commands on leaves, and on what solvers print
+abbrev pub with_leaves : App → App
+with_leaves a =
+    with_subcommand (with_subcommand (with_subcommand (with_subcommand (with_subcommand a leaf_app.top) refute_app.top) join_app.top) lift_app.top)
+    model_app.top
+
+abbrev pub program : App
+program = with_leaves (with_formulas bare_program)

@@ -1,0 +1,16 @@
+//! The words of the commands, a room each, and what they share.
+
+pub(crate) mod check;
+pub(crate) mod cubes;
+pub(crate) mod drill;
+pub(crate) mod join;
+pub(crate) mod leaf;
+mod leaf_words;
+pub(crate) mod lift;
+pub(crate) mod model;
+pub(crate) mod refute;
+mod run_words;
+pub(crate) mod serve;
+pub(crate) mod solve;
+mod words;
+pub(crate) mod work;

@@ -1,0 +1,26 @@
+//! How a formula is decided.
+
+/// How a formula is decided, and what is printed of it. A command that has no word for a field takes what is said here.
+#[derive(Clone, Copy, Debug, PartialEq, Eq)]
+pub struct Options {
+    /// How many workers there are, from 1 to 64; else 2.
+    pub workers: u32,
+    /// How deep the formula is split, from 0 to 16, where no cubes are handed in; else 4.
+    pub depth: u32,
+    /// The most lemmas that the search under a leaf learns before the leaf is split, from 1 to 1,000,000,000; else 100,000.
+    pub limit: u64,
+    /// The number of the coordinator's session; else 1.
+    pub session: u64,
+    /// The number of the worker, from 1 to 64; else 1.
+    pub number: u32,
+    /// Its incarnation; else 1.
+    pub incarnation: u64,
+    /// How many variables are defined, each for two literals that stand together in many clauses, from 0 to 64; else 0.
+    pub defs: u32,
+    /// Whether the worker sends before it works, so that the coordinator goes on to others; else not.
+    pub ahead: bool,
+    /// Whether `c` lines are left out.
+    pub quiet: bool,
+    /// Whether the `v` lines of an assignment are printed.
+    pub witness: bool,
+}

@@ -1,0 +1,4 @@
+pub mod Completing
+pub mod Parting
+pub mod Reading
+pub mod inner

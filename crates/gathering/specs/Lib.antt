@@ -1,0 +1,6 @@
+pub mod Closing
+pub mod Examples
+pub mod Gathering
+pub mod Trees
+pub mod Written
+pub mod inner

@@ -1,0 +1,31 @@
+//! What writes one proof out of logs.
+
+ghost use Rattle.std.specs.Prelude.{◌≡◌, ◌^◌, ◌<◌, ◌≤◌, All, length};
+ghost use Rattle.lrat_text.specs.Grammar.{IsClauseNumber};
+
+use crate::tree::Node;
+use std::alloc::Global;
+
+/// Writes logs over a formula one after the other, each step as it was checked, and closes the leaves of a splitting tree.
+///
+/// A log is begun, its lines are written, its live lemmas are handed over by rising numbers, and it is ended. Where every leaf is
+/// closed, the lines of the forks make a proof of the formula.
+#[derive(Drop)]
+pub struct Gatherer {
+    pub(crate) alloc: Global,
+    /// How many clauses the formula has.
+    pub(crate) base: u64,
+    /// The greatest number when this log began, and the greatest so far.
+    pub(crate) begun: u64,
+    pub(crate) top: u64,
+    pub(crate) tree: Node,
+    /// The variables of the tree's forks.
+    pub(crate) marks: Vec<bool>,
+    /// The numbers that are deleted behind this log.
+    pub(crate) spent: Vec<u64>,
+    /// The numbers of a line.
+    pub(crate) numbers: Vec<u64>,
+    ghost limit: { top < 2 ^ 48 },
+    ghost few: { length marks.items ≡ 2000001 },
+    ghost deletable: { All IsClauseNumber spent.items },
+}

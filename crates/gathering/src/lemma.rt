@@ -1,0 +1,25 @@
+//! Lemmas that close leaves.
+
+ghost use Rattle.std.specs.Prelude.{All};
+ghost use Rattle.dimacs.specs.logic.Literal.{IsWithin};
+ghost use Rattle.lrat_text.specs.Grammar.{IsClauseNumber};
+
+use dimacs::Lit;
+
+/// A clause of a proof, and its number.
+#[derive(Drop)]
+pub(crate) struct Lemma {
+    pub(crate) id: u64,
+    pub(crate) clause: Vec<Lit>,
+    ghost numbered: { IsClauseNumber id },
+    ghost small: { All (IsWithin 2000000) clause.items },
+}
+
+/// A lemma that is lent.
+#[derive(Clone, Copy)]
+pub(crate) struct Candidate<'a> {
+    pub(crate) id: u64,
+    pub(crate) clause: &'a [Lit],
+    ghost numbered: { IsClauseNumber id },
+    ghost small: { All (IsWithin 2000000) clause.now },
+}

@@ -1,0 +1,185 @@
+//! A splitting tree whose leaves are closed one after the other.
+
+ghost use Rattle.std.specs.Prelude.{◌≡◌, ℕ, ◌+◌, ◌^◌, ◌<◌, ◌≤◌, Bool, ◌||◌, false, List, [], ◌∷◌, ◌++◌, All, Contains, IfOk, OnOk, length};
+ghost use Rattle.std.specs.List.{list_any, list_all};
+ghost use Rattle.dimacs.specs.logic.Literal.{IsTautology};
+ghost use Rattle.icnf.specs.Leaves.{Cube};
+ghost use Rattle.gathering.specs.Closing.{closes, is_closed, can_close, open_from, settled};
+ghost use Rattle.gathering.specs.Trees.{leaf_in, leaves_in, IsSubtree};
+ghost use Rattle.gathering.specs.inner.Trees.{candidate_of, HasSettled, IsMadeOf, IsPart, Settles};
+
+use crate::lemma::{Candidate, Lemma};
+use dimacs::{Lit, has_literal};
+use icnf::Tree;
+use std::alloc::{AllocError, Global};
+
+/// A subtree: a leaf with the lemma that closes it, if there is one, or a fork with its branches, the one behind its literal
+/// first, and whether all leaves below it are closed.
+#[derive(Drop)]
+pub(crate) enum Node {
+    Leaf {
+        cube: Vec<Lit>,
+        closing: Option<Lemma>,
+    },
+    Fork {
+        branch: Lit,
+        closed: bool,
+        left: Box<Node>,
+        right: Box<Node>,
+    },
+}
+
+/// The subtree whose leaves begin at `next`, below a path of `depth` literals, with every leaf open; it goes on behind these leaves.
+pub(crate) fn grow(
+    alloc: Global,
+    tree: &Tree,
+    next: &mut usize,
+    depth: usize,
+) -> Result<Node, AllocError>
+    requires part { IsPart tree.now next.old depth }
+    ensures made { IfOk result (λ node. (h : IsPart tree.now next.old depth) → IsMadeOf h.path h.here node) }
+    ensures next { OnOk result ((h : IsPart tree.now next.old depth) → next.new ≡ next.old + length h.here) }
+{
+    let _ = tree.leaves();
+    let place = *next;
+    let cube = tree.cube(place);
+    if cube.len() == depth {
+        *next = place + 1;
+        return Ok(Node::Leaf {
+            cube: Vec::from_slice(alloc, cube)?,
+            closing: None,
+        });
+    }
+    let left = grow(alloc, tree, next, depth + 1)?;
+    let right = grow(alloc, tree, next, depth + 1)?;
+    Ok(Node::Fork {
+        branch: cube[depth],
+        closed: false,
+        left: Box::new(alloc, left)?,
+        right: Box::new(alloc, right)?,
+    })
+}
+
+/// Whether a clause has negations of the cube's literals alone.
+fn closes_cube(cube: &[Lit], clause: &[Lit]) -> bool
+    ensures { result ≡ closes cube.now clause.now }
+{
+    clause.iter().all(|l| has_literal(cube, l.negate()))
+}
+
+/// Whether all leaves of a subtree are closed.
+pub(crate) fn is_closed_below(node: &Node) -> bool
+    ensures { (path : Cube) → IsSubtree path node.now → result ≡ list_all is_closed (leaves_in node.now) }
+{
+    match node {
+        Node::Leaf { closing, .. } => closing.is_some(),
+        Node::Fork { closed, .. } => *closed,
+    }
+}
+
+/// Whether all leaves of two subtrees are closed.
+fn are_closed_below(left: &Node, right: &Node) -> bool
+    ensures { (p q : Cube) → IsSubtree p left.now → IsSubtree q right.now → result ≡ list_all is_closed (leaves_in left.now ++ leaves_in right.now) }
+{
+    is_closed_below(left) && is_closed_below(right)
+}
+
+/// One or the other.
+fn either(one: bool, other: bool) -> bool
+    ensures { result ≡ (one || other) }
+{
+    one || other
+}
+
+/// Closes a leaf that is open and that a lemma closes, and tells whether it is so.
+fn close_leaf(
+    alloc: Global,
+    cube: &[Lit],
+    closing: &mut Option<Lemma>,
+    lemma: Candidate<'_>,
+) -> Result<bool, AllocError>
+    ensures leaf { OnOk result (leaf_in cube.now closing.new ∷ [] ≡ settled (candidate_of lemma.entry) (leaf_in cube.now closing.old ∷ [])) }
+    ensures told { IfOk result (λ b. b ≡ list_any (can_close (candidate_of lemma.entry)) (leaf_in cube.now closing.old ∷ [])) }
+{
+    if closing.is_some() {
+        return Ok(false);
+    }
+    if !closes_cube(cube, lemma.clause) {
+        return Ok(false);
+    }
+    let clause = Vec::from_slice(alloc, lemma.clause)?;
+    *closing = Some(Lemma {
+        id: lemma.id,
+        clause,
+    });
+    Ok(true)
+}
+
+/// Does what [`close_below`] does for a branch behind a literal: a lemma that has it closes none of its leaves.
+#[cycle(close)]
+fn close_branch(
+    alloc: Global,
+    node: &mut Node,
+    taken: Lit,
+    lemma: Candidate<'_>,
+) -> Result<bool, AllocError>
+    ensures { IfOk result (λ b. (path : Cube) → IsSubtree path node.old → ¬ (IsTautology path) → Contains path taken → HasSettled (candidate_of lemma.entry) path node.old node.new b) }
+{
+    if has_literal(lemma.clause, taken) {
+        return Ok(false);
+    }
+    close_below(alloc, node, lemma)
+}
+
+/// Closes each open leaf of a subtree that a lemma closes, and tells whether there was one.
+#[cycle(close)]
+pub(crate) fn close_below(
+    alloc: Global,
+    node: &mut Node,
+    lemma: Candidate<'_>,
+) -> Result<bool, AllocError>
+    ensures { IfOk result (λ b. Settles (candidate_of lemma.entry) node.old node.new b) }
+{
+    match node {
+        Node::Leaf { cube, closing } => close_leaf(alloc, cube, closing, lemma),
+        Node::Fork {
+            branch,
+            closed,
+            left,
+            right,
+        } => {
+            if *closed {
+                return Ok(false);
+            }
+            let first = close_branch(alloc, left, *branch, lemma)?;
+            let second = close_branch(alloc, right, branch.negate(), lemma)?;
+            *closed = are_closed_below(left, right);
+            Ok(either(first, second))
+        }
+    }
+}
+
+/// Appends the places of a subtree's open leaves, where its first leaf is at `next`, and goes on behind its leaves.
+pub(crate) fn open_below(
+    node: &Node,
+    next: &mut usize,
+    found: &mut Vec<usize>,
+) -> Result<(), AllocError>
+    ensures places { OnOk result (next.old + length (leaves_in node.now) < 2 ^ 64 → found.new.items ≡ found.old.items ++ open_from next.old (leaves_in node.now)) }
+    ensures next { OnOk result (next.old + length (leaves_in node.now) < 2 ^ 64 → next.new ≡ next.old + length (leaves_in node.now)) }
+{
+    match node {
+        Node::Leaf { closing, .. } => {
+            let place = *next;
+            *next = place.saturating_add(1);
+            if closing.is_none() {
+                found.push(place)?;
+            }
+            Ok(())
+        }
+        Node::Fork { left, right, .. } => {
+            open_below(left, next, found)?;
+            open_below(right, next, found)
+        }
+    }
+}

@@ -1,0 +1,52 @@
+//! A connection, which is read and written without waiting.
+
+ghost use Rattle.std.specs.Prelude.{◌≤◌, length, IfOk, IfSome};
+
+use mio::net::TcpStream;
+use std::io;
+use std::io::{ErrorKind, Read};
+
+/// A connection, and whether bytes of it may be there.
+#[derive(Drop)]
+pub(crate) struct End {
+    pub(crate) stream: TcpStream,
+    pub(crate) is_ready: bool,
+}
+
+/// Reads what is there, and answers how many bytes; none where nothing is there yet. A read that a signal interrupted is tried again.
+fn read_now(stream: &mut TcpStream, room: &mut [u8]) -> io::Result<Option<usize>>
+    ensures { IfOk result (λ found. IfSome found (λ count. count ≤ length room.new)) }
+{
+    for _ in 0..u64::MAX {
+        match stream.read(room) {
+            Ok(count) => return Ok(Some(count)),
+            Err(error) if error.kind() == ErrorKind::WouldBlock => return Ok(None),
+            Err(error) if error.kind() == ErrorKind::Interrupted => {}
+            Err(error) => return Err(error),
+        }
+    }
+    Ok(None)
+}
+
+impl End {
+    /// Reads what is there, and answers how many bytes; none where nothing is there yet. No bytes are the end, or a fault. Readiness is told once,
+    /// so that there may be more until a read finds nothing.
+    pub(crate) fn read(&mut self, room: &mut [u8]) -> Option<usize>
+        ensures { IfSome result (λ count. count ≤ length room.new) }
+    {
+        match read_now(&mut self.stream, room) {
+            Ok(Some(count)) => {
+                self.is_ready = 0 < count;
+                Some(count)
+            }
+            Ok(None) => {
+                self.is_ready = false;
+                None
+            }
+            Err(_) => {
+                self.is_ready = false;
+                Some(0)
+            }
+        }
+    }
+}

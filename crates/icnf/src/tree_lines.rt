@@ -1,0 +1,137 @@
+//! The tree of a text whose clauses are compared with a formula's, from its lines, one after the other.
+
+ghost use Rattle.std.specs.Prelude.{◌≡◌, ℕ, ◌+◌, ◌∷◌, [], Option, None, MatchResult};
+ghost use Rattle.icnf.specs.Pieces.{TellsTree, read_behind};
+ghost use Rattle.icnf.specs.ReadState.{ReadState};
+ghost use Rattle.icnf.specs.inner.Lines.{IsKept, TakesRow, RefusesRow};
+ghost use Rattle.icnf.specs.inner.TreeBody.{told_of};
+
+use crate::cubes_fault::CubesFault;
+use crate::fault::{IcnfFault, Kind};
+use crate::header::read_header;
+use crate::tree::Tree;
+use crate::tree_body::TreeBody;
+use dimacs::Formula;
+use dimacs::words::is_blank;
+use lrat_text::TakesLines;
+use std::alloc::{AllocError, Global};
+
+/// What is kept of the first lines of a text: how many they are, and from the header on how far the clauses agree with the formula's, and
+/// the cubes.
+#[derive(Drop)]
+pub(crate) struct TreeLines {
+    pub(crate) alloc: Global,
+    pub(crate) formula: Formula,
+    pub(crate) count: u64,
+    pub(crate) body: Option<TreeBody>,
+}
+
+/// Reads the line of this number, one behind the header or one up to it.
+fn read_line(
+    alloc: Global,
+    formula: &Formula,
+    body: &mut Option<TreeBody>,
+    number: u64,
+    line: &[u8],
+) -> Result<(), IcnfFault>
+    ensures { (before : ℕ) → number ≡ before + 1 → (s : Option ReadState) → IsKept formula.now s body.old → MatchResult result
+        (λ _. TakesRow formula.now before line.now number body.new s)
+        (λ fault. RefusesRow before line.now fault s) }
+{
+    match body {
+        Some(rows) => match rows.read_line(formula, number, line) {
+            Ok(()) => Ok(()),
+            Err(fault) => Err(fault),
+        },
+        None => {
+            if is_blank(line) {
+                return Ok(());
+            }
+            match read_header(number, line) {
+                Ok(()) => {
+                    *body = Some(TreeBody::new(alloc));
+                    Ok(())
+                }
+                Err(fault) => Err(fault),
+            }
+        }
+    }
+}
+
+impl TakesLines for TreeLines {
+    ghost use Rattle.icnf.specs.inner.Lines.{MayTake, Takes, Refuses};
+
+    type Fault = IcnfFault;
+
+    ghost may_take = { MayTake };
+
+    ghost takes = { Takes };
+
+    ghost refuses = { Refuses };
+
+    fn take_line(&mut self, line: &[u8]) -> Result<(), IcnfFault> {
+        match self.count.checked_add(1) {
+            Some(count) => self.count = count,
+            None => return Err(IcnfFault::from(AllocError)),
+        }
+        match read_line(self.alloc, &self.formula, &mut self.body, self.count, line) {
+            Ok(()) => Ok(()),
+            Err(fault) => Err(fault),
+        }
+    }
+}
+
+/// What is told of a text that was read to its end.
+fn told_of(read: Result<(bool, Tree), IcnfFault>) -> Result<Tree, CubesFault>
+    ensures { result ≡ told_of read }
+{
+    match read {
+        Ok((true, tree)) => Ok(tree),
+        Ok((false, _)) => Err(CubesFault::OtherFormula),
+        Err(fault) => Err(CubesFault::Faulty(fault)),
+    }
+}
+
+impl TreeLines {
+    /// No line was read.
+    pub(crate) fn new(alloc: Global, formula: Formula) -> TreeLines
+        ensures { result ≡ record { alloc = alloc; formula = formula; count = 0; body = None } }
+    {
+        TreeLines {
+            alloc,
+            formula,
+            count: 0,
+            body: None,
+        }
+    }
+
+    /// The tree of a text that ends here.
+    fn end(self) -> Result<Tree, CubesFault>
+        ensures { (s : Option ReadState) → IsKept self.formula s self.body → TellsTree self.formula (read_behind self.count s []) result }
+    {
+        let TreeLines {
+            formula,
+            count,
+            body,
+            ..
+        } = self;
+        match body {
+            Some(body) => told_of(body.finish(&formula, count)),
+            None => Err(CubesFault::Faulty(IcnfFault {
+                kind: Kind::NoHeader,
+                line: count,
+            })),
+        }
+    }
+
+    /// The tree of a text whose last line is this one.
+    pub(crate) fn finish(self, last: &[u8]) -> Result<Tree, CubesFault>
+        ensures { (s : Option ReadState) → IsKept self.formula s self.body → TellsTree self.formula (read_behind self.count s (last.now ∷ [])) result }
+    {
+        let mut lines = self;
+        match lines.take_line(last) {
+            Ok(()) => lines.end(),
+            Err(fault) => Err(CubesFault::Faulty(fault)),
+        }
+    }
+}

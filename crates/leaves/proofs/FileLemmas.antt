@@ -1,0 +1,171 @@
+-- Files that close leaves, and the logs that are handed in of them.
+use Rattle.std.proofs.Common.{◌≡◌, ◌⊎◌, ℕ, ◌<◌, inl, inr, Bool, true, false, ◌&&◌, List, [], ◌∷◌, ◌++◌, length, Result, Ok, Err, refl, sym, ◌∙◌, ap, subst, arith}
+use Rattle.std.specs.Prelude.{◌↔◌}
+use Rattle.std.specs.List.{Contains, list_all}
+use Rattle.std.proofs.lemmas.Bool.{true≢false}
+use Rattle.std.proofs.lemmas.List.Elements.{Contains-append_cases, Contains-append_left, Contains-append_right}
+use Rattle.dimacs.proofs.Members.{Contains-head, Contains-cons, Contains-cons_cases, Contains-nil}
+use Rattle.dimacs.specs.logic.Cnf.{Cnf}
+use Rattle.icnf.specs.Leaves.{Cube}
+use Rattle.lrat_check.specs.Logs.{log_of}
+use Rattle.lrat_check.specs.declared.checking.CheckFault.{CheckFault}
+use Rattle.lrat_check.proofs.LogTexts.{log_checked}
+use Rattle.lrat_text.specs.Grammar.{LineSpells}
+use Rattle.lrat_text.specs.Log.{IsLog}
+use Rattle.lrat_text.specs.declared.step.Step.{Step}
+use Rattle.lrat_text.proofs.CountingLemmas.{one_list}
+use Rattle.proof_join.proofs.MapLemmas.{between_formula}
+use Rattle.gathering.specs.Closing.{Leaf, is_closed}
+use Rattle.gathering.specs.Gathering.{AreLogs, ClosesLeaf, Handed, IsClosedBy, gathered}
+use Rattle.gathering.proofs.ClosedLemmas.{closed_all, closed_only, gathered_cubes}
+use Rattle.gathering.proofs.SettleLemmas.{both, from_map}
+use Rattle.leaves.specs.Joining.{AreClosed, ClosesAsLog, ClosesMore, IsBegunAs, IsClosedByFile, LeavesAre, is_answer}
+use Rattle.leaves.specs.inner.Lines.{ClosesNewly}
+use Rattle.leaves.proofs.AnswerLemmas.{answer_is_no_log}
+use Rattle.leaves.proofs.ClosingLemmas.{contains_map}
+
+-- the accepted logs close the leaves that the files close
+abbrev pub AreOf : Cnf → List Handed → List (List ℕ) → Type 0
+AreOf F logs files = (q : Cube) → IsClosedBy F logs q ↔ IsClosedByFile F files q
+
+-- ---- one log more
+by_more : (F : Cnf) (logs : List Handed) (h : Handed) (q : Cube) → IsClosedBy F (logs ++ h ∷ []) q → IsClosedBy F logs q ⊎ ((h.accepted ≡ true) × ClosesLeaf F q h.steps)
+by_more F logs h q c = elim (Contains-append_cases logs (h ∷ []) c.log c.one) [
+  | inl before ↦ inl (record { log = c.log; one = before; accepted = c.accepted; closes = c.closes })
+  | inr last ↦ elim (Contains-cons_cases h c.log [] last) [
+    | inl s ↦ inr (ap (λ (z : Handed). z.accepted) s ∙ c.accepted, subst (λ (z : Handed). ClosesLeaf F q z.steps) (sym s) c.closes)
+    | inr none ↦ absurd (Contains-nil c.log none)
+  ]
+]
+
+more_by : (F : Cnf) (logs : List Handed) (h : Handed) (q : Cube) → IsClosedBy F logs q → IsClosedBy F (logs ++ h ∷ []) q
+more_by F logs h q c = record { log = c.log; one = Contains-append_left logs (h ∷ []) c.log c.one; accepted = c.accepted; closes = c.closes }
+
+last_by : (F : Cnf) (logs : List Handed) (h : Handed) (q : Cube) → h.accepted ≡ true → ClosesLeaf F q h.steps → IsClosedBy F (logs ++ h ∷ []) q
+last_by F logs h q accepted c = record { log = h; one = Contains-append_right logs (h ∷ []) h (Contains-head h []); accepted = accepted; closes = c }
+
+-- ---- one file more
+file_more : (F : Cnf) (files : List (List ℕ)) (text : List ℕ) (q : Cube) → IsClosedByFile F (files ++ text ∷ []) q → IsClosedByFile F files q ⊎ ClosesAsLog F q text
+file_more F files text q (t, i, c) = elim (Contains-append_cases files (text ∷ []) t i) [
+  | inl before ↦ inl (t, before, c)
+  | inr last ↦ elim (Contains-cons_cases text t [] last) [
+    | inl s ↦ inr (subst (ClosesAsLog F q) (sym s) c)
+    | inr none ↦ absurd (Contains-nil t none)
+  ]
+]
+
+more_file : (F : Cnf) (files : List (List ℕ)) (text : List ℕ) (q : Cube) → IsClosedByFile F files q → IsClosedByFile F (files ++ text ∷ []) q
+more_file F files text q (t, i, c) = (t, Contains-append_left files (text ∷ []) t i, c)
+
+last_file : (F : Cnf) (files : List (List ℕ)) (text : List ℕ) (q : Cube) → ClosesAsLog F q text → IsClosedByFile F (files ++ text ∷ []) q
+last_file F files text q c = (text, Contains-append_right files (text ∷ []) text (Contains-head text []), c)
+
+-- ---- a file that is read to its end
+-- it is a log, of these steps
+pub closes_as : (F : Cnf) (q : Cube) (text : List ℕ) (log : List Step) → LineSpells text log → IsLog F log → ClosesLeaf F q log → ClosesAsLog F q text
+closes_as F q text log spells is_log c = record { steps = log; spells = spells; is_log = is_log; closes = c }
+
+as_closes : (F : Cnf) (q : Cube) (text : List ℕ) (log : List Step) → LineSpells text log → ClosesAsLog F q text → ClosesLeaf F q log
+as_closes F q text log spells c = subst (ClosesLeaf F q) (one_list text c.steps log c.spells spells) c.closes
+
+pub log_more : (F : Cnf) (logs : List Handed) (files : List (List ℕ)) (text : List ℕ) (log : List Step) → AreOf F logs files → LineSpells text log → IsLog F log
+    → AreOf F (logs ++ record { steps = log; accepted = true } ∷ []) (files ++ text ∷ [])
+log_more F logs files text log are spells is_log q = (
+  λ by. elim (by_more F logs (record { steps = log; accepted = true }) q by) [
+    | inl before ↦ more_file F files text q ((are q).0 before)
+    | inr last ↦ last_file F files text q (closes_as F q text log spells is_log last.1)
+  ],
+  λ by. elim (file_more F files text q by) [
+    | inl before ↦ more_by F logs (record { steps = log; accepted = true }) q ((are q).1 before)
+    | inr last ↦ last_by F logs (record { steps = log; accepted = true }) q refl (as_closes F q text log spells last)
+  ],
+)
+
+-- it is handed in as one that is not accepted
+pub refused_more : (F : Cnf) (logs : List Handed) (files : List (List ℕ)) (log : List Step) → AreOf F logs files → AreOf F (logs ++ record { steps = log; accepted = false } ∷ []) files
+refused_more F logs files log are q = (
+  λ by. elim (by_more F logs (record { steps = log; accepted = false }) q by) [
+    | inl before ↦ (are q).0 before
+    | inr last ↦ absurd (true≢false (sym last.0))
+  ],
+  λ by. more_by F logs (record { steps = log; accepted = false }) q ((are q).1 by),
+)
+
+-- it closes no leaf
+pub nothing_more : (F : Cnf) (logs : List Handed) (files : List (List ℕ)) (text : List ℕ) → AreOf F logs files → ((q : Cube) → ¬ (ClosesAsLog F q text)) → AreOf F logs (files ++ text ∷ [])
+nothing_more F logs files text are none q = (
+  λ by. more_file F files text q ((are q).0 by),
+  λ by. elim (file_more F files text q by) [
+    | inl before ↦ (are q).1 before
+    | inr last ↦ absurd (none q last)
+  ],
+)
+
+pub answer_closes_none : (F : Cnf) (text : List ℕ) → is_answer text ≡ true → (q : Cube) → ¬ (ClosesAsLog F q text)
+answer_closes_none F text is q c = answer_is_no_log text c.steps c.spells is
+
+pub faulty_closes_none : (F : Cnf) (text : List ℕ) (fault : CheckFault) → log_of F text ≡ Err fault → (q : Cube) → ¬ (ClosesAsLog F q text)
+faulty_closes_none F text fault is q c = two_ends (log_of F text) fault (log_checked F text (c.steps, c.spells, c.is_log)) is
+  where
+    two_ends : (r : Result (Unit {0}) CheckFault) (f : CheckFault) → r ≡ Ok tt → r ≡ Err f → ⊥
+    two_ends r f a b = cc
+
+pub empty_closes_none : (F : Cnf) (q : Cube) → ¬ (ClosesAsLog F q [])
+empty_closes_none F q c =
+    let no_step : c.steps ≡ [] = one_list [] c.steps [] c.spells refl in
+    let k = subst (ClosesLeaf F q) no_step c.closes in
+    let own : length F.clauses < k.id = k.own in
+    let r = (between_formula F k.id k.clause k.lives).1 in
+    absurd (omega arith)
+
+-- ---- what it is told to close
+pub newly_more : (F : Cnf) (cubes : List Cube) (logs : List Handed) (files : List (List ℕ)) (text : List ℕ) (log : List Step) → AreOf F logs files → LineSpells text log → IsLog F log
+    → ClosesNewly F cubes logs log → ClosesMore F cubes files text
+newly_more F cubes logs files text log are spells is_log (q, i, none, c) = (q, i, λ by. none ((are q).1 by), closes_as F q text log spells is_log c)
+
+pub more_newly : (F : Cnf) (cubes : List Cube) (logs : List Handed) (files : List (List ℕ)) (text : List ℕ) (log : List Step) → AreOf F logs files → LineSpells text log
+    → ClosesMore F cubes files text → ClosesNewly F cubes logs log
+more_newly F cubes logs files text log are spells (q, i, none, c) = (q, i, λ by. none ((are q).0 by), as_closes F q text log spells c)
+
+-- ---- how the leaves stand
+pub leaves_stand : (F : Cnf) (cubes : List Cube) (logs : List Handed) (files : List (List ℕ)) → AreLogs F logs → AreOf F logs files → LeavesAre F cubes files (gathered F cubes logs).leaves
+leaves_stand F cubes logs files are_logs are = record {
+  cubes_are = gathered_cubes F cubes logs;
+  closed = λ k i. (λ e. (are k.cube).0 (closed_only F cubes logs k i e), λ by. closed_all F cubes logs k are_logs i ((are k.cube).1 by));
+}
+
+all_of : (leaves : List Leaf) → ((k : Leaf) → Contains leaves k → is_closed k ≡ true) → list_all is_closed leaves ≡ true
+all_of [] h = refl
+all_of (k ∷ leaves) h = and_true (is_closed k) (list_all is_closed leaves) (h k (Contains-head k leaves)) (all_of leaves (λ z i. h z (Contains-cons k z leaves i)))
+  where
+    and_true : (a b : Bool) → a ≡ true → b ≡ true → (a && b) ≡ true
+    and_true true b e f = f
+    and_true false b e f = e
+
+of_all : (leaves : List Leaf) → list_all is_closed leaves ≡ true → (k : Leaf) → Contains leaves k → is_closed k ≡ true
+of_all [] e k i = absurd (Contains-nil k i)
+of_all (x ∷ leaves) e k i =
+    let two = both (is_closed x) (list_all is_closed leaves) e in
+    elim (Contains-cons_cases x k leaves i) [
+      | inl s ↦ ap (λ (z : Leaf). is_closed z) (sym s) ∙ two.0
+      | inr later ↦ of_all leaves two.1 k later
+    ]
+
+-- all leaves are closed exactly where the files close them
+pub all_closed : (F : Cnf) (cubes : List Cube) (files : List (List ℕ)) (leaves : List Leaf) → LeavesAre F cubes files leaves → list_all is_closed leaves ≡ true → AreClosed F cubes files
+all_closed F cubes files leaves are e q i =
+    let k = from_map (λ (z : Leaf). z.cube) leaves q (subst (λ (qs : List Cube). Contains qs q) (sym are.cubes_are) i) in
+    subst (IsClosedByFile F files) k.2 ((are.closed k.0 k.1).0 (of_all leaves e k.0 k.1))
+
+pub closed_all_of : (F : Cnf) (cubes : List Cube) (files : List (List ℕ)) (leaves : List Leaf) → LeavesAre F cubes files leaves → AreClosed F cubes files → list_all is_closed leaves ≡ true
+closed_all_of F cubes files leaves are all =
+    all_of leaves (λ k i. (are.closed k i).1 (all k.cube (subst (λ (qs : List Cube). Contains qs k.cube) are.cubes_are (contains_map (λ (z : Leaf). z.cube) leaves k i))))
+
+-- ---- the first byte
+pub begun_more : (answer : Bool) (bytes more : List ℕ) → IsBegunAs answer bytes → IsBegunAs answer (bytes ++ more)
+begun_more answer [] more h = absurd h
+begun_more answer (b ∷ bs) more h = h
+
+pub begun_is : (answer : Bool) (bytes : List ℕ) → IsBegunAs answer bytes → is_answer bytes ≡ answer
+begun_is answer [] h = absurd h
+begun_is answer (b ∷ bs) h = h

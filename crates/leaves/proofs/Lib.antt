@@ -1,0 +1,10 @@
+pub mod AnswerLemmas
+pub mod ClosingLemmas
+pub mod FileLemmas
+pub mod JoinLemmas
+pub mod LeafLemmas
+pub mod LiftLemmas
+pub mod LineLemmas
+pub mod ReadingLemmas
+pub mod SplitLemmas
+pub mod UnitLemmas

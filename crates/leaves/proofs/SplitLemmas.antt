@@ -1,0 +1,63 @@
+-- Branches stay within the variables of the clauses.
+use Rattle.std.proofs.Common.{◌≡◌, ◌≢◌, ℕ, zero, suc, ◌<◌, ◌≤◌, List, [], ◌∷◌, ◌++◌, Option, Some, None, IfSome, IfOk, Result, Ok, Err, sym, subst, append-nil}
+use Rattle.std.specs.List.{All}
+use Rattle.std.proofs.lemmas.List.Elements.{All-cons, All-nil, All-head, All-tail, All-append}
+use Rattle.dimacs.specs.logic.Base.{pure_literals}
+use Rattle.dimacs.specs.logic.Cnf.{Cnf, AreWithin, greatest_in}
+use Rattle.dimacs.specs.logic.Literal.{Literal, Pos, Neg, IsWithin, var_of}
+use Rattle.icnf.specs.Leaves.{Cube, IsFree, branched}
+use Rattle.cube_split.specs.Choice.{Choice}
+use Rattle.cube_split.specs.Splitting.{IsSplit}
+use Rattle.cube_split.proofs.SplitLemmas.{split_within}
+use Rattle.leaves.specs.Splitting.{SplitsOn}
+use Rattle.leaves.specs.inner.Splitting.{IsSound}
+
+one_more : (n : ℕ) (q : Cube) (l : Literal) → All (IsWithin n) q → IsWithin n l → All (IsWithin n) (q ++ l ∷ [])
+one_more n q l h here = All-append (IsWithin n) q (l ∷ []) h (All-cons (IsWithin n) l [] here (All-nil (IsWithin n)))
+
+-- the branches of a variable within the limit are within it
+pub branched_within : (n : ℕ) (xs : List Cube) (i v : ℕ) → AreWithin n xs → 0 < v → v ≤ n → AreWithin n (branched i v xs)
+branched_within n [] i v w some most = All-nil (All (IsWithin n))
+branched_within n (c ∷ xs) zero v w some most =
+    let head = All-head (All (IsWithin n)) c xs w in
+    let tail = All-tail (All (IsWithin n)) c xs w in
+    All-cons (All (IsWithin n)) (c ++ Pos v ∷ []) ((c ++ Neg v ∷ []) ∷ xs) (one_more n c (Pos v) head (some, most))
+    (All-cons (All (IsWithin n)) (c ++ Neg v ∷ []) xs (one_more n c (Neg v) head (some, most)) tail)
+branched_within n (c ∷ xs) (suc i) v w some most =
+    All-cons (All (IsWithin n)) c (branched i v xs) (All-head (All (IsWithin n)) c xs w)
+    (branched_within n xs i v (All-tail (All (IsWithin n)) c xs w) some most)
+
+-- the chosen variable is one of the clauses'
+pub choice_within : (F : Cnf) (S : List Literal) (v : ℕ) → AreWithin F.vars F.clauses → Choice F S (Some v) → (0 < v) × (v ≤ greatest_in F.clauses)
+choice_within F S v within choice =
+    let same : S ++ [] ≡ S = append-nil S in
+    let here : Choice F (S ++ []) (Some v) = subst (λ (T : List Literal). Choice F T (Some v)) (sym same) choice in
+    let both : AreWithin (greatest_in F.clauses) ((Pos v ∷ []) ∷ (Neg v ∷ []) ∷ []) =
+    split_within {f = F} {units = S} {levels = 1} {path = []} within (All-nil (IsWithin (greatest_in F.clauses))) (IsSplit.split v here IsSplit.full IsSplit.full) in
+    All-head (IsWithin (greatest_in F.clauses)) (Pos v) [] (All-head (All (IsWithin (greatest_in F.clauses))) (Pos v ∷ []) ((Neg v ∷ []) ∷ []) both)
+
+-- what is free of literals is free of those behind a front
+free_behind : (S q : List Literal) (v : ℕ) → IsFree (S ++ q) v → IsFree q v
+free_behind [] q v h = h
+free_behind (l ∷ S) q v h = free_behind S q v (All-tail (λ (k : Literal). var_of k ≢ v) l (S ++ q) h)
+
+-- the variable on which a cube is split is free of it, and one of the clauses'
+pub sound : (F : Cnf) (q : Cube) (on : Option ℕ) (v : ℕ) → AreWithin F.vars F.clauses → SplitsOn F q on v → IsSound F q v
+sound F q None v within choice =
+    let range = choice_within F (pure_literals F ++ q) v within choice in
+    record { free = free_behind (pure_literals F) q v choice.free; some = range.0; most = range.1 }
+sound F q (Some w) v within h = rw h.0 (record { free = h.1.free; some = h.1.some; most = h.1.among })
+
+pub sound_of : (F : Cnf) (q : Cube) (on : Option ℕ) (found : Option ℕ) → AreWithin F.vars F.clauses → IfSome found (SplitsOn F q on) → IfSome found (IsSound F q)
+sound_of F q on None within h = tt
+sound_of F q on (Some v) within h = sound F q on v within h
+
+pub sound_chosen : (E : Type 0) (F : Cnf) (q : Cube) (r : Result (Option ℕ) E) → AreWithin F.vars F.clauses → IfOk r (Choice F (pure_literals F ++ q))
+    → IfOk r (λ found. IfSome found (IsSound F q))
+sound_chosen E F q (Ok None) within h = tt
+sound_chosen E F q (Ok (Some v)) within h = sound F q None v within h
+sound_chosen E F q (Err e) within h = tt
+
+-- the tree that is cut is within the greatest variable of the clauses, where it was
+pub cut_within : (F : Cnf) (leaves : List Cube) (place v : ℕ) (q : Cube) → AreWithin (greatest_in F.clauses) leaves → IsSound F q v → AreWithin (greatest_in F.clauses) (branched place v leaves)
+cut_within F leaves place v q w is = branched_within (greatest_in F.clauses) leaves place v w is.some is.most

@@ -1,0 +1,9 @@
+pub mod Joining
+pub mod Leaf
+pub mod Lifting
+pub mod Lines
+pub mod Notes
+pub mod Reading
+pub mod Refuting
+pub mod Splitting
+pub mod inner

@@ -1,0 +1,24 @@
+-- What reads the tree of a formula from a text that comes in pieces.
+use Rattle.std.specs.Prelude.{◌≡◌, ◌⊎◌, ℕ, List, Result, Ok, Err}
+use Rattle.dimacs.specs.logic.Cnf.{Cnf}
+use Rattle.icnf.specs.Pieces.{HasRead, SpellsTree, Tells}
+use Rattle.icnf.specs.Reading.{no_memory, parse}
+use Rattle.icnf.specs.declared.cubes_fault.CubesFault.{CubesFault}
+use Rattle.icnf.specs.declared.cubes_fault.CubesFault.TheVariants.{Faulty}
+use Rattle.leaves.specs.declared.split.Split.{Split}
+use Rattle.leaves.specs.declared.split.SplitReader.{SplitReader}
+
+-- these bytes of a text for the formula have been read
+pub record HasReadText (F : Cnf) (bytes : List ℕ) (r : SplitReader) : Type 0 where
+  pub formula : r.formula ≡ F
+  pub read : HasRead F r.reader bytes
+
+-- the text spells the formula's clauses and the tree
+pub record SplitsAs (F : Cnf) (text : List ℕ) (s : Split) : Type 0 where
+  pub formula : s.formula ≡ F
+  pub tree : SpellsTree F text s.tree
+
+-- what is told of a text: the formula with the tree that it spells; or its first fault, or that its clauses are others; or memory ran out
+abbrev pub TellsSplit : Cnf → List ℕ → Result Split CubesFault → Type 0
+TellsSplit F text (Ok s) = SplitsAs F text s
+TellsSplit F text (Err fault) = (fault ≡ Faulty no_memory) ⊎ Tells F (parse text) (Err fault)

@@ -1,0 +1,70 @@
+//! `leaf`: a leaf of a splitting tree as a formula of its own.
+
+ghost use Rattle.std.specs.Prelude.{◌≡◌, ◌≤◌, ◌∷◌, [], map, nat_eq, length, IfOk, IfSome, option_map, All};
+ghost use Rattle.std.specs.List.{IsDistinct};
+ghost use Rattle.dimacs.specs.logic.Cnf.{AreWithin};
+ghost use Rattle.dimacs.specs.logic.Literal.{IsWithin, var_of};
+ghost use Rattle.leaves.specs.Leaf.{PrintsFormula, PrintsLeaf, Prints, above_limit_text, leaf_at, leaf_of, no_leaf_text};
+
+use crate::split::Split;
+use dimacs::{Builder, Extension, Formula, Lit};
+use icnf::Tree;
+use reports::Report;
+use std::alloc::{AllocError, Global};
+
+/// What is printed where there is no such leaf.
+pub(crate) const NO_LEAF: &[u8] = b"c no such leaf\n";
+
+/// The cube of the leaf of this number, from 1.
+pub(crate) fn cube_of(tree: &Tree, leaf: u64) -> Option<&[Lit]>
+    ensures found { option_map (λ q. q.now) result ≡ leaf_at tree.now leaf }
+    ensures short { IfSome result (λ q. length q.now ≤ 64) }
+    ensures distinct { IfSome result (λ q. IsDistinct nat_eq (map var_of q.now)) }
+{
+    if leaf == 0 || leaf > tree.leaves() as u64 {
+        return None;
+    }
+    Some(tree.cube(leaf as usize - 1))
+}
+
+/// A unit clause for each literal of a cube.
+fn units(alloc: Global, vars: u32, cube: &[Lit]) -> Result<Extension, AllocError>
+    requires within { All (IsWithin vars) cube.now }
+    requires short { length cube.now ≤ 64 }
+    ensures { IfOk result (λ x. x ≡ record { vars = vars; clauses = map (λ l. l ∷ []) cube.now }) }
+{
+    let mut builder = Builder::new(alloc)?;
+    for literal in cube {
+        builder.push(*literal)?;
+        builder.end_clause()?;
+    }
+    Ok(builder.finish_extension(vars))
+}
+
+/// The formula of a leaf, or that it would be above a limit.
+fn printed(alloc: Global, formula: &Formula, cube: &[Lit]) -> Result<Report, AllocError>
+    requires within { All (IsWithin formula.now.vars) cube.now }
+    requires short { length cube.now ≤ 64 }
+    ensures { IfOk result (PrintsFormula (leaf_of cube.now formula.now)) }
+{
+    let units = units(alloc, formula.vars(), cube)?;
+    match formula.extended(alloc, &units)? {
+        None => Report::of(alloc, b"c leaf above limit\n", 1),
+        Some(leaf) => {
+            let mut report = Report::of(alloc, b"", 0)?;
+            dimacs::write(&leaf, &mut report.stdout)?;
+            Ok(report)
+        }
+    }
+}
+
+/// The report of the leaf of this number, from 1: its formula as DIMACS text, the formula's clauses and then a unit clause for each
+/// literal of the cube. The error stands for the report `c no memory`, status 1.
+pub fn run_leaf(alloc: Global, split: &Split, leaf: u64) -> Result<Report, AllocError>
+    ensures { IfOk result (PrintsLeaf split.now.formula split.now.tree leaf) }
+{
+    match cube_of(&split.tree, leaf) {
+        None => Report::of(alloc, NO_LEAF, 1),
+        Some(cube) => printed(alloc, &split.formula, cube),
+    }
+}

@@ -1,0 +1,24 @@
+//! Leaves of a splitting tree as files: what `leaf`, `refute`, `lift` and `join` do, as functions of formulas, trees and bytes.
+//!
+//! Whoever has machines of their own hands leaves out by any means, and brings back what was found. What a layer above may rest on: a
+//! refutation is a log over the formula that closes its leaf, and what is joined is one proof of the formula alone.
+#![tactic(auto)]
+
+mod join;
+mod laws;
+mod leaf;
+mod lifting;
+mod lines;
+mod notes;
+mod refuting;
+mod split;
+mod splitting;
+
+pub use join::{FileEnd, Join};
+pub use laws::joins_stand;
+pub use leaf::run_leaf;
+pub use lifting::{Lift, LiftEnd, lift_report};
+pub use notes::{Note, put_note};
+pub use refuting::{Search, run_refute};
+pub use split::{Split, SplitReader};
+pub use splitting::run_split;

@@ -1,0 +1,144 @@
+//! `cubes --split`: a leaf of a splitting tree is cut in two.
+
+ghost use Rattle.std.specs.Prelude.{◌≡◌, ◌↔◌, ◌<◌, ◌≤◌, ◌++◌, ◌⊎◌, ◌∷◌, ◌^◌, [], ℕ, IsTrue, IfOk, IfSome, IfNone, length, Some, slice_index_or};
+ghost use Rattle.cube_split.specs.Choice.{Choice, IsChoice};
+ghost use Rattle.dimacs.specs.logic.Base.{pure_literals};
+ghost use Rattle.dimacs.specs.logic.Cnf.{AreWithin, greatest_in, greatest_of};
+ghost use Rattle.icnf.specs.Leaves.{IsFree};
+ghost use Rattle.leaves.specs.Leaf.{Prints};
+ghost use Rattle.leaves.specs.inner.Splitting.{IsSound};
+ghost use Rattle.leaves.specs.Splitting.{PrintsBranches, PrintsSplit, SplitsOn, cannot_split_text};
+
+use crate::leaf::NO_LEAF;
+use crate::split::Split;
+use cube_split::{Chooser, preamble};
+use dimacs::{Formula, Lit, Var};
+use icnf::Tree;
+use reports::Report;
+use std::alloc::{AllocError, Global};
+
+/// The most leaves of a tree, and the most literals of a cube.
+const LEAVES: usize = 65_536;
+
+const LITERALS: usize = 64;
+
+/// The greatest variable of a clause, 0 where it has no literal.
+fn greatest_of(clause: &[Lit]) -> u32
+    ensures value { result ≡ greatest_of clause.now }
+    ensures below { result < 2 ^ 31 }
+{
+    let mut greatest = 0;
+    for l in clause {
+        greatest = l.var().number().max(greatest);
+    }
+    greatest
+}
+
+/// The greatest variable of a formula's clauses, 0 where they have no literal.
+fn greatest_in(formula: &Formula) -> u32
+    ensures value { result ≡ greatest_in formula.now.clauses }
+    ensures below { result < 2 ^ 31 }
+{
+    let mut greatest = 0;
+    for i in 0..formula.len() {
+        greatest = greatest_of(formula.clause(i)).max(greatest);
+    }
+    greatest
+}
+
+/// Whether no literal of the cube is of the variable.
+fn is_free(cube: &[Lit], variable: u32) -> bool
+    ensures { IsTrue result ↔ IsFree cube.now variable }
+{
+    cube.iter().all(|l| l.var().number() != variable)
+}
+
+/// The variable that is named, where a cube may be split on it.
+fn named(formula: &Formula, cube: &[Lit], variable: u32) -> Option<Var>
+    ensures some { IfSome result (λ v. SplitsOn formula.now cube.now (Some variable) v) }
+    ensures none { IfNone result ((v : ℕ) → SplitsOn formula.now cube.now (Some variable) v → ⊥) }
+{
+    let _ = formula.vars();
+    if variable > 0 && variable <= greatest_in(formula) && is_free(cube, variable) {
+        Some(Var::new(variable))
+    } else {
+        None
+    }
+}
+
+/// The variable that the split rule chooses for a cube, if it chooses one.
+fn chosen(alloc: Global, formula: &Formula, cube: &[Lit]) -> Result<Option<Var>, AllocError>
+    ensures { IfOk result (Choice formula.now (pure_literals formula.now ++ cube.now)) }
+{
+    let preamble = preamble(alloc, formula)?;
+    let mut chooser = Chooser::reserve(alloc, formula.vars())?;
+    Ok(chooser.choose(formula, &preamble, cube))
+}
+
+/// The variable on which a cube is split.
+fn variable(
+    alloc: Global,
+    formula: &Formula,
+    cube: &[Lit],
+    on: Option<u32>,
+) -> Result<Option<Var>, AllocError>
+    ensures some { IfOk result (λ found. IfSome found (SplitsOn formula.now cube.now on)) }
+    ensures sound { IfOk result (λ found. IfSome found (IsSound formula.now cube.now)) }
+    ensures none { IfOk result (λ found. IfNone found ((v : ℕ) → SplitsOn formula.now cube.now on v → ⊥)) }
+{
+    let _ = formula.vars(); // with it comes that no literal is of another variable
+    match on {
+        Some(variable) => Ok(named(formula, cube, variable)),
+        None => chosen(alloc, formula, cube),
+    }
+}
+
+/// The report of a leaf that cannot be split.
+fn stuck(alloc: Global) -> Result<Report, AllocError>
+    ensures { IfOk result (Prints 1 cannot_split_text) }
+{
+    Report::of(alloc, b"c cannot split\n", 1)
+}
+
+/// The report of a tree of which a leaf, by its place from 0, is cut in two.
+fn branches(
+    alloc: Global,
+    formula: &Formula,
+    tree: &mut Tree,
+    place: usize,
+    on: Option<u32>,
+) -> Result<Report, AllocError>
+    requires place { place < length tree.old }
+    requires within { AreWithin (greatest_in formula.now.clauses) tree.old }
+    ensures { IfOk result (PrintsBranches formula.now tree.old place (slice_index_or tree.old place []) on) }
+{
+    let cube = tree.cube(place);
+    if tree.leaves() >= LEAVES || cube.len() >= LITERALS {
+        return stuck(alloc);
+    }
+    let Some(variable) = variable(alloc, formula, cube, on)? else {
+        return stuck(alloc);
+    };
+    tree.split(place, variable)?;
+    let mut report = Report::of(alloc, b"", 0)?;
+    icnf::write(formula, tree, &mut report.stdout)?;
+    Ok(report)
+}
+
+/// Cuts the leaf of this number, from 1, in two, on the variable `on` where one is named, and else on the one that the split rule
+/// chooses. The report has the deeper tree as iCNF text, status 0; or `c cannot split`, 1, where the tree has 65,536 leaves, the cube 64
+/// literals, or there is no such variable. The error stands for the report `c no memory`, status 1.
+pub fn run_split(
+    alloc: Global,
+    split: Split,
+    leaf: u64,
+    on: Option<u32>,
+) -> Result<Report, AllocError>
+    ensures { IfOk result (PrintsSplit split.formula split.tree leaf on) }
+{
+    let Split { formula, mut tree } = split;
+    if leaf == 0 || leaf > tree.leaves() as u64 {
+        return Report::of(alloc, NO_LEAF, 1);
+    }
+    branches(alloc, &formula, &mut tree, leaf as usize - 1, on)
+}

@@ -1,0 +1,18 @@
+-- What may come to a coordinator's ends.
+use Rattle.std.specs.Prelude.{ℕ, ◌≤◌, ◌==◌, ⊤, if◌then◌else◌}
+use Rattle.links.specs.declared.arrivals.Event.{Event}
+use Rattle.links.specs.declared.arrivals.Event.TheVariants.{Linked, Bytes, Quiet, Over}
+
+-- no more bytes than there is room for
+abbrev pub IsWithin : Event → ℕ → Type 0
+IsWithin (Linked place) room = ⊤
+IsWithin (Bytes place count) room = count ≤ room
+IsWithin Quiet room = ⊤
+IsWithin Over room = ⊤
+
+-- how many links begin at a place
+abbrev pub begun_at : Event → ℕ → ℕ
+begun_at (Linked place) p = if p == place then 1 else 0
+begun_at (Bytes place count) p = 0
+begun_at Quiet p = 0
+begun_at Over p = 0

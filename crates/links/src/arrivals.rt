@@ -1,0 +1,59 @@
+//! What comes to a coordinator over any of its links.
+
+ghost use Rattle.std.specs.Prelude.{◌≡◌, ◌≢◌, ◌≤◌, ◌+◌, ℕ, length};
+ghost use Rattle.links.specs.Counts.{one_more, one_more_if_err};
+ghost use Rattle.links.specs.Arrivals.{IsWithin, begun_at};
+
+use crate::link::LinkFault;
+
+/// What came to the coordinator's ends.
+#[derive(Clone, Copy, Debug, PartialEq, Eq)]
+pub enum Event {
+    /// A link began at this place, where none was, or none is any more.
+    Linked { place: u8 },
+    /// So many bytes came over the link at this place, and stand at the front of the room; 0 mean that it has ended.
+    Bytes { place: u8, count: usize },
+    /// Nothing came for a while.
+    Quiet,
+    /// Nothing will come any more.
+    Over,
+}
+
+/// What came, and when.
+#[derive(Clone, Copy, Debug, PartialEq, Eq)]
+pub struct Arrival {
+    /// How many seconds had gone by then, from any moment on.
+    pub tick: u64,
+    /// What came.
+    pub event: Event,
+}
+
+/// The coordinator's ends of links that come and go. Each has a place, 0 to 255; a place may have one link after another. The calls, and of
+/// each place the links that began and the refusals, are counted; the calls and the refusals stay at 2^64 - 1.
+pub trait Arrivals {
+    ghost call_count: { Self → ℕ };
+
+    ghost link_count: { Self → ℕ → ℕ };
+
+    ghost refusal_count: { Self → ℕ → ℕ };
+
+    /// Waits until something comes over any link, and puts its bytes at the front of the room. It waits for no one link.
+    fn receive_any(&mut self, room: &mut [u8]) -> Arrival
+        ensures within { IsWithin result.event (length room.new) }
+        ensures calls { call_count self.new ≡ one_more (call_count self.old) }
+        ensures links { (p : ℕ) → link_count self.new p ≡ link_count self.old p + begun_at result.event p }
+        ensures refusals { (p : ℕ) → refusal_count self.new p ≡ refusal_count self.old p };
+
+    /// Sends bytes over the link at a place, without waiting.
+    fn send_to(&mut self, place: u8, bytes: &[u8]) -> Result<(), LinkFault>
+        ensures calls { call_count self.new ≡ one_more (call_count self.old) }
+        ensures links { (p : ℕ) → link_count self.new p ≡ link_count self.old p }
+        ensures refusal { refusal_count self.new place ≡ one_more_if_err result (refusal_count self.old place) }
+        ensures elsewhere { (p : ℕ) → p ≢ place → refusal_count self.new p ≡ refusal_count self.old p };
+
+    /// Ends the link at a place.
+    fn hang_up(&mut self, place: u8)
+        ensures calls { call_count self.new ≡ call_count self.old }
+        ensures links { (p : ℕ) → link_count self.new p ≡ link_count self.old p }
+        ensures refusals { (p : ℕ) → refusal_count self.new p ≡ refusal_count self.old p };
+}

@@ -1,0 +1,109 @@
+//! Arrivals at any station.
+
+ghost use Rattle.std.specs.Prelude.{◌≡◌, ◌≢◌, ◌≤◌, ◌<◌, ◌+◌, ◌^◌, ℕ, length, replicate, slice_index, if◌then◌else◌};
+ghost use Rattle.links.specs.Counts.{one_more, one_more_if_err};
+ghost use Rattle.links.specs.Arrivals.{IsWithin, begun_at};
+ghost use Rattle.links.specs.Observed.{station_of, observed_calls, links_at, refusals_at};
+
+use crate::arrivals::{Arrival, Arrivals, Event};
+use crate::counted::count;
+use crate::link::LinkFault;
+use crate::station::Station;
+
+/// How many places there are.
+const PLACES: usize = 256;
+
+/// Links that come to a station, with the counts that it does not keep.
+#[derive(Drop)]
+pub struct Observed<S> {
+    station: S,
+    calls: u64,
+    links: [u64; PLACES],
+    refusals: [u64; PLACES],
+}
+
+/// Counts one more at a place, up to the greatest number, where the call answered `Err`.
+fn note(counts: &mut [u64], place: u8, answer: Result<(), LinkFault>) -> Result<(), LinkFault>
+    requires { 256 ≤ length counts.old }
+    ensures answer { result ≡ answer }
+    ensures here { slice_index counts.new place ≡ one_more_if_err answer (slice_index counts.old place) }
+    ensures elsewhere { (p : ℕ) → p ≢ place → slice_index counts.new p ≡ slice_index counts.old p }
+{
+    if answer.is_err() {
+        count(&mut counts[place as usize]);
+    }
+    answer
+}
+
+/// Counts a link that begins, where there is a number left.
+fn welcome(counts: &mut [u64], place: u8) -> bool
+    requires { 256 ≤ length counts.old }
+    ensures { (p : ℕ) → slice_index counts.new p ≡ slice_index counts.old p + (if result then begun_at (Event.Linked place) p else 0) }
+{
+    let place = place as usize;
+    if counts[place] == u64::MAX {
+        return false;
+    }
+    counts[place] += 1;
+    true
+}
+
+impl<S> Observed<S> {
+    /// Links that come to this station, over which nothing came yet.
+    pub fn new(station: S) -> Observed<S>
+        ensures station { station_of result ≡ station }
+        ensures calls { observed_calls result ≡ 0 }
+        ensures links { (p : ℕ) → links_at result p ≡ 0 }
+        ensures refusals { (p : ℕ) → refusals_at result p ≡ 0 }
+    {
+        Observed {
+            station,
+            calls: 0,
+            links: [0; PLACES],
+            refusals: [0; PLACES],
+        }
+    }
+
+    /// Where they come to.
+    pub fn station(&self) -> &S
+        ensures { result.now ≡ station_of self.now }
+    {
+        &self.station
+    }
+}
+
+impl<S: Station> Arrivals for Observed<S> {
+    ghost call_count = { observed_calls };
+
+    ghost link_count = { links_at };
+
+    ghost refusal_count = { refusals_at };
+
+    fn receive_any(&mut self, room: &mut [u8]) -> Arrival {
+        count(&mut self.calls);
+        let arrival = self.station.await_any(room);
+        match arrival.event {
+            Event::Linked { place } => {
+                if welcome(&mut self.links, place) {
+                    return arrival;
+                }
+                self.station.drop_at(place);
+                Arrival {
+                    tick: arrival.tick,
+                    event: Event::Quiet,
+                }
+            }
+            _ => arrival,
+        }
+    }
+
+    fn send_to(&mut self, place: u8, bytes: &[u8]) -> Result<(), LinkFault> {
+        count(&mut self.calls);
+        let answer = self.station.carry_to(place, bytes);
+        note(&mut self.refusals, place, answer)
+    }
+
+    fn hang_up(&mut self, place: u8) {
+        self.station.drop_at(place);
+    }
+}

@@ -1,0 +1,15 @@
+pub mod ChainLemmas
+pub mod CompleteLemmas
+pub mod FoundLemmas
+pub mod HintLemmas
+pub mod LiftedLemmas
+pub mod MapLemmas
+pub mod MarkLemmas
+pub mod OutcomeLemmas
+pub mod ReadyLemmas
+pub mod SoundLemmas
+pub mod StandLemmas
+pub mod StreamLemmas
+pub mod TakenLemmas
+pub mod TrimLemmas
+pub mod WalkLemmas

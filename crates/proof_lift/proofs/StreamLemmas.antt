@@ -1,0 +1,242 @@
+-- A foreign proof's text that is taken in pieces.
+use mathlib.Core.Path.{fun_ext}
+use Rattle.proof_lift.specs.View.{held_of}
+use Rattle.std.proofs.Common.{◌≡◌, ◌⊎◌, ℕ, ◌+◌, Bool, true, false, List, [], ◌∷◌, ◌++◌, Result, Ok, Err, inl, inr, refl, sym, ◌∙◌, ap, cond, length, eqb, arith, append_assoc}
+use Rattle.std.specs.List.{All, slice_split}
+use Rattle.std.proofs.lemmas.List.{append-nil}
+use Rattle.std.proofs.lemmas.List.Splits.{slice_split_none, slice_split_at}
+use Rattle.std.proofs.lemmas.Bool.{both_ways, ne_eqb}
+use Rattle.std.proofs.lemmas.List.Elements.{All-head, All-tail, All-nil}
+use Rattle.dimacs.specs.logic.Cnf.{Cnf}
+use Rattle.lrat_text.specs.Lines.{IsCut, IsOpen}
+use Rattle.lrat_text.specs.Log.{Cube}
+use Rattle.lrat_text.specs.Reading.{step_in}
+use Rattle.lrat_text.specs.Grammar.{IsStep}
+use Rattle.lrat_text.specs.Runs.{text_of}
+use Rattle.lrat_text.specs.Writing.{line_text}
+use Rattle.lrat_text.specs.declared.step.Step.{Step}
+use Rattle.lrat_text.specs.declared.step.Step.TheVariants.{Add}
+use Rattle.lrat_text.proofs.LineLemmas.{written_spells, written_one_line}
+use Rattle.lrat_text.proofs.SpellingLemmas.{spelled_found}
+use Rattle.lrat_text.specs.Taking.{TakesAll, HandsOn, Stops, ended}
+use Rattle.lrat_text.specs.declared.lines.PieceFault.{PieceFault}
+use Rattle.lrat_text.specs.declared.lines.PieceFault.TheVariants.{NoMemory as NoPlace, Line}
+use Rattle.lrat_check.specs.Checking.{no_memory}
+use Rattle.lrat_check.specs.declared.checking.CheckFault.{CheckFault}
+use Rattle.lrat_check.proofs.Lines.{is_lf, first_piece, no_lf_from}
+use Rattle.proof_lift.specs.Lifting.{State, Lifted, Text, refused, is_met, behind, lifted_step, lift_step, lift_line, lift_end, lift_pieces, by_pieces, lift_text, lift_of}
+use Rattle.proof_lift.specs.Stream.{Held, Progress, Within, Failed, state_in, lift_more, answer_in, HasTaken, TakesPiece, empty_lemma, IsEnded, GivesEnd}
+use Rattle.proof_lift.specs.inner.Faults.{piece_refusal}
+use Rattle.proof_lift.specs.inner.Lines.{LineStops, Takes, Refuses}
+use Rattle.proof_lift.specs.inner.Ready.{SameLeaf, state_of}
+use Rattle.proof_lift.specs.inner.Stream.{LeadsTo, Appends}
+use Rattle.proof_lift.specs.inner.Writing.{IsFront}
+use Rattle.proof_lift.proofs.LiftedLemmas.{addition_cases}
+use Rattle.proof_lift.specs.declared.lines.LiftLines.{LiftLines}
+
+-- ---- bytes behind others
+pub behind_none : (t : Text) → behind [] t ≡ t
+behind_none (Ok rest) = refl
+behind_none (Err fault) = refl
+
+pub behind_append : (a b : List ℕ) (t : Text) → behind (a ++ b) t ≡ behind a (behind b t)
+behind_append a b (Ok rest) = ap (λ (x : List ℕ). Ok x) (append_assoc a b rest)
+behind_append a b (Err fault) = refl
+
+-- ---- lines
+-- lifting goes on behind a line
+pub lift_text-line : (q : Cube) (m : ℕ) (s : State) (n : ℕ) (line rest : List ℕ) → All (λ b. is_lf b ≡ false) line
+    → lift_text q m s n (line ++ 10 ∷ rest) ≡ lift_line q m s n (step_in line) (λ s'. lift_text q m s' (n + 1) rest)
+unfolding lift_text lift_pieces
+lift_text-line q m s n line rest none =
+    let more : (piece : List ℕ) × (pieces : List (List ℕ)) × (slice_split is_lf rest ≡ piece ∷ pieces) = first_piece rest in
+    ap (by_pieces (lift_pieces q m s n))
+    (slice_split_at is_lf line 10 rest none refl ∙ ap (λ ps. line ∷ ps) more.2)
+    ∙ ap (lift_line q m s n (step_in line))
+    (fun_ext (λ s'. sym (ap (by_pieces (lift_pieces q m s' (n + 1))) more.2)))
+
+-- and ends where no line is left
+pub lift_text-end : (q : Cube) (m : ℕ) (s : State) (n : ℕ) (text : List ℕ) → All (λ b. is_lf b ≡ false) text → lift_text q m s n text ≡ lift_end s.closed n text
+unfolding lift_text lift_pieces
+lift_text-end q m s n text none = ap (by_pieces (lift_pieces q m s n)) (slice_split_none is_lf text none)
+
+-- what lifting gives of the text that follows
+abbrev pub text_in : LiftLines → List ℕ → Text
+text_in c text = lift_text c.lifting.cube.items (length c.lifting.images.formula.clauses) (state_of c.lifting) c.line text
+
+same_leaf : (c d : LiftLines) (text : List ℕ) → SameLeaf c.lifting d.lifting → d.line ≡ c.line + 1
+    → lift_text c.lifting.cube.items (length c.lifting.images.formula.clauses) (state_of d.lifting) (c.line + 1) text ≡ text_in d text
+same_leaf c d text leaf next =
+    ap (λ v. lift_text v.items (length c.lifting.images.formula.clauses) (state_of d.lifting) (c.line + 1) text) (sym leaf.cube)
+    ∙ ap (λ f. lift_text d.lifting.cube.items (length f.clauses) (state_of d.lifting) (c.line + 1) text) (sym leaf.formula)
+    ∙ ap (λ n. lift_text d.lifting.cube.items (length d.lifting.images.formula.clauses) (state_of d.lifting) n text) (sym next)
+
+-- lines that are passed, one after the other, write these bytes
+abbrev pub Writes : LiftLines → List ℕ → LiftLines → Type 0
+Writes s text t = (appended : List ℕ) × (t.out.items ≡ s.out.items ++ appended) × ((more : List ℕ) → text_in s (text ++ more) ≡ behind appended (text_in t more))
+
+all_write : (lines : List (List ℕ)) (s t : LiftLines) → All IsOpen lines → TakesAll Takes s lines t → Writes s (ended lines) t
+all_write [] s t each e = (
+  [],
+  ap (λ (c : LiftLines). c.out.items) (sym e) ∙ sym (append-nil s.out.items),
+  λ more. ap (λ (c : LiftLines). text_in c more) e ∙ sym (behind_none (text_in t more)),
+)
+all_write (line ∷ lines) s t each (m, takes, later) =
+    let rest = all_write lines m t (All-tail IsOpen line lines each) later in (
+      takes.appended ++ rest.0,
+      rest.1 ∙ ap (λ (x : List ℕ). x ++ rest.0) takes.out ∙ append_assoc s.out.items takes.appended rest.0,
+      λ more.
+          ap (text_in s) (append_assoc line (10 ∷ ended lines) more)
+          ∙ lift_text-line s.lifting.cube.items (length s.lifting.images.formula.clauses) (state_of s.lifting) s.line line (ended lines ++ more) (All-head IsOpen line lines each)
+          ∙ takes.goes_on (λ s'. lift_text s.lifting.cube.items (length s.lifting.images.formula.clauses) s' (s.line + 1) (ended lines ++ more))
+          ∙ ap (behind takes.appended) (same_leaf s m (ended lines ++ more) takes.leaf takes.next ∙ rest.2 more)
+          ∙ sym (behind_append takes.appended rest.0 (text_in t more)),
+    )
+
+-- the begun line and a piece
+pub hands_write : (s : LiftLines) (begun piece : List ℕ) (t : LiftLines) (rest : List ℕ) → HandsOn Takes s (begun ++ piece) t rest
+    → Appends s.out.items t.out.items (λ appended. LeadsTo (Within (held_of s.lifting) s.line begun) piece appended (Within (held_of t.lifting) t.line rest))
+hands_write s begun piece t rest h =
+    let w = all_write h.lines s t h.one_by_one h.taken in
+    record {
+      appended = w.0;
+      out = w.1;
+      holds = λ more.
+          ap (text_in s) (sym (append_assoc begun piece more) ∙ ap (λ (x : List ℕ). x ++ more) h.whole ∙ append_assoc (ended h.lines) rest more)
+          ∙ w.2 (rest ++ more);
+    }
+
+-- a line that is refused
+refused_writes : (s : LiftLines) (rest line later : List ℕ) (fault : CheckFault) → IsCut rest line later → LineStops s.lifting s.line line fault → (more : List ℕ) → text_in s (rest ++ more) ≡ Err fault
+refused_writes s rest line later fault cut stops more =
+    ap (λ (x : List ℕ). text_in s (x ++ more)) cut.0
+    ∙ ap (text_in s) (append_assoc line (10 ∷ later) more)
+    ∙ lift_text-line s.lifting.cube.items (length s.lifting.images.formula.clauses) (state_of s.lifting) s.line line (later ++ more) cut.1
+    ∙ stops (λ s'. lift_text s.lifting.cube.items (length s.lifting.images.formula.clauses) s' (s.line + 1) (later ++ more))
+
+abbrev pub Fails : LiftLines → List ℕ → List ℕ → CheckFault → List ℕ → Type 0
+Fails s begun piece fault appended = (fault ≡ no_memory) ⊎ LeadsTo (Within (held_of s.lifting) s.line begun) piece appended (Failed fault)
+
+-- the lines that were taken before memory ran out
+none_write : (lines : List (List ℕ)) (s t : LiftLines) → TakesAll Takes s lines t → IsFront s.out.items t.out.items
+none_write [] s t e = ([], ap (λ (c : LiftLines). c.out.items) (sym e) ∙ sym (append-nil s.out.items))
+none_write (line ∷ lines) s t (m, takes, later) =
+    let rest = none_write lines m t later in
+    (takes.appended ++ rest.0, rest.1 ∙ ap (λ (x : List ℕ). x ++ rest.0) takes.out ∙ append_assoc s.out.items takes.appended rest.0)
+
+pub stops_write : (s : LiftLines) (begun piece : List ℕ) (t : LiftLines) (fault : PieceFault CheckFault) → Stops Takes Refuses s (begun ++ piece) t fault
+    → Appends s.out.items t.out.items (Fails s begun piece (piece_refusal fault))
+stops_write s begun piece t NoPlace (lines, taken) = let front = none_write lines s t taken in record { appended = front.0; out = front.1; holds = inl refl }
+stops_write s begun piece t (Line fault) (m, rest, line, later, h, cut, refuses) =
+    let w = hands_write s begun piece m rest h in
+    record {
+      appended = w.appended ++ refuses.front.0;
+      out = refuses.front.1 ∙ ap (λ (x : List ℕ). x ++ refuses.front.0) w.out ∙ append_assoc s.out.items w.appended refuses.front.0;
+      holds = at refuses.stops;
+    }
+  where
+    at : (fault ≡ no_memory) ⊎ LineStops m.lifting m.line line fault → Fails s begun piece fault ((hands_write s begun piece m rest h).appended ++ refuses.front.0)
+    at (inl e) = inl e
+    at (inr stops) = inr (λ more. (hands_write s begun piece m rest h).holds more ∙ ap (behind (hands_write s begun piece m rest h).appended) (refused_writes m rest line later fault cut stops more))
+
+-- ---- pieces
+pub history : (old : Progress) (piece appended : List ℕ) (new : Progress) → (old ≡ Failed no_memory → new ≡ Failed no_memory) → (new ≡ Failed no_memory) ⊎ LeadsTo old piece appended new
+    → (F : Cnf) (q : Cube) (bytes written : List ℕ) → HasTaken F q old bytes written → HasTaken F q new (bytes ++ piece) (written ++ appended)
+history old piece appended new stays reaches F q bytes written (inl none) = inl (stays none)
+history old piece appended new stays (inl none) F q bytes written (inr h) = inl none
+history old piece appended new stays (inr leads) F q bytes written (inr h) =
+    inr (λ more. ap (lift_of F q) (append_assoc bytes piece more) ∙ h (piece ++ more) ∙ ap (behind written) (leads more) ∙ sym (behind_append written appended (lift_more new more)))
+
+pub takes_nothing : (fault : CheckFault) (piece out : List ℕ) → TakesPiece (Failed fault) piece out out (Err fault) (Failed fault)
+takes_nothing fault piece out = record {
+  appended = [];
+  out = sym (append-nil out);
+  answers = refl;
+  stays = λ f e. (refl, refl);
+  history = history (Failed fault) piece [] (Failed fault) (λ e. e) (inr (λ more. refl));
+}
+
+never : {P : Type 0} (h : Held) (line : ℕ) (begun : List ℕ) (fault : CheckFault) → Within h line begun ≡ Failed fault → P
+never h line begun fault e = absurd cc
+
+pub takes_within : (h : Held) (line : ℕ) (begun piece before after : List ℕ) (new : Progress)
+    → Appends before after (λ appended. (new ≡ Failed no_memory) ⊎ LeadsTo (Within h line begun) piece appended new) → TakesPiece (Within h line begun) piece before after (answer_in new) new
+takes_within h line begun piece before after new a = record {
+  appended = a.appended;
+  out = a.out;
+  answers = refl;
+  stays = λ f e. never h line begun f e;
+  history = history (Within h line begun) piece a.appended new (λ e. never h line begun no_memory e) a.holds;
+}
+
+-- what is answered at the end
+pub ends : (h : Held) (line : ℕ) (begun : List ℕ) → IsOpen begun → lift_more (Within h line begun) [] ≡ lift_end h.closed line begun
+ends h line begun no_lf = ap (lift_text h.cube (length h.formula.clauses) (state_in h) line) (append-nil begun) ∙ lift_text-end h.cube (length h.formula.clauses) (state_in h) line begun no_lf
+
+open_none : IsOpen []
+open_none = All-nil (λ b. is_lf b ≡ false)
+
+-- no literal of the cube stands in the empty clause
+met_none : (q : Cube) → is_met q [] ≡ false
+met_none [] = refl
+met_none (x ∷ q) = met_none q
+
+-- the line of an empty lemma that is lifted
+pub line_lifts : (h : Held) (line n : ℕ) (hints : List ℕ) (steps : List Step) (s' : State) → h.closed ≡ false → IsStep (Add n [] hints [])
+    → lift_step h.cube (length h.formula.clauses) (state_in h) (Add n [] hints []) ≡ Ok (steps, s') → lift_more (Within h line []) (empty_lemma n hints) ≡ Ok (text_of h.own steps)
+line_lifts h line n hints steps s' still limits is =
+    let q = h.cube in
+    let m = length h.formula.clauses in
+    let s = state_in h in
+    let step = Add n [] hints [] in
+    let none = no_lf_from (line_text n step) (written_one_line n step limits.0 limits) in
+    lift_text-line q m s line (line_text n step) [] none
+    ∙ ap (λ r. lift_line q m s line r (λ t. lift_text q m t (line + 1) [])) (spelled_found (line_text n step) step (written_spells n step limits.0 limits))
+    ∙ ap (λ b. cond b (lift_text q m s (line + 1) []) (lifted_step line h.own (lift_step q m s step) (λ t. lift_text q m t (line + 1) []))) still
+    ∙ ap (λ (r : Lifted). lifted_step line h.own r (λ t. lift_text q m t (line + 1) [])) is
+    ∙ ap (behind (text_of h.own steps)) (lift_text-end q m s' (line + 1) [] open_none ∙ ap (λ b. lift_end b (line + 1) []) closed)
+    ∙ ap (λ (x : List ℕ). Ok x) (append-nil (text_of h.own steps))
+  where
+    closed : s'.closed ≡ true
+    closed = elim (addition_cases h.cube (state_in h) n [] hints [] steps s' is).1 [
+      | inl gone ↦ absurd (both_ways (is_met h.cube []) (met_none h.cube) gone.met)
+      | inr k ↦ ap (λ (t : State). t.closed) k.leaves
+    ]
+
+-- where a line is begun, and where none is
+pub some_begun : (h : Held) (line : ℕ) (rest : List ℕ) (b : Bool) → IsOpen rest → b ≡ eqb (length rest) 0 → b ≡ false → lift_more (Within h line rest) [] ≡ refused 1 line 2
+some_begun h line [] b no_lf e f = absurd (both_ways b f e)
+some_begun h line (x ∷ rest) b no_lf e f = ends h line (x ∷ rest) no_lf
+
+pub none_begun : (rest : List ℕ) (b : Bool) → b ≡ eqb (length rest) 0 → b ≡ true → rest ≡ []
+none_begun [] b e t = refl
+none_begun (x ∷ rest) b e t = absurd (both_ways b (e ∙ ne_eqb (length (x ∷ rest)) 0 (λ z. absurd (omega arith))) t)
+
+pub end_is : (h : Held) (line : ℕ) (rest : List ℕ) (b : Bool) → rest ≡ [] → h.closed ≡ b → lift_more (Within h line rest) [] ≡ lift_end b line []
+end_is h line rest b none is = ap (λ (r : List ℕ). lift_more (Within h line r) []) none ∙ ends h line [] open_none ∙ ap (λ c. lift_end c line []) is
+
+pub closed_by : (h : Held) (line n : ℕ) (rest hints : List ℕ) (steps : List Step) (s' : State) → rest ≡ [] → h.closed ≡ false → IsStep (Add n [] hints [])
+    → lift_step h.cube (length h.formula.clauses) (state_in h) (Add n [] hints []) ≡ Ok (steps, s') → IsEnded (Within h line rest) (text_of h.own steps)
+closed_by h line n rest hints steps s' none still limits is =
+    inr (line, n, hints, end_is h line rest false none still, ap (λ (r : List ℕ). lift_more (Within h line r) (empty_lemma n hints)) none ∙ line_lifts h line n hints steps s' still limits is)
+
+-- ---- a whole text
+failed_none : {P : Type 0} (p : Progress) (more out : List ℕ) → p ≡ Failed no_memory → lift_more p more ≡ Ok out → P
+failed_none p more out none is = absurd (let no : ◌≡◌ {A = Text} (Err no_memory) (Ok out) = ap (λ (x : Progress). lift_more x more) (sym none) ∙ is in cc)
+
+-- what was written, and what is put behind it, is what some text is lifted to
+pub given : (F : Cnf) (q : Cube) (p : Progress) (bytes written appended : List ℕ) → HasTaken F q p bytes written → IsEnded p appended → (text : List ℕ) × (lift_of F q text ≡ Ok (written ++ appended))
+given F q p bytes written appended (inl none) (inl e) = failed_none p [] [] none e.0
+given F q p bytes written appended (inl none) (inr (line, n, hints, missing, e)) = failed_none p (empty_lemma n hints) appended none e
+given F q p bytes written appended (inr h) (inl e) = (bytes ++ [], h [] ∙ ap (behind written) e.0 ∙ ap (λ (x : List ℕ). Ok (written ++ x)) (sym e.1))
+given F q p bytes written appended (inr h) (inr (line, n, hints, missing, e)) = (bytes ++ empty_lemma n hints, h (empty_lemma n hints) ∙ ap (behind written) e)
+
+-- what lifting gives is answered, unless memory ran out
+pub answered : (F : Cnf) (q : Cube) (p : Progress) (bytes written out before after : List ℕ) (r : Result (Unit {0}) CheckFault) → HasTaken F q p bytes written → GivesEnd p r before after → lift_of F q bytes ≡ Ok out
+    → (r ≡ Ok tt) ⊎ (r ≡ Err no_memory)
+answered F q p bytes written out before after (Ok _) taken gives is = inl refl
+answered F q p bytes written out before after (Err fault) taken (inl e) is = inr (ap (λ (f : CheckFault). Err f) e)
+answered F q p bytes written out before after (Err fault) (inl none) (inr e) is =
+    inr (let same : ◌≡◌ {A = Text} (Err fault) (Err no_memory) = sym e ∙ ap (λ (x : Progress). lift_more x []) none in ap (λ (f : CheckFault). Err f) (let f : fault ≡ no_memory = cc in f))
+answered F q p bytes written out before after (Err fault) (inr h) (inr e) is =
+    absurd (let no : ◌≡◌ {A = Text} (Err fault) (Ok out) = sym (ap (lift_of F q) (sym (append-nil bytes)) ∙ h [] ∙ ap (behind written) e) ∙ is in cc)

@@ -1,0 +1,14 @@
+-- Tables of stamps between two lines.
+use Rattle.std.specs.Prelude.{ℕ, ◌≤◌, vec_len}
+use Rattle.proof_lift.specs.inner.Tables.{AllBelow}
+use Rattle.proof_lift.specs.declared.scratch.Scratch.{Scratch}
+
+-- no stamp has come to this number
+pub record IsClean (n : ℕ) (s : Scratch) : Type 0 where
+  pub marks : AllBelow n s.marks.items
+  pub used : AllBelow n s.used.items
+
+-- no table is shorter
+pub record Roomier (old new : Scratch) : Type 0 where
+  pub marks : vec_len old.marks ≤ vec_len new.marks
+  pub used : vec_len old.used ≤ vec_len new.used

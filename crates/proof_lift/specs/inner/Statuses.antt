@@ -1,0 +1,11 @@
+-- What the code's statuses say.
+use Rattle.lrat_check.specs.Faults.{Status, Satisfied, Falsified, Unit, Undecided}
+use Rattle.proof_lift.specs.declared.status.Status.{Status as Answer}
+use Rattle.proof_lift.specs.declared.status.Status.TheVariants.{Satisfied as IsSatisfied, Falsified as IsFalsified, Unit as IsUnit, Undecided as IsUndecided}
+
+-- the status that an answer tells
+abbrev pub status_in : Answer → Status
+status_in IsSatisfied = Satisfied
+status_in IsFalsified = Falsified
+status_in (IsUnit l) = Unit l
+status_in IsUndecided = Undecided

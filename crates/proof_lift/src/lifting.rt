@@ -1,0 +1,351 @@
+//! Lifting, step by step.
+
+ghost use Rattle.std.specs.Prelude.{◌≡◌, ◌<◌, ◌≤◌, ◌+◌, ◌*◌, ◌⊎◌, ◌++◌, [], Ok, Err, Some, OnOk, IfOk, IfErr, length, vec_len, All, true, false};
+ghost use Rattle.std.specs.Bool.{OnTrue};
+ghost use Rattle.dimacs.specs.logic.Literal.{IsWithin};
+ghost use Rattle.dimacs.specs.logic.Propagation.{negations};
+ghost use Rattle.lrat_check.specs.inner.Table.{FitsTable};
+ghost use Rattle.lrat_text.specs.Grammar.{IsStep, IsClauseNumber};
+ghost use Rattle.lrat_text.specs.Steps.{step_of};
+ghost use Rattle.lrat_text.specs.Writing.{line_of};
+ghost use Rattle.lrat_text.specs.declared.step.Step.TheVariants as owned;
+ghost use Rattle.proof_lift.specs.Lifting.{lift_step, lift_addition, lift_lemma, with_stand, begun, after_deletion, own_numbers, all_live};
+ghost use Rattle.proof_lift.specs.Trimming.{union};
+ghost use Rattle.proof_lift.specs.Walking.{lift_walk, Gone, Kept};
+ghost use Rattle.proof_lift.specs.inner.Clean.{IsClean};
+ghost use Rattle.proof_lift.specs.inner.Faults.{line_fault_number};
+ghost use Rattle.proof_lift.specs.inner.Images.{stands_of};
+ghost use Rattle.proof_lift.specs.inner.Ready.{IsReady, IsAssumed, IsSame, SameLeaf, state_of};
+ghost use Rattle.proof_lift.specs.inner.Closing.{IsClosed};
+ghost use Rattle.proof_lift.specs.inner.Writing.{WritesAs, IsFront};
+
+use crate::closing::refuting_hints;
+use crate::fault::LineFault;
+use crate::images::{Image, Images, Own};
+use crate::marks::{assume_negations, join_cube, meets};
+use crate::scratch::Scratch;
+use dimacs::{Formula, Lit};
+use lrat_text::{Groups, StepRef, put_ref};
+use std::alloc::{AllocError, Global};
+
+/// A lemma, and what it follows by.
+#[derive(Clone, Copy)]
+pub(crate) struct Lemma<'a> {
+    pub(crate) lits: &'a [Lit],
+    pub(crate) hints: &'a [u64],
+    pub(crate) groups: &'a Groups,
+}
+
+/// What is known between two steps.
+#[derive(Drop)]
+pub(crate) struct Lifting {
+    alloc: Global,
+    pub(crate) images: Images,
+    pub(crate) cube: Vec<Lit>,
+    /// The greatest foreign number.
+    pub(crate) top: u64,
+    /// The number of the last lemma that was written.
+    pub(crate) own: u64,
+    /// Whether the empty lemma was lifted.
+    pub(crate) closed: bool,
+    pub(crate) scratch: Scratch,
+}
+
+/// The least number that no clause has.
+const LIMIT: u64 = 1 << 48;
+
+/// Whether each can be a clause's number.
+fn are_numbers(numbers: &[u64]) -> bool
+    ensures { OnTrue result (All IsClauseNumber numbers.now) }
+{
+    for number in numbers {
+        if *number == 0 || *number >= LIMIT {
+            return false;
+        }
+    }
+    true
+}
+
+/// Tables with a place for each literal of the formula and the cube.
+fn begin_scratch(alloc: Global, formula: &Formula, cube: &[Lit]) -> Result<Scratch, AllocError>
+    ensures marks { IfOk result (λ s. 2 * formula.now.vars + 2 ≤ vec_len s.marks) }
+    ensures used { IfOk result (λ s. 2 * formula.now.vars + 2 ≤ vec_len s.used) }
+    ensures cube { IfOk result (λ s. FitsTable (vec_len s.marks) cube.now × FitsTable (vec_len s.used) cube.now) }
+    ensures clean { IfOk result (λ s. IsClean 1 s) }
+{
+    let mut scratch = Scratch::new(alloc);
+    scratch.reserve(2 * formula.vars() as usize + 2)?;
+    scratch.make_room(cube)?;
+    Ok(scratch)
+}
+
+impl Lifting {
+    /// No step was lifted yet.
+    pub(crate) fn of(alloc: Global, formula: Formula, cube: Vec<Lit>) -> Result<Lifting, AllocError>
+        requires few { vec_len cube ≤ 1000000 }
+        requires within { All (IsWithin 2000000) cube.items }
+        ensures begun { IfOk result (λ x. state_of x ≡ begun cube.items formula) }
+        ensures ready { IfOk result (λ x. IsReady 1 x) }
+        ensures formula { IfOk result (λ x. x.images.formula ≡ formula) }
+        ensures cube { IfOk result (λ x. x.cube.items ≡ cube.items) }
+    {
+        let own = formula.len();
+        let top = own + cube.len();
+        let scratch = begin_scratch(alloc, &formula, &cube)?;
+        let images = Images::of(alloc, formula, cube.len())?;
+        Ok(Lifting {
+            alloc,
+            images,
+            cube,
+            top: top as u64,
+            own: own as u64,
+            closed: false,
+            scratch,
+        })
+    }
+
+    /// Nothing stands for a lemma that has a literal of the cube.
+    fn pass(&mut self, id: u64) -> Result<(), LineFault>
+        requires lemma { self.old.top < id }
+        requires live { length self.old.images.live.items ≤ self.old.top + 1 }
+        ensures stands { OnOk result (stands_of self.new.images ≡ with_stand (stands_of self.old.images) id (Some Gone)) }
+        ensures counts { OnOk result ((self.new.top ≡ id) × (self.new.own ≡ self.old.own) × (self.new.closed ≡ self.old.closed)) }
+        ensures same { OnOk result (IsSame self.old self.new) }
+        ensures refused { IfErr result (λ f. f ≡ LineFault.NoMemory) }
+    {
+        self.images.put(id, None)?;
+        self.top = id;
+        Ok(())
+    }
+
+    /// Writes a lemma in the place of the foreign one of this number.
+    fn write(
+        &mut self,
+        id: u64,
+        empty: bool,
+        literals: Vec<Lit>,
+        out: &mut Vec<u8>,
+    ) -> Result<(), LineFault>
+        requires lemma { self.old.top < id }
+        requires live { length self.old.images.live.items ≤ self.old.top + 1 }
+        requires number { IsClauseNumber (self.old.own + 1) }
+        requires literals { All (IsWithin 2000000) literals.items }
+        requires hints { All IsClauseNumber self.old.scratch.numbers.items }
+        ensures stands { OnOk result (stands_of self.new.images ≡ with_stand (stands_of self.old.images) id (Some (Kept (self.old.own + 1) literals.items))) }
+        ensures counts { OnOk result ((self.new.top ≡ id) × (self.new.own ≡ self.old.own + 1) × (self.new.closed ≡ empty)) }
+        ensures text { OnOk result (out.new.items ≡ out.old.items ++ line_of (self.old.own + 1) (owned.Add (self.old.own + 1) literals.items self.old.scratch.numbers.items [])) }
+        ensures same { OnOk result (IsSame self.old self.new) }
+        ensures refused { IfErr result (λ f. f ≡ LineFault.NoMemory) }
+        ensures front { IsFront out.old.items out.new.items }
+    {
+        let number = self.own + 1;
+        let no_group = Groups::new(self.alloc);
+        let line = StepRef::Add {
+            id: number,
+            lits: &literals,
+            hints: &self.scratch.numbers,
+            groups: &no_group,
+        };
+        put_ref(line, number, out)?;
+        self.images.put(id, Some(Own { number, literals }))?;
+        self.top = id;
+        self.own = number;
+        self.closed = empty;
+        Ok(())
+    }
+
+    /// Lifts a lemma whose negations are marked, and that has no literal of the cube.
+    fn lift(
+        &mut self,
+        id: u64,
+        lemma: Lemma<'_>,
+        line: u64,
+        out: &mut Vec<u8>,
+    ) -> Result<(), LineFault>
+        requires lemma { self.old.top < id }
+        requires number { IsClauseNumber id }
+        requires literals { All (IsWithin 2000000) lemma.lits.now }
+        requires ready { IsAssumed line self.old lemma.lits.now }
+        ensures writes { OnOk result (WritesAs (lift_lemma self.old.cube.items (state_of self.old) id lemma.entry.lits.now
+            (lift_walk (stands_of self.old.images) lemma.entry.hints.now (negations (union self.old.cube.items lemma.entry.lits.now)))) (state_of self.old).own (state_of self.new) out.old.items out.new.items) }
+        ensures refused { IfErr result (λ f. (f ≡ LineFault.NoMemory) ⊎ (lift_lemma self.old.cube.items (state_of self.old) id lemma.entry.lits.now
+            (lift_walk (stands_of self.old.images) lemma.entry.hints.now (negations (union self.old.cube.items lemma.entry.lits.now))) ≡ Err (line_fault_number f))) }
+        ensures ready { OnOk result (IsReady (line + 1) self.new) }
+        ensures leaf { OnOk result (SameLeaf self.old self.new) }
+        ensures front { IsFront out.old.items out.new.items }
+    {
+        self.scratch.clause.clear();
+        self.scratch.clause.extend_from_slice(lemma.lits)?;
+        join_cube(
+            &mut self.scratch.marks,
+            line,
+            &self.cube,
+            &mut self.scratch.clause,
+        )?;
+        let literals = match self
+            .scratch
+            .derive(self.alloc, &self.images, line, lemma.hints)
+        {
+            Ok(literals) => literals,
+            Err(fault) => return Err(fault),
+        };
+        match self.write(id, lemma.lits.is_empty(), literals, out) {
+            Ok(()) => Ok(()),
+            Err(fault) => Err(fault),
+        }
+    }
+
+    /// Lifts an addition.
+    fn add(
+        &mut self,
+        id: u64,
+        lemma: Lemma<'_>,
+        line: u64,
+        out: &mut Vec<u8>,
+    ) -> Result<(), LineFault>
+        requires number { IsClauseNumber id }
+        requires literals { All (IsWithin 2000000) lemma.lits.now }
+        requires ready { IsReady line self.old }
+        ensures writes { OnOk result (WritesAs (lift_addition self.old.cube.items (state_of self.old) id lemma.entry.lits.now lemma.entry.hints.now lemma.entry.groups.now) (state_of self.old).own (state_of self.new) out.old.items out.new.items) }
+        ensures refused { IfErr result (λ f. (f ≡ LineFault.NoMemory) ⊎ (lift_addition self.old.cube.items (state_of self.old) id lemma.entry.lits.now lemma.entry.hints.now lemma.entry.groups.now ≡ Err (line_fault_number f))) }
+        ensures ready { OnOk result (IsReady (line + 1) self.new) }
+        ensures leaf { OnOk result (SameLeaf self.old self.new) }
+        ensures front { IsFront out.old.items out.new.items }
+    {
+        if id <= self.top {
+            return Err(LineFault::NumberNotRising);
+        }
+        self.scratch.make_room(lemma.lits)?;
+        if assume_negations(&mut self.scratch.marks, line, lemma.lits) {
+            return Err(LineFault::Tautology);
+        }
+        if !lemma.groups.is_empty() {
+            return Err(LineFault::NotRup);
+        }
+        if meets(&self.scratch.marks, line, &self.cube) {
+            return match self.pass(id) {
+                Ok(()) => Ok(()),
+                Err(fault) => Err(fault),
+            };
+        }
+        match self.lift(id, lemma, line, out) {
+            Ok(()) => Ok(()),
+            Err(fault) => Err(fault),
+        }
+    }
+
+    /// Takes the numbers out, and leaves those of the lemmas that were written.
+    fn remove(&mut self, ids: &[u64]) -> Result<(), LineFault>
+        ensures stands { OnOk result (stands_of self.new.images ≡ after_deletion (stands_of self.old.images) ids.now) }
+        ensures numbers { OnOk result (self.new.scratch.numbers.items ≡ own_numbers (length self.old.images.formula.clauses) (stands_of self.old.images) ids.now) }
+        ensures live { OnOk result (all_live (stands_of self.old.images) ids.now ≡ true) }
+        ensures refused { IfErr result (λ f. (f ≡ LineFault.NoMemory) ⊎ ((all_live (stands_of self.old.images) ids.now ≡ false) × (f ≡ LineFault.UnknownClause))) }
+        ensures same { OnOk result (IsSame self.old self.new) }
+        ensures counts { OnOk result ((self.new.top ≡ self.old.top) × (self.new.own ≡ self.old.own) × (self.new.closed ≡ self.old.closed)) }
+    {
+        let own = self.images.formula.len() as u64;
+        self.scratch.numbers.clear();
+        for id in ids {
+            match self.images.get(*id) {
+                Image::None => return Err(LineFault::UnknownClause),
+                Image::Gone => {}
+                Image::Kept(number, _) => {
+                    if number > own {
+                        self.scratch.numbers.push(number)?;
+                    }
+                }
+            }
+            self.images.remove(*id);
+        }
+        Ok(())
+    }
+
+    /// Lifts a deletion.
+    fn delete(&mut self, ids: &[u64], line: u64, out: &mut Vec<u8>) -> Result<(), LineFault>
+        requires ready { IsReady line self.old }
+        ensures writes { OnOk result (WritesAs (lift_step self.old.cube.items (length self.old.images.formula.clauses) (state_of self.old) (owned.Delete ids.now)) (state_of self.old).own (state_of self.new) out.old.items out.new.items) }
+        ensures refused { IfErr result (λ f. (f ≡ LineFault.NoMemory) ⊎ (lift_step self.old.cube.items (length self.old.images.formula.clauses) (state_of self.old) (owned.Delete ids.now) ≡ Err (line_fault_number f))) }
+        ensures ready { OnOk result (IsReady (line + 1) self.new) }
+        ensures leaf { OnOk result (SameLeaf self.old self.new) }
+        ensures front { IsFront out.old.items out.new.items }
+    {
+        match self.remove(ids) {
+            Ok(()) => {}
+            Err(fault) => return Err(fault),
+        }
+        if self.scratch.numbers.is_empty() {
+            return Ok(());
+        }
+        let step = StepRef::Delete {
+            ids: &self.scratch.numbers,
+        };
+        put_ref(step, self.own, out)?;
+        Ok(())
+    }
+
+    /// Writes the empty lemma, where one propagation under the cube finds hints by which it follows; says whether it did.
+    pub(crate) fn close(&mut self, line: u64, out: &mut Vec<u8>) -> Result<bool, LineFault>
+        requires ready { IsReady line self.old }
+        ensures closed { IfOk result (λ b. OnTrue b (IsClosed self.old self.new out.old.items out.new.items)) }
+        ensures refused { IfErr result (λ f. f ≡ LineFault.NoMemory) }
+        ensures front { IsFront out.old.items out.new.items }
+    {
+        let id = self.top + 1;
+        if id >= LIMIT {
+            return Ok(false);
+        }
+        let places = self.scratch.marks.len();
+        let Some(hints) = refuting_hints(self.alloc, &self.images, &self.cube, places)? else {
+            return Ok(false);
+        };
+        if !are_numbers(&hints) {
+            return Ok(false);
+        }
+        let groups = Groups::new(self.alloc);
+        let lemma = Lemma {
+            lits: &[],
+            hints: &hints,
+            groups: &groups,
+        };
+        match self.add(id, lemma, line, out) {
+            Ok(()) => Ok(true),
+            Err(LineFault::NoMemory) => Err(LineFault::NoMemory),
+            Err(_) => Ok(false),
+        }
+    }
+
+    /// Lifts a step of the line of this number.
+    pub(crate) fn take(
+        &mut self,
+        step: StepRef<'_>,
+        line: u64,
+        out: &mut Vec<u8>,
+    ) -> Result<(), LineFault>
+        requires limits { IsStep (step_of step) }
+        requires ready { IsReady line self.old }
+        ensures writes { OnOk result (WritesAs (lift_step self.old.cube.items (length self.old.images.formula.clauses) (state_of self.old) (step_of step.entry)) (state_of self.old).own (state_of self.new) out.old.items out.new.items) }
+        ensures refused { IfErr result (λ f. (f ≡ LineFault.NoMemory) ⊎ (lift_step self.old.cube.items (length self.old.images.formula.clauses) (state_of self.old) (step_of step.entry) ≡ Err (line_fault_number f))) }
+        ensures ready { OnOk result (IsReady (line + 1) self.new) }
+        ensures leaf { OnOk result (SameLeaf self.old self.new) }
+        ensures front { IsFront out.old.items out.new.items }
+    {
+        match step {
+            StepRef::Add {
+                id,
+                lits,
+                hints,
+                groups,
+            } => self.add(
+                id,
+                Lemma {
+                    lits,
+                    hints,
+                    groups,
+                },
+                line,
+                out,
+            ),
+            StepRef::Delete { ids } => self.delete(ids, line, out),
+        }
+    }
+}

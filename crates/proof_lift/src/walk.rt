@@ -1,0 +1,65 @@
+//! The walk along a lemma's hints.
+
+ghost use Rattle.std.specs.Prelude.{◌≡◌, ◌+◌, length};
+ghost use Rattle.proof_lift.specs.Walking.{lift_walk};
+ghost use Rattle.proof_lift.specs.inner.Tables.{marked, AllBelow};
+ghost use Rattle.proof_lift.specs.inner.Images.{stands_of};
+ghost use Rattle.proof_lift.specs.inner.Walks.{StandsFit, passed_by, Tells, from_there};
+
+use crate::fault::LineFault;
+use crate::images::{Image, Images};
+use crate::status::{Status, classify};
+use dimacs::Lit;
+
+/// A hint that led on, and the unit literal.
+#[derive(Clone, Copy)]
+pub(crate) struct Link {
+    pub(crate) hint: u64,
+    pub(crate) unit: Lit,
+}
+
+/// The false clause at which a walk ends.
+#[derive(Clone, Copy)]
+pub(crate) struct Conflict<'a> {
+    pub(crate) number: u64,
+    pub(crate) clause: &'a [Lit],
+}
+
+/// Goes along the hints: passes over those whose clause is gone or true, and ends at the first that is false. Those that lead on are
+/// put behind `chain`.
+pub(crate) fn walk<'a>(
+    images: &'a Images,
+    marks: &mut [u64],
+    stamp: u64,
+    hints: &[u64],
+    chain: &mut Vec<Link>,
+) -> Result<Conflict<'a>, LineFault>
+    requires fits { StandsFit (length marks.old) (stands_of images.now) }
+    requires below { AllBelow (stamp + 1) marks.old }
+    ensures walk { Tells result (passed_by (stands_of images.now) chain.new.items)
+        (from_there (passed_by (stands_of images.now) chain.old.items) (lift_walk (stands_of images.now) hints.now (marked marks.old stamp))) }
+    ensures places { length marks.new ≡ length marks.old }
+    ensures below { AllBelow (stamp + 1) marks.new }
+{
+    for hint in hints {
+        match images.get(*hint) {
+            Image::None => return Err(LineFault::UnknownClause),
+            Image::Gone => {}
+            Image::Kept(number, clause) => {
+                match classify(marks, stamp, clause) {
+                    Status::Satisfied => {}
+                    Status::Undecided => return Err(LineFault::HintNotUnit),
+                    Status::Falsified => return Ok(Conflict { number, clause }),
+                    Status::Unit(l) => {
+                        chain.push(Link {
+                            hint: *hint,
+                            unit: l,
+                        })?;
+                        marks[l.index()] = stamp;
+                    }
+                }
+            }
+        }
+    }
+    Err(LineFault::NotRup)
+}

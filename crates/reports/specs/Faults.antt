@@ -1,0 +1,22 @@
+-- What is printed of an input and of cubes that are refused.
+use Rattle.std.specs.Prelude.{ℕ, List, ◌++◌, codes, decimal}
+use Rattle.dimacs.specs.text.Faults.{number_of_kind}
+use Rattle.dimacs.specs.declared.fault.DimacsFault.{DimacsFault}
+use Rattle.icnf.specs.Faults.{number_of_kind as number_of_cubes_kind}
+use Rattle.icnf.specs.declared.fault.IcnfFault.{IcnfFault}
+
+-- a fault's line and number
+abbrev pub fault_text : ℕ → ℕ → List ℕ
+fault_text line number = codes "line " ++ decimal line ++ codes " fault " ++ decimal number ++ codes "\n"
+
+-- what is printed of a faulty input
+abbrev pub input_fault_text : DimacsFault → List ℕ
+input_fault_text f = codes "c input " ++ fault_text f.line (number_of_kind f.kind)
+
+-- what is printed of faulty cubes
+abbrev pub cubes_fault_text : IcnfFault → List ℕ
+cubes_fault_text f = codes "c cubes " ++ fault_text f.line (number_of_cubes_kind f.kind)
+
+-- what is printed of cubes whose clauses are not the formula's
+abbrev pub other_formula_text : List ℕ
+other_formula_text = codes "c cubes of another formula\n"

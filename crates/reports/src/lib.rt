@@ -1,0 +1,10 @@
+//! What a run comes to: a report, with its text, its exit status and its proof; or a refusal, with its line.
+#![tactic(auto)]
+
+mod faults;
+mod refusal;
+mod report;
+
+pub use faults::{faulty_cubes, faulty_input, other_formula, put_fault, put_number};
+pub use refusal::Refusal;
+pub use report::Report;

@@ -1,0 +1,284 @@
+//! `join`: the files of any machines are read, and become one proof.
+
+use crate::files::{PIECE, next_piece, no_memory, refused};
+use crate::leaf_runs::{Start, begin, hushed};
+use crate::proof_file::{
+    Part, Place, append, is_part, is_same_file, keep, leads_to, make_part, place_of, remove,
+};
+use command_line::Printing;
+use dimacs::{Answer, Assignment, answer_lines};
+use gathering::GatherFault;
+use leaves::{FileEnd, Join, Note, Split, put_note};
+use node_main::{Refusal, Report};
+use std::fs::{File, OpenFile};
+use std::io::{BufRead, Write};
+use std::rt::Runtime;
+use std::str::from_utf8;
+
+/// The formula, the tree, and where the proof goes.
+#[derive(Clone, Copy)]
+pub(crate) struct JoinFiles<'a> {
+    pub(crate) input: &'a str,
+    pub(crate) cubes: &'a str,
+    pub(crate) proof: &'a str,
+}
+
+/// A join, and what was printed and written of it so far.
+#[derive(Drop)]
+struct Run<F> {
+    join: Join,
+    part: Part<F>,
+    /// The lines of the files.
+    notes: Vec<u8>,
+    /// How many names were read.
+    count: u64,
+    printing: Printing,
+}
+
+/// Why a join cannot go on.
+fn stopped(fault: GatherFault) -> Refusal {
+    match fault {
+        GatherFault::NoMemory => Refusal::NoMemory,
+        _ => Refusal::Writing,
+    }
+}
+
+/// Writes what is joined behind what the part has.
+fn write<F: Write>(run: &mut Run<F>) -> Result<(), Refusal> {
+    append(&mut run.part, run.join.written()).map_err(|error| refused(error, Refusal::Writing))?;
+    run.join.forget();
+    Ok(())
+}
+
+/// Notes something of the file that was named last.
+fn note<F>(run: &mut Run<F>, note: Note, name: &[u8]) -> Result<(), Refusal> {
+    put_note(&mut run.notes, run.count, note, name).map_err(no_memory)
+}
+
+/// Reads a file piece by piece, and tells whether it could be read to its end.
+fn feed<R: Runtime + AllocGlobal>(
+    rt: &R,
+    run: &mut Run<R::File>,
+    file: &mut R::File,
+) -> Result<bool, Refusal> {
+    let mut room = vec![in rt.alloc(); 0; PIECE].map_err(no_memory)?;
+    for _ in 0..u64::MAX {
+        let piece = match next_piece(file, &mut room, Refusal::Proof) {
+            Ok(piece) => piece,
+            Err(Refusal::NoMemory) => return Err(Refusal::NoMemory),
+            Err(_) => return Ok(false),
+        };
+        if piece.is_empty() {
+            return Ok(true);
+        }
+        run.join.feed(piece).map_err(stopped)?;
+        write(run)?;
+    }
+    Ok(false)
+}
+
+/// The report of an assignment that satisfies the formula.
+fn satisfied(
+    notes: &[u8],
+    values: &Assignment,
+    witness: bool,
+    mut report: Report,
+) -> Result<Report, Refusal> {
+    report.stdout.extend_from_slice(notes).map_err(no_memory)?;
+    answer_lines(Answer::Satisfiable(values), witness, &mut report.stdout).map_err(no_memory)?;
+    Ok(report)
+}
+
+/// Ends a file that was read to its end: the report, where it satisfies the formula.
+fn end<R: Runtime + AllocGlobal>(
+    rt: &R,
+    run: &mut Run<R::File>,
+    name: &[u8],
+) -> Result<Option<Report>, Refusal> {
+    let ended = run.join.end().map_err(stopped)?;
+    write(run)?;
+    match ended {
+        FileEnd::Closes => Ok(None),
+        FileEnd::ClosesNothing => {
+            if !run.printing.quiet {
+                note(run, Note::ClosesNothing, name)?;
+            }
+            Ok(None)
+        }
+        FileEnd::Refused { line, number } => {
+            note(run, Note::Fault { line, number }, name)?;
+            Ok(None)
+        }
+        FileEnd::Satisfies(values) => {
+            let report = Report::of(rt.alloc(), b"", 10).map_err(no_memory)?;
+            Ok(Some(satisfied(&run.notes, &values, run.printing.witness, report)?))
+        }
+    }
+}
+
+/// Reads the file of a name: the report, where it is an answer that satisfies the formula.
+fn take<R: Runtime + AllocGlobal>(
+    rt: &R,
+    run: &mut Run<R::File>,
+    place: &Place,
+    name: &str,
+) -> Result<Option<Report>, Refusal> {
+    run.count = run.count.saturating_add(1);
+    if leads_to(rt, place, name) || is_part(rt, &run.part, name) {
+        return Err(Refusal::Writing);
+    }
+    let Ok(mut file) = File::open(rt, name) else {
+        note(run, Note::Unread, name.as_bytes())?;
+        return Ok(None);
+    };
+    if feed(rt, run, &mut file)? {
+        return end(rt, run, name.as_bytes());
+    }
+    run.join.abandon().map_err(stopped)?;
+    write(run)?;
+    note(run, Note::Unread, name.as_bytes())?;
+    Ok(None)
+}
+
+/// Reads the files of these names.
+fn take_all<R: Runtime + AllocGlobal>(
+    rt: &R,
+    run: &mut Run<R::File>,
+    place: &Place,
+    names: &[&str],
+) -> Result<Option<Report>, Refusal> {
+    for name in names {
+        if let Some(report) = take(rt, run, place, name)? {
+            return Ok(Some(report));
+        }
+    }
+    Ok(None)
+}
+
+/// Reads the files whose names standard input lists, one a line, as the names come.
+fn take_listed<R: Runtime + AllocGlobal>(
+    rt: &R,
+    run: &mut Run<R::File>,
+    place: &Place,
+) -> Result<Option<Report>, Refusal> {
+    let mut reader = rt.reader();
+    let mut line = Vec::new(rt.alloc());
+    for _ in 0..u64::MAX {
+        line.clear();
+        let read = reader.read_until(b'\n', &mut line);
+        if read.map_err(|error| refused(error, Refusal::Proof))? == 0 {
+            return Ok(None);
+        }
+        if line.last() == Some(&b'\n') {
+            line.pop();
+        }
+        match from_utf8(&line) {
+            Ok(name) => {
+                if let Some(report) = take(rt, run, place, name)? {
+                    return Ok(Some(report));
+                }
+            }
+            Err(_) => {
+                run.count = run.count.saturating_add(1);
+                note(run, Note::Unread, &line)?;
+            }
+        }
+    }
+    Ok(None)
+}
+
+/// Reads all files, and ends the proof.
+fn joined<R: Runtime + AllocGlobal>(
+    rt: &R,
+    run: &mut Run<R::File>,
+    place: &Place,
+    names: &[&str],
+) -> Result<Report, Refusal> {
+    let found = if names.len() == 1 && names[0] == "-" {
+        take_listed(rt, run, place)?
+    } else {
+        take_all(rt, run, place, names)?
+    };
+    if let Some(report) = found {
+        return Ok(report);
+    }
+    let notes = Vec::from_slice(rt.alloc(), &run.notes).map_err(no_memory)?;
+    let report = run.join.finish(notes).map_err(stopped)?;
+    write(run)?;
+    Ok(report)
+}
+
+/// Lets the part take its place where the report has a proof; else it is gone.
+fn settle<R: Runtime>(
+    rt: &R,
+    part: Part<R::File>,
+    place: &Place,
+    report: Result<Report, Refusal>,
+) -> Result<Report, Refusal> {
+    let report = match report {
+        Ok(report) if report.status == 20 => report,
+        other => {
+            remove(rt, part);
+            return other;
+        }
+    };
+    match keep(rt, part, place) {
+        Ok(true) => Ok(report),
+        Ok(false) => Err(Refusal::Writing),
+        Err(error) => Err(refused(error, Refusal::Writing)),
+    }
+}
+
+/// Where the proof goes: a file that is none of those that are read, and beside which another can be made.
+fn beside<R: Runtime + AllocGlobal>(
+    rt: &R,
+    files: &JoinFiles,
+) -> Result<(Place, Part<R::File>), Refusal> {
+    if is_same_file(rt, files.proof, files.input) || is_same_file(rt, files.proof, files.cubes) {
+        return Err(Refusal::Writing);
+    }
+    let place = place_of(rt, files.proof).map_err(|error| refused(error, Refusal::Writing))?;
+    let Some(place) = place else {
+        return Err(Refusal::Writing);
+    };
+    match make_part(rt, &place) {
+        Ok(Some(part)) => Ok((place, part)),
+        Ok(None) => Err(Refusal::Writing),
+        Err(error) => Err(refused(error, Refusal::Writing)),
+    }
+}
+
+/// Joins the files of a split formula.
+fn gathered<R: Runtime + AllocGlobal>(
+    rt: &R,
+    split: Split,
+    files: &JoinFiles,
+    names: &[&str],
+    printing: Printing,
+) -> Result<Report, Refusal> {
+    let join = Join::of(rt.alloc(), split).map_err(no_memory)?;
+    let (place, part) = beside(rt, files)?;
+    let mut run = Run {
+        join,
+        part,
+        notes: Vec::new(rt.alloc()),
+        count: 0,
+        printing,
+    };
+    let report = joined(rt, &mut run, &place, names);
+    let Run { part, .. } = run;
+    settle(rt, part, &place, report)
+}
+
+/// Joins the files of these names, or of those that standard input lists, where `-` is the only one.
+pub(crate) fn join<R: Runtime + AllocGlobal>(
+    rt: &R,
+    files: &JoinFiles,
+    names: &[&str],
+    printing: Printing,
+) -> Result<Report, Refusal> {
+    match begin(rt, files.input, files.cubes)? {
+        Start::With(split) => gathered(rt, split, files, names, printing),
+        Start::Refused(report) => Ok(hushed(report, printing.quiet)),
+    }
+}

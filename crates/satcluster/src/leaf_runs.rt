@@ -1,0 +1,142 @@
+//! `leaf`, `refute` and `cubes --split`: a formula and a tree of cubes are read, and a leaf is worked on.
+
+use crate::files::{PIECE, next_piece, no_memory, read_formula, refused};
+use crate::proof_file::write_proof;
+use dimacs::{DimacsFault, Kind};
+use icnf::{CubesFault, Kind as CubesKind};
+use leaves::{Search, Split, SplitReader, run_leaf, run_refute, run_split};
+use node_main::{Refusal, Report};
+use reports::{faulty_cubes, faulty_input, other_formula};
+use std::fs::{File, OpenFile};
+use std::rt::Runtime;
+
+/// What a command over leaves begins with.
+#[derive(Drop)]
+pub(crate) enum Start {
+    /// The formula of the input, with the tree of the cubes.
+    With(Split),
+    /// The input or the cubes are refused: what is reported of them.
+    Refused(Report),
+}
+
+/// Reads a file of cubes to its end, and feeds it to the reader of the formula's tree, where there is a formula.
+fn feed<R: Runtime + AllocGlobal>(
+    rt: &R,
+    path: &str,
+    reader: &mut Result<SplitReader, DimacsFault>,
+) -> Result<(), Refusal> {
+    let mut file = File::open(rt, path).map_err(|error| refused(error, Refusal::Cubes))?;
+    let mut room = vec![in rt.alloc(); 0; PIECE].map_err(no_memory)?;
+    for _ in 0..u64::MAX {
+        let piece = next_piece(&mut file, &mut room, Refusal::Cubes)?;
+        if piece.is_empty() {
+            return Ok(());
+        }
+        if let Ok(reader) = reader {
+            reader.feed(piece);
+        }
+    }
+    Err(Refusal::Cubes)
+}
+
+/// The report of cubes that are refused.
+fn refused_cubes<R: AllocGlobal>(rt: &R, fault: CubesFault) -> Result<Report, Refusal> {
+    let report = match fault {
+        CubesFault::Faulty(fault) if fault.kind == CubesKind::NoMemory => {
+            return Err(Refusal::NoMemory);
+        }
+        CubesFault::Faulty(fault) => faulty_cubes(rt.alloc(), fault),
+        CubesFault::OtherFormula => other_formula(rt.alloc()),
+    };
+    report.map_err(no_memory)
+}
+
+/// The report of an input that is refused.
+pub(crate) fn refused_input<R: AllocGlobal>(rt: &R, fault: DimacsFault) -> Result<Report, Refusal> {
+    if fault.kind == Kind::NoMemory {
+        return Err(Refusal::NoMemory);
+    }
+    faulty_input(rt.alloc(), fault).map_err(no_memory)
+}
+
+/// Reads a formula, and the tree of its cubes. A file that cannot be read is told before a fault of the other one.
+pub(crate) fn begin<R: Runtime + AllocGlobal>(
+    rt: &R,
+    input: &str,
+    cubes: &str,
+) -> Result<Start, Refusal> {
+    let mut reader = match read_formula(rt, input)? {
+        Ok(formula) => Ok(SplitReader::new(rt.alloc(), formula).map_err(no_memory)?),
+        Err(fault) => Err(fault),
+    };
+    feed(rt, cubes, &mut reader)?;
+    match reader {
+        Ok(reader) => match reader.finish() {
+            Ok(split) => Ok(Start::With(split)),
+            Err(fault) => Ok(Start::Refused(refused_cubes(rt, fault)?)),
+        },
+        Err(fault) => Ok(Start::Refused(refused_input(rt, fault)?)),
+    }
+}
+
+/// The report without its text, where `-q` leaves it out.
+pub(crate) fn hushed(mut report: Report, quiet: bool) -> Report {
+    if quiet {
+        report.stdout.clear();
+    }
+    report
+}
+
+/// A leaf as a formula of its own.
+pub(crate) fn leaf<R: Runtime + AllocGlobal>(
+    rt: &R,
+    input: &str,
+    cubes: &str,
+    leaf: u64,
+) -> Result<Report, Refusal> {
+    match begin(rt, input, cubes)? {
+        Start::With(split) => run_leaf(rt.alloc(), &split, leaf).map_err(no_memory),
+        Start::Refused(report) => Ok(report),
+    }
+}
+
+/// The tree with a leaf cut in two.
+pub(crate) fn split<R: Runtime + AllocGlobal>(
+    rt: &R,
+    input: &str,
+    cubes: &str,
+    leaf: u64,
+    on: Option<u32>,
+) -> Result<Report, Refusal> {
+    match begin(rt, input, cubes)? {
+        Start::With(split) => run_split(rt.alloc(), split, leaf, on).map_err(no_memory),
+        Start::Refused(report) => Ok(report),
+    }
+}
+
+/// The files of a search under a leaf.
+#[derive(Clone, Copy)]
+pub(crate) struct LeafFiles<'a> {
+    pub(crate) input: &'a str,
+    pub(crate) cubes: &'a str,
+    pub(crate) fragment: Option<&'a str>,
+}
+
+/// A search under a leaf, whose log is written to a file where one is named.
+pub(crate) fn refute<R: Runtime + AllocGlobal>(
+    rt: &R,
+    files: &LeafFiles,
+    leaf: u64,
+    search: &Search,
+) -> Result<Report, Refusal> {
+    let split = match begin(rt, files.input, files.cubes)? {
+        Start::With(split) => split,
+        Start::Refused(report) => return Ok(hushed(report, search.quiet)),
+    };
+    let report = run_refute(rt.alloc(), &split, leaf, search).map_err(no_memory)?;
+    match (files.fragment, &report.proof) {
+        (Some(path), Some(log)) => write_proof(rt, path, log, files.input, Some(files.cubes))?,
+        _ => {}
+    }
+    Ok(report)
+}

@@ -1,0 +1,58 @@
+//! `model`: a formula is read, and a solver's answer tested against it, while their files are read.
+
+use crate::files::{PIECE, next_piece, no_memory, read_formula, refused};
+use crate::leaf_runs::refused_input;
+use answers::ModelCheck;
+use node_main::{Refusal, Report};
+use std::fs::{File, OpenFile};
+use std::rt::Runtime;
+
+/// Reads an answer to its end, also behind a fault, and feeds it piece by piece. The refusal of one that cannot be read is that of a
+/// proof.
+fn feed<R: Runtime + AllocGlobal>(
+    rt: &R,
+    path: &str,
+    check: &mut ModelCheck,
+) -> Result<(), Refusal> {
+    let mut file = File::open(rt, path).map_err(|error| refused(error, Refusal::Proof))?;
+    let mut room = vec![in rt.alloc(); 0; PIECE].map_err(no_memory)?;
+    for _ in 0..u64::MAX {
+        let piece = next_piece(&mut file, &mut room, Refusal::Proof)?;
+        if piece.is_empty() {
+            return Ok(());
+        }
+        check.feed(piece);
+    }
+    Err(Refusal::Proof)
+}
+
+/// The report of an answer that was read to its end.
+fn finished(check: ModelCheck) -> Result<Report, Refusal> {
+    let found = check.finish().map_err(no_memory)?;
+    Ok(Report {
+        stdout: found.text,
+        status: found.status,
+        proof: None,
+    })
+}
+
+/// Tests the answer in a file against the formula in another. Of a faulty formula nothing more is read.
+pub(crate) fn model<R: Runtime + AllocGlobal>(
+    rt: &R,
+    input: &str,
+    output: &str,
+) -> Result<Report, Refusal> {
+    let formula = match read_formula(rt, input)? {
+        Ok(formula) => formula,
+        Err(fault) => return refused_input(rt, fault),
+    };
+    let mut check = ModelCheck::of(rt.alloc(), formula);
+    match feed(rt, output, &mut check) {
+        Ok(()) => finished(check),
+        Err(Refusal::Proof) => {
+            let line = Report::of(rt.alloc(), b"c cannot read answer\n", 1);
+            line.map_err(no_memory)
+        }
+        Err(refusal) => Err(refusal),
+    }
+}

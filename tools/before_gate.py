@@ -1,0 +1,56 @@
+#!/usr/bin/env python3
+"""Looks at what the gate refuses and no `rt check` tells, in a second.
+
+    tools/before_gate.py
+
+Ends with status 1, and a line for each, if a module has the name of a crate that its crate uses,
+also through others, or if a text of an edit that must fail does not stand once in its file.
+"""
+import re
+import sys
+from pathlib import Path
+
+ROOT = Path(__file__).resolve().parent.parent
+CRATES = ROOT / "crates"
+
+
+def uses():
+    """The crates of crates.txt, with those that each one uses, also through others."""
+    lines = [line.split("#")[0] for line in (ROOT / "crates.txt").read_text().splitlines()]
+    rows = [line.partition(":") for line in lines if line.strip()]
+    named = {name.split()[0]: below.split() for name, _, below in rows}
+
+    def reached(name):
+        return {name}.union(*map(reached, named.get(name, [])))
+
+    return {name: reached(name) - {name} for name in named}
+
+
+def wrong_modules(name, below):
+    """The modules of a crate that have the name of one that it uses."""
+    for path in sorted((CRATES / name / "src").rglob("*.rt")):
+        for module in re.findall(r"(?m)^\s*(?:pub(?:\([a-z]+\))? )?mod (\w+)", path.read_text()):
+            if module in below:
+                yield f"{path.relative_to(ROOT)}: the module {module} has the name of a crate"
+
+
+def wrong_texts(edit):
+    """The texts of an edit that do not stand once in their file."""
+    path, text = None, ""
+    for line in edit.read_text().split("\n"):
+        if line.startswith("file: "):
+            path = edit.parent.parent / line[len("file: "):].strip()
+            text = path.read_text() if path.is_file() else ""
+        elif line.startswith("old: ") and text.count(line[len("old: "):]) != 1:
+            yield f"{edit.relative_to(ROOT)}: an old text does not stand once in {path}"
+
+
+def main():
+    wrong = [line for name, below in uses().items() for line in wrong_modules(name, below)]
+    wrong += [line for edit in sorted(CRATES.glob("*/must-fail/*.edit")) for line in wrong_texts(edit)]
+    for line in wrong:
+        print(line)
+    sys.exit(1 if wrong else 0)
+
+
+main()

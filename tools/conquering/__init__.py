@@ -1,0 +1,3 @@
+"""What `tools/conquer.py` is made of: `files` has the state of a run, `processes` the commands that
+it starts, `leaf` what is done for one leaf, `run` what follows from it, `engines` who starts the
+jobs, `screen` what is told meanwhile, and `report` the picture of a run."""

@@ -1,0 +1,63 @@
+"""Commands that are started, waited for, and ended with all that they have started."""
+import collections
+import ctypes
+import os
+import select
+import signal
+import subprocess
+
+# What is run, where its output goes, and after how many seconds it is ended (None: never).
+Command = collections.namedtuple("Command", "words output seconds", defaults=(None,))
+
+DIE_WITH_PARENT = 1  # PR_SET_PDEATHSIG
+
+try:
+    prctl = ctypes.CDLL(None).prctl
+except (OSError, AttributeError):  # not Linux: there the jobs of a killed script run to their end
+    prctl = None
+
+
+def die_with(parent):
+    """Has the system kill this process when its parent ends: a killed script leaves no job."""
+    if prctl:
+        prctl(DIE_WITH_PARENT, signal.SIGKILL)
+        if os.getppid() != parent:
+            os._exit(1)
+
+
+def start(command, **more):
+    """Starts a command in a process group of its own, so that it can be ended with its children."""
+    parent = os.getpid()
+    more = {"stdin": subprocess.DEVNULL, "stderr": subprocess.STDOUT, **more}
+    with open(command.output, "wb") as output:
+        return subprocess.Popen(command.words, stdout=output, start_new_session=True,
+                                preexec_fn=lambda: die_with(parent), **more)
+
+
+def kill(process):
+    try:
+        os.killpg(process.pid, signal.SIGKILL)
+    except ProcessLookupError:
+        pass
+    process.wait()
+
+
+def output_of(words):
+    done = subprocess.run(words, stdin=subprocess.DEVNULL, stdout=subprocess.PIPE,
+                          stderr=subprocess.STDOUT)
+    return done.returncode, done.stdout.decode("ascii", "replace")
+
+
+class Bell:
+    """Rings when a process of ours has ended, so that nothing has to ask for it all the time."""
+
+    def __init__(self):
+        self.read, write = os.pipe()
+        os.set_blocking(self.read, False)
+        os.set_blocking(write, False)
+        signal.signal(signal.SIGCHLD, lambda *_: None)
+        signal.set_wakeup_fd(write, warn_on_full_buffer=False)
+
+    def wait(self, seconds):
+        if select.select([self.read], [], [], max(0, seconds))[0]:
+            os.read(self.read, 1 << 16)

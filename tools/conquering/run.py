@@ -1,0 +1,223 @@
+"""What follows when a leaf's job has ended, and what the program says of all that is there."""
+import collections
+import os
+import subprocess
+import time
+
+from conquering.files import answer_of, closed_by, log_of, publish, read_cubes
+from conquering.leaf import CLOSED, LIMIT, MODEL, Leaf
+from conquering.processes import Command, kill, output_of, start
+from conquering.screen import clock
+
+TRIES = 3  # how often a leaf is run in one start before it is given up
+HOPELESS = 20  # how many jobs may fail before any leaf is closed
+
+
+class Join:
+    """The program's `join`, told names of logs as they come: it reads while leaves still run."""
+
+    def __init__(self, folder, plan, tree):
+        self.output, self.names, self.waiting = folder.at("scratch", "joined"), [], b""
+        words = [plan.program, "join", "--cubes", tree, plan.input, "scratch/proof.lrat", "-"]
+        self.process = start(Command(words, self.output), stdin=subprocess.PIPE, cwd=folder.path)
+        os.set_blocking(self.process.stdin.fileno(), False)
+
+    def add(self, *names):
+        self.names += names
+        self.waiting += b"".join(os.fsencode(name) + b"\n" for name in names)
+
+    def feed(self):
+        """Hands on what the pipe takes. Answers whether `join` still runs."""
+        pipe = self.process.stdin.fileno()
+        try:
+            while self.waiting:
+                self.waiting = self.waiting[os.write(pipe, self.waiting[:4096]):]
+        except BlockingIOError:
+            pass
+        except BrokenPipeError:  # it has ended
+            self.waiting = b""
+        return self.process.poll() is None
+
+    def answer(self, bell):
+        """Its status and lines, when it has read all that it was told."""
+        while self.feed() and self.waiting:
+            bell.wait(0.05)
+        self.process.stdin.close()
+        while self.process.poll() is None:
+            bell.wait(1)
+        with open(self.output, encoding="ascii", errors="replace") as lines:
+            return self.process.returncode, lines.read().split("\n")[:-1]
+
+    def refused(self, lines):
+        """The names of files that it refuses, and the places of leaves that nothing closes."""
+        words = [line.split() for line in lines]
+        files = [w for w in words if w[:2] == ["c", "file"] and w[3:5] != ["closes", "nothing"]]
+        missing = [w for w in words if w[:2] == ["c", "leaf"] and w[3:] == ["missing"]]
+        return [self.names[int(w[2]) - 1] for w in files], [int(w[2]) for w in missing]
+
+
+class Run:
+    """The leaves that wait, that run and that are closed. Engines tell it which job has ended."""
+
+    def __init__(self, folder, plan, screen, bell, jobs):
+        self.folder, self.plan, self.jobs = folder, plan, jobs
+        self.screen, self.bell = screen, bell
+        self.tries, self.running = collections.Counter(), {}
+        self.unlimited, self.alone = set(), set()  # to be run without a limit, and in any case
+        self.failures, self.closed, self.splits = 0, 0, 0
+        self.began, self.join, self.can_split = time.monotonic(), None, None
+        self.take_tree(folder.newest_tree())
+
+    def take_tree(self, number):
+        self.number, self.tree = number, "trees/%d.icnf" % number
+        self.cubes = read_cubes(self.folder.at(self.tree))
+        self.place = {cube: place for place, cube in enumerate(self.cubes, 1)}
+        self.having = collections.defaultdict(set)  # for each literal the cubes that have it
+        for cube in self.cubes:
+            for literal in cube:
+                self.having[literal].add(cube)
+
+    def begin(self):
+        """Begins a pass over the leaves that have no log."""
+        have = set(self.folder.names("logs"))
+        self.mark = str(time.time_ns())
+        self.model = bool(self.folder.names("answers"))
+        self.done = {cube for cube in self.cubes if log_of(cube) in have}
+        self.covered, self.closings, self.queue = set(), set(), collections.deque()
+        for name in have:
+            self.cover(closed_by(self.folder.at(name)))
+        # From the last leaf to the first: behind negations of what the rule has chosen less follows,
+        # so these are the longest, and a long leaf that begins late has all others wait for it.
+        waiting = [cube for cube in reversed(self.cubes) if cube not in self.done]
+        self.queue.extend(cube for cube in waiting if self.tries[cube] < TRIES)
+        self.join = Join(self.folder, self.plan, self.tree)
+        self.join.add(*sorted(have))
+        for cube in self.queue:  # what an earlier pass has told of it may have been wrong
+            if os.path.exists(self.folder.covered(cube)):
+                os.remove(self.folder.covered(cube))
+        self.screen.say("c %d leaves, %d to run" % (len(self.cubes), len(self.queue)))
+
+    def leaf(self, cube):
+        return Leaf(cube, self.tree, self.place[cube], cube not in self.unlimited)
+
+    def over(self):
+        """No leaf needs to be run any more: there is a model, or `join` has found a fault."""
+        if self.join and not self.join.feed() and self.join.process.returncode < 0:
+            self.join = None  # it was killed: in the end it is begun anew
+        return self.model or (self.join is not None and not self.join.feed())
+
+    def ended(self, cube, outcome, note):
+        if outcome == CLOSED:
+            self.closed += 1
+            self.done.add(cube)
+            self.cover(closed_by(self.folder.at(log_of(cube))))
+            if self.join:
+                self.join.add(log_of(cube))
+        elif outcome == MODEL:
+            self.model = True
+        elif outcome == LIMIT:
+            if not self.split(cube):
+                self.unlimited.add(cube)
+                self.queue.append(cube)
+        else:
+            self.fail(cube, note)
+
+    def cover(self, closed):
+        """A log whose search has not used all of its cube closes other leaves, too: they need not
+        be run. This only guesses what `join` will say; if it says no, they are."""
+        if closed is None:
+            return
+        self.closings.add(closed)
+        sets = [self.having.get(literal, set()) for literal in closed]
+        rarest = min(sets, key=len, default=self.cubes)
+        found = {cube for cube in rarest if closed.issubset(cube)} - self.done - self.alone
+        if found:
+            self.queue = collections.deque(cube for cube in self.queue if cube not in found)
+            self.covered |= found
+            self.done |= found
+        for cube in found:  # tells jobs that run elsewhere
+            open(self.folder.covered(cube), "w").close()
+
+    def fail(self, cube, note):
+        self.tries[cube] += 1
+        self.failures += 1
+        self.screen.say("c leaf %d failed: %s" % (self.place[cube], note))
+        if self.hopeless():
+            self.queue.clear()
+        elif self.tries[cube] < TRIES:
+            self.queue.append(cube)
+
+    def hopeless(self):
+        """A solver that fails again and again, and never closes a leaf, is not the one to run."""
+        return self.failures >= HOPELESS and not self.closed
+
+    def split(self, cube):
+        """Cuts a leaf in two where the program can, in a new tree file: jobs keep the old one."""
+        if self.can_split is None:
+            self.can_split = "--split" in output_of([self.plan.program, "cubes", "--help"])[1]
+        if not self.can_split:
+            return False
+        part, before = self.folder.at("scratch", "tree"), set(self.cubes)
+        words = [self.plan.program, "cubes", "--cubes", self.folder.at(self.tree)]
+        words += ["--split", str(self.place[cube]), self.plan.input]
+        with open(part, "wb") as tree:
+            if subprocess.call(words, stdout=tree) != 0:
+                return False
+        publish(part, self.folder.at("trees", "%d.icnf" % (self.number + 1)))
+        self.take_tree(self.number + 1)
+        self.queue.extend(new for new in self.cubes if new not in before)
+        self.splits += 1
+        for closed in self.closings:
+            self.cover(closed)
+        self.end_join()  # it joins the leaves of the tree with which it was begun
+        self.forget_trees()
+        return True
+
+    def forget_trees(self):
+        """A tree file has the whole formula in it, so those that no job names are removed."""
+        named = {leaf.tree for leaf in self.running.values()} | {self.tree}
+        for name in set(self.folder.names("trees")) - named:
+            os.remove(self.folder.at(name))
+
+    def tick(self, running):
+        """Tells how far the run is; the time left is reckoned by the leaves that are closed."""
+        waits, gone = len(self.cubes) - len(self.done), time.monotonic() - self.began
+        line = "c %d of %d leaves closed, %d running, %d open" % (
+            len(self.done), len(self.cubes), running, max(0, waits - running))
+        line += ", %d split" % self.splits if self.splits else ""
+        line += ", %s gone" % clock(gone)
+        if self.closed:
+            line += ", about %s left" % clock(gone / self.closed * max(0, waits - running / 2))
+        self.screen.progress(line)
+
+    def answer(self):
+        """What the program says of what is there. A right assignment decides, and so goes alone."""
+        if self.model:
+            self.end_join()
+        if self.join is None:
+            self.join = Join(self.folder, self.plan, self.tree)
+            self.join.add(*self.folder.names("answers" if self.model else "logs"))
+        self.screen.progress("c joining")
+        return self.join.answer(self.bell)
+
+    def learn(self, lines):
+        """Takes away what was refused, so that its leaves are run again, and tells if any are."""
+        refused, missing = self.join.refused(lines)
+        missing = [self.cubes[place - 1] for place in missing]
+        brought = set(self.join.names)
+        for cube in missing:
+            name = answer_of(cube) if self.model else log_of(cube)
+            self.tries[cube] += name in brought
+        if self.model:  # none of them is one
+            refused = brought
+        else:  # a log that was not refused may close something else than its leaf
+            refused = set(refused).union(brought.intersection(map(log_of, missing)))
+            self.alone.update(self.covered.intersection(missing))
+        for name in refused:
+            self.folder.set_aside(name)
+        return not self.hopeless() and any(self.tries[cube] < TRIES for cube in missing)
+
+    def end_join(self):
+        if self.join:
+            kill(self.join.process)
+        self.join = None
