@@ -6,6 +6,7 @@ ghost use Rattle.watches.specs.inner.Watching.{FindsWatch};
 
 use crate::trail::Trail;
 use crate::truth::Truth;
+use crate::watched::starts::start_of;
 use dimacs::Lit;
 
 /// A literal of a clause, with its place.
@@ -39,4 +40,23 @@ pub(crate) fn find_watch(literals: &[Lit], trail: &Trail, from: usize) -> Option
         }
     }
     None
+}
+
+/// The same, with the look begun where the clause's last one ended. A clause of two literals is its watches: nothing of it is looked at.
+#[inline(always)]
+pub(crate) fn find_next_watch(
+    literals: &[Lit],
+    trail: &Trail,
+    starts: &[u32],
+    owner: usize,
+) -> Option<Found>
+    requires { All (IsWithin trail.now.vars) literals.now }
+    ensures { FindsWatch trail.now.entries literals.now result }
+{
+    let from = if literals.len() > 2 {
+        start_of(starts, owner)
+    } else {
+        2
+    };
+    find_watch(literals, trail, from)
 }

@@ -15,8 +15,8 @@ use crate::trail::{Assigned, Trail};
 use crate::truth::Truth;
 use crate::watched::outcome::Outcome;
 use crate::watched::places::{Place, next_place, other_literal, owner_of, relink};
-use crate::watched::replacement::find_watch;
-use crate::watched::starts::{keep_start, start_of};
+use crate::watched::replacement::find_next_watch;
+use crate::watched::starts::keep_start;
 use clause_arena::{Arena, Ref};
 use dimacs::Lit;
 
@@ -51,8 +51,7 @@ fn visit(
     }
     let clause = owner_of(clauses, base, here);
     let owner = (here - base) / 2;
-    let from = start_of(starts, owner);
-    match find_watch(arena.clause(clause), trail, from) {
+    match find_next_watch(arena.clause(clause), trail, starts, owner) {
         Some(found) => {
             keep_start(starts, owner, found.place);
             arena.swap(clause, here % 2, found.place);

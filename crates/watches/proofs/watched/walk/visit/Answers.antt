@@ -29,8 +29,8 @@ clause-requires c = record { live = let s = WL.standing c.args.places.now c.args
 pub overflow_sub-owner : goal.overflow_sub-owner
 overflow_sub-owner c = (WL.here_long c.args.places.now c.args.clauses.now c.args.base c.args.head c.args.arena.now c.args.trail.now c.args.falsified c.args.level c.args.previous c.args.here c.requires.walk c.requires.here_is c.requires.there).0
 
-pub find_watch-requires : goal.find_watch-requires
-find_watch-requires c = WL.ws_in c.args.places.now c.args.clauses.now c.args.base c.args.head c.args.arena.now c.args.trail.now c.args.falsified c.args.level c.args.previous c.args.here c.requires.walk c.requires.here_is c.requires.there c.owner_of-clause.result c.owner_of-clause.ensures c.clause.result.now c.clause.ensures.literals
+pub find_next_watch-requires : goal.find_next_watch-requires
+find_next_watch-requires c = WL.ws_in c.args.places.now c.args.clauses.now c.args.base c.args.head c.args.arena.now c.args.trail.now c.args.falsified c.args.level c.args.previous c.args.here c.requires.walk c.requires.here_is c.requires.there c.owner_of-clause.result c.owner_of-clause.ensures c.clause.result.now c.clause.ensures.literals
 
 pub swap-requires : goal.swap-requires
 swap-requires c =
