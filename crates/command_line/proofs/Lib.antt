@@ -1,4 +1,3 @@
-pub mod ProgramLemmas
 pub mod RefusalLemmas
 pub mod RequestLemmas
 pub mod WordLemmas

@@ -1,36 +1,25 @@
 -- Why words give no request.
-use Rattle.std.proofs.Common.{◌≡◌, ◌⊎◌, inl, inr, List, [], ◌∷◌, ◌∙◌, ap, refl, subst, sym}
-use Rattle.clap.specs.Words.{App, IsAmong, Kinds, Text, fault_of}
-use Rattle.clap.specs.declared.error.kind.ErrorKind.{ErrorKind}
+use Rattle.std.proofs.Common.{◌≡◌, List, [], ◌∷◌, ◌∙◌, ap, sym}
+use Rattle.clap.specs.Words.{Text}
 use Rattle.clap.specs.declared.error.kind.ErrorKind.TheVariants as kind
-use Rattle.command_line.specs.CommandLine.{AsksForHelp, IsRefusal}
-use Rattle.command_line.specs.inner.Refusing.{StandsFor}
+use Rattle.word_rules.specs.Parsing.{IsRefusalOf}
+use Rattle.word_rules.specs.declared.parsing.Refusal.{Refusal}
+use Rattle.word_rules.specs.declared.parsing.Refusal.TheVariants as refusal
+use Rattle.command_line.specs.CommandLine.{AsksForHelp, IsParsed, IsRefusal}
+use Rattle.command_line.specs.inner.Refusing.{fault_of_refusal}
 use Rattle.command_line.specs.Program.{program}
-use Rattle.command_line.specs.declared.request.UsageFault.{UsageFault}
-use Rattle.command_line.specs.declared.request.UsageFault.TheVariants.{Help, NoMemory, Usage}
+use Rattle.command_line.specs.declared.request.UsageFault.TheVariants.{NoMemory}
 
-no_help : (k : ErrorKind) (kinds : Kinds) → kinds ≡ kind.DisplayHelp ∷ [] → IsAmong k kinds → k ≡ kind.DisplayHelp
-no_help k kinds e among = only (subst (IsAmong k) e among) where
-  only : IsAmong k (kind.DisplayHelp ∷ []) → k ≡ kind.DisplayHelp
-  only (inl is) = is
-  only (inr none) = absurd none
+-- what a parse refuses, the program refuses
+pub refusal_is : (words : List Text) (r : Refusal) → IsRefusalOf program words r → IsRefusal words (fault_of_refusal r)
+refusal_is words (refusal.Help text) is = is
+refusal_is words refusal.Refused is = is
+refusal_is words refusal.NoMemory is = tt
 
--- an error of one of the kinds stands for such a fault
-pub refusal_is : (words : List Text) (k : ErrorKind) (f : UsageFault) → (k ≡ kind.OutOfMemory) ⊎ IsAmong k (fault_of program words) → StandsFor k f → IsRefusal words f
-refusal_is words k (Help text) (inl memory) stands = absurd cc
-refusal_is words k (Help text) (inr among) stands = subst (λ (x : ErrorKind). IsAmong x (fault_of program words)) stands among
-refusal_is words k Usage (inl memory) stands = absurd (stands.1 memory)
-refusal_is words k Usage (inr among) stands = λ asks. stands.0 (no_help k (fault_of program words) asks among)
-refusal_is words k NoMemory has stands = tt
+-- want of memory is want of memory
+pub no_memory_is : (r : Refusal) → r ≡ refusal.NoMemory → fault_of_refusal r ≡ NoMemory
+no_memory_is r is = ap fault_of_refusal is
 
 -- words that are parsed ask for no help
-pub asks_no_help : (app : App) (words : List Text) → app ≡ program → fault_of app words ≡ [] → AsksForHelp words → ⊥
-asks_no_help app words is none asks =
-    let both : [] ≡ kind.DisplayHelp ∷ [] = sym none ∙ ap (λ (a : App). fault_of a words) is ∙ asks in
-    cc
-
--- want of memory stands for itself
-pub no_memory_is : (k : ErrorKind) (f : UsageFault) → StandsFor k f → k ≡ kind.OutOfMemory → f ≡ NoMemory
-no_memory_is k (Help text) stands memory = absurd cc
-no_memory_is k Usage stands memory = absurd (stands.1 memory)
-no_memory_is k NoMemory stands memory = refl
+pub asks_no_help : (words : List Text) → IsParsed words → AsksForHelp words → ⊥
+asks_no_help words none asks = let both : [] ≡ kind.DisplayHelp ∷ [] = sym none ∙ asks in cc

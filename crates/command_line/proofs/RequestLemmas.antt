@@ -1,12 +1,8 @@
 -- Which requests the words behind a command's name make.
-use Rattle.std.proofs.Common.{◌≡◌, ◌∙◌, ℕ, true, false, List, Option, Some, None, Box, Vec, Global, ap, ap₂, codes, option_map, refl, subst, sym}
+use Rattle.std.proofs.Common.{◌≡◌, ◌∙◌, ℕ, true, false, List, Option, Some, Vec, Global, ap, codes, refl, subst, sym}
 use Rattle.std.specs.Borrow.{Bor}
-use Rattle.std.specs.Box.{box_value}
 use Rattle.std.specs.Str.{bytes_eq}
-use Rattle.clap.specs.Words.{Row, Text, subcommand_name_of, subcommand_of, subcommand_rows, subcommand_rows_of}
-use Rattle.clap.specs.declared.parser.matches.ArgMatches.{ArgMatches}
-use Rattle.clap.specs.declared.parser.matches.ArgMatches.TheViews.{out-ArgMatches, out-SubCommand}
-use Rattle.clap.specs.declared.parser.matches.SubCommand.{SubCommand}
+use Rattle.clap.specs.Words.{Row, Text, subcommand_of}
 use Rattle.command_line.specs.CommandLine.{AsksFor, Makes}
 use Rattle.command_line.specs.Program.{program}
 use Rattle.command_line.specs.declared.options.Options.{Options}
@@ -97,30 +93,6 @@ only_model rows none other makes = differ (codes "model") (name_of other) refl r
 
 some_same : {X : Type 0} (a b : X) → Some a ≡ Some b → a ≡ b
 some_same a b e = cc
-
-none_some : {X : Type 0} (b : X) → None ≡ Some b → ⊥
-none_some b e = cc
-
-module _ {Z : Type 0} where
-  named : (o : Option (Box SubCommand Z)) (name : Text) (rows : List Row) → option_map (λ b. (out-SubCommand (box_value b)).name.now) o ≡ Some name
-      → option_map (λ p. p.1) (subcommand_rows o) ≡ Some rows → subcommand_rows o ≡ Some (name, rows)
-  named None name rows is are = cc
-  named (Some b) name rows is are = ap₂ (λ n r. Some (n, r)) (some_same _ _ is) (some_same _ _ are)
-
-  unnamed : (o : Option (Box SubCommand Z)) → option_map (λ b. (out-SubCommand (box_value b)).name.now) o ≡ None → subcommand_rows o ≡ None
-  unnamed None is = refl
-  unnamed (Some b) is = cc
-
--- the name and the rows of the subcommand that a parse met
-pub met : (m : ArgMatches) (name : Text) (rows : List Row) → subcommand_name_of m ≡ Some name → option_map (λ p. p.1) (subcommand_rows_of m) ≡ Some rows
-    → subcommand_rows_of m ≡ Some (name, rows)
-met m name rows is are = named (out-ArgMatches m).subcommand name rows is are
-
--- where a parse met no subcommand, the words ask for nothing
-pub asks_nothing : (m : ArgMatches) (words : List Text) (r : Request) → subcommand_name_of m ≡ None → subcommand_rows_of m ≡ subcommand_of program words
-    → AsksFor words r → ⊥
-asks_nothing m words r none is asks =
-    none_some (asks.name, asks.rows) (sym (unnamed (out-ArgMatches m).subcommand none) ∙ is ∙ asks.command)
 
 -- what the words ask for is made of the rows of the command that they name
 pub asks_of : (words : List Text) (name : Text) (rows : List Row) (r : Request) → subcommand_of program words ≡ Some (name, rows) → AsksFor words r → Makes name rows r

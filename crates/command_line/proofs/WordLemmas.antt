@@ -3,14 +3,8 @@ use Rattle.std.proofs.Common.{◌≡◌, ◌∙◌, ℕ, zero, suc, nat_eq, ◌�
 use Rattle.std.proofs.lemmas.Bool.{eqb-true}
 use Rattle.std.proofs.lemmas.List.{length-map}
 use Rattle.std.specs.Borrow.{Bor}
-use Rattle.clap.specs.Words.{Row, Text, all_of, first_of, first_value, matched_of, one_text, raw_values, rows_of}
-use Rattle.clap.specs.declared.parser.matches.Found.{Found}
-use Rattle.clap.proofs.WalkLemmas.{first_value-rows, one_text-rows, raw_values-rows}
+use Rattle.clap.specs.Words.{Row, Text, all_of, first_of, one_of}
 use Rattle.command_line.specs.CommandLine.{IsNumber, NamesFiles, NamesFlag, NamesNumberOr}
-
--- what `get_str` read
-pub read_text : (f : Found) (name : Text) (r : Option (Bor Text)) → option_map (λ t. t.now) r ≡ first_value f name → first_of name (rows_of f) ≡ option_map (λ t. t.now) r
-read_text f name r read = sym (first_value-rows f name) ∙ sym read
 
 pub one_is_read : (o : Option Text) (s t : Text) → o ≡ Some s → o ≡ Some t → s ≡ t
 one_is_read o s t first second = cc
@@ -18,12 +12,10 @@ one_is_read o s t first second = cc
 pub none_is_read : (o : Option Text) (r : Option (Bor Text)) (t : Text) → o ≡ option_map (λ x. x.now) r → r ≡ None → o ≡ Some t → ⊥
 none_is_read o r t read none some = let e = ap (option_map (λ (x : Bor Text). x.now)) none in cc
 
--- what `get_flag` read
-pub read_flag : (f : Found) (name : Text) (r : Bool) → (one_text f name ≡ None → r ≡ false) → (one_text f name ≡ Some (codes "true") → r ≡ true)
-    → (one_text f name ≡ Some (codes "false") → r ≡ false) → NamesFlag (rows_of f) name r
-read_flag f name r none given other =
-    let same = one_text-rows f name in
-    record { yes = λ e. given (same ∙ e); no = λ e. other (same ∙ e); none = λ e. none (same ∙ e) }
+-- what `flag` read
+pub read_flag : (rows : List Row) (name : Text) (r : Bool) → (one_of name rows ≡ None → r ≡ false) → (one_of name rows ≡ Some (codes "true") → r ≡ true)
+    → (one_of name rows ≡ Some (codes "false") → r ≡ false) → NamesFlag rows name r
+read_flag rows name r none given other = record { yes = given; no = other; none = none }
 
 -- a word that is left out names nothing
 pub unnamed : (o : Option Text) (t : Text) → o ≡ None → o ≡ Some t → ⊥
@@ -66,17 +58,14 @@ not_twice : (b : Bool) → b ≡ not (not b)
 not_twice true = refl
 not_twice false = refl
 
--- what `get_flag` read of a flag that leaves something out
-pub read_no_flag : (f : Found) (name : Text) (r : Bool) → (one_text f name ≡ None → r ≡ false) → (one_text f name ≡ Some (codes "true") → r ≡ true)
-    → (one_text f name ≡ Some (codes "false") → r ≡ false) → NamesFlag (rows_of f) name (not (not r))
-read_no_flag f name r none given other = subst (NamesFlag (rows_of f) name) (not_twice r) (read_flag f name r none given other)
+-- what `flag` read of a flag that leaves something out
+pub read_no_flag : (rows : List Row) (name : Text) (r : Bool) → (one_of name rows ≡ None → r ≡ false) → (one_of name rows ≡ Some (codes "true") → r ≡ true)
+    → (one_of name rows ≡ Some (codes "false") → r ≡ false) → NamesFlag rows name (not (not r))
+read_no_flag rows name r none given other = subst (NamesFlag rows name) (not_twice r) (read_flag rows name r none given other)
 
--- what `get_strs` read
+-- what `texts` read
 abbrev read_all : Option (Bor (List (Bor Text))) → Option (List Text)
 read_all = option_map (λ s. map (λ v. v.now) s.now)
-
-pub read_texts : (f : Found) (name : Text) (r : Option (Bor (List (Bor Text)))) → read_all r ≡ option_map raw_values (matched_of f name) → all_of name (rows_of f) ≡ read_all r
-read_texts f name r read = sym (raw_values-rows f name) ∙ sym read
 
 some_same : {X : Type 0} (a b : X) → Some a ≡ Some b → a ≡ b
 some_same a b e = cc

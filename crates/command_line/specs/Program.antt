@@ -1,60 +1,9 @@
 -- The rules of the program's words, as `clap` takes them.
-use Rattle.std.specs.Prelude.{ℕ, ◌-◌, ◌^◌, Bool, true, false, [], ◌∷◌, Some, codes}
+use Rattle.std.specs.Prelude.{◌-◌, ◌^◌, true, false, codes}
 use Rattle.std.specs.Str.{byte}
 use Rattle.clap.specs.Simple.{on_top}
-use Rattle.clap.specs.Words.{App, Rule, Text, new_app, new_rule, with_rule, with_subcommand}
-use Rattle.clap.specs.declared.builder.ArgAction.TheVariants.{Append, Set, SetTrue}
-use Rattle.clap.specs.declared.builder.value_parser.ValueParser.TheVariants as vp
-
--- a file, which may have to be named
-abbrev pub file_rule : Text → Bool → Rule
-file_rule name required = record (new_rule name) { action = Some Set; required = required }
-
--- one file or more, the last words of a command
-abbrev pub files_rule : Text → Rule
-files_rule name = record (new_rule name) { action = Some Append; required = true }
-
--- `--name FILE`, which may be left out
-abbrev pub named_file_rule : Text → Rule
-named_file_rule name = record (new_rule name) { long = Some name; action = Some Set }
-
--- `--name FILE` that has to be named
-abbrev pub needed_file_rule : Text → Rule
-needed_file_rule name = record (named_file_rule name) { required = true }
-
--- `--name N`, a number in a range, and another text where it is left out
-abbrev pub number_rule : Text → ℕ → ℕ → Text → Rule
-number_rule name low high default = record (new_rule name) {
-  long = Some name;
-  action = Some Set;
-  parser = Some (vp.Unsigned low high);
-  defaults = default ∷ [];
-}
-
--- `--name N`, a number in a range that has to be named
-abbrev pub needed_number_rule : Text → ℕ → ℕ → Rule
-needed_number_rule name low high = record (new_rule name) {
-  long = Some name;
-  action = Some Set;
-  parser = Some (vp.Unsigned low high);
-  required = true;
-}
-
--- `--name N`, a number in a range, which may be left out
-abbrev pub any_number_rule : Text → ℕ → ℕ → Rule
-any_number_rule name low high = record (new_rule name) {
-  long = Some name;
-  action = Some Set;
-  parser = Some (vp.Unsigned low high);
-}
-
--- a flag of one letter
-abbrev pub flag_rule : Text → ℕ → Rule
-flag_rule name letter = record (new_rule name) { short = Some letter; action = Some SetTrue }
-
--- a flag `--name`
-abbrev pub long_flag_rule : Text → Rule
-long_flag_rule name = record (new_rule name) { long = Some name; action = Some SetTrue }
+use Rattle.clap.specs.Words.{App, new_app, with_rule, with_subcommand}
+use Rattle.word_rules.specs.Rules.{any_number_rule, file_rule, files_rule, flag_rule, long_flag_rule, named_file_rule, needed_file_rule, needed_number_rule, number_rule}
 
 -- `[--workers N] [--depth D] [--limit L] [--cubes FILE]`: N from 1 to 64, else 2, D from 0 to 16, else 4, and L from 1 to
 -- 1,000,000,000, else 100,000

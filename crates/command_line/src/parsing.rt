@@ -1,102 +1,64 @@
 //! Reads the words of a command line.
 
-ghost use Rattle.std.specs.Prelude.{◌≡◌, IfOk, IfErr, IfSome, IfNone, map, true};
-ghost use Rattle.clap.specs.Words.{App, app_of, found_of, kind_of, rows_of, with_subcommand};
+ghost use Rattle.std.specs.Prelude.{◌≡◌, IfOk, IfErr, IfSome, IfNone, map};
 ghost use Rattle.command_line.specs.CommandLine.{AreTaken, AsksFor, IsInRange, IsParsed, IsRefusal, Makes};
-ghost use Rattle.command_line.specs.inner.Refusing.{StandsFor};
-ghost use Rattle.command_line.specs.Program.{program, with_formulas, with_leaves};
+ghost use Rattle.command_line.specs.inner.Refusing.{fault_of_refusal};
 ghost use Rattle.command_line.specs.declared.request.Request.{Request};
 
 use crate::commands::{check, cubes, drill, join, leaf, lift, model, refute, serve, solve, work};
 use crate::request::{Request, UsageFault};
-use clap::error::ErrorKind;
-use clap::{ArgMatches, Command, Error};
 use std::alloc::{AllocError, Global};
-
-/// A program with one more command, where memory was not refused for it.
-fn with<'a>(
-    program: Command<'a>,
-    command: Result<Command<'a>, AllocError>,
-) -> Result<Command<'a>, AllocError>
-    ensures { IfOk result (λ c. (a : App) → a.top.is_plain ≡ true → IfOk command.entry (λ w. app_of w ≡ a) → app_of c ≡ with_subcommand (app_of program.entry) a.top) }
-{
-    match command {
-        Ok(command) => program.subcommand(command),
-        Err(error) => Err(error),
-    }
-}
-
-/// A program with the commands on whole formulas.
-fn on_formulas<'a>(alloc: Global, program: Command<'a>) -> Result<Command<'a>, AllocError>
-    ensures { IfOk result (λ c. app_of c ≡ with_formulas (app_of program.entry)) }
-{
-    let program = with(program, solve::words(alloc))?;
-    let program = with(program, check::words(alloc))?;
-    let program = with(program, cubes::words(alloc))?;
-    let program = with(program, serve::words(alloc))?;
-    let program = with(program, work::words(alloc))?;
-    with(program, drill::words(alloc))
-}
-
-/// A program with the commands on leaves, and on what solvers print.
-fn on_leaves<'a>(alloc: Global, program: Command<'a>) -> Result<Command<'a>, AllocError>
-    ensures { IfOk result (λ c. app_of c ≡ with_leaves (app_of program.entry)) }
-{
-    let program = with(program, leaf::words(alloc))?;
-    let program = with(program, refute::words(alloc))?;
-    let program = with(program, join::words(alloc))?;
-    let program = with(program, lift::words(alloc))?;
-    with(program, model::words(alloc))
-}
+use word_rules::{Found, ProgramRules, Refusal, parse};
 
 /// The program with its commands.
-fn satcluster<'a>(alloc: Global) -> Result<Command<'a>, AllocError>
-    ensures { IfOk result (λ c. app_of c ≡ program) }
-{
-    let bare = Command::new(alloc, "satcluster")
-        .about("Decides propositional formulas, with proofs that anyone can check")
-        .after_help("Status: that of the command; 0 for help, 1 where the words are refused")
-        .subcommand_required(true);
-    let program = on_formulas(alloc, bare)?;
-    on_leaves(alloc, program)
-}
+const PROGRAM: ProgramRules<'static> = ProgramRules {
+    name: "satcluster",
+    about: "Decides propositional formulas, with proofs that anyone can check",
+    after_help: "Status: that of the command; 0 for help, 1 where the words are refused",
+    commands: &[
+        solve::RULES,
+        check::RULES,
+        cubes::RULES,
+        serve::RULES,
+        work::RULES,
+        drill::RULES,
+        leaf::RULES,
+        refute::RULES,
+        join::RULES,
+        lift::RULES,
+        model::RULES,
+    ],
+};
 
-/// The fault that an error of the parser stands for.
-fn fault_of(alloc: Global, error: &Error) -> UsageFault
-    ensures { StandsFor (kind_of error.now) result }
+/// The fault that a refusal of the words is.
+fn fault_of(refusal: Refusal) -> UsageFault
+    ensures { result ≡ fault_of_refusal refusal }
 {
-    match error.kind() {
-        ErrorKind::DisplayHelp => match error.to_string(alloc) {
-            Ok(text) => UsageFault::Help(text),
-            Err(_) => UsageFault::NoMemory,
-        },
-        ErrorKind::OutOfMemory => UsageFault::NoMemory,
-        _ => UsageFault::Usage,
+    match refusal {
+        Refusal::Help(text) => UsageFault::Help(text),
+        Refusal::Refused => UsageFault::Usage,
+        Refusal::NoMemory => UsageFault::NoMemory,
     }
 }
 
 /// The request that the words behind a command's name make.
-fn request_of<'a>(
-    alloc: Global,
-    name: &str,
-    matches: &ArgMatches<'a>,
-) -> Result<Option<Request<'a>>, AllocError>
-    ensures found { IfOk result (λ found. IfSome found (Makes name.now (rows_of (found_of matches.now)))) }
-    ensures none { IfOk result (λ found. IfNone found ((request : Request) → Makes name.now (rows_of (found_of matches.now)) request → ⊥)) }
+fn request_of<'a>(alloc: Global, given: &Found<'a>) -> Result<Option<Request<'a>>, AllocError>
+    ensures found { IfOk result (λ found. IfSome found (Makes given.now.name given.now.rows)) }
+    ensures none { IfOk result (λ found. IfNone found ((request : Request) → Makes given.now.name given.now.rows request → ⊥)) }
     ensures range { IfOk result (λ found. IfSome found IsInRange) }
 {
-    match name {
-        "solve" => Ok(solve::asked(matches)),
-        "check" => Ok(check::asked(matches)),
-        "cubes" => Ok(cubes::asked(matches)),
-        "serve" => Ok(serve::asked(matches)),
-        "work" => Ok(work::asked(matches)),
-        "drill" => Ok(drill::asked(matches)),
-        "leaf" => Ok(leaf::asked(matches)),
-        "refute" => Ok(refute::asked(matches)),
-        "join" => join::asked(alloc, matches),
-        "lift" => Ok(lift::asked(matches)),
-        "model" => Ok(model::asked(matches)),
+    match given.name() {
+        "solve" => Ok(solve::asked(given)),
+        "check" => Ok(check::asked(given)),
+        "cubes" => Ok(cubes::asked(given)),
+        "serve" => Ok(serve::asked(given)),
+        "work" => Ok(work::asked(given)),
+        "drill" => Ok(drill::asked(given)),
+        "leaf" => Ok(leaf::asked(given)),
+        "refute" => Ok(refute::asked(given)),
+        "join" => join::asked(alloc, given),
+        "lift" => Ok(lift::asked(given)),
+        "model" => Ok(model::asked(given)),
         _ => Ok(None),
     }
 }
@@ -115,15 +77,12 @@ pub fn command<'a>(alloc: Global, words: &'a [&'a str]) -> Result<Request<'a>, U
     // Help is handed out where the words ask for it, memory aside, and nowhere else.
     ensures refused { IfErr result (IsRefusal (map (λ w. w.now) words.now)) }
 {
-    let matches = match satcluster(alloc)?.try_get_matches_from(words) {
-        Ok(matches) => matches,
-        Err(error) => return Err(fault_of(alloc, &error)),
+    let given = match parse(alloc, &PROGRAM, words) {
+        Ok(given) => given,
+        Err(refusal) => return Err(fault_of(refusal)),
     };
-    match matches.subcommand() {
-        Some((name, inner)) => match request_of(alloc, name, inner)? {
-            Some(request) => Ok(request),
-            None => Err(UsageFault::Usage),
-        },
+    match request_of(alloc, &given)? {
+        Some(request) => Ok(request),
         None => Err(UsageFault::Usage),
     }
 }

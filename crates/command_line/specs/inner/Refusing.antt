@@ -1,12 +1,11 @@
--- What an error of a parse stands for.
-use Rattle.std.specs.Prelude.{◌≡◌, ◌≢◌, ◌⊎◌}
-use Rattle.clap.specs.declared.error.kind.ErrorKind.{ErrorKind}
-use Rattle.clap.specs.declared.error.kind.ErrorKind.TheVariants as kind
+-- What a refusal of words is to the program.
+use Rattle.word_rules.specs.declared.parsing.Refusal.{Refusal}
+use Rattle.word_rules.specs.declared.parsing.Refusal.TheVariants as refusal
 use Rattle.command_line.specs.declared.request.UsageFault.{UsageFault}
 use Rattle.command_line.specs.declared.request.UsageFault.TheVariants.{Help, NoMemory, Usage}
 
--- the fault that an error of a parse stands for, by its kind
-abbrev pub StandsFor : ErrorKind → UsageFault → Type 0
-StandsFor k (Help text) = k ≡ kind.DisplayHelp
-StandsFor k Usage = (k ≢ kind.DisplayHelp) × (k ≢ kind.OutOfMemory)
-StandsFor k NoMemory = (k ≡ kind.DisplayHelp) ⊎ (k ≡ kind.OutOfMemory)
+-- the fault that a refusal of words is
+abbrev pub fault_of_refusal : Refusal → UsageFault
+fault_of_refusal (refusal.Help text) = Help text
+fault_of_refusal refusal.Refused = Usage
+fault_of_refusal refusal.NoMemory = NoMemory

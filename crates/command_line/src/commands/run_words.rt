@@ -1,70 +1,96 @@
 //! The words that runs share, and the options that they name.
 
-ghost use Rattle.std.specs.Prelude.{◌≡◌, IfOk, IfSome, IfNone};
-ghost use Rattle.clap.specs.Words.{app_of, found_of, rows_of};
+ghost use Rattle.std.specs.Prelude.{IfSome, IfNone};
 ghost use Rattle.command_line.specs.CommandLine.{NamesOptions, NamesPrinting};
-ghost use Rattle.command_line.specs.Program.{with_files, with_printing, with_search};
 ghost use Rattle.command_line.specs.Options.{AreOptions};
 ghost use Rattle.command_line.specs.declared.options.Options.{Options};
 
-use crate::commands::words::{DEPTH, INPUT, file, flag, named_file, number, number_or};
+use crate::commands::words::number_or;
 use crate::options::Options;
 use crate::printing::Printing;
-use clap::{ArgMatches, Command};
-use std::alloc::{AllocError, Global};
+use word_rules::{Found, Need, Word};
 
 /// What help says of the status of a run.
 pub(crate) const STATUS: &str = "Status: 10 satisfiable, 20 unsatisfiable, 0 unknown, 1 an error";
 
-/// A command with the words of a search: how many workers there are, how the formula is split, and how far a leaf is searched.
-pub(crate) fn searching<'a>(alloc: Global, command: Command<'a>) -> Result<Command<'a>, AllocError>
-    ensures { IfOk result (λ c. app_of c ≡ with_search (app_of command.entry)) }
-{
-    const WORKERS: &str = "How many workers there are, from 1 to 64";
-    const LIMIT: &str = "How many lemmas may be learnt under a cube, from 1 to 1000000000";
-    const CUBES: &str = "Take the cubes of this iCNF file, whose clauses are those of INPUT";
-    command
-        .arg(number(alloc, "workers", 1, 64, "2", WORKERS))?
-        .arg(number(alloc, "depth", 0, 16, "4", DEPTH))?
-        .arg(number(alloc, "limit", 1, 1_000_000_000, "100000", LIMIT))?
-        .arg(named_file(alloc, "cubes", CUBES))
-}
+/// How many workers there are.
+pub(crate) const WORKERS: Word<'static> = Word::Number {
+    name: "workers",
+    low: 1,
+    high: 64,
+    need: Need::Usual("2"),
+    help: "How many workers there are, from 1 to 64",
+};
 
-/// A command with the words of what it prints.
-pub(crate) fn printing<'a>(alloc: Global, command: Command<'a>) -> Result<Command<'a>, AllocError>
-    ensures { IfOk result (λ c. app_of c ≡ with_printing (app_of command.entry)) }
-{
-    command
-        .arg(flag(alloc, "quiet", 'q', "Print no c lines, but for c usage"))?
-        .arg(flag(alloc, "no-witness", 'n', "Print no v lines"))
-}
+/// How deep the formula is split.
+pub(crate) const DEPTH: Word<'static> = Word::Number {
+    name: "depth",
+    low: 0,
+    high: 16,
+    need: Need::Usual("4"),
+    help: "How many variables a cube has at most, from 0 to 16",
+};
 
-/// A command with the words of its definitions, of its files, and of what it prints.
-pub(crate) fn on_files<'a>(alloc: Global, command: Command<'a>) -> Result<Command<'a>, AllocError>
-    ensures { IfOk result (λ c. app_of c ≡ with_files (app_of command.entry)) }
-{
-    const DEFS: &str = "How many variables are defined before INPUT is split, from 0 to 64";
-    const PROOF: &str = "The file to which an LRAT proof is written, where nothing satisfies INPUT";
-    let command = command.arg(number(alloc, "defs", 0, 64, "0", DEFS))?;
-    printing(alloc, command)?
-        .arg(file(alloc, "INPUT", true, INPUT))?
-        .arg(file(alloc, "PROOF", false, PROOF))
-}
+/// How far a leaf is searched.
+pub(crate) const LIMIT: Word<'static> = Word::Number {
+    name: "limit",
+    low: 1,
+    high: 1_000_000_000,
+    need: Need::Usual("100000"),
+    help: "How many lemmas may be learnt under a cube, from 1 to 1000000000",
+};
+
+/// The cubes, in place of a split.
+pub(crate) const CUBES: Word<'static> = Word::NamedFile {
+    name: "cubes",
+    required: false,
+    help: "Take the cubes of this iCNF file, whose clauses are those of INPUT",
+};
+
+/// How many variables are defined.
+pub(crate) const DEFS: Word<'static> = Word::Number {
+    name: "defs",
+    low: 0,
+    high: 64,
+    need: Need::Usual("0"),
+    help: "How many variables are defined before INPUT is split, from 0 to 64",
+};
+
+/// Whether `c` lines are left out.
+pub(crate) const QUIET: Word<'static> = Word::Flag {
+    name: "quiet",
+    letter: 'q',
+    help: "Print no c lines, but for c usage",
+};
+
+/// Whether the `v` lines of an assignment are left out.
+pub(crate) const NO_WITNESS: Word<'static> = Word::Flag {
+    name: "no-witness",
+    letter: 'n',
+    help: "Print no v lines",
+};
+
+/// The proof.
+pub(crate) const PROOF: Word<'static> = Word::File {
+    name: "PROOF",
+    required: false,
+    help: "The file to which an LRAT proof is written, where nothing satisfies INPUT",
+};
 
 /// The options that the words of a run name; the usual one where its command has no word for it.
-pub(crate) fn options_of(matches: &ArgMatches) -> Option<Options>
-    ensures found { IfSome result (NamesOptions (rows_of (found_of matches.now))) }
-    ensures none { IfNone result ((options : Options) → NamesOptions (rows_of (found_of matches.now)) options → ⊥) }
+pub(crate) fn options_of(given: &Found) -> Option<Options>
+    ensures found { IfSome result (NamesOptions given.now.rows) }
+    ensures none { IfNone result ((options : Options) → NamesOptions given.now.rows options → ⊥) }
     ensures range { IfSome result AreOptions }
 {
-    let workers = number_or(matches, "workers", 1, 64, 2)?;
-    let depth = number_or(matches, "depth", 0, 16, 4)?;
-    let limit = number_or(matches, "limit", 1, 1_000_000_000, 100_000)?;
-    let session = number_or(matches, "session", 0, u64::MAX, 1)?;
-    let number = number_or(matches, "number", 1, 64, 1)?;
-    let incarnation = number_or(matches, "incarnation", 0, u64::MAX, 1)?;
-    let defs = number_or(matches, "defs", 0, 64, 0)?;
-    let printing = printing_of(matches);
+    let workers = number_or(given, "workers", 1, 64, 2)?;
+    let depth = number_or(given, "depth", 0, 16, 4)?;
+    let limit = number_or(given, "limit", 1, 1_000_000_000, 100_000)?;
+    let session = number_or(given, "session", 0, u64::MAX, 1)?;
+    let number = number_or(given, "number", 1, 64, 1)?;
+    let incarnation = number_or(given, "incarnation", 0, u64::MAX, 1)?;
+    let defs = number_or(given, "defs", 0, 64, 0)?;
+    let printing = printing_of(given);
     Some(Options {
         workers: workers as u32,
         depth: depth as u32,
@@ -73,18 +99,18 @@ pub(crate) fn options_of(matches: &ArgMatches) -> Option<Options>
         number: number as u32,
         incarnation,
         defs: defs as u32,
-        ahead: matches.get_flag("ahead"),
+        ahead: given.flag("ahead"),
         quiet: printing.quiet,
         witness: printing.witness,
     })
 }
 
 /// What the words say is left out of what is printed.
-pub(crate) fn printing_of(matches: &ArgMatches) -> Printing
-    ensures { NamesPrinting (rows_of (found_of matches.now)) result }
+pub(crate) fn printing_of(given: &Found) -> Printing
+    ensures { NamesPrinting given.now.rows result }
 {
     Printing {
-        quiet: matches.get_flag("quiet"),
-        witness: !matches.get_flag("no-witness"),
+        quiet: given.flag("quiet"),
+        witness: !given.flag("no-witness"),
     }
 }

@@ -1,40 +1,38 @@
 //! The words of `solve`.
 
-ghost use Rattle.std.specs.Prelude.{◌≡◌, IfOk, IfSome, IfNone, codes};
-ghost use Rattle.clap.specs.Words.{app_of, found_of, rows_of};
+ghost use Rattle.std.specs.Prelude.{◌≡◌, IfSome, IfNone, codes};
 ghost use Rattle.command_line.specs.CommandLine.{IsInRange, Makes};
-ghost use Rattle.command_line.specs.Program.{solve_app};
 ghost use Rattle.command_line.specs.declared.request.Request.{Request};
 
-use crate::commands::run_words::{STATUS, on_files, options_of, searching};
-use crate::commands::words::file_of;
+use crate::commands::run_words::{
+    CUBES, DEFS, DEPTH, LIMIT, NO_WITNESS, PROOF, QUIET, STATUS, WORKERS, options_of,
+};
+use crate::commands::words::{INPUT, file_of};
 use crate::request::Request;
-use clap::{ArgMatches, Command};
-use std::alloc::{AllocError, Global};
+use word_rules::{CommandRules, Found};
 
-/// The command.
-pub(crate) fn words<'a>(alloc: Global) -> Result<Command<'a>, AllocError>
-    ensures { IfOk result (λ c. app_of c ≡ solve_app) }
-{
-    let command = Command::new(alloc, "solve")
-        .about("Decides a DIMACS formula, with an LRAT proof where nothing satisfies it")
-        .after_help(STATUS);
-    let command = searching(alloc, command)?;
-    on_files(alloc, command)
-}
+/// The words.
+pub(crate) const RULES: CommandRules<'static> = CommandRules {
+    name: "solve",
+    about: "Decides a DIMACS formula, with an LRAT proof where nothing satisfies it",
+    after_help: STATUS,
+    words: &[
+        WORKERS, DEPTH, LIMIT, CUBES, DEFS, QUIET, NO_WITNESS, INPUT, PROOF,
+    ],
+};
 
 /// What its words ask for.
-pub(crate) fn asked<'a>(matches: &ArgMatches<'a>) -> Option<Request<'a>>
-    ensures found { IfSome result (Makes (codes "solve") (rows_of (found_of matches.now))) }
-    ensures none { IfNone result ((request : Request) → Makes (codes "solve") (rows_of (found_of matches.now)) request → ⊥) }
+pub(crate) fn asked<'a>(given: &Found<'a>) -> Option<Request<'a>>
+    ensures found { IfSome result (Makes (codes "solve") given.now.rows) }
+    ensures none { IfNone result ((request : Request) → Makes (codes "solve") given.now.rows request → ⊥) }
     ensures range { IfSome result IsInRange }
 {
-    let input = file_of(matches, "INPUT")?;
-    let options = options_of(matches)?;
+    let input = file_of(given, "INPUT")?;
+    let options = options_of(given)?;
     Some(Request::Solve {
         input,
-        cubes: file_of(matches, "cubes"),
-        proof: file_of(matches, "PROOF"),
+        cubes: file_of(given, "cubes"),
+        proof: file_of(given, "PROOF"),
         options,
     })
 }

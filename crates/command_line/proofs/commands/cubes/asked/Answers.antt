@@ -1,9 +1,8 @@
-use Rattle.clap.specs.Words.{found_of, rows_of}
 use Rattle.command_line.proofs.RequestLemmas.{only_cubes}
 use Rattle.command_line.proofs.WordLemmas.{if_none, unnamed}
 use Rattle.command_line.proofs.commands.cubes.asked.Goals as goal
 
 pub returns-in_err-input-clause-none : goal.returns-in_err-input-clause-none
 returns-in_err-input-clause-none c =
-    if_none _ _ (only_cubes (rows_of (found_of c.args.matches.now)) (λ input depth makes. unnamed _ input.now c.in_err-input.ensures makes.1)
+    if_none _ _ (only_cubes c.args.given.now.rows (λ input depth makes. unnamed _ input.now c.in_err-input.ensures makes.1)
     (λ input cubes leaf on makes. unnamed _ input.now c.in_err-input.ensures makes.1) (λ input list makes. unnamed _ input.now c.in_err-input.ensures makes.1))

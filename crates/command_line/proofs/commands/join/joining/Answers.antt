@@ -1,16 +1,15 @@
-use Rattle.clap.specs.Words.{found_of, rows_of}
 use Rattle.command_line.proofs.RequestLemmas.{only_join}
 use Rattle.command_line.proofs.WordLemmas.{if_none, unnamed}
 use Rattle.command_line.proofs.commands.join.joining.Goals as goal
 
 pub returns-in_err-input-clause-none : goal.returns-in_err-input-clause-none
 returns-in_err-input-clause-none c =
-    if_none _ _ (only_join (rows_of (found_of c.args.matches.now)) (λ input cubes proof fragments printing makes. unnamed _ input.now c.in_err-input.ensures makes.1))
+    if_none _ _ (only_join c.args.given.now.rows (λ input cubes proof fragments printing makes. unnamed _ input.now c.in_err-input.ensures makes.1))
 
 pub returns-in_err-cubes-clause-none : goal.returns-in_err-cubes-clause-none
 returns-in_err-cubes-clause-none c =
-    if_none _ _ (only_join (rows_of (found_of c.args.matches.now)) (λ input cubes proof fragments printing makes. unnamed _ cubes.now c.in_err-cubes.ensures makes.2))
+    if_none _ _ (only_join c.args.given.now.rows (λ input cubes proof fragments printing makes. unnamed _ cubes.now c.in_err-cubes.ensures makes.2))
 
 pub returns-in_err-proof-clause-none : goal.returns-in_err-proof-clause-none
 returns-in_err-proof-clause-none c =
-    if_none _ _ (only_join (rows_of (found_of c.args.matches.now)) (λ input cubes proof fragments printing makes. unnamed _ proof.now c.in_err-proof.ensures makes.3))
+    if_none _ _ (only_join c.args.given.now.rows (λ input cubes proof fragments printing makes. unnamed _ proof.now c.in_err-proof.ensures makes.3))

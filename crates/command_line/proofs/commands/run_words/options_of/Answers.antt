@@ -1,5 +1,4 @@
 use Rattle.std.proofs.Common.{codes}
-use Rattle.clap.specs.Words.{found_of}
 use Rattle.command_line.proofs.WordLemmas.{if_none, read_flag}
 use Rattle.command_line.proofs.commands.run_words.options_of.Goals as goal
 
@@ -13,8 +12,7 @@ returns-in_err-defs-clause-none c =
 
 pub returns-clause-found : goal.returns-clause-found
 returns-clause-found c =
-    let f = found_of c.args.matches.now in
-    let ahead = c.get_flag.ensures in
+    let ahead = c.flag.ensures in
     let printing = c.printing_of-printing.ensures in
     record {
       workers_is = c.in_ok-workers.ensures.found;
@@ -24,7 +22,7 @@ returns-clause-found c =
       number_is = c.in_ok-number.ensures.found;
       incarnation_is = c.in_ok-incarnation.ensures.found;
       defs_is = c.in_ok-defs.ensures.found;
-      ahead_is = read_flag f (codes "ahead") c.get_flag.result ahead.none ahead.value ahead.other;
+      ahead_is = read_flag c.args.given.now.rows (codes "ahead") c.flag.result ahead.none ahead.yes ahead.no;
       quiet_is = printing.quiet_is;
       witness_is = printing.witness_is;
     }

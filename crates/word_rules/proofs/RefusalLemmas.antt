@@ -1,0 +1,33 @@
+-- Why words give no request.
+use Rattle.std.proofs.Common.{◌≡◌, ◌⊎◌, inl, inr, List, [], ◌∷◌, refl, subst}
+use Rattle.clap.specs.Words.{App, IsAmong, Kinds, Text, fault_of}
+use Rattle.clap.specs.declared.error.kind.ErrorKind.{ErrorKind}
+use Rattle.clap.specs.declared.error.kind.ErrorKind.TheVariants as kind
+use Rattle.word_rules.specs.Parsing.{IsRefusalOf}
+use Rattle.word_rules.specs.inner.Refusing.{StandsFor}
+use Rattle.word_rules.specs.declared.parsing.Refusal.{Refusal}
+use Rattle.word_rules.specs.declared.parsing.Refusal.TheVariants.{Help, NoMemory, Refused}
+
+no_help : (k : ErrorKind) (kinds : Kinds) → kinds ≡ kind.DisplayHelp ∷ [] → IsAmong k kinds → k ≡ kind.DisplayHelp
+no_help k kinds e among = only (subst (IsAmong k) e among) where
+  only : IsAmong k (kind.DisplayHelp ∷ []) → k ≡ kind.DisplayHelp
+  only (inl is) = is
+  only (inr none) = absurd none
+
+-- an error of one of the kinds refuses the words so
+pub refusal_is : (app : App) (words : List Text) (k : ErrorKind) (f : Refusal) → (k ≡ kind.OutOfMemory) ⊎ IsAmong k (fault_of app words) → StandsFor k f → IsRefusalOf app words f
+refusal_is app words k (Help text) (inl memory) stands = absurd cc
+refusal_is app words k (Help text) (inr among) stands = subst (λ (x : ErrorKind). IsAmong x (fault_of app words)) stands among
+refusal_is app words k Refused (inl memory) stands = absurd (stands.1 memory)
+refusal_is app words k Refused (inr among) stands = λ asks. stands.0 (no_help k (fault_of app words) asks among)
+refusal_is app words k NoMemory has stands = tt
+
+-- words that are parsed ask for no help
+pub asks_no_help : (kinds : Kinds) → kinds ≡ [] → kinds ≡ kind.DisplayHelp ∷ [] → ⊥
+asks_no_help kinds none asks = cc
+
+-- want of memory stands for itself
+pub no_memory_is : (k : ErrorKind) (f : Refusal) → StandsFor k f → k ≡ kind.OutOfMemory → f ≡ NoMemory
+no_memory_is k (Help text) stands memory = absurd cc
+no_memory_is k Refused stands memory = absurd (stands.1 memory)
+no_memory_is k NoMemory stands memory = refl

@@ -1,0 +1,4 @@
+pub mod Found
+pub mod Parsing
+pub mod Rules
+pub mod inner
