@@ -1,0 +1,5 @@
+use Rattle.std.proofs.Common.{◌≡◌}
+use Rattle.arriving.proofs.floor.tell_parked.Given as goal
+
+abbrev pub invariant-loop-place : goal.invariant-loop-place
+invariant-loop-place g l = l.desk.coordinator.formula ≡ l.fn.desk.coordinator.formula

@@ -1,0 +1,115 @@
+//! What comes over a link.
+
+ghost use Rattle.std.specs.Prelude.{◌≡◌};
+
+use crate::coordinating::deliver;
+use crate::line::{Broken, Line};
+use crate::telling::{At, LONGEST, Patience, tell};
+use coordinator_core::Coordinator;
+use frames::{Frame, WorkerNumber};
+use links::Arrivals;
+use lrat_check::Reaction;
+
+/// The worker that a frame to the coordinator names.
+fn sender_of(frame: &Frame) -> Option<WorkerNumber> {
+    match frame {
+        Frame::Done { attempt, .. } => Some(attempt.worker),
+        Frame::Piece { attempt, .. } => Some(attempt.worker),
+        Frame::Want { worker, .. } => Some(*worker),
+        Frame::Idle { worker, .. } => Some(*worker),
+        _ => None,
+    }
+}
+
+/// Whether a frame is of the worker whose link it came over.
+fn is_own(line: &Line, frame: &Frame) -> bool {
+    match (line.seated(), sender_of(frame)) {
+        (Some(worker), Some(sender)) => worker.number() == sender.number(),
+        _ => false,
+    }
+}
+
+/// Delivers a frame, which has to be of the link's worker. One that is refused breaks the link: honest workers send none.
+fn deliver_one(
+    coordinator: &mut Coordinator,
+    tick: u64,
+    line: &mut Line,
+    frame: &Frame,
+) -> Result<(), Broken>
+    ensures { coordinator.new.formula ≡ coordinator.old.formula }
+{
+    if !is_own(line, frame) {
+        return Err(Broken::Closed);
+    }
+    match deliver(coordinator, frame) {
+        Reaction::NoMemory => Err(Broken::NoMemory),
+        Reaction::Refused(_) => Err(Broken::Closed),
+        Reaction::Ignored => line.ignore(frame),
+        _ => {
+            line.hear(tick);
+            Ok(())
+        }
+    }
+}
+
+/// Delivers the frames of a link one by one, and tells its worker what there is to tell behind each.
+pub(crate) fn converse<A: Arrivals>(
+    links: &mut A,
+    coordinator: &mut Coordinator,
+    patience: &Patience,
+    at: At,
+    line: &mut Line,
+) -> Result<(), Broken>
+    ensures { coordinator.new.formula ≡ coordinator.old.formula }
+{
+    for _ in 0..LONGEST {
+        let Some(frame) = line.next() else {
+            return Ok(());
+        };
+        if let Err(broken) = deliver_one(coordinator, at.tick, line, &frame) {
+            return Err(broken);
+        }
+        if let Err(broken) = tell(links, coordinator, patience, at, line) {
+            return Err(broken);
+        }
+    }
+    Ok(())
+}
+
+/// Its first frame, where that has come, has to be Idle of one of the workers.
+pub(crate) fn greet(line: &mut Line, highest: u32) -> Result<(), Broken> {
+    if !line.is_ungreeted() {
+        return Ok(());
+    }
+    match line.next() {
+        Some(frame) => line.greet(&frame, highest),
+        None => Ok(()),
+    }
+}
+
+/// Links a worker whose number has no other link, by the frame with which it greeted.
+pub(crate) fn seat<A: Arrivals>(
+    links: &mut A,
+    coordinator: &mut Coordinator,
+    patience: &Patience,
+    at: At,
+    line: &mut Line,
+) -> Result<(), Broken>
+    ensures { coordinator.new.formula ≡ coordinator.old.formula }
+{
+    let Some(worker) = line.queued() else {
+        return Ok(());
+    };
+    line.park();
+    let frame = Frame::Idle {
+        worker,
+        incarnation: line.incarnation(),
+    };
+    if let Err(broken) = deliver_one(coordinator, at.tick, line, &frame) {
+        return Err(broken);
+    }
+    if let Err(broken) = tell(links, coordinator, patience, at, line) {
+        return Err(broken);
+    }
+    converse(links, coordinator, patience, at, line)
+}

@@ -1,0 +1,202 @@
+//! One link of a coordinator.
+
+use frames::{Frame, FrameFault, Reader, WorkerNumber};
+use std::alloc::{AllocError, Global};
+
+/// How many ticks a greeting may take, and bytes that were asked for.
+const GREETING: u64 = 30;
+
+/// How many tasks in turn a worker may answer with Idle, which says that it does not take them.
+const DECLINED: u32 = 3;
+
+/// Why a link is used no more.
+#[derive(Clone, Copy, Debug, PartialEq, Eq)]
+pub(crate) enum Broken {
+    /// It refused, ended, brought bytes that are no frames, or a frame that it may not bring.
+    Closed,
+    /// A growth was refused.
+    NoMemory,
+}
+
+/// Where a link stands.
+#[derive(Clone, Copy, Debug, PartialEq, Eq)]
+pub(crate) enum Standing {
+    /// Its first frame has not come.
+    Ungreeted,
+    /// It has greeted as a worker that has another link, and waits for the end of that.
+    Queued,
+    /// There was nothing to tell its worker, who is told when there is.
+    Parked,
+    /// Its worker was told what to send.
+    Asked,
+    /// Its worker has a task.
+    Working,
+}
+
+/// What came over a link, whose it is, and where it stands.
+#[derive(Drop)]
+pub struct Line {
+    alloc: Global,
+    reader: Reader,
+    waiting: Vec<Frame>,
+    standing: Standing,
+    /// Who greeted, and in which incarnation.
+    worker: Option<WorkerNumber>,
+    incarnation: u64,
+    /// The tick from which it is quiet: that of its beginning, of its last frame that was taken, or of what it was told since.
+    since: u64,
+    /// How many tasks in turn were answered with Idle.
+    declined: u32,
+    /// The mark of the leaf that its worker has.
+    leaf: u64,
+    /// How many ticks its task may take.
+    patience: Option<u64>,
+}
+
+impl Line {
+    /// A link that begins.
+    pub(crate) fn new(alloc: Global, tick: u64) -> Result<Line, AllocError> {
+        Ok(Line {
+            alloc,
+            reader: Reader::new(alloc)?,
+            waiting: Vec::new(alloc),
+            standing: Standing::Ungreeted,
+            worker: None,
+            incarnation: 0,
+            since: tick,
+            declined: 0,
+            leaf: 0,
+            patience: None,
+        })
+    }
+
+    /// Takes the next bytes; none are its end. Who waits for the end of another link has nothing to say.
+    pub(crate) fn take(&mut self, bytes: &[u8]) -> Result<(), Broken> {
+        if bytes.is_empty() || self.standing == Standing::Queued {
+            return Err(Broken::Closed);
+        }
+        match self.reader.feed(self.alloc, bytes, &mut self.waiting) {
+            Ok(()) => Ok(()),
+            Err(FrameFault::NoMemory) => Err(Broken::NoMemory),
+            Err(_) => Err(Broken::Closed),
+        }
+    }
+
+    /// The first frame that waits.
+    pub(crate) fn next(&mut self) -> Option<Frame> {
+        if self.waiting.is_empty() {
+            return None;
+        }
+        Some(self.waiting.remove(0))
+    }
+
+    /// Notes its first frame, which has to be Idle of a worker whose number is not above this.
+    pub(crate) fn greet(&mut self, frame: &Frame, highest: u32) -> Result<(), Broken> {
+        match frame {
+            Frame::Idle {
+                worker,
+                incarnation,
+            } if worker.number() <= highest => {
+                self.worker = Some(*worker);
+                self.incarnation = *incarnation;
+                self.standing = Standing::Queued;
+                Ok(())
+            }
+            _ => Err(Broken::Closed),
+        }
+    }
+
+    /// Who greeted and waits for the end of another link.
+    pub(crate) fn queued(&self) -> Option<WorkerNumber> {
+        match self.standing {
+            Standing::Queued => self.worker,
+            _ => None,
+        }
+    }
+
+    /// Whose link it is; none where nobody is linked.
+    pub(crate) fn seated(&self) -> Option<WorkerNumber> {
+        match self.standing {
+            Standing::Ungreeted | Standing::Queued => None,
+            _ => self.worker,
+        }
+    }
+
+    /// Whether nobody is linked yet, and the first frame has not come.
+    pub(crate) fn is_ungreeted(&self) -> bool {
+        self.standing == Standing::Ungreeted
+    }
+
+    /// Whether its worker waits for something to do.
+    pub(crate) fn is_parked(&self) -> bool {
+        self.standing == Standing::Parked
+    }
+
+    /// Its worker's incarnation, as it greeted.
+    pub(crate) fn incarnation(&self) -> u64 {
+        self.incarnation
+    }
+
+    /// The mark of the leaf that its worker has.
+    pub(crate) fn leaf(&self) -> u64 {
+        self.leaf
+    }
+
+    /// There is nothing to tell its worker.
+    pub(crate) fn park(&mut self) {
+        self.standing = Standing::Parked;
+    }
+
+    /// Its worker is told to send something.
+    pub(crate) fn ask(&mut self, tick: u64) {
+        if self.standing != Standing::Asked && self.standing != Standing::Working {
+            self.since = tick;
+        }
+        self.standing = Standing::Asked;
+    }
+
+    /// Its worker is told to search under the leaf of this mark, as long as this.
+    pub(crate) fn set_to_work(&mut self, tick: u64, leaf: u64, patience: Option<u64>) {
+        if self.standing != Standing::Asked && self.standing != Standing::Working {
+            self.since = tick;
+        }
+        self.standing = Standing::Working;
+        self.leaf = leaf;
+        self.patience = patience;
+    }
+
+    /// A frame was taken: it is not quiet.
+    pub(crate) fn hear(&mut self, tick: u64) {
+        self.since = tick;
+        self.declined = 0;
+    }
+
+    /// A frame said nothing. Too many tasks that are answered with Idle break it.
+    pub(crate) fn ignore(&mut self, frame: &Frame) -> Result<(), Broken> {
+        if self.standing == Standing::Working && matches!(frame, Frame::Idle { .. }) {
+            self.declined = self.declined.saturating_add(1);
+            if DECLINED <= self.declined {
+                return Err(Broken::Closed);
+            }
+        }
+        Ok(())
+    }
+
+    /// Whether it has been quiet too long, while another worker is free or not.
+    pub(crate) fn is_overdue(&self, tick: u64, is_other_free: bool) -> bool {
+        let quiet = tick.saturating_sub(self.since);
+        match self.standing {
+            Standing::Ungreeted | Standing::Queued | Standing::Asked => GREETING <= quiet,
+            Standing::Parked => false,
+            Standing::Working => match self.patience {
+                Some(patience) => is_other_free && patience <= quiet,
+                None => false,
+            },
+        }
+    }
+
+    /// Whether it has been quiet as long as this.
+    pub(crate) fn is_quiet(&self, tick: u64, ticks: u64) -> bool {
+        ticks <= tick.saturating_sub(self.since)
+    }
+}

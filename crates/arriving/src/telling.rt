@@ -1,0 +1,117 @@
+//! What workers are told.
+
+ghost use Rattle.std.specs.Prelude.{◌≡◌};
+
+use crate::coordinating::poll;
+use crate::line::{Broken, Line};
+use coordinator_core::Coordinator;
+use frames::{Cube, Frame, encode, len};
+use links::Arrivals;
+use std::alloc::{AllocError, Global};
+
+/// The bytes of the longest frame, and the room of each receive.
+pub(crate) const LONGEST: usize = 4037;
+
+/// How often patience is doubled at most.
+const DOUBLINGS: u32 = 32;
+
+/// A place, and the tick.
+#[derive(Clone, Copy, Debug)]
+pub(crate) struct At {
+    pub(crate) place: u8,
+    pub(crate) tick: u64,
+}
+
+/// How long a task may take. A leaf that was taken back has twice the time: else a long one would be lost again and again.
+#[derive(Drop)]
+pub(crate) struct Patience {
+    ticks: Option<u64>,
+    /// The marks of the leaves that were taken back, as often as they were.
+    taken_back: Vec<u64>,
+}
+
+/// The mark of a leaf: two leaves may have the same one, which then have as much time.
+fn mark_of(cube: &Cube) -> u64 {
+    let mut mark = 0xcbf2_9ce4_8422_2325;
+    for literal in cube.as_slice() {
+        mark = (mark ^ literal.index() as u64).wrapping_mul(0x0000_0100_0000_01b3);
+    }
+    mark
+}
+
+impl Patience {
+    /// A task may take so many ticks, or for ever.
+    pub(crate) fn new(alloc: Global, ticks: Option<u64>) -> Patience {
+        Patience {
+            ticks,
+            taken_back: Vec::new(alloc),
+        }
+    }
+
+    /// How long the task of this leaf may take.
+    fn of(&self, leaf: u64) -> Option<u64> {
+        let mut ticks = self.ticks?;
+        let mut doublings = DOUBLINGS;
+        for mark in &self.taken_back {
+            if *mark == leaf && 0 < doublings {
+                ticks = ticks.saturating_mul(2);
+                doublings -= 1;
+            }
+        }
+        Some(ticks)
+    }
+
+    /// Notes that a leaf was taken back.
+    pub(crate) fn note(&mut self, leaf: u64) -> Result<(), AllocError> {
+        self.taken_back.push(leaf)?;
+        Ok(())
+    }
+}
+
+/// Sends a frame over the link at a place.
+fn send<A: Arrivals>(links: &mut A, place: u8, frame: &Frame) -> Result<(), Broken> {
+    let mut room = [0u8; LONGEST];
+    let count = len(frame);
+    encode(frame, &mut room);
+    match links.send_to(place, &room[..count]) {
+        Ok(()) => Ok(()),
+        Err(_) => Err(Broken::Closed),
+    }
+}
+
+/// Notes what its worker is told.
+fn note(line: &mut Line, patience: &Patience, at: At, frame: &Frame) {
+    match frame {
+        Frame::Task { cube, .. } => {
+            let leaf = mark_of(cube);
+            line.set_to_work(at.tick, leaf, patience.of(leaf));
+        }
+        _ => line.ask(at.tick),
+    }
+}
+
+/// Tells the worker of a link what there is to tell. Where that is nothing it is told nothing, and parked until there is.
+pub(crate) fn tell<A: Arrivals>(
+    links: &mut A,
+    coordinator: &mut Coordinator,
+    patience: &Patience,
+    at: At,
+    line: &mut Line,
+) -> Result<(), Broken>
+    ensures { coordinator.new.formula ≡ coordinator.old.formula }
+{
+    let Some(worker) = line.seated() else {
+        return Ok(());
+    };
+    match poll(coordinator, worker) {
+        Ok(Some(frame)) => {
+            note(line, patience, at, &frame);
+            send(links, at.place, &frame)
+        }
+        Ok(None) => {
+            line.park();
+            Ok(())
+        }
+        Err(broken) => Err(broken),
+    }
+}
