@@ -86,7 +86,7 @@ impl Scratch {
         ensures clean { OnOk result (IsClean (stamp + 1) self.new) }
         ensures roomier { OnOk result (Roomier self.old self.new) }
     {
-        let mut chain = Vec::new(alloc);
+        let mut chain = Vec::with_capacity(alloc, hints.len())?;
         let conflict = match walk(images, &mut self.marks, stamp, hints, &mut chain) {
             Ok(conflict) => conflict,
             Err(fault) => return Err(fault),
