@@ -1,8 +1,8 @@
 //! A formula from its DIMACS text, which comes in pieces.
 
-ghost use Rattle.std.specs.Prelude.{◌≡◌, ℕ, List, [], ◌++◌, MatchBool, MatchResult};
+ghost use Rattle.std.specs.Prelude.{◌≡◌, ℕ, List, [], ◌++◌, true, MatchBool, MatchResult};
 ghost use Rattle.dimacs.specs.inner.Pieces.{IsOpen, LeadsTo, RefusesText, TakesLine, RefusesLine};
-ghost use Rattle.dimacs.specs.text.Pieces.{HasRead};
+ghost use Rattle.dimacs.specs.text.Pieces.{HasRead, has_failed};
 ghost use Rattle.dimacs.specs.text.Reading.{GivesFormula, parse};
 
 use crate::fault::DimacsFault;
@@ -108,6 +108,14 @@ impl FormulaReader {
             Ok(()) => {}
             Err(fault) => self.fault = Some(fault),
         }
+    }
+
+    /// Whether a fault was met, or memory was wanting. Then no further byte changes what `finish` answers, so whoever feeds need not go on.
+    pub fn is_settled(&self) -> bool
+        ensures failed { result ≡ has_failed self.now }
+        ensures stays { result ≡ true → (bytes more : List ℕ) → HasRead self.now bytes → HasRead self.now (bytes ++ more) }
+    {
+        self.fault.is_some()
     }
 
     /// The formula, or the first fault of the text, where no further byte comes.

@@ -1,5 +1,5 @@
 -- Checking a text that comes in pieces.
-use Rattle.std.specs.Prelude.{◌≡◌, ◌⊎◌, ℕ, List, ◌++◌, Option, Some, None, Result, Ok, Err}
+use Rattle.std.specs.Prelude.{◌≡◌, ◌⊎◌, ℕ, Bool, true, false, List, ◌++◌, Option, Some, None, Result, Ok, Err}
 use Rattle.dimacs.specs.logic.Cnf.{Cnf}
 use Rattle.lrat_text.specs.Lines.{IsOpen}
 use Rattle.lrat_check.specs.Checking.{check_text, check_of, no_memory}
@@ -21,6 +21,11 @@ check_more (Failed fault) more = Err fault
 abbrev pub answer_in : Progress → Result (Unit {0}) CheckFault
 answer_in (Within s line begun) = Ok tt
 answer_in (Failed fault) = Err fault
+
+-- whether a fault was met, or memory was wanting
+abbrev pub has_failed : Progress → Bool
+has_failed (Within s line begun) = false
+has_failed (Failed fault) = true
 
 -- these bytes of a proof of the formula have been taken
 abbrev pub HasTaken : Cnf → Progress → List ℕ → Type 0

@@ -5,7 +5,7 @@ ghost use Rattle.lrat_text.specs.Lines.{IsOpen};
 ghost use Rattle.lrat_text.specs.Pieces.{joined};
 ghost use Rattle.lrat_text.specs.Proof.{Accepts};
 ghost use Rattle.lrat_check.specs.Checking.{no_memory, GivesCheck, check_of};
-ghost use Rattle.lrat_check.specs.Stream.{Within, Failed, check_more, HasTaken, TakesPiece, IsWithinLine};
+ghost use Rattle.lrat_check.specs.Stream.{Within, Failed, check_more, has_failed, HasTaken, TakesPiece, IsWithinLine};
 ghost use Rattle.lrat_check.specs.inner.Stream.{LeadsTo};
 
 use crate::checker::Checker;
@@ -98,6 +98,13 @@ impl StreamChecker {
                 Err(fault)
             }
         }
+    }
+
+    /// Whether a fault was met, or memory was wanting: then no further byte changes what `finish` answers.
+    pub fn is_settled(&self) -> bool
+        ensures { result ≡ has_failed self.now }
+    {
+        self.fault.is_some()
     }
 
     /// What checking answers where no further byte comes. It takes no memory.

@@ -1,5 +1,5 @@
 -- A check of a proof that comes in pieces.
-use Rattle.std.specs.Prelude.{◌≡◌, ◌↔◌, ◌⊎◌, ℕ, List, Result, Ok, Err, None}
+use Rattle.std.specs.Prelude.{◌≡◌, ◌↔◌, ◌⊎◌, ℕ, Bool, true, List, Result, Ok, Err, None}
 use Rattle.dimacs.specs.logic.Cnf.{Cnf}
 use Rattle.dimacs.specs.text.Reading.{parse, no_memory}
 use Rattle.dimacs.specs.text.Rows.{Fails}
@@ -7,7 +7,7 @@ use Rattle.dimacs.specs.text.Spelling.{Spells}
 use Rattle.dimacs.specs.declared.fault.DimacsFault.{DimacsFault}
 use Rattle.lrat_text.specs.Proof.{Accepts}
 use Rattle.lrat_check.specs.Stream
-use Rattle.lrat_check.specs.Stream.{Progress, IsWithinLine}
+use Rattle.lrat_check.specs.Stream.{Progress, IsWithinLine, has_failed}
 use Rattle.node_main.specs.Reports.{check_text}
 use Rattle.reports.specs.declared.report.Report.{Report}
 
@@ -16,6 +16,11 @@ use Rattle.reports.specs.declared.report.Report.{Report}
 abbrev pub HasTaken : List ℕ → Result Progress DimacsFault → List ℕ → Type 0
 HasTaken input (Ok p) proof = (F : Cnf) × (parse input ≡ Ok F) × Stream.HasTaken F p proof
 HasTaken input (Err fault) proof = Fails no_memory fault (parse input)
+
+-- whether there is a fault, of the input, of the proof or of memory
+abbrev pub has_fault : Result Progress DimacsFault → Bool
+has_fault (Ok p) = has_failed p
+has_fault (Err fault) = true
 
 -- no text of the proof is kept but the line that is begun
 abbrev pub KeepsNoLine : Result Progress DimacsFault → Type 0

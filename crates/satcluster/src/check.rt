@@ -1,11 +1,12 @@
 //! `check`: an input is read, and a proof checked, while their files are read.
 
-use crate::files::{PIECE, next_piece, no_memory, read_formula, refused};
+use crate::files::{PIECE, has_size, next_piece, no_memory, read_formula, refused};
 use node_main::{ProofCheck, Refusal, Report};
 use std::fs::{File, OpenFile};
 use std::rt::Runtime;
 
-/// Reads a proof to its end, also behind a fault, and feeds it piece by piece.
+/// Reads a proof to its end, also behind a fault, and feeds it piece by piece. What has no size is read up to the first fault, or up to want
+/// of memory.
 fn feed<R: Runtime + AllocGlobal>(
     rt: &R,
     path: &str,
@@ -13,7 +14,11 @@ fn feed<R: Runtime + AllocGlobal>(
 ) -> Result<(), Refusal> {
     let mut file = File::open(rt, path).map_err(|error| refused(error, Refusal::Proof))?;
     let mut room = vec![in rt.alloc(); 0; PIECE].map_err(no_memory)?;
+    let has_size = has_size(&file);
     for _ in 0..u64::MAX {
+        if check.is_settled() && !has_size {
+            return Ok(());
+        }
         let piece = next_piece(&mut file, &mut room, Refusal::Proof)?;
         if piece.is_empty() {
             return Ok(());

@@ -40,6 +40,15 @@ pub(crate) fn next_piece<'a, F: Read>(
     Err(refusal)
 }
 
+/// Whether a file has a size, and so an end: it is read to that, whatever stands in it, since an error of reading comes before any fault. A
+/// pipe, a terminal or a device may have no end.
+pub(crate) fn has_size<F: OpenFile>(file: &F) -> bool {
+    match file.metadata() {
+        Ok(metadata) => metadata.is_file(),
+        Err(_) => false,
+    }
+}
+
 /// The file's bytes, or the refusal of a file that cannot be read. Room for them is taken at once, where the system tells how many they
 /// are: a vector that grows is copied, and each page that it takes anew costs as much as the checking of a line. They are read piece by
 /// piece, since the room that `read_to_end` reads into is filled with zeros before.
@@ -65,7 +74,8 @@ pub(crate) fn read<R: Runtime + AllocGlobal>(
     Err(refusal)
 }
 
-/// The formula of a file, or the first fault of its text. It is read while the file is, so that its text takes no memory.
+/// The formula of a file, or the first fault of its text. It is read while the file is, so that its text takes no memory. What has no size is
+/// read up to the first fault, or up to want of memory.
 pub(crate) fn read_formula<R: Runtime + AllocGlobal>(
     rt: &R,
     path: &str,
@@ -73,12 +83,16 @@ pub(crate) fn read_formula<R: Runtime + AllocGlobal>(
     let mut file = File::open(rt, path).map_err(|error| refused(error, Refusal::Input))?;
     let mut room = vec![in rt.alloc(); 0; PIECE].map_err(no_memory)?;
     let mut reader = FormulaReader::new(rt.alloc());
+    let has_size = has_size(&file);
     for _ in 0..u64::MAX {
         let piece = next_piece(&mut file, &mut room, Refusal::Input)?;
         if piece.is_empty() {
             return Ok(reader.finish());
         }
         reader.feed(piece);
+        if reader.is_settled() && !has_size {
+            return Ok(reader.finish());
+        }
     }
     Err(Refusal::Input)
 }

@@ -1,5 +1,5 @@
 -- A formula's text that comes in pieces.
-use Rattle.std.specs.Prelude.{◌≡◌, ℕ, List, ◌++◌, Option, Some, None, Result}
+use Rattle.std.specs.Prelude.{◌≡◌, ℕ, Bool, true, false, List, ◌++◌, Option, Some, None, Result}
 use Rattle.dimacs.specs.declared.fault.DimacsFault.{DimacsFault}
 use Rattle.dimacs.specs.logic.Cnf.{Cnf}
 use Rattle.dimacs.specs.text.BodyState.{BodyState}
@@ -35,3 +35,8 @@ progress_of (Some fault) read begun = Failed fault
 abbrev pub HasRead : Progress → List ℕ → Type 0
 HasRead (Within read begun) bytes = (more : List ℕ) → parse (bytes ++ more) ≡ read_on read (lines (begun ++ more))
 HasRead (Failed fault) bytes = (more : List ℕ) → Fails no_memory fault (parse (bytes ++ more))
+
+-- whether a fault was met, or memory was wanting
+abbrev pub has_failed : Progress → Bool
+has_failed (Within read begun) = false
+has_failed (Failed fault) = true

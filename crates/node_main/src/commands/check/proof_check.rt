@@ -1,9 +1,9 @@
 //! A check of a proof that comes in pieces.
 
-ghost use Rattle.std.specs.Prelude.{◌≡◌, ◌≢◌, ◌++◌, [], ℕ, List, Ok, Err, None, IfOk, OnOk, is_ok, if◌then◌else◌};
+ghost use Rattle.std.specs.Prelude.{◌≡◌, ◌≢◌, ◌++◌, [], ℕ, List, true, Ok, Err, None, IfOk, OnOk, is_ok, if◌then◌else◌};
 ghost use Rattle.dimacs.specs.text.Reading.{GivesFormula, parse};
 ghost use Rattle.lrat_check.specs.Checking.{no_memory};
-ghost use Rattle.node_main.specs.ProofChecks.{HasTaken, IsCheckReport, KeepsNoLine};
+ghost use Rattle.node_main.specs.ProofChecks.{HasTaken, IsCheckReport, KeepsNoLine, has_fault};
 ghost use Rattle.node_main.specs.Reports.{answer_text};
 ghost use Rattle.reports.specs.Faults.{input_fault_text};
 
@@ -117,6 +117,18 @@ impl ProofCheck {
                 let _ = stream.feed(piece);
             }
             Err(_) => {}
+        }
+    }
+
+    /// Whether there is a fault, of the input, of the proof or of memory. Then no further byte of the proof changes what `finish` answers, so
+    /// whoever feeds need not go on.
+    pub fn is_settled(&self) -> bool
+        ensures fault { result ≡ has_fault self.now }
+        ensures stays { result ≡ true → (input proof more : List ℕ) → HasTaken input self.now proof → HasTaken input self.now (proof ++ more) }
+    {
+        match &self.state {
+            Ok(stream) => stream.is_settled(),
+            Err(_) => true,
         }
     }
 
