@@ -11,8 +11,7 @@ use Rattle.cube_split.specs.Choosing.{IsSplitBy}
 use Rattle.cube_split.specs.Pairs.{AreDefined, IsBaseWith}
 use Rattle.cube_split.specs.declared.pair.Pair.{Pair}
 use Rattle.evidence.specs.Jobs.{IsInside}
-use Rattle.node_main.specs.Splitting.{SplitsByRule}
-use Rattle.node_main.specs.inner.Splitting.{StaysInside}
+use Rattle.node_main.specs.Splitting.{SplitsByRule, StaysInside}
 use Rattle.node_main.specs.declared.splitting.Split.TheVariants.{By}
 
 within_more : (m n : ℕ) (leaves : List Cube) → m ≤ n → AreWithin m leaves → AreWithin n leaves

@@ -8,8 +8,8 @@ use Rattle.dimacs.proofs.SpellingLemmas.{found_spells}
 use Rattle.icnf.specs.Leaves.{Cube}
 use Rattle.node_main.specs.Deciding.{Decides}
 use Rattle.node_main.specs.Solving.{Solves, Works}
-use Rattle.node_main.specs.inner.Splitting.{StaysInside}
-use Rattle.node_main.specs.inner.Starting.{IsStart, Starts}
+use Rattle.node_main.specs.Splitting.{StaysInside}
+use Rattle.node_main.specs.Starting.{IsStart, Starts}
 use Rattle.command_line.specs.declared.options.Options.{Options}
 use Rattle.reports.specs.declared.report.Report.{Report}
 use Rattle.node_main.specs.declared.splitting.Split.TheVariants.{By}

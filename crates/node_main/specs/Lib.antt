@@ -8,5 +8,6 @@ pub mod Reports
 pub mod Running
 pub mod Solving
 pub mod Splitting
+pub mod Starting
 pub mod Truth
 pub mod inner

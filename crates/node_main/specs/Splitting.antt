@@ -1,10 +1,11 @@
 -- How a formula is split, and which cubes are refused.
-use Rattle.std.specs.Prelude.{◌≡◌, ◌≢◌, ℕ, List, [], Option, Some, None, Err}
+use Rattle.std.specs.Prelude.{◌≡◌, ◌≢◌, ℕ, List, [], All, Option, Some, None, Err}
 use Rattle.cube_split.specs.Choosing.{IsTreeWith}
-use Rattle.cube_split.specs.Pairs.{AreDefined}
+use Rattle.cube_split.specs.Pairs.{AreDefined, IsBaseWith}
 use Rattle.cube_split.specs.declared.pair.Pair.{Pair}
 use Rattle.dimacs.specs.logic.Base.{pure_literals}
 use Rattle.dimacs.specs.logic.Cnf.{Cnf}
+use Rattle.evidence.specs.Jobs.{IsInside}
 use Rattle.icnf.specs.Leaves.{Cube}
 use Rattle.icnf.specs.Reading.{parse}
 use Rattle.icnf.specs.Spelling.{Spells}
@@ -28,3 +29,9 @@ SplitsByText F text OtherFormula = (G : Cnf) × (leaves : List Cube) × Spells t
 abbrev pub Splits : Cnf → Option (List ℕ) → ℕ → ℕ → Split → Type 0
 Splits F None depth defs split = SplitsByRule F depth defs split
 Splits F (Some text) depth defs split = SplitsByText F text split
+
+-- each variable of the cubes is one of the base with so many definitions
+abbrev pub StaysInside : Cnf → ℕ → Split → Type 0
+StaysInside F defs (By leaves) = (B : Cnf) → IsBaseWith F defs B → All (IsInside B) leaves
+StaysInside F defs (Faulty fault) = Unit {0}
+StaysInside F defs OtherFormula = Unit {0}

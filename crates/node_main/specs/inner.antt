@@ -1,5 +1,3 @@
 -- What only private contracts, invariants and proofs name. Nothing here is to be believed.
 pub mod Kinds
-pub mod Splitting
-pub mod Starting
 pub mod Tallies

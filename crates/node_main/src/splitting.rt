@@ -1,8 +1,7 @@
 //! How a formula is split: by the cubes that are handed in, or else by the split rule.
 
 ghost use Rattle.std.specs.Prelude.{◌≡◌, ◌≤◌, ◌↔◌, ℕ, IsTrue, IfOk, option_map};
-ghost use Rattle.node_main.specs.Splitting.{Splits, SplitsByRule, SplitsByText};
-ghost use Rattle.node_main.specs.inner.Splitting.{StaysInside};
+ghost use Rattle.node_main.specs.Splitting.{Splits, SplitsByRule, SplitsByText, StaysInside};
 
 use cube_split::{definitions_are_settled, preamble_with, tree_with};
 use dimacs::Formula;

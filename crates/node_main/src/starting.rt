@@ -5,7 +5,7 @@ ghost use Rattle.dimacs.specs.text.Reading.{parse, GivesFormula};
 ghost use Rattle.command_line.specs.Options.{AreOptions};
 ghost use Rattle.reports.specs.Faults.{cubes_fault_text, input_fault_text, other_formula_text};
 ghost use Rattle.node_main.specs.Solving.{IsRefused};
-ghost use Rattle.node_main.specs.inner.Starting.{IsStart, Starts};
+ghost use Rattle.node_main.specs.Starting.{IsStart, Starts};
 
 use crate::splitting::{Split, split_of};
 use command_line::Options;
@@ -16,7 +16,7 @@ use std::alloc::{AllocError, Global};
 
 /// What a run begins with.
 #[derive(Drop)]
-pub(crate) enum Start {
+pub enum Start {
     /// The formula of the input, split so.
     With(Formula, Tree),
     /// The input or the cubes are refused: what is reported of them.
@@ -56,9 +56,10 @@ fn refused_cubes(
     }
 }
 
-/// Splits a formula that was read by the cubes of an iCNF text or by the split rule.
+/// Splits a formula that was read by the cubes of an iCNF text or by the split rule. A faulty input, and faulty cubes, are told here, before
+/// any link is needed. The error stands for the report `c no memory`, status 1.
 #[tactic(auto, using(crate::proofs::StartLemmas::spelled))]
-pub(crate) fn begin(
+pub fn begin(
     alloc: Global,
     found: Result<Formula, DimacsFault>,
     cubes: Option<&[u8]>,

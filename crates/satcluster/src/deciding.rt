@@ -6,7 +6,9 @@ use crate::accepting::accept_workers;
 use crate::files::{no_memory, read_cubes, read_formula, refused};
 use crate::proof_file::write_proof;
 use links::{Counted, Joined, Loopback};
-use node_main::{Options, Refusal, Report, run_serve_of, run_solve_of, run_work_of};
+use node_main::{
+    Options, Refusal, Report, Start, begin, run_serve_from, run_solve_of, run_work_of,
+};
 use std::io;
 use std::net::{Ipv4Addr, Net, SocketAddr, TcpListener};
 use std::rt::Runtime;
@@ -60,8 +62,8 @@ pub(crate) fn solve<R: Runtime + AllocGlobal + Net>(
     kept(rt, run.map_err(no_memory)?, files)
 }
 
-/// Decides a formula by workers that connect to a port. The listener is kept to the end, so that a worker who comes late waits
-/// for it, and is not refused.
+/// Decides a formula by workers that connect to a port. What is wrong with the input or the cubes is told once the port is open, and before
+/// anyone is linked. The listener is kept to the end, so that a worker who comes late waits for it, and is not refused.
 pub(crate) fn serve<R: Runtime + AllocGlobal + Net>(
     rt: &R,
     port: u16,
@@ -74,9 +76,14 @@ pub(crate) fn serve<R: Runtime + AllocGlobal + Net>(
     let cubes = read_cubes(rt, files.cubes)?;
     let at = SocketAddr::from((Ipv4Addr::LOCALHOST, port));
     let listener = TcpListener::bind(rt, at).map_err(not_linked)?;
+    let start = match begin(rt.alloc(), found, lent(&cubes), options) {
+        Ok(Start::Refused(report)) => return Ok(report),
+        Ok(start) => start,
+        Err(error) => return Err(no_memory(error)),
+    };
     let carrier = accept_workers::<R>(rt.alloc(), &listener, options.workers)?;
     let mut links = Counted::new(carrier);
-    let run = run_serve_of(rt.alloc(), found, lent(&cubes), options, &mut links);
+    let run = run_serve_from(rt.alloc(), start, options, &mut links);
     kept(rt, run.map_err(no_memory)?, files)
 }
 

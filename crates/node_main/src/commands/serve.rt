@@ -1,17 +1,16 @@
 //! `serve`: a formula is decided by a coordinator, whose workers are elsewhere.
 
-ghost use Rattle.std.specs.Prelude.{ℕ, List, ◌≤◌, ◌+◌, ◌*◌, IfOk, option_map};
-ghost use Rattle.dimacs.specs.text.Reading.{parse, GivesFormula};
+ghost use Rattle.std.specs.Prelude.{ℕ, List, ◌≤◌, ◌+◌, ◌*◌, Option, IfOk, option_map};
 ghost use Rattle.command_line.specs.Options.{AreOptions};
 ghost use Rattle.node_main.specs.Running.{WasRun};
 ghost use Rattle.node_main.specs.Solving.{Solves};
+ghost use Rattle.node_main.specs.Starting.{IsStart, Starts};
 ghost use Rattle.node_main.specs.Truth.{IsTrueReport};
 
 use crate::deciding::decided;
 use crate::plans::coordinator_plan;
 use crate::starting::{Start, begin};
 use command_line::Options;
-use dimacs::{DimacsFault, Formula};
 use links::Links;
 use lrat_check::accepted_proofs_are_sound;
 use reports::Report;
@@ -33,29 +32,31 @@ pub fn run_serve<L: Links>(
     ensures most { L.call_count links.new ≤ L.call_count links.old + 4039000000 * options.now.workers }
     ensures refusals { L.refusal_count links.new ≤ L.refusal_count links.old + options.now.workers }
 {
-    run_serve_of(alloc, dimacs::read(alloc, input), cubes, options, links)
+    match begin(alloc, dimacs::read(alloc, input), cubes, options) {
+        Ok(start) => run_serve_from(alloc, start, options, links),
+        Err(error) => Err(error),
+    }
 }
 
-/// The same of an input that was read, or has a fault, whichever way it came.
-pub fn run_serve_of<L: Links>(
+/// The same of what the run begins with, so that what is refused can be told before a worker is linked.
+pub fn run_serve_from<L: Links>(
     alloc: Global,
-    found: Result<Formula, DimacsFault>,
-    cubes: Option<&[u8]>,
+    start: Start,
     options: &Options,
     links: &mut L,
 ) -> Result<Report, AllocError>
-    requires { AreOptions options.now }
-    ensures report { (input : List ℕ) → GivesFormula found (parse input) → IfOk result (Solves input (option_map (λ t. t.now) cubes.entry) options.now) }
-    ensures truth { (input : List ℕ) → GivesFormula found (parse input) → IfOk result (IsTrueReport input) }
+    requires options { AreOptions options.now }
+    requires start { IsStart options.now start }
+    ensures report { (input : List ℕ) (cubes : Option (List ℕ)) → Starts input cubes options.now start → IfOk result (Solves input cubes options.now) }
+    ensures truth { (input : List ℕ) (cubes : Option (List ℕ)) → Starts input cubes options.now start → IfOk result (IsTrueReport input) }
     ensures used { IfOk result (WasRun (L.call_count links.old) (L.call_count links.new)) }
     ensures most { L.call_count links.new ≤ L.call_count links.old + 4039000000 * options.now.workers }
     ensures refusals { L.refusal_count links.new ≤ L.refusal_count links.old + options.now.workers }
 {
     accepted_proofs_are_sound();
-    let (formula, tree) = match begin(alloc, found, cubes, options) {
-        Ok(Start::With(formula, tree)) => (formula, tree),
-        Ok(Start::Refused(report)) => return Ok(report),
-        Err(error) => return Err(error),
+    let (formula, tree) = match start {
+        Start::With(formula, tree) => (formula, tree),
+        Start::Refused(report) => return Ok(report),
     };
     match runs::serve(alloc, formula, tree, &coordinator_plan(options), links) {
         Ok(verdict) => decided(alloc, verdict, options),

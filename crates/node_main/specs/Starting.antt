@@ -2,8 +2,7 @@
 use Rattle.std.specs.Prelude.{◌≡◌, ℕ, List, Option}
 use Rattle.dimacs.specs.text.Spelling.{Spells}
 use Rattle.node_main.specs.Solving.{Solves}
-use Rattle.node_main.specs.Splitting.{Splits}
-use Rattle.node_main.specs.inner.Splitting.{StaysInside}
+use Rattle.node_main.specs.Splitting.{Splits, StaysInside}
 use Rattle.command_line.specs.declared.options.Options.{Options}
 use Rattle.node_main.specs.declared.splitting.Split.TheVariants.{By}
 use Rattle.node_main.specs.declared.starting.Start.{Start}
