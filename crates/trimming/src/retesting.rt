@@ -1,0 +1,42 @@
+//! A packed text is checked once more.
+
+ghost use Rattle.std.specs.Prelude.{◌≡◌, IfOk, Ok, Err};
+ghost use Rattle.std.specs.Bool.{OnTrue};
+ghost use Rattle.lrat_text.specs.Proof.{Accepts};
+ghost use Rattle.lrat_check.specs.Checking.{GivesCheck, check_of};
+
+use crate::blocks::Blocks;
+use dimacs::Formula;
+use lrat_check::{CheckFault, StreamChecker, proof_fault_is_exact};
+use lrat_text::PackedText;
+use std::alloc::{AllocError, Global};
+
+/// Checks a packed text, block by block.
+fn check_packed(alloc: Global, formula: Formula, text: &PackedText) -> Result<(), CheckFault>
+    ensures { GivesCheck result (check_of formula text.now) }
+{
+    let mut stream = StreamChecker::of(alloc, formula)?;
+    let mut blocks = Blocks::of(alloc, text);
+    while let Some(block) = blocks.next()? {
+        if let Err(fault) = stream.feed(&block) {
+            return Err(fault);
+        }
+    }
+    stream.finish()
+}
+
+/// Whether a text is an accepted proof.
+pub(crate) fn is_accepted(
+    alloc: Global,
+    formula: Formula,
+    text: &PackedText,
+) -> Result<bool, AllocError>
+    ensures { IfOk result (λ is. OnTrue is (Accepts formula text.now)) }
+{
+    proof_fault_is_exact();
+    match check_packed(alloc, formula, text) {
+        Ok(()) => Ok(true),
+        Err(fault) if fault.is_no_memory() => Err(AllocError),
+        Err(_) => Ok(false),
+    }
+}
