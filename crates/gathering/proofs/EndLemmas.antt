@@ -31,12 +31,12 @@ use Rattle.gathering.proofs.OneTree.{gathered_once}
 ended_free : (path : Cube) (node : Node) → IsSubtree path node → AreFree path (ended node)
 ended_free path (Single cube None) h = tt
 ended_free path (Single cube (Some l)) h = tt
-ended_free path (Fork' branch closed p left q right) (free, marked, a, c) = (free, ended_free (path ++ branch ∷ []) left a, ended_free (path ++ negation branch ∷ []) right c)
+ended_free path (Fork' branch middle closed p left q right) (free, marked, a, c) = (free, ended_free (path ++ branch ∷ []) left a, ended_free (path ++ negation branch ∷ []) right c)
 
 ended_leaves : (path : Cube) (node : Node) → IsSubtree path node → list_all is_closed (leaves_in node) ≡ true → ends path (ended node) ≡ leaves_in node
 ended_leaves path (Single cube None) h e = absurd (true≢false (sym e))
 ended_leaves path (Single cube (Some l)) h e = ap (λ (q : Cube). record { cube = q; closing = Some (lemma_of l) } ∷ []) (sym h)
-ended_leaves path (Fork' branch closed p left q right) (free, marked, a, c) e =
+ended_leaves path (Fork' branch middle closed p left q right) (free, marked, a, c) e =
     let two = both (list_all is_closed (leaves_in left)) (list_all is_closed (leaves_in right)) (sym (list_all-append is_closed (leaves_in left) (leaves_in right)) ∙ e) in
     ap (λ (ks : List Leaf). ks ++ ends (path ++ negation branch ∷ []) (ended right)) (ended_leaves (path ++ branch ∷ []) left a two.0)
     ∙ ap (λ (ks : List Leaf). leaves_in left ++ ks) (ended_leaves (path ++ negation branch ∷ []) right c two.1)

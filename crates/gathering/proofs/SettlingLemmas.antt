@@ -22,10 +22,11 @@ use Rattle.proof_join.proofs.MapLemmas.{between_formula}
 use Rattle.gathering.specs.Closing.{Numbered, Leaf, can_close, settled, all_settled, spent}
 use Rattle.gathering.specs.Gathering.{Handed, Gathering, gathered, nothing, with_log, deletions, deleted, left_by, lemmas_of, live_from, with_live}
 use Rattle.gathering.specs.Written.{Stands, Between, IsUnderWay, WithinLog, Ending, NoneLive, lemmas_below, leaves_of, steps_within}
-use Rattle.gathering.specs.Trees.{IsSubtree, AreCovered, leaves_in}
+use Rattle.gathering.specs.Trees.{IsSubtree, AreCovered, leaves_in, whole}
 use Rattle.gathering.specs.inner.Trees.{HasSettled}
 use Rattle.gathering.specs.inner.Gatherers.{Closes, Spends}
 use Rattle.gathering.specs.declared.gatherer.Gatherer.{Gatherer}
+use Rattle.gathering.specs.declared.spans.Span.{Span}
 use Rattle.gathering.specs.declared.tree.Node.{Node}
 use Rattle.gathering.proofs.SmallLemmas.{live_added}
 use Rattle.gathering.proofs.PlacedLemmas.{IsSound, gathered_sound, sound_low, within_top, log_top, log_between}
@@ -136,7 +137,7 @@ module _ (F : Cnf) (cubes : List Cube) (logs : List Handed) (log : List Step) (s
             base = c.base ∙ way.stands.base;
             top = c.top ∙ way.stands.top;
             tree = h.tree;
-            covered = subst (λ (ms : List Bool). AreCovered ms new.tree) (sym c.marks) (h.covers old.marks.items way.stands.covered);
+            covered = subst (λ (ss : List Span). AreCovered ss whole new.tree) (sym c.spans) (h.covers old.spans.items whole way.stands.covered);
             leaves = h.leaves ∙ ap (settled l) way.stands.leaves;
             text = way.stands.text;
           };
@@ -155,7 +156,7 @@ module _ (F : Cnf) (cubes : List Cube) (logs : List Handed) (log : List Step) (s
       base = s.base ∙ way.stands.base;
       top = s.top ∙ way.stands.top;
       tree = subst (IsSubtree []) (sym s.tree) way.stands.tree;
-      covered = subst (λ (n : Node). AreCovered new.marks.items n) (sym s.tree) (subst (λ (ms : List Bool). AreCovered ms old.tree) (sym s.marks) way.stands.covered);
+      covered = subst (λ (n : Node). AreCovered new.spans.items whole n) (sym s.tree) (subst (λ (ss : List Span). AreCovered ss whole old.tree) (sym s.spans) way.stands.covered);
       leaves = ap (λ (n : Node). leaves_in n) s.tree ∙ way.stands.leaves;
       text = way.stands.text;
     };
@@ -254,9 +255,9 @@ begins_to_end F cubes logs log accepted g written way = record {
 
 pub log_ended : (F : Cnf) (cubes : List Cube) (logs : List Handed) (h : Handed) (n : ℕ) (written : List ℕ) (old new : Gatherer) (more : List ℕ)
     → Ending F cubes logs h n old written → ((k : ℕ) → n ≤ k → get (after_steps (map_of F) h.steps) k ≡ None)
-    → new.base ≡ old.base → new.top ≡ old.top → new.tree ≡ old.tree → new.marks.items ≡ old.marks.items → new.spent.items ≡ [] → more ≡ text_of (max 1 old.top) (deletions old.spent.items)
+    → new.base ≡ old.base → new.top ≡ old.top → new.tree ≡ old.tree → new.spans.items ≡ old.spans.items → new.spent.items ≡ [] → more ≡ text_of (max 1 old.top) (deletions old.spent.items)
     → Between F cubes (logs ++ h ∷ []) new (written ++ more)
-log_ended F cubes logs h n written old new more e none base top tree marks spent_none more_is =
+log_ended F cubes logs h n written old new more e none base top tree spans spent_none more_is =
     let m : ℕ = length F.clauses in
     let g : Gathering = gathered F cubes logs in
     let sound : IsSound F g = gathered_sound F cubes logs e.way.are in
@@ -265,16 +266,16 @@ log_ended F cubes logs h n written old new more e none base top tree marks spent
     lemmas_all (behind m g.top) (after_steps (map_of F) h.steps) (m + 1) n (additions h.steps) (let l = e.low in omega arith) none beyond in
     let ids : List ℕ = deleted h.accepted g.leaves (lemmas_of F g.top h.steps) in
     let ids_are : old.spent.items ≡ ids = e.way.spent_are ∙ ap (deleted h.accepted g.leaves) all in
-    let whole : gathered F cubes (logs ++ h ∷ []) ≡ with_log F g h = fold-append (with_log F) (nothing F cubes) logs (h ∷ []) in
+    let one_more : gathered F cubes (logs ++ h ∷ []) ≡ with_log F g h = fold-append (with_log F) (nothing F cubes) logs (h ∷ []) in
     let steps_top : top_of m (steps_within F cubes logs h.steps) ≡ old.top = within_top F g sound h e.way.is_log ∙ sym e.way.stands.top in
     record {
       are = All-append (λ (x : Handed). IsLog F x.steps) logs (h ∷ []) e.way.are (All-cons (λ (x : Handed). IsLog F x.steps) h [] e.way.is_log (All-nil (λ (x : Handed). IsLog F x.steps)));
       limits = All-append (λ (x : Handed). All IsStep x.steps) logs (h ∷ []) e.way.before (All-cons (λ (x : Handed). All IsStep x.steps) h [] e.way.limits (All-nil (λ (x : Handed). All IsStep x.steps)));
-      stands = subst (λ (z : Gathering). Stands F cubes new z.steps z.top z.leaves (written ++ more)) (sym whole) (record {
+      stands = subst (λ (z : Gathering). Stands F cubes new z.steps z.top z.leaves (written ++ more)) (sym one_more) (record {
         base = base ∙ e.way.stands.base;
         top = top ∙ e.way.stands.top;
         tree = subst (IsSubtree []) (sym tree) e.way.stands.tree;
-        covered = subst (λ (x : Node). AreCovered new.marks.items x) (sym tree) (subst (λ (ms : List Bool). AreCovered ms old.tree) (sym marks) e.way.stands.covered);
+        covered = subst (λ (x : Node). AreCovered new.spans.items whole x) (sym tree) (subst (λ (ss : List Span). AreCovered ss whole old.tree) (sym spans) e.way.stands.covered);
         leaves = ap (λ (x : Node). leaves_in x) tree ∙ e.way.stands.leaves ∙ ap (left_by h.accepted g.leaves) all;
         text = λ some.
             let low : m ≤ g.top = sound_low F g sound in

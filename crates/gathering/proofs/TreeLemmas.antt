@@ -14,9 +14,11 @@ use Rattle.icnf.specs.Leaves.{Cube, IsFree, Leaves}
 use Rattle.icnf.specs.Leaves as icnf
 use Rattle.proof_join.proofs.NodeLemmas.{no_pair_longer}
 use Rattle.gathering.specs.Closing.{closes, Numbered, Leaf, is_closed, can_close, closed_by, settled, open_from, with_open}
+use Rattle.gathering.specs.declared.lemma.Candidate.{Candidate}
+use Rattle.gathering.specs.declared.spans.Span.{Span}
 use Rattle.gathering.specs.declared.tree.Node.{Node, Leaf as Single, Fork'}
-use Rattle.gathering.specs.Trees.{leaf_in, leaves_in, IsSubtree, AreCovered}
-use Rattle.gathering.specs.inner.Trees.{HasSettled, IsPart, IsMadeOf, open_leaf}
+use Rattle.gathering.specs.Trees.{leaf_in, leaves_in, IsSubtree, AreCovered, IsWindow}
+use Rattle.gathering.specs.inner.Trees.{candidate_of, HasSettled, IsPart, IsMadeOf, TakesBranch, open_leaf}
 use Rattle.gathering.proofs.SettleLemmas.{both, closes_negates}
 
 -- ---- a lemma that closes nothing changes nothing
@@ -43,8 +45,8 @@ closed_none l (k ∷ leaves) e =
     at None f = absurd (true≢false (sym f))
     at (Some x) f = refl
 
-unchanged : (l : Numbered) (path : Cube) (node : Node) → IsSubtree path node → list_any (can_close l) (leaves_in node) ≡ false → HasSettled l path node node false
-unchanged l path node h e = record { tree = h; leaves = sym (settled_none l (leaves_in node) e); told = sym e; covers = λ marks c. c }
+pub unchanged : (l : Numbered) (path : Cube) (node : Node) → IsSubtree path node → list_any (can_close l) (leaves_in node) ≡ false → HasSettled l path node node false
+unchanged l path node h e = record { tree = h; leaves = sym (settled_none l (leaves_in node) e); told = sym e; covers = λ spans at c. c }
 
 -- a subtree whose leaves are all closed
 pub closed_unchanged : (l : Numbered) (path : Cube) (node : Node) → IsSubtree path node → list_all is_closed (leaves_in node) ≡ true → HasSettled l path node node false
@@ -67,7 +69,7 @@ none_below l x inside path (Single cube closing) h none here =
     nothing : (b : Bool) → ((b && false) || false) ≡ false
     nothing true = refl
     nothing false = refl
-none_below l x inside path (Fork' branch closed p left q right) (free, marked, a, c) none here =
+none_below l x inside path (Fork' branch middle closed p left q right) (free, marked, a, c) none here =
     list_any-append (can_close l) (leaves_in left) (leaves_in right)
     ∙ ap (λ b. b || list_any (can_close l) (leaves_in right)) (none_below l x inside (path ++ branch ∷ []) left a (no_pair_longer path branch free none) (Contains-append_left path (branch ∷ []) x here))
     ∙ none_below l x inside (path ++ negation branch ∷ []) right c (no_pair_longer path (negation branch) (other_free path branch free) none) (Contains-append_left path (negation branch ∷ []) x here)
@@ -240,22 +242,19 @@ pub record BecomesFork (l : Numbered) (path : Cube) (x : Literal) (left right le
   pub second : IsSubtree (path ++ negation x ∷ []) right'
   pub leaves : leaves_in left' ++ leaves_in right' ≡ settled l (leaves_in left ++ leaves_in right)
   pub told : some ≡ list_any (can_close l) (leaves_in left ++ leaves_in right)
-  pub first_covers : (marks : List Bool) → AreCovered marks left → AreCovered marks left'
-  pub second_covers : (marks : List Bool) → AreCovered marks right → AreCovered marks right'
+  pub first_covers : (spans : List Span) (at : Span) → AreCovered spans at left → AreCovered spans at left'
+  pub second_covers : (spans : List Span) (at : Span) → AreCovered spans at right → AreCovered spans at right'
 
--- what a branch behind a literal becomes
-abbrev pub TakesBranch : Numbered → Literal → Node → Node → Bool → Type 0
-TakesBranch l x old new b = (path : Cube) → IsSubtree path old → ¬ (IsTautology path) → Contains path x → HasSettled l path old new b
-
-pub becomes_fork : (l : Numbered) (path : Cube) (x y : Literal) (left right a b left' right' : Node) (closed one two some : Bool)
+pub becomes_fork : (l : Candidate) (path : Cube) (spans : List Span) (x y : Literal) (left right a b left' right' : Node) (one_at two_at : Span) (closed one two some : Bool)
     → IsFree path (var_of x) → ¬ (IsTautology path) → IsSubtree (path ++ x ∷ []) left → IsSubtree (path ++ negation x ∷ []) right
-    → a ≡ left → b ≡ right → y ≡ negation x → TakesBranch l x a left' one → TakesBranch l y b right' two
+    → AreCovered spans one_at left → AreCovered spans two_at right → IsWindow spans l.clause.now l.window
+    → a ≡ left → b ≡ right → y ≡ negation x → TakesBranch l one_at x a left' one → TakesBranch l two_at y b right' two
     → ((p q : Cube) → IsSubtree p left' → IsSubtree q right' → closed ≡ list_all is_closed (leaves_in left' ++ leaves_in right')) → some ≡ (one || two)
-    → BecomesFork l path x left right left' right' closed some
-becomes_fork l path x y left right a b left' right' closed one two some free none h g ea eb ey first second marks told =
-    let first' : TakesBranch l x left left' one = subst (λ (n : Node). TakesBranch l x n left' one) ea first in
-    let second' : TakesBranch l (negation x) right right' two = subst (λ (z : Literal). TakesBranch l z right right' two) ey (subst (λ (n : Node). TakesBranch l y n right' two) eb second) in
-    let p : HasSettled l (path ++ x ∷ []) left left' one = first' (path ++ x ∷ []) h (no_pair_longer path x free none) (left_path path x) in
-    let q : HasSettled l (path ++ negation x ∷ []) right right' two = second' (path ++ negation x ∷ []) g (no_pair_longer path (negation x) (other_free path x free) none) (left_path path (negation x)) in
-    let z = fork_settled l (path ++ x ∷ []) left right left' right' one two some p (path ++ negation x ∷ []) q told in
+    → BecomesFork (candidate_of l) path x left right left' right' closed some
+becomes_fork l path spans x y left right a b left' right' one_at two_at closed one two some free none h g ch cg window ea eb ey first second marks told =
+    let first' : TakesBranch l one_at x left left' one = subst (λ (n : Node). TakesBranch l one_at x n left' one) ea first in
+    let second' : TakesBranch l two_at (negation x) right right' two = subst (λ (z : Literal). TakesBranch l two_at z right right' two) ey (subst (λ (n : Node). TakesBranch l two_at y n right' two) eb second) in
+    let p : HasSettled (candidate_of l) (path ++ x ∷ []) left left' one = first' (path ++ x ∷ []) spans h (no_pair_longer path x free none) (left_path path x) ch window in
+    let q : HasSettled (candidate_of l) (path ++ negation x ∷ []) right right' two = second' (path ++ negation x ∷ []) spans g (no_pair_longer path (negation x) (other_free path x free) none) (left_path path (negation x)) cg window in
+    let z = fork_settled (candidate_of l) (path ++ x ∷ []) left right left' right' one two some p (path ++ negation x ∷ []) q told in
     record { marked = marks (path ++ x ∷ []) (path ++ negation x ∷ []) p.tree q.tree; first = p.tree; second = q.tree; leaves = z.0; told = z.1; first_covers = p.covers; second_covers = q.covers }

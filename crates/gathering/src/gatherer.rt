@@ -3,6 +3,7 @@
 ghost use Rattle.std.specs.Prelude.{◌≡◌, ◌^◌, ◌<◌, ◌≤◌, All, length};
 ghost use Rattle.lrat_text.specs.Grammar.{IsClauseNumber};
 
+use crate::spans::Span;
 use crate::tree::Node;
 use std::alloc::Global;
 
@@ -19,13 +20,13 @@ pub struct Gatherer {
     pub(crate) begun: u64,
     pub(crate) top: u64,
     pub(crate) tree: Node,
-    /// The variables of the tree's forks.
-    pub(crate) marks: Vec<bool>,
+    /// Where the variables of the tree stand.
+    pub(crate) spans: Vec<Span>,
     /// The numbers that are deleted behind this log.
     pub(crate) spent: Vec<u64>,
     /// The numbers of a line.
     pub(crate) numbers: Vec<u64>,
     ghost limit: { top < 2 ^ 48 },
-    ghost few: { length marks.items ≡ 2000001 },
+    ghost few: { length spans.items ≡ 2000001 },
     ghost deletable: { All IsClauseNumber spent.items },
 }

@@ -18,7 +18,7 @@ ghost use Rattle.gathering.specs.inner.Gatherers.{Closes, Spends};
 use crate::fault::GatherFault;
 use crate::gatherer::Gatherer;
 use crate::lemma::Candidate;
-use crate::marks::are_marked;
+use crate::spans::{whole, window_of};
 use crate::tree::close_below;
 use dimacs::Lit;
 use lrat_text::{StepRef, put_ref};
@@ -49,10 +49,15 @@ impl Gatherer {
         requires { IsClauseNumber id }
         ensures { IfOk result (λ b. Closes self.old self.new (record { id = id; clause = lits.now }) b) }
     {
-        if !are_marked(&self.marks, lits) {
+        let Some(window) = window_of(&self.spans, lits) else {
             return Ok(false);
-        }
-        close_below(self.alloc, &mut self.tree, Candidate { id, clause: lits })
+        };
+        let lemma = Candidate {
+            id,
+            clause: lits,
+            window,
+        };
+        close_below(self.alloc, &mut self.tree, whole(), lemma)
     }
 
     /// A number is deleted behind this log.

@@ -2,19 +2,19 @@
 
 ghost use Rattle.std.specs.Prelude.{◌≡◌, ℕ, ◌+◌, ◌^◌, ◌<◌, ◌≤◌, Bool, ◌||◌, false, List, [], ◌∷◌, ◌++◌, All, Contains, IfOk, OnOk, length};
 ghost use Rattle.std.specs.List.{list_any, list_all};
-ghost use Rattle.dimacs.specs.logic.Literal.{IsTautology};
 ghost use Rattle.icnf.specs.Leaves.{Cube};
 ghost use Rattle.gathering.specs.Closing.{closes, is_closed, can_close, open_from, settled};
 ghost use Rattle.gathering.specs.Trees.{leaf_in, leaves_in, IsSubtree};
-ghost use Rattle.gathering.specs.inner.Trees.{candidate_of, HasSettled, IsMadeOf, IsPart, Settles};
+ghost use Rattle.gathering.specs.inner.Trees.{candidate_of, IsMadeOf, IsPart, Settles, TakesBranch};
 
 use crate::lemma::{Candidate, Lemma};
+use crate::spans::Span;
 use dimacs::{Lit, has_literal};
 use icnf::Tree;
 use std::alloc::{AllocError, Global};
 
 /// A subtree: a leaf with the lemma that closes it, if there is one, or a fork with its branches, the one behind its literal
-/// first, and whether all leaves below it are closed.
+/// first, the place of the other's first leaf, and whether all leaves below it are closed.
 #[derive(Drop)]
 pub(crate) enum Node {
     Leaf {
@@ -23,6 +23,7 @@ pub(crate) enum Node {
     },
     Fork {
         branch: Lit,
+        middle: u32,
         closed: bool,
         left: Box<Node>,
         right: Box<Node>,
@@ -51,9 +52,11 @@ pub(crate) fn grow(
         });
     }
     let left = grow(alloc, tree, next, depth + 1)?;
+    let middle = *next as u32;
     let right = grow(alloc, tree, next, depth + 1)?;
     Ok(Node::Fork {
         branch: cube[depth],
+        middle,
         closed: false,
         left: Box::new(alloc, left)?,
         right: Box::new(alloc, right)?,
@@ -115,35 +118,42 @@ fn close_leaf(
     Ok(true)
 }
 
-/// Does what [`close_below`] does for a branch behind a literal: a lemma that has it closes none of its leaves.
+/// Does what [`close_below`] does for a branch behind a literal: a lemma that has it closes none of its leaves, nor does one whose
+/// window they are not in.
 #[cycle(close)]
 fn close_branch(
     alloc: Global,
     node: &mut Node,
     taken: Lit,
+    at: Span,
     lemma: Candidate<'_>,
 ) -> Result<bool, AllocError>
-    ensures { IfOk result (λ b. (path : Cube) → IsSubtree path node.old → ¬ (IsTautology path) → Contains path taken → HasSettled (candidate_of lemma.entry) path node.old node.new b) }
+    ensures { IfOk result (TakesBranch lemma.entry at taken node.old node.new) }
 {
+    if lemma.window.misses(at) {
+        return Ok(false);
+    }
     if has_literal(lemma.clause, taken) {
         return Ok(false);
     }
-    close_below(alloc, node, lemma)
+    close_below(alloc, node, at, lemma)
 }
 
-/// Closes each open leaf of a subtree that a lemma closes, and tells whether there was one.
+/// Closes each open leaf of a subtree, which stands in a span, that a lemma closes, and tells whether there was one.
 #[cycle(close)]
 pub(crate) fn close_below(
     alloc: Global,
     node: &mut Node,
+    at: Span,
     lemma: Candidate<'_>,
 ) -> Result<bool, AllocError>
-    ensures { IfOk result (λ b. Settles (candidate_of lemma.entry) node.old node.new b) }
+    ensures { IfOk result (Settles lemma.entry at node.old node.new) }
 {
     match node {
         Node::Leaf { cube, closing } => close_leaf(alloc, cube, closing, lemma),
         Node::Fork {
             branch,
+            middle,
             closed,
             left,
             right,
@@ -151,8 +161,8 @@ pub(crate) fn close_below(
             if *closed {
                 return Ok(false);
             }
-            let first = close_branch(alloc, left, *branch, lemma)?;
-            let second = close_branch(alloc, right, branch.negate(), lemma)?;
+            let first = close_branch(alloc, left, *branch, at.left(*middle), lemma)?;
+            let second = close_branch(alloc, right, branch.negate(), at.right(*middle), lemma)?;
             *closed = are_closed_below(left, right);
             Ok(either(first, second))
         }

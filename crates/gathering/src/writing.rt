@@ -17,8 +17,8 @@ ghost use Rattle.gathering.specs.Written.{Appends, Between, HasNoGroups, WithinL
 
 use crate::fault::GatherFault;
 use crate::gatherer::Gatherer;
-use crate::marks::marks_of;
 use crate::numbers::Shift;
+use crate::spans::spans_of;
 use crate::tree::grow;
 use icnf::Tree;
 use lrat_text::{StepRef, put_ref};
@@ -33,14 +33,14 @@ impl Gatherer {
         let _ = tree.leaves();
         let mut next = 0;
         let node = grow(alloc, tree, &mut next, 0)?;
-        let marks = marks_of(alloc, &node)?;
+        let spans = spans_of(alloc, &node)?;
         Ok(Gatherer {
             alloc,
             base: clauses,
             begun: clauses,
             top: clauses,
             tree: node,
-            marks,
+            spans,
             spent: Vec::new(alloc),
             numbers: Vec::new(alloc),
         })

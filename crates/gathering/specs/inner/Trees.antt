@@ -1,13 +1,14 @@
 -- A splitting tree in memory, from one call to the next.
-use Rattle.std.specs.Prelude.{◌≡◌, ℕ, Bool, Option, Some, None, List, [], ◌++◌, length, map, drop}
+use Rattle.std.specs.Prelude.{◌≡◌, ℕ, Bool, Option, Some, None, List, [], ◌++◌, length, map, drop, Contains}
 use Rattle.std.specs.List.{list_any}
-use Rattle.dimacs.specs.logic.Literal.{IsTautology}
+use Rattle.dimacs.specs.logic.Literal.{Literal, IsTautology}
 use Rattle.icnf.specs.Leaves.{Cube, Leaves}
 use Rattle.gathering.specs.Closing.{Numbered, Leaf, can_close, settled}
 use Rattle.gathering.specs.Gathering.{Ended, leaf, fork}
-use Rattle.gathering.specs.Trees.{leaves_in, IsSubtree, AreCovered}
+use Rattle.gathering.specs.Trees.{leaves_in, IsSubtree, AreCovered, IsWindow}
 use Rattle.gathering.specs.declared.lemma.Lemma.{Lemma}
 use Rattle.gathering.specs.declared.lemma.Candidate.{Candidate}
+use Rattle.gathering.specs.declared.spans.Span.{Span}
 use Rattle.gathering.specs.declared.tree.Node.{Node, Leaf as Single, Fork'}
 
 -- what a lemma that is lent is
@@ -19,10 +20,19 @@ pub record HasSettled (l : Numbered) (path : Cube) (old new : Node) (some : Bool
   pub tree : IsSubtree path new
   pub leaves : leaves_in new ≡ settled l (leaves_in old)
   pub told : some ≡ list_any (can_close l) (leaves_in old)
-  pub covers : (marks : List Bool) → AreCovered marks old → AreCovered marks new
+  pub covers : (spans : List Span) (at : Span) → AreCovered spans at old → AreCovered spans at new
 
-abbrev pub Settles : Numbered → Node → Node → Bool → Type 0
-Settles l old new some = (path : Cube) → IsSubtree path old → ¬ (IsTautology path) → HasSettled l path old new some
+-- what a lemma, which closes leaves in its window alone, makes of a subtree whose leaves stand in a span
+abbrev pub Settles : Candidate → Span → Node → Node → Bool → Type 0
+Settles l at old new some =
+    (path : Cube) (spans : List Span) → IsSubtree path old → ¬ (IsTautology path) → AreCovered spans at old → IsWindow spans l.clause.now l.window
+    → HasSettled (candidate_of l) path old new some
+
+-- what it makes of one that stands behind a literal
+abbrev pub TakesBranch : Candidate → Span → Literal → Node → Node → Bool → Type 0
+TakesBranch l at x old new b =
+    (path : Cube) (spans : List Span) → IsSubtree path old → ¬ (IsTautology path) → Contains path x → AreCovered spans at old → IsWindow spans l.clause.now l.window
+    → HasSettled (candidate_of l) path old new b
 
 -- from a place on, cubes begin with those of the leaves below a path of this length
 pub record IsPart (cubes : List Cube) (next depth : ℕ) : Type 0 where
@@ -49,4 +59,4 @@ ended_leaf (Some l) = leaf l.id l.clause.items
 
 abbrev pub ended : Node → Ended
 ended (Single cube closing) = ended_leaf closing
-ended (Fork' branch closed p left q right) = fork branch (ended left) (ended right)
+ended (Fork' branch middle closed p left q right) = fork branch (ended left) (ended right)

@@ -81,3 +81,13 @@ returns-clause-next t c = λ h.
     let h1 = first_part c.args.tree.now c.args.next.now c.args.depth h c.cube-cube.result.now f in
     let h2 = second_part c.args.tree.now c.args.next.now c.args.depth h c.cube-cube.result.now f c.grow.new.next (c.in_ok-left.ensures.next h1) in
     both_length c.args.tree.now c.args.next.now c.args.depth h c.cube-cube.result.now f c.grow.new.next c.grow-2.new.next (c.in_ok-left.ensures.next h1) (c.in_ok-right.ensures.next h2)
+
+pub overflow_cast-middle : goal.overflow_cast-middle
+overflow_cast-middle t c =
+    let f = at_fork c.args.tree.now c.args.next.now c.args.depth c.requires.part c.cube-cube.result.now (sym c.cube-cube.ensures.cube) c.if-cube-depth.false in
+    let h1 = first_part c.args.tree.now c.args.next.now c.args.depth c.requires.part c.cube-cube.result.now f in
+    let h2 = second_part c.args.tree.now c.args.next.now c.args.depth c.requires.part c.cube-cube.result.now f c.grow.new.next (c.in_ok-left.ensures.next h1) in
+    let a = part_inside c.args.tree.now c.grow.new.next (c.args.depth + 1) h2 in
+    let v = c.leaves.ensures.value in
+    let l = c.leaves.ensures.limit in
+    omega arith
