@@ -28,13 +28,6 @@ fn three(first: u32) -> [Lit; 3]
     ]
 }
 
-/// No literal.
-fn nothing() -> [Lit; 0]
-    ensures { IsDistinct same result }
-{
-    []
-}
-
 /// Adds a clause under a number that must be free.
 fn add(rt: &impl Abort, arena: &mut Arena, number: u64, literals: &[Lit]) -> Result<Ref, AllocError>
     requires { IsDistinct same literals.now }
@@ -71,22 +64,6 @@ fn remove(rt: &impl Abort, arena: &mut Arena, number: u64) {
 }
 
 #[test]
-fn a_clause_is_found_and_lent(rt: HostRuntime) -> Result<(), Fail> {
-    let mut arena = Arena::new(rt.alloc());
-    assert_eq!(rt; arena.find(1), None);
-    let first = add(&rt, &mut arena, 1, &three(1))?;
-    let second = add(&rt, &mut arena, 2, &three(7))?;
-    assert_eq!(rt; first.number(), 1);
-    assert_eq!(rt; arena.find(1), Some(first));
-    assert_eq!(rt; arena.find(2), Some(second));
-    assert_eq!(rt; arena.find(0), None);
-    assert_eq!(rt; arena.find(3), None);
-    expect_three(&rt, &arena, 1, 1);
-    expect_three(&rt, &arena, 2, 7);
-    Ok(())
-}
-
-#[test]
 fn a_great_number_is_a_number(rt: HostRuntime) -> Result<(), Fail> {
     let mut arena = Arena::new(rt.alloc());
     add(&rt, &mut arena, FAR, &three(5))?;
@@ -102,23 +79,6 @@ fn a_great_number_is_a_number(rt: HostRuntime) -> Result<(), Fail> {
     remove(&rt, &mut arena, FAR);
     assert_eq!(rt; arena.find(FAR), None);
     expect_three(&rt, &arena, u64::MAX, 9);
-    Ok(())
-}
-
-#[test]
-fn a_clause_may_have_no_literal(rt: HostRuntime) -> Result<(), Fail> {
-    let mut arena = Arena::new(rt.alloc());
-    add(&rt, &mut arena, 1, &three(1))?;
-    add(&rt, &mut arena, 2, &nothing())?;
-    add(&rt, &mut arena, 3, &nothing())?;
-    add(&rt, &mut arena, 4, &three(4))?;
-    let at = find(&rt, &arena, 2);
-    assert_eq!(rt; arena.clause(at).len(), 0);
-    arena.remove(at);
-    assert_eq!(rt; arena.find(2), None);
-    let at = find(&rt, &arena, 3);
-    assert_eq!(rt; arena.clause(at).len(), 0);
-    expect_three(&rt, &arena, 4, 4);
     Ok(())
 }
 
@@ -146,20 +106,6 @@ fn two_literals_change_places(rt: HostRuntime) -> Result<(), Fail> {
 }
 
 #[test]
-fn a_number_is_free_again_once_its_clause_is_out(rt: HostRuntime) -> Result<(), Fail> {
-    let mut arena = Arena::new(rt.alloc());
-    add(&rt, &mut arena, 1, &three(1))?;
-    add(&rt, &mut arena, 2, &three(2))?;
-    remove(&rt, &mut arena, 1);
-    assert_eq!(rt; arena.find(1), None);
-    expect_three(&rt, &arena, 2, 2);
-    add(&rt, &mut arena, 1, &three(8))?;
-    expect_three(&rt, &arena, 1, 8);
-    expect_three(&rt, &arena, 2, 2);
-    Ok(())
-}
-
-#[test]
 fn closing_gaps_tells_each_clause_that_moved(rt: HostRuntime) -> Result<(), Fail> {
     let mut arena = Arena::new(rt.alloc());
     add(&rt, &mut arena, FAR, &three(50))?;
@@ -183,30 +129,6 @@ fn closing_gaps_tells_each_clause_that_moved(rt: HostRuntime) -> Result<(), Fail
     }
     expect_three(&rt, &arena, FAR, 50);
     assert_eq!(rt; arena.find(2), None);
-    Ok(())
-}
-
-#[test]
-fn where_there_is_no_gap_nothing_is_told(rt: HostRuntime) -> Result<(), Fail> {
-    let mut arena = Arena::new(rt.alloc());
-    let mut moved = Vec::new(rt.alloc());
-    arena.compact(&mut moved)?;
-    assert_eq!(rt; moved.len(), 0);
-    add(&rt, &mut arena, 1, &three(1))?;
-    add(&rt, &mut arena, 2, &nothing())?;
-    add(&rt, &mut arena, 3, &three(3))?;
-    arena.compact(&mut moved)?;
-    assert_eq!(rt; moved.len(), 0);
-    remove(&rt, &mut arena, 1);
-    arena.compact(&mut moved)?;
-    assert_eq!(rt; moved.len(), 2);
-    arena.compact(&mut moved)?;
-    assert_eq!(rt; moved.len(), 2);
-    add(&rt, &mut arena, 4, &three(4))?;
-    arena.compact(&mut moved)?;
-    assert_eq!(rt; moved.len(), 2);
-    expect_three(&rt, &arena, 3, 3);
-    expect_three(&rt, &arena, 4, 4);
     Ok(())
 }
 

@@ -74,20 +74,6 @@ fn in_memory(rt: HostRuntime) -> Result<(), Fail> {
 }
 
 #[test]
-fn bytes_come_as_they_were_sent(rt: HostRuntime) -> Result<(), Fail> {
-    let mut room = [0u8; 3];
-    let mut links = Counted::new(Memory::new(rt.alloc(), 1)?);
-    assert_eq!(rt; heard(&mut links, b"abcd", &mut room), Ok(3));
-    assert_eq!(rt; room, *b"abc");
-    assert_eq!(rt; links.receive(End::Worker(1), &mut room), Ok(1));
-    assert_eq!(rt; room[0], b'd');
-    assert_eq!(rt; links.receive(End::Worker(1), &mut room), Ok(0));
-    // Nothing came back to the sender.
-    assert_eq!(rt; links.receive(End::Coordinator(1), &mut room), Ok(0));
-    Ok(())
-}
-
-#[test]
 fn over_sockets(rt: HostRuntime) -> Result<(), Fail> {
     let mut room = [0u8; 3];
     let mut links = Counted::new(Loopback::open(&rt, rt.alloc(), 64)?);

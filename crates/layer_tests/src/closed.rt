@@ -26,10 +26,6 @@ fn poll(node: usize, worker: u32) -> ClosedEvent {
     ClosedEvent::Poll { node, worker }
 }
 
-fn restart(node: usize, number: u64) -> ClosedEvent {
-    ClosedEvent::Restart { node, number }
-}
-
 fn holds_nothing(cluster: &ClosedCluster, node: usize) -> bool {
     matches!(cluster.verdict(node), Some(Verdict::Nothing))
 }
@@ -74,59 +70,6 @@ fn a_small_run_comes_to_an_assignment(rt: HostRuntime) -> Result<(), Fail> {
     assert!(rt; matches!(&frames[1], Frame::Done { .. }));
     assert!(rt; matches!(&frames[2], Frame::Fetch { offset: 0, .. }));
     assert!(rt; matches!(&frames[3], Frame::Piece { offset: 0, .. }));
-    Ok(())
-}
-
-#[test]
-fn a_number_serves_once(rt: HostRuntime) -> Result<(), Fail> {
-    let mut cluster = small_cluster(rt.alloc())?;
-    // The coordinator is under 1 and the worker under 2.
-    for number in 1..3 {
-        for node in 0..2 {
-            assert_eq!(rt; cluster.step(&restart(node, number)), Reaction::Ignored);
-        }
-    }
-    assert_eq!(rt; cluster.step(&restart(1, 3)), Reaction::Taken);
-    assert_eq!(rt; cluster.step(&restart(1, 3)), Reaction::Ignored);
-    assert_eq!(rt; cluster.step(&restart(0, 3)), Reaction::Ignored);
-    assert_eq!(rt; cluster.step(&restart(0, 9)), Reaction::Taken);
-    assert_eq!(rt; cluster.step(&poll(0, 1)), Reaction::Taken);
-    assert_eq!(rt; cluster.step(&poll(1, 0)), Reaction::Taken);
-    let frames = cluster.frames();
-    assert_eq!(rt; frames.len(), 2);
-    assert!(rt;
-        matches!(
-            &frames[0],
-            Frame::Task {
-                session: 9,
-                job: 1,
-                ..
-            }
-        )
-    );
-    assert!(rt; matches!(&frames[1], Frame::Idle { incarnation: 3, .. }));
-    Ok(())
-}
-
-#[test]
-fn what_names_nothing_is_ignored(rt: HostRuntime) -> Result<(), Fail> {
-    let mut cluster = small_cluster(rt.alloc())?;
-    assert_eq!(rt; cluster.step(&poll(0, 1)), Reaction::Taken);
-    let events = [
-        deliver(2, 0),
-        deliver(1, 1),
-        ClosedEvent::Work { node: 0 },
-        ClosedEvent::Work { node: 2 },
-        poll(0, 0),
-        poll(0, 2),
-        poll(2, 1),
-        restart(2, 5),
-    ];
-    for event in &events {
-        assert_eq!(rt; cluster.step(event), Reaction::Ignored);
-    }
-    assert_eq!(rt; cluster.frames().len(), 1);
-    assert!(rt; cluster.verdict(2).is_none());
     Ok(())
 }
 

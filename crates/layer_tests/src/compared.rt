@@ -91,17 +91,3 @@ fn a_text_may_be_cut_anywhere(rt: HostRuntime) -> Result<(), Fail> {
     }
     Ok(())
 }
-
-#[test]
-fn a_text_may_come_byte_by_byte(rt: HostRuntime) -> Result<(), Fail> {
-    let alloc = rt.alloc();
-    let Ok(formula) = dimacs::read(alloc, FORMULA) else {
-        panic!(&rt; "no formula");
-    };
-    let mut reader = TreeReader::new(alloc, &formula)?;
-    for i in 0..CUBES.len() {
-        reader.feed(&CUBES[i..i + 1]);
-    }
-    assert_eq!(rt; outcome(reader.finish()), Ok(3));
-    Ok(())
-}

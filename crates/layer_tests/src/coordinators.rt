@@ -17,9 +17,6 @@ const UNITS: &[u8] = b"p cnf 2 2\n1 0\n-2 0\n";
 /// Every clause over two variables.
 const ALL_FOUR: &[u8] = b"p cnf 2 4\n1 2 0\n-1 2 0\n1 -2 0\n-1 -2 0\n";
 
-/// A proof that no assignment satisfies these.
-const PROOF: &[u8] = b"5 2 0 1 2 0\n6 0 5 3 4 0\n";
-
 /// A fragment that closes the leaf of the literal 1.
 const LEFT: &[u8] = b"5 -1 0 2 4 0\n";
 
@@ -65,14 +62,6 @@ fn at(job: u64) -> Who {
         job,
         worker: 1,
         incarnation: 1,
-    }
-}
-
-/// The same, as it is of incarnation 2.
-fn anew(job: u64) -> Who {
-    Who {
-        incarnation: 2,
-        ..at(job)
     }
 }
 
@@ -360,62 +349,6 @@ fn an_assignment_is_fetched_and_held(rt: HostRuntime) -> Result<(), Fail> {
 }
 
 #[test]
-fn a_worker_that_began_anew_gets_another_job(rt: HostRuntime) -> Result<(), Fail> {
-    let mut coordinator = that_was_answered(&rt, rt.alloc())?;
-    play(
-        &rt,
-        rt.alloc(),
-        &mut coordinator,
-        &[
-            Turn::Says(1, Told::Fetch(at(1), 0)),
-            Turn::Comes(Told::Idle(1, 2), Reaction::Taken),
-            Turn::Comes(Told::Idle(1, 2), Reaction::Ignored),
-            Turn::Comes(Told::Piece(at(1), 0, &[1, 0]), Reaction::Ignored),
-            Turn::Says(1, Told::Task(1, 2, None)),
-            Turn::Comes(Told::Done(at(1), Found::Values(2)), Reaction::Ignored),
-        ],
-    )
-}
-
-#[test]
-fn an_answer_of_another_incarnation_opens_the_leaf(rt: HostRuntime) -> Result<(), Fail> {
-    let mut coordinator = that_was_answered(&rt, rt.alloc())?;
-    play(
-        &rt,
-        rt.alloc(),
-        &mut coordinator,
-        &[
-            Turn::Comes(Told::Piece(anew(1), 0, &[1, 0]), Reaction::Ignored),
-            Turn::Comes(Told::Done(anew(1), Found::Values(2)), Reaction::Taken),
-            Turn::Says(1, Told::Task(1, 2, None)),
-            Turn::Comes(Told::Done(anew(2), Found::Values(2)), Reaction::Taken),
-            Turn::Says(1, Told::Fetch(anew(2), 0)),
-        ],
-    )
-}
-
-#[test]
-fn an_assignment_has_the_formulas_length(rt: HostRuntime) -> Result<(), Fail> {
-    let coordinator = played(
-        &rt,
-        rt.alloc(),
-        UNITS,
-        &[
-            Turn::Says(1, Told::Task(1, 1, None)),
-            Turn::Comes(Told::Done(second(1), Found::Values(2)), Reaction::Ignored),
-            Turn::Comes(Told::Done(at(2), Found::Values(2)), Reaction::Ignored),
-            Turn::Comes(Told::Done(at(1), Found::Values(3)), Reaction::Refused(2)),
-            Turn::Says(1, Told::Task(1, 2, None)),
-            Turn::Comes(Told::Done(at(2), Found::Values(2)), Reaction::Taken),
-            Turn::Comes(Told::Piece(at(2), 0, &[1, 1]), Reaction::Refused(2)),
-            Turn::Says(1, Told::Task(1, 3, None)),
-        ],
-    )?;
-    assert!(rt; holds_nothing(&coordinator));
-    Ok(())
-}
-
-#[test]
 fn a_leaf_whose_search_met_its_limit_is_split(rt: HostRuntime) -> Result<(), Fail> {
     let coordinator = played(
         &rt,
@@ -462,86 +395,6 @@ fn other_jobs_and_fragments_stay_where_a_leaf_is_split(rt: HostRuntime) -> Resul
     )?;
     let formula = read(rt.alloc(), ALL_FOUR).ok().ok_or("a formula")?;
     assert!(rt; check(rt.alloc(), &formula, text_of(&coordinator)).is_ok());
-    Ok(())
-}
-
-#[test]
-fn a_restart_has_the_tree_of_the_making(rt: HostRuntime) -> Result<(), Fail> {
-    let mut coordinator = played(
-        &rt,
-        rt.alloc(),
-        ALL_FOUR,
-        &[
-            Turn::Says(1, Told::Task(1, 1, None)),
-            Turn::Comes(Told::Done(at(1), Found::Limit), Reaction::Taken),
-            Turn::Says(1, Told::Task(1, 2, Some(true))),
-        ],
-    )?;
-    coordinator.restart(2)?;
-    play(
-        &rt,
-        rt.alloc(),
-        &mut coordinator,
-        &[Turn::Says(1, Told::Task(2, 1, None))],
-    )
-}
-
-#[test]
-fn a_leaf_that_cannot_be_split_makes_it_stuck(rt: HostRuntime) -> Result<(), Fail> {
-    let coordinator = played(
-        &rt,
-        rt.alloc(),
-        UNITS,
-        &[
-            Turn::Says(1, Told::Task(1, 1, None)),
-            Turn::Comes(Told::Done(at(1), Found::Limit), Reaction::Taken),
-            Turn::Says(1, Told::Rest),
-            Turn::Comes(Told::Done(at(1), Found::Values(2)), Reaction::Ignored),
-            Turn::Comes(Told::Done(anew(1), Found::Values(2)), Reaction::Ignored),
-            Turn::Comes(Told::Idle(1, 2), Reaction::Ignored),
-            Turn::Says(1, Told::Rest),
-        ],
-    )?;
-    assert!(rt; coordinator.stuck());
-    assert!(rt; holds_nothing(&coordinator));
-    Ok(())
-}
-
-#[test]
-fn a_fragment_that_does_not_close_is_refused(rt: HostRuntime) -> Result<(), Fail> {
-    let coordinator = played(
-        &rt,
-        rt.alloc(),
-        ALL_FOUR,
-        &[
-            Turn::Says(1, Told::Task(1, 1, None)),
-            Turn::Comes(Told::Done(at(1), Found::Proof(2)), Reaction::Taken),
-            Turn::Comes(Told::Piece(at(1), 0, b"x\n"), Reaction::Refused(1)),
-            Turn::Says(1, Told::Task(1, 2, None)),
-        ],
-    )?;
-    assert!(rt; holds_nothing(&coordinator));
-    Ok(())
-}
-
-#[test]
-fn pieces_come_in_their_order(rt: HostRuntime) -> Result<(), Fail> {
-    let coordinator = played(
-        &rt,
-        rt.alloc(),
-        ALL_FOUR,
-        &[
-            Turn::Says(1, Told::Task(1, 1, None)),
-            Turn::Comes(Told::Done(at(1), Found::Proof(24)), Reaction::Taken),
-            Turn::Comes(Told::Piece(at(1), 0, &PROOF[..9]), Reaction::Taken),
-            Turn::Comes(Told::Piece(at(1), 0, &PROOF[..9]), Reaction::Ignored),
-            Turn::Comes(Told::Piece(at(1), 10, &PROOF[10..]), Reaction::Ignored),
-            Turn::Comes(Told::Piece(at(1), 9, PROOF), Reaction::Ignored),
-            Turn::Says(1, Told::Fetch(at(1), 9)),
-            Turn::Comes(Told::Piece(at(1), 9, &PROOF[9..]), Reaction::Verdict),
-        ],
-    )?;
-    assert_eq!(rt; text_of(&coordinator), PROOF);
     Ok(())
 }
 

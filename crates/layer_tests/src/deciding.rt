@@ -33,18 +33,6 @@ fn the_greatest_score_comes_first(rt: HostRuntime) -> Result<(), Fail> {
 }
 
 #[test]
-fn half_of_three_is_one(rt: HostRuntime) -> Result<(), Fail> {
-    let mut heap = DecideHeap::new(rt.alloc());
-    heap.reserve(1)?;
-    heap.bump(var(1));
-    heap.bump(var(1));
-    heap.bump(var(1));
-    heap.halve();
-    assert_eq!(rt; heap.score(var(1)), 1);
-    Ok(())
-}
-
-#[test]
 fn a_tie_after_halving_goes_to_the_lower_variable(rt: HostRuntime) -> Result<(), Fail> {
     let mut heap = DecideHeap::new(rt.alloc());
     heap.reserve(2)?;
@@ -58,43 +46,6 @@ fn a_tie_after_halving_goes_to_the_lower_variable(rt: HostRuntime) -> Result<(),
     heap.halve();
     assert_eq!(rt; heap.pop_best(), Some(var(1)));
     assert_eq!(rt; heap.pop_best(), Some(var(2)));
-    Ok(())
-}
-
-#[test]
-fn a_score_is_kept_outside_the_heap(rt: HostRuntime) -> Result<(), Fail> {
-    let mut heap = DecideHeap::new(rt.alloc());
-    heap.reserve(2)?;
-    heap.bump(var(2));
-    assert!(rt; !heap.is_in(var(2)));
-    heap.insert(var(1));
-    heap.insert(var(2));
-    heap.insert(var(2));
-    assert!(rt; heap.is_in(var(2)));
-    assert_eq!(rt; heap.pop_best(), Some(var(2)));
-    assert!(rt; !heap.is_in(var(2)));
-    assert_eq!(rt; heap.score(var(2)), 1);
-    assert_eq!(rt; heap.pop_best(), Some(var(1)));
-    assert_eq!(rt; heap.pop_best(), None);
-    Ok(())
-}
-
-#[test]
-fn more_room_changes_no_variable(rt: HostRuntime) -> Result<(), Fail> {
-    let mut heap = DecideHeap::new(rt.alloc());
-    heap.reserve(2)?;
-    heap.insert(var(2));
-    heap.bump(var(1));
-    heap.reserve(5)?;
-    heap.reserve(1)?;
-    assert_eq!(rt; heap.score(var(1)), 1);
-    assert_eq!(rt; heap.score(var(5)), 0);
-    assert!(rt; heap.is_in(var(2)));
-    assert!(rt; !heap.is_in(var(5)));
-    heap.insert(var(5));
-    assert_eq!(rt; heap.pop_best(), Some(var(2)));
-    assert_eq!(rt; heap.pop_best(), Some(var(5)));
-    assert_eq!(rt; heap.pop_best(), None);
     Ok(())
 }
 

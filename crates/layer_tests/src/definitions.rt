@@ -3,7 +3,7 @@
 ghost use Rattle.std.specs.Prelude.{◌≤◌};
 
 use crate::inputs::FOUR;
-use cube_split::{Chooser, preamble_with, tree_with};
+use cube_split::{Chooser, preamble_with};
 use dimacs::{Formula, Lit, Var, read};
 use std::alloc::Global;
 use std::test::Fail;
@@ -47,14 +47,6 @@ fn a_clause_counts_once_and_only_a_short_one(rt: HostRuntime) -> Result<(), Fail
         pairs(rt.alloc(), text, 64)?.as_slice(),
         [-1, -2, -3, -4].as_slice()
     );
-    Ok(())
-}
-
-#[test]
-fn units_and_a_literal_with_its_negation_are_in_no_pair(rt: HostRuntime) -> Result<(), Fail> {
-    assert_eq!(rt; pairs(rt.alloc(), b"p cnf 2 2\n1 0\n-2 0\n", 64)?.len(), 0);
-    let text = b"p cnf 3 3\n1 -1 0\n2 3 0\n-2 3 0\n";
-    assert_eq!(rt; pairs(rt.alloc(), text, 64)?.len(), 0);
     Ok(())
 }
 
@@ -104,17 +96,5 @@ fn a_defined_variable_is_chosen_first_while_nothing_is_known_of_it(
     assert_eq!(rt; chosen(a, &formula, 1, &[defined.negate()])?, 1);
     assert_eq!(rt; chosen(a, &formula, 1, &[one])?, 2);
     assert_eq!(rt; chosen(a, &formula, 0, &[])?, 1);
-    Ok(())
-}
-
-#[test]
-fn a_tree_is_split_on_the_defined_variable_first(rt: HostRuntime) -> Result<(), Fail> {
-    let formula = read(rt.alloc(), FOUR)?;
-    let made = preamble_with(rt.alloc(), &formula, 1)?;
-    let tree = tree_with(rt.alloc(), &formula, &made, 1)?;
-    let defined = Lit::positive(Var::new(3));
-    assert_eq!(rt; tree.leaves(), 2);
-    assert_eq!(rt; tree.cube(0), [defined].as_slice());
-    assert_eq!(rt; tree.cube(1), [defined.negate()].as_slice());
     Ok(())
 }

@@ -11,10 +11,7 @@ use lrat_check::{Reaction, Verdict};
 use std::alloc::Global;
 use std::test::Fail;
 
-/// A proof of the four clauses by reverse unit propagation alone.
-const PROOF: &[u8] = b"5 2 0 1 2 0\n6 0 5 3 4 0\n";
-
-/// Another one, which defines a variable by RAT lemmas.
+/// A proof of the four clauses, which defines a variable by RAT lemmas.
 const WITH_GROUPS: &[u8] =
     b"5 3 -1 -2 0 0\n6 -3 1 0 -5 0\n7 -3 2 0 -5 0\n8 2 0 1 2 0\n9 0 8 3 4 0\n";
 
@@ -91,25 +88,6 @@ fn with_proof(alloc: Global, proof: &[u8]) -> Result<OpenCluster, Fail> {
     Ok(cluster)
 }
 
-/// Two nodes of the two units, of which node 1, a worker, holds their assignment.
-fn with_values(alloc: Global) -> Result<OpenCluster, Fail> {
-    let mut cluster = cluster_of(alloc, UNITS)?;
-    let _ = offer(alloc, &mut cluster, Answer::Assignment, b"\x01\x00")?;
-    Ok(cluster)
-}
-
-#[test]
-fn a_proof_is_kept_under_raised_numbers(rt: HostRuntime) -> Result<(), Fail> {
-    let a = rt.alloc();
-    let mut cluster = with_proof(a, PROOF)?;
-    assert!(rt; holds(&cluster, 1, Held::Text(PROOF)));
-    assert_eq!(rt; extend(&mut cluster, 1, three(a)?), Reaction::Taken);
-    assert!(rt; holds(&cluster, 1, Held::Text(b"6 2 0 1 2 0\n7 0 6 3 4 0\n")));
-    // No node at such a place.
-    assert_eq!(rt; extend(&mut cluster, 2, three(a)?), Reaction::Ignored);
-    Ok(())
-}
-
 #[test]
 fn a_proof_that_is_wrong_for_more_clauses_is_dropped(rt: HostRuntime) -> Result<(), Fail> {
     let a = rt.alloc();
@@ -124,38 +102,6 @@ fn a_proof_that_is_wrong_for_more_clauses_is_dropped(rt: HostRuntime) -> Result<
     );
     let kept = b"6 3 -1 -2 0 0\n7 -3 1 0 -6 0\n8 -3 2 0 -6 0\n9 2 0 1 2 0\n10 0 9 3 4 0\n";
     assert!(rt; holds(&cluster, 1, Held::Text(kept)));
-    Ok(())
-}
-
-#[test]
-fn an_assignment_is_kept_where_it_satisfies(rt: HostRuntime) -> Result<(), Fail> {
-    let a = rt.alloc();
-    let mut cluster = with_values(a)?;
-    assert_eq!(rt; extend(&mut cluster, 1, two_literals(a)?), Reaction::Taken);
-    assert!(rt; holds(&cluster, 1, Held::Values(&[true, false, false])));
-    let mut cluster = with_values(a)?;
-    assert_eq!(rt;
-        extend(&mut cluster, 1, one_of_two(a, true)?),
-        Reaction::Taken
-    );
-    assert!(rt; holds(&cluster, 1, Held::Nothing));
-    // Its formula is the one of three clauses now, under an incarnation of its own.
-    assert_eq!(rt;
-        offer(a, &mut cluster, Answer::Refuted, b"4 0 2 3 0\n")?,
-        (Reaction::Taken, Reaction::Verdict)
-    );
-    Ok(())
-}
-
-#[test]
-fn a_formula_above_a_limit_is_refused(rt: HostRuntime) -> Result<(), Fail> {
-    let a = rt.alloc();
-    let mut cluster = with_values(a)?;
-    let above = Builder::new(a)?.finish_extension(1_000_001);
-    assert_eq!(rt; extend(&mut cluster, 1, above), Reaction::Refused(4));
-    assert!(rt; holds(&cluster, 1, Held::Values(&[true, false])));
-    let above = Builder::new(a)?.finish_extension(1_000_001);
-    assert_eq!(rt; extend(&mut cluster, 0, above), Reaction::Refused(4));
     Ok(())
 }
 

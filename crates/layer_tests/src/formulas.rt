@@ -93,26 +93,6 @@ fn what_is_written_is_read_again(rt: HostRuntime) -> Result<(), Fail> {
     Ok(())
 }
 
-/// The formula is `1 -2` over two variables, as it is taken apart.
-fn is_taken_apart(rt: &impl Abort, alloc: Global, formula: Formula) -> Result<(), Fail> {
-    let (vars, literals, places) = formula.into_parts(alloc)?;
-    assert_eq!(rt; vars, 2);
-    assert_eq!(rt;
-        literals.as_slice(),
-        [Lit::positive(Var::new(1)), Lit::negative(Var::new(2))].as_slice()
-    );
-    assert_eq!(rt; places.as_slice(), [0, 2].as_slice());
-    Ok(())
-}
-
-#[test]
-fn a_formula_is_taken_apart_beside_its_copy(rt: HostRuntime) -> Result<(), Fail> {
-    let formula = read(rt.alloc(), b"p cnf 2 1\n1 -2 0\n")?;
-    let copy = formula.copy()?;
-    is_taken_apart(&rt, rt.alloc(), formula)?;
-    is_taken_apart(&rt, rt.alloc(), copy)
-}
-
 /// The formula `-2 1` and the empty clause, over three variables, by hand.
 fn by_hand(alloc: Global) -> Result<Formula, AllocError> {
     let mut builder = Builder::new(alloc)?;
@@ -157,17 +137,6 @@ fn an_extension_stands_behind_the_formula(rt: HostRuntime) -> Result<(), Fail> {
 }
 
 #[test]
-fn a_formula_is_not_extended_above_its_limit(rt: HostRuntime) -> Result<(), Fail> {
-    let a = rt.alloc();
-    let formula = read(a, b"p cnf 2 1\n1 -2 0\n")?;
-    let most = Builder::new(a)?.finish_extension(1_000_000);
-    assert!(rt; formula.extended(a, &most)?.is_some());
-    let above = Builder::new(a)?.finish_extension(1_000_001);
-    assert!(rt; formula.extended(a, &above)?.is_none());
-    Ok(())
-}
-
-#[test]
 fn pushed_clauses_and_variables_follow_the_formula(rt: HostRuntime) -> Result<(), Fail> {
     let formula = read(rt.alloc(), b"p cnf 2 2\n1 2 0\n1 -2 0\n")?;
     assert_eq!(rt; formula.vars(), 2);
@@ -195,14 +164,4 @@ fn an_assignment_satisfies_or_not(rt: HostRuntime) -> Result<(), Fail> {
     assert!(rt; wrong.len() == formula.vars() as usize);
     assert!(rt; !satisfies(&wrong, &formula));
     Ok(())
-}
-
-#[test]
-fn faults_have_numbers(rt: HostRuntime) {
-    let fault = DimacsFault {
-        kind: Kind::TooManyClauses,
-        line: 4,
-    };
-    assert_eq!(rt; fault.number(), 7);
-    assert_eq!(rt; Kind::NoMemory.number(), 9);
 }

@@ -2,14 +2,11 @@
 
 ghost use Rattle.std.specs.Prelude.{◌≤◌, length};
 
-use crate::inputs::FOUR;
 use cluster::{Node, OpenCluster, OpenEvent};
 use coordinator_core::Coordinator;
 use dimacs::{Formula, read};
 use evidence::Bytes;
-use frames::{
-    Answer, Attempt, Chunk, Finding, Frame, Outcome, ProofLength, WorkerNumber, encode, len,
-};
+use frames::{Answer, Chunk, Finding, Frame, ProofLength, WorkerNumber, encode, len};
 use icnf::Tree;
 use lrat_check::{Reaction, Verdict};
 use std::alloc::Global;
@@ -87,71 +84,8 @@ pub(crate) fn offer(
     Ok((announced, deliver(alloc, cluster, 1, &part)?))
 }
 
-fn holds_nothing(cluster: &OpenCluster, node: usize) -> bool {
-    matches!(cluster.verdict(node), Some(Verdict::Nothing))
-}
-
-fn holds_proof(cluster: &OpenCluster, node: usize) -> bool {
-    matches!(cluster.verdict(node), Some(Verdict::Proof(_)))
-}
-
 fn holds_model(cluster: &OpenCluster, node: usize) -> bool {
     matches!(cluster.verdict(node), Some(Verdict::Model(_)))
-}
-
-#[test]
-fn a_proof_is_held_once_it_is_checked(rt: HostRuntime) -> Result<(), Fail> {
-    let a = rt.alloc();
-    let mut cluster = cluster_of(a, FOUR)?;
-    let proof = b"5 2 0 1 2 0\n6 0 5 3 4 0\n";
-    assert_eq!(rt;
-        offer(a, &mut cluster, Answer::Refuted, b"5 2 0 1 2 0\n")?,
-        (Reaction::Taken, Reaction::Refused(1))
-    );
-    assert!(rt; holds_nothing(&cluster, 1));
-    assert_eq!(rt;
-        offer(a, &mut cluster, Answer::Refuted, proof)?,
-        (Reaction::Taken, Reaction::Verdict)
-    );
-    assert!(rt; holds_proof(&cluster, 1));
-    assert_eq!(rt;
-        offer(a, &mut cluster, Answer::Refuted, proof)?,
-        (Reaction::Ignored, Reaction::Ignored)
-    );
-    assert_eq!(rt;
-        cluster.step(&OpenEvent::Restart { node: 1, number: 2 }),
-        Reaction::Taken
-    );
-    assert!(rt; holds_nothing(&cluster, 1));
-    assert_eq!(rt;
-        offer(a, &mut cluster, Answer::Refuted, proof)?,
-        (Reaction::Taken, Reaction::Verdict)
-    );
-    Ok(())
-}
-
-#[test]
-fn an_assignment_is_held_once_it_satisfies(rt: HostRuntime) -> Result<(), Fail> {
-    let a = rt.alloc();
-    let mut cluster = cluster_of(a, UNITS)?;
-    assert_eq!(rt;
-        offer(a, &mut cluster, Answer::Assignment, b"\x00\x00")?,
-        (Reaction::Taken, Reaction::Refused(2))
-    );
-    assert_eq!(rt;
-        offer(a, &mut cluster, Answer::Assignment, b"\x01")?,
-        (Reaction::Refused(2), Reaction::Ignored)
-    );
-    assert_eq!(rt;
-        offer(a, &mut cluster, Answer::Assignment, b"\x01\x02")?,
-        (Reaction::Taken, Reaction::Refused(2))
-    );
-    assert_eq!(rt;
-        offer(a, &mut cluster, Answer::Assignment, b"\x01\x00")?,
-        (Reaction::Taken, Reaction::Verdict)
-    );
-    assert!(rt; holds_model(&cluster, 1));
-    Ok(())
 }
 
 #[test]
@@ -192,69 +126,6 @@ fn bytes_without_a_whole_frame_are_ignored(rt: HostRuntime) -> Result<(), Fail> 
         deliver_bytes(a, &mut cluster, 1, &more)?,
         Reaction::Ignored
     );
-    Ok(())
-}
-
-#[test]
-fn a_coordinator_holds_what_a_worker_found(rt: HostRuntime) -> Result<(), Fail> {
-    let a = rt.alloc();
-    let mut cluster = cluster_of(a, UNITS)?;
-    let attempt = Attempt {
-        session: 1,
-        job: 1,
-        worker: WorkerNumber::new(1),
-        incarnation: 1,
-    };
-    let done = Frame::Done {
-        attempt,
-        outcome: Outcome::Decided(Finding::Assignment { length: 2 }),
-    };
-    let piece = Frame::Piece {
-        attempt,
-        offset: 0,
-        bytes: Chunk::from_slice(a, b"\x01\x00")?,
-    };
-    let poll = OpenEvent::Poll { node: 0, worker: 1 };
-    // A job that nobody was given.
-    assert_eq!(rt; deliver(a, &mut cluster, 0, &done)?, Reaction::Ignored);
-    assert_eq!(rt; cluster.step(&poll), Reaction::Taken);
-    assert_eq!(rt; deliver(a, &mut cluster, 0, &piece)?, Reaction::Ignored);
-    assert_eq!(rt; deliver(a, &mut cluster, 0, &done)?, Reaction::Taken);
-    assert_eq!(rt; deliver(a, &mut cluster, 0, &done)?, Reaction::Ignored);
-    assert!(rt; holds_nothing(&cluster, 0));
-    assert_eq!(rt; deliver(a, &mut cluster, 0, &piece)?, Reaction::Verdict);
-    assert_eq!(rt; deliver(a, &mut cluster, 0, &piece)?, Reaction::Ignored);
-    assert!(rt; holds_model(&cluster, 0));
-    assert!(rt; holds_nothing(&cluster, 1));
-    assert_eq!(rt;
-        cluster.step(&OpenEvent::Restart { node: 0, number: 2 }),
-        Reaction::Taken
-    );
-    assert!(rt; holds_nothing(&cluster, 0));
-    Ok(())
-}
-
-#[test]
-fn an_event_that_is_not_allowed_is_ignored(rt: HostRuntime) -> Result<(), Fail> {
-    let mut cluster = cluster_of(rt.alloc(), b"p cnf 0 0\n")?;
-    let events = [
-        OpenEvent::Work { node: 0 },
-        OpenEvent::Work { node: 1 },
-        OpenEvent::Work { node: 2 },
-        OpenEvent::Poll { node: 0, worker: 0 },
-        OpenEvent::Poll { node: 0, worker: 2 },
-        OpenEvent::Poll { node: 2, worker: 1 },
-        OpenEvent::Restart { node: 2, number: 2 },
-    ];
-    for event in &events {
-        assert_eq!(rt; cluster.step(event), Reaction::Ignored);
-    }
-    // For whom a worker is polled is not looked at.
-    assert_eq!(rt;
-        cluster.step(&OpenEvent::Poll { node: 1, worker: 0 }),
-        Reaction::Taken
-    );
-    assert!(rt; cluster.verdict(2).is_none());
     Ok(())
 }
 

@@ -1,10 +1,7 @@
 //! Steps of proofs: buffers, groups of hints, and what is written of a line.
 
 use dimacs::{Lit, Var};
-use lrat_text::{
-    ClauseNumbers, Groups, Literals, PackedText, Step, StepBuffer, StepRef, TextFault, next, put,
-    put_ref, read_line,
-};
+use lrat_text::{PackedText, StepBuffer, StepRef, TextFault, next, put, put_ref, read_line};
 use std::alloc::{AllocError, Global};
 use std::process::Abort;
 use std::test::Fail;
@@ -159,50 +156,6 @@ fn a_buffer_is_used_again(rt: HostRuntime) -> Result<(), Fail> {
             assert!(rt; groups.is_empty());
         }
         StepRef::Delete { ids: _ } => return Err("an addition".into()),
-    }
-    Ok(())
-}
-
-#[test]
-fn groups_hold_hints(rt: HostRuntime) -> Result<(), Fail> {
-    let a = rt.alloc();
-    let mut groups = Groups::new(a);
-    groups.push(3, &[1, 2])?;
-    groups.push(4, &[])?;
-    groups.push_hint(5)?;
-    assert_eq!(rt; groups.len(), 2);
-    assert!(rt; !groups.is_empty());
-    let (candidate, hints) = groups.get(0);
-    assert_eq!(rt; candidate, 3);
-    assert_eq!(rt; hints, [1, 2].as_slice());
-    let (candidate, hints) = groups.get(1);
-    assert_eq!(rt; candidate, 4);
-    assert_eq!(rt; hints, [5].as_slice());
-    groups.clear();
-    assert!(rt; groups.is_empty());
-    Ok(())
-}
-
-#[test]
-fn steps_are_lent(rt: HostRuntime) -> Result<(), Fail> {
-    let a = rt.alloc();
-    let literals = Literals::from_vec([Lit::negative(Var::new(2))].to_vec(a)?);
-    assert_eq!(rt; literals.as_slice().len(), 1);
-    assert_eq!(rt; literals.into_vec().len(), 1);
-    let ids = ClauseNumbers::from_vec([8, 9].to_vec(a)?);
-    assert_eq!(rt; ids.as_slice(), [8, 9].as_slice());
-    assert_eq!(rt; ids.into_vec().len(), 2);
-    let step = Step::Delete {
-        ids: ClauseNumbers::from_vec([8, 9].to_vec(a)?),
-    };
-    match step.as_ref() {
-        StepRef::Delete { ids } => assert_eq!(rt; ids, [8, 9].as_slice()),
-        StepRef::Add {
-            id: _,
-            lits: _,
-            hints: _,
-            groups: _,
-        } => return Err("a deletion".into()),
     }
     Ok(())
 }

@@ -1,7 +1,6 @@
 //! Formulas with cubes, and the trees whose leaves the cubes are.
 
-use dimacs::{Builder, Lit, Var};
-use icnf::{Tree, TreeBuilder, read, write};
+use icnf::{TreeBuilder, read, write};
 use std::alloc::Global;
 use std::process::Abort;
 use std::test::Fail;
@@ -83,33 +82,6 @@ fn what_is_written_is_read_again(rt: HostRuntime) -> Result<(), Fail> {
     let mut out = Vec::new(a);
     write(&formula, &tree, &mut out)?;
     assert_eq!(rt; out.as_slice(), text.as_slice());
-    Ok(())
-}
-
-#[test]
-fn a_leaf_splits_into_two_branches(rt: HostRuntime) -> Result<(), Fail> {
-    let a = rt.alloc();
-    let mut tree = Tree::leaf(a)?;
-    assert_eq!(rt; tree.leaves(), 1);
-    assert_eq!(rt; tree.cube(0).len(), 0);
-    tree.split(0, Var::new(7))?;
-    assert_eq!(rt; tree.leaves(), 2);
-    assert_eq!(rt; tree.cube(0), [Lit::positive(Var::new(7))].as_slice());
-    assert_eq!(rt; tree.cube(1), [Lit::negative(Var::new(7))].as_slice());
-    let copy = tree.copy(a)?;
-    assert_eq!(rt; copy.leaves(), 2);
-    Ok(())
-}
-
-#[test]
-fn a_tree_is_written_leaf_by_leaf(rt: HostRuntime) -> Result<(), Fail> {
-    let a = rt.alloc();
-    let tree = Tree::leaf(a)?;
-    let mut builder = Builder::new(a)?;
-    builder.end_clause()?;
-    let mut out = vec![in a; b'x']?;
-    write(&builder.finish(1)?, &tree, &mut out)?;
-    assert_eq!(rt; out.as_slice(), b"xp inccnf\n0\na 0\n".as_slice());
     Ok(())
 }
 

@@ -195,21 +195,6 @@ fn an_assignment_is_held_once_it_satisfies(rt: HostRuntime) -> Result<(), Fail> 
 }
 
 #[test]
-fn bytes_of_an_assignment_are_0_and_1(rt: HostRuntime) -> Result<(), Fail> {
-    let worker = played(
-        &rt,
-        rt.alloc(),
-        UNITS,
-        &[
-            (Turn::AnnounceValues(1, 2), Reaction::Taken),
-            (Turn::Values(1, &[1, 2]), Reaction::Refused(2)),
-        ],
-    )?;
-    assert!(rt; holds_nothing(&worker));
-    Ok(())
-}
-
-#[test]
 fn an_assignment_of_no_variable_is_judged_at_once(rt: HostRuntime) -> Result<(), Fail> {
     let announces = Turn::AnnounceValues(1, 0);
     let _ = played(
@@ -272,85 +257,6 @@ fn a_wrong_proof_is_refused_at_its_end(rt: HostRuntime) -> Result<(), Fail> {
     let proof = b"4 2 0 1 2 0\n6 0 5 3 4 0\n";
     play_bytes(&rt, rt.alloc(), &mut worker, proof, Reaction::Refused(1))?;
     assert!(rt; holds_nothing(&worker));
-    Ok(())
-}
-
-#[test]
-fn parts_come_in_their_order(rt: HostRuntime) -> Result<(), Fail> {
-    let _ = played(
-        &rt,
-        rt.alloc(),
-        ALL_FOUR,
-        &[
-            (Turn::AnnounceProof(1, 24), Reaction::Taken),
-            (Turn::ProofPart(1, 0, b"5 2"), Reaction::Taken),
-            (Turn::ProofPart(1, 0, b"5 2"), Reaction::Ignored),
-            (Turn::ProofPart(1, 4, b"0"), Reaction::Ignored),
-            (Turn::Values(1, &[1, 0]), Reaction::Ignored),
-            (
-                Turn::ProofPart(1, 3, b" 0 1 2 0\n6 0 5 3 4 0\n\n"),
-                Reaction::Ignored,
-            ),
-            (
-                Turn::ProofPart(1, 3, b" 0 1 2 0\n6 0 5 3 4 0\n"),
-                Reaction::Verdict,
-            ),
-        ],
-    )?;
-    Ok(())
-}
-
-#[test]
-fn a_higher_session_takes_the_candidates_place(rt: HostRuntime) -> Result<(), Fail> {
-    let _ = played(
-        &rt,
-        rt.alloc(),
-        ALL_FOUR,
-        &[
-            (Turn::AnnounceProof(2, 24), Reaction::Taken),
-            (Turn::ProofPart(2, 0, b"5 2"), Reaction::Taken),
-            (Turn::AnnounceProof(2, 24), Reaction::Ignored),
-            (Turn::AnnounceProof(1, 24), Reaction::Ignored),
-            (Turn::AnnounceProof(3, 24), Reaction::Taken),
-            (Turn::ProofPart(2, 3, b" 0"), Reaction::Ignored),
-            (Turn::ProofPart(3, 0, PROOF), Reaction::Verdict),
-        ],
-    )?;
-    Ok(())
-}
-
-#[test]
-fn a_cube_outside_the_base_is_refused(rt: HostRuntime) -> Result<(), Fail> {
-    let mut worker = played(
-        &rt,
-        rt.alloc(),
-        UNITS,
-        &[(Turn::Task(1, 1, Some(3)), Reaction::Refused(3))],
-    )?;
-    assert_eq!(rt; worker.work(), Reaction::Ignored);
-    play(
-        &rt,
-        rt.alloc(),
-        &mut worker,
-        &[(Turn::Task(1, 1, Some(2)), Reaction::Taken)],
-    )
-}
-
-#[test]
-fn tasks_are_taken_in_their_order(rt: HostRuntime) -> Result<(), Fail> {
-    let _ = played(
-        &rt,
-        rt.alloc(),
-        UNITS,
-        &[
-            (Turn::Task(2, 2, None), Reaction::Taken),
-            (Turn::Task(2, 2, None), Reaction::Ignored),
-            (Turn::Task(2, 1, None), Reaction::Ignored),
-            (Turn::Task(1, 9, None), Reaction::Ignored),
-            (Turn::Task(2, 3, None), Reaction::Taken),
-            (Turn::Task(3, 1, None), Reaction::Taken),
-        ],
-    )?;
     Ok(())
 }
 
