@@ -44,6 +44,8 @@ mod propagators;
 #[cfg(test)]
 mod searches;
 #[cfg(test)]
+mod shortened;
+#[cfg(test)]
 mod splits;
 #[cfg(test)]
 mod steps;

@@ -10,6 +10,14 @@ use lrat_text::{Groups, PackedLines, PackedText, StepBuffer, StepRef, TextFault,
 use std::alloc::{AllocError, Global};
 use std::marker::Model;
 
+/// The number, if it is one that a clause may have, and else another one.
+fn clause_number(id: u64, other: u64) -> u64
+    requires { IsClauseNumber other }
+    ensures { IsClauseNumber result }
+{
+    if 0 < id && id < 1 << 48 { id } else { other }
+}
+
 /// Puts those of the numbers whose clauses stay in the place of what `out` had.
 fn keep_numbers(kept: Kept<'_>, ids: &[u64], out: &mut Vec<u64>) -> Result<(), AllocError>
     requires { All IsClauseNumber ids.now }
@@ -115,9 +123,7 @@ impl Rewriter {
         self.written.extend_from_slice(line)?;
         self.written.push(b'\n')?;
         self.out.extend(&self.written)?;
-        if 0 < id && id < 1 << 48 {
-            self.top = id;
-        }
+        self.top = clause_number(id, self.top);
         Ok(())
     }
 }
@@ -132,7 +138,7 @@ pub(crate) fn rewrite(
     let mut rewriter = Rewriter {
         out: PackedText::new(alloc),
         written: Vec::new(alloc),
-        top: 1,
+        top: clause_number(kept.lemmas.base(), 1),
         numbers: Vec::new(alloc),
         groups: Groups::new(alloc),
     };
