@@ -8,7 +8,7 @@ use Rattle.command_line.specs.Program.{program}
 use Rattle.command_line.specs.declared.options.Options.{Options}
 use Rattle.command_line.specs.declared.printing.Printing.{Printing}
 use Rattle.command_line.specs.declared.request.Request.{Request}
-use Rattle.command_line.specs.declared.request.Request.TheVariants.{Check, Complete, Cubes, Drill, Join, Leaf, Lift, Model, Refute, Serve, Solve, Split, Work}
+use Rattle.command_line.specs.declared.request.Request.TheVariants.{Check, Complete, Cubes, Drill, Join, Leaf, Lift, Model, Refute, Serve, Solve, Split, Trim, Work}
 
 -- two names that a test tells apart
 pub differ : (a b : Text) → bytes_eq a b ≡ false → bytes_eq b b ≡ true → a ≡ b → ⊥
@@ -29,6 +29,7 @@ name_of (Refute input cubes leaf limit fragment printing) = codes "refute"
 name_of (Join input cubes proof fragments printing) = codes "join"
 name_of (Lift input cubes leaf proof fragment) = codes "lift"
 name_of (Model input output) = codes "model"
+name_of (Trim input proof out) = codes "trim"
 
 is_named : (name : Text) (rows : List Row) (r : Request) → Makes name rows r → name ≡ name_of r
 is_named name rows (Check input proof) makes = makes.0
@@ -44,6 +45,7 @@ is_named name rows (Refute input cubes leaf limit fragment printing) makes = mak
 is_named name rows (Join input cubes proof fragments printing) makes = makes.0
 is_named name rows (Lift input cubes leaf proof fragment) makes = makes.0
 is_named name rows (Model input output) makes = makes.0
+is_named name rows (Trim input proof out) makes = makes.0
 
 pub only_check : (rows : List Row) → ((input : Bor Text) (proof : Bor Text) → Makes (codes "check") rows (Check input proof) → ⊥) → (r : Request) → Makes (codes "check") rows r → ⊥
 only_check rows none (Check input proof) makes = none input proof makes
@@ -90,6 +92,10 @@ only_lift rows none other makes = differ (codes "lift") (name_of other) refl ref
 pub only_model : (rows : List Row) → ((input : Bor Text) (output : Bor Text) → Makes (codes "model") rows (Model input output) → ⊥) → (r : Request) → Makes (codes "model") rows r → ⊥
 only_model rows none (Model input output) makes = none input output makes
 only_model rows none other makes = differ (codes "model") (name_of other) refl refl (is_named (codes "model") rows other makes)
+
+pub only_trim : (rows : List Row) → ((input : Bor Text) (proof : Bor Text) (out : Bor Text) → Makes (codes "trim") rows (Trim input proof out) → ⊥) → (r : Request) → Makes (codes "trim") rows r → ⊥
+only_trim rows none (Trim input proof out) makes = none input proof out makes
+only_trim rows none other makes = differ (codes "trim") (name_of other) refl refl (is_named (codes "trim") rows other makes)
 
 some_same : {X : Type 0} (a b : X) → Some a ≡ Some b → a ≡ b
 some_same a b e = cc

@@ -10,7 +10,7 @@ use Rattle.command_line.specs.Options.{AreOptions}
 use Rattle.command_line.specs.declared.options.Options.{Options}
 use Rattle.command_line.specs.declared.printing.Printing.{Printing}
 use Rattle.command_line.specs.declared.request.Request.{Request}
-use Rattle.command_line.specs.declared.request.Request.TheVariants.{Check, Complete, Cubes, Drill, Join, Leaf, Lift, Model, Refute, Serve, Solve, Split, Work}
+use Rattle.command_line.specs.declared.request.Request.TheVariants.{Check, Complete, Cubes, Drill, Join, Leaf, Lift, Model, Refute, Serve, Solve, Split, Trim, Work}
 use Rattle.command_line.specs.declared.request.UsageFault.{UsageFault}
 use Rattle.command_line.specs.declared.request.UsageFault.TheVariants.{Help, NoMemory, Usage}
 
@@ -117,6 +117,8 @@ Makes name rows (Lift input cubes leaf proof fragment) =
     × NamesFile rows (codes "PROOF") (Some proof) × NamesFile rows (codes "FRAGMENT") (Some fragment)
 Makes name rows (Model input output) =
     (name ≡ codes "model") × NamesFile rows (codes "INPUT") (Some input) × NamesFile rows (codes "FILE") (Some output)
+Makes name rows (Trim input proof out) =
+    (name ≡ codes "trim") × NamesFile rows (codes "INPUT") (Some input) × NamesFile rows (codes "PROOF") (Some proof) × NamesFile rows (codes "OUT") (Some out)
 
 -- the words are right by the rules of the command line
 pub record AreTaken (words : List Text) : Type 0 where
@@ -170,3 +172,4 @@ IsInRange (Refute input cubes leaf limit fragment printing) = IsLeafNumber leaf 
 IsInRange (Join input cubes proof fragments printing) = 1 ≤ length fragments.items
 IsInRange (Lift input cubes leaf proof fragment) = IsLeafNumber leaf
 IsInRange (Model input output) = ⊤
+IsInRange (Trim input proof out) = ⊤

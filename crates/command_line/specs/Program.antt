@@ -90,6 +90,11 @@ lift_app =
 abbrev pub model_app : App
 model_app = with_rule (with_rule (new_app (codes "model")) (file_rule (codes "INPUT") true)) (file_rule (codes "FILE") true)
 
+-- `trim INPUT PROOF OUT`
+abbrev pub trim_app : App
+trim_app =
+    with_rule (with_rule (with_rule (new_app (codes "trim")) (file_rule (codes "INPUT") true)) (file_rule (codes "PROOF") true)) (file_rule (codes "OUT") true)
+
 -- the program, of which a command has to be named
 abbrev pub bare_program : App
 bare_program = on_top (λ s. record s { subcommand_required = true }) (new_app (codes "satcluster"))
@@ -100,11 +105,11 @@ with_formulas a =
     with_subcommand (with_subcommand (with_subcommand (with_subcommand (with_subcommand (with_subcommand a solve_app.top) check_app.top) cubes_app.top)
     serve_app.top) work_app.top) drill_app.top
 
--- the commands on leaves, and on what solvers print
+-- the commands on leaves, and on what solvers write
 abbrev pub with_leaves : App → App
 with_leaves a =
-    with_subcommand (with_subcommand (with_subcommand (with_subcommand (with_subcommand a leaf_app.top) refute_app.top) join_app.top) lift_app.top)
-    model_app.top
+    with_subcommand (with_subcommand (with_subcommand (with_subcommand (with_subcommand (with_subcommand a leaf_app.top) refute_app.top) join_app.top) lift_app.top)
+    model_app.top) trim_app.top
 
 abbrev pub program : App
 program = with_leaves (with_formulas bare_program)

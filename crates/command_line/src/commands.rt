@@ -12,5 +12,6 @@ pub(crate) mod refute;
 mod run_words;
 pub(crate) mod serve;
 pub(crate) mod solve;
+pub(crate) mod trim;
 mod words;
 pub(crate) mod work;

@@ -5,7 +5,7 @@ ghost use Rattle.command_line.specs.CommandLine.{AreTaken, AsksFor, IsInRange, I
 ghost use Rattle.command_line.specs.inner.Refusing.{fault_of_refusal};
 ghost use Rattle.command_line.specs.declared.request.Request.{Request};
 
-use crate::commands::{check, cubes, drill, join, leaf, lift, model, refute, serve, solve, work};
+use crate::commands::{check, cubes, drill, join, leaf, lift, model, refute, serve, solve, trim, work};
 use crate::request::{Request, UsageFault};
 use std::alloc::{AllocError, Global};
 use word_rules::{Found, ProgramRules, Refusal, parse};
@@ -27,6 +27,7 @@ const PROGRAM: ProgramRules<'static> = ProgramRules {
         join::RULES,
         lift::RULES,
         model::RULES,
+        trim::RULES,
     ],
 };
 
@@ -59,6 +60,7 @@ fn request_of<'a>(alloc: Global, given: &Found<'a>) -> Result<Option<Request<'a>
         "join" => join::asked(alloc, given),
         "lift" => Ok(lift::asked(given)),
         "model" => Ok(model::asked(given)),
+        "trim" => Ok(trim::asked(given)),
         _ => Ok(None),
     }
 }

@@ -102,6 +102,12 @@ pub enum Request<'a> {
         input: &'a str,
         output: &'a str,
     },
+    /// Write what is needed of a proof to a file.
+    Trim {
+        input: &'a str,
+        proof: &'a str,
+        out: &'a str,
+    },
 }
 
 /// Why a command line gives no request.

@@ -14,6 +14,7 @@ mod leaf_runs;
 mod lift;
 mod model;
 mod proof_file;
+mod trim;
 
 use check::check;
 use complete::complete;
@@ -31,6 +32,7 @@ use std::net::Net;
 use std::process::ExitCode;
 use std::rt::Runtime;
 use std::{env, io};
+use trim::trim;
 
 fn cubes<R: Runtime + AllocGlobal>(rt: &R, input: &str, depth: u32) -> Result<Report, Refusal>
     requires { depth ≤ 16 }
@@ -151,6 +153,7 @@ fn answer<R: Runtime + AllocGlobal + Net>(rt: &R, request: &Request) -> Result<R
             fragment,
         } => lift(rt, input, cubes, leaf, proof, fragment),
         Request::Model { input, output } => model(rt, input, output),
+        Request::Trim { input, proof, out } => trim(rt, input, proof, out),
     }
 }
 

@@ -6,9 +6,11 @@ mod counting;
 mod heads;
 mod lemmas;
 mod needs;
+mod report;
 mod retesting;
 mod rewriting;
 mod shortening;
 mod trimming;
 
+pub use report::trim_report;
 pub use trimming::{Trimmed, Trimming, trim};

@@ -1,0 +1,41 @@
+//! The words of `trim`.
+
+ghost use Rattle.std.specs.Prelude.{◌≡◌, IfSome, IfNone, codes};
+ghost use Rattle.command_line.specs.CommandLine.{IsInRange, Makes};
+ghost use Rattle.command_line.specs.declared.request.Request.{Request};
+
+use crate::commands::words::{INPUT, file_of};
+use crate::request::Request;
+use word_rules::{CommandRules, Found, Word};
+
+/// The words.
+pub(crate) const RULES: CommandRules<'static> = CommandRules {
+    name: "trim",
+    about: "Checks an LRAT proof of a DIMACS formula, and writes what its empty clause needs",
+    after_help: "Status: 0 the proof is right and OUT is written, 1 it is not, or an error",
+    words: &[
+        INPUT,
+        Word::File {
+            name: "PROOF",
+            required: true,
+            help: "The proof, an LRAT file that is read",
+        },
+        Word::File {
+            name: "OUT",
+            required: true,
+            help: "The file to which the trimmed proof is written",
+        },
+    ],
+};
+
+/// What its words ask for.
+pub(crate) fn asked<'a>(given: &Found<'a>) -> Option<Request<'a>>
+    ensures found { IfSome result (Makes (codes "trim") given.now.rows) }
+    ensures none { IfNone result ((request : Request) → Makes (codes "trim") given.now.rows request → ⊥) }
+    ensures range { IfSome result IsInRange }
+{
+    let input = file_of(given, "INPUT")?;
+    let proof = file_of(given, "PROOF")?;
+    let out = file_of(given, "OUT")?;
+    Some(Request::Trim { input, proof, out })
+}

@@ -1,0 +1,52 @@
+//! `trim`: a formula is read, a proof of it checked while its file is read, and what stays of it is written.
+
+use crate::files::{PIECE, next_piece, no_memory, read_formula, refused};
+use crate::leaf_runs::refused_input;
+use crate::proof_file::{is_same_file, write_proof};
+use node_main::{Refusal, Report};
+use std::fs::{File, OpenFile};
+use std::rt::Runtime;
+use trimming::{Trimming, trim_report};
+
+/// Reads a proof to its end, also behind a fault, and feeds it piece by piece.
+fn feed<R: Runtime + AllocGlobal>(
+    rt: &R,
+    path: &str,
+    trimming: &mut Trimming,
+) -> Result<(), Refusal> {
+    let mut file = File::open(rt, path).map_err(|error| refused(error, Refusal::Proof))?;
+    let mut room = vec![in rt.alloc(); 0; PIECE].map_err(no_memory)?;
+    for _ in 0..u64::MAX {
+        let piece = next_piece(&mut file, &mut room, Refusal::Proof)?;
+        if piece.is_empty() {
+            return Ok(());
+        }
+        // A fault is answered again by `finish`.
+        let _ = trimming.feed(piece);
+    }
+    Err(Refusal::Proof)
+}
+
+/// Writes what stays of the proof in a file, of the formula in another, to a third one: whole or not at all, and to none of the files that are
+/// read. Of a faulty formula nothing more is read.
+pub(crate) fn trim<R: Runtime + AllocGlobal>(
+    rt: &R,
+    input: &str,
+    proof: &str,
+    out: &str,
+) -> Result<Report, Refusal> {
+    let formula = match read_formula(rt, input)? {
+        Ok(formula) => formula,
+        Err(fault) => return refused_input(rt, fault),
+    };
+    if is_same_file(rt, out, proof) || is_same_file(rt, out, input) {
+        return Err(Refusal::Writing);
+    }
+    let mut trimming = Trimming::new(rt.alloc(), formula).map_err(no_memory)?;
+    feed(rt, proof, &mut trimming)?;
+    let report = trim_report(rt.alloc(), trimming.finish()).map_err(no_memory)?;
+    if let Some(text) = &report.proof {
+        write_proof(rt, out, text, input, Some(proof))?;
+    }
+    Ok(report)
+}
