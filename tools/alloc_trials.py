@@ -103,6 +103,8 @@ RUNS = [
     ("join --cubes halves.icnf four.cnf kept left.lrat right.lrat", "s UNSATISFIABLE", 20),
     ("join --cubes halves.icnf units.cnf kept left.lrat", "c cubes of another formula", 1),
     ("model units.cnf answer", "s VERIFIED", 0),
+    ("trim four.cnf groups.lrat kept", "s VERIFIED", 0),
+    ("trim four.cnf unfinished.lrat kept", "s NOT VERIFIED", 1),
 ]
 
 # A coordinator and its one worker as processes. In turn each allocation of the one is refused, and the other has ample memory.

@@ -44,8 +44,6 @@ mod propagators;
 #[cfg(test)]
 mod searches;
 #[cfg(test)]
-mod shortened;
-#[cfg(test)]
 mod splits;
 #[cfg(test)]
 mod steps;
@@ -54,7 +52,9 @@ mod trails;
 #[cfg(test)]
 mod trees;
 #[cfg(test)]
-mod trimming;
+mod trimmed_fragments;
+#[cfg(test)]
+mod trimmed_proofs;
 #[cfg(test)]
 mod units;
 #[cfg(test)]
