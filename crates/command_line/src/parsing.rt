@@ -5,7 +5,9 @@ ghost use Rattle.command_line.specs.CommandLine.{AreTaken, AsksFor, IsInRange, I
 ghost use Rattle.command_line.specs.inner.Refusing.{fault_of_refusal};
 ghost use Rattle.command_line.specs.declared.request.Request.{Request};
 
-use crate::commands::{check, cubes, drill, join, leaf, lift, model, refute, serve, solve, trim, work};
+use crate::commands::{
+    check, cubes, drill, join, leaf, lift, model, refute, serve, solve, trim, work,
+};
 use crate::request::{Request, UsageFault};
 use std::alloc::{AllocError, Global};
 use word_rules::{Found, ProgramRules, Refusal, parse};
