@@ -249,6 +249,12 @@ fn a_leaf_and_a_lift_and_a_model(rt: HostRuntime) -> Result<(), Fail> {
         output: "-",
     };
     asks(&rt, alloc, "satcluster model f.cnf -", model)?;
+    let trim = Request::Trim {
+        input: "f.cnf",
+        proof: "f.lrat",
+        out: "g.lrat",
+    };
+    asks(&rt, alloc, "satcluster trim f.cnf f.lrat g.lrat", trim)?;
     Ok(())
 }
 

@@ -1,6 +1,6 @@
 //! `trim`: a formula is read, a proof of it checked while its file is read, and what stays of it is written.
 
-use crate::files::{PIECE, next_piece, no_memory, read_formula, refused};
+use crate::files::{PIECE, has_size, next_piece, no_memory, read_formula, refused};
 use crate::leaf_runs::refused_input;
 use crate::proof_file::{is_same_file, write_proof};
 use node_main::{Refusal, Report};
@@ -8,7 +8,8 @@ use std::fs::{File, OpenFile};
 use std::rt::Runtime;
 use trimming::{Trimming, trim_report};
 
-/// Reads a proof to its end, also behind a fault, and feeds it piece by piece.
+/// Reads a proof to its end, also behind a fault, and feeds it piece by piece. What has no size is read up to the first fault, or up to want
+/// of memory.
 fn feed<R: Runtime + AllocGlobal>(
     rt: &R,
     path: &str,
@@ -16,13 +17,16 @@ fn feed<R: Runtime + AllocGlobal>(
 ) -> Result<(), Refusal> {
     let mut file = File::open(rt, path).map_err(|error| refused(error, Refusal::Proof))?;
     let mut room = vec![in rt.alloc(); 0; PIECE].map_err(no_memory)?;
+    let has_size = has_size(&file);
     for _ in 0..u64::MAX {
         let piece = next_piece(&mut file, &mut room, Refusal::Proof)?;
         if piece.is_empty() {
             return Ok(());
         }
         // A fault is answered again by `finish`.
-        let _ = trimming.feed(piece);
+        if trimming.feed(piece).is_err() && !has_size {
+            return Ok(());
+        }
     }
     Err(Refusal::Proof)
 }
