@@ -1,5 +1,5 @@
 -- Lifting of a text that comes in pieces.
-use Rattle.std.specs.Prelude.{◌≡◌, ◌⊎◌, ℕ, Bool, true, false, List, [], ◌∷◌, ◌++◌, ◌==◌, Option, Some, None, Result, Ok, Err, length, slice_get, if◌then◌else◌}
+use Rattle.std.specs.Prelude.{◌≡◌, ◌⊎◌, ℕ, Bool, true, false, List, [], ◌∷◌, ◌++◌, ◌==◌, ◌%◌, Option, Some, None, Result, Ok, Err, length, slice_get, if◌then◌else◌}
 use Rattle.dimacs.specs.logic.Cnf.{Cnf}
 use Rattle.lrat_text.specs.Log.{Cube}
 use Rattle.lrat_text.specs.Writing.{line_of}
@@ -16,15 +16,23 @@ pub record Held : Type 0 where
   pub formula : Cnf
   pub cube : Cube
   pub live : List Bool
-  pub lemmas : List (ℕ × Stand)
+  pub lemmas : List (List (ℕ × Stand))
   pub top : ℕ
   pub own : ℕ
   pub closed : Bool
 
--- what stands for the lemma of a number
-abbrev pub lemma_stand : List (ℕ × Stand) → ℕ → Option Stand
+-- what stands for the lemma of a number, in a list
+abbrev pub lemma_stand : List (ℕ × Stand) → Stands
 lemma_stand [] n = None
 lemma_stand (e ∷ es) n = if n == e.0 then Some e.1 else lemma_stand es n
+
+abbrev pub lemma_in : Option (List (ℕ × Stand)) → Stands
+lemma_in None n = None
+lemma_in (Some es) n = lemma_stand es n
+
+-- each lemma lies in the list of its number's remainder
+abbrev pub lemma_among : List (List (ℕ × Stand)) → Stands
+lemma_among lists n = lemma_in (slice_get lists (n % 8192)) n
 
 -- by whether the number is one of the leaf's formula, and live
 abbrev pub by_live : Cnf → ℕ → Option Stand → Option Bool → Option Stand
@@ -32,8 +40,8 @@ by_live F n lemma None = lemma
 by_live F n lemma (Some true) = Some (place_stand F n)
 by_live F n lemma (Some false) = None
 
-abbrev pub stands_in : Cnf → List Bool → List (ℕ × Stand) → Stands
-stands_in F live lemmas n = by_live F n (lemma_stand lemmas n) (slice_get live n)
+abbrev pub stands_in : Cnf → List Bool → List (List (ℕ × Stand)) → Stands
+stands_in F live lemmas n = by_live F n (lemma_among lemmas n) (slice_get live n)
 
 abbrev pub state_in : Held → State
 state_in h = record { stands = stands_in h.formula h.live h.lemmas; top = h.top; own = h.own; closed = h.closed }

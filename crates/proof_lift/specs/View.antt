@@ -3,7 +3,8 @@ use Rattle.std.specs.Prelude.{ℕ, List, Option, Some, None, map}
 use Rattle.std.specs.BTreeMap.{BTreeMap}
 use Rattle.proof_lift.specs.Stream.{Held}
 use Rattle.proof_lift.specs.Walking.{Stand, Gone, Kept}
-use Rattle.proof_lift.specs.declared.images.Own.{Own}
+use Rattle.proof_lift.specs.declared.lemmas.Lemmas.{Lemmas}
+use Rattle.proof_lift.specs.declared.lemmas.Own.{Own}
 use Rattle.proof_lift.specs.declared.lifting.Lifting.{Lifting}
 
 -- what stands for a lemma
@@ -11,9 +12,13 @@ abbrev pub stand_of_own : Option Own → Stand
 stand_of_own None = Gone
 stand_of_own (Some own) = Kept own.number own.literals.items
 
+-- the live lemmas of a map
+abbrev pub entries_of : BTreeMap ℕ (Option Own) → List (ℕ × Stand)
+entries_of m = map (λ e. (e.0, stand_of_own e.1)) m.entries
+
 -- the live lemmas
-abbrev pub lemmas_of : BTreeMap ℕ (Option Own) → List (ℕ × Stand)
-lemmas_of m = map (λ e. (e.0, stand_of_own e.1)) m.entries
+abbrev pub lemmas_of : Lemmas → List (List (ℕ × Stand))
+lemmas_of x = map entries_of x.maps.items
 
 abbrev pub held_of : Lifting → Held
 held_of x = record {

@@ -51,9 +51,11 @@ fn live_numbers(alloc: Global, images: &Images) -> Result<Vec<u64>, AllocError> 
             numbers.push(number)?;
         }
     }
-    for (number, own) in images.lemmas.iter() {
-        if own.is_some() {
-            numbers.push(*number)?;
+    for map in images.lemmas.maps.iter() {
+        for (number, own) in map.iter() {
+            if own.is_some() {
+                numbers.push(*number)?;
+            }
         }
     }
     Ok(numbers)

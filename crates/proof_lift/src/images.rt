@@ -6,9 +6,9 @@ ghost use Rattle.dimacs.specs.logic.Literal.{Literal};
 ghost use Rattle.proof_lift.specs.Lifting.{leaf_stands, with_stand};
 ghost use Rattle.proof_lift.specs.inner.Images.{stand_in, stands_of};
 
+use crate::lemmas::{Lemmas, Own};
 use dimacs::{Formula, Lit};
 use std::alloc::{AllocError, Global};
-use std::collections::BTreeMap;
 
 /// What stands for the clause of a foreign number.
 #[derive(Clone, Copy)]
@@ -21,21 +21,13 @@ pub(crate) enum Image<'a> {
     Kept(u64, &'a [Lit]),
 }
 
-/// A lemma of the log.
-#[derive(Drop)]
-pub(crate) struct Own {
-    pub(crate) number: u64,
-    pub(crate) literals: Vec<Lit>,
-}
-
 /// What stands for the live clauses. The formula's are held once and never copied.
 #[derive(Drop)]
 pub(crate) struct Images {
     pub(crate) formula: Formula,
     /// Which clauses of the leaf's formula are live, by their numbers.
     pub(crate) live: Vec<bool>,
-    /// What stands for the live lemmas: none where the lemma has a literal of the cube.
-    pub(crate) lemmas: BTreeMap<u64, Option<Own>>,
+    pub(crate) lemmas: Lemmas,
 }
 
 /// So many clauses are live, numbered from 1.
@@ -59,10 +51,11 @@ impl Images {
         ensures live { IfOk result (λ x. length x.live.items ≡ length formula.clauses + units + 1) }
     {
         let live = all_live(alloc, formula.len() + units)?;
+        let lemmas = Lemmas::new(alloc)?;
         Ok(Images {
             formula,
             live,
-            lemmas: BTreeMap::new(alloc),
+            lemmas,
         })
     }
 
@@ -86,11 +79,7 @@ impl Images {
         requires { length self.now.live.items ≤ number }
         ensures { stand_in result ≡ stands_of self.now number }
     {
-        match self.lemmas.get(&number) {
-            Some(Some(own)) => Image::Kept(own.number, &own.literals),
-            Some(None) => Image::Gone,
-            None => Image::None,
-        }
+        self.lemmas.get(number)
     }
 
     /// What stands for the clause of a number.
@@ -111,8 +100,7 @@ impl Images {
         ensures formula { self.new.formula ≡ self.old.formula }
         ensures live { length self.new.live.items ≡ length self.old.live.items }
     {
-        self.lemmas.insert(number, own)?;
-        Ok(())
+        self.lemmas.put(number, own)
     }
 
     /// Nothing stands for the clause of a number any more.
@@ -124,7 +112,7 @@ impl Images {
         if (number as usize) < self.live.len() {
             self.live[number as usize] = false;
         } else {
-            self.lemmas.remove(&number);
+            self.lemmas.remove(number);
         }
     }
 }

@@ -9,6 +9,7 @@ mod closing;
 mod fault;
 mod images;
 mod laws;
+mod lemmas;
 mod lifter;
 mod lifting;
 mod lines;

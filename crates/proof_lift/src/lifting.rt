@@ -21,7 +21,8 @@ ghost use Rattle.proof_lift.specs.inner.Writing.{WritesAs, IsFront};
 
 use crate::closing::refuting_hints;
 use crate::fault::LineFault;
-use crate::images::{Image, Images, Own};
+use crate::images::{Image, Images};
+use crate::lemmas::Own;
 use crate::marks::{assume_negations, join_cube, meets};
 use crate::scratch::Scratch;
 use dimacs::{Formula, Lit};
