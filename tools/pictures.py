@@ -24,7 +24,7 @@ KINDS = {
     "leaves as files": ("#fbe5d0", ["leaves", "completing", "gathering", "proof_lift", "answers"]),
     "machines and runs": (
         "#d8eaf7",
-        ["runs", "links", "hub", "cluster", "closed_schedules", "worker_core", "coordinator_core", "evidence", "frames"],
+        ["runs", "arriving", "links", "hub", "cluster", "closed_schedules", "worker_core", "coordinator_core", "evidence", "frames"],
     ),
     "search": (
         "#dff0d8",

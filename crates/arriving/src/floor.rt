@@ -209,7 +209,10 @@ fn end_overdue<A: Arrivals>(
         _ => return Ok(()),
     };
     end(links, desk, at.place, line);
-    desk.patience.note(leaf)
+    match leaf {
+        Some(leaf) => desk.patience.note(leaf),
+        None => Ok(()),
+    }
 }
 
 /// Ends each link that has been quiet for too long.
@@ -252,6 +255,15 @@ pub(crate) fn end_unserved<A: Arrivals>(
         };
         if !is_served {
             end(links, desk, place, &mut lines[place as usize]);
+        }
+    }
+}
+
+/// Whoever is linked counts as heard now.
+pub(crate) fn hear_all(lines: &mut [Option<Line>], tick: u64) {
+    for place in 0..lines.len() {
+        if let Some(line) = &mut lines[place] {
+            line.hear(tick);
         }
     }
 }

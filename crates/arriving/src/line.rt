@@ -6,8 +6,9 @@ use std::alloc::{AllocError, Global};
 /// How many ticks a greeting may take, and bytes that were asked for.
 const GREETING: u64 = 30;
 
-/// How many tasks in turn a worker may answer with Idle, which says that it does not take them.
-const DECLINED: u32 = 3;
+/// How many tasks in turn a worker may answer with Idle. One that does not take them answers all so; one that sends before it works, at
+/// most 255 before it searches.
+const DECLINED: u32 = 300;
 
 /// Why a link is used no more.
 #[derive(Clone, Copy, Debug, PartialEq, Eq)]
@@ -47,7 +48,7 @@ pub struct Line {
     since: u64,
     /// How many tasks in turn were answered with Idle.
     declined: u32,
-    /// The mark of the leaf that its worker has.
+    /// The mark of the leaf of its worker's last task.
     leaf: u64,
     /// How many ticks its task may take.
     patience: Option<u64>,
@@ -137,9 +138,12 @@ impl Line {
         self.incarnation
     }
 
-    /// The mark of the leaf that its worker has.
-    pub(crate) fn leaf(&self) -> u64 {
-        self.leaf
+    /// The mark of the leaf under which its worker searches.
+    pub(crate) fn leaf(&self) -> Option<u64> {
+        match self.standing {
+            Standing::Working => Some(self.leaf),
+            _ => None,
+        }
     }
 
     /// There is nothing to tell its worker.

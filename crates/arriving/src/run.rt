@@ -9,7 +9,7 @@ ghost use Rattle.arriving.specs.Run.{formula_of, verdict_of};
 
 use crate::coordinating::is_decided;
 use crate::floor::{
-    Desk, end_all_overdue, end_unserved, hear, reach, seat_all, tell_parked, welcome,
+    Desk, end_all_overdue, end_unserved, hear, hear_all, reach, seat_all, tell_parked, welcome,
 };
 use crate::line::Line;
 use crate::plan::Plan;
@@ -171,9 +171,14 @@ impl Run {
     pub fn hand_out<A: Arrivals>(&mut self, links: &mut A) -> Result<(), AllocError>
         ensures { formula_of self.new ≡ formula_of self.old }
     {
-        if !is_decided(&self.desk.coordinator) {
+        if !is_decided(&self.desk.coordinator) || !self.has_link() {
             return Ok(());
         }
+        // Time has gone by since the verdict, in which nobody was listened to.
+        if !self.hear_next(links)? {
+            return Ok(());
+        }
+        hear_all(&mut self.lines, self.tick);
         for _ in 0..ARRIVALS {
             end_unserved(links, &mut self.desk, self.tick, SILENCE, &mut self.lines);
             if !self.has_link() || !self.turn(links)? {
