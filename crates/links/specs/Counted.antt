@@ -1,5 +1,5 @@
 -- What links over a carrier have counted.
-use Rattle.std.specs.Prelude.{ℕ}
+use Rattle.std.specs.Prelude.{ℕ, slice_index}
 use Rattle.links.specs.declared.counted.Counted.{Counted}
 
 -- what they go by
@@ -13,3 +13,7 @@ calls_of links = links.tally.calls
 -- how many of them were refused
 abbrev pub refusals_of : {C : Type 0} → Counted C → ℕ
 refusals_of links = links.tally.refusals
+
+-- how many of those at the link of this worker
+abbrev pub refused_of : {C : Type 0} → Counted C → ℕ → ℕ
+refused_of links worker = slice_index links.tally.refused worker

@@ -1,4 +1,5 @@
 pub mod Counts
+pub mod Ends
 pub mod Counted
 pub mod Scripted
 pub mod Linked

@@ -1,17 +1,22 @@
 //! Links over any carrier.
 
-ghost use Rattle.std.specs.Prelude.{◌≡◌};
+ghost use Rattle.std.specs.Prelude.{◌≡◌, ◌≢◌, ◌≤◌, ◌<◌, ℕ, length, slice_index};
 ghost use Rattle.links.specs.Counts.{one_more, one_more_if_err};
-ghost use Rattle.links.specs.Counted.{carrier_of, calls_of, refusals_of};
+ghost use Rattle.links.specs.Counted.{carrier_of, calls_of, refusals_of, refused_of};
+ghost use Rattle.links.specs.Ends.{link_of};
 
 use crate::carrier::Carrier;
 use crate::link::{End, LinkFault, Links};
 
-/// How often a carrier was called, and how often it refused.
-#[derive(Clone, Copy, Debug, PartialEq, Eq)]
+/// How many links are counted by themselves: those of workers 0 to 64.
+const LINKS: usize = 65;
+
+/// How often a carrier was called, how often it refused, and how often at each link.
+#[derive(Drop)]
 struct Tally {
     calls: u64,
     refusals: u64,
+    refused: [u64; LINKS],
 }
 
 /// Links that go by a carrier, with the counts that it does not keep.
@@ -30,16 +35,38 @@ pub(crate) fn count(n: &mut u64)
     }
 }
 
+/// The worker whose link an end is of.
+fn worker_of(end: End) -> u32
+    ensures { result ≡ link_of end }
+{
+    match end {
+        End::Coordinator(worker) | End::Worker(worker) => worker,
+    }
+}
+
+/// Counts one more at a place, where there is one.
+fn count_at(counts: &mut [u64], place: usize)
+    ensures here { place < length counts.old → slice_index counts.new place ≡ one_more (slice_index counts.old place) }
+    ensures elsewhere { (p : ℕ) → p ≢ place → slice_index counts.new p ≡ slice_index counts.old p }
+{
+    if place < counts.len() {
+        count(&mut counts[place]);
+    }
+}
+
 impl Tally {
-    /// Notes what a call answered.
-    fn note<T>(&mut self, answer: Result<T, LinkFault>) -> Result<T, LinkFault>
+    /// Notes what a call at an end answered.
+    fn note<T>(&mut self, end: End, answer: Result<T, LinkFault>) -> Result<T, LinkFault>
         ensures answer { result ≡ answer }
         ensures calls { self.new.calls ≡ one_more self.old.calls }
         ensures refusals { self.new.refusals ≡ one_more_if_err result self.old.refusals }
+        ensures here { link_of end ≤ 64 → slice_index self.new.refused (link_of end) ≡ one_more_if_err result (slice_index self.old.refused (link_of end)) }
+        ensures elsewhere { (worker : ℕ) → worker ≢ link_of end → slice_index self.new.refused worker ≡ slice_index self.old.refused worker }
     {
         count(&mut self.calls);
         if answer.is_err() {
             count(&mut self.refusals);
+            count_at(&mut self.refused, worker_of(end) as usize);
         }
         answer
     }
@@ -51,12 +78,14 @@ impl<C> Counted<C> {
         ensures carrier { carrier_of result ≡ carrier }
         ensures calls { calls_of result ≡ 0 }
         ensures refusals { refusals_of result ≡ 0 }
+        ensures refused { (worker : ℕ) → refused_of result worker ≡ 0 }
     {
         Counted {
             carrier,
             tally: Tally {
                 calls: 0,
                 refusals: 0,
+                refused: [0; LINKS],
             },
         }
     }
@@ -74,14 +103,16 @@ impl<C: Carrier> Links for Counted<C> {
 
     ghost refusal_count = { refusals_of };
 
+    ghost refused_at = { refused_of };
+
     fn send(&mut self, from: End, bytes: &[u8]) -> Result<(), LinkFault> {
         let answer = self.carrier.carry(from, bytes);
-        self.tally.note(answer)
+        self.tally.note(from, answer)
     }
 
     fn receive(&mut self, at: End, room: &mut [u8]) -> Result<usize, LinkFault> {
         let answer = self.carrier.fetch(at, room);
-        self.tally.note(answer)
+        self.tally.note(at, answer)
     }
 
     fn calls(&self) -> u64 {

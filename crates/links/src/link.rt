@@ -1,7 +1,8 @@
 //! What links are.
 
-ghost use Rattle.std.specs.Prelude.{◌≡◌, ◌≤◌, ℕ, length, IfOk};
+ghost use Rattle.std.specs.Prelude.{◌≡◌, ◌≢◌, ◌≤◌, ℕ, length, IfOk};
 ghost use Rattle.links.specs.Counts.{one_more, one_more_if_err};
+ghost use Rattle.links.specs.Ends.{link_of};
 
 use thiserror::Error;
 
@@ -19,23 +20,29 @@ pub enum End {
 #[error("the link refused")]
 pub struct LinkFault;
 
-/// Links that carry bytes between a coordinator and its workers, and count the calls and the refusals. Both counts stay at
-/// 2^64 - 1.
+/// Links that carry bytes between a coordinator and its workers, and count the calls and the refusals, of each link of workers up to 64
+/// too. The counts stay at 2^64 - 1.
 pub trait Links {
     ghost call_count: { Self → ℕ };
 
     ghost refusal_count: { Self → ℕ };
 
+    ghost refused_at: { Self → ℕ → ℕ };
+
     /// Sends bytes from an end to the other one.
     fn send(&mut self, from: End, bytes: &[u8]) -> Result<(), LinkFault>
         ensures calls { call_count self.new ≡ one_more (call_count self.old) }
-        ensures refusals { refusal_count self.new ≡ one_more_if_err result (refusal_count self.old) };
+        ensures refusals { refusal_count self.new ≡ one_more_if_err result (refusal_count self.old) }
+        ensures here { link_of from ≤ 64 → refused_at self.new (link_of from) ≡ one_more_if_err result (refused_at self.old (link_of from)) }
+        ensures elsewhere { (worker : ℕ) → worker ≢ link_of from → refused_at self.new worker ≡ refused_at self.old worker };
 
     /// Puts bytes that came to an end at the front of the room, and answers how many; 0 means that the link has ended.
     fn receive(&mut self, at: End, room: &mut [u8]) -> Result<usize, LinkFault>
         ensures bound { IfOk result (λ n. n ≤ length room.new) }
         ensures calls { call_count self.new ≡ one_more (call_count self.old) }
-        ensures refusals { refusal_count self.new ≡ one_more_if_err result (refusal_count self.old) };
+        ensures refusals { refusal_count self.new ≡ one_more_if_err result (refusal_count self.old) }
+        ensures here { link_of at ≤ 64 → refused_at self.new (link_of at) ≡ one_more_if_err result (refused_at self.old (link_of at)) }
+        ensures elsewhere { (worker : ℕ) → worker ≢ link_of at → refused_at self.new worker ≡ refused_at self.old worker };
 
     /// How many sends and receives there were.
     fn calls(&self) -> u64

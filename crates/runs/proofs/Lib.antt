@@ -1,3 +1,4 @@
 mod Machines
 mod Standings
+mod Refusals
 mod Servings

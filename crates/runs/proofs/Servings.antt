@@ -1,12 +1,12 @@
 -- What the rounds at the coordinator's end have done.
-use Rattle.std.proofs.Common.{◌≡◌, ◌≤◌, ◌<◌, ℕ, ◌+◌, ◌*◌, ◌⊎◌, ◌∙◌, inl, inr, List, [], ◌∷◌, length, Bool, true, false, not, refl, ap, drop, set, get_or, arith}
+use Rattle.std.proofs.Common.{◌≡◌, ◌≤◌, ◌<◌, ℕ, ◌+◌, ◌*◌, ◌⊎◌, ◌∙◌, inl, inr, List, [], ◌∷◌, ◌++◌, length, Bool, true, false, not, refl, ap, drop, set, get_or, arith}
 use Rattle.std.specs.List.{list_all}
 use Rattle.std.proofs.lemmas.List.{drop-set-lt, drop_more}
-use Rattle.std.proofs.lemmas.List.Sums.{sum_by-cons, sum_by-set}
+use Rattle.std.proofs.lemmas.List.Sums.{sum_by-append, sum_by-cons, sum_by-set}
 use Rattle.lrat_check.specs.declared.verdict.Verdict.{Verdict}
 use Rattle.lrat_check.specs.declared.verdict.Verdict.TheVariants.{Nothing}
 use Rattle.runs.specs.Accounts.{HasBegun, RoseBy}
-use Rattle.runs.specs.inner.Accounts.{one_if_open}
+use Rattle.runs.specs.inner.Accounts.{EachCloses, one_if_open}
 use Rattle.runs.specs.inner.Served.{HasServed, HasTurned, open_lines}
 use Rattle.runs.proofs.Standings.{rose_more, rose_on}
 use Rattle.coordinator_core.specs.Coordinator.{CoordinatorState}
@@ -15,6 +15,7 @@ use Rattle.runs.specs.declared.line.Line.{Line}
 pub record Stand : Type 0 where
   pub calls : ℕ
   pub refusals : ℕ
+  pub refused : ℕ → ℕ
   pub desk : CoordinatorState
   pub lines : List Line
 
@@ -24,6 +25,7 @@ pub record HasGone (old new : Stand) (rounds : ℕ) : Type 0 where
   pub workers : length new.desk.jobs ≡ length old.desk.jobs
   pub lines : length new.lines ≡ length old.lines
   pub refusals : new.refusals + open_lines new.lines ≤ old.refusals + open_lines old.lines
+  pub each : EachCloses (λ l. l.is_open) old.refused new.refused old.lines new.lines
   pub most : new.calls ≤ old.calls + 4038 * length old.lines * rounds
   pub served : (base : ℕ) → HasServed base old.calls old.desk.verdict old.lines → HasServed base new.calls new.desk.verdict new.lines
   pub rose : (base : ℕ) → HasServed base old.calls old.desk.verdict old.lines → RoseBy (1 + rounds) base new.calls
@@ -96,12 +98,21 @@ another_round over rounds a b c on before rises some = elim some [
   ]
 ]
 
+-- a line behind the others
+pub greeted : (new mid old i : ℕ) (lines : List Line) (y : Line) → new + one_if_open y.is_open ≤ mid + 1 → mid + open_lines lines ≤ old + i
+    → new + open_lines (lines ++ y ∷ []) ≤ old + (i + 1)
+greeted new mid old i lines y turn before =
+    let sums : open_lines (lines ++ y ∷ []) ≡ open_lines lines + open_lines (y ∷ []) = sum_by-append (λ (x : Line). one_if_open x.is_open) lines (y ∷ []) in
+    let last : open_lines (y ∷ []) ≡ one_if_open y.is_open + 0 = split y [] in
+    omega (arith, sums, last, turn, before)
+
 -- a round has come to this link
 pub record HasServedTo (old new : Stand) (i : ℕ) : Type 0 where
   pub formula : new.desk.formula ≡ old.desk.formula
   pub workers : length new.desk.jobs ≡ length old.desk.jobs
   pub lines : length new.lines ≡ length old.lines
   pub refusals : new.refusals + open_lines new.lines ≤ old.refusals + open_lines old.lines
+  pub each : EachCloses (λ l. l.is_open) old.refused new.refused old.lines new.lines
   pub rises : old.calls ≤ new.calls
   pub most : new.calls ≤ old.calls + 4038 * i
   pub served : (base : ℕ) → HasServed base old.calls old.desk.verdict old.lines → HasServed base new.calls new.desk.verdict new.lines

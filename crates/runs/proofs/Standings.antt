@@ -1,18 +1,19 @@
 -- What a round has done up to a link.
-use Rattle.std.proofs.Common.{◌≡◌, ◌≤◌, ℕ, ◌+◌, ◌*◌, ◌⊎◌, inl, inr, List, [], ◌∷◌, length, Bool, true, false, ◌++◌, Result, Ok, Err, OnOk, suc, subst, refl, arith}
-use Rattle.std.proofs.lemmas.List.Sums.{sum_by-cons}
+use Rattle.std.proofs.Common.{◌≡◌, ◌≤◌, ℕ, ◌+◌, ◌*◌, ◌⊎◌, inl, inr, List, [], ◌∷◌, length, Bool, true, false, ◌++◌, Result, Ok, Err, OnOk, suc, subst, refl, sym, ap, get_or, set, ◌<◌, arith}
+use Rattle.std.proofs.lemmas.List.Sums.{sum_by-cons, sum_by-set}
 use Rattle.lrat_check.specs.declared.verdict.Verdict.{Verdict}
 use Rattle.lrat_check.specs.declared.verdict.Verdict.TheVariants.{Nothing}
 use Rattle.runs.specs.declared.broken.Broken.{Broken}
 use Rattle.runs.specs.declared.broken.Broken.TheVariants.{Closed, NoMemory}
 use Rattle.runs.specs.Accounts.{RoseBy, HasBegun}
-use Rattle.runs.specs.inner.Accounts.{FirstIsUntouched, one_if_open, open_count, IsUntouched}
+use Rattle.runs.specs.inner.Accounts.{EachCloses, FirstIsUntouched, one_if_open, open_count, IsUntouched}
 use Rattle.coordinator_core.specs.Coordinator.{CoordinatorState}
 use Rattle.runs.specs.declared.seat.Seat.{Seat}
 
 pub record Standing : Type 0 where
   pub calls : ℕ
   pub refusals : ℕ
+  pub refused : ℕ → ℕ
   pub desk : CoordinatorState
   pub seats : List Seat
 
@@ -22,6 +23,7 @@ pub record HasCome (old new : Standing) (i : ℕ) : Type 0 where
   pub workers : length new.desk.jobs ≡ length old.desk.jobs
   pub seats : length new.seats ≡ length old.seats
   pub refusals : new.refusals + open_count new.seats ≤ old.refusals + open_count old.seats
+  pub each : EachCloses (λ s. s.is_open) old.refused new.refused old.seats new.seats
   pub rises : old.calls ≤ new.calls
   pub most : new.calls ≤ old.calls + 8076 * i
   pub goes_on : (base : ℕ) → HasBegun base old.calls old.desk.verdict → HasBegun base new.calls new.desk.verdict
@@ -34,6 +36,7 @@ pub record HasPlayed (old new : Standing) (rounds : ℕ) : Type 0 where
   pub workers : length new.desk.jobs ≡ length old.desk.jobs
   pub seats : length new.seats ≡ length old.seats
   pub refusals : new.refusals + open_count new.seats ≤ old.refusals + open_count old.seats
+  pub each : EachCloses (λ s. s.is_open) old.refused new.refused old.seats new.seats
   pub most : new.calls ≤ old.calls + 8076 * length old.seats * rounds
   pub begun : ((rounds ≡ 0) × (new ≡ old)) ⊎ HasBegun old.calls new.calls new.desk.verdict
 
@@ -83,6 +86,45 @@ rose_more j k a b c first second rises = elim first [
     | inr top ↦ inr top
   ]
   | inr top ↦ inr (omega (arith, top, rises))
+]
+
+-- a seat in the place of an open one
+pub refused_visit : (new mid all : ℕ) (seats : List Seat) (i : ℕ) (y d : Seat) → i < length seats → (get_or seats i d).is_open ≡ true
+    → new + one_if_open y.is_open ≤ mid + 1 → mid + open_count seats ≤ all → new + open_count (set seats i y) ≤ all
+refused_visit new mid all seats i y d at is_open turn before =
+    let sums = sum_by-set (λ (x : Seat). one_if_open x.is_open) seats i y d at in
+    let was : one_if_open (get_or seats i d).is_open ≡ 1 = ap one_if_open is_open in
+    omega (arith, sums, was, turn, before)
+
+untouched_first : (seats : List Seat) (d : Seat) → FirstIsUntouched seats → IsUntouched (get_or seats 0 d)
+untouched_first [] d first = absurd first
+untouched_first (s ∷ seats) d first = first
+
+-- the first link is open, before anything was done
+pub never_closed : (old mid : Standing) (i : ℕ) (d : Seat) → (i ≡ 0) × (mid ≡ old) → FirstIsUntouched old.seats → (get_or mid.seats i d).is_open ≡ false → ⊥
+never_closed old mid i d same first closed =
+    let as_old = subst (λ (s : Standing). (get_or s.seats 0 d).is_open ≡ true) (sym same.1) (untouched_first old.seats d first).is_open in
+    let here = subst (λ k. (get_or mid.seats k d).is_open ≡ true) (sym same.0) as_old in
+    cc
+
+-- a turn of an open link, the first one or another
+pub begun_here : (old mid : Standing) (i calls : ℕ) (w : Verdict) (d : Seat) → ((i ≡ 0) × (mid ≡ old)) ⊎ HasBegun old.calls mid.calls mid.desk.verdict
+    → FirstIsUntouched old.seats → mid.calls ≤ calls → RoseBy 1 mid.calls calls → (w ≡ Nothing) ⊎ RoseBy 2 mid.calls calls
+    → ((get_or mid.seats i d).down.waiting.items ≡ [] → (w ≡ Nothing) ⊎ RoseBy 3 mid.calls calls)
+    → HasBegun old.calls calls w
+begun_here old mid i calls w d begins first rises one two three = elim begins [
+  | inl same ↦
+      let from : mid.calls ≡ old.calls = ap (λ (s : Standing). s.calls) same.1 in
+      let as_old = subst (λ (s : Standing). (get_or s.seats 0 d).down.waiting.items ≡ []) (sym same.1) (untouched_first old.seats d first).empty in
+      let empty = subst (λ k. (get_or mid.seats k d).down.waiting.items ≡ []) (sym same.0) as_old in
+      record {
+        one = subst (λ a. RoseBy 1 a calls) from one;
+        three = elim (three empty) [ inl nothing ↦ inl nothing | inr rose ↦ inr (subst (λ a. RoseBy 3 a calls) from rose) ];
+      }
+  | inr begun ↦ record {
+    one = rose_on 1 old.calls mid.calls calls begun.one rises;
+    three = elim two [ inl nothing ↦ inl nothing | inr rose ↦ inr (rose_more 1 2 old.calls mid.calls calls begun.one rose rises) ];
+  }
 ]
 
 abbrev pub fails : Broken → Result (Unit {0}) Broken

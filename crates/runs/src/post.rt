@@ -1,7 +1,9 @@
 //! Frames over links.
 
 ghost use Rattle.std.specs.Prelude.{◌≡◌, ◌≤◌, ◌+◌, [], OnOk, OnErr};
+ghost use Rattle.links.specs.Ends.{link_of};
 ghost use Rattle.runs.specs.Accounts.{RoseBy};
+ghost use Rattle.runs.specs.inner.Accounts.{NoneRefused, OneRefused};
 
 use crate::broken::Broken;
 use crate::inbox::Inbox;
@@ -16,11 +18,14 @@ pub(crate) const ROUNDS: u64 = 1_000_000;
 
 /// Sends a frame.
 pub(crate) fn send<L: Links>(links: &mut L, from: End, frame: &Frame) -> Result<(), Broken>
+    requires { link_of from ≤ 64 }
     ensures least { RoseBy 1 (L.call_count links.old) (L.call_count links.new) }
     ensures most { L.call_count links.new ≤ L.call_count links.old + 1 }
     ensures rises { L.call_count links.old ≤ L.call_count links.new }
     ensures ok { OnOk result (L.refusal_count links.new ≤ L.refusal_count links.old) }
     ensures err { OnErr result (L.refusal_count links.new ≤ L.refusal_count links.old + 1) }
+    ensures unrefused { OnOk result (NoneRefused (L.refused_at links.old) (L.refused_at links.new)) }
+    ensures refused { OneRefused (link_of from) (L.refused_at links.old) (L.refused_at links.new) }
 {
     let mut room = [0u8; LONGEST];
     let count = len(frame);
@@ -33,11 +38,14 @@ pub(crate) fn send<L: Links>(links: &mut L, from: End, frame: &Frame) -> Result<
 
 /// Receives once.
 fn receive_some<L: Links>(links: &mut L, at: End, inbox: &mut Inbox) -> Result<(), Broken>
+    requires { link_of at ≤ 64 }
     ensures least { RoseBy 1 (L.call_count links.old) (L.call_count links.new) }
     ensures most { L.call_count links.new ≤ L.call_count links.old + 1 }
     ensures rises { L.call_count links.old ≤ L.call_count links.new }
     ensures ok { OnOk result (L.refusal_count links.new ≤ L.refusal_count links.old) }
     ensures err { OnErr result (L.refusal_count links.new ≤ L.refusal_count links.old + 1) }
+    ensures unrefused { OnOk result (NoneRefused (L.refused_at links.old) (L.refused_at links.new)) }
+    ensures refused { OneRefused (link_of at) (L.refused_at links.old) (L.refused_at links.new) }
 {
     let mut room = [0u8; LONGEST];
     match links.receive(at, &mut room) {
@@ -49,11 +57,14 @@ fn receive_some<L: Links>(links: &mut L, at: End, inbox: &mut Inbox) -> Result<(
 /// The next frame of an end: one that waits, or else the first that becomes whole. Each receive brings a byte, so that
 /// 4,037 of them are enough.
 pub(crate) fn receive<L: Links>(links: &mut L, at: End, inbox: &mut Inbox) -> Result<Frame, Broken>
+    requires { link_of at ≤ 64 }
     ensures least { inbox.old.waiting.items ≡ [] → RoseBy 1 (L.call_count links.old) (L.call_count links.new) }
     ensures most { L.call_count links.new ≤ L.call_count links.old + 4037 }
     ensures rises { L.call_count links.old ≤ L.call_count links.new }
     ensures ok { OnOk result (L.refusal_count links.new ≤ L.refusal_count links.old) }
     ensures err { OnErr result (L.refusal_count links.new ≤ L.refusal_count links.old + 1) }
+    ensures unrefused { OnOk result (NoneRefused (L.refused_at links.old) (L.refused_at links.new)) }
+    ensures refused { OneRefused (link_of at) (L.refused_at links.old) (L.refused_at links.new) }
 {
     for _ in 0..LONGEST {
         if let Some(frame) = inbox.next() {

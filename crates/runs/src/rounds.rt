@@ -3,8 +3,8 @@
 ghost use Rattle.std.specs.Prelude.{◌≡◌, ◌≤◌, ◌+◌, ◌*◌, ◌⊎◌, ℕ, length, [], OnOk, OnErr, true, false};
 ghost use Rattle.coordinator_core.specs.Coordinator.{IsWorker};
 ghost use Rattle.lrat_check.specs.declared.verdict.Verdict.TheVariants.{Nothing};
-ghost use Rattle.runs.specs.Accounts.{RoseBy, HasBegun};
-ghost use Rattle.runs.specs.inner.Accounts.{FirstIsUntouched, one_if_open, open_count};
+ghost use Rattle.runs.specs.Accounts.{RoseBy, HasBegun, OnceEach};
+ghost use Rattle.runs.specs.inner.Accounts.{FirstIsUntouched, NoneRefused, OneRefused, Closes, EachCloses, one_if_open, open_count};
 
 use crate::broken::{Broken, ended};
 use crate::coordinating::{deliver, is_over, lose, poll, share};
@@ -33,14 +33,18 @@ fn exchange<L: Links>(
     ensures one { RoseBy 1 (L.call_count links.old) (L.call_count links.new) }
     ensures two { OnOk result (RoseBy 2 (L.call_count links.old) (L.call_count links.new)) }
     ensures three { OnOk result (seat.old.down.waiting.items ≡ [] → RoseBy 3 (L.call_count links.old) (L.call_count links.new)) }
+    // What is delivered was received, and so was what the worker took.
+    ensures four { OnOk result (seat.old.down.waiting.items ≡ [] → seat.old.up.waiting.items ≡ [] → RoseBy 4 (L.call_count links.old) (L.call_count links.new)) }
     ensures rises { L.call_count links.old ≤ L.call_count links.new }
     ensures most { L.call_count links.new ≤ L.call_count links.old + 8076 }
     ensures ok { OnOk result (L.refusal_count links.new ≤ L.refusal_count links.old) }
     ensures err { OnErr result (L.refusal_count links.new ≤ L.refusal_count links.old + 1) }
+    ensures unrefused { OnOk result (NoneRefused (L.refused_at links.old) (L.refused_at links.new)) }
+    ensures refused { OneRefused worker (L.refused_at links.old) (L.refused_at links.new) }
 {
     send(links, End::Coordinator(worker.number()), frame)?;
     let mut pace = Pace::new(Order::WorkThenSend);
-    answer(links, &mut seat.worker, &mut seat.down, &mut pace)?;
+    answer(links, worker, &mut seat.worker, &mut seat.down, &mut pace)?;
     let frame = receive(links, End::Coordinator(worker.number()), &mut seat.up)?;
     deliver(coordinator, &frame)?;
     share(coordinator, worker, &seat.worker);
@@ -60,6 +64,7 @@ fn visit<L: Links>(
     ensures formula { coordinator.new.formula ≡ coordinator.old.formula }
     ensures workers { length coordinator.new.jobs ≡ length coordinator.old.jobs }
     ensures refusals { L.refusal_count links.new + one_if_open seat.new.is_open ≤ L.refusal_count links.old + 1 }
+    ensures closes { Closes worker true seat.new.is_open (L.refused_at links.old) (L.refused_at links.new) }
     ensures one { OnOk result (RoseBy 1 (L.call_count links.old) (L.call_count links.new)) }
     ensures two { OnOk result ((coordinator.new.verdict ≡ Nothing) ⊎ RoseBy 2 (L.call_count links.old) (L.call_count links.new)) }
     ensures three { OnOk result (seat.old.down.waiting.items ≡ [] → (coordinator.new.verdict ≡ Nothing) ⊎ RoseBy 3 (L.call_count links.old) (L.call_count links.new)) }
@@ -93,6 +98,7 @@ fn round<L: Links>(
     ensures formula { coordinator.new.formula ≡ coordinator.old.formula }
     ensures workers { length coordinator.new.jobs ≡ length coordinator.old.jobs }
     ensures refusals { L.refusal_count links.new + open_count seats.new ≤ L.refusal_count links.old + open_count seats.old }
+    ensures each { EachCloses (λ s. s.is_open) (L.refused_at links.old) (L.refused_at links.new) seats.old seats.new }
     ensures rises { L.call_count links.old ≤ L.call_count links.new }
     ensures most { L.call_count links.new ≤ L.call_count links.old + 8076 * length seats.old }
     ensures goes_on { (base : ℕ) → HasBegun base (L.call_count links.old) coordinator.old.verdict → OnOk result (HasBegun base (L.call_count links.new) coordinator.new.verdict) }
@@ -125,6 +131,7 @@ pub(crate) fn run_rounds<L: Links>(
     requires stuck { coordinator.old.stuck ≡ false }
     ensures formula { coordinator.new.formula ≡ coordinator.old.formula }
     ensures refusals { L.refusal_count links.new ≤ L.refusal_count links.old + length seats.old }
+    ensures each { OnceEach (L.refused_at links.old) (L.refused_at links.new) }
     ensures most { L.call_count links.new ≤ L.call_count links.old + 8076000000 * length seats.old }
     ensures begun { OnOk result (HasBegun (L.call_count links.old) (L.call_count links.new) coordinator.new.verdict) }
 {

@@ -8,8 +8,8 @@ ghost use Rattle.cube_split.specs.Pairs.{IsBaseWith};
 ghost use Rattle.evidence.specs.Jobs.{IsInside};
 ghost use Rattle.lrat_check.specs.Verdicts.{Right};
 ghost use Rattle.lrat_check.specs.declared.verdict.Verdict.TheVariants.{Nothing};
-ghost use Rattle.runs.specs.Accounts.{RoseBy, HasBegun};
-ghost use Rattle.runs.specs.inner.Accounts.{one_if_open};
+ghost use Rattle.runs.specs.Accounts.{RoseBy, HasBegun, OnceEach};
+ghost use Rattle.runs.specs.inner.Accounts.{NoneRefused, OneRefused, Closes, ClosesBelow, EachCloses, one_if_open};
 ghost use Rattle.runs.specs.inner.Served.{HasServed, HasTurned, open_lines};
 
 use crate::broken::{Broken, ended};
@@ -42,6 +42,8 @@ fn greet<L: Links>(
     ensures most { L.call_count links.new ≤ L.call_count links.old + 4037 }
     ensures ok { OnOk result (L.refusal_count links.new ≤ L.refusal_count links.old) }
     ensures err { OnErr result (L.refusal_count links.new ≤ L.refusal_count links.old + 1) }
+    ensures unrefused { OnOk result (NoneRefused (L.refused_at links.old) (L.refused_at links.new)) }
+    ensures refused { OneRefused worker (L.refused_at links.old) (L.refused_at links.new) }
 {
     let frame = receive(links, End::Coordinator(worker.number()), inbox)?;
     match &frame {
@@ -68,6 +70,8 @@ fn line<L: Links>(
     ensures most { L.call_count links.new ≤ L.call_count links.old + 4037 }
     ensures refusals { IfOk result (λ l. L.refusal_count links.new + one_if_open l.is_open ≤ L.refusal_count links.old + 1) }
     ensures refused { L.refusal_count links.new ≤ L.refusal_count links.old + 1 }
+    ensures closes { IfOk result (λ l. Closes worker true l.is_open (L.refused_at links.old) (L.refused_at links.new)) }
+    ensures lone { OneRefused worker (L.refused_at links.old) (L.refused_at links.new) }
 {
     let mut inbox = match Inbox::new(alloc) {
         Ok(inbox) => inbox,
@@ -108,6 +112,8 @@ fn greet_all<L: Links>(
     ensures most { L.call_count links.new ≤ L.call_count links.old + 4037 * workers }
     ensures refusals { IfOk result (λ l. L.refusal_count links.new + open_lines l.items ≤ L.refusal_count links.old + workers) }
     ensures refused { L.refusal_count links.new ≤ L.refusal_count links.old + workers }
+    ensures closes { IfOk result (λ l. ClosesBelow (λ x. x.is_open) (workers + 1) (L.refused_at links.old) (L.refused_at links.new) l.items) }
+    ensures each { OnceEach (L.refused_at links.old) (L.refused_at links.new) }
 {
     let mut lines = Vec::new(alloc);
     for i in 0..workers {
@@ -138,6 +144,8 @@ fn converse<L: Links>(
     ensures most { L.call_count links.new ≤ L.call_count links.old + 4038 }
     ensures ok { OnOk result (L.refusal_count links.new ≤ L.refusal_count links.old) }
     ensures err { OnErr result (L.refusal_count links.new ≤ L.refusal_count links.old + 1) }
+    ensures unrefused { OnOk result (NoneRefused (L.refused_at links.old) (L.refused_at links.new)) }
+    ensures refused { OneRefused worker (L.refused_at links.old) (L.refused_at links.new) }
 {
     send(links, End::Coordinator(worker.number()), frame)?;
     let frame = receive(links, End::Coordinator(worker.number()), inbox)?;
@@ -156,6 +164,7 @@ fn serve_one<L: Links>(
     ensures formula { coordinator.new.formula ≡ coordinator.old.formula }
     ensures workers { length coordinator.new.jobs ≡ length coordinator.old.jobs }
     ensures refusals { L.refusal_count links.new + one_if_open line.new.is_open ≤ L.refusal_count links.old + 1 }
+    ensures closes { Closes worker true line.new.is_open (L.refused_at links.old) (L.refused_at links.new) }
     ensures one { OnOk result (RoseBy 1 (L.call_count links.old) (L.call_count links.new)) }
     ensures verdict { OnOk result ((coordinator.new.verdict ≡ coordinator.old.verdict) ⊎ (line.new.is_open ≡ true)) }
     ensures rises { L.call_count links.old ≤ L.call_count links.new }
@@ -187,6 +196,7 @@ fn turn<L: Links>(
     ensures formula { coordinator.new.formula ≡ coordinator.old.formula }
     ensures workers { length coordinator.new.jobs ≡ length coordinator.old.jobs }
     ensures refusals { L.refusal_count links.new + one_if_open line.new.is_open ≤ L.refusal_count links.old + one_if_open line.old.is_open }
+    ensures closes { Closes worker line.old.is_open line.new.is_open (L.refused_at links.old) (L.refused_at links.new) }
     ensures turned { OnOk result (HasTurned (L.call_count links.old) (L.call_count links.new) coordinator.old.verdict coordinator.new.verdict line.old line.new) }
     ensures rises { L.call_count links.old ≤ L.call_count links.new }
     ensures most { L.call_count links.new ≤ L.call_count links.old + 4038 }
@@ -211,6 +221,7 @@ fn serve_round<L: Links>(
     ensures formula { coordinator.new.formula ≡ coordinator.old.formula }
     ensures workers { length coordinator.new.jobs ≡ length coordinator.old.jobs }
     ensures refusals { L.refusal_count links.new + open_lines lines.new ≤ L.refusal_count links.old + open_lines lines.old }
+    ensures each { EachCloses (λ l. l.is_open) (L.refused_at links.old) (L.refused_at links.new) lines.old lines.new }
     ensures rises { L.call_count links.old ≤ L.call_count links.new }
     ensures most { L.call_count links.new ≤ L.call_count links.old + 4038 * length lines.old }
     ensures served { (base : ℕ) → HasServed base (L.call_count links.old) coordinator.old.verdict lines.old → OnOk result (HasServed base (L.call_count links.new) coordinator.new.verdict lines.new) }
@@ -246,6 +257,7 @@ fn serve_all<L: Links>(
     requires workers { length coordinator.old.jobs ≤ 64 }
     ensures formula { coordinator.new.formula ≡ coordinator.old.formula }
     ensures refusals { L.refusal_count links.new + open_lines lines.new ≤ L.refusal_count links.old + open_lines lines.old }
+    ensures each { EachCloses (λ l. l.is_open) (L.refused_at links.old) (L.refused_at links.new) lines.old lines.new }
     ensures most { L.call_count links.new ≤ L.call_count links.old + 4038000000 * length lines.old }
     ensures begun { (base : ℕ) → HasServed base (L.call_count links.old) coordinator.old.verdict lines.old → OnOk result (HasBegun base (L.call_count links.new) coordinator.new.verdict) }
 {
@@ -275,6 +287,7 @@ fn serve_rounds<L: Links>(
     requires verdict { coordinator.old.verdict ≡ Nothing }
     ensures formula { coordinator.new.formula ≡ coordinator.old.formula }
     ensures refusals { L.refusal_count links.new ≤ L.refusal_count links.old + workers }
+    ensures each { OnceEach (L.refused_at links.old) (L.refused_at links.new) }
     ensures most { L.call_count links.new ≤ L.call_count links.old + 4039000000 * workers }
     ensures begun { OnOk result (HasBegun (L.call_count links.old) (L.call_count links.new) coordinator.new.verdict) }
 {
@@ -305,6 +318,7 @@ pub fn serve<L: Links>(
     ensures used { IfOk result (HasBegun (L.call_count links.old) (L.call_count links.new)) }
     ensures most { L.call_count links.new ≤ L.call_count links.old + 4039000000 * plan.now.workers }
     ensures refusals { L.refusal_count links.new ≤ L.refusal_count links.old + plan.now.workers }
+    ensures each { OnceEach (L.refused_at links.old) (L.refused_at links.new) }
 {
     let made = Coordinator::with_defs(
         alloc,

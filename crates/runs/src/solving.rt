@@ -5,7 +5,7 @@ ghost use Rattle.dimacs.specs.logic.Cnf.{Cnf};
 ghost use Rattle.cube_split.specs.Pairs.{IsBaseWith};
 ghost use Rattle.evidence.specs.Jobs.{IsInside};
 ghost use Rattle.lrat_check.specs.Verdicts.{Right};
-ghost use Rattle.runs.specs.Accounts.{HasBegun};
+ghost use Rattle.runs.specs.Accounts.{HasBegun, OnceEach};
 ghost use Rattle.runs.specs.inner.Accounts.{FirstIsUntouched, IsUntouched};
 
 use crate::inbox::Inbox;
@@ -73,6 +73,7 @@ pub fn solve<L: Links>(
     ensures used { IfOk result (HasBegun (L.call_count links.old) (L.call_count links.new)) }
     ensures most { L.call_count links.new ≤ L.call_count links.old + 8076000000 * plan.now.workers }
     ensures refusals { L.refusal_count links.new ≤ L.refusal_count links.old + plan.now.workers }
+    ensures each { OnceEach (L.refused_at links.old) (L.refused_at links.new) }
 {
     let mut seats = match seats(alloc, &formula, plan.workers, plan.defs) {
         Ok(seats) => seats,

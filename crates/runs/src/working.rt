@@ -3,7 +3,8 @@
 ghost use Rattle.std.specs.Prelude.{◌≡◌, ◌≤◌, ◌+◌, ◌⊎◌, [], IfOk, IfErr, OnOk, OnErr, Err, false};
 ghost use Rattle.lrat_check.specs.Verdicts.{Right};
 ghost use Rattle.lrat_check.specs.declared.verdict.Verdict.TheVariants.{Nothing};
-ghost use Rattle.runs.specs.Accounts.{RoseBy, HasBegun};
+ghost use Rattle.runs.specs.Accounts.{RoseBy, HasBegun, OnceEach};
+ghost use Rattle.runs.specs.inner.Accounts.{NoneRefused, OneRefused};
 ghost use Rattle.runs.specs.declared.broken.Broken.TheVariants.{Closed, NoMemory};
 
 use crate::broken::{Broken, ended, noted};
@@ -12,7 +13,7 @@ use crate::pace::Pace;
 use crate::plan::{Order, WorkerPlan};
 use crate::post::{ROUNDS, receive, send};
 use dimacs::Formula;
-use frames::Frame;
+use frames::{Frame, WorkerNumber};
 use links::{End, Links};
 use lrat_check::Verdict;
 use std::alloc::{AllocError, Global};
@@ -43,8 +44,13 @@ fn poll(worker: &mut Worker) -> Result<Frame, AllocError>
     worker.poll()
 }
 
-/// It sends its frame.
-fn reply<L: Links>(links: &mut L, worker: &mut Worker, pace: &mut Pace) -> Result<(), Broken>
+/// It sends its frame over the link of this number.
+fn reply<L: Links>(
+    links: &mut L,
+    number: WorkerNumber,
+    worker: &mut Worker,
+    pace: &mut Pace,
+) -> Result<(), Broken>
     ensures formula { worker.new.formula ≡ worker.old.formula }
     ensures verdict { worker.new.verdict ≡ worker.old.verdict }
     ensures one { (result ≡ Err NoMemory) ⊎ RoseBy 1 (L.call_count links.old) (L.call_count links.new) }
@@ -53,14 +59,15 @@ fn reply<L: Links>(links: &mut L, worker: &mut Worker, pace: &mut Pace) -> Resul
     ensures most { L.call_count links.new ≤ L.call_count links.old + 1 }
     ensures ok { OnOk result (L.refusal_count links.new ≤ L.refusal_count links.old) }
     ensures err { OnErr result (L.refusal_count links.new ≤ L.refusal_count links.old + 1) }
+    ensures unrefused { OnOk result (NoneRefused (L.refused_at links.old) (L.refused_at links.new)) }
+    ensures refused { OneRefused number (L.refused_at links.old) (L.refused_at links.new) }
 {
-    let at = End::Worker(worker.number().number());
     let frame = match poll(worker) {
         Ok(frame) => frame,
         Err(_) => return Err(Broken::NoMemory),
     };
     pace.note(&frame);
-    send(links, at, &frame)
+    send(links, End::Worker(number.number()), &frame)
 }
 
 /// The worker works if its pace has it work in this round.
@@ -78,6 +85,7 @@ fn toil_in_time(worker: &mut Worker, pace: &Pace) -> Result<(), Broken>
 /// The worker works once and sends its frame, in this order or in the other one.
 fn work_and_reply<L: Links>(
     links: &mut L,
+    number: WorkerNumber,
     worker: &mut Worker,
     pace: &mut Pace,
 ) -> Result<(), Broken>
@@ -88,22 +96,25 @@ fn work_and_reply<L: Links>(
     ensures most { L.call_count links.new ≤ L.call_count links.old + 1 }
     ensures ok { OnOk result (L.refusal_count links.new ≤ L.refusal_count links.old) }
     ensures err { OnErr result (L.refusal_count links.new ≤ L.refusal_count links.old + 1) }
+    ensures unrefused { OnOk result (NoneRefused (L.refused_at links.old) (L.refused_at links.new)) }
+    ensures refused { OneRefused number (L.refused_at links.old) (L.refused_at links.new) }
 {
     match pace.order() {
         Order::WorkThenSend => match toil(worker) {
-            Ok(()) => reply(links, worker, pace),
+            Ok(()) => reply(links, number, worker, pace),
             Err(_) => Err(Broken::NoMemory),
         },
-        Order::SendThenWork => match reply(links, worker, pace) {
+        Order::SendThenWork => match reply(links, number, worker, pace) {
             Ok(()) => toil_in_time(worker, pace),
             Err(broken) => Err(broken),
         },
     }
 }
 
-/// A frame comes to a worker, it works once, and one goes back.
+/// A frame comes to a worker over the link of this number, it works once, and one goes back.
 pub(crate) fn answer<L: Links>(
     links: &mut L,
+    number: WorkerNumber,
     worker: &mut Worker,
     inbox: &mut Inbox,
     pace: &mut Pace,
@@ -116,14 +127,15 @@ pub(crate) fn answer<L: Links>(
     ensures most { L.call_count links.new ≤ L.call_count links.old + 4038 }
     ensures ok { OnOk result (L.refusal_count links.new ≤ L.refusal_count links.old) }
     ensures err { OnErr result (L.refusal_count links.new ≤ L.refusal_count links.old + 1) }
+    ensures unrefused { OnOk result (NoneRefused (L.refused_at links.old) (L.refused_at links.new)) }
+    ensures refused { OneRefused number (L.refused_at links.old) (L.refused_at links.new) }
 {
-    let at = End::Worker(worker.number().number());
-    let frame = match receive(links, at, inbox) {
+    let frame = match receive(links, End::Worker(number.number()), inbox) {
         Ok(frame) => frame,
         Err(broken) => return Err(broken),
     };
     match deliver(worker, &frame) {
-        Ok(()) => work_and_reply(links, worker, pace),
+        Ok(()) => work_and_reply(links, number, worker, pace),
         Err(_) => Err(Broken::NoMemory),
     }
 }
@@ -140,6 +152,7 @@ fn holds(worker: &Worker) -> bool
 /// Rounds until a verdict is held or the link is closed.
 fn answer_all<L: Links>(
     links: &mut L,
+    number: WorkerNumber,
     worker: &mut Worker,
     inbox: &mut Inbox,
     pace: &mut Pace,
@@ -151,12 +164,13 @@ fn answer_all<L: Links>(
     ensures rises { L.call_count links.old ≤ L.call_count links.new }
     ensures most { L.call_count links.new ≤ L.call_count links.old + 4038000000 }
     ensures refusals { L.refusal_count links.new ≤ L.refusal_count links.old + 1 }
+    ensures refused { OneRefused number (L.refused_at links.old) (L.refused_at links.new) }
 {
     for _ in 0..ROUNDS {
         if holds(worker) {
             return Ok(());
         }
-        if let Err(broken) = answer(links, worker, inbox, pace) {
+        if let Err(broken) = answer(links, number, worker, inbox, pace) {
             return Err(broken);
         }
     }
@@ -173,6 +187,7 @@ fn work_rounds<L: Links>(
     requires verdict { worker.old.verdict ≡ Nothing }
     ensures formula { worker.new.formula ≡ worker.old.formula }
     ensures refusals { L.refusal_count links.new ≤ L.refusal_count links.old + 1 }
+    ensures each { OnceEach (L.refused_at links.old) (L.refused_at links.new) }
     ensures most { L.call_count links.new ≤ L.call_count links.old + 4038000001 }
     ensures begun { OnOk result (HasBegun (L.call_count links.old) (L.call_count links.new) worker.new.verdict) }
 {
@@ -180,11 +195,12 @@ fn work_rounds<L: Links>(
         Ok(inbox) => inbox,
         Err(error) => return Err(error),
     };
+    let number = worker.number();
     let mut pace = Pace::new(order);
-    if let Err(broken) = reply(links, worker, &mut pace) {
+    if let Err(broken) = reply(links, number, worker, &mut pace) {
         return ended(broken);
     }
-    match answer_all(links, worker, &mut inbox, &mut pace) {
+    match answer_all(links, number, worker, &mut inbox, &mut pace) {
         Ok(()) => Ok(()),
         Err(broken) => ended(broken),
     }
@@ -203,6 +219,7 @@ pub fn work<L: Links>(
     ensures used { IfOk result (HasBegun (L.call_count links.old) (L.call_count links.new)) }
     ensures most { L.call_count links.new ≤ L.call_count links.old + 4038000001 }
     ensures refusals { L.refusal_count links.new ≤ L.refusal_count links.old + 1 }
+    ensures each { OnceEach (L.refused_at links.old) (L.refused_at links.new) }
 {
     let made = Worker::with_defs(alloc, formula, plan.number, plan.incarnation, plan.defs);
     let mut worker = match made {

@@ -1,5 +1,6 @@
 use Rattle.std.proofs.Common.{◌≡◌, ◌≤◌, ◌+◌, ◌*◌, ◌⊎◌, length}
 use Rattle.runs.specs.Accounts.{RoseBy}
+use Rattle.runs.specs.inner.Accounts.{ClosesBelow}
 use Rattle.runs.specs.inner.Served.{open_lines}
 use Rattle.runs.proofs.serving.greet_all.Given as goal
 
@@ -13,3 +14,4 @@ invariant-loop-i g l =
     × (g.L.Links.call_count l.links ≤ g.L.Links.call_count l.fn.links + 4037 * l.i)
     × (g.L.Links.refusal_count l.links + open_lines l.lines.items ≤ g.L.Links.refusal_count l.fn.links + l.i)
     × ((l.i ≡ 0) ⊎ RoseBy 1 (g.L.Links.call_count l.fn.links) (g.L.Links.call_count l.links))
+    × ClosesBelow (λ x. x.is_open) (l.i + 1) (g.L.Links.refused_at l.fn.links) (g.L.Links.refused_at l.links) l.lines.items

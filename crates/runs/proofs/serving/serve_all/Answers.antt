@@ -17,6 +17,7 @@ loop-preserved g c =
       workers = search rules;
       lines = search rules;
       refusals = search rules;
+      each = search rules;
       most = search rules;
       served = λ base served. c.in-Ok-false.ensures.served base (c.loop.invariant.served base served);
       rose = λ base served. another_round _ _ _ _ _ c.in-Ok-false.field-0-test (c.loop.invariant.rose base served) c.serve_round.ensures.rises
