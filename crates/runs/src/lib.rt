@@ -1,7 +1,7 @@
 //! Runs of the two machines over links.
 //!
 //! What a layer above may rest on: for every implementation of `Links`, whatever it hands in, refuses or ends, what a run answers
-//! is right for its formula; a link that refused is not used again, so the refusals rise by at most one for each; nothing is found
+//! is right for its formula; a link that refused is never used again, so of each at most one call is refused; nothing is found
 //! without calls, at least three of them; and a run comes to its end after a bounded number of calls.
 #![tactic(auto)]
 
