@@ -1,13 +1,16 @@
 -- What is gathered refutes.
-use Rattle.std.proofs.Common.{◌≡◌, ℕ, ◌+◌, ◌≤◌, inl, inr, List, [], ◌∷◌, ◌++◌, length, Some, refl, sym, subst, arith}
+use Rattle.std.proofs.Common.{◌≡◌, ℕ, ◌+◌, ◌<◌, ◌≤◌, ◌^◌, inl, inr, true, Option, None, List, [], ◌∷◌, ◌++◌, length, Some, refl, sym, subst, arith}
+use Rattle.std.specs.Prelude.{is_some}
+use Rattle.std.specs.List.{Contains}
 use Rattle.std.specs.FinMap.{get}
+use Rattle.std.proofs.lemmas.Bool.{true≢false}
 use Rattle.dimacs.specs.logic.ClauseMap.{ClauseMap, map_of}
 use Rattle.dimacs.specs.logic.Cnf.{Cnf}
 use Rattle.dimacs.specs.logic.Literal.{Clause, IsTautology, negation}
 use Rattle.dimacs.proofs.Members.{Contains-head, Contains-cons_cases, Contains-nil}
 use Rattle.icnf.specs.Leaves.{Cube}
 use Rattle.lrat_text.specs.Grammar.{LineSpells}
-use Rattle.lrat_text.specs.Log.{after_step, AreLogSteps}
+use Rattle.lrat_text.specs.Log.{after_step, AreLogSteps, IsLog}
 use Rattle.lrat_text.specs.Runs.{after_steps, top_of}
 use Rattle.lrat_text.specs.declared.step.Step.{Step}
 use Rattle.lrat_text.specs.declared.step.Step.TheVariants.{Add, Delete}
@@ -19,7 +22,10 @@ use Rattle.proof_join.proofs.MapLemmas.{between_formula}
 use Rattle.proof_join.proofs.NodeLemmas.{Negating}
 use Rattle.proof_join.proofs.TextLemmas.{log_spells}
 use Rattle.proof_join.proofs.TreeLemmas.{AreSmall}
-use Rattle.gathering.specs.Gathering.{Handed, forks, Gathering, gathered, Gathered, AreLogs, AreWritten, GatheredText}
+use Rattle.gathering.specs.Closing.{Leaf, Numbered, is_closed}
+use Rattle.gathering.specs.Gathering.{ClosesLeaf, Handed, forks, Gathering, gathered, Gathered, AreLogs, AreWritten, GatheredText}
+use Rattle.gathering.specs.Written.{Between, leaves_of}
+use Rattle.gathering.specs.declared.gatherer.Gatherer.{Gatherer}
 use Rattle.gathering.proofs.BranchLemmas.{IsBranch, forks_are, AllStand}
 use Rattle.gathering.proofs.PlacedLemmas.{IsSound, gathered_sound, sound_low, sound_between}
 use Rattle.gathering.proofs.SmallLemmas.{gathered_small, live_added, log_some, small_append}
@@ -107,3 +113,30 @@ gathered_text_refutes F cubes logs text are limits g =
           (log_spells m (top_of m g.steps) (map_of F) m g.steps log (between_formula F) some (omega arith) g.numbers (whole_small F cubes logs are g.steps g.gathered limits)),
       gathered_refutes F cubes logs g.steps are g.gathered,
     )
+
+-- between two logs the text is a log, and closes what is closed
+pub lines_close : (F : Cnf) (cubes : List Cube) (logs : List Handed) (g : Gatherer) (written : List ℕ) → Between F cubes logs g written
+    → (k : Leaf) → Contains (leaves_of g) k → is_closed k ≡ true → (steps : List Step) × LineSpells written steps × IsLog F steps × ClosesLeaf F k.cube steps
+lines_close F cubes logs g written b k i e = at k.closing refl e
+  where
+    at : (o : Option Numbered) → k.closing ≡ o → is_some o ≡ true → (steps : List Step) × LineSpells written steps × IsLog F steps × ClosesLeaf F k.cube steps
+    at None f some = absurd (true≢false (sym some))
+    at (Some l) f some =
+        let m : ℕ = length F.clauses in
+        let s : Gathering = gathered F cubes logs in
+        let sound : IsSound F s = gathered_sound F cubes logs b.are in
+        let here : Contains s.leaves k = subst (λ (ks : List Leaf). Contains ks k) b.stands.leaves i in
+        let stands = sound.closings k l here f in
+        let own = stands.own in
+        let added : Adds l.clause s.steps = elim (live_added (map_of F) s.steps l.id l.clause stands.lives) [
+          | inr a ↦ a
+          | inl before ↦ (let r = (between_formula F l.id l.clause before).1 in absurd (omega arith))
+        ] in
+        let base : 1 ≤ m = log_some m (map_of F) m s.steps l.clause sound.log (between_formula F) added in
+        let few : top_of m s.steps < 2 ^ 48 = (let t = sound.top in let u = b.stands.top in let v = g.limit in omega arith) in (
+          s.steps,
+          subst (λ (t : List ℕ). LineSpells t s.steps) (sym (b.stands.text base))
+              (log_spells m (top_of m s.steps) (map_of F) m s.steps sound.log (between_formula F) base (omega arith) few (gathered_small F cubes logs b.limits)),
+          sound.log,
+          record { id = l.id; clause = l.clause; own = own; lives = stands.lives; ends = stands.ends },
+        )

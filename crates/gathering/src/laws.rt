@@ -4,13 +4,15 @@ ghost use Rattle.std.specs.Prelude.{◌≡◌, ℕ, Bool, true, false, List, [],
 ghost use Rattle.dimacs.specs.logic.ClauseMap.{map_of};
 ghost use Rattle.dimacs.specs.logic.Cnf.{Cnf};
 ghost use Rattle.icnf.specs.Leaves.{Cube, Leaves};
+ghost use Rattle.lrat_text.specs.Grammar.{LineSpells};
+ghost use Rattle.lrat_text.specs.Log.{IsLog};
 ghost use Rattle.lrat_text.specs.declared.step.Step.{Step};
 ghost use Rattle.proof_join.specs.Renumbering.{RupRefutation, RefutesByRup};
 ghost use Rattle.lrat_text.specs.Runs.{text_of};
 ghost use Rattle.proof_join.specs.Numbering.{behind, renumbered};
 ghost use Rattle.gathering.specs.Closing.{Leaf, is_closed, open_from};
 ghost use Rattle.gathering.specs.Examples.{two_leaves, right_log, right_lemmas, refused_log, refused_lemmas, left_log, left_lemmas, ended_tree};
-ghost use Rattle.gathering.specs.Gathering.{AreLogs, AreWritten, Gathered, GatheredText, Handed, IsClosedBy, deleted, deletions, ends, forks, gathered, left_by};
+ghost use Rattle.gathering.specs.Gathering.{AreLogs, AreWritten, ClosesLeaf, Gathered, GatheredText, Handed, IsClosedBy, deleted, deletions, ends, forks, gathered, left_by};
 ghost use Rattle.gathering.specs.Written.{Between, Ending, WithinLog, leaves_of};
 ghost use Rattle.gathering.specs.declared.gatherer.Gatherer.{Gatherer};
 
@@ -50,6 +52,12 @@ pub fn gatherers_stand()
     ensures leaves { (F : Cnf) (cubes : List Cube) (logs : List Handed) (g : Gatherer) (written : List ℕ)
         → Between F cubes logs g written → leaves_of g ≡ (gathered F cubes logs).leaves }
     ensures cubes { (F : Cnf) (cubes : List Cube) (logs : List Handed) → map (λ k. k.cube) (gathered F cubes logs).leaves ≡ cubes }
+{}
+
+/// What is written between two logs is itself a log over the formula, and closes each leaf that is closed.
+pub fn gathered_lines_close()
+    ensures { (F : Cnf) (cubes : List Cube) (logs : List Handed) (g : Gatherer) (written : List ℕ) → Between F cubes logs g written
+        → (k : Leaf) → Contains (leaves_of g) k → is_closed k ≡ true → (steps : List Step) × LineSpells written steps × IsLog F steps × ClosesLeaf F k.cube steps }
 {}
 
 /// What is gathered of three logs over four clauses, the second of which is refused.

@@ -22,6 +22,6 @@ mod writing;
 pub use fault::GatherFault;
 pub use gatherer::Gatherer;
 pub use laws::{
-    closed_leaves_are_gathered, gathered_logs_refute, gatherers_stand, leaves_are_closed_by_logs,
-    worked_gathering,
+    closed_leaves_are_gathered, gathered_lines_close, gathered_logs_refute, gatherers_stand,
+    leaves_are_closed_by_logs, worked_gathering,
 };
