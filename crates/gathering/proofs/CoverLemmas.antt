@@ -14,8 +14,8 @@ use Rattle.gathering.specs.Closing.{closes, Numbered, can_close}
 use Rattle.gathering.specs.declared.lemma.Candidate.{Candidate}
 use Rattle.gathering.specs.declared.spans.Span.{Span}
 use Rattle.gathering.specs.declared.tree.Node.{Node, Leaf as Single, Fork'}
-use Rattle.gathering.specs.Trees.{leaf_in, leaves_in, IsSubtree, AreCovered, AreMet, IsMet, IsMissed, IsWindow, left_span, nowhere, right_span, span_of, whole}
-use Rattle.gathering.specs.inner.Trees.{candidate_of, HasSettled}
+use Rattle.gathering.specs.Trees.{leaf_in, leaves_in, IsSubtree, AreCovered, AreMet, IsMet, left_span, nowhere, right_span, span_of, whole}
+use Rattle.gathering.specs.inner.Trees.{IsMissed, IsWindow, candidate_of, HasSettled}
 use Rattle.gathering.proofs.SettleLemmas.{closes_negates}
 use Rattle.gathering.proofs.TreeLemmas.{unchanged}
 

@@ -17,8 +17,8 @@ use Rattle.gathering.specs.Closing.{closes, Numbered, Leaf, is_closed, can_close
 use Rattle.gathering.specs.declared.lemma.Candidate.{Candidate}
 use Rattle.gathering.specs.declared.spans.Span.{Span}
 use Rattle.gathering.specs.declared.tree.Node.{Node, Leaf as Single, Fork'}
-use Rattle.gathering.specs.Trees.{leaf_in, leaves_in, IsSubtree, AreCovered, IsWindow}
-use Rattle.gathering.specs.inner.Trees.{candidate_of, HasSettled, IsPart, IsMadeOf, TakesBranch, open_leaf}
+use Rattle.gathering.specs.Trees.{leaf_in, leaves_in, IsSubtree, AreCovered}
+use Rattle.gathering.specs.inner.Trees.{IsWindow, candidate_of, HasSettled, IsPart, IsMadeOf, TakesBranch, open_leaf}
 use Rattle.gathering.proofs.SettleLemmas.{both, closes_negates}
 
 -- ---- a lemma that closes nothing changes nothing

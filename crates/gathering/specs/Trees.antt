@@ -1,8 +1,8 @@
 -- A splitting tree in memory.
-use Rattle.std.specs.Prelude.{◌≡◌, ℕ, ◌-◌, ◌^◌, ◌<◌, ◌≤◌, ◌⊎◌, Bool, Option, List, [], ◌∷◌, ◌++◌, max, min, slice_index_or, Contains}
+use Rattle.std.specs.Prelude.{◌≡◌, ℕ, ◌-◌, ◌≤◌, Bool, Option, List, [], ◌∷◌, ◌++◌, max, min, slice_index_or, Contains}
 use Rattle.std.specs.Option.{option_map}
 use Rattle.std.specs.List.{list_all}
-use Rattle.dimacs.specs.logic.Literal.{Literal, Clause, negation, var_of}
+use Rattle.dimacs.specs.logic.Literal.{Literal, negation, var_of}
 use Rattle.icnf.specs.Leaves.{Cube, IsFree}
 use Rattle.gathering.specs.Closing.{Numbered, Leaf, is_closed}
 use Rattle.gathering.specs.declared.lemma.Lemma.{Lemma}
@@ -37,12 +37,9 @@ nowhere = record { first = 4294967295; last = 0 }
 abbrev pub span_of : List Span → ℕ → Span
 span_of spans v = slice_index_or spans v nowhere
 
--- two spans have a place in common, or have none
+-- two spans have a place in common
 abbrev pub IsMet : Span → Span → Type 0
 IsMet span at = (span.first ≤ at.last) × (at.first ≤ span.last)
-
-abbrev pub IsMissed : Span → Span → Type 0
-IsMissed span at = (at.last < span.first) ⊎ (span.last < at.first)
 
 -- the places of any tree's leaves, and what a fork makes of a span
 abbrev pub whole : Span
@@ -62,7 +59,3 @@ AreMet spans at cube = (l : Literal) → Contains cube l → var_of l ≤ 200000
 abbrev pub AreCovered : List Span → Span → Node → Type 0
 AreCovered spans at (Single cube closing) = AreMet spans at cube.items
 AreCovered spans at (Fork' branch middle closed p left q right) = AreCovered spans (left_span middle at) left × AreCovered spans (right_span middle at) right
-
--- what this span misses, a variable of the clause misses
-abbrev pub IsWindow : List Span → Clause → Span → Type 0
-IsWindow spans C window = (at : Span) → at.first < 2 ^ 32 → IsMissed window at → (l : Literal) × Contains C l × IsMissed (span_of spans (var_of l)) at

@@ -5,7 +5,8 @@
 
 ghost use Rattle.std.specs.Prelude.{◌≡◌, ℕ, ◌<◌, ◌≤◌, ◌⊎◌, ◌↔◌, IsTrue, All, Contains, IfOk, IfSome, IfNone, length};
 ghost use Rattle.dimacs.specs.logic.Literal.{Literal, IsWithin, var_of};
-ghost use Rattle.gathering.specs.Trees.{AreCovered, AreMet, IsMet, IsMissed, IsWindow, left_span, right_span, span_of, whole};
+ghost use Rattle.gathering.specs.Trees.{AreCovered, AreMet, IsMet, left_span, right_span, span_of, whole};
+ghost use Rattle.gathering.specs.inner.Trees.{IsMissed, IsWindow};
 
 use crate::tree::Node;
 use dimacs::Lit;

@@ -8,3 +8,4 @@ pub mod LineLemmas
 pub mod ReadingLemmas
 pub mod SplitLemmas
 pub mod UnitLemmas
+pub mod TurnLemmas

@@ -6,4 +6,5 @@ pub mod Notes
 pub mod Reading
 pub mod Refuting
 pub mod Splitting
+pub mod Turns
 pub mod inner

@@ -3,3 +3,4 @@ pub mod Joins
 pub mod Lines
 pub mod Reading
 pub mod Splitting
+pub mod Turns

@@ -72,6 +72,7 @@ impl Join {
     /// No file was read yet.
     pub fn of(alloc: Global, split: Split) -> Result<Join, AllocError>
         ensures holds { IfOk result (Holds split.formula split.tree [] [] []) }
+        ensures out { IfOk result (λ j. j.lines.out.items ≡ []) }
     {
         let Split { formula, tree } = split;
         let _ = tree.leaves(); // with it comes that they are few

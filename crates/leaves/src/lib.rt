@@ -13,6 +13,7 @@ mod notes;
 mod refuting;
 mod split;
 mod splitting;
+mod turns;
 
 pub use join::{FileEnd, Join};
 pub use laws::joins_stand;
@@ -22,3 +23,4 @@ pub use notes::{Note, put_note};
 pub use refuting::{Search, run_refute};
 pub use split::{Split, SplitReader};
 pub use splitting::run_split;
+pub use turns::run_refute_all;

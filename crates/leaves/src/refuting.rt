@@ -23,7 +23,7 @@ pub struct Search {
 }
 
 /// Appends the line of a leaf, whose last word says how its search ended.
-fn put_end(out: &mut Vec<u8>, leaf: u64, end: &[u8]) -> Result<(), AllocError>
+pub(crate) fn put_end(out: &mut Vec<u8>, leaf: u64, end: &[u8]) -> Result<(), AllocError>
     ensures { OnOk result (out.new.items ≡ out.old.items ++ (codes "c leaf " ++ decimal leaf ++ end.now)) }
 {
     out.extend_from_slice(b"c leaf ")?;

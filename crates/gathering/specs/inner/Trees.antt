@@ -1,11 +1,11 @@
 -- A splitting tree in memory, from one call to the next.
-use Rattle.std.specs.Prelude.{◌≡◌, ℕ, Bool, Option, Some, None, List, [], ◌++◌, length, map, drop, Contains}
+use Rattle.std.specs.Prelude.{◌≡◌, ℕ, ◌^◌, ◌<◌, ◌⊎◌, Bool, Option, Some, None, List, [], ◌++◌, length, map, drop, Contains}
 use Rattle.std.specs.List.{list_any}
-use Rattle.dimacs.specs.logic.Literal.{Literal, IsTautology}
+use Rattle.dimacs.specs.logic.Literal.{Literal, Clause, IsTautology, var_of}
 use Rattle.icnf.specs.Leaves.{Cube, Leaves}
 use Rattle.gathering.specs.Closing.{Numbered, Leaf, can_close, settled}
 use Rattle.gathering.specs.Gathering.{Ended, leaf, fork}
-use Rattle.gathering.specs.Trees.{leaves_in, IsSubtree, AreCovered, IsWindow}
+use Rattle.gathering.specs.Trees.{leaves_in, IsSubtree, AreCovered, span_of}
 use Rattle.gathering.specs.declared.lemma.Lemma.{Lemma}
 use Rattle.gathering.specs.declared.lemma.Candidate.{Candidate}
 use Rattle.gathering.specs.declared.spans.Span.{Span}
@@ -21,6 +21,14 @@ pub record HasSettled (l : Numbered) (path : Cube) (old new : Node) (some : Bool
   pub leaves : leaves_in new ≡ settled l (leaves_in old)
   pub told : some ≡ list_any (can_close l) (leaves_in old)
   pub covers : (spans : List Span) (at : Span) → AreCovered spans at old → AreCovered spans at new
+
+-- two spans have no place in common
+abbrev pub IsMissed : Span → Span → Type 0
+IsMissed span at = (at.last < span.first) ⊎ (span.last < at.first)
+
+-- what this span misses, a variable of the clause misses
+abbrev pub IsWindow : List Span → Clause → Span → Type 0
+IsWindow spans C window = (at : Span) → at.first < 2 ^ 32 → IsMissed window at → (l : Literal) × Contains C l × IsMissed (span_of spans (var_of l)) at
 
 -- what a lemma, which closes leaves in its window alone, makes of a subtree whose leaves stand in a span
 abbrev pub Settles : Candidate → Span → Node → Node → Bool → Type 0

@@ -3,7 +3,8 @@ use Rattle.std.proofs.lemmas.Bool.{true≢false}
 use Rattle.std.proofs.lemmas.List.{take_more, take_all}
 use Rattle.std.proofs.lemmas.List.Elements.{All-nil, All-cons, All-append}
 use Rattle.dimacs.specs.logic.Literal.{Literal, Clause, IsWithin, var_of}
-use Rattle.gathering.specs.Trees.{IsMissed, IsWindow, span_of, whole}
+use Rattle.gathering.specs.Trees.{span_of, whole}
+use Rattle.gathering.specs.inner.Trees.{IsMissed, IsWindow}
 use Rattle.gathering.specs.declared.spans.Span.{Span}
 use Rattle.gathering.proofs.CoverLemmas.{has_place, window_more, window_none}
 use Rattle.gathering.proofs.spans.window_of.Goals as goal

@@ -1,6 +1,7 @@
 use Rattle.std.proofs.Common.{take, All}
 use Rattle.dimacs.specs.logic.Literal.{IsWithin}
-use Rattle.gathering.specs.Trees.{IsWindow}
+use Rattle.gathering.specs.Trees.{}
+use Rattle.gathering.specs.inner.Trees.{IsWindow}
 use Rattle.gathering.proofs.spans.window_of.Given as goal
 
 abbrev pub invariant-loop-l : goal.invariant-loop-l

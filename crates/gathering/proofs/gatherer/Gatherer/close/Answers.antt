@@ -1,6 +1,7 @@
 use Rattle.std.proofs.Common.{◌≡◌, ◌∙◌, List, [], refl, sym, ap, subst, Contains}
 use Rattle.dimacs.specs.logic.Literal.{Literal, var_of}
-use Rattle.gathering.specs.Trees.{IsMissed, IsWindow, span_of, whole, AreCovered}
+use Rattle.gathering.specs.Trees.{span_of, whole, AreCovered}
+use Rattle.gathering.specs.inner.Trees.{IsMissed, IsWindow}
 use Rattle.gathering.specs.declared.spans.Span.{Span}
 use Rattle.gathering.proofs.SettlingLemmas.{no_pair}
 use Rattle.gathering.proofs.CoverLemmas.{missed_unchanged}

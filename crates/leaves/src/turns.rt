@@ -1,0 +1,205 @@
+//! `refute` of several leaves: searches in turn, whose logs become one.
+
+ghost use Rattle.std.specs.Prelude.{◌≡◌, ◌∷◌, ◌++◌, [], ℕ, List, true, Some, None, IfOk, OnOk, codes, decimal, if◌then◌else◌};
+ghost use Rattle.dimacs.specs.logic.Cnf.{Cnf};
+ghost use Rattle.dimacs.specs.text.Answer.{satisfied_lines};
+ghost use Rattle.icnf.specs.Leaves.{Cube};
+ghost use Rattle.leaves.specs.Joining.{Holds};
+ghost use Rattle.leaves.specs.Refuting.{Hands, shown};
+ghost use Rattle.leaves.specs.Turns.{RefutesLeaves};
+ghost use Rattle.leaves.specs.inner.Turns.{IsReady, TakesText, TakesTurn};
+
+use crate::join::Join;
+use crate::leaf::{NO_LEAF, cube_of};
+use crate::refuting::{Search, put_end};
+use crate::split::Split;
+use cube_solve::{Outcome, solve};
+use dimacs::{Answer, Assignment, answer_lines};
+use gathering::GatherFault;
+use lrat_text::PackedText;
+use reports::Report;
+use std::alloc::{AllocError, Global};
+
+/// What was found so far: the logs of the leaves as one, and what is told of them.
+#[derive(Drop)]
+pub(crate) struct Turns {
+    pub(crate) join: Join,
+    /// What was joined.
+    pub(crate) log: PackedText,
+    pub(crate) notes: Vec<u8>,
+    /// Whether every leaf so far was closed.
+    pub(crate) closed: bool,
+}
+
+/// Reads a log as a file of its own.
+fn take_file(join: &mut Join, text: &[u8]) -> Result<(), GatherFault>
+    ensures { OnOk result ((F : Cnf) (cubes : List Cube) (files : List (List ℕ)) (written : List ℕ)
+        → Holds F cubes files [] written join.old → Holds F cubes (files ++ text.now ∷ []) [] written join.new) }
+{
+    match join.feed(text) {
+        Ok(()) => {}
+        Err(fault) => return Err(fault),
+    }
+    match join.end() {
+        Ok(_) => Ok(()),
+        Err(fault) => Err(fault),
+    }
+}
+
+/// Takes over what was joined.
+fn hand_out(join: &mut Join, log: &mut PackedText) -> Result<(), GatherFault>
+    ensures holds { OnOk result ((F : Cnf) (cubes : List Cube) (files : List (List ℕ))
+        → Holds F cubes files [] log.old join.old → Holds F cubes files [] log.new join.new) }
+    ensures out { OnOk result (join.new.lines.out.items ≡ []) }
+{
+    match log.extend(join.written()) {
+        Ok(()) => {}
+        Err(_) => return Err(GatherFault::NoMemory),
+    }
+    join.forget();
+    Ok(())
+}
+
+/// Appends the line of a leaf, if it is not left out.
+fn tell(out: &mut Vec<u8>, leaf: u64, end: &[u8], quiet: bool) -> Result<(), GatherFault>
+    ensures { OnOk result (out.new.items ≡ out.old.items ++ shown quiet (codes "c leaf " ++ decimal leaf ++ end.now)) }
+{
+    if quiet {
+        return Ok(());
+    }
+    match put_end(out, leaf, end) {
+        Ok(()) => Ok(()),
+        Err(_) => Err(GatherFault::NoMemory),
+    }
+}
+
+impl Turns {
+    /// No leaf was searched yet.
+    fn of(alloc: Global, split: &Split) -> Result<Turns, AllocError>
+        ensures ready { IfOk result (IsReady split.now.formula split.now.tree []) }
+        ensures notes { IfOk result (λ t. t.notes.items ≡ []) }
+        ensures closed { IfOk result (λ t. t.closed ≡ true) }
+    {
+        let same = Split {
+            formula: split.formula.copy()?,
+            tree: split.tree.copy(alloc)?,
+        };
+        Ok(Turns {
+            join: Join::of(alloc, same)?,
+            log: PackedText::new(alloc),
+            notes: Vec::new(alloc),
+            closed: true,
+        })
+    }
+
+    /// Joins the log of a leaf.
+    fn take(&mut self, alloc: Global, text: &PackedText) -> Result<(), GatherFault>
+        ensures takes { OnOk result (TakesText text.now self.old self.new) }
+        ensures notes { OnOk result (self.new.notes ≡ self.old.notes) }
+        ensures closed { OnOk result (self.new.closed ≡ self.old.closed) }
+    {
+        let text = match text.to_text(alloc) {
+            Ok(text) => text,
+            Err(_) => return Err(GatherFault::NoMemory),
+        };
+        match take_file(&mut self.join, &text) {
+            Ok(()) => {}
+            Err(fault) => return Err(fault),
+        }
+        hand_out(&mut self.join, &mut self.log)
+    }
+
+    /// Searches under the leaf of a number: an assignment, if there is one.
+    fn turn(
+        &mut self,
+        alloc: Global,
+        split: &Split,
+        leaf: u64,
+        search: &Search,
+    ) -> Result<Option<Assignment>, GatherFault>
+        ensures { IfOk result (TakesTurn split.now.formula split.now.tree leaf search.now self.old self.new) }
+    {
+        let Some(cube) = cube_of(&split.tree, leaf) else {
+            return Ok(None);
+        };
+        let outcome = match solve(alloc, split.formula.as_base(), cube, search.limit) {
+            Ok(outcome) => outcome,
+            Err(_) => return Err(GatherFault::NoMemory),
+        };
+        match outcome {
+            Outcome::Model(values) => Ok(Some(values)),
+            Outcome::Refuted(text) => {
+                match self.take(alloc, &text) {
+                    Ok(()) => {}
+                    Err(fault) => return Err(fault),
+                }
+                match tell(&mut self.notes, leaf, b" closed\n", search.quiet) {
+                    Ok(()) => Ok(None),
+                    Err(fault) => Err(fault),
+                }
+            }
+            Outcome::Limit(_) => {
+                self.closed = false;
+                match tell(&mut self.notes, leaf, b" limit\n", search.quiet) {
+                    Ok(()) => Ok(None),
+                    Err(fault) => Err(fault),
+                }
+            }
+        }
+    }
+}
+
+/// The report of an assignment.
+fn satisfied(alloc: Global, values: &Assignment, witness: bool) -> Result<Report, GatherFault>
+    ensures { IfOk result (Hands 10 (satisfied_lines values.now witness) None) }
+{
+    let mut report = Report::of(alloc, b"", 10)?;
+    answer_lines(Answer::Satisfiable(values), witness, &mut report.stdout)?;
+    Ok(report)
+}
+
+/// The report of leaves that were all searched.
+fn ended(run: Turns) -> Report
+    ensures { Hands (if run.closed then 20 else 0) run.notes.items (Some run.log) result }
+{
+    let Turns {
+        log,
+        notes,
+        closed,
+        ..
+    } = run;
+    Report {
+        stdout: notes,
+        status: if closed { 20 } else { 0 },
+        proof: Some(log),
+    }
+}
+
+/// Searches under the leaves from one number to another, each in turn as [`crate::run_refute`] does.
+///
+/// The report has status 10 and an assignment that satisfies the formula, which ends the run; or 20, and as its proof one log over the
+/// formula that closes every leaf; or 0 and a log that closes those that are told closed, where other searches met their limit. A leaf's
+/// own lemmas are deleted behind its log, but for those that close leaves.
+pub fn run_refute_all(
+    alloc: Global,
+    split: &Split,
+    first: u64,
+    last: u64,
+    search: &Search,
+) -> Result<Report, GatherFault>
+    ensures { IfOk result (RefutesLeaves split.now.formula split.now.tree first last search.now) }
+{
+    if first == 0 || first > last || last > split.tree.leaves() as u64 {
+        let text = if search.quiet { b"" } else { NO_LEAF };
+        return Ok(Report::of(alloc, text, 1)?);
+    }
+    let mut run = Turns::of(alloc, split)?;
+    for leaf in first..last + 1 {
+        match run.turn(alloc, split, leaf, search) {
+            Ok(None) => {}
+            Ok(Some(values)) => return satisfied(alloc, &values, search.witness),
+            Err(fault) => return Err(fault),
+        }
+    }
+    Ok(ended(run))
+}
