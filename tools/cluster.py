@@ -8,6 +8,7 @@ sockets are opened, that peers who come, go and send anything else are met as th
 """
 import itertools
 import os
+import resource
 import signal
 import socket
 import subprocess
@@ -17,6 +18,8 @@ import time
 
 # How long a process may take.
 SECONDS = 120
+# How many bytes a process may take that reads what has no end.
+ROOM = 2**28
 # How long the formula of a run takes in which a node is killed, at least.
 LONG = 1.0
 
@@ -94,10 +97,11 @@ class Cluster:
         with open(os.path.join(self.folder, name), "w") as file:
             file.write(text)
 
-    def start(self, *words):
+    def start(self, *words, **more):
         process = subprocess.Popen(
             [self.program, *map(str, words)],
             cwd=self.folder,
+            **more,
             stdout=subprocess.PIPE,
             stderr=subprocess.PIPE,
         )
@@ -119,6 +123,39 @@ class Cluster:
 
     def verifies(self, formula, proof):
         self.ends("check " + proof, self.start("check", formula, proof), 0, "s VERIFIED\n")
+
+
+def endless_files(cluster):
+    """What has no end is read up to its first fault, or up to want of memory."""
+    for words, begin, text in (
+        (("solve", "/dev/stdin"), b"q cnf 1 1\n", "c input line 1 fault 1\n"),
+        (("check", "/dev/stdin", "two.cnf"), b"q cnf 1 1\n", "c input line 1 fault 1\n"),
+        (("check", "two.cnf", "/dev/stdin"), b"no proof\n", "s NOT VERIFIED\nc line 1 fault 1\n"),
+    ):
+        out, into = os.pipe()
+        process = cluster.start(*words, stdin=out)
+        os.close(out)
+        os.write(into, begin)
+        cluster.ends(" ".join(words), process, 1, text)
+        os.close(into)
+    limit = lambda: resource.setrlimit(resource.RLIMIT_AS, (ROOM, ROOM))
+    for words in (("solve", "/dev/zero"), ("check", "/dev/zero", "two.cnf"), ("check", "two.cnf", "/dev/zero")):
+        cluster.ends(" ".join(words), cluster.start(*words, preexec_fn=limit), 1, "c no memory\n")
+    ok("inputs and proofs without an end")
+
+
+def faulty_files(cluster):
+    """What is wrong with the files of `serve` is told before anyone is linked."""
+    cluster.write("faulty.cnf", "p cnf 1\n")
+    cluster.write("other.icnf", "p inccnf\n1 2 0\na 0\n")
+    for words, text in (
+        (("faulty.cnf",), "c input line 1 fault 2\n"),
+        (("--cubes", "faulty.cnf", "two.cnf"), "c cubes line 1 fault 2\n"),
+        (("--cubes", "other.icnf", "two.cnf"), "c cubes of another formula\n"),
+    ):
+        coordinator = cluster.start("serve", "--port", free_port(), "--workers", 1, *words)
+        cluster.ends("serve with " + words[-2 if len(words) > 1 else 0], coordinator, 1, text)
+    ok("faulty files of a coordinator without a worker")
 
 
 def refused_links(cluster):
@@ -237,7 +274,9 @@ def main():
         cluster = Cluster(sys.argv[1], folder)
         cluster.write("two.cnf", dimacs(2, [[1], [-2]]))
         try:
-            for test in (refused_links, closed_peers, defined_variables, one_process, lost_worker, lost_coordinator):
+            for test in (endless_files, faulty_files, refused_links, closed_peers, defined_variables):
+                test(cluster)
+            for test in (one_process, lost_worker, lost_coordinator):
                 test(cluster)
         finally:
             for process in running:
