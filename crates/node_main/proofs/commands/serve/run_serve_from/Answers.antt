@@ -1,18 +1,18 @@
 use Rattle.node_main.proofs.StartLemmas.{started_inside, started_solves}
 use Rattle.node_main.proofs.TruthLemmas.{solves_true}
-use Rattle.node_main.proofs.commands.serve.run_serve_of.Goals as goal
+use Rattle.node_main.proofs.commands.serve.run_serve_from.Goals as goal
 
 pub serve-requires-clause-inside : goal.serve-requires-clause-inside
 serve-requires-clause-inside g c =
-    let at = c.in-Ok-With in
-    rw c.coordinator_plan.ensures.defs (started_inside c.args.options.now at.field-0 at.formula at.tree at.field-0-is at.ensures.start)
+    let at = c.in-With in
+    rw c.coordinator_plan.ensures.defs (started_inside c.args.options.now c.args.start at.formula at.tree at.is c.requires.start)
 
 pub returns-in-Ok-clause-report : goal.returns-in-Ok-clause-report
-returns-in-Ok-clause-report g c = λ input given.
-    let at = c.in-Ok-With in
-    started_solves c.decided.result input _ c.args.options.now at.field-0 at.formula at.tree at.field-0-is (at.ensures.starts input given)
+returns-in-Ok-clause-report g c = λ input cubes starts.
+    let at = c.in-With in
+    started_solves c.decided.result input cubes c.args.options.now c.args.start at.formula at.tree at.is starts
     (c.decided.ensures.decides at.formula c.in-Ok.ensures.right)
 
 pub returns-in-Ok-clause-truth : goal.returns-in-Ok-clause-truth
-returns-in-Ok-clause-truth g c = λ input given.
-    solves_true c.accepted_proofs_are_sound.ensures input _ c.args.options.now c.decided.result (returns-in-Ok-clause-report g c input given)
+returns-in-Ok-clause-truth g c = λ input cubes starts.
+    solves_true c.accepted_proofs_are_sound.ensures input cubes c.args.options.now c.decided.result (returns-in-Ok-clause-report g c input cubes starts)
