@@ -9,11 +9,13 @@ sockets are opened, that peers who come, go and send anything else are met as th
 import itertools
 import os
 import resource
+import random
 import signal
 import socket
 import subprocess
 import sys
 import tempfile
+import threading
 import time
 
 # How long a process may take.
@@ -190,17 +192,72 @@ def closed_peers(cluster):
             same(what, b"", found)
 
     is_closed("a peer with garbage", b"garbage\n")
-    is_closed("a worker that is not waited for", idle(3, 1))
+    is_closed("a worker that there is not", idle(3, 1))
     is_closed("a frame that is not Idle", b"CC\x09\x00\x00")
     with socket.create_connection(("127.0.0.1", port)):
         pass
-    second = cluster.start("work", "--port", port, "--number", 2, "-n", "two.cnf")
-    wait_for("a worker is linked", lambda: sockets_at(port, "01") == 1)
-    is_closed("a worker that is linked already, in two pieces", idle(2, 7)[:5], idle(2, 7)[5:])
-    first = cluster.start("work", "--port", port, "--ahead", "-n", "two.cnf")
-    for what, process in (("first", first), ("second", second), ("coordinator", coordinator)):
-        cluster.ends("after peers that were closed, the " + what, process, 10, "s SATISFIABLE\n")
-    ok("peers that send anything but Idle of a worker that is waited for are closed")
+    silent = socket.create_connection(("127.0.0.1", port))
+    half = socket.create_connection(("127.0.0.1", port))
+    half.sendall(idle(1, 1)[:5])
+    first = socket.create_connection(("127.0.0.1", port))
+    first.sendall(idle(1, 7)[:5])
+    time.sleep(0.05)
+    first.sendall(idle(1, 7)[5:])
+    first.settimeout(SECONDS)
+    same("a worker in two pieces gets a task", b"CC\x01", first.recv(3))
+    second = socket.create_connection(("127.0.0.1", port))
+    second.sendall(idle(1, 2 ** 64 - 1))
+    second.settimeout(0.5)
+    try:
+        differs("another worker of its number", "nothing for now", second.recv(3))
+    except TimeoutError:
+        pass
+    second.settimeout(SECONDS)
+    first.close()
+    same("it gets a task when the first one has gone", b"CC\x01", second.recv(3))
+    second.close()
+    worker = cluster.start("work", "--port", port, "--number", 2, "-n", "two.cnf")
+    for what, process in (("worker", worker), ("coordinator", coordinator)):
+        cluster.ends("beside silent peers, the " + what, process, 10, "s SATISFIABLE\n")
+    for peer in (silent, half):
+        peer.close()
+    ok("peers that send anything but Idle of a worker are closed, silent ones hold nobody up, and one of two has a number")
+
+
+def several_workers(cluster):
+    """Workers begin, are killed at random and come back, beside peers that flood and one with another formula."""
+    port = free_port()
+    draw = random.Random(1)
+    coordinator = cluster.serve(port, "--workers", 4, "--depth", 5, "pigeons.cnf", "served.lrat")
+
+    def flood():
+        while coordinator.poll() is None:
+            try:
+                with socket.create_connection(("127.0.0.1", port), timeout=1) as peer:
+                    for _ in range(1000):
+                        peer.sendall(idle(4, 7) * 100)
+            except OSError:
+                time.sleep(0.01)
+
+    flooding = threading.Thread(target=flood, daemon=True)
+    flooding.start()
+    other = cluster.start("work", "--port", port, "--number", 3, "two.cnf")
+    workers = {w: cluster.start("work", "--port", port, "--number", w, "pigeons.cnf") for w in (1, 2)}
+    cluster.ends("a worker of another formula", other, 0, "s UNKNOWN\n")
+    kills = 0
+    while coordinator.poll() is None and kills < 10:
+        time.sleep(draw.uniform(0.02, 0.2))
+        number = draw.choice((1, 2))
+        workers[number].send_signal(signal.SIGKILL)
+        workers[number].communicate()
+        workers[number] = cluster.start("work", "--port", port, "--number", number, "--incarnation", 2 + kills, "pigeons.cnf")
+        kills += 1
+    cluster.ends("the coordinator", coordinator, 20, "s UNSATISFIABLE\n")
+    for process in workers.values():
+        process.communicate()
+    flooding.join(SECONDS)
+    cluster.verifies("pigeons.cnf", "served.lrat")
+    ok("workers that are killed come back into the run, %d times, beside a flood and another formula" % kills)
 
 
 def lost_worker(cluster):
@@ -214,14 +271,11 @@ def lost_worker(cluster):
     first.send_signal(signal.SIGKILL)
     first.communicate()
     late = cluster.start("work", "--port", port, "--number", 1, "--incarnation", 2, "pigeons.cnf")
-    time.sleep(0.2)
-    same("the run goes on without it", None, coordinator.poll())
-    cluster.ends("the worker that is left", second, 20, "s UNSATISFIABLE\n")
-    cluster.ends("the coordinator", coordinator, 20, "s UNSATISFIABLE\n")
-    cluster.ends("a worker that came too late", late, 0, "s UNKNOWN\n")
+    for what, process in (("worker that is left", second), ("worker that came back", late), ("coordinator", coordinator)):
+        cluster.ends("the " + what, process, 20, "s UNSATISFIABLE\n")
     cluster.verifies("pigeons.cnf", "served.lrat")
     cluster.verifies("pigeons.cnf", "worked.lrat")
-    ok("a worker is killed, the other one brings the proof, and one that comes in its place is not taken")
+    ok("a worker is killed, and one that comes in its place goes on in the same run")
 
 
 def lost_coordinator(cluster):
@@ -276,7 +330,7 @@ def main():
         try:
             for test in (endless_files, faulty_files, refused_links, closed_peers, defined_variables):
                 test(cluster)
-            for test in (one_process, lost_worker, lost_coordinator):
+            for test in (one_process, lost_worker, several_workers, lost_coordinator):
                 test(cluster)
         finally:
             for process in running:

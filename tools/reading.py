@@ -29,7 +29,7 @@ CLAIMS = [
         "`s SATISFIABLE` and `s UNSATISFIABLE` are true",
         "If a run of `solve`, `serve` or `work` ends with status 10 an assignment satisfies the formula that the input spells, and with status 20 "
         "none does, whatever the links bring.",
-        [("node_main", "run_solve", ["truth"]), ("node_main", "run_serve", ["truth"]), ("node_main", "run_work", ["truth"])],
+        [("node_main", "run_solve", ["truth"]), ("node_main", "run_attend", ["truth"]), ("node_main", "run_work", ["truth"])],
     ),
     (
         "What a node holds is true, and nodes agree",

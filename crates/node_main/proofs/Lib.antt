@@ -1,4 +1,5 @@
 pub mod CheckLemmas
+pub mod ServingLemmas
 pub mod SplittingLemmas
 pub mod StartLemmas
 pub mod TruthLemmas

@@ -6,6 +6,7 @@ pub mod Drilling
 pub mod ProofChecks
 pub mod Reports
 pub mod Running
+pub mod Serving
 pub mod Solving
 pub mod Splitting
 pub mod Starting

@@ -1,5 +1,6 @@
 //! The runs of the commands, a room each.
 
+pub(crate) mod attending;
 pub(crate) mod check;
 pub(crate) mod cubes;
 pub(crate) mod drilling;

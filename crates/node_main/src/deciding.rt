@@ -1,12 +1,13 @@
 //! What is reported of a verdict.
 
-ghost use Rattle.std.specs.Prelude.{◌≡◌, ℕ, IfOk, None};
+ghost use Rattle.std.specs.Prelude.{◌≡◌, ℕ, IfOk, None, Some};
 ghost use Rattle.dimacs.specs.text.Answer.{Lines};
 ghost use Rattle.dimacs.specs.logic.Cnf.{Cnf};
 ghost use Rattle.lrat_check.specs.Verdicts.{Right};
 ghost use Rattle.runs.specs.Accounts.{HasBegun};
 ghost use Rattle.node_main.specs.Deciding.{Decides};
 ghost use Rattle.node_main.specs.Running.{WasRun};
+ghost use Rattle.node_main.specs.Serving.{proof_in};
 
 use command_line::Options;
 use dimacs::{Answer, answer_lines};
@@ -23,6 +24,24 @@ fn answered(alloc: Global, answer: Answer, witness: bool, status: u8) -> Result<
     let mut report = Report::of(alloc, b"", status)?;
     answer_lines(answer, witness, &mut report.stdout)?;
     Ok(report)
+}
+
+/// The text and the status of a verdict whose proof is held elsewhere.
+pub(crate) fn reported(
+    alloc: Global,
+    verdict: &Verdict,
+    options: &Options,
+) -> Result<Report, AllocError>
+    // With its proof the report decides the formula.
+    ensures { (F : Cnf) → Right F verdict.now → IfOk result (λ r. Decides F options.now (record r { proof = proof_in verdict.now })) }
+{
+    match verdict {
+        Verdict::Nothing => answered(alloc, Answer::Unknown, options.witness, 0),
+        Verdict::Model(values) => {
+            answered(alloc, Answer::Satisfiable(values), options.witness, 10)
+        }
+        Verdict::Proof(_) => answered(alloc, Answer::Unsatisfiable, options.witness, 20),
+    }
 }
 
 /// The report of a verdict. A proof is moved into it.

@@ -11,6 +11,7 @@ mod splitting;
 mod starting;
 
 pub use command_line::{Options, Request, UsageFault, command};
+pub use commands::attending::{Service, attend, run_attend};
 pub use commands::check::{ProofCheck, run_check};
 pub use commands::cubes::run_cubes;
 pub use commands::drilling::{draw, drill, run_drill, worked_turns};

@@ -3,6 +3,7 @@
 ghost use Rattle.std.specs.Prelude.{◌≡◌, if◌then◌else◌};
 ghost use Rattle.command_line.specs.Options.{AreOptions};
 
+use arriving::Plan;
 use command_line::Options;
 use frames::WorkerNumber;
 use runs::{CoordinatorPlan, Order, WorkerPlan};
@@ -19,6 +20,22 @@ pub(crate) fn coordinator_plan(options: &Options) -> CoordinatorPlan
         limit: options.limit,
         session: options.session,
         defs: options.defs,
+    }
+}
+
+/// What a coordinator is to do whose links come and go.
+pub(crate) fn service_plan(options: &Options) -> Plan
+    ensures workers { result.workers ≡ options.now.workers }
+    ensures limit { result.limit ≡ options.now.limit }
+    ensures session { result.session ≡ options.now.session }
+    ensures defs { result.defs ≡ options.now.defs }
+{
+    Plan {
+        workers: options.workers,
+        limit: options.limit,
+        session: options.session,
+        defs: options.defs,
+        patience: None,
     }
 }
 

@@ -2,15 +2,15 @@
 
 ghost use Rattle.command_line.specs.Options.{AreOptions};
 
-use crate::accepting::accept_workers;
 use crate::files::{no_memory, read_cubes, read_formula, refused};
 use crate::proof_file::write_proof;
-use links::{Counted, Joined, Loopback};
-use node_main::{
-    Options, Refusal, Report, Start, begin, run_serve_from, run_solve_of, run_work_of,
-};
+use hub::Hub;
+use links::{Counted, Joined, Loopback, Observed};
+use node_main::{Options, Refusal, Report, attend, begin, run_solve_of, run_work_of};
+use std::alloc::Global;
 use std::io;
-use std::net::{Ipv4Addr, Net, SocketAddr, TcpListener};
+use std::io::Write;
+use std::net::Net;
 use std::rt::Runtime;
 
 /// The files of a run.
@@ -62,8 +62,18 @@ pub(crate) fn solve<R: Runtime + AllocGlobal + Net>(
     kept(rt, run.map_err(no_memory)?, files)
 }
 
-/// Decides a formula by workers that connect to a port. What is wrong with the input or the cubes is told once the port is open, and before
-/// anyone is linked. The listener is kept to the end, so that a worker who comes late waits for it, and is not refused.
+/// How many links there may be beside those of the workers.
+const SPARE: u32 = 64;
+
+/// The port, with a place for each worker and some for those who come to it besides.
+fn open_hub<R: Runtime + Net>(rt: &R, alloc: Global, port: u16, workers: u32) -> io::Result<Hub<&R>>
+{
+    let places = workers.min(SPARE) + SPARE;
+    Hub::open(rt, alloc, rt, port, places as u8)
+}
+
+/// Decides a formula by workers that connect to a port, come and go. What is wrong with a file is told before one is linked. At the
+/// verdict the proof is written and the answer printed; then the workers get it.
 pub(crate) fn serve<R: Runtime + AllocGlobal + Net>(
     rt: &R,
     port: u16,
@@ -72,19 +82,33 @@ pub(crate) fn serve<R: Runtime + AllocGlobal + Net>(
 ) -> Result<Report, Refusal>
     requires { AreOptions options.now }
 {
+    let hub = open_hub(rt, rt.alloc(), port, options.workers).map_err(not_linked)?;
     let found = read_formula(rt, files.input)?;
     let cubes = read_cubes(rt, files.cubes)?;
-    let at = SocketAddr::from((Ipv4Addr::LOCALHOST, port));
-    let listener = TcpListener::bind(rt, at).map_err(not_linked)?;
-    let start = match begin(rt.alloc(), found, lent(&cubes), options) {
-        Ok(Start::Refused(report)) => return Ok(report),
-        Ok(start) => start,
-        Err(error) => return Err(no_memory(error)),
+    let start = begin(rt.alloc(), found, lent(&cubes), options).map_err(no_memory)?;
+    let mut links = Observed::new(hub);
+    let run = attend(rt.alloc(), start, options, &mut links);
+    let mut service = run.map_err(no_memory)?;
+    if let (Some(path), Some(proof)) = (files.proof, service.proof()) {
+        write_proof(rt, path, proof, files.input, files.cubes)?;
+    }
+    let status = match print(rt, service.text()) {
+        Ok(()) => service.status(),
+        Err(_) => 1,
     };
-    let carrier = accept_workers::<R>(rt.alloc(), &listener, options.workers)?;
-    let mut links = Counted::new(carrier);
-    let run = run_serve_from(rt.alloc(), start, options, &mut links);
-    kept(rt, run.map_err(no_memory)?, files)
+    let _ = service.hand_out(&mut links);
+    Ok(Report {
+        stdout: Vec::new(rt.alloc()),
+        status,
+        proof: None,
+    })
+}
+
+/// Prints a text on standard output.
+pub(crate) fn print<R: Runtime + AllocGlobal>(rt: &R, text: &[u8]) -> io::Result<()> {
+    let mut out = io::writer(rt);
+    out.write_all(text)?;
+    out.flush()
 }
 
 /// Works for whoever serves the formula at a port.

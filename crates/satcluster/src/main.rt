@@ -4,7 +4,6 @@
 ghost use Rattle.std.specs.Prelude.{◌≤◌};
 ghost use Rattle.command_line.specs.CommandLine.{IsInRange};
 
-mod accepting;
 mod check;
 mod complete;
 mod deciding;
@@ -18,7 +17,7 @@ mod trim;
 
 use check::check;
 use complete::complete;
-use deciding::{Files, serve, solve, work};
+use deciding::{Files, print, serve, solve, work};
 use files::{no_memory, read, refused};
 use join::{JoinFiles, join};
 use leaf_runs::{LeafFiles, leaf, refute, split};
@@ -27,11 +26,10 @@ use lift::lift;
 use model::model;
 use node_main::{Refusal, Report, Request, UsageFault, command, run_cubes};
 use std::alloc::AllocError;
-use std::io::Write;
 use std::net::Net;
 use std::process::ExitCode;
 use std::rt::Runtime;
-use std::{env, io};
+use std::env;
 use trim::trim;
 
 fn cubes<R: Runtime + AllocGlobal>(rt: &R, input: &str, depth: u32) -> Result<Report, Refusal>
@@ -193,12 +191,6 @@ fn run<R: Runtime + AllocGlobal + Net>(rt: &R) -> Result<Report, &'static str> {
     let lent: Result<Vec<&str>, AllocError> = owned.iter().map(|w| w.as_str()).collect(rt.alloc());
     let lent = lent.map_err(|_| Refusal::NoMemory.line(false))?;
     respond(rt, lent.as_slice())
-}
-
-fn print<R: Runtime + AllocGlobal>(rt: &R, text: &[u8]) -> io::Result<()> {
-    let mut out = io::writer(rt);
-    out.write_all(text)?;
-    out.flush()
 }
 
 fn main(rt: HostRuntime) -> ExitCode {
