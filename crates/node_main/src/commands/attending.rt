@@ -135,8 +135,9 @@ pub fn attend<A: Arrivals>(
     ensures truth { (input : List ℕ) (cubes : Option (List ℕ)) → Starts input cubes options.now start → IfOk result (λ s. IsTrueReport input (report_of s)) }
 {
     accepted_proofs_are_sound();
-    match start {
-        Start::With(formula, tree) => attend_to(alloc, formula, tree, options, links),
-        Start::Refused(report) => Ok(Service { report, run: None }),
-    }
+    let (formula, tree) = match start {
+        Start::With(formula, tree) => (formula, tree),
+        Start::Refused(report) => return Ok(Service { report, run: None }),
+    };
+    attend_to(alloc, formula, tree, options, links)
 }

@@ -5,13 +5,13 @@ use Rattle.node_main.proofs.commands.attending.attend.Goals as goal
 pub attend_to-requires-clause-inside : goal.attend_to-requires-clause-inside
 attend_to-requires-clause-inside g c =
     let at = c.in-With in
-    started_inside c.args.options.now c.args.start at.formula at.tree at.start-is c.args.requires.start
+    started_inside c.args.options.now c.args.start at.formula at.tree at.is c.requires.start
 
-pub returns-in-With-clause-report : goal.returns-in-With-clause-report
-returns-in-With-clause-report g c = λ input cubes starts.
+pub returns-clause-report : goal.returns-clause-report
+returns-clause-report g c = λ input cubes starts.
     let at = c.in-With in
-    serving_solves c.attend_to.result input cubes c.args.options.now c.args.start at.formula at.tree at.start-is starts c.attend_to.ensures
+    serving_solves c.attend_to.result input cubes c.args.options.now c.args.start at.formula at.tree at.is starts c.attend_to.ensures
 
-pub returns-in-With-clause-truth : goal.returns-in-With-clause-truth
-returns-in-With-clause-truth g c = λ input cubes starts.
-    serving_true c.accepted_proofs_are_sound.ensures input cubes c.args.options.now c.attend_to.result (returns-in-With-clause-report g c input cubes starts)
+pub returns-clause-truth : goal.returns-clause-truth
+returns-clause-truth g c = λ input cubes starts.
+    serving_true c.accepted_proofs_are_sound.ensures input cubes c.args.options.now c.attend_to.result (returns-clause-report g c input cubes starts)
