@@ -284,7 +284,8 @@ class Pair:
 
 
 def ended(process, seconds, may_wait=False):
-    """What a process answers, and how many allocations it asked for. One that may wait for ever is ended, and has no verdict."""
+    """What a process answers, and how many allocations it asked for. One that may wait for ever is ended: it has no verdict,
+    and nobody knows how many it would have asked for."""
     try:
         out, asked = process.communicate(timeout=seconds)
     except subprocess.TimeoutExpired:
@@ -292,7 +293,7 @@ def ended(process, seconds, may_wait=False):
         process.communicate()
         if not may_wait:
             raise
-        return WITHOUT_VERDICT[0], 0
+        return WITHOUT_VERDICT[0], sys.maxsize
     return (process.returncode, out.decode()), int(asked)
 
 

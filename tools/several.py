@@ -1,5 +1,5 @@
 #!/usr/bin/env python3
-"""Measures how much sooner several workers decide a formula than one, each a process of this machine with `--ahead`.
+"""Measures how much sooner several workers decide a formula than one, each a process of this machine.
 
     tools/several.py PATH-OF-satcluster [WORKERS [RUNS]]
 
@@ -53,7 +53,7 @@ def seconds(program, path, workers):
     while not listens(int(port)):
         time.sleep(0.005)
     begin = time.monotonic()
-    words = [program, "work", "--port", port, "--ahead", path, "--number"]
+    words = [program, "work", "--port", port, path, "--number"]
     started = [subprocess.Popen(words + [str(w + 1)], stdout=subprocess.PIPE) for w in range(workers)]
     answers = {process.communicate()[0] for process in [coordinator] + started}
     if answers != {b"s UNSATISFIABLE\n"}:

@@ -66,8 +66,12 @@ pub(crate) fn solve<R: Runtime + AllocGlobal + Net>(
 const SPARE: u32 = 64;
 
 /// The port, with a place for each worker and some for those who come to it besides.
-fn open_hub<R: Runtime + Net>(rt: &R, alloc: Global, port: u16, workers: u32) -> io::Result<Hub<&R>>
-{
+fn open_hub<R: Runtime + Net>(
+    rt: &R,
+    alloc: Global,
+    port: u16,
+    workers: u32,
+) -> io::Result<Hub<&R>> {
     let places = workers.min(SPARE) + SPARE;
     Hub::open(rt, alloc, rt, port, places as u8)
 }

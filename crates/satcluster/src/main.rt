@@ -26,10 +26,10 @@ use lift::lift;
 use model::model;
 use node_main::{Refusal, Report, Request, UsageFault, command, run_cubes};
 use std::alloc::AllocError;
+use std::env;
 use std::net::Net;
 use std::process::ExitCode;
 use std::rt::Runtime;
-use std::env;
 use trim::trim;
 
 fn cubes<R: Runtime + AllocGlobal>(rt: &R, input: &str, depth: u32) -> Result<Report, Refusal>
