@@ -1,0 +1,5 @@
+use Rattle.node_main.proofs.commands.serve.run_serve.Goals as goal
+
+pub returns-in-Ok-clause-truth : goal.returns-in-Ok-clause-truth
+returns-in-Ok-clause-truth g c =
+    c.run_serve_from.ensures.truth c.args.input.now _ (c.in-Ok.ensures.starts c.args.input.now c.read.ensures.exact)
