@@ -2,6 +2,7 @@
 
 ghost use Rattle.std.specs.Prelude.{ℕ, List, ◌≤◌, ◌+◌, ◌*◌, Option, IfOk, option_map};
 ghost use Rattle.command_line.specs.Options.{AreOptions};
+ghost use Rattle.runs.specs.Accounts.{OnceEach};
 ghost use Rattle.node_main.specs.Running.{WasRun};
 ghost use Rattle.node_main.specs.Solving.{Solves};
 ghost use Rattle.node_main.specs.Starting.{IsStart, Starts};
@@ -31,6 +32,7 @@ pub fn run_serve<L: Links>(
     ensures used { IfOk result (WasRun (L.call_count links.old) (L.call_count links.new)) }
     ensures most { L.call_count links.new ≤ L.call_count links.old + 4039000000 * options.now.workers }
     ensures refusals { L.refusal_count links.new ≤ L.refusal_count links.old + options.now.workers }
+    ensures each { OnceEach (L.refused_at links.old) (L.refused_at links.new) }
 {
     match begin(alloc, dimacs::read(alloc, input), cubes, options) {
         Ok(start) => run_serve_from(alloc, start, options, links),
@@ -52,6 +54,7 @@ pub fn run_serve_from<L: Links>(
     ensures used { IfOk result (WasRun (L.call_count links.old) (L.call_count links.new)) }
     ensures most { L.call_count links.new ≤ L.call_count links.old + 4039000000 * options.now.workers }
     ensures refusals { L.refusal_count links.new ≤ L.refusal_count links.old + options.now.workers }
+    ensures each { OnceEach (L.refused_at links.old) (L.refused_at links.new) }
 {
     accepted_proofs_are_sound();
     let (formula, tree) = match start {

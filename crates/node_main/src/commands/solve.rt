@@ -3,6 +3,7 @@
 ghost use Rattle.std.specs.Prelude.{ℕ, List, ◌≤◌, ◌+◌, ◌*◌, IfOk, option_map};
 ghost use Rattle.dimacs.specs.text.Reading.{parse, GivesFormula};
 ghost use Rattle.command_line.specs.Options.{AreOptions};
+ghost use Rattle.runs.specs.Accounts.{OnceEach};
 ghost use Rattle.node_main.specs.Running.{WasRun};
 ghost use Rattle.node_main.specs.Solving.{Solves};
 ghost use Rattle.node_main.specs.Truth.{IsTrueReport};
@@ -32,6 +33,7 @@ pub fn run_solve<L: Links>(
     ensures used { IfOk result (WasRun (L.call_count links.old) (L.call_count links.new)) }
     ensures most { L.call_count links.new ≤ L.call_count links.old + 8076000000 * options.now.workers }
     ensures refusals { L.refusal_count links.new ≤ L.refusal_count links.old + options.now.workers }
+    ensures each { OnceEach (L.refused_at links.old) (L.refused_at links.new) }
 {
     run_solve_of(alloc, dimacs::read(alloc, input), cubes, options, links)
 }
@@ -50,6 +52,7 @@ pub fn run_solve_of<L: Links>(
     ensures used { IfOk result (WasRun (L.call_count links.old) (L.call_count links.new)) }
     ensures most { L.call_count links.new ≤ L.call_count links.old + 8076000000 * options.now.workers }
     ensures refusals { L.refusal_count links.new ≤ L.refusal_count links.old + options.now.workers }
+    ensures each { OnceEach (L.refused_at links.old) (L.refused_at links.new) }
 {
     accepted_proofs_are_sound();
     let (formula, tree) = match begin(alloc, found, cubes, options) {

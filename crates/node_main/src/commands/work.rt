@@ -3,6 +3,7 @@
 ghost use Rattle.std.specs.Prelude.{ℕ, List, ◌≤◌, ◌+◌, IfOk};
 ghost use Rattle.dimacs.specs.text.Reading.{parse, GivesFormula};
 ghost use Rattle.command_line.specs.Options.{AreOptions};
+ghost use Rattle.runs.specs.Accounts.{OnceEach};
 ghost use Rattle.node_main.specs.Running.{WasRun};
 ghost use Rattle.node_main.specs.Solving.{Works};
 ghost use Rattle.node_main.specs.Truth.{IsTrueReport};
@@ -31,6 +32,7 @@ pub fn run_work<L: Links>(
     ensures used { IfOk result (WasRun (L.call_count links.old) (L.call_count links.new)) }
     ensures most { L.call_count links.new ≤ L.call_count links.old + 4038000001 }
     ensures refusals { L.refusal_count links.new ≤ L.refusal_count links.old + 1 }
+    ensures each { OnceEach (L.refused_at links.old) (L.refused_at links.new) }
 {
     run_work_of(alloc, dimacs::read(alloc, input), options, links)
 }
@@ -48,6 +50,7 @@ pub fn run_work_of<L: Links>(
     ensures used { IfOk result (WasRun (L.call_count links.old) (L.call_count links.new)) }
     ensures most { L.call_count links.new ≤ L.call_count links.old + 4038000001 }
     ensures refusals { L.refusal_count links.new ≤ L.refusal_count links.old + 1 }
+    ensures each { OnceEach (L.refused_at links.old) (L.refused_at links.new) }
 {
     accepted_proofs_are_sound();
     let formula = match found {
