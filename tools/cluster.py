@@ -22,6 +22,8 @@ import time
 SECONDS = 120
 # How many bytes a process may take that reads what has no end.
 ROOM = 2**28
+# How a worker may end whose coordinator has decided the formula.
+LATE = [(20, "s UNSATISFIABLE\n"), (0, "s UNKNOWN\n"), (1, "c cannot open links\n")]
 # How long the formula of a run takes in which a node is killed, at least.
 LONG = 1.0
 
@@ -304,6 +306,13 @@ def one_process(cluster):
     ok("three workers in one process; %d holes for %d pigeons" % (holes, holes + 1))
 
 
+def ends_with_or_without(worker):
+    """A worker holds the verdict, or none if it came too late."""
+    text = worker.communicate(timeout=SECONDS)[0].decode()
+    if (worker.returncode, text) not in LATE:
+        differs("a worker of a run that is decided", LATE, (worker.returncode, text))
+
+
 def defined_variables(cluster):
     """With definitions an assignment shows none of them, and the proof begins with theirs."""
     cluster.write("same.cnf", dimacs(2, [[1, -2], [-1, 2]]))
@@ -313,8 +322,9 @@ def defined_variables(cluster):
     port = free_port()
     coordinator = cluster.serve(port, "--workers", 2, "--defs", 64, "few.cnf", "defined.lrat")
     workers = [cluster.start("work", "--port", port, "--number", w, "--ahead", "--defs", 64, "few.cnf") for w in (1, 2)]
-    for process in [*workers, coordinator]:
-        cluster.ends("a run with definitions", process, 20, "s UNSATISFIABLE\n")
+    cluster.ends("a run with definitions", coordinator, 20, "s UNSATISFIABLE\n")
+    for worker in workers:  # one that comes when the other one has the verdict is not waited for
+        ends_with_or_without(worker)
     with open(os.path.join(cluster.folder, "defined.lrat")) as proof:
         same("the first variable behind the formula's", "21", next(proof).split()[1])
     cluster.verifies("few.cnf", "defined.lrat")
