@@ -58,7 +58,7 @@ module _ (k : Quiet) where
   delivers_nothing : (old : Node) (bytes : List ℕ) (answer : Reaction) (new : Node) → Delivers old bytes answer new → IsQuiet answer → new ≡ old
   delivers_nothing old bytes answer new (Delivers.begins first is step) q = step_nothing old (Delivered first) answer new step q
   delivers_nothing old bytes answer new (Delivers.noise none ignores) q = ignores.1
-  delivers_nothing old bytes answer new (Delivers.no_memory is same) q = same
+  delivers_nothing old bytes answer new (Delivers.no_memory offers is same) q = same
 
   works_nothing : (old : Node) (answer : Reaction) (new : Node) → Works old answer new → IsQuiet answer → new ≡ old
   works_nothing (Worker w) answer new step q = step_nothing (Worker w) Worked answer new step q

@@ -81,7 +81,7 @@ module _ (k : Keeping) where
   delivers_keeps : (old : Node) (bytes : List ℕ) (answer : Reaction) (new : Node) → Delivers old bytes answer new → Keeps old new
   delivers_keeps old bytes answer new (Delivers.begins first is step) = step_keeps old (Delivered first) (Reacted answer) new step
   delivers_keeps old bytes answer new (Delivers.noise none ignores) = stays old new ignores.1
-  delivers_keeps old bytes answer new (Delivers.no_memory is same) = stays old new same
+  delivers_keeps old bytes answer new (Delivers.no_memory offers is same) = stays old new same
 
   works_keeps : (old : Node) (answer : Reaction) (new : Node) → Works old answer new → Keeps old new
   works_keeps (Worker w) answer new step = step_keeps (Worker w) Worked (Reacted answer) new step

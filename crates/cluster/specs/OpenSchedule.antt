@@ -3,6 +3,7 @@ use Rattle.std.specs.Prelude.{◌≡◌, ◌⊎◌, ℕ, List, [], ◌∷◌, Ma
 use Rattle.lrat_check.specs.declared.verdict.Reaction.{Reaction}
 use Rattle.lrat_check.specs.declared.verdict.Reaction.TheVariants as reaction
 use Rattle.dimacs.specs.logic.Cnf.{Cnf}
+use Rattle.frames.specs.Offers.{OffersRoom}
 use Rattle.frames.specs.Stream.{BeginsWith, BeginsNoFrame}
 use Rattle.frames.specs.declared.frame.Frame.{Frame}
 use Rattle.evidence.specs.Events.{Event, Delivered, Worked, Polled, Given, Reacted, Sent, Ignores}
@@ -26,8 +27,8 @@ pub data Delivers (old : Node) (bytes : List ℕ) (answer : Reaction) (new : Nod
   begins : (first : Frame) → BeginsWith bytes first → NodeStep old (Delivered first) (Reacted answer) new → Delivers old bytes answer new
   -- they begin with no frame
   noise : BeginsNoFrame bytes → Ignores old answer new → Delivers old bytes answer new
-  -- no room to read them
-  no_memory : answer ≡ reaction.NoMemory → new ≡ old → Delivers old bytes answer new
+  -- no room to read them: they offer a frame with literals or bytes
+  no_memory : OffersRoom bytes → answer ≡ reaction.NoMemory → new ≡ old → Delivers old bytes answer new
 
 -- A node is to work; only a worker has something to do.
 abbrev pub Works : Node → Reaction → Node → Type 0

@@ -99,7 +99,8 @@ impl ClosedCluster {
         self.schedule.happen(event)
     }
 
-    /// One event after the other.
+    /// One event after the other. One that finds no memory changes nothing and is passed over: a poll that asks a worker that there is, or a
+    /// restart under a new number, since both put something into a list; else only an event that its node answers so by its own rules.
     pub fn run(&mut self, events: &[ClosedEvent])
         ensures runs { RunsClosed self.old events.now self.new }
         ensures right { HoldRight self.new }

@@ -78,7 +78,8 @@ impl OpenCluster {
         happen(self.alloc, &mut self.nodes, event)
     }
 
-    /// One event after the other.
+    /// One event after the other. One that finds no memory changes nothing and is passed over: a delivery only if its bytes offer a frame with
+    /// literals or bytes, any other event only if its node answers so by its own rules.
     pub fn run(&mut self, events: &[OpenEvent])
         ensures runs { Runs self.old events.now self.new }
         ensures formulas { FormulasAlong (formulas self.old) events.now (formulas self.new) }

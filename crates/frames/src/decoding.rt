@@ -1,7 +1,8 @@
 //! Frames from their payloads.
 
-ghost use Rattle.std.specs.Prelude.{◌≡◌, ◌≤◌, ◌%◌, length, true};
+ghost use Rattle.std.specs.Prelude.{◌≡◌, ◌≢◌, ◌≤◌, ◌<◌, ◌%◌, length, true, Err};
 ghost use Rattle.frames.specs.Spelling.{may_have};
+ghost use Rattle.frames.specs.Offers.{TakesRoom};
 ghost use Rattle.frames.specs.inner.Reading.{Decodes};
 
 use crate::chunk::Chunk;
@@ -14,7 +15,8 @@ use std::alloc::Global;
 fn task_of(alloc: Global, payload: &[u8]) -> Result<Frame, FrameFault>
     requires long { 24 ≤ length payload.now }
     requires fours { length payload.now % 4 ≡ 0 }
-    ensures { Decodes Kind.Task payload.now result }
+    ensures decodes { Decodes Kind.Task payload.now result }
+    ensures room { result ≡ Err FrameFault.NoMemory → 24 < length payload.now }
 {
     let (session, rest) = u64_at(payload);
     let (job, rest) = u64_at(rest);
@@ -32,7 +34,8 @@ fn task_of(alloc: Global, payload: &[u8]) -> Result<Frame, FrameFault>
 
 fn done_of(payload: &[u8]) -> Result<Frame, FrameFault>
     requires { length payload.now ≡ 33 }
-    ensures { Decodes Kind.Done payload.now result }
+    ensures decodes { Decodes Kind.Done payload.now result }
+    ensures room { result ≢ Err FrameFault.NoMemory }
 {
     let Some((attempt, rest)) = attempt_at(payload) else {
         return Err(FrameFault::BadField);
@@ -45,7 +48,8 @@ fn done_of(payload: &[u8]) -> Result<Frame, FrameFault>
 
 fn fetch_of(payload: &[u8]) -> Result<Frame, FrameFault>
     requires { length payload.now ≡ 32 }
-    ensures { Decodes Kind.Fetch payload.now result }
+    ensures decodes { Decodes Kind.Fetch payload.now result }
+    ensures room { result ≢ Err FrameFault.NoMemory }
 {
     let Some((attempt, rest)) = attempt_at(payload) else {
         return Err(FrameFault::BadField);
@@ -75,7 +79,8 @@ fn piece_of(alloc: Global, payload: &[u8]) -> Result<Frame, FrameFault>
 
 fn verdict_of(payload: &[u8]) -> Result<Frame, FrameFault>
     requires { length payload.now ≡ 13 }
-    ensures { Decodes Kind.Verdict payload.now result }
+    ensures decodes { Decodes Kind.Verdict payload.now result }
+    ensures room { result ≢ Err FrameFault.NoMemory }
 {
     let (session, rest) = u64_at(payload);
     let Some(finding) = finding_of(rest) else {
@@ -86,7 +91,8 @@ fn verdict_of(payload: &[u8]) -> Result<Frame, FrameFault>
 
 fn want_of(payload: &[u8]) -> Result<Frame, FrameFault>
     requires { length payload.now ≡ 16 }
-    ensures { Decodes Kind.Want payload.now result }
+    ensures decodes { Decodes Kind.Want payload.now result }
+    ensures room { result ≢ Err FrameFault.NoMemory }
 {
     let (session, rest) = u64_at(payload);
     let Some((worker, rest)) = worker_at(rest) else {
@@ -123,7 +129,8 @@ fn part_of(alloc: Global, payload: &[u8]) -> Result<Frame, FrameFault>
 
 fn idle_of(payload: &[u8]) -> Result<Frame, FrameFault>
     requires { length payload.now ≡ 12 }
-    ensures { Decodes Kind.Idle payload.now result }
+    ensures decodes { Decodes Kind.Idle payload.now result }
+    ensures room { result ≢ Err FrameFault.NoMemory }
 {
     let Some((worker, rest)) = worker_at(payload) else {
         return Err(FrameFault::BadField);
@@ -137,16 +144,19 @@ fn idle_of(payload: &[u8]) -> Result<Frame, FrameFault>
 
 fn rest_of(payload: &[u8]) -> Result<Frame, FrameFault>
     requires { length payload.now ≡ 0 }
-    ensures { Decodes Kind.Rest payload.now result }
+    ensures decodes { Decodes Kind.Rest payload.now result }
+    ensures room { result ≢ Err FrameFault.NoMemory }
 {
     let _ = payload;
     Ok(Frame::Rest)
 }
 
-/// The frame of this kind with this payload. A payload with a field that is not right is `BadField`.
+/// The frame of this kind with this payload. A payload with a field that is not right is `BadField`. Memory is wanting only where it has
+/// literals or bytes.
 pub(crate) fn frame_of(alloc: Global, kind: Kind, payload: &[u8]) -> Result<Frame, FrameFault>
     requires { may_have kind (length payload.now) ≡ true }
-    ensures { Decodes kind payload.now result }
+    ensures decodes { Decodes kind payload.now result }
+    ensures room { result ≡ Err FrameFault.NoMemory → TakesRoom kind (length payload.now) }
 {
     match kind {
         Kind::Task => task_of(alloc, payload),

@@ -114,7 +114,8 @@ fn literal_from(word: u32) -> Option<Lit>
 /// The cube that the bytes spell.
 pub(crate) fn cube_of(alloc: Global, bytes: &[u8]) -> Result<Cube, FrameFault>
     requires { length bytes.now % 4 ≡ 0 }
-    ensures { MatchResult result (λ c. IsSpelled (flat_map literal_bytes) IsCube bytes.now c) (λ e. NotRead e (SpellsNone (flat_map literal_bytes) IsCube bytes.now)) }
+    ensures spelled { MatchResult result (λ c. IsSpelled (flat_map literal_bytes) IsCube bytes.now c) (λ e. NotRead e (SpellsNone (flat_map literal_bytes) IsCube bytes.now)) }
+    ensures room { result ≡ Err FrameFault.NoMemory → 0 < length bytes.now }
 {
     let mut cube = Cube::new(alloc);
     let mut rest = bytes;

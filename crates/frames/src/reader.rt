@@ -4,6 +4,7 @@ ghost use Rattle.std.specs.Prelude.{◌≡◌, ◌≢◌, ◌+◌, ◌≤◌, �
 ghost use Rattle.frames.specs.declared.frame.Frame.{Frame};
 ghost use Rattle.frames.specs.declared.fault.FrameFault.{FrameFault};
 ghost use Rattle.frames.specs.Stream.{Open, Fault, Ends, Begins, BeginsNoFrame, BeginsWith, Splits, StopsBefore, Stream, Within, Failed, TakesPiece, joined};
+ghost use Rattle.frames.specs.Offers.{OffersRoom};
 ghost use Rattle.frames.specs.inner.Filling.{lacks, Fills};
 
 use crate::decoding::frame_of;
@@ -106,9 +107,10 @@ pub fn read_pieces(
 
 /// The frame at the front of the bytes, and the bytes behind it; none where it is not whole.
 fn first(alloc: Global, bytes: &[u8]) -> Result<Option<(Frame, &[u8])>, FrameFault>
-    ensures { MatchResult result
+    ensures first { MatchResult result
         (λ found. MatchOption found (Ends bytes.now Open) (λ r. Begins bytes.now r.0 r.1.now))
         (λ fault. fault ≢ FrameFault.NoMemory → Ends bytes.now (Fault fault)) }
+    ensures room { result ≡ Err FrameFault.NoMemory → OffersRoom bytes.now }
 {
     match read_head(bytes) {
         Head::Short => Ok(None),
@@ -127,10 +129,12 @@ fn first(alloc: Global, bytes: &[u8]) -> Result<Option<(Frame, &[u8])>, FrameFau
     }
 }
 
-/// The first frame of the bytes, where it is whole and its fields are right; what follows it is not looked at.
+/// The first frame of the bytes, where it is whole and its fields are right; what follows it is not looked at. Memory is wanting only where
+/// they offer a payload with literals or bytes.
 #[tactic(auto, using(crate::proofs::Streams::ends_begin_none))]
 pub fn first_frame(alloc: Global, bytes: &[u8]) -> Result<Option<Frame>, AllocError>
-    ensures { IfOk result (λ found. MatchOption found (BeginsNoFrame bytes.now) (BeginsWith bytes.now)) }
+    ensures first { IfOk result (λ found. MatchOption found (BeginsNoFrame bytes.now) (BeginsWith bytes.now)) }
+    ensures room { OnErr result (OffersRoom bytes.now) }
 {
     match first(alloc, bytes) {
         Ok(Some((frame, _))) => Ok(Some(frame)),

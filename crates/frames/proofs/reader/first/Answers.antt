@@ -1,8 +1,10 @@
-use Rattle.std.proofs.Common.{◌≡◌, ◌+◌, ◌≤◌, sym, ap, ◌∙◌, subst, arith, length, take, drop}
+use Rattle.std.proofs.Common.{◌≡◌, Err, ◌+◌, ◌≤◌, sym, ap, ◌∙◌, subst, arith, length, take, drop}
+use Rattle.frames.specs.declared.fault.FrameFault.TheVariants.{NoMemory}
 use Rattle.frames.specs.declared.frame.Frame.{Frame}
 use Rattle.frames.specs.declared.head.Head.TheVariants.{Whole}
 use Rattle.frames.specs.Spelling.{may_have}
 use Rattle.frames.specs.Stream.{head_of, Begins, Ends, Fault}
+use Rattle.frames.specs.Offers.{TakesRoom}
 use Rattle.frames.specs.inner.Reading.{Carries}
 use Rattle.frames.proofs.Heads.{head_limit}
 use Rattle.frames.proofs.Streams.{first_whole, first_bad}
@@ -13,8 +15,8 @@ frame_of-requires c =
     let head : head_of c.args.bytes.now ≡ Whole c.in-Whole.kind c.in-Whole.len = sym c.read_head.ensures ∙ c.in-Whole.is in
     ap (may_have c.in-Whole.kind) c.split_at-in-Whole.ensures.front_len ∙ (head_limit c.args.bytes.now c.in-Whole.kind c.in-Whole.len head).0
 
-pub returns-in-Err : goal.returns-in-Err
-returns-in-Err c = λ other.
+pub returns-in-Err-clause-first : goal.returns-in-Err-clause-first
+returns-in-Err-clause-first c = λ other.
     let b = c.args.bytes.now in
     let k = c.in-Whole.kind in
     let n = c.in-Whole.len in
@@ -22,11 +24,11 @@ returns-in-Err c = λ other.
     let front = c.split_at-in-Whole.ensures.front ∙ ap (take n) c.split_at.ensures.back in
     let back = c.split_at-in-Whole.ensures.back ∙ ap (drop n) c.split_at.ensures.back in
     let long : 5 + n ≤ length b = omega (arith, c.if-bytes-len.false, (head_limit b k n head).1) in
-    let d = c.in-Err.ensures other in
+    let d = c.in-Err.ensures.decodes other in
     subst (λ f. Ends b (Fault f)) (sym d.0) (first_bad b k n head long (subst (λ p. (f : Frame) → Carries k p f → ⊥) front d.1))
 
-pub returns-in-Ok : goal.returns-in-Ok
-returns-in-Ok c =
+pub returns-in-Ok-clause-first : goal.returns-in-Ok-clause-first
+returns-in-Ok-clause-first c =
     let b = c.args.bytes.now in
     let k = c.in-Whole.kind in
     let n = c.in-Whole.len in
@@ -35,4 +37,19 @@ returns-in-Ok c =
     let front = c.split_at-in-Whole.ensures.front ∙ ap (take n) c.split_at.ensures.back in
     let back = c.split_at-in-Whole.ensures.back ∙ ap (drop n) c.split_at.ensures.back in
     let long : 5 + n ≤ length b = omega (arith, c.if-bytes-len.false, (head_limit b k n head).1) in
-    subst (Begins b f) (sym back) (first_whole b k n f (λ i. omega (arith, c.type_inv.bytes i)) head long (subst (λ p. Carries k p f) front c.in-Ok.ensures))
+    subst (Begins b f) (sym back) (first_whole b k n f (λ i. omega (arith, c.type_inv.bytes i)) head long (subst (λ p. Carries k p f) front c.in-Ok.ensures.decodes))
+
+pub returns-in-Err-clause-room : goal.returns-in-Err-clause-room
+returns-in-Err-clause-room c = λ refused.
+    let b = c.args.bytes.now in
+    let k = c.in-Whole.kind in
+    let n = c.in-Whole.len in
+    let head : head_of b ≡ Whole k n = sym c.read_head.ensures ∙ c.in-Whole.is in
+    let same : c.in-Err.fault ≡ NoMemory = cc in
+    record {
+      kind = k;
+      len = n;
+      head = head;
+      whole = omega (arith, c.if-bytes-len.false, (head_limit b k n head).1);
+      takes = subst (TakesRoom k) c.split_at-in-Whole.ensures.front_len (c.in-Err.ensures.room (ap Err same));
+    }

@@ -8,5 +8,5 @@ pub returns-in-Ok-Some : goal.returns-in-Ok-Some
 returns-in-Ok-Some c =
     let b = c.args.bytes.now in
     Delivers.begins c.in-Ok-Some.frame
-    (subst (λ (o : Option Frame). MatchOption o (BeginsNoFrame b) (BeginsWith b)) c.in-Ok-Some.field-0-is c.in-Ok-Some.ensures)
+    (subst (λ (o : Option Frame). MatchOption o (BeginsNoFrame b) (BeginsWith b)) c.in-Ok-Some.field-0-is c.in-Ok-Some.ensures.first)
     c.deliver_frame.ensures
