@@ -1,9 +1,10 @@
 #!/usr/bin/env python3
 """Runs a coordinator and workers as processes of one machine, over ports of 127.0.0.1 that are free.
 
-    tools/cluster.py PATH-OF-satcluster
+    tools/cluster.py PATH-OF-satcluster [KILLS]
 
-Tells what it tests, a line each, and ends with status 1 at the first difference. What is tested here no contract can say: that
+Tells what it tests, a line each, and ends with status 1 at the first difference. KILLS is how often a worker is killed at a random
+moment, and the coordinator a tenth as often; 10 if it is left out. What is tested here no contract can say: that
 sockets are opened, that peers who come, go and send anything else are met as they should be, and that nothing else is printed.
 """
 import itertools
@@ -48,6 +49,12 @@ def idle(worker, incarnation):
     """The frame by which a worker says that it has nothing to do."""
     payload = worker.to_bytes(4, "big") + incarnation.to_bytes(8, "big")
     return b"CC\x08" + len(payload).to_bytes(2, "big") + payload
+
+
+def want(worker, offset):
+    """The frame by which a worker asks for bytes of the evidence."""
+    payload = (1).to_bytes(8, "big") + worker.to_bytes(4, "big") + offset.to_bytes(4, "big")
+    return b"CC\x06" + len(payload).to_bytes(2, "big") + payload
 
 
 def free_port():
@@ -226,10 +233,9 @@ def closed_peers(cluster):
     ok("peers that send anything but Idle of a worker are closed, silent ones hold nobody up, and one of two has a number")
 
 
-def several_workers(cluster):
-    """Workers begin, are killed at random and come back, beside peers that flood and one with another formula."""
+def one_run_with_kills(cluster, draw, wanted):
+    """Two workers are killed at random and come back, until the run is decided. Answers how often."""
     port = free_port()
-    draw = random.Random(1)
     coordinator = cluster.serve(port, "--workers", 4, "--depth", 5, "pigeons.cnf", "served.lrat")
 
     def flood():
@@ -247,7 +253,7 @@ def several_workers(cluster):
     workers = {w: cluster.start("work", "--port", port, "--number", w, "pigeons.cnf") for w in (1, 2)}
     cluster.ends("a worker of another formula", other, 0, "s UNKNOWN\n")
     kills = 0
-    while coordinator.poll() is None and kills < 10:
+    while coordinator.poll() is None and kills < wanted:
         time.sleep(draw.uniform(0.02, 0.2))
         number = draw.choice((1, 2))
         workers[number].send_signal(signal.SIGKILL)
@@ -259,7 +265,54 @@ def several_workers(cluster):
         process.communicate()
     flooding.join(SECONDS)
     cluster.verifies("pigeons.cnf", "served.lrat")
-    ok("workers that are killed come back into the run, %d times, beside a flood and another formula" % kills)
+    return kills
+
+
+def killed_workers(cluster, wanted):
+    """Workers are killed and come back, beside peers that flood and one with another formula."""
+    draw, kills, runs = random.Random(1), 0, 0
+    while kills < wanted:
+        kills += one_run_with_kills(cluster, draw, wanted - kills)
+        runs += 1
+    ok("workers that are killed %d times come back into %d runs, beside a flood and another formula" % (kills, runs))
+
+
+def many_workers(cluster):
+    """As many workers as there may be."""
+    port = free_port()
+    coordinator = cluster.serve(port, "--workers", 64, "--depth", 7, "pigeons.cnf", "served.lrat")
+    workers = [cluster.start("work", "--port", port, "--number", w, "pigeons.cnf") for w in range(1, 65)]
+    cluster.ends("the coordinator of 64", coordinator, 20, "s UNSATISFIABLE\n")
+    for worker in workers:
+        ends_with_or_without(worker)
+    cluster.verifies("pigeons.cnf", "served.lrat")
+    ok("64 workers")
+
+
+def slow_reader(cluster):
+    """A peer asks for the evidence again and again, and reads nothing of it: it is hung up, and the run ends."""
+    port = free_port()
+    coordinator = cluster.serve(port, "--workers", 2, "--depth", 0, "--limit", 1000000000, "pigeons.cnf", "served.lrat")
+    worker = cluster.start("work", "--port", port, "pigeons.cnf")
+    wait_for("it is linked", lambda: sockets_at(port, "01") == 1)
+    peer = socket.socket()
+    peer.setsockopt(socket.SOL_SOCKET, socket.SO_RCVBUF, 4096)
+    peer.settimeout(SECONDS)
+    peer.connect(("127.0.0.1", port))
+    peer.sendall(idle(2, 1))
+    same("the verdict is handed out", b"CC\x05", peer.recv(3))
+    try:
+        while True:
+            peer.sendall(want(2, 0) * 100)
+    except TimeoutError:
+        differs("a peer that reads nothing", "a link that is hung up", "one that is open")
+    except OSError:
+        pass
+    peer.close()
+    for what, process in (("worker", worker), ("coordinator", coordinator)):
+        cluster.ends("beside a peer that reads nothing, the " + what, process, 20, "s UNSATISFIABLE\n")
+    cluster.verifies("pigeons.cnf", "served.lrat")
+    ok("a peer that reads nothing behind a full buffer")
 
 
 def lost_worker(cluster):
@@ -280,17 +333,24 @@ def lost_worker(cluster):
     ok("a worker is killed, and one that comes in its place goes on in the same run")
 
 
-def lost_coordinator(cluster):
-    port = free_port()
-    coordinator = cluster.serve(port, "--workers", 1, "pigeons.cnf")
-    worker = cluster.start("work", "--port", port, "pigeons.cnf")
-    wait_for("it is linked", lambda: sockets_at(port, "01") == 1)
-    time.sleep(0.2)
-    same("the run goes on", (None, None), (coordinator.poll(), worker.poll()))
-    coordinator.send_signal(signal.SIGKILL)
-    coordinator.communicate()
-    cluster.ends("its worker", worker, 0, "s UNKNOWN\n")
-    ok("a coordinator is killed, and its worker knows nothing")
+def lost_coordinator(cluster, wanted):
+    """A coordinator is killed at a random moment: its workers hold no verdict, and its PROOF is as it was."""
+    draw = random.Random(2)
+    for _ in range(wanted):
+        cluster.write("stood.lrat", "what stood\n")
+        port = free_port()
+        coordinator = cluster.serve(port, "--workers", 2, "pigeons.cnf", "stood.lrat")
+        workers = [cluster.start("work", "--port", port, "--number", w, "pigeons.cnf") for w in (1, 2)]
+        wait_for("they are linked", lambda: sockets_at(port, "01") == 2)
+        time.sleep(draw.uniform(0, 0.4))
+        same("the run goes on", [None] * 3, [process.poll() for process in [coordinator] + workers])
+        coordinator.send_signal(signal.SIGKILL)
+        coordinator.communicate()
+        for worker in workers:
+            cluster.ends("its worker", worker, 0, "s UNKNOWN\n")
+        with open(os.path.join(cluster.folder, "stood.lrat")) as proof:
+            same("its proof", "what stood\n", proof.read())
+    ok("a coordinator is killed, %d times: its workers know nothing, and what stood stands" % wanted)
 
 
 def one_process(cluster):
@@ -332,16 +392,19 @@ def defined_variables(cluster):
 
 
 def main():
-    if len(sys.argv) != 2:
+    if not 2 <= len(sys.argv) <= 3:
         sys.exit(__doc__)
+    kills = int(sys.argv[2]) if len(sys.argv) > 2 else 10
     with tempfile.TemporaryDirectory() as folder:
         cluster = Cluster(sys.argv[1], folder)
         cluster.write("two.cnf", dimacs(2, [[1], [-2]]))
         try:
             for test in (endless_files, faulty_files, refused_links, closed_peers, defined_variables):
                 test(cluster)
-            for test in (one_process, lost_worker, several_workers, lost_coordinator):
+            for test in (one_process, lost_worker, slow_reader, many_workers):
                 test(cluster)
+            killed_workers(cluster, kills)
+            lost_coordinator(cluster, kills // 10)
         finally:
             for process in running:
                 process.kill()

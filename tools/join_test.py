@@ -75,6 +75,12 @@ class Bench:
         same(what + ": check", (0, b"s VERIFIED\n"), (done.returncode, done.stdout))
         same(what + ": parts", [], self.parts())
 
+    def refutes(self, what, status, lines, *words):
+        """What `refute` answers to these words."""
+        done = subprocess.run([self.program, "refute", *words], cwd=self.folder,
+                              stdout=subprocess.PIPE, timeout=SECONDS)
+        same(what, (status, lines), (done.returncode, done.stdout.decode().split("\n")[:-1]))
+
     def leaves(self, what, lines, *names, status=0, **more):
         """The join ends without a proof, and what stood stands."""
         self.stood()
@@ -104,6 +110,24 @@ def spoilt(bench):
     bench.proves("a log twice", ["c file 2 closes nothing left"], "left", "left", "right")
     bench.proves("a log twice, quietly", [], "left", "left", "right", quiet=True)
     ok("files that are empty, cut, of another formula, garbage, with groups, a folder, given twice")
+
+
+def in_turn(bench):
+    """Several leaves in one log."""
+    def turns(first, last, *more):
+        return ("--cubes", "f.icnf", "--leaf", first, "--to", last, *more, "f.cnf")
+    closed = ["c leaf 1 closed", "c leaf 2 closed"]
+    bench.refutes("leaves in turn", 20, closed, *turns("1", "2"), "both")
+    bench.proves("their one log", [], "both")
+    bench.refutes("leaves in turn, quietly", 20, [], *turns("1", "2", "-q"))
+    for first, last in ("2", "1"), ("1", "3"), ("3", "3"):
+        bench.refutes("leaves %s to %s" % (first, last), 1, ["c no such leaf"], *turns(first, last))
+    bench.write("s.cnf", "p cnf 2 3\n1 2 0\n1 -2 0\n-2 -1 0\n")
+    bench.write("s.icnf", "p inccnf\n1 2 0\n1 -2 0\n-2 -1 0\na -1 0\na 1 0\n")
+    bench.refutes("an assignment ends them", 10, ["s SATISFIABLE", "v 1 -2 0"],
+                  "--cubes", "s.icnf", "--leaf", "1", "--to", "2", "s.cnf", "none.lrat")
+    same("no log of them", False, os.path.exists(bench.at("none.lrat")))
+    ok("leaves in turn, in one log")
 
 
 def named(bench, count):
@@ -178,6 +202,7 @@ def main():
     with tempfile.TemporaryDirectory() as folder:
         bench = Bench(sys.argv[1], os.path.realpath(folder))
         spoilt(bench)
+        in_turn(bench)
         named(bench, count)
         for test in (full, killed, both):
             test(bench)

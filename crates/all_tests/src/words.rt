@@ -264,6 +264,7 @@ fn a_refutation_with_its_defaults_and_with_all_its_words(rt: HostRuntime) -> Res
         input: "f.cnf",
         cubes: "f.icnf",
         leaf: 3,
+        to: None,
         limit: 140_737_488_355_328,
         fragment: None,
         printing: PRINTED,
@@ -278,6 +279,7 @@ fn a_refutation_with_its_defaults_and_with_all_its_words(rt: HostRuntime) -> Res
         input: "f.cnf",
         cubes: "f.icnf",
         leaf: 3,
+        to: Some(9),
         limit: 1,
         fragment: Some("l.frag"),
         printing: Printing {
@@ -285,7 +287,7 @@ fn a_refutation_with_its_defaults_and_with_all_its_words(rt: HostRuntime) -> Res
             witness: false,
         },
     };
-    let words = "satcluster refute --cubes f.icnf --leaf 3 --limit 1 -q -n f.cnf l.frag";
+    let words = "satcluster refute --cubes f.icnf --leaf 3 --to 9 --limit 1 -q -n f.cnf l.frag";
     asks(&rt, rt.alloc(), words, full)?;
     Ok(())
 }

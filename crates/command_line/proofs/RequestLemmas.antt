@@ -25,7 +25,7 @@ name_of (Serve port input cubes proof options) = codes "serve"
 name_of (Work port input proof options) = codes "work"
 name_of (Drill input seed turns) = codes "drill"
 name_of (Leaf input cubes leaf) = codes "leaf"
-name_of (Refute input cubes leaf limit fragment printing) = codes "refute"
+name_of (Refute input cubes leaf to limit fragment printing) = codes "refute"
 name_of (Join input cubes proof fragments printing) = codes "join"
 name_of (Lift input cubes leaf proof fragment) = codes "lift"
 name_of (Model input output) = codes "model"
@@ -41,7 +41,7 @@ is_named name rows (Serve port input cubes proof options) makes = makes.0
 is_named name rows (Work port input proof options) makes = makes.0
 is_named name rows (Drill input seed turns) makes = makes.0
 is_named name rows (Leaf input cubes leaf) makes = makes.0
-is_named name rows (Refute input cubes leaf limit fragment printing) makes = makes.0
+is_named name rows (Refute input cubes leaf to limit fragment printing) makes = makes.0
 is_named name rows (Join input cubes proof fragments printing) makes = makes.0
 is_named name rows (Lift input cubes leaf proof fragment) makes = makes.0
 is_named name rows (Model input output) makes = makes.0
@@ -77,8 +77,8 @@ pub only_leaf : (rows : List Row) → ((input : Bor Text) (cubes : Bor Text) (le
 only_leaf rows none (Leaf input cubes leaf) makes = none input cubes leaf makes
 only_leaf rows none other makes = differ (codes "leaf") (name_of other) refl refl (is_named (codes "leaf") rows other makes)
 
-pub only_refute : (rows : List Row) → ((input : Bor Text) (cubes : Bor Text) (leaf limit : ℕ) (fragment : Option (Bor Text)) (printing : Printing) → Makes (codes "refute") rows (Refute input cubes leaf limit fragment printing) → ⊥) → (r : Request) → Makes (codes "refute") rows r → ⊥
-only_refute rows none (Refute input cubes leaf limit fragment printing) makes = none input cubes leaf limit fragment printing makes
+pub only_refute : (rows : List Row) → ((input : Bor Text) (cubes : Bor Text) (leaf : ℕ) (to : Option ℕ) (limit : ℕ) (fragment : Option (Bor Text)) (printing : Printing) → Makes (codes "refute") rows (Refute input cubes leaf to limit fragment printing) → ⊥) → (r : Request) → Makes (codes "refute") rows r → ⊥
+only_refute rows none (Refute input cubes leaf to limit fragment printing) makes = none input cubes leaf to limit fragment printing makes
 only_refute rows none other makes = differ (codes "refute") (name_of other) refl refl (is_named (codes "refute") rows other makes)
 
 pub only_join : (rows : List Row) → ((input : Bor Text) (cubes : Bor Text) (proof : Bor Text) (fragments : Vec (Bor Text) Global) (printing : Printing) → Makes (codes "join") rows (Join input cubes proof fragments printing) → ⊥) → (r : Request) → Makes (codes "join") rows r → ⊥

@@ -106,9 +106,9 @@ Makes name rows (Drill input seed turns) =
     × NamesNumber rows (codes "turns") 0 100000 turns
 Makes name rows (Leaf input cubes leaf) =
     (name ≡ codes "leaf") × NamesFile rows (codes "INPUT") (Some input) × NamesFile rows (codes "cubes") (Some cubes) × NamesLeaf rows leaf
-Makes name rows (Refute input cubes leaf limit fragment printing) =
+Makes name rows (Refute input cubes leaf to limit fragment printing) =
     (name ≡ codes "refute") × NamesFile rows (codes "INPUT") (Some input) × NamesFile rows (codes "cubes") (Some cubes) × NamesLeaf rows leaf
-    × NamesNumber rows (codes "limit") 1 (2 ^ 47) limit × NamesFile rows (codes "FRAGMENT") fragment × NamesPrinting rows printing
+    × NamesAnyNumber rows (codes "to") 1 (2 ^ 32 - 1) to × NamesNumber rows (codes "limit") 1 (2 ^ 47) limit × NamesFile rows (codes "FRAGMENT") fragment × NamesPrinting rows printing
 Makes name rows (Join input cubes proof fragments printing) =
     (name ≡ codes "join") × NamesFile rows (codes "INPUT") (Some input) × NamesFile rows (codes "cubes") (Some cubes)
     × NamesFile rows (codes "PROOF") (Some proof) × NamesFiles rows (codes "NAME") fragments.items × NamesPrinting rows printing
@@ -168,7 +168,7 @@ IsInRange (Serve port input cubes proof options) = IsPort port × AreOptions opt
 IsInRange (Work port input proof options) = IsPort port × AreOptions options
 IsInRange (Drill input seed turns) = turns ≤ 100000
 IsInRange (Leaf input cubes leaf) = IsLeafNumber leaf
-IsInRange (Refute input cubes leaf limit fragment printing) = IsLeafNumber leaf × (1 ≤ limit) × (limit ≤ 2 ^ 47)
+IsInRange (Refute input cubes leaf to limit fragment printing) = IsLeafNumber leaf × IfSome to IsLeafNumber × (1 ≤ limit) × (limit ≤ 2 ^ 47)
 IsInRange (Join input cubes proof fragments printing) = 1 ≤ length fragments.items
 IsInRange (Lift input cubes leaf proof fragment) = IsLeafNumber leaf
 IsInRange (Model input output) = ⊤

@@ -67,11 +67,12 @@ drill_app =
 abbrev pub leaf_app : App
 leaf_app = with_rule (with_leaf (new_app (codes "leaf"))) (file_rule (codes "INPUT") true)
 
--- `refute --cubes FILE --leaf I [--limit L] [-q] [-n] INPUT [FRAGMENT]`: L from 1 to 140,737,488,355,328 = 2 ^ 47, which is what
--- stands where it is left out
+-- `refute --cubes FILE --leaf I [--to J] [--limit L] [-q] [-n] INPUT [FRAGMENT]`: J from 1 to 4,294,967,295, and L from 1 to
+-- 140,737,488,355,328 = 2 ^ 47, which is what stands where it is left out
 abbrev pub refute_app : App
 refute_app =
-    with_rule (with_rule (with_printing (with_rule (with_leaf (new_app (codes "refute"))) (number_rule (codes "limit") 1 (2 ^ 47) (codes "140737488355328"))))
+    with_rule (with_rule (with_printing (with_rule (with_rule (with_leaf (new_app (codes "refute"))) (any_number_rule (codes "to") 1 (2 ^ 32 - 1)))
+    (number_rule (codes "limit") 1 (2 ^ 47) (codes "140737488355328"))))
     (file_rule (codes "INPUT") true)) (file_rule (codes "FRAGMENT") false)
 
 -- `join --cubes FILE [-q] [-n] INPUT PROOF NAME..`, of one name or more

@@ -69,12 +69,13 @@ pub enum Request<'a> {
         cubes: &'a str,
         leaf: u32,
     },
-    /// Search under a leaf, by its number among the cubes of a file, from 1 to 4,294,967,295. The search learns as many lemmas as this
-    /// at most, from 1 to 2 ^ 47. The fragment is written to a file where one is named.
+    /// Search under a leaf, by its number among the cubes of a file, from 1 to 4,294,967,295, or under each from it to another one, in
+    /// turn. A search learns as many lemmas as this at most, from 1 to 2 ^ 47. The fragment is written to a file if one is named.
     Refute {
         input: &'a str,
         cubes: &'a str,
         leaf: u32,
+        to: Option<u32>,
         limit: u64,
         fragment: Option<&'a str>,
         printing: Printing,

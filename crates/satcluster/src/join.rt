@@ -36,7 +36,7 @@ struct Run<F> {
 }
 
 /// Why a join cannot go on.
-fn stopped(fault: GatherFault) -> Refusal {
+pub(crate) fn stopped(fault: GatherFault) -> Refusal {
     match fault {
         GatherFault::NoMemory => Refusal::NoMemory,
         _ => Refusal::Writing,

@@ -1,12 +1,14 @@
 //! `leaf`, `refute` and `cubes --split`: a formula and a tree of cubes are read, and a leaf is worked on.
 
 use crate::files::{PIECE, next_piece, no_memory, read_formula, refused};
+use crate::join::stopped;
 use crate::proof_file::write_proof;
 use dimacs::{DimacsFault, Kind};
 use icnf::{CubesFault, Kind as CubesKind};
-use leaves::{Search, Split, SplitReader, run_leaf, run_refute, run_split};
+use leaves::{Search, Split, SplitReader, run_leaf, run_refute, run_refute_all, run_split};
 use node_main::{Refusal, Report};
 use reports::{faulty_cubes, faulty_input, other_formula};
+use std::alloc::Global;
 use std::fs::{File, OpenFile};
 use std::rt::Runtime;
 
@@ -122,18 +124,38 @@ pub(crate) struct LeafFiles<'a> {
     pub(crate) fragment: Option<&'a str>,
 }
 
-/// A search under a leaf, whose log is written to a file where one is named.
+/// The leaf to search under, or the first and the last of several.
+#[derive(Clone, Copy)]
+pub(crate) struct LeafRange {
+    pub(crate) first: u64,
+    pub(crate) last: Option<u64>,
+}
+
+/// The report of a search under a leaf, or under several in turn.
+fn searched(
+    alloc: Global,
+    split: &Split,
+    leaves: LeafRange,
+    search: &Search,
+) -> Result<Report, Refusal> {
+    let Some(last) = leaves.last else {
+        return run_refute(alloc, split, leaves.first, search).map_err(no_memory);
+    };
+    run_refute_all(alloc, split, leaves.first, last, search).map_err(stopped)
+}
+
+/// A search under a leaf, or under several in turn, whose log is written to a file if one is named.
 pub(crate) fn refute<R: Runtime + AllocGlobal>(
     rt: &R,
     files: &LeafFiles,
-    leaf: u64,
+    leaves: LeafRange,
     search: &Search,
 ) -> Result<Report, Refusal> {
     let split = match begin(rt, files.input, files.cubes)? {
         Start::With(split) => split,
         Start::Refused(report) => return Ok(hushed(report, search.quiet)),
     };
-    let report = run_refute(rt.alloc(), &split, leaf, search).map_err(no_memory)?;
+    let report = searched(rt.alloc(), &split, leaves, search)?;
     match (files.fragment, &report.proof) {
         (Some(path), Some(log)) => write_proof(rt, path, log, files.input, Some(files.cubes))?,
         _ => {}

@@ -20,7 +20,7 @@ use complete::complete;
 use deciding::{Files, print, serve, solve, work};
 use files::{no_memory, read, refused};
 use join::{JoinFiles, join};
-use leaf_runs::{LeafFiles, leaf, refute, split};
+use leaf_runs::{LeafFiles, LeafRange, leaf, refute, split};
 use leaves::Search;
 use lift::lift;
 use model::model;
@@ -113,6 +113,7 @@ fn answer<R: Runtime + AllocGlobal + Net>(rt: &R, request: &Request) -> Result<R
             input,
             cubes,
             leaf,
+            to,
             limit,
             fragment,
             printing,
@@ -127,7 +128,11 @@ fn answer<R: Runtime + AllocGlobal + Net>(rt: &R, request: &Request) -> Result<R
                 quiet: printing.quiet,
                 witness: printing.witness,
             };
-            refute(rt, &files, u64::from(leaf), &search)
+            let leaves = LeafRange {
+                first: u64::from(leaf),
+                last: to.map(u64::from),
+            };
+            refute(rt, &files, leaves, &search)
         }
         Request::Join {
             input,

@@ -1,9 +1,9 @@
 //! The words of a leaf, which the commands on one leaf share, and the number that they name.
 
-ghost use Rattle.std.specs.Prelude.{ℕ, IfSome, IfNone};
-ghost use Rattle.command_line.specs.CommandLine.{IsLeafNumber, NamesLeaf};
+ghost use Rattle.std.specs.Prelude.{◌-◌, ◌^◌, ℕ, Option, IfSome, IfNone};
+ghost use Rattle.command_line.specs.CommandLine.{IsLeafNumber, NamesAnyNumber, NamesLeaf};
 
-use crate::commands::words::number_of;
+use crate::commands::words::{is_named, number_of};
 use word_rules::{Found, Need, Word};
 
 /// The greatest number of a leaf.
@@ -33,4 +33,17 @@ pub(crate) fn leaf_of(given: &Found) -> Option<u32>
 {
     let leaf = number_of(given, "leaf", 1, LAST_LEAF)?;
     Some(leaf as u32)
+}
+
+/// The leaf that an option names, or that the words give it none.
+pub(crate) fn leaf_or_none(given: &Found, name: &str) -> Option<Option<u32>>
+    ensures found { IfSome result (NamesAnyNumber given.now.rows name.now 1 (2 ^ 32 - 1)) }
+    ensures none { IfNone result ((leaf : Option ℕ) → NamesAnyNumber given.now.rows name.now 1 (2 ^ 32 - 1) leaf → ⊥) }
+    ensures range { IfSome result (λ leaf. IfSome leaf IsLeafNumber) }
+{
+    if !is_named(given, name) {
+        return Some(None);
+    }
+    let leaf = number_of(given, name, 1, LAST_LEAF)?;
+    Some(Some(leaf as u32))
 }

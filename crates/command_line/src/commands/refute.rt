@@ -4,7 +4,7 @@ ghost use Rattle.std.specs.Prelude.{◌≡◌, IfSome, IfNone, codes};
 ghost use Rattle.command_line.specs.CommandLine.{IsInRange, Makes};
 ghost use Rattle.command_line.specs.declared.request.Request.{Request};
 
-use crate::commands::leaf_words::{CUBES, LEAF, leaf_of};
+use crate::commands::leaf_words::{CUBES, LAST_LEAF, LEAF, leaf_of, leaf_or_none};
 use crate::commands::run_words::{NO_WITNESS, QUIET, printing_of};
 use crate::commands::words::{INPUT, file_of, number_of};
 use crate::request::Request;
@@ -22,6 +22,13 @@ pub(crate) const RULES: CommandRules<'static> = CommandRules {
         CUBES,
         LEAF,
         Word::Number {
+            name: "to",
+            low: 1,
+            high: LAST_LEAF,
+            need: Need::Optional,
+            help: "Search under each leaf up to this one, in turn, from 1 to 4294967295",
+        },
+        Word::Number {
             name: "limit",
             low: 1,
             high: MOST_LEMMAS,
@@ -34,7 +41,7 @@ pub(crate) const RULES: CommandRules<'static> = CommandRules {
         Word::File {
             name: "FRAGMENT",
             required: false,
-            help: "The file to which a fragment is written, where the leaf is refuted",
+            help: "The file to which a fragment is written, if a leaf is refuted",
         },
     ],
 };
@@ -48,11 +55,13 @@ pub(crate) fn asked<'a>(given: &Found<'a>) -> Option<Request<'a>>
     let input = file_of(given, "INPUT")?;
     let cubes = file_of(given, "cubes")?;
     let leaf = leaf_of(given)?;
+    let to = leaf_or_none(given, "to")?;
     let limit = number_of(given, "limit", 1, MOST_LEMMAS)?;
     Some(Request::Refute {
         input,
         cubes,
         leaf,
+        to,
         limit,
         fragment: file_of(given, "FRAGMENT"),
         printing: printing_of(given),
