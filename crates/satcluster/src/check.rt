@@ -1,8 +1,7 @@
 //! `check`: an input is read, and a proof checked, while their files are read.
 
-use crate::files::{PIECE, has_size, next_piece, no_memory, read_formula, refused};
+use crate::files::{no_memory, open, read_formula};
 use node_main::{ProofCheck, Refusal, Report};
-use std::fs::{File, OpenFile};
 use std::rt::Runtime;
 
 /// Reads a proof to its end, also behind a fault, and feeds it piece by piece. What has no size is read up to the first fault, or up to want
@@ -12,14 +11,13 @@ fn feed<R: Runtime + AllocGlobal>(
     path: &str,
     check: &mut ProofCheck,
 ) -> Result<(), Refusal> {
-    let mut file = File::open(rt, path).map_err(|error| refused(error, Refusal::Proof))?;
-    let mut room = vec![in rt.alloc(); 0; PIECE].map_err(no_memory)?;
-    let has_size = has_size(&file);
+    let mut pieces = open(rt, path, Refusal::Proof)?;
+    let has_size = pieces.has_size();
     for _ in 0..u64::MAX {
         if check.is_settled() && !has_size {
             return Ok(());
         }
-        let piece = next_piece(&mut file, &mut room, Refusal::Proof)?;
+        let piece = pieces.next()?;
         if piece.is_empty() {
             return Ok(());
         }

@@ -22,31 +22,55 @@ pub(crate) fn refused(error: io::Error, refusal: Refusal) -> Refusal {
 
 /// How many bytes of a file are read at a time. They stay in the nearest cache between the call that reads them and what takes
 /// them; more would be memory that a small proof does not need.
-pub(crate) const PIECE: usize = 16_384;
+const PIECE: usize = 16_384;
 
-/// The next bytes of a file; none at its end.
-pub(crate) fn next_piece<'a, F: Read>(
-    file: &mut F,
-    room: &'a mut [u8],
+/// A file that is read piece by piece.
+#[derive(Drop)]
+pub(crate) struct Pieces<F> {
+    file: F,
+    room: Vec<u8>,
+    /// What a file that cannot be read is told as.
     refusal: Refusal,
-) -> Result<&'a [u8], Refusal> {
-    for _ in 0..u64::MAX {
-        match file.read(room) {
-            Ok(len) => return Ok(&room[..len]),
-            Err(error) if error.kind() == io::ErrorKind::Interrupted => {}
-            Err(error) => return Err(refused(error, refusal)),
-        }
-    }
-    Err(refusal)
 }
 
-/// Whether a file has a size, and so an end: it is read to that, whatever stands in it, since an error of reading comes before any fault. A
-/// pipe, a terminal or a device may have no end.
-pub(crate) fn has_size<F: OpenFile>(file: &F) -> bool {
-    match file.metadata() {
-        Ok(metadata) => metadata.is_file(),
-        Err(_) => false,
+impl<F: Read> Pieces<F> {
+    /// The next bytes; none at the end.
+    pub(crate) fn next(&mut self) -> Result<&[u8], Refusal> {
+        for _ in 0..u64::MAX {
+            match self.file.read(&mut self.room) {
+                Ok(len) => return Ok(&self.room[..len]),
+                Err(error) if error.kind() == io::ErrorKind::Interrupted => {}
+                Err(error) => return Err(refused(error, self.refusal)),
+            }
+        }
+        Err(self.refusal)
     }
+}
+
+impl<F: OpenFile> Pieces<F> {
+    /// Whether the file has a size, and so an end: it is read to that, whatever stands in it, since an error of reading comes before any
+    /// fault. A pipe, a terminal or a device may have no end.
+    pub(crate) fn has_size(&self) -> bool {
+        match self.file.metadata() {
+            Ok(metadata) => metadata.is_file(),
+            Err(_) => false,
+        }
+    }
+}
+
+/// Opens a file, to be read piece by piece.
+pub(crate) fn open<R: Runtime + AllocGlobal>(
+    rt: &R,
+    path: &str,
+    refusal: Refusal,
+) -> Result<Pieces<R::File>, Refusal> {
+    let file = File::open(rt, path).map_err(|error| refused(error, refusal))?;
+    let room = vec![in rt.alloc(); 0; PIECE].map_err(no_memory)?;
+    Ok(Pieces {
+        file,
+        room,
+        refusal,
+    })
 }
 
 /// The file's bytes, or the refusal of a file that cannot be read. Room for them is taken at once, where the system tells how many they
@@ -57,15 +81,14 @@ pub(crate) fn read<R: Runtime + AllocGlobal>(
     path: &str,
     refusal: Refusal,
 ) -> Result<Vec<u8>, Refusal> {
-    let mut file = File::open(rt, path).map_err(|error| refused(error, refusal))?;
-    let len = match file.metadata() {
+    let mut pieces = open(rt, path, refusal)?;
+    let len = match pieces.file.metadata() {
         Ok(metadata) => metadata.len(),
         Err(_) => 0,
     };
     let mut bytes = Vec::with_capacity(rt.alloc(), len as usize).map_err(no_memory)?;
-    let mut room = vec![in rt.alloc(); 0; PIECE].map_err(no_memory)?;
     for _ in 0..u64::MAX {
-        let piece = next_piece(&mut file, &mut room, refusal)?;
+        let piece = pieces.next()?;
         if piece.is_empty() {
             return Ok(bytes);
         }
@@ -80,12 +103,11 @@ pub(crate) fn read_formula<R: Runtime + AllocGlobal>(
     rt: &R,
     path: &str,
 ) -> Result<Result<Formula, DimacsFault>, Refusal> {
-    let mut file = File::open(rt, path).map_err(|error| refused(error, Refusal::Input))?;
-    let mut room = vec![in rt.alloc(); 0; PIECE].map_err(no_memory)?;
+    let mut pieces = open(rt, path, Refusal::Input)?;
     let mut reader = FormulaReader::new(rt.alloc());
-    let has_size = has_size(&file);
+    let has_size = pieces.has_size();
     for _ in 0..u64::MAX {
-        let piece = next_piece(&mut file, &mut room, Refusal::Input)?;
+        let piece = pieces.next()?;
         if piece.is_empty() {
             return Ok(reader.finish());
         }

@@ -1,6 +1,6 @@
 //! `join`: the files of any machines are read, and become one proof.
 
-use crate::files::{PIECE, next_piece, no_memory, refused};
+use crate::files::{Pieces, no_memory, open, refused};
 use crate::leaf_runs::{Start, begin, hushed};
 use crate::proof_file::{
     Part, Place, append, is_part, is_same_file, keep, leads_to, make_part, place_of, remove,
@@ -10,8 +10,7 @@ use dimacs::{Answer, Assignment, answer_lines};
 use gathering::GatherFault;
 use leaves::{FileEnd, Join, Note, Split, put_note};
 use node_main::{Refusal, Report};
-use std::fs::{File, OpenFile};
-use std::io::{BufRead, Write};
+use std::io::{BufRead, Read, Write};
 use std::rt::Runtime;
 use std::str::from_utf8;
 
@@ -56,14 +55,9 @@ fn note<F>(run: &mut Run<F>, note: Note, name: &[u8]) -> Result<(), Refusal> {
 }
 
 /// Reads a file piece by piece, and tells whether it could be read to its end.
-fn feed<R: Runtime + AllocGlobal>(
-    rt: &R,
-    run: &mut Run<R::File>,
-    file: &mut R::File,
-) -> Result<bool, Refusal> {
-    let mut room = vec![in rt.alloc(); 0; PIECE].map_err(no_memory)?;
+fn feed<F: Read + Write>(run: &mut Run<F>, pieces: &mut Pieces<F>) -> Result<bool, Refusal> {
     for _ in 0..u64::MAX {
-        let piece = match next_piece(file, &mut room, Refusal::Proof) {
+        let piece = match pieces.next() {
             Ok(piece) => piece,
             Err(Refusal::NoMemory) => return Err(Refusal::NoMemory),
             Err(_) => return Ok(false),
@@ -127,11 +121,15 @@ fn take<R: Runtime + AllocGlobal>(
     if leads_to(rt, place, name) || is_part(rt, &run.part, name) {
         return Err(Refusal::Writing);
     }
-    let Ok(mut file) = File::open(rt, name) else {
-        note(run, Note::Unread, name.as_bytes())?;
-        return Ok(None);
+    let mut pieces = match open(rt, name, Refusal::Proof) {
+        Ok(pieces) => pieces,
+        Err(Refusal::NoMemory) => return Err(Refusal::NoMemory),
+        Err(_) => {
+            note(run, Note::Unread, name.as_bytes())?;
+            return Ok(None);
+        }
     };
-    if feed(rt, run, &mut file)? {
+    if feed(run, &mut pieces)? {
         return end(rt, run, name.as_bytes());
     }
     run.join.abandon().map_err(stopped)?;

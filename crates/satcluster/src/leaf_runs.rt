@@ -1,6 +1,6 @@
 //! `leaf`, `refute` and `cubes --split`: a formula and a tree of cubes are read, and a leaf is worked on.
 
-use crate::files::{PIECE, next_piece, no_memory, read_formula, refused};
+use crate::files::{no_memory, open, read_formula};
 use crate::join::stopped;
 use crate::proof_file::write_proof;
 use dimacs::{DimacsFault, Kind};
@@ -9,7 +9,6 @@ use leaves::{Search, Split, SplitReader, run_leaf, run_refute, run_refute_all, r
 use node_main::{Refusal, Report};
 use reports::{faulty_cubes, faulty_input, other_formula};
 use std::alloc::Global;
-use std::fs::{File, OpenFile};
 use std::rt::Runtime;
 
 /// What a command over leaves begins with.
@@ -27,10 +26,9 @@ fn feed<R: Runtime + AllocGlobal>(
     path: &str,
     reader: &mut Result<SplitReader, DimacsFault>,
 ) -> Result<(), Refusal> {
-    let mut file = File::open(rt, path).map_err(|error| refused(error, Refusal::Cubes))?;
-    let mut room = vec![in rt.alloc(); 0; PIECE].map_err(no_memory)?;
+    let mut pieces = open(rt, path, Refusal::Cubes)?;
     for _ in 0..u64::MAX {
-        let piece = next_piece(&mut file, &mut room, Refusal::Cubes)?;
+        let piece = pieces.next()?;
         if piece.is_empty() {
             return Ok(());
         }

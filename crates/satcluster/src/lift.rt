@@ -1,13 +1,12 @@
 //! `lift`: a foreign proof of the formula of a leaf is read, and the log that it is lifted to is written meanwhile.
 
-use crate::files::{PIECE, next_piece, no_memory, refused};
+use crate::files::{Pieces, no_memory, open, refused};
 use crate::leaf_runs::{Start, begin};
 use crate::proof_file::{Part, Place, append, is_same_file, keep, make_part, place_of, remove};
 use leaves::{Lift, LiftEnd, lift_report};
 use node_main::{Refusal, Report};
-use std::fs::{File, OpenFile};
 use std::io;
-use std::io::Write;
+use std::io::{Read, Write};
 use std::rt::Runtime;
 
 fn not_written(error: io::Error) -> Refusal {
@@ -15,15 +14,13 @@ fn not_written(error: io::Error) -> Refusal {
 }
 
 /// Reads a proof to its end, also behind a fault, and writes what it is lifted to.
-fn feed<R: Runtime + AllocGlobal>(
-    rt: &R,
-    file: &mut R::File,
+fn feed<F: Read + Write>(
+    pieces: &mut Pieces<F>,
     lift: &mut Lift,
-    part: &mut Part<R::File>,
+    part: &mut Part<F>,
 ) -> Result<(), Refusal> {
-    let mut room = vec![in rt.alloc(); 0; PIECE].map_err(no_memory)?;
     for _ in 0..u64::MAX {
-        let piece = next_piece(file, &mut room, Refusal::Proof)?;
+        let piece = pieces.next()?;
         if piece.is_empty() {
             return Ok(());
         }
@@ -52,12 +49,12 @@ fn ended<F: Write>(lift: Lift, part: &mut Part<F>) -> Result<LiftEnd, Refusal> {
 /// The report of the leaf of this number, whose proof is lifted to the part.
 fn lifted<R: Runtime + AllocGlobal>(
     rt: &R,
-    mut file: R::File,
+    mut pieces: Pieces<R::File>,
     mut lift: Lift,
     part: &mut Part<R::File>,
     leaf: u64,
 ) -> Result<Report, Refusal> {
-    feed(rt, &mut file, &mut lift, part)?;
+    feed(&mut pieces, &mut lift, part)?;
     let end = ended(lift, part)?;
     lift_report(rt.alloc(), leaf, end).map_err(no_memory)
 }
@@ -65,7 +62,7 @@ fn lifted<R: Runtime + AllocGlobal>(
 /// Lifts a proof to a part, which takes its place where the log closes the leaf, and is gone where it does not.
 fn written<R: Runtime + AllocGlobal>(
     rt: &R,
-    file: R::File,
+    pieces: Pieces<R::File>,
     lift: Lift,
     place: &Place,
     leaf: u64,
@@ -73,7 +70,7 @@ fn written<R: Runtime + AllocGlobal>(
     let Some(mut part) = make_part(rt, place).map_err(not_written)? else {
         return Err(Refusal::Writing);
     };
-    let found = lifted(rt, file, lift, &mut part, leaf);
+    let found = lifted(rt, pieces, lift, &mut part, leaf);
     let is_lifted = match &found {
         Ok(report) => report.status == 0,
         Err(_) => false,
@@ -106,7 +103,7 @@ pub(crate) fn lift<R: Runtime + AllocGlobal>(
     let Some(lift) = Lift::of(rt.alloc(), split, leaf).map_err(no_memory)? else {
         return lift_report(rt.alloc(), leaf, LiftEnd::NoLeaf).map_err(no_memory);
     };
-    let file = File::open(rt, proof).map_err(|error| refused(error, Refusal::Proof))?;
+    let pieces = open(rt, proof, Refusal::Proof)?;
     if is_same_file(rt, fragment, input)
         || is_same_file(rt, fragment, cubes)
         || is_same_file(rt, fragment, proof)
@@ -114,7 +111,7 @@ pub(crate) fn lift<R: Runtime + AllocGlobal>(
         return Err(Refusal::Writing);
     }
     match place_of(rt, fragment).map_err(not_written)? {
-        Some(place) => written(rt, file, lift, &place, leaf),
+        Some(place) => written(rt, pieces, lift, &place, leaf),
         None => Err(Refusal::Writing),
     }
 }

@@ -1,10 +1,9 @@
 //! `model`: a formula is read, and a solver's answer tested against it, while their files are read.
 
-use crate::files::{PIECE, next_piece, no_memory, read_formula, refused};
+use crate::files::{no_memory, open, read_formula};
 use crate::leaf_runs::refused_input;
 use answers::ModelCheck;
 use node_main::{Refusal, Report};
-use std::fs::{File, OpenFile};
 use std::rt::Runtime;
 
 /// Reads an answer to its end, also behind a fault, and feeds it piece by piece. The refusal of one that cannot be read is that of a
@@ -14,10 +13,9 @@ fn feed<R: Runtime + AllocGlobal>(
     path: &str,
     check: &mut ModelCheck,
 ) -> Result<(), Refusal> {
-    let mut file = File::open(rt, path).map_err(|error| refused(error, Refusal::Proof))?;
-    let mut room = vec![in rt.alloc(); 0; PIECE].map_err(no_memory)?;
+    let mut pieces = open(rt, path, Refusal::Proof)?;
     for _ in 0..u64::MAX {
-        let piece = next_piece(&mut file, &mut room, Refusal::Proof)?;
+        let piece = pieces.next()?;
         if piece.is_empty() {
             return Ok(());
         }

@@ -1,10 +1,9 @@
 //! `trim`: a formula is read, a proof of it checked while its file is read, and what stays of it is written.
 
-use crate::files::{PIECE, has_size, next_piece, no_memory, read_formula, refused};
+use crate::files::{no_memory, open, read_formula};
 use crate::leaf_runs::refused_input;
 use crate::proof_file::{is_same_file, write_proof};
 use node_main::{Refusal, Report};
-use std::fs::{File, OpenFile};
 use std::rt::Runtime;
 use trimming::{Trimming, trim_report};
 
@@ -15,11 +14,10 @@ fn feed<R: Runtime + AllocGlobal>(
     path: &str,
     trimming: &mut Trimming,
 ) -> Result<(), Refusal> {
-    let mut file = File::open(rt, path).map_err(|error| refused(error, Refusal::Proof))?;
-    let mut room = vec![in rt.alloc(); 0; PIECE].map_err(no_memory)?;
-    let has_size = has_size(&file);
+    let mut pieces = open(rt, path, Refusal::Proof)?;
+    let has_size = pieces.has_size();
     for _ in 0..u64::MAX {
-        let piece = next_piece(&mut file, &mut room, Refusal::Proof)?;
+        let piece = pieces.next()?;
         if piece.is_empty() {
             return Ok(());
         }
