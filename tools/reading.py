@@ -79,8 +79,9 @@ Each claim with the clauses of contracts that carry it, and all definitions that
 down: nothing else of the repository has to be read to know what is claimed. Definitions of the kit (numbers, lists, options) are not
 counted. The page is made by `tools/reading.py`, which counts them from the sources.
 
-The clauses are those of calls on whole texts. The program makes the calls that these make, on pieces of its files;
-[PROOFS.md](PROOFS.md#from-a-printed-byte-to-its-contract) tells which, and by which contracts pieces give what the whole text gives.
+The clauses are those of calls on whole texts. The program makes the calls that these make, on pieces of its files: `ProofCheck::finish` for
+`run_check`, `run_solve_of`, `attend` and `run_work_of` for `run_solve`, `run_attend` and `run_work`.
+[PROOFS.md](PROOFS.md#from-a-printed-byte-to-its-contract) tells how, and by which contracts pieces give what the whole text gives.
 The calls of a cluster are made by tests alone.
 """
 
