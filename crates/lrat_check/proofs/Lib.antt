@@ -34,5 +34,6 @@ pub mod Truth
 pub mod TruthBytes
 pub mod Walks
 pub mod Slots
+pub mod BlocksLemmas
 pub mod FarSlots
 pub mod Held

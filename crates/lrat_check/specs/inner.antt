@@ -1,4 +1,5 @@
 -- What only private contracts, invariants and proofs name. Nothing here is to be believed.
+pub mod Blocks
 pub mod Cell
 pub mod Changes
 pub mod Checking

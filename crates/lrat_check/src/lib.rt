@@ -4,6 +4,7 @@
 //! formula with an accepted proof: `accepted_proofs_are_sound`. So nothing of the code here has to be believed, nor of what finds proofs.
 #![tactic(auto)]
 
+mod blocks;
 mod checker;
 mod checking;
 mod counts;
@@ -20,6 +21,7 @@ mod log;
 mod log_checker;
 mod marks;
 mod naming;
+mod near;
 mod propagation;
 mod room;
 mod slot;

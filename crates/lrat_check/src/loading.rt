@@ -12,8 +12,6 @@ use dimacs::Lit;
 use std::alloc::{AllocError, Global};
 
 /// The slots of clauses that begin at these places, numbered from 1.
-///
-/// There is room for as many slots again: else the first lemma would have all of them copied.
 pub(crate) fn slots_of(
     alloc: Global,
     literals: &[Lit],
@@ -24,7 +22,7 @@ pub(crate) fn slots_of(
     ensures placed { IfOk result (λ near. ArePlaced literals.now near.items) }
 {
     let _ = literals;
-    let mut near = Vec::with_capacity(alloc, places.len().saturating_mul(2))?;
+    let mut near = Vec::with_capacity(alloc, places.len())?;
     near.push(Cell::free())?;
     for i in 0..places.len() - 1 {
         let place = places[i] as usize;

@@ -8,6 +8,7 @@ ghost use Rattle.std.specs.Ordering.{nat_cmp};
 ghost use Rattle.std.specs.BTreeMap.{is_at};
 ghost use Rattle.lrat_check.specs.inner.Store.{live_of, clause_at, place_of, IsPlaced, IsStore};
 
+use crate::near::Near;
 use crate::slot::{Cell, Slot};
 use dimacs::Lit;
 use std::alloc::{AllocError, Global};
@@ -61,18 +62,16 @@ fn clause_in<'a>(literals: &'a [Lit], slots: &[Cell], place: usize) -> Option<&'
 
 /// The clause of a number.
 #[inline(always)]
-pub(crate) fn find<'a>(literals: &'a [Lit], near: &[Cell], far: &Far, id: u64) -> Option<&'a [Lit]>
+pub(crate) fn find<'a>(literals: &'a [Lit], near: &Near, far: &Far, id: u64) -> Option<&'a [Lit]>
     requires { IsStore literals.now near.now far.now }
     ensures { option_map (λ c. c.now) result ≡ get (live_of literals.now near.now far.now) id }
 {
-    let place = id as usize;
-    if place < near.len() {
-        clause_in(literals, near, place)
-    } else {
-        match far.places.get(&id) {
+    match near.get(id as usize) {
+        Some(slot) => Some(clause_of(literals, slot)),
+        None => match far.places.get(&id) {
             Some(place) => clause_in(literals, &far.slots, *place),
             None => None,
-        }
+        },
     }
 }
 
@@ -89,22 +88,17 @@ pub(crate) fn append(literals: &mut Vec<Lit>, lits: &[Lit]) -> Result<Slot, Allo
     })
 }
 
-/// Makes places up to this one. The new ones are free.
-fn make_place(
-    literals: &[Lit],
-    near: &mut Vec<Cell>,
-    far: &Far,
-    place: usize,
-) -> Result<(), AllocError>
-    requires store { IsStore literals.now near.old.items far.now }
+/// Makes places up to this one, and some behind it. The new ones are free.
+fn make_place(literals: &[Lit], near: &mut Near, far: &Far, place: usize) -> Result<(), AllocError>
+    requires store { IsStore literals.now near.old far.now }
     requires all_near { far.now.slots.items ≡ [] }
-    ensures place { OnOk result (place < vec_len near.new) }
-    ensures same { live_of literals.now near.new.items far.now ≡ live_of literals.now near.old.items far.now }
-    ensures store { IsStore literals.now near.new.items far.now }
+    ensures place { OnOk result (place < length near.new) }
+    ensures same { live_of literals.now near.new far.now ≡ live_of literals.now near.old far.now }
+    ensures store { IsStore literals.now near.new far.now }
 {
     let _ = literals;
     while near.len() <= place {
-        near.push(Cell::free())?;
+        near.grow()?;
     }
     Ok(())
 }
@@ -112,23 +106,24 @@ fn make_place(
 /// Puts a slot at a place, and gives the one that was there.
 fn put_near(
     literals: &[Lit],
-    near: &mut [Cell],
+    near: &mut Near,
     far: &Far,
     place: usize,
     slot: Slot,
-) -> Option<Slot>
+) -> Result<Option<Slot>, AllocError>
     requires store { IsStore literals.now near.old far.now }
     requires here { place < length near.old }
     requires placed { IsPlaced literals.now slot }
-    ensures old { option_map (clause_at literals.now) result ≡ get (live_of literals.now near.old far.now) place }
-    ensures placed { IfSome result (IsPlaced literals.now) }
-    ensures after { live_of literals.now near.new far.now ≡ insert (live_of literals.now near.old far.now) place (clause_at literals.now slot) }
+    ensures old { IfOk result (λ old. option_map (clause_at literals.now) old ≡ get (live_of literals.now near.old far.now) place) }
+    ensures placed { IfOk result (λ old. IfSome old (IsPlaced literals.now)) }
+    ensures ok { OnOk result (live_of literals.now near.new far.now ≡ insert (live_of literals.now near.old far.now) place (clause_at literals.now slot)) }
+    ensures err { OnErr result (live_of literals.now near.new far.now ≡ live_of literals.now near.old far.now) }
     ensures store { IsStore literals.now near.new far.now }
 {
     let _ = literals;
-    let old = near[place].slot();
-    near[place] = Cell::of(slot);
-    old
+    let old = near.get(place);
+    near.set(place, slot)?;
+    Ok(old)
 }
 
 /// Puts a slot under a new number that has no place.
@@ -151,7 +146,7 @@ fn add_far(far: &mut Far, id: u64, slot: Slot) -> Result<(), AllocError>
 /// Puts a slot under a number that has no place, and gives the one that it had.
 fn put_far(
     literals: &[Lit],
-    near: &[Cell],
+    near: &Near,
     far: &mut Far,
     id: u64,
     slot: Slot,
@@ -182,7 +177,7 @@ fn put_far(
 }
 
 /// Frees a place, and gives the slot that was there.
-fn take_near(literals: &[Lit], near: &mut [Cell], far: &Far, place: usize) -> Option<Slot>
+fn take_near(literals: &[Lit], near: &mut Near, far: &Far, place: usize) -> Option<Slot>
     requires store { IsStore literals.now near.old far.now }
     requires here { place < length near.old }
     ensures old { option_map (clause_at literals.now) result ≡ get (live_of literals.now near.old far.now) place }
@@ -191,13 +186,13 @@ fn take_near(literals: &[Lit], near: &mut [Cell], far: &Far, place: usize) -> Op
     ensures store { IsStore literals.now near.new far.now }
 {
     let _ = literals;
-    let old = near[place].slot();
-    near[place] = Cell::free();
+    let old = near.get(place);
+    near.free(place);
     old
 }
 
 /// Takes out the slot of a number that has no place.
-fn take_far(literals: &[Lit], near: &[Cell], far: &mut Far, id: u64) -> Option<Slot>
+fn take_far(literals: &[Lit], near: &Near, far: &mut Far, id: u64) -> Option<Slot>
     requires store { IsStore literals.now near.now far.old }
     requires beyond { length near.now ≤ id }
     ensures old { option_map (clause_at literals.now) result ≡ get (live_of literals.now near.now far.old) id }
@@ -220,7 +215,7 @@ fn take_far(literals: &[Lit], near: &[Cell], far: &mut Far, id: u64) -> Option<S
 /// Puts a slot under a number, and gives the one that it had.
 pub(crate) fn put(
     literals: &[Lit],
-    near: &mut [Cell],
+    near: &mut Near,
     far: &mut Far,
     id: u64,
     slot: Slot,
@@ -235,14 +230,14 @@ pub(crate) fn put(
 {
     let place = id as usize;
     if place < near.len() {
-        Ok(put_near(literals, near, far, place, slot))
+        put_near(literals, near, far, place, slot)
     } else {
         put_far(literals, near, far, id, slot)
     }
 }
 
 /// Takes out the slot of a number, where it has one.
-pub(crate) fn take(literals: &[Lit], near: &mut [Cell], far: &mut Far, id: u64) -> Option<Slot>
+pub(crate) fn take(literals: &[Lit], near: &mut Near, far: &mut Far, id: u64) -> Option<Slot>
     requires store { IsStore literals.now near.old far.old }
     ensures old { option_map (clause_at literals.now) result ≡ get (live_of literals.now near.old far.old) id }
     ensures placed { IfSome result (IsPlaced literals.now) }
@@ -260,14 +255,14 @@ pub(crate) fn take(literals: &[Lit], near: &mut [Cell], far: &mut Far, id: u64) 
 /// Makes a place for a number that follows the others closely: at most three of four places are free.
 pub(crate) fn reserve_place(
     literals: &[Lit],
-    near: &mut Vec<Cell>,
+    near: &mut Near,
     far: &Far,
     taken: u64,
     id: u64,
 ) -> Result<(), AllocError>
-    requires { IsStore literals.now near.old.items far.now }
-    ensures same { live_of literals.now near.new.items far.now ≡ live_of literals.now near.old.items far.now }
-    ensures store { IsStore literals.now near.new.items far.now }
+    requires { IsStore literals.now near.old far.now }
+    ensures same { live_of literals.now near.new far.now ≡ live_of literals.now near.old far.now }
+    ensures store { IsStore literals.now near.new far.now }
 {
     if far.slots.is_empty() && id < taken.saturating_add(8192).saturating_mul(4) {
         return make_place(literals, near, far, id as usize);
@@ -283,10 +278,10 @@ pub(crate) fn whole(slots: &[Cell]) -> &[Cell]
 }
 
 /// Far fewer clauses are live than a count can tell.
-pub(crate) fn is_small(literals: &[Lit], near: &[Cell], far: &Far)
+pub(crate) fn is_small(literals: &[Lit], near: &Near, far: &Far)
     ensures { len (live_of literals.now near.now far.now) < 2 ^ 63 }
 {
     let _ = literals;
-    let _near = whole(near);
+    near.is_small();
     let _far = whole(&far.slots);
 }

@@ -66,6 +66,12 @@ abbrev pub SameClauses : List Literal → List (Option Slot) → List Literal �
 SameClauses literals slots literals' slots' =
     (p : ℕ) → option_map (clause_at literals') (slice_index_or slots' p None) ≡ option_map (clause_at literals) (slice_index_or slots p None)
 
+-- a table whose clauses were copied to other literals
+pub record AreCopied (literals : List Literal) (slots : List (Option Slot)) (literals' : List Literal) (slots' : List (Option Slot)) : Type 0 where
+  pub len : length slots' ≡ length slots
+  pub clauses : SameClauses literals slots literals' slots'
+  pub placed : ArePlaced literals' slots'
+
 -- each slot lies within the literals; the map finds the far numbers' places, which are none of those of the table by number
 pub record IsStore (literals : List Literal) (near : List (Option Slot)) (far : Far) : Type 0 where
   pub near_placed : ArePlaced literals near

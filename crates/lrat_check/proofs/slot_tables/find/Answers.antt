@@ -1,20 +1,32 @@
-use Rattle.std.proofs.Common.{◌∙◌, Some, sym, ap, arith}
-use Rattle.lrat_check.proofs.Slots.{get_near, get_far, placed_at}
+use Rattle.std.proofs.Common.{◌≡◌, ◌∙◌, Some, sym, ap, option_map}
+use Rattle.std.specs.Option.{option_or}
+use Rattle.std.specs.FinMap.{get}
+use Rattle.lrat_check.specs.inner.Store.{clause_at, live_of}
+use Rattle.lrat_check.proofs.Slots.{get-live_of, far_at, placed_at}
 use Rattle.lrat_check.proofs.slot_tables.find.Goals as goal
+use Rattle.lrat_check.proofs.slot_tables.find.Goals.{After-get}
 
-pub clause_in-requires-in-Some-clause-here : goal.clause_in-requires-in-Some-clause-here
-clause_in-requires-in-Some-clause-here c = omega (arith, (c.requires.found c.args.id c.in-Some.place.now (sym c.in-Some.ensures.value)).1, c.deref.ensures.len)
-
-pub returns-then-place-near : goal.returns-then-place-near
-returns-then-place-near c = c.clause_in.ensures ∙ sym (get_near c.args.literals.now c.args.near.now c.args.far.now c.args.id c.requires c.if-place-near.true)
+-- the clause of the slot of the table by number, or else that of a far number
+found : (c : After-get) → get (live_of c.args.literals.now c.args.near.now c.args.far.now) c.args.id ≡ option_or (option_map (clause_at c.args.literals.now) c.get.result) (far_at c.args.literals.now c.args.far.now c.args.id)
+found c =
+    get-live_of c.args.literals.now c.args.near.now c.args.far.now c.args.id c.requires
+    ∙ ap (λ o. option_or (option_map (clause_at c.args.literals.now) o) (far_at c.args.literals.now c.args.far.now c.args.id)) (sym c.get.ensures)
 
 pub returns-in-Some : goal.returns-in-Some
 returns-in-Some c =
-    c.clause_in-in-Some.ensures ∙ ap (λ xs. placed_at c.args.literals.now xs (Some c.in-Some.place.now)) c.deref.ensures.value
-    ∙ ap (placed_at c.args.literals.now c.args.far.now.slots.items) c.in-Some.ensures.value
-    ∙ sym (get_far c.args.literals.now c.args.near.now c.args.far.now c.args.id c.requires c.if-place-near.false)
+    let k = (goal.at.returns-in-Some c).After-get in
+    ap Some c.clause_of.ensures
+    ∙ ap (λ o. option_or (option_map (clause_at c.args.literals.now) o) (far_at c.args.literals.now c.args.far.now c.args.id)) (sym c.in-Some.is) ∙ sym (found k)
 
-pub returns-in-None : goal.returns-in-None
-returns-in-None c =
-    ap (placed_at c.args.literals.now c.args.far.now.slots.items) c.in-None.ensures.value
-    ∙ sym (get_far c.args.literals.now c.args.near.now c.args.far.now c.args.id c.requires c.if-place-near.false)
+pub returns-in-Some-get : goal.returns-in-Some-get
+returns-in-Some-get c =
+    let k = (goal.at.returns-in-Some-get c).After-get in
+    c.clause_in.ensures ∙ ap (λ xs. placed_at c.args.literals.now xs (Some c.in-Some-get.place.now)) c.deref.ensures.value
+    ∙ ap (placed_at c.args.literals.now c.args.far.now.slots.items) c.in-Some-get.ensures.value
+    ∙ ap (λ o. option_or (option_map (clause_at c.args.literals.now) o) (far_at c.args.literals.now c.args.far.now c.args.id)) (sym c.in-None.is) ∙ sym (found k)
+
+pub returns-in-None-get : goal.returns-in-None-get
+returns-in-None-get c =
+    let k = (goal.at.returns-in-None-get c).After-get in
+    ap (placed_at c.args.literals.now c.args.far.now.slots.items) c.in-None-get.ensures.value
+    ∙ ap (λ o. option_or (option_map (clause_at c.args.literals.now) o) (far_at c.args.literals.now c.args.far.now c.args.id)) (sym c.in-None.is) ∙ sym (found k)
