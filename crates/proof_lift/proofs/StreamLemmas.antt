@@ -25,13 +25,14 @@ use Rattle.lrat_check.specs.Checking.{no_memory}
 use Rattle.lrat_check.specs.declared.checking.CheckFault.{CheckFault}
 use Rattle.lrat_check.proofs.Lines.{is_lf, first_piece, no_lf_from}
 use Rattle.proof_lift.specs.Lifting.{State, Lifted, Text, refused, is_met, behind, lifted_step, lift_step, lift_line, lift_end, lift_pieces, by_pieces, lift_text, lift_of}
-use Rattle.proof_lift.specs.Stream.{Held, Progress, Within, Failed, state_in, lift_more, answer_in, HasTaken, TakesPiece, empty_lemma, EndsWithLine, IsLastFault, IsEnded, GivesEnd}
+use Rattle.proof_lift.specs.Stream.{Held, Progress, Within, Failed, state_in, lift_more, answer_in, HasTaken, TakesPiece, empty_lemma, EndsWithLine, IsLastFault, IsFaultOf, IsEnded, GivesEnd}
 use Rattle.proof_lift.specs.inner.Faults.{piece_refusal}
 use Rattle.proof_lift.specs.inner.Lines.{LineStops, Takes, Refuses}
 use Rattle.proof_lift.specs.inner.Ready.{SameLeaf, state_of}
 use Rattle.proof_lift.specs.inner.Stream.{LeadsTo, Appends}
 use Rattle.proof_lift.specs.inner.Writing.{IsFront}
 use Rattle.proof_lift.proofs.LiftedLemmas.{addition_cases}
+use Rattle.proof_lift.proofs.SoundLemmas.{behind_ok}
 use Rattle.proof_lift.specs.declared.lines.LiftLines.{LiftLines}
 
 -- ---- bytes behind others
@@ -281,3 +282,17 @@ answered F q p bytes written out before after (Err fault) (inl none) (inr e) is 
     inr (let same : ◌≡◌ {A = Text} (Err fault) (Err no_memory) = sym e.first ∙ ap (λ (x : Progress). lift_more x []) none in ap (λ (f : CheckFault). Err f) (let f : fault ≡ no_memory = cc in f))
 answered F q p bytes written out before after (Err fault) (inr h) (inr e) is =
     absurd (let no : ◌≡◌ {A = Text} (Err fault) (Ok out) = sym (ap (lift_of F q) (sym (append-nil bytes)) ∙ h [] ∙ ap (behind written) e.first) ∙ is in cc)
+
+-- the fault is the text's
+pub fault_of : (F : Cnf) (q : Cube) (p : Progress) (bytes written before after : List ℕ) (fault : CheckFault) → HasTaken F q p bytes written → GivesEnd p (Err fault) before after → (fault ≡ no_memory) ⊎ IsFaultOf F q bytes fault
+fault_of F q p bytes written before after fault taken (inl e) = inl e
+fault_of F q p bytes written before after fault (inl none) (inr e) = inl (same (sym e.first ∙ ap (λ (x : Progress). lift_more x []) none))
+  where
+    same : ◌≡◌ {A = Text} (Err fault) (Err no_memory) → fault ≡ no_memory
+    same h = cc
+fault_of F q p bytes written before after fault (inr h) (inr e) = inr (record {
+  first = ap (lift_of F q) (sym (append-nil bytes)) ∙ h [] ∙ ap (behind written) e.first;
+  wanting = λ is n hints out limits lifts.
+      let b = behind_ok written (lift_more p (empty_lemma n hints)) out (sym (h (empty_lemma n hints)) ∙ lifts) in
+      e.wanting is b.0 (record { number = n; hints = hints; limits = limits; lifts = b.1 });
+})

@@ -98,6 +98,11 @@ pub record IsLastFault (p : Progress) (fault : CheckFault) : Type 0 where
   pub first : lift_more p [] ≡ Err fault
   pub wanting : fault.number ≡ 13 → (appended : List ℕ) → ¬ (EndsWithLine p appended)
 
+-- the same of a whole text, whatever pieces it came in
+pub record IsFaultOf (F : Cnf) (q : Cube) (text : List ℕ) (fault : CheckFault) : Type 0 where
+  pub first : lift_of F q text ≡ Err fault
+  pub wanting : fault.number ≡ 13 → (n : ℕ) (hints lifted : List ℕ) → IsStep (Add n [] hints []) → ¬ (lift_of F q (text ++ empty_lemma n hints) ≡ Ok lifted)
+
 -- what is answered where no further byte comes, and what is put behind the bytes before
 abbrev pub GivesEnd : Progress → Result (Unit {0}) CheckFault → List ℕ → List ℕ → Type 0
 GivesEnd p (Ok _) before after = (appended : List ℕ) × (after ≡ before ++ appended) × IsEnded p appended
