@@ -1,12 +1,14 @@
 //! `lift`: a foreign proof of the formula of a leaf becomes a log over the formula.
 
-ghost use Rattle.std.specs.Prelude.{◌≡◌, ◌≤◌, ℕ, List, [], ◌++◌, IfOk, vec_len};
+ghost use Rattle.std.specs.Prelude.{◌≡◌, ◌≤◌, ◌⊎◌, ℕ, List, [], ◌++◌, IfOk, IfErr, vec_len};
 ghost use Rattle.dimacs.specs.logic.Cnf.{Cnf};
 ghost use Rattle.icnf.specs.Leaves.{Cube};
 ghost use Rattle.leaves.specs.Leaf.{leaf_of};
 ghost use Rattle.leaves.specs.Lifting.{BeginsAt, EndsAs, KeepsLift, Lifts, PrintsLift};
+ghost use Rattle.lrat_check.specs.Checking.{no_memory};
 ghost use Rattle.lrat_text.specs.Log.{Closes};
 ghost use Rattle.proof_lift.specs.Leaves.{IsCube, IsRefutation};
+ghost use Rattle.proof_lift.specs.Stream.{IsFaultOf};
 
 use crate::leaf::{NO_LEAF, cube_of};
 use crate::split::Split;
@@ -80,6 +82,8 @@ impl Lift {
         ensures closes { IfOk result (λ rest. (F : Cnf) (q : Cube) (bytes written : List ℕ) → Lifts F q bytes written self → Closes F q (written ++ rest.items)) }
         // a refutation of the leaf's formula by reverse unit propagation alone is refused for want of memory alone
         ensures complete { (F : Cnf) (q : Cube) (bytes written : List ℕ) → Lifts F q bytes written self → IsRefutation (leaf_of q F) bytes → EndsAs result }
+        // the proof's first fault, and its line; 13 exactly where the empty lemma alone is wanting, and no hints close the leaf
+        ensures exact { IfErr result (λ fault. (F : Cnf) (q : Cube) (bytes written : List ℕ) → Lifts F q bytes written self → (fault ≡ no_memory) ⊎ IsFaultOf F q bytes fault) }
     {
         let Lift { lifter, mut out } = self;
         match lifter.finish(&mut out) {

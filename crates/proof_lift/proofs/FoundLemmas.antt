@@ -15,21 +15,21 @@ use Rattle.proof_lift.specs.inner.Linked.{IsMet, IsImage, IsUnion, AreLive, Stan
 use Rattle.proof_lift.proofs.WalkLemmas.{IsBeside, beside_skip, beside_join, not_met, met_is_unit, image_false, image_others, image_stops, union_no_pair, union_beside, met_or_not}
 
 -- ---- a literal that is true
-member_any : (α : Assumed) (C : Clause) (k : Literal) → Contains C k → α k ≡ true → list_any α C ≡ true
+pub member_any : (α : Assumed) (C : Clause) (k : Literal) → Contains C k → α k ≡ true → list_any α C ≡ true
 member_any α [] k h t = absurd (Contains-nil k h)
 member_any α (j ∷ C) k h t = elim (Contains-cons_cases j k C h) [
   | inl e ↦ or_left (α j) (list_any α C) (subst (λ x. α x ≡ true) (sym e) t)
   | inr r ↦ or_right (α j) (list_any α C) (member_any α C k r t)
 ]
 
-any_member : (α : Assumed) (C : Clause) → list_any α C ≡ true → (k : Literal) × Contains C k × (α k ≡ true)
+pub any_member : (α : Assumed) (C : Clause) → list_any α C ≡ true → (k : Literal) × Contains C k × (α k ≡ true)
 any_member α [] e = absurd cc
 any_member α (j ∷ C) e = elim (or_cases (α j) (list_any α C) e) [
   | inl t ↦ (j, Contains-head j C, t)
   | inr r ↦ let z = any_member α C r in (z.0, Contains-cons j z.0 C z.1, z.2)
 ]
 
-satisfied : (α : Assumed) (C : Clause) → list_any α C ≡ true → status α C ≡ Satisfied
+pub satisfied : (α : Assumed) (C : Clause) → list_any α C ≡ true → status α C ≡ Satisfied
 satisfied α C e = ap (λ b. cond b Satisfied (status_of_free (not_false α C))) e
 
 -- ---- what the image of a unit clause is

@@ -1,11 +1,15 @@
 pub mod ChainLemmas
+pub mod ClosingLemmas
 pub mod CompleteLemmas
 pub mod FoundLemmas
 pub mod HintLemmas
 pub mod LiftedLemmas
+pub mod ListingLemmas
 pub mod MapLemmas
 pub mod MarkLemmas
 pub mod OutcomeLemmas
+pub mod ReachLemmas
+pub mod ReachedLemmas
 pub mod ReadyLemmas
 pub mod SoundLemmas
 pub mod StandLemmas

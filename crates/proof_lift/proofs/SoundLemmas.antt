@@ -177,7 +177,7 @@ step_done q m s N (Delete ids) steps s' none cube limits still g e = at (all_liv
     at false h = absurd cc
 
 -- ---- texts
-behind_ok : (front : List ℕ) (t : Text) (out : List ℕ) → behind front t ≡ Ok out → (rest : List ℕ) × (t ≡ Ok rest) × (front ++ rest ≡ out)
+pub behind_ok : (front : List ℕ) (t : Text) (out : List ℕ) → behind front t ≡ Ok out → (rest : List ℕ) × (t ≡ Ok rest) × (front ++ rest ≡ out)
 behind_ok front (Ok rest) out e = (rest, refl, is e)
   where
     is : ◌≡◌ {A = Text} (Ok (front ++ rest)) (Ok out) → front ++ rest ≡ out

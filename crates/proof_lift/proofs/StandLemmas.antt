@@ -20,7 +20,7 @@ use Rattle.proof_lift.specs.inner.Images.{stand_in_map, stand_in_maps, lemma_sta
 use Rattle.proof_lift.specs.declared.lemmas.Own.{Own}
 use Rattle.proof_lift.specs.declared.lemmas.Lemmas.{Lemmas}
 
-is_at_number : (k q : ℕ) → is_at (nat_cmp k) q ≡ eqb k q
+pub is_at_number : (k q : ℕ) → is_at (nat_cmp k) q ≡ eqb k q
 is_at_number k q = grind (arith, nat_tests)
 
 -- a change of a map

@@ -25,13 +25,14 @@ use Rattle.lrat_check.specs.Checking.{no_memory}
 use Rattle.lrat_check.specs.declared.checking.CheckFault.{CheckFault}
 use Rattle.lrat_check.proofs.Lines.{is_lf, first_piece, no_lf_from}
 use Rattle.proof_lift.specs.Lifting.{State, Lifted, Text, refused, is_met, behind, lifted_step, lift_step, lift_line, lift_end, lift_pieces, by_pieces, lift_text, lift_of}
-use Rattle.proof_lift.specs.Stream.{Held, Progress, Within, Failed, state_in, lift_more, answer_in, HasTaken, TakesPiece, empty_lemma, IsEnded, GivesEnd}
+use Rattle.proof_lift.specs.Stream.{Held, Progress, Within, Failed, state_in, lift_more, answer_in, HasTaken, TakesPiece, empty_lemma, EndsWithLine, IsLastFault, IsFaultOf, IsEnded, GivesEnd}
 use Rattle.proof_lift.specs.inner.Faults.{piece_refusal}
 use Rattle.proof_lift.specs.inner.Lines.{LineStops, Takes, Refuses}
 use Rattle.proof_lift.specs.inner.Ready.{SameLeaf, state_of}
 use Rattle.proof_lift.specs.inner.Stream.{LeadsTo, Appends}
 use Rattle.proof_lift.specs.inner.Writing.{IsFront}
 use Rattle.proof_lift.proofs.LiftedLemmas.{addition_cases}
+use Rattle.proof_lift.proofs.SoundLemmas.{behind_ok}
 use Rattle.proof_lift.specs.declared.lines.LiftLines.{LiftLines}
 
 -- ---- bytes behind others
@@ -177,14 +178,14 @@ open_none : IsOpen []
 open_none = All-nil (λ b. is_lf b ≡ false)
 
 -- no literal of the cube stands in the empty clause
-met_none : (q : Cube) → is_met q [] ≡ false
+pub met_none : (q : Cube) → is_met q [] ≡ false
 met_none [] = refl
 met_none (x ∷ q) = met_none q
 
--- the line of an empty lemma that is lifted
-pub line_lifts : (h : Held) (line n : ℕ) (hints : List ℕ) (steps : List Step) (s' : State) → h.closed ≡ false → IsStep (Add n [] hints [])
-    → lift_step h.cube (length h.formula.clauses) (state_in h) (Add n [] hints []) ≡ Ok (steps, s') → lift_more (Within h line []) (empty_lemma n hints) ≡ Ok (text_of h.own steps)
-line_lifts h line n hints steps s' still limits is =
+-- what becomes of a line of the empty lemma
+line_is : (h : Held) (line n : ℕ) (hints : List ℕ) → h.closed ≡ false → IsStep (Add n [] hints [])
+    → lift_more (Within h line []) (empty_lemma n hints) ≡ lifted_step line h.own (lift_step h.cube (length h.formula.clauses) (state_in h) (Add n [] hints [])) (λ t. lift_text h.cube (length h.formula.clauses) t (line + 1) [])
+line_is h line n hints still limits =
     let q = h.cube in
     let m = length h.formula.clauses in
     let s = state_in h in
@@ -193,6 +194,14 @@ line_lifts h line n hints steps s' still limits is =
     lift_text-line q m s line (line_text n step) [] none
     ∙ ap (λ r. lift_line q m s line r (λ t. lift_text q m t (line + 1) [])) (spelled_found (line_text n step) step (written_spells n step limits.0 limits))
     ∙ ap (λ b. cond b (lift_text q m s (line + 1) []) (lifted_step line h.own (lift_step q m s step) (λ t. lift_text q m t (line + 1) []))) still
+
+-- the line of an empty lemma that is lifted
+line_lifts : (h : Held) (line n : ℕ) (hints : List ℕ) (steps : List Step) (s' : State) → h.closed ≡ false → IsStep (Add n [] hints [])
+    → lift_step h.cube (length h.formula.clauses) (state_in h) (Add n [] hints []) ≡ Ok (steps, s') → lift_more (Within h line []) (empty_lemma n hints) ≡ Ok (text_of h.own steps)
+line_lifts h line n hints steps s' still limits is =
+    let q = h.cube in
+    let m = length h.formula.clauses in
+    line_is h line n hints still limits
     ∙ ap (λ (r : Lifted). lifted_step line h.own r (λ t. lift_text q m t (line + 1) [])) is
     ∙ ap (behind (text_of h.own steps)) (lift_text-end q m s' (line + 1) [] open_none ∙ ap (λ b. lift_end b (line + 1) []) closed)
     ∙ ap (λ (x : List ℕ). Ok x) (append-nil (text_of h.own steps))
@@ -202,6 +211,19 @@ line_lifts h line n hints steps s' still limits is =
       | inl gone ↦ absurd (both_ways (is_met h.cube []) (met_none h.cube) gone.met)
       | inr k ↦ ap (λ (t : State). t.closed) k.leaves
     ]
+
+-- no line of the empty lemma ends a text where none is lifted
+pub nothing_ends : (h : Held) (line : ℕ) (rest out : List ℕ) → rest ≡ [] → h.closed ≡ false
+    → ((n : ℕ) (hints : List ℕ) (steps : List Step) (s' : State) → IsStep (Add n [] hints []) → lift_step h.cube (length h.formula.clauses) (state_in h) (Add n [] hints []) ≡ Ok (steps, s') → ⊥)
+    → EndsWithLine (Within h line rest) out → ⊥
+nothing_ends h line rest out none still nothing e =
+    at (lift_step h.cube (length h.formula.clauses) (state_in h) (Add e.number [] e.hints [])) refl
+    (sym (line_is h line e.number e.hints still e.limits) ∙ sym (ap (λ (r : List ℕ). lift_more (Within h line r) (empty_lemma e.number e.hints)) none) ∙ e.lifts)
+  where
+    at : (r : Lifted) → lift_step h.cube (length h.formula.clauses) (state_in h) (Add e.number [] e.hints []) ≡ r
+        → lifted_step line h.own r (λ t. lift_text h.cube (length h.formula.clauses) t (line + 1) []) ≡ Ok out → ⊥
+    at (Err number) is l = absurd cc
+    at (Ok (steps, s')) is l = nothing e.number e.hints steps s' e.limits is
 
 -- where a line is begun, and where none is
 pub some_begun : (h : Held) (line : ℕ) (rest : List ℕ) (b : Bool) → IsOpen rest → b ≡ eqb (length rest) 0 → b ≡ false → lift_more (Within h line rest) [] ≡ refused 1 line 2
@@ -218,7 +240,27 @@ end_is h line rest b none is = ap (λ (r : List ℕ). lift_more (Within h line r
 pub closed_by : (h : Held) (line n : ℕ) (rest hints : List ℕ) (steps : List Step) (s' : State) → rest ≡ [] → h.closed ≡ false → IsStep (Add n [] hints [])
     → lift_step h.cube (length h.formula.clauses) (state_in h) (Add n [] hints []) ≡ Ok (steps, s') → IsEnded (Within h line rest) (text_of h.own steps)
 closed_by h line n rest hints steps s' none still limits is =
-    inr (line, n, hints, end_is h line rest false none still, ap (λ (r : List ℕ). lift_more (Within h line r) (empty_lemma n hints)) none ∙ line_lifts h line n hints steps s' still limits is)
+    inr (
+      line,
+      end_is h line rest false none still,
+      record {
+        number = n;
+        hints = hints;
+        limits = limits;
+        lifts = ap (λ (r : List ℕ). lift_more (Within h line r) (empty_lemma n hints)) none ∙ line_lifts h line n hints steps s' still limits is;
+      },
+    )
+
+-- any other fault than 13
+pub other_fault : (p : Progress) (fault : CheckFault) → (fault.number ≡ 13 → ⊥) → lift_more p [] ≡ Err fault → IsLastFault p fault
+other_fault p fault other first = record { first = first; wanting = λ e. absurd (other e) }
+
+-- a fault that was met stays
+pub failed_fault : (fault : CheckFault) → IsLastFault (Failed fault) fault
+failed_fault fault = record { first = refl; wanting = λ e out l. never_lifts out l.lifts }
+  where
+    never_lifts : (out : List ℕ) → ◌≡◌ {A = Text} (Err fault) (Ok out) → ⊥
+    never_lifts out e = cc
 
 -- ---- a whole text
 failed_none : {P : Type 0} (p : Progress) (more out : List ℕ) → p ≡ Failed no_memory → lift_more p more ≡ Ok out → P
@@ -227,9 +269,9 @@ failed_none p more out none is = absurd (let no : ◌≡◌ {A = Text} (Err no_m
 -- what was written, and what is put behind it, is what some text is lifted to
 pub given : (F : Cnf) (q : Cube) (p : Progress) (bytes written appended : List ℕ) → HasTaken F q p bytes written → IsEnded p appended → (text : List ℕ) × (lift_of F q text ≡ Ok (written ++ appended))
 given F q p bytes written appended (inl none) (inl e) = failed_none p [] [] none e.0
-given F q p bytes written appended (inl none) (inr (line, n, hints, missing, e)) = failed_none p (empty_lemma n hints) appended none e
+given F q p bytes written appended (inl none) (inr (line, missing, e)) = failed_none p (empty_lemma e.number e.hints) appended none e.lifts
 given F q p bytes written appended (inr h) (inl e) = (bytes ++ [], h [] ∙ ap (behind written) e.0 ∙ ap (λ (x : List ℕ). Ok (written ++ x)) (sym e.1))
-given F q p bytes written appended (inr h) (inr (line, n, hints, missing, e)) = (bytes ++ empty_lemma n hints, h (empty_lemma n hints) ∙ ap (behind written) e)
+given F q p bytes written appended (inr h) (inr (line, missing, e)) = (bytes ++ empty_lemma e.number e.hints, h (empty_lemma e.number e.hints) ∙ ap (behind written) e.lifts)
 
 -- what lifting gives is answered, unless memory ran out
 pub answered : (F : Cnf) (q : Cube) (p : Progress) (bytes written out before after : List ℕ) (r : Result (Unit {0}) CheckFault) → HasTaken F q p bytes written → GivesEnd p r before after → lift_of F q bytes ≡ Ok out
@@ -237,6 +279,20 @@ pub answered : (F : Cnf) (q : Cube) (p : Progress) (bytes written out before aft
 answered F q p bytes written out before after (Ok _) taken gives is = inl refl
 answered F q p bytes written out before after (Err fault) taken (inl e) is = inr (ap (λ (f : CheckFault). Err f) e)
 answered F q p bytes written out before after (Err fault) (inl none) (inr e) is =
-    inr (let same : ◌≡◌ {A = Text} (Err fault) (Err no_memory) = sym e ∙ ap (λ (x : Progress). lift_more x []) none in ap (λ (f : CheckFault). Err f) (let f : fault ≡ no_memory = cc in f))
+    inr (let same : ◌≡◌ {A = Text} (Err fault) (Err no_memory) = sym e.first ∙ ap (λ (x : Progress). lift_more x []) none in ap (λ (f : CheckFault). Err f) (let f : fault ≡ no_memory = cc in f))
 answered F q p bytes written out before after (Err fault) (inr h) (inr e) is =
-    absurd (let no : ◌≡◌ {A = Text} (Err fault) (Ok out) = sym (ap (lift_of F q) (sym (append-nil bytes)) ∙ h [] ∙ ap (behind written) e) ∙ is in cc)
+    absurd (let no : ◌≡◌ {A = Text} (Err fault) (Ok out) = sym (ap (lift_of F q) (sym (append-nil bytes)) ∙ h [] ∙ ap (behind written) e.first) ∙ is in cc)
+
+-- the fault is the text's
+pub fault_of : (F : Cnf) (q : Cube) (p : Progress) (bytes written before after : List ℕ) (fault : CheckFault) → HasTaken F q p bytes written → GivesEnd p (Err fault) before after → (fault ≡ no_memory) ⊎ IsFaultOf F q bytes fault
+fault_of F q p bytes written before after fault taken (inl e) = inl e
+fault_of F q p bytes written before after fault (inl none) (inr e) = inl (same (sym e.first ∙ ap (λ (x : Progress). lift_more x []) none))
+  where
+    same : ◌≡◌ {A = Text} (Err fault) (Err no_memory) → fault ≡ no_memory
+    same h = cc
+fault_of F q p bytes written before after fault (inr h) (inr e) = inr (record {
+  first = ap (lift_of F q) (sym (append-nil bytes)) ∙ h [] ∙ ap (behind written) e.first;
+  wanting = λ is n hints out limits lifts.
+      let b = behind_ok written (lift_more p (empty_lemma n hints)) out (sym (h (empty_lemma n hints)) ∙ lifts) in
+      e.wanting is b.0 (record { number = n; hints = hints; limits = limits; lifts = b.1 });
+})

@@ -2,6 +2,7 @@
 use Rattle.std.specs.Prelude.{◌≡◌, ◌⊎◌, ℕ, Bool, true, false, List, [], ◌∷◌, ◌++◌, ◌==◌, ◌%◌, Option, Some, None, Result, Ok, Err, length, slice_get, if◌then◌else◌}
 use Rattle.dimacs.specs.logic.Cnf.{Cnf}
 use Rattle.lrat_text.specs.Log.{Cube}
+use Rattle.lrat_text.specs.Grammar.{IsStep}
 use Rattle.lrat_text.specs.Writing.{line_of}
 use Rattle.lrat_text.specs.declared.step.Step.TheVariants.{Add}
 use Rattle.lrat_check.specs.Checking.{no_memory}
@@ -79,16 +80,33 @@ pub record TakesPiece (old : Progress) (piece before after : List ℕ) (answer :
 abbrev pub empty_lemma : ℕ → List ℕ → List ℕ
 empty_lemma n hints = line_of n (Add n [] hints [])
 
--- nothing is left to write; or the empty lemma alone is wanting (13), and these bytes are what its line is lifted to, with some hints
+-- with a line of the empty lemma behind them, and no other, the bytes are a proof, and what is left to write is this
+pub record EndsWithLine (p : Progress) (appended : List ℕ) : Type 0 where
+  pub number : ℕ
+  pub hints : List ℕ
+  pub limits : IsStep (Add number [] hints [])
+  pub lifts : lift_more p (empty_lemma number hints) ≡ Ok appended
+
+-- nothing is left to write; or the empty lemma alone is wanting (13), and its line is written
 abbrev pub IsEnded : Progress → List ℕ → Type 0
 IsEnded p appended =
     ((lift_more p [] ≡ Ok []) × (appended ≡ []))
-    ⊎ ((line : ℕ) × (n : ℕ) × (hints : List ℕ) × (lift_more p [] ≡ refused 13 line 0) × (lift_more p (empty_lemma n hints) ≡ Ok appended))
+    ⊎ ((line : ℕ) × (lift_more p [] ≡ refused 13 line 0) × EndsWithLine p appended)
+
+-- the first fault of the text; 13 where no line of the empty lemma would end it
+pub record IsLastFault (p : Progress) (fault : CheckFault) : Type 0 where
+  pub first : lift_more p [] ≡ Err fault
+  pub wanting : fault.number ≡ 13 → (appended : List ℕ) → ¬ (EndsWithLine p appended)
+
+-- the same of a whole text, whatever pieces it came in
+pub record IsFaultOf (F : Cnf) (q : Cube) (text : List ℕ) (fault : CheckFault) : Type 0 where
+  pub first : lift_of F q text ≡ Err fault
+  pub wanting : fault.number ≡ 13 → (n : ℕ) (hints lifted : List ℕ) → IsStep (Add n [] hints []) → ¬ (lift_of F q (text ++ empty_lemma n hints) ≡ Ok lifted)
 
 -- what is answered where no further byte comes, and what is put behind the bytes before
 abbrev pub GivesEnd : Progress → Result (Unit {0}) CheckFault → List ℕ → List ℕ → Type 0
 GivesEnd p (Ok _) before after = (appended : List ℕ) × (after ≡ before ++ appended) × IsEnded p appended
-GivesEnd p (Err fault) before after = (fault ≡ no_memory) ⊎ (lift_more p [] ≡ Err fault)
+GivesEnd p (Err fault) before after = (fault ≡ no_memory) ⊎ IsLastFault p fault
 
 abbrev pub progress_of : Option CheckFault → Held → ℕ → List ℕ → Progress
 progress_of None h line begun = Within h line begun

@@ -5,6 +5,8 @@ pub mod Faults
 pub mod Images
 pub mod Lines
 pub mod Linked
+pub mod Reached
+pub mod Reaching
 pub mod Ready
 pub mod Statuses
 pub mod Stream

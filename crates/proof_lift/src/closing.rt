@@ -1,7 +1,7 @@
-//! One propagation under the cube over what is live, for a text that ends without the empty lemma.
+//! The order in which unit propagation under the cube meets what is live, for a text that ends without the empty lemma.
 //!
-//! What is found here is believed nowhere: the hints go the way of every lemma's. So no contract speaks of them, and what is out of
-//! range is passed over. It takes time linear in the literals of what is live.
+//! It is believed nowhere: whoever goes along it looks at each clause. So no contract speaks of it, and what is out of range is passed
+//! over. It takes time linear in the literals of what is live.
 
 use crate::images::{Image, Images};
 use dimacs::Lit;
@@ -17,11 +17,16 @@ struct Occurrence {
 /// Where no further occurrence stands.
 const NONE: usize = usize::MAX;
 
-/// The clauses that stand for something, and what is true by now.
+/// What stands for the clauses, and the foreign numbers of those for which a clause stands.
+#[derive(Clone, Copy)]
+struct Live<'a> {
+    images: &'a Images,
+    numbers: &'a [u64],
+}
+
+/// What is true by now, and how many literals of each clause are not false.
 #[derive(Drop)]
 struct Propagation {
-    /// The clauses' foreign numbers.
-    numbers: Vec<u64>,
     /// How many literals of each clause are not false, repeats aside.
     free: Vec<usize>,
     occurrences: Vec<Occurrence>,
@@ -31,7 +36,8 @@ struct Propagation {
     seen: Vec<usize>,
     truth: Vec<bool>,
     trail: Vec<Lit>,
-    hints: Vec<u64>,
+    /// The numbers of the clauses that were unit, and of one that is false.
+    order: Vec<u64>,
 }
 
 /// The literals that stand for the clause of a number.
@@ -42,27 +48,18 @@ fn literals_of(images: &Images, number: u64) -> &[Lit] {
     }
 }
 
-/// The foreign numbers of the clauses for which something stands.
-fn live_numbers(alloc: Global, images: &Images) -> Result<Vec<u64>, AllocError> {
-    let mut numbers = Vec::new(alloc);
-    for i in 0..images.formula.len() {
-        let number = i as u64 + 1;
-        if let Image::Kept(_, _) = images.get(number) {
-            numbers.push(number)?;
+impl Live<'_> {
+    /// The literals that stand for the clause at a place.
+    fn literals(&self, clause: usize) -> &[Lit] {
+        match self.numbers.get(clause) {
+            Some(number) => literals_of(self.images, *number),
+            None => &[],
         }
     }
-    for map in images.lemmas.maps.iter() {
-        for (number, own) in map.iter() {
-            if own.is_some() {
-                numbers.push(*number)?;
-            }
-        }
-    }
-    Ok(numbers)
 }
 
 impl Propagation {
-    fn new(alloc: Global, numbers: Vec<u64>, places: usize) -> Result<Propagation, AllocError> {
+    fn new(alloc: Global, places: usize) -> Result<Propagation, AllocError> {
         let mut first = Vec::new(alloc);
         first.resize(places, NONE)?;
         let mut seen = Vec::new(alloc);
@@ -70,14 +67,13 @@ impl Propagation {
         let mut truth = Vec::new(alloc);
         truth.resize(places, false)?;
         Ok(Propagation {
-            numbers,
             free: Vec::new(alloc),
             occurrences: Vec::new(alloc),
             first,
             seen,
             truth,
             trail: Vec::new(alloc),
-            hints: Vec::new(alloc),
+            order: Vec::new(alloc),
         })
     }
 
@@ -102,14 +98,10 @@ impl Propagation {
     }
 
     /// Notes the literals of each clause.
-    fn note_all(&mut self, images: &Images) -> Result<(), AllocError> {
-        for i in 0..self.numbers.len() {
-            let Some(number) = self.numbers.get(i) else {
-                return Ok(());
-            };
-            let number = *number;
+    fn note_all(&mut self, live: Live<'_>) -> Result<(), AllocError> {
+        for i in 0..live.numbers.len() {
             let mut free: usize = 0;
-            for l in literals_of(images, number) {
+            for l in live.literals(i) {
                 if self.note(i, *l)? {
                     free = free.saturating_add(1);
                 }
@@ -146,18 +138,17 @@ impl Propagation {
     }
 
     /// Looks at the clause at a place, where at most one literal is not false, and says whether it is false.
-    fn look(&mut self, images: &Images, clause: usize, free: usize) -> Result<bool, AllocError> {
-        let Some(number) = self.numbers.get(clause) else {
+    fn look(&mut self, live: Live<'_>, clause: usize, free: usize) -> Result<bool, AllocError> {
+        let Some(number) = live.numbers.get(clause) else {
             return Ok(false);
         };
-        let number = *number;
         if free == 0 {
-            self.hints.push(number)?;
+            self.order.push(*number)?;
             return Ok(true);
         }
-        if let Some(l) = self.open_literal(literals_of(images, number)) {
+        if let Some(l) = self.open_literal(live.literals(clause)) {
             if !self.is_true(l) {
-                self.hints.push(number)?;
+                self.order.push(*number)?;
                 self.assume(l)?;
             }
         }
@@ -165,11 +156,11 @@ impl Propagation {
     }
 
     /// Looks at the clauses that have at most one literal.
-    fn look_at_units(&mut self, images: &Images) -> Result<bool, AllocError> {
+    fn look_at_units(&mut self, live: Live<'_>) -> Result<bool, AllocError> {
         for i in 0..self.free.len() {
             if let Some(free) = self.free.get(i) {
                 let free = *free;
-                if free < 2 && self.look(images, i, free)? {
+                if free < 2 && self.look(live, i, free)? {
                     return Ok(true);
                 }
             }
@@ -178,7 +169,7 @@ impl Propagation {
     }
 
     /// A literal is false: each clause that has it has one fewer that is not. Says whether one is false then.
-    fn falsify(&mut self, images: &Images, l: Lit) -> Result<bool, AllocError> {
+    fn falsify(&mut self, live: Live<'_>, l: Lit) -> Result<bool, AllocError> {
         let mut at = match self.first.get(l.index()) {
             Some(first) => *first,
             None => return Ok(false),
@@ -194,7 +185,7 @@ impl Propagation {
                 *free = free.saturating_sub(1);
                 left = *free;
             }
-            if left < 2 && self.look(images, clause, left)? {
+            if left < 2 && self.look(live, clause, left)? {
                 return Ok(true);
             }
         }
@@ -202,11 +193,11 @@ impl Propagation {
     }
 
     /// Propagates what is true, and says whether a clause is false then.
-    fn run(&mut self, images: &Images, cube: &[Lit]) -> Result<bool, AllocError> {
+    fn run(&mut self, live: Live<'_>, cube: &[Lit]) -> Result<bool, AllocError> {
         for x in cube {
             self.assume(*x)?;
         }
-        if self.look_at_units(images)? {
+        if self.look_at_units(live)? {
             return Ok(true);
         }
         for i in 0..usize::MAX {
@@ -214,7 +205,7 @@ impl Propagation {
                 return Ok(false);
             };
             let l = *l;
-            if self.falsify(images, l.negate())? {
+            if self.falsify(live, l.negate())? {
                 return Ok(true);
             }
         }
@@ -222,20 +213,19 @@ impl Propagation {
     }
 }
 
-/// Hints by which the empty lemma follows under the cube, by unit propagation over what is live; none where it leads to no conflict.
+/// The numbers of clauses that unit propagation under the cube meets in turn, each unit by then, up to one that is false, if one is.
 /// `places` is how many places a table of the literals has.
-pub(crate) fn refuting_hints(
+pub(crate) fn propagation_order(
     alloc: Global,
     images: &Images,
+    numbers: &[u64],
     cube: &[Lit],
     places: usize,
-) -> Result<Option<Vec<u64>>, AllocError> {
-    let numbers = live_numbers(alloc, images)?;
-    let mut propagation = Propagation::new(alloc, numbers, places)?;
-    propagation.note_all(images)?;
-    if !propagation.run(images, cube)? {
-        return Ok(None);
-    }
-    let Propagation { hints, .. } = propagation;
-    Ok(Some(hints))
+) -> Result<Vec<u64>, AllocError> {
+    let live = Live { images, numbers };
+    let mut propagation = Propagation::new(alloc, places)?;
+    propagation.note_all(live)?;
+    let _ = propagation.run(live, cube)?;
+    let Propagation { order, .. } = propagation;
+    Ok(order)
 }

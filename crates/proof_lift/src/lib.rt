@@ -2,7 +2,8 @@
 //!
 //! A leaf's formula has the clauses of the formula, and a unit clause for each literal of the leaf's cube. What a layer above may
 //! rest on: whatever text comes in, where [`Lifter::finish`] answers `Ok` the bytes that were handed out close the cube over the
-//! formula; each refutation by reverse unit propagation alone is lifted; any other text gets its first fault.
+//! formula; each refutation by reverse unit propagation alone is lifted; any other text gets its first fault, which is 13 exactly where
+//! nothing but the empty lemma is wanting and no hints close it.
 #![tactic(auto)]
 
 mod closing;
@@ -13,7 +14,9 @@ mod lemmas;
 mod lifter;
 mod lifting;
 mod lines;
+mod live;
 mod marks;
+mod reached;
 mod scratch;
 mod status;
 mod table;

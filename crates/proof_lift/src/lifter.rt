@@ -108,7 +108,7 @@ impl Lifter {
         ensures closes { OnOk result ((F : Cnf) (q : Cube) (bytes written : List ℕ) → IsFormula F → IsCube F q → HasTaken F q self bytes written → ClosesWith F q written out.old.items out.new.items) }
         // a refutation of the leaf's formula by reverse unit propagation alone is refused for want of memory alone
         ensures complete { (F : Cnf) (q : Cube) (bytes written : List ℕ) → IsCube F q → HasTaken F q self bytes written → IsRefutation (leaf_of q F) bytes → (result ≡ Ok tt) ⊎ (result ≡ Err no_memory) }
-        // the first fault, and its line
+        // the first fault, and its line; 13 exactly where the empty lemma alone is wanting, and no hints close it
         ensures exact { GivesEnd self result out.old.items out.new.items }
     {
         let Lifter {

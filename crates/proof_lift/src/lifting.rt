@@ -1,7 +1,7 @@
 //! Lifting, step by step.
 
 ghost use Rattle.std.specs.Prelude.{◌≡◌, ◌<◌, ◌≤◌, ◌+◌, ◌*◌, ◌⊎◌, ◌++◌, [], Ok, Err, Some, OnOk, IfOk, IfErr, length, vec_len, All, true, false};
-ghost use Rattle.std.specs.Bool.{OnTrue};
+ghost use Rattle.std.specs.Bool.{MatchBool};
 ghost use Rattle.dimacs.specs.logic.Literal.{IsWithin};
 ghost use Rattle.dimacs.specs.logic.Propagation.{negations};
 ghost use Rattle.lrat_check.specs.inner.Table.{FitsTable};
@@ -16,14 +16,15 @@ ghost use Rattle.proof_lift.specs.inner.Clean.{IsClean};
 ghost use Rattle.proof_lift.specs.inner.Faults.{line_fault_number};
 ghost use Rattle.proof_lift.specs.inner.Images.{stands_of};
 ghost use Rattle.proof_lift.specs.inner.Ready.{IsReady, IsAssumed, IsSame, SameLeaf, state_of};
-ghost use Rattle.proof_lift.specs.inner.Closing.{IsClosed};
+ghost use Rattle.proof_lift.specs.inner.Closing.{IsClosed, NothingCloses};
 ghost use Rattle.proof_lift.specs.inner.Writing.{WritesAs, IsFront};
 
-use crate::closing::refuting_hints;
 use crate::fault::LineFault;
 use crate::images::{Image, Images};
 use crate::lemmas::Own;
+use crate::live::LIMIT;
 use crate::marks::{assume_negations, join_cube, meets};
+use crate::reached::refuting_hints;
 use crate::scratch::Scratch;
 use dimacs::{Formula, Lit};
 use lrat_text::{Groups, StepRef, put_ref};
@@ -50,21 +51,6 @@ pub(crate) struct Lifting {
     /// Whether the empty lemma was lifted.
     pub(crate) closed: bool,
     pub(crate) scratch: Scratch,
-}
-
-/// The least number that no clause has.
-const LIMIT: u64 = 1 << 48;
-
-/// Whether each can be a clause's number.
-fn are_numbers(numbers: &[u64]) -> bool
-    ensures { OnTrue result (All IsClauseNumber numbers.now) }
-{
-    for number in numbers {
-        if *number == 0 || *number >= LIMIT {
-            return false;
-        }
-    }
-    true
 }
 
 /// Tables with a place for each literal of the formula and the cube.
@@ -284,10 +270,10 @@ impl Lifting {
         Ok(())
     }
 
-    /// Writes the empty lemma, where one propagation under the cube finds hints by which it follows; says whether it did.
+    /// Writes the empty lemma, if it follows under the cube by unit propagation over what is live; says whether it does.
     pub(crate) fn close(&mut self, line: u64, out: &mut Vec<u8>) -> Result<bool, LineFault>
         requires ready { IsReady line self.old }
-        ensures closed { IfOk result (λ b. OnTrue b (IsClosed self.old self.new out.old.items out.new.items)) }
+        ensures closed { IfOk result (λ b. MatchBool b (IsClosed self.old self.new out.old.items out.new.items) (NothingCloses self.old)) }
         ensures refused { IfErr result (λ f. f ≡ LineFault.NoMemory) }
         ensures front { IsFront out.old.items out.new.items }
     {
@@ -299,9 +285,6 @@ impl Lifting {
         let Some(hints) = refuting_hints(self.alloc, &self.images, &self.cube, places)? else {
             return Ok(false);
         };
-        if !are_numbers(&hints) {
-            return Ok(false);
-        }
         let groups = Groups::new(self.alloc);
         let lemma = Lemma {
             lits: &[],
@@ -310,8 +293,7 @@ impl Lifting {
         };
         match self.add(id, lemma, line, out) {
             Ok(()) => Ok(true),
-            Err(LineFault::NoMemory) => Err(LineFault::NoMemory),
-            Err(_) => Ok(false),
+            Err(fault) => Err(fault),
         }
     }
 

@@ -1,5 +1,8 @@
-use Rattle.std.proofs.Common.{◌++◌}
+use Rattle.std.proofs.Common.{◌++◌, Result, Err, subst}
+use Rattle.lrat_check.specs.declared.checking.CheckFault.{CheckFault}
 use Rattle.lrat_text.specs.Log.{Closes}
+use Rattle.proof_lift.specs.Stream.{GivesEnd}
+use Rattle.proof_lift.proofs.StreamLemmas.{fault_of}
 use Rattle.leaves.proofs.LineLemmas.{appended}
 use Rattle.leaves.proofs.LiftLemmas.{only_memory}
 use Rattle.leaves.proofs.lifting.Lift.finish.Goals as goal
@@ -13,3 +16,11 @@ returns-in-Ok-clause-closes c = λ F q bytes written h.
 pub returns-in-Err-clause-complete : goal.returns-in-Err-clause-complete
 returns-in-Err-clause-complete c = λ F q bytes written h refutes.
     only_memory c.in-Err.fault c.finish.result c.in-Err.is (c.finish.ensures.complete F q bytes (written ++ c.args.self.out.items) h.cube h.taken refutes)
+
+pub returns-in-Err-clause-exact : goal.returns-in-Err-clause-exact
+returns-in-Err-clause-exact c = λ F q bytes written h.
+    let l = c.args.self.lifter in
+    let before = c.args.self.out.items in
+    let after = c.finish.new.out.items in
+    fault_of F q l bytes (written ++ before) before after c.in-Err.fault h.taken
+    (subst (λ (r : Result (Unit {0}) CheckFault). GivesEnd l r before after) c.in-Err.is c.finish.ensures.exact)

@@ -5,10 +5,10 @@ use Rattle.lrat_check.specs.Checking.{no_memory}
 use Rattle.lrat_check.specs.declared.checking.CheckFault.{CheckFault}
 use Rattle.lrat_text.specs.Log.{Cube}
 use Rattle.proof_lift.specs.Leaves.{ClosesWith, IsCube, IsRefutation, leaf_of}
-use Rattle.proof_lift.specs.Stream.{Progress, Within, Failed, GivesEnd, HasTaken, lift_more, progress_of}
+use Rattle.proof_lift.specs.Stream.{Progress, Within, Failed, GivesEnd, HasTaken, IsLastFault, progress_of}
 use Rattle.proof_lift.proofs.CompleteLemmas.{refutations_lift}
 use Rattle.proof_lift.proofs.SoundLemmas.{texts_close}
-use Rattle.proof_lift.proofs.StreamLemmas.{given, answered}
+use Rattle.proof_lift.proofs.StreamLemmas.{given, answered, failed_fault}
 use Rattle.proof_lift.proofs.lifter.Lifter.finish.Goals as goal
 
 closes : (p : Progress) (r : Result (Unit {0}) CheckFault) (before after : List ℕ) → GivesEnd p r before after
@@ -37,5 +37,10 @@ pub returns-in-Some-clause-complete : goal.returns-in-Some-clause-complete
 returns-in-Some-clause-complete c =
     let h = held_of c.self.inside.lines.lifting in
     let now : Failed c.in-Some.fault ≡ c.args.self = ap (λ o. progress_of o h c.self.inside.lines.line c.self.inside.begun) (sym c.in-Some.is) ∙ c.self.view_is in
-    let same : lift_more c.args.self [] ≡ Err c.in-Some.fault = sym (ap (λ (p : Progress). lift_more p []) now) in
-    complete c.args.self (Err c.in-Some.fault) [] [] (inr same)
+    complete c.args.self (Err c.in-Some.fault) [] [] (inr (subst (λ (p : Progress). IsLastFault p c.in-Some.fault) now (failed_fault c.in-Some.fault)))
+
+pub returns-in-Some-clause-exact : goal.returns-in-Some-clause-exact
+returns-in-Some-clause-exact c =
+    let h = held_of c.self.inside.lines.lifting in
+    let now : Failed c.in-Some.fault ≡ c.args.self = ap (λ o. progress_of o h c.self.inside.lines.line c.self.inside.begun) (sym c.in-Some.is) ∙ c.self.view_is in
+    inr (subst (λ (p : Progress). IsLastFault p c.in-Some.fault) now (failed_fault c.in-Some.fault))

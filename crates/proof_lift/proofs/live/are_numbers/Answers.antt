@@ -3,7 +3,7 @@ use Rattle.std.specs.Prelude.{All}
 use Rattle.std.proofs.lemmas.List.{take_all}
 use Rattle.std.proofs.lemmas.List.Elements.{All-more}
 use Rattle.lrat_text.specs.Grammar.{IsClauseNumber}
-use Rattle.proof_lift.proofs.lifting.are_numbers.Goals as goal
+use Rattle.proof_lift.proofs.live.are_numbers.Goals as goal
 
 pub loop-number-preserved : goal.loop-number-preserved
 loop-number-preserved c =
