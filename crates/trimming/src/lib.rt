@@ -4,6 +4,7 @@
 mod blocks;
 mod counting;
 mod heads;
+mod hints;
 mod lemmas;
 mod needs;
 mod report;

@@ -1,5 +1,6 @@
 //! Which lemmas the empty clause needs.
 
+use crate::hints::plain_hints;
 use crate::lemmas::Lemmas;
 use lrat_text::{Groups, PackedText, StepBuffer, StepRef, TextFault, read_line};
 use std::alloc::{AllocError, Global};
@@ -66,11 +67,31 @@ impl<'k> WayBack<'k> {
         }
     }
 
+    /// The clause of this number is needed.
+    fn need(&mut self, id: u64) {
+        if let Some(rank) = self.before.lemmas.rank(id) {
+            self.need_rank(rank);
+        }
+    }
+
     /// The clauses of these numbers are needed.
     fn need_all(&mut self, ids: &[u64]) {
         for id in ids {
-            if let Some(rank) = self.before.lemmas.rank(*id) {
-                self.need_rank(rank);
+            self.need(*id);
+        }
+    }
+
+    /// The clauses of the numbers in a text are needed. Behind each stands a space, but for the 0 at the end.
+    fn need_spelled(&mut self, hints: &[u8]) {
+        let mut id = 0u64;
+        for byte in hints {
+            if *byte == b' ' {
+                self.need(id);
+                id = 0;
+            } else {
+                id = id
+                    .saturating_mul(10)
+                    .saturating_add(u64::from(byte.wrapping_sub(b'0')));
             }
         }
     }
@@ -97,6 +118,10 @@ impl<'k> WayBack<'k> {
             return Ok(());
         }
         let line = self.before.lemmas.line(alloc, text, rank)?;
+        if let Some(hints) = plain_hints(&line) {
+            self.need_spelled(hints);
+            return Ok(());
+        }
         read_line(buffer, &line)?;
         if let StepRef::Add { hints, groups, .. } = buffer.as_ref() {
             self.need_all(hints);
