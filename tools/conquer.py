@@ -78,7 +78,8 @@ def words():
 def found(word):
     path = shutil.which(word)
     if path is None:
-        raise Fault("c cannot run " + word)
+        more = ": build it, or name it with --program" if word == "satcluster" else ""
+        raise Fault("c cannot run " + word + more)
     return os.path.abspath(path)
 
 

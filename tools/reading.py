@@ -26,6 +26,17 @@ CLAIMS = [
         [("node_main", "run_check", ["truth"])],
     ),
     (
+        "What `check` makes of the bytes of a proof",
+        "The formula that reading gave, and then a proof in any pieces, are handed to a `ProofCheck`. At its end it reports status 0 exactly if the input "
+        "spells a formula and the definition accepts the proof, and prints what the table of faults says.",
+        [
+            ("node_main", "ProofCheck::of", ["taken"]),
+            ("node_main", "ProofCheck::feed", ["taken"]),
+            ("node_main", "ProofCheck::finish", [None]),
+        ],
+        "HasTaken",
+    ),
+    (
         "`s SATISFIABLE` and `s UNSATISFIABLE` are true",
         "If a run of `solve`, `serve` or `work` ends with status 10 an assignment satisfies the formula that the input spells, and with status 20 "
         "none does, whatever the links bring.",
@@ -78,6 +89,9 @@ HEAD = """# What has to be believed
 Each claim with the clauses of contracts that carry it, and all definitions that these name, directly or not, from the contract
 down: nothing else of the repository has to be read to know what is claimed. Definitions of the kit (numbers, lists, options) are not
 counted. The page is made by `tools/reading.py`, which counts them from the sources.
+
+`IfOk r P` says that P holds of x if r is `Ok x`, and nothing of an error; so does `OnOk r Q`, that Q holds then. `x.now` is the value of
+a reference, `x.old` and `x.new` those before and after the call, and `v.items` the elements of a vector.
 
 The clauses are those of calls on whole texts. The program makes the calls that these make, on pieces of its files: `ProofCheck::finish` for
 `run_check`, `run_solve_of`, `attend` and `run_work_of` for `run_solve`, `run_attend` and `run_work`.
