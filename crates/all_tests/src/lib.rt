@@ -18,6 +18,8 @@ mod gathered;
 #[cfg(test)]
 mod joining;
 #[cfg(test)]
+mod lifted;
+#[cfg(test)]
 mod pieces;
 #[cfg(test)]
 mod profile;

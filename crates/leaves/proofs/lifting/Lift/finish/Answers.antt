@@ -1,4 +1,4 @@
-use Rattle.std.proofs.Common.{◌++◌, Result, Err, subst}
+use Rattle.std.proofs.Common.{◌++◌, Result, subst}
 use Rattle.lrat_check.specs.declared.checking.CheckFault.{CheckFault}
 use Rattle.lrat_text.specs.Log.{Closes}
 use Rattle.proof_lift.specs.Stream.{GivesEnd}
