@@ -12,9 +12,9 @@ use Rattle.lrat_check.specs.declared.slot_tables.Far.{Far}
 use Rattle.std.proofs.Math.Dec.{eqb, ltb}
 use Rattle.std.proofs.lemmas.Bool.{ltb-true, ltb-false, eqb-true, eqb-false}
 use Rattle.std.specs.Bool.{OnTrue}
-use Rattle.lrat_check.specs.inner.Store.{clause_at, live_of, IsPlaced, ArePlaced, IsStore, AreCopied, Keeps, SameClauses}
+use Rattle.lrat_check.specs.inner.Store.{clause_at, live_of, IsPlaced, ArePlaced, IsStore, IsFilledTo, AreCopied, Keeps, SameClauses}
 use Rattle.lrat_check.specs.inner.Blocks.{free_block, places_of, one_slot, standing, joined, IsBlock, AreBlocks}
-use Rattle.lrat_check.proofs.Slots.{kept_clauses, ArePlaced-kept, no_slot, live_of-push, store-push, get-live_of, far_at}
+use Rattle.lrat_check.proofs.Slots.{kept_clauses, ArePlaced-kept, no_slot, live_of-push, store-push, get-live_of, far_at, get_or-push_below, get_or-push_at}
 
 -- ---- a block
 pub length-free_block : length free_block ≡ 1024
@@ -365,29 +365,35 @@ put_at slots new k cell o lt is e = (
   λ q ne. ap (λ (xs : List (Option Slot)). get_or xs q None) e ∙ get_or-set_other slots k q o None ne,
 )
 
--- one cell more, of those before and behind a place
-pub next_same : (cells old new : List (Option Slot)) (k : ℕ) (cell : Option Slot) → cell ≡ get_or cells k None → get_or new k None ≡ cell → ((q : ℕ) → q ≢ k → get_or new q None ≡ get_or old q None)
-    → ((q : ℕ) → q < k → get_or old q None ≡ get_or cells q None) × ((q : ℕ) → k ≤ q → get_or old q None ≡ None)
-    → ((q : ℕ) → q < k + 1 → get_or new q None ≡ get_or cells q None) × ((q : ℕ) → k + 1 ≤ q → get_or new q None ≡ None)
-next_same cells old new k cell is here others before = (
-  λ q lt. below q lt (eqb q k) refl,
-  λ q le. others q (λ e. absurd (omega arith)) ∙ before.1 q (omega arith),
-)
+-- a slot more at the next place
+pub pushed_same : (slots old new : List (Option Slot)) (k : ℕ) (o : Option Slot) → length slots ≡ k → ((q : ℕ) → get_or old q None ≡ get_or slots q None)
+    → get_or new k None ≡ o → ((q : ℕ) → q ≢ k → get_or new q None ≡ get_or old q None) → (q : ℕ) → get_or new q None ≡ get_or (slots ++ o ∷ []) q None
+pushed_same slots old new k o many same here others q = at (eqb q k) refl
   where
-    below : (q : ℕ) → q < k + 1 → (b : Bool) → eqb q k ≡ b → get_or new q None ≡ get_or cells q None
-    below q lt true e =
-        let at : q ≡ k = eqb-true q k e in
-        ap (λ j. get_or new j None) at ∙ here ∙ is ∙ ap (λ j. get_or cells j None) (sym at)
-    below q lt false e =
-        let ne : q ≢ k = eqb-false q k e in
-        others q ne ∙ before.0 q (omega arith)
+    past : q ≢ k → (b : Bool) → ltb q k ≡ b → get_or new q None ≡ get_or (slots ++ o ∷ []) q None
+    past ne true e = others q ne ∙ same q ∙ sym (get_or-push_below slots o None q (omega (arith, many, ltb-true q k e)))
+    past ne false e =
+        let le = ltb-false q k e in
+        others q ne ∙ same q ∙ get_or_past slots q None (omega (arith, many, le))
+        ∙ sym (get_or_past (slots ++ o ∷ []) q None (omega (arith, many, le, ne, length-append slots (o ∷ []))))
 
-pub all_same : (cells new : List (Option Slot)) (k : ℕ) → length cells ≤ k
-    → ((q : ℕ) → q < k → get_or new q None ≡ get_or cells q None) × ((q : ℕ) → k ≤ q → get_or new q None ≡ None) → (q : ℕ) → get_or new q None ≡ get_or cells q None
-all_same cells new k le both q = at (ltb q k) refl
+    at : (b : Bool) → eqb q k ≡ b → get_or new q None ≡ get_or (slots ++ o ∷ []) q None
+    at true e =
+        let is : q ≡ k = eqb-true q k e in
+        let end : q ≡ length slots = omega (arith, is, many) in
+        ap (λ j. get_or new j None) is ∙ here ∙ sym (ap (λ j. get_or (slots ++ o ∷ []) j None) end ∙ get_or-push_at slots o None)
+    at false e = past (eqb-false q k e) (ltb q k) refl
+
+-- no slot yet
+pub none_filled : (literals : List Literal) (places : List ℕ) (near : List (Option Slot)) → near ≡ [] → IsFilledTo literals places 0 near
+none_filled literals places near e = record {
+  slots = None ∷ [];
+  many = refl;
+  entries = refl;
+  placed = λ p s is. absurd (no_slot s (sym (alone p) ∙ is));
+  same = λ q. ap (λ (xs : List (Option Slot)). get_or xs q None) e ∙ get_or_past [] q None (omega arith) ∙ sym (alone q);
+}
   where
-    at : (b : Bool) → ltb q k ≡ b → get_or new q None ≡ get_or cells q None
-    at true e = both.0 q (ltb-true q k e)
-    at false e =
-        let past = ltb-false q k e in
-        both.1 q past ∙ sym (get_or_past cells q None (omega arith))
+    alone : (q : ℕ) → get_or {A = Option Slot} (None ∷ []) q None ≡ None
+    alone zero = refl
+    alone (suc q) = get_or_past [] q None (omega arith)

@@ -315,7 +315,7 @@ fn copy_blocks(
 
 /// Makes free places, if the next one is not there yet.
 fn reach(blocks: &mut Blocks, place: usize) -> Result<(), AllocError>
-    requires { place ≤ length blocks.old }
+    requires { place < length blocks.old + 1024 }
     ensures longer { OnOk result (place < length blocks.new) }
     ensures same { (q : ℕ) → slice_index_or blocks.new q None ≡ slice_index_or blocks.old q None }
 {
@@ -325,28 +325,14 @@ fn reach(blocks: &mut Blocks, place: usize) -> Result<(), AllocError>
     Ok(())
 }
 
-/// Puts a slot at the next place, where there is one.
-fn put_next(blocks: &mut Blocks, place: usize, cell: Cell) -> Result<(), AllocError>
-    requires next { place ≤ length blocks.old }
-    requires free { (q : ℕ) → place ≤ q → slice_index_or blocks.old q None ≡ None }
+/// Puts a slot at the next place.
+pub(crate) fn put_next(blocks: &mut Blocks, place: usize, slot: Slot) -> Result<(), AllocError>
+    requires next { place < length blocks.old + 1024 }
+    requires room { slot.place < 2 ^ 64 - 1 }
     ensures longer { OnOk result (place + 1 ≤ length blocks.new) }
-    ensures here { OnOk result (slice_index_or blocks.new place None ≡ cell) }
+    ensures here { OnOk result (slice_index_or blocks.new place None ≡ Some slot) }
     ensures others { OnOk result ((q : ℕ) → q ≢ place → slice_index_or blocks.new q None ≡ slice_index_or blocks.old q None) }
 {
     reach(blocks, place)?;
-    match cell.slot() {
-        Some(slot) => blocks.set(place, slot),
-        None => Ok(()),
-    }
-}
-
-/// The slots of cells, in blocks.
-pub(crate) fn blocks_of(alloc: Global, cells: &[Cell]) -> Result<Blocks, AllocError>
-    ensures { IfOk result (λ blocks. (q : ℕ) → slice_index_or blocks q None ≡ slice_index_or cells.now q None) }
-{
-    let mut blocks = Blocks::new(alloc);
-    for i in 0..cells.len() {
-        put_next(&mut blocks, i, cells[i])?;
-    }
-    Ok(blocks)
+    blocks.set(place, slot)
 }

@@ -1,21 +1,19 @@
-use Rattle.std.proofs.Common.{◌≡◌, ◌∙◌, ℕ, List, None, subst, ap, get_or}
+use Rattle.std.proofs.Common.{◌∙◌, List, subst}
 use Rattle.dimacs.specs.logic.Literal.{Literal}
 use Rattle.dimacs.specs.layout.Flat.{parts}
-use Rattle.lrat_check.specs.inner.Store.{near_entries, numbered_entries, ArePlaced, IsStore}
+use Rattle.lrat_check.specs.inner.Store.{IsFilled, IsStore}
 use Rattle.lrat_check.proofs.Parts.{store_near, near_fits, live_near}
 use Rattle.lrat_check.proofs.BlocksLemmas.{same_placed, same_live}
 use Rattle.lrat_check.proofs.store.Store.of_parts.Goals as goal
 use Rattle.lrat_check.proofs.store.Store.of_parts.Goals.{After-new}
 
-same : (c : After-new) → (q : ℕ) → get_or c.in_ok-near.near q None ≡ get_or c.in_ok-slots_of.field-0.items q None
-same c q = c.in_ok-near.ensures q ∙ ap (λ xs. get_or xs q None) c.deref-2.ensures.value
-
-placed : (c : After-new) → ArePlaced c.args.literals.items c.in_ok-slots_of.field-0.items
-placed c = subst (λ (ls : List Literal). ArePlaced ls c.in_ok-slots_of.field-0.items) c.deref.ensures.value c.in_ok-slots_of.ensures.placed
+filled : (c : After-new) → IsFilled c.args.literals.items c.args.places.now c.in_ok-near.near
+filled c = subst (λ (ls : List Literal). IsFilled ls c.args.places.now c.in_ok-near.near) c.deref.ensures.value c.in_ok-near.ensures
 
 store : (c : After-new) → IsStore c.args.literals.items c.in_ok-near.near c.new.result
 store c =
-    store_near c.args.literals.items c.in_ok-near.near c.new.result (same_placed c.args.literals.items c.in_ok-slots_of.field-0.items c.in_ok-near.near c.new.result (same c) (placed c))
+    let all = filled c in
+    store_near c.args.literals.items c.in_ok-near.near c.new.result (same_placed c.args.literals.items all.slots c.in_ok-near.near c.new.result all.same all.placed)
     c.new.ensures.places c.new.ensures.numbers c.new.ensures.slots
 
 pub invariant_of-result : goal.invariant_of-result
@@ -25,10 +23,9 @@ pub returns-clause-live : goal.returns-clause-live
 returns-clause-live c =
     let k = (goal.at.returns-clause-live c).After-new in
     let L = c.args.literals.items in
-    let cells = c.in_ok-slots_of.field-0.items in
-    same_live L cells c.in_ok-near.near c.new.result (same k) (store k) (store_near L cells c.new.result (placed k) c.new.ensures.places c.new.ensures.numbers c.new.ensures.slots)
-    ∙ live_near L cells c.new.result (parts L c.args.places.now) c.new.ensures.slots
-    (subst (λ (ls : List Literal). near_entries ls cells ≡ numbered_entries (parts ls c.args.places.now)) c.deref.ensures.value c.in_ok-slots_of.ensures.entries)
+    let all = filled k in
+    same_live L all.slots c.in_ok-near.near c.new.result all.same (store k) (store_near L all.slots c.new.result all.placed c.new.ensures.places c.new.ensures.numbers c.new.ensures.slots)
+    ∙ live_near L all.slots c.new.result (parts L c.args.places.now) c.new.ensures.slots all.entries
 
 pub returns-clause-fits : goal.returns-clause-fits
 returns-clause-fits c n fits =
