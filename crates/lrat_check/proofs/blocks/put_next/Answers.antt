@@ -1,4 +1,4 @@
-use Rattle.std.proofs.Common.{◌≡◌, ◌∙◌, Some, None, refl, arith}
+use Rattle.std.proofs.Common.{◌∙◌, Some, refl}
 use Rattle.std.proofs.lemmas.Result.{on_ok_weaker}
 use Rattle.lrat_check.proofs.BlocksLemmas.{put_at}
 use Rattle.lrat_check.proofs.blocks.put_next.Goals as goal

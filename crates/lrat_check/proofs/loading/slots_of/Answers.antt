@@ -1,4 +1,4 @@
-use Rattle.std.proofs.Common.{◌≡◌, ◌+◌, ◌-◌, ◌++◌, ◌∷◌, [], Some, None, refl, sym, ◌∙◌, arith, get_or, length-append}
+use Rattle.std.proofs.Common.{◌+◌, ◌-◌, ◌++◌, ◌∷◌, [], Some, refl, sym, ◌∙◌, arith, get_or, length-append}
 use Rattle.lrat_check.specs.inner.Store.{near_entries}
 use Rattle.lrat_check.specs.declared.slot.Slot.{Slot}
 use Rattle.lrat_check.proofs.Parts.{slots_more, slots_all}
