@@ -1,18 +1,20 @@
 -- Slots in blocks.
-use Rattle.std.proofs.Common.{◌≡◌, ◌≢◌, ℕ, zero, suc, ◌+◌, ◌-◌, ◌*◌, ◌/◌, ◌%◌, ◌^◌, ◌<◌, ◌≤◌, Bool, true, false, List, [], ◌∷◌, ◌++◌, Option, Some, None, refl, sym, ◌∙◌, ap, subst, length, take, arith, get_or, set, replicate, get_or-set_same, length-set, length-append, nat_eq}
-use Rattle.std.specs.Option.{option_map, is_some}
+use Rattle.std.proofs.Common.{◌≡◌, ◌≢◌, ℕ, zero, suc, ◌+◌, ◌-◌, ◌*◌, ◌/◌, ◌%◌, ◌^◌, ◌<◌, ◌≤◌, Bool, true, false, List, [], ◌∷◌, ◌++◌, Option, Some, None, refl, sym, ◌∙◌, ap, subst, length, take, arith, get_or, set, replicate, get_or-set_same, get_or-set_other, length-set, length-append, nat_eq}
+use Rattle.std.specs.Option.{option_map, option_or, is_some}
+use Rattle.std.specs.FinMap.{same_map, nat_cmp-IsAntisymmetric}
+use Rattle.std.specs.Cmp.{nat_cmp_total}
 use Rattle.std.specs.List.{All}
 use Rattle.std.proofs.lemmas.List.{length-replicate, get_or_past, set-append_left, set-append_right, get_or_append_left, get_or-append_right, get_or-append-add, take_more, append_assoc, append-nil}
 use Rattle.std.proofs.lemmas.List.Elements.{All-head, All-tail, All-get_or, All-set, All-push}
 use Rattle.dimacs.specs.logic.Literal.{Literal}
 use Rattle.lrat_check.specs.declared.slot.Slot.{Slot}
 use Rattle.lrat_check.specs.declared.slot_tables.Far.{Far}
-use Rattle.std.proofs.Math.Dec.{ltb}
-use Rattle.std.proofs.lemmas.Bool.{ltb-true, ltb-false, eqb-true}
+use Rattle.std.proofs.Math.Dec.{eqb, ltb}
+use Rattle.std.proofs.lemmas.Bool.{ltb-true, ltb-false, eqb-true, eqb-false}
 use Rattle.std.specs.Bool.{OnTrue}
-use Rattle.lrat_check.specs.inner.Store.{clause_at, live_of, IsPlaced, ArePlaced, IsStore, AreCopied, Keeps, SameClauses}
+use Rattle.lrat_check.specs.inner.Store.{clause_at, live_of, IsPlaced, ArePlaced, IsStore, IsFilledTo, AreCopied, Keeps, SameClauses}
 use Rattle.lrat_check.specs.inner.Blocks.{free_block, places_of, one_slot, standing, joined, IsBlock, AreBlocks}
-use Rattle.lrat_check.proofs.Slots.{kept_clauses, ArePlaced-kept, no_slot, live_of-push, store-push}
+use Rattle.lrat_check.proofs.Slots.{kept_clauses, ArePlaced-kept, no_slot, live_of-push, store-push, get-live_of, far_at, get_or-push_below, get_or-push_at}
 
 -- ---- a block
 pub length-free_block : length free_block ≡ 1024
@@ -310,16 +312,6 @@ made_places cells made live is e =
     let same : places_of made ≡ places_of cells = there made (omega arith) ∙ e in
     (subst (λ xs. IsBlock live xs) (sym same) is, len, same)
 
--- ---- the flat places and those behind them
-module _ (flat rest slots : List (Option Slot)) (q : ℕ) (o : Option Slot) (view : flat ++ rest ≡ slots) where
-  pub set_flat : (v : Option Slot) → q < length flat → v ≡ o → set flat q v ++ rest ≡ set slots q o
-  set_flat v lt e =
-      sym (set-append_left flat rest q v lt) ∙ ap (λ (xs : List (Option Slot)). set xs q v) view ∙ ap (λ (x : Option Slot). set slots q x) e
-
-  pub set_rest : (n : ℕ) (new : List (Option Slot)) → length flat ≡ n → n ≤ q → new ≡ set rest (q - n) o → flat ++ new ≡ set slots q o
-  set_rest n new len le e =
-      ap (λ (xs : List (Option Slot)). flat ++ xs) e ∙ sym (set-append_right flat rest n q o len le) ∙ ap (λ (xs : List (Option Slot)). set xs q o) view
-
 pub made_cells : (cells : List (Option Slot)) (n : ℕ) (x : Option Slot) → length cells ≡ 0 → n ≡ 0 → x ≡ None → take 1024 cells ++ replicate (1024 - n) x ≡ places_of cells
 unfolding free_block
 made_cells [] n x none e is = ap (λ k. replicate {A = Option Slot} (1024 - k) x) e ∙ ap (λ v. replicate 1024 v) is
@@ -346,3 +338,62 @@ live_of-free literals near far = live_of-none literals far near 1024
 pub store-free : (literals : List Literal) (near : List (Option Slot)) (far : Far) → far.slots.items ≡ [] → IsStore literals near far → IsStore literals (near ++ free_block) far
 unfolding free_block
 store-free literals near far none store = store-none literals far near 1024 none store
+
+-- free places behind the others change none
+pub free_behind : (slots : List (Option Slot)) (q : ℕ) → get_or (slots ++ free_block) q None ≡ get_or slots q None
+free_behind [] q = free_at q ∙ sym (get_or_past [] q None (omega arith))
+free_behind (o ∷ slots) zero = refl
+free_behind (o ∷ slots) (suc q) = free_behind slots q
+
+-- the same slots at each place
+module _ (literals : List Literal) (cells near : List (Option Slot)) (far : Far) (same : (q : ℕ) → get_or near q None ≡ get_or cells q None) where
+  pub same_placed : ArePlaced literals cells → ArePlaced literals near
+  same_placed placed p s e = placed p s (sym (same p) ∙ e)
+
+  pub same_live : IsStore literals near far → IsStore literals cells far → live_of literals near far ≡ live_of literals cells far
+  same_live store store' = same_map nat_cmp_total nat_cmp-IsAntisymmetric (live_of literals near far) (live_of literals cells far)
+      (λ q. get-live_of literals near far q store
+      ∙ ap (λ o. option_or (option_map (clause_at literals) o) (far_at literals far q)) (same q)
+      ∙ sym (get-live_of literals cells far q store'))
+
+-- a cell at the next place
+pub put_at : (slots new : List (Option Slot)) (k : ℕ) (cell o : Option Slot) → k < length slots → cell ≡ o → new ≡ set slots k o
+    → (k + 1 ≤ length new) × (get_or new k None ≡ cell) × ((q : ℕ) → q ≢ k → get_or new q None ≡ get_or slots q None)
+put_at slots new k cell o lt is e = (
+  omega (arith, lt, ap length e, length-set slots k o),
+  ap (λ (xs : List (Option Slot)). get_or xs k None) e ∙ get_or-set_same slots k o None lt ∙ sym is,
+  λ q ne. ap (λ (xs : List (Option Slot)). get_or xs q None) e ∙ get_or-set_other slots k q o None ne,
+)
+
+-- a slot more at the next place
+pub pushed_same : (slots old new : List (Option Slot)) (k : ℕ) (o : Option Slot) → length slots ≡ k → ((q : ℕ) → get_or old q None ≡ get_or slots q None)
+    → get_or new k None ≡ o → ((q : ℕ) → q ≢ k → get_or new q None ≡ get_or old q None) → (q : ℕ) → get_or new q None ≡ get_or (slots ++ o ∷ []) q None
+pushed_same slots old new k o many same here others q = at (eqb q k) refl
+  where
+    past : q ≢ k → (b : Bool) → ltb q k ≡ b → get_or new q None ≡ get_or (slots ++ o ∷ []) q None
+    past ne true e = others q ne ∙ same q ∙ sym (get_or-push_below slots o None q (omega (arith, many, ltb-true q k e)))
+    past ne false e =
+        let le = ltb-false q k e in
+        others q ne ∙ same q ∙ get_or_past slots q None (omega (arith, many, le))
+        ∙ sym (get_or_past (slots ++ o ∷ []) q None (omega (arith, many, le, ne, length-append slots (o ∷ []))))
+
+    at : (b : Bool) → eqb q k ≡ b → get_or new q None ≡ get_or (slots ++ o ∷ []) q None
+    at true e =
+        let is : q ≡ k = eqb-true q k e in
+        let end : q ≡ length slots = omega (arith, is, many) in
+        ap (λ j. get_or new j None) is ∙ here ∙ sym (ap (λ j. get_or (slots ++ o ∷ []) j None) end ∙ get_or-push_at slots o None)
+    at false e = past (eqb-false q k e) (ltb q k) refl
+
+-- no slot yet
+pub none_filled : (literals : List Literal) (places : List ℕ) (near : List (Option Slot)) → near ≡ [] → IsFilledTo literals places 0 near
+none_filled literals places near e = record {
+  slots = None ∷ [];
+  many = refl;
+  entries = refl;
+  placed = λ p s is. absurd (no_slot s (sym (alone p) ∙ is));
+  same = λ q. ap (λ (xs : List (Option Slot)). get_or xs q None) e ∙ get_or_past [] q None (omega arith) ∙ sym (alone q);
+}
+  where
+    alone : (q : ℕ) → get_or {A = Option Slot} (None ∷ []) q None ≡ None
+    alone zero = refl
+    alone (suc q) = get_or_past [] q None (omega arith)

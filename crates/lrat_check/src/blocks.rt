@@ -1,6 +1,6 @@
 //! Slots in blocks.
 
-ghost use Rattle.std.specs.Prelude.{◌≡◌, ◌-◌, ◌^◌, ◌<◌, ◌≤◌, [], ◌++◌, None, Some, All, length, slice_index_or, slice_set, OnOk, OnErr, IfOk};
+ghost use Rattle.std.specs.Prelude.{◌≡◌, ◌≢◌, ℕ, ◌+◌, ◌-◌, ◌^◌, ◌<◌, ◌≤◌, [], ◌++◌, None, Some, All, length, slice_index_or, slice_set, OnOk, OnErr, IfOk};
 ghost use Rattle.std.specs.Bool.{OnTrue};
 ghost use Rattle.lrat_check.specs.inner.Blocks.{free_block, joined, places_of};
 ghost use Rattle.lrat_check.specs.inner.Store.{ArePlaced, AreCopied, Keeps};
@@ -210,6 +210,13 @@ impl Blocks {
         BLOCK * self.blocks.len()
     }
 
+    /// There are far fewer places than a count can tell.
+    pub(crate) fn is_small(&self)
+        ensures { length self.now < 2 ^ 62 }
+    {
+        let _len = self.len();
+    }
+
     /// The slot at a place, if there is one.
     #[inline(always)]
     pub(crate) fn get(&self, place: usize) -> Option<Slot>
@@ -304,4 +311,28 @@ fn copy_blocks(
         copies.push(copy)?;
     }
     Ok(copies)
+}
+
+/// Makes free places, if the next one is not there yet.
+fn reach(blocks: &mut Blocks, place: usize) -> Result<(), AllocError>
+    requires { place < length blocks.old + 1024 }
+    ensures longer { OnOk result (place < length blocks.new) }
+    ensures same { (q : ℕ) → slice_index_or blocks.new q None ≡ slice_index_or blocks.old q None }
+{
+    if blocks.len() <= place {
+        blocks.grow()?;
+    }
+    Ok(())
+}
+
+/// Puts a slot at the next place.
+pub(crate) fn put_next(blocks: &mut Blocks, place: usize, slot: Slot) -> Result<(), AllocError>
+    requires next { place < length blocks.old + 1024 }
+    requires room { slot.place < 2 ^ 64 - 1 }
+    ensures longer { OnOk result (place + 1 ≤ length blocks.new) }
+    ensures here { OnOk result (slice_index_or blocks.new place None ≡ Some slot) }
+    ensures others { OnOk result ((q : ℕ) → q ≢ place → slice_index_or blocks.new q None ≡ slice_index_or blocks.old q None) }
+{
+    reach(blocks, place)?;
+    blocks.set(place, slot)
 }

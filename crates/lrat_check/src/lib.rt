@@ -21,7 +21,6 @@ mod log;
 mod log_checker;
 mod marks;
 mod naming;
-mod near;
 mod propagation;
 mod room;
 mod slot;

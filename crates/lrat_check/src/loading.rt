@@ -2,12 +2,13 @@
 
 ghost use Rattle.std.specs.Prelude.{◌≡◌, IfOk, length, vec_len};
 ghost use Rattle.dimacs.specs.layout.Flat.{parts, ArePlaces};
-ghost use Rattle.lrat_check.specs.inner.Store.{near_entries, numbered, numbered_entries, ArePlaced};
+ghost use Rattle.lrat_check.specs.inner.Store.{numbered, IsFilled};
 ghost use Rattle.lrat_check.specs.inner.Table.{AllFit};
 
+use crate::blocks::{Blocks, put_next};
 use crate::live::LiveClauses;
 use crate::marks::Marks;
-use crate::slot::{Cell, Slot};
+use crate::slot::Slot;
 use dimacs::Lit;
 use std::alloc::{AllocError, Global};
 
@@ -16,21 +17,20 @@ pub(crate) fn slots_of(
     alloc: Global,
     literals: &[Lit],
     places: &[u32],
-) -> Result<Vec<Cell>, AllocError>
+) -> Result<Blocks, AllocError>
     requires { ArePlaces places.now (length literals.now) }
-    ensures entries { IfOk result (λ near. near_entries literals.now near.items ≡ numbered_entries (parts literals.now places.now)) }
-    ensures placed { IfOk result (λ near. ArePlaced literals.now near.items) }
+    ensures { IfOk result (IsFilled literals.now places.now) }
 {
     let _ = literals;
-    let mut near = Vec::with_capacity(alloc, places.len())?;
-    near.push(Cell::free())?;
+    let mut near = Blocks::new(alloc);
     for i in 0..places.len() - 1 {
         let place = places[i] as usize;
         let end = places[i + 1] as usize;
-        near.push(Cell::of(Slot {
+        let slot = Slot {
             place,
             len: end - place,
-        }))?;
+        };
+        put_next(&mut near, i + 1, slot)?;
     }
     Ok(near)
 }

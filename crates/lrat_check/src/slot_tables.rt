@@ -8,7 +8,7 @@ ghost use Rattle.std.specs.Ordering.{nat_cmp};
 ghost use Rattle.std.specs.BTreeMap.{is_at};
 ghost use Rattle.lrat_check.specs.inner.Store.{live_of, clause_at, place_of, IsPlaced, IsStore};
 
-use crate::near::Near;
+use crate::blocks::Blocks;
 use crate::slot::{Cell, Slot};
 use dimacs::Lit;
 use std::alloc::{AllocError, Global};
@@ -62,7 +62,7 @@ fn clause_in<'a>(literals: &'a [Lit], slots: &[Cell], place: usize) -> Option<&'
 
 /// The clause of a number.
 #[inline(always)]
-pub(crate) fn find<'a>(literals: &'a [Lit], near: &Near, far: &Far, id: u64) -> Option<&'a [Lit]>
+pub(crate) fn find<'a>(literals: &'a [Lit], near: &Blocks, far: &Far, id: u64) -> Option<&'a [Lit]>
     requires { IsStore literals.now near.now far.now }
     ensures { option_map (λ c. c.now) result ≡ get (live_of literals.now near.now far.now) id }
 {
@@ -89,7 +89,12 @@ pub(crate) fn append(literals: &mut Vec<Lit>, lits: &[Lit]) -> Result<Slot, Allo
 }
 
 /// Makes places up to this one, and some behind it. The new ones are free.
-fn make_place(literals: &[Lit], near: &mut Near, far: &Far, place: usize) -> Result<(), AllocError>
+fn make_place(
+    literals: &[Lit],
+    near: &mut Blocks,
+    far: &Far,
+    place: usize,
+) -> Result<(), AllocError>
     requires store { IsStore literals.now near.old far.now }
     requires all_near { far.now.slots.items ≡ [] }
     ensures place { OnOk result (place < length near.new) }
@@ -106,7 +111,7 @@ fn make_place(literals: &[Lit], near: &mut Near, far: &Far, place: usize) -> Res
 /// Puts a slot at a place, and gives the one that was there.
 fn put_near(
     literals: &[Lit],
-    near: &mut Near,
+    near: &mut Blocks,
     far: &Far,
     place: usize,
     slot: Slot,
@@ -146,7 +151,7 @@ fn add_far(far: &mut Far, id: u64, slot: Slot) -> Result<(), AllocError>
 /// Puts a slot under a number that has no place, and gives the one that it had.
 fn put_far(
     literals: &[Lit],
-    near: &Near,
+    near: &Blocks,
     far: &mut Far,
     id: u64,
     slot: Slot,
@@ -177,7 +182,7 @@ fn put_far(
 }
 
 /// Frees a place, and gives the slot that was there.
-fn take_near(literals: &[Lit], near: &mut Near, far: &Far, place: usize) -> Option<Slot>
+fn take_near(literals: &[Lit], near: &mut Blocks, far: &Far, place: usize) -> Option<Slot>
     requires store { IsStore literals.now near.old far.now }
     requires here { place < length near.old }
     ensures old { option_map (clause_at literals.now) result ≡ get (live_of literals.now near.old far.now) place }
@@ -192,7 +197,7 @@ fn take_near(literals: &[Lit], near: &mut Near, far: &Far, place: usize) -> Opti
 }
 
 /// Takes out the slot of a number that has no place.
-fn take_far(literals: &[Lit], near: &Near, far: &mut Far, id: u64) -> Option<Slot>
+fn take_far(literals: &[Lit], near: &Blocks, far: &mut Far, id: u64) -> Option<Slot>
     requires store { IsStore literals.now near.now far.old }
     requires beyond { length near.now ≤ id }
     ensures old { option_map (clause_at literals.now) result ≡ get (live_of literals.now near.now far.old) id }
@@ -215,7 +220,7 @@ fn take_far(literals: &[Lit], near: &Near, far: &mut Far, id: u64) -> Option<Slo
 /// Puts a slot under a number, and gives the one that it had.
 pub(crate) fn put(
     literals: &[Lit],
-    near: &mut Near,
+    near: &mut Blocks,
     far: &mut Far,
     id: u64,
     slot: Slot,
@@ -237,7 +242,7 @@ pub(crate) fn put(
 }
 
 /// Takes out the slot of a number, where it has one.
-pub(crate) fn take(literals: &[Lit], near: &mut Near, far: &mut Far, id: u64) -> Option<Slot>
+pub(crate) fn take(literals: &[Lit], near: &mut Blocks, far: &mut Far, id: u64) -> Option<Slot>
     requires store { IsStore literals.now near.old far.old }
     ensures old { option_map (clause_at literals.now) result ≡ get (live_of literals.now near.old far.old) id }
     ensures placed { IfSome result (IsPlaced literals.now) }
@@ -255,7 +260,7 @@ pub(crate) fn take(literals: &[Lit], near: &mut Near, far: &mut Far, id: u64) ->
 /// Makes a place for a number that follows the others closely: at most three of four places are free.
 pub(crate) fn reserve_place(
     literals: &[Lit],
-    near: &mut Near,
+    near: &mut Blocks,
     far: &Far,
     taken: u64,
     id: u64,
@@ -278,7 +283,7 @@ pub(crate) fn whole(slots: &[Cell]) -> &[Cell]
 }
 
 /// Far fewer clauses are live than a count can tell.
-pub(crate) fn is_small(literals: &[Lit], near: &Near, far: &Far)
+pub(crate) fn is_small(literals: &[Lit], near: &Blocks, far: &Far)
     ensures { len (live_of literals.now near.now far.now) < 2 ^ 63 }
 {
     let _ = literals;

@@ -7,6 +7,7 @@ use Rattle.std.specs.Ordering.{nat_cmp}
 use Rattle.std.specs.BTreeMap as tree
 use Rattle.dimacs.specs.logic.Literal.{Literal, Clause}
 use Rattle.dimacs.specs.logic.ClauseMap.{ClauseMap}
+use Rattle.dimacs.specs.layout.Flat.{parts}
 use Rattle.lrat_check.specs.declared.slot.Slot.{Slot}
 use Rattle.lrat_check.specs.declared.slot_tables.Far.{Far}
 
@@ -79,3 +80,18 @@ pub record IsStore (literals : List Literal) (near : List (Option Slot)) (far : 
   pub level : length far.numbers.items ≡ length far.slots.items
   pub found : (q p : ℕ) → place_of far q ≡ Some p → (slice_index far.numbers.items p ≡ q) × (p < length far.slots.items) × (length near ≤ q)
   pub kept : (p : ℕ) (s : Slot) → slice_index_or far.slots.items p None ≡ Some s → place_of far (slice_index far.numbers.items p) ≡ Some p
+
+-- at each place stands what stands there in a list: no slot, and then the slots of the clauses that begin at some places so far, numbered from 1
+pub record IsFilledTo (literals : List Literal) (places : List ℕ) (count : ℕ) (near : List (Option Slot)) : Type 0 where
+  pub slots : List (Option Slot)
+  pub many : length slots ≡ count + 1
+  pub entries : near_entries literals slots ++ enumerate_from (count + 1) (parts literals (drop count places)) ≡ numbered_entries (parts literals places)
+  pub placed : ArePlaced literals slots
+  pub same : (q : ℕ) → slice_index_or near q None ≡ slice_index_or slots q None
+
+-- the same, of all places
+pub record IsFilled (literals : List Literal) (places : List ℕ) (near : List (Option Slot)) : Type 0 where
+  pub slots : List (Option Slot)
+  pub entries : near_entries literals slots ≡ numbered_entries (parts literals places)
+  pub placed : ArePlaced literals slots
+  pub same : (q : ℕ) → slice_index_or near q None ≡ slice_index_or slots q None

@@ -1,4 +1,4 @@
-use Rattle.std.proofs.Common.{◌≡◌, ◌∙◌, ◌++◌, ◌∷◌, [], List, Option, ap, sym, subst, arith, length, take, ◌+◌}
+use Rattle.std.proofs.Common.{◌≡◌, ◌∙◌, [], List, Option, sym, subst, arith, length, take, ◌+◌}
 use Rattle.std.specs.List.{All}
 use Rattle.std.proofs.lemmas.List.{get_or_read}
 use Rattle.std.proofs.lemmas.List.Elements.{All-push, All-get_or}

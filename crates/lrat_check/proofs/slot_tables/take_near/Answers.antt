@@ -1,4 +1,4 @@
-use Rattle.std.proofs.Common.{◌≡◌, ◌∙◌, None, sym, ap, subst, option_map, set, slice_index_or, IfSome}
+use Rattle.std.proofs.Common.{◌∙◌, sym, ap, subst, option_map, IfSome}
 use Rattle.lrat_check.specs.inner.Store.{clause_at, live_of, IsPlaced, IsStore}
 use Rattle.lrat_check.proofs.Slots.{get_near, if_placed, near-remove, near_store-remove}
 use Rattle.lrat_check.proofs.slot_tables.take_near.Goals as goal

@@ -1,4 +1,4 @@
-use Rattle.std.proofs.Common.{◌∙◌, ap, sym, arith, length}
+use Rattle.std.proofs.Common.{ap, arith, length}
 use Rattle.lrat_check.proofs.BlocksLemmas.{length-blocks}
 use Rattle.lrat_check.proofs.blocks.Blocks.len.Goals as goal
 
