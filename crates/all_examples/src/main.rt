@@ -25,6 +25,8 @@ const OPTIONS: Options = Options {
     incarnation: 1,
     defs: 0,
     ahead: false,
+    patience: None,
+    progress: false,
     quiet: false,
     witness: true,
 };

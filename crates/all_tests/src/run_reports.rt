@@ -23,6 +23,8 @@ pub(crate) const ALONE: Options = Options {
     incarnation: 1,
     defs: 0,
     ahead: false,
+    patience: None,
+    progress: false,
     quiet: false,
     witness: true,
 };

@@ -15,6 +15,8 @@ const USUAL: Options = Options {
     incarnation: 1,
     defs: 0,
     ahead: false,
+    patience: None,
+    progress: false,
     quiet: false,
     witness: true,
 };
@@ -76,13 +78,14 @@ fn a_solve_with_its_defaults_and_with_all_its_words(rt: HostRuntime) -> Result<(
             workers: 64,
             depth: 16,
             limit: 1_000_000_000,
+            progress: true,
             quiet: true,
             witness: false,
             ..USUAL
         },
     };
     let words =
-        "satcluster solve --workers 64 --depth 16 --limit 1000000000 --cubes f.icnf -q -n f.cnf f.lrat";
+        "satcluster solve --progress --workers 64 --depth 16 --limit 1000000000 --cubes f.icnf -q -n f.cnf f.lrat";
     asks(&rt, rt.alloc(), words, full)?;
     Ok(())
 }
@@ -107,13 +110,15 @@ fn a_service_with_its_defaults_and_with_all_its_words(rt: HostRuntime) -> Result
             depth: 0,
             limit: 1,
             session: u64::MAX,
+            patience: Some(1_000_000_000),
+            progress: true,
             quiet: true,
             witness: false,
             ..USUAL
         },
     };
     let words =
-        "satcluster serve --port 65535 --session 18446744073709551615 --workers 1 --depth 0 --limit 1 --cubes f.icnf -qn f.cnf f.lrat";
+        "satcluster serve --port 65535 --session 18446744073709551615 --patience 1000000000 --progress --workers 1 --depth 0 --limit 1 --cubes f.icnf -qn f.cnf f.lrat";
     asks(&rt, rt.alloc(), words, full)?;
     Ok(())
 }
@@ -346,6 +351,10 @@ const REFUSED: &[&'static str] = &[
     "satcluster serve --port 65536 f.cnf",
     "satcluster serve --port 7000 --session 18446744073709551616 f.cnf",
     "satcluster serve --port 7000 --number 1 f.cnf",
+    "satcluster serve --port 7000 --patience 0 f.cnf",
+    "satcluster serve --port 7000 --patience 1000000001 f.cnf",
+    "satcluster solve --patience 1 f.cnf",
+    "satcluster work --port 7000 --progress f.cnf",
     "satcluster work f.cnf",
     "satcluster work --port 7000",
     "satcluster work --port 7000 --number 0 f.cnf",

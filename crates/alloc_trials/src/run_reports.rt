@@ -21,6 +21,8 @@ const ALONE: Options = Options {
     incarnation: 1,
     defs: 0,
     ahead: false,
+    patience: None,
+    progress: false,
     quiet: false,
     witness: true,
 };

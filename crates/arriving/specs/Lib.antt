@@ -1,1 +1,3 @@
+pub mod Accounts
 pub mod Run
+pub mod inner

@@ -1,6 +1,12 @@
 //! The links of a coordinator, by their places.
 
-ghost use Rattle.std.specs.Prelude.{◌≡◌};
+ghost use Rattle.std.specs.Prelude.{◌≡◌, ◌≢◌, ◌≤◌, ◌<◌, ◌+◌, ◌*◌, ℕ, [], Err, None, length};
+ghost use Rattle.arriving.specs.Accounts.{one_if_open, open_at};
+ghost use Rattle.arriving.specs.inner.Lines.{AreFresh, IsFresh, one_if_closed};
+ghost use Rattle.links.specs.Arrivals.{begun_at};
+ghost use Rattle.links.specs.declared.arrivals.Event.{Event};
+ghost use Rattle.arriving.specs.declared.line.Broken.TheVariants.{Closed};
+ghost use Rattle.arriving.specs.declared.line.Standing.TheVariants.{Ungreeted};
 
 use crate::coordinating::lose;
 use crate::hearing::{converse, greet, seat};
@@ -20,7 +26,13 @@ pub struct Desk {
 
 /// Ends a link, and opens the leaf of its worker again.
 pub(crate) fn end<A: Arrivals>(links: &mut A, desk: &mut Desk, place: u8, line: &mut Option<Line>)
-    ensures { desk.new.coordinator.formula ≡ desk.old.coordinator.formula }
+    ensures formula { desk.new.coordinator.formula ≡ desk.old.coordinator.formula }
+    ensures verdict { desk.new.coordinator.verdict ≡ desk.old.coordinator.verdict }
+    ensures calls { A.call_count links.new ≡ A.call_count links.old }
+    ensures arrivals { A.arrival_count links.new ≡ A.arrival_count links.old }
+    ensures begun { (p : ℕ) → A.link_count links.new p ≡ A.link_count links.old p }
+    ensures refusals { (p : ℕ) → A.refusal_count links.new p ≡ A.refusal_count links.old p }
+    ensures closed { line.new ≡ None }
 {
     links.hang_up(place);
     if let Some(known) = line {
@@ -39,7 +51,14 @@ fn settle<A: Arrivals>(
     line: &mut Option<Line>,
     turn: Result<(), Broken>,
 ) -> Result<(), AllocError>
-    ensures { desk.new.coordinator.formula ≡ desk.old.coordinator.formula }
+    ensures formula { desk.new.coordinator.formula ≡ desk.old.coordinator.formula }
+    ensures verdict { desk.new.coordinator.verdict ≡ desk.old.coordinator.verdict }
+    ensures calls { A.call_count links.new ≡ A.call_count links.old }
+    ensures arrivals { A.arrival_count links.new ≡ A.arrival_count links.old }
+    ensures begun { (p : ℕ) → A.link_count links.new p ≡ A.link_count links.old p }
+    ensures refusals { (p : ℕ) → A.refusal_count links.new p ≡ A.refusal_count links.old p }
+    ensures closed { turn ≡ Err Closed → line.new ≡ None }
+    ensures same { one_if_closed turn ≡ 0 → line.new ≡ line.old }
 {
     match turn {
         Ok(()) => Ok(()),
@@ -59,7 +78,13 @@ fn take<A: Arrivals>(
     line: &mut Line,
     bytes: &[u8],
 ) -> Result<(), Broken>
-    ensures { desk.new.coordinator.formula ≡ desk.old.coordinator.formula }
+    ensures formula { desk.new.coordinator.formula ≡ desk.old.coordinator.formula }
+    ensures most { A.call_count links.new ≤ A.call_count links.old + 4037 }
+    ensures rises { A.call_count links.old ≤ A.call_count links.new }
+    ensures arrivals { A.arrival_count links.new ≡ A.arrival_count links.old }
+    ensures begun { (p : ℕ) → A.link_count links.new p ≡ A.link_count links.old p }
+    ensures here { A.refusal_count links.new at.place ≤ A.refusal_count links.old at.place + one_if_closed result }
+    ensures elsewhere { (p : ℕ) → p ≢ at.place → A.refusal_count links.new p ≤ A.refusal_count links.old p }
 {
     if let Err(broken) = line.take(bytes) {
         return Err(broken);
@@ -71,14 +96,20 @@ fn take<A: Arrivals>(
 }
 
 /// Takes what came over a link; a place without one has nothing to say.
-pub(crate) fn hear<A: Arrivals>(
+fn hear<A: Arrivals>(
     links: &mut A,
     desk: &mut Desk,
     at: At,
     line: &mut Option<Line>,
     bytes: &[u8],
 ) -> Result<(), AllocError>
-    ensures { desk.new.coordinator.formula ≡ desk.old.coordinator.formula }
+    ensures formula { desk.new.coordinator.formula ≡ desk.old.coordinator.formula }
+    ensures most { A.call_count links.new ≤ A.call_count links.old + 4037 }
+    ensures rises { A.call_count links.old ≤ A.call_count links.new }
+    ensures arrivals { A.arrival_count links.new ≡ A.arrival_count links.old }
+    ensures begun { (p : ℕ) → A.link_count links.new p ≡ A.link_count links.old p }
+    ensures here { A.refusal_count links.new at.place + one_if_open line.new ≤ A.refusal_count links.old at.place + one_if_open line.old }
+    ensures elsewhere { (p : ℕ) → p ≢ at.place → A.refusal_count links.new p ≤ A.refusal_count links.old p }
 {
     let turn = match line {
         None => {
@@ -88,6 +119,29 @@ pub(crate) fn hear<A: Arrivals>(
         Some(line) => take(links, desk, at, line, bytes),
     };
     settle(links, desk, at.place, line, turn)
+}
+
+/// Takes what came over the link at a place, where there is such a place.
+pub(crate) fn hear_at<A: Arrivals>(
+    links: &mut A,
+    desk: &mut Desk,
+    at: At,
+    lines: &mut [Option<Line>],
+    bytes: &[u8],
+) -> Result<(), AllocError>
+    ensures formula { desk.new.coordinator.formula ≡ desk.old.coordinator.formula }
+    ensures most { A.call_count links.new ≤ A.call_count links.old + 4037 }
+    ensures rises { A.call_count links.old ≤ A.call_count links.new }
+    ensures arrivals { A.arrival_count links.new ≡ A.arrival_count links.old }
+    ensures begun { (p : ℕ) → A.link_count links.new p ≡ A.link_count links.old p }
+    ensures each { (p : ℕ) → A.refusal_count links.new p + open_at lines.new p ≤ A.refusal_count links.old p + open_at lines.old p }
+    ensures first { lines.old ≡ [] → (desk.new.coordinator.verdict ≡ desk.old.coordinator.verdict) × (lines.new ≡ []) }
+{
+    if lines.len() <= at.place as usize {
+        links.hang_up(at.place);
+        return Ok(());
+    }
+    hear(links, desk, at, &mut lines[at.place as usize], bytes)
 }
 
 /// Whether a worker of this number has a link.
@@ -102,7 +156,9 @@ fn has(lines: &[Option<Line>], worker: WorkerNumber) -> bool {
 }
 
 /// Who waits at a place for the end of another link.
-fn queued(line: &Option<Line>) -> Option<WorkerNumber> {
+fn queued(line: &Option<Line>) -> Option<WorkerNumber>
+    ensures { IsFresh line.now → result ≡ None }
+{
     match line {
         Some(line) => line.queued(),
         None => None,
@@ -117,15 +173,36 @@ fn is_parked(line: &Option<Line>) -> bool {
     }
 }
 
-/// Links the worker who waits at a place.
+/// Whether a worker waits at a place whose number has no other link.
+fn may_sit(lines: &[Option<Line>], place: u8) -> bool
+    requires { place < length lines.now }
+{
+    match queued(&lines[place as usize]) {
+        Some(worker) => !has(lines, worker),
+        None => false,
+    }
+}
+
+/// Links the worker who waits at a place, where that may be.
 fn seat_one<A: Arrivals>(
     links: &mut A,
     desk: &mut Desk,
     at: At,
+    may_sit: bool,
     line: &mut Option<Line>,
 ) -> Result<(), AllocError>
-    ensures { desk.new.coordinator.formula ≡ desk.old.coordinator.formula }
+    ensures formula { desk.new.coordinator.formula ≡ desk.old.coordinator.formula }
+    ensures most { A.call_count links.new ≤ A.call_count links.old + 4038 }
+    ensures rises { A.call_count links.old ≤ A.call_count links.new }
+    ensures arrivals { A.arrival_count links.new ≡ A.arrival_count links.old }
+    ensures begun { (p : ℕ) → A.link_count links.new p ≡ A.link_count links.old p }
+    ensures here { A.refusal_count links.new at.place + one_if_open line.new ≤ A.refusal_count links.old at.place + one_if_open line.old }
+    ensures elsewhere { (p : ℕ) → p ≢ at.place → A.refusal_count links.new p ≤ A.refusal_count links.old p }
+    ensures fresh { IsFresh line.old → (desk.new.coordinator.verdict ≡ desk.old.coordinator.verdict) × IsFresh line.new }
 {
+    if !may_sit {
+        return Ok(());
+    }
     let turn = match line {
         None => return Ok(()),
         Some(line) => seat(links, &mut desk.coordinator, &desk.patience, at, line),
@@ -140,13 +217,43 @@ fn tell_one<A: Arrivals>(
     at: At,
     line: &mut Option<Line>,
 ) -> Result<(), AllocError>
-    ensures { desk.new.coordinator.formula ≡ desk.old.coordinator.formula }
+    ensures formula { desk.new.coordinator.formula ≡ desk.old.coordinator.formula }
+    ensures verdict { desk.new.coordinator.verdict ≡ desk.old.coordinator.verdict }
+    ensures most { A.call_count links.new ≤ A.call_count links.old + 1 }
+    ensures rises { A.call_count links.old ≤ A.call_count links.new }
+    ensures arrivals { A.arrival_count links.new ≡ A.arrival_count links.old }
+    ensures begun { (p : ℕ) → A.link_count links.new p ≡ A.link_count links.old p }
+    ensures here { A.refusal_count links.new at.place + one_if_open line.new ≤ A.refusal_count links.old at.place + one_if_open line.old }
+    ensures elsewhere { (p : ℕ) → p ≢ at.place → A.refusal_count links.new p ≤ A.refusal_count links.old p }
 {
     let turn = match line {
         None => return Ok(()),
         Some(line) => tell(links, &mut desk.coordinator, &desk.patience, at, line),
     };
     settle(links, desk, at.place, line, turn)
+}
+
+/// Tells the worker at a place what there is to tell, where he is parked. Answers whether he stays so.
+fn tell_if_parked<A: Arrivals>(
+    links: &mut A,
+    desk: &mut Desk,
+    at: At,
+    line: &mut Option<Line>,
+) -> Result<bool, AllocError>
+    ensures formula { desk.new.coordinator.formula ≡ desk.old.coordinator.formula }
+    ensures verdict { desk.new.coordinator.verdict ≡ desk.old.coordinator.verdict }
+    ensures most { A.call_count links.new ≤ A.call_count links.old + 1 }
+    ensures rises { A.call_count links.old ≤ A.call_count links.new }
+    ensures arrivals { A.arrival_count links.new ≡ A.arrival_count links.old }
+    ensures begun { (p : ℕ) → A.link_count links.new p ≡ A.link_count links.old p }
+    ensures here { A.refusal_count links.new at.place + one_if_open line.new ≤ A.refusal_count links.old at.place + one_if_open line.old }
+    ensures elsewhere { (p : ℕ) → p ≢ at.place → A.refusal_count links.new p ≤ A.refusal_count links.old p }
+{
+    if !is_parked(line) {
+        return Ok(false);
+    }
+    tell_one(links, desk, at, line)?;
+    Ok(is_parked(line))
 }
 
 /// Links each worker who waits, and whose number has no other link.
@@ -156,17 +263,21 @@ pub(crate) fn seat_all<A: Arrivals>(
     tick: u64,
     lines: &mut [Option<Line>],
 ) -> Result<(), AllocError>
-    ensures { desk.new.coordinator.formula ≡ desk.old.coordinator.formula }
+    ensures formula { desk.new.coordinator.formula ≡ desk.old.coordinator.formula }
+    ensures fresh { AreFresh lines.old → desk.new.coordinator.verdict ≡ desk.old.coordinator.verdict }
+    ensures most { A.call_count links.new ≤ A.call_count links.old + 4038 * 255 }
+    ensures rises { A.call_count links.old ≤ A.call_count links.new }
+    ensures arrivals { A.arrival_count links.new ≡ A.arrival_count links.old }
+    ensures begun { (p : ℕ) → A.link_count links.new p ≡ A.link_count links.old p }
+    ensures each { (p : ℕ) → A.refusal_count links.new p + open_at lines.new p ≤ A.refusal_count links.old p + open_at lines.old p }
 {
     for place in 0..u8::MAX {
         if lines.len() <= place as usize {
             return Ok(());
         }
-        if let Some(worker) = queued(&lines[place as usize]) {
-            if !has(lines, worker) {
-                seat_one(links, desk, At { place, tick }, &mut lines[place as usize])?;
-            }
-        }
+        let may_sit = may_sit(lines, place);
+        let at = At { place, tick };
+        seat_one(links, desk, at, may_sit, &mut lines[place as usize])?;
     }
     Ok(())
 }
@@ -178,17 +289,21 @@ pub(crate) fn tell_parked<A: Arrivals>(
     tick: u64,
     lines: &mut [Option<Line>],
 ) -> Result<(), AllocError>
-    ensures { desk.new.coordinator.formula ≡ desk.old.coordinator.formula }
+    ensures formula { desk.new.coordinator.formula ≡ desk.old.coordinator.formula }
+    ensures verdict { desk.new.coordinator.verdict ≡ desk.old.coordinator.verdict }
+    ensures most { A.call_count links.new ≤ A.call_count links.old + 255 }
+    ensures rises { A.call_count links.old ≤ A.call_count links.new }
+    ensures arrivals { A.arrival_count links.new ≡ A.arrival_count links.old }
+    ensures begun { (p : ℕ) → A.link_count links.new p ≡ A.link_count links.old p }
+    ensures each { (p : ℕ) → A.refusal_count links.new p + open_at lines.new p ≤ A.refusal_count links.old p + open_at lines.old p }
 {
     for place in 0..u8::MAX {
         if lines.len() <= place as usize {
             return Ok(());
         }
-        if is_parked(&lines[place as usize]) {
-            tell_one(links, desk, At { place, tick }, &mut lines[place as usize])?;
-            if is_parked(&lines[place as usize]) {
-                return Ok(());
-            }
+        let at = At { place, tick };
+        if tell_if_parked(links, desk, at, &mut lines[place as usize])? {
+            return Ok(());
         }
     }
     Ok(())
@@ -202,7 +317,15 @@ fn end_overdue<A: Arrivals>(
     is_other_free: bool,
     line: &mut Option<Line>,
 ) -> Result<(), AllocError>
-    ensures { desk.new.coordinator.formula ≡ desk.old.coordinator.formula }
+    ensures formula { desk.new.coordinator.formula ≡ desk.old.coordinator.formula }
+    ensures verdict { desk.new.coordinator.verdict ≡ desk.old.coordinator.verdict }
+    ensures most { A.call_count links.new ≤ A.call_count links.old + 0 }
+    ensures rises { A.call_count links.old ≤ A.call_count links.new }
+    ensures arrivals { A.arrival_count links.new ≡ A.arrival_count links.old }
+    ensures begun { (p : ℕ) → A.link_count links.new p ≡ A.link_count links.old p }
+    ensures here { A.refusal_count links.new at.place + one_if_open line.new ≤ A.refusal_count links.old at.place + one_if_open line.old }
+    ensures elsewhere { (p : ℕ) → p ≢ at.place → A.refusal_count links.new p ≤ A.refusal_count links.old p }
+    ensures fresh { IsFresh line.old → IsFresh line.new }
 {
     let leaf = match line {
         Some(line) if line.is_overdue(at.tick, is_other_free) => line.leaf(),
@@ -222,7 +345,14 @@ pub(crate) fn end_all_overdue<A: Arrivals>(
     tick: u64,
     lines: &mut [Option<Line>],
 ) -> Result<(), AllocError>
-    ensures { desk.new.coordinator.formula ≡ desk.old.coordinator.formula }
+    ensures formula { desk.new.coordinator.formula ≡ desk.old.coordinator.formula }
+    ensures verdict { desk.new.coordinator.verdict ≡ desk.old.coordinator.verdict }
+    ensures most { A.call_count links.new ≤ A.call_count links.old + 0 }
+    ensures rises { A.call_count links.old ≤ A.call_count links.new }
+    ensures arrivals { A.arrival_count links.new ≡ A.arrival_count links.old }
+    ensures begun { (p : ℕ) → A.link_count links.new p ≡ A.link_count links.old p }
+    ensures each { (p : ℕ) → A.refusal_count links.new p + open_at lines.new p ≤ A.refusal_count links.old p + open_at lines.old p }
+    ensures fresh { AreFresh lines.old → AreFresh lines.new }
 {
     for place in 0..u8::MAX {
         if lines.len() <= place as usize {
@@ -235,6 +365,32 @@ pub(crate) fn end_all_overdue<A: Arrivals>(
     Ok(())
 }
 
+/// Ends a link over which nobody is served any more.
+fn end_if_unserved<A: Arrivals>(
+    links: &mut A,
+    desk: &mut Desk,
+    at: At,
+    ticks: u64,
+    line: &mut Option<Line>,
+)
+    ensures formula { desk.new.coordinator.formula ≡ desk.old.coordinator.formula }
+    ensures verdict { desk.new.coordinator.verdict ≡ desk.old.coordinator.verdict }
+    ensures most { A.call_count links.new ≤ A.call_count links.old + 0 }
+    ensures rises { A.call_count links.old ≤ A.call_count links.new }
+    ensures arrivals { A.arrival_count links.new ≡ A.arrival_count links.old }
+    ensures begun { (p : ℕ) → A.link_count links.new p ≡ A.link_count links.old p }
+    ensures here { A.refusal_count links.new at.place + one_if_open line.new ≤ A.refusal_count links.old at.place + one_if_open line.old }
+    ensures elsewhere { (p : ℕ) → p ≢ at.place → A.refusal_count links.new p ≤ A.refusal_count links.old p }
+{
+    let is_served = match line {
+        Some(line) => line.seated().is_some() && !line.is_quiet(at.tick, ticks),
+        None => true,
+    };
+    if !is_served {
+        end(links, desk, at.place, line);
+    }
+}
+
 /// Ends each link over which nobody is served any more: without a worker, or quiet as long as this.
 pub(crate) fn end_unserved<A: Arrivals>(
     links: &mut A,
@@ -243,50 +399,67 @@ pub(crate) fn end_unserved<A: Arrivals>(
     ticks: u64,
     lines: &mut [Option<Line>],
 )
-    ensures { desk.new.coordinator.formula ≡ desk.old.coordinator.formula }
+    ensures formula { desk.new.coordinator.formula ≡ desk.old.coordinator.formula }
+    ensures verdict { desk.new.coordinator.verdict ≡ desk.old.coordinator.verdict }
+    ensures most { A.call_count links.new ≤ A.call_count links.old + 0 }
+    ensures rises { A.call_count links.old ≤ A.call_count links.new }
+    ensures arrivals { A.arrival_count links.new ≡ A.arrival_count links.old }
+    ensures begun { (p : ℕ) → A.link_count links.new p ≡ A.link_count links.old p }
+    ensures each { (p : ℕ) → A.refusal_count links.new p + open_at lines.new p ≤ A.refusal_count links.old p + open_at lines.old p }
 {
     for place in 0..u8::MAX {
         if lines.len() <= place as usize {
             return;
         }
-        let is_served = match &lines[place as usize] {
-            Some(line) => line.seated().is_some() && !line.is_quiet(at_tick, ticks),
-            None => true,
+        let at = At {
+            place,
+            tick: at_tick,
         };
-        if !is_served {
-            end(links, desk, place, &mut lines[place as usize]);
-        }
+        end_if_unserved(links, desk, at, ticks, &mut lines[place as usize]);
+    }
+}
+
+/// Whoever is linked at a place counts as heard now.
+fn hear_one(line: &mut Option<Line>, tick: u64)
+    ensures { one_if_open line.new ≡ one_if_open line.old }
+{
+    if let Some(line) = line {
+        line.hear(tick);
     }
 }
 
 /// Whoever is linked counts as heard now.
-pub(crate) fn hear_all(lines: &mut [Option<Line>], tick: u64) {
+pub(crate) fn hear_all(lines: &mut [Option<Line>], tick: u64)
+    ensures { (p : ℕ) → open_at lines.new p ≡ open_at lines.old p }
+{
     for place in 0..lines.len() {
-        if let Some(line) = &mut lines[place] {
-            line.hear(tick);
-        }
+        hear_one(&mut lines[place], tick);
     }
 }
 
-/// A link begins at a place; if another one stood there, that has ended.
-pub(crate) fn welcome<A: Arrivals>(
-    links: &mut A,
-    desk: &mut Desk,
-    line: &mut Option<Line>,
-    new: Line,
-)
-    ensures { desk.new.coordinator.formula ≡ desk.old.coordinator.formula }
+/// A link begins at a place, where there is such a place; if another one stood there, that has ended.
+pub(crate) fn welcome(desk: &mut Desk, place: u8, lines: &mut [Option<Line>], new: Line)
+    ensures formula { desk.new.coordinator.formula ≡ desk.old.coordinator.formula }
+    ensures verdict { desk.new.coordinator.verdict ≡ desk.old.coordinator.verdict }
+    ensures opens { (p : ℕ) → open_at lines.new p ≤ open_at lines.old p + begun_at (Event.Linked place) p }
+    ensures fresh { new.standing ≡ Ungreeted → AreFresh lines.old → AreFresh lines.new }
 {
-    if let Some(known) = line {
+    if lines.len() <= place as usize {
+        return;
+    }
+    if let Some(known) = &lines[place as usize] {
         if let Some(worker) = known.seated() {
             lose(&mut desk.coordinator, worker);
         }
     }
-    *line = Some(new);
+    lines[place as usize] = Some(new);
 }
 
 /// Has places up to this one.
-pub(crate) fn reach(lines: &mut Vec<Option<Line>>, place: u8) -> Result<(), AllocError> {
+pub(crate) fn reach(lines: &mut Vec<Option<Line>>, place: u8) -> Result<(), AllocError>
+    ensures open { (p : ℕ) → open_at lines.new.items p ≡ open_at lines.old.items p }
+    ensures fresh { AreFresh lines.old.items → AreFresh lines.new.items }
+{
     for _ in 0..=u8::MAX as usize {
         if (place as usize) < lines.len() {
             return Ok(());

@@ -1,6 +1,8 @@
 //! What comes over a link.
 
-ghost use Rattle.std.specs.Prelude.{◌≡◌};
+ghost use Rattle.std.specs.Prelude.{◌≡◌, ◌≢◌, ◌≤◌, ◌+◌, ℕ, Ok};
+ghost use Rattle.arriving.specs.declared.line.Standing.TheVariants.{Ungreeted};
+ghost use Rattle.arriving.specs.inner.Lines.{one_if_closed};
 
 use crate::coordinating::deliver;
 use crate::line::{Broken, Line};
@@ -60,7 +62,13 @@ pub(crate) fn converse<A: Arrivals>(
     at: At,
     line: &mut Line,
 ) -> Result<(), Broken>
-    ensures { coordinator.new.formula ≡ coordinator.old.formula }
+    ensures formula { coordinator.new.formula ≡ coordinator.old.formula }
+    ensures most { A.call_count links.new ≤ A.call_count links.old + 4037 }
+    ensures rises { A.call_count links.old ≤ A.call_count links.new }
+    ensures arrivals { A.arrival_count links.new ≡ A.arrival_count links.old }
+    ensures begun { (p : ℕ) → A.link_count links.new p ≡ A.link_count links.old p }
+    ensures here { A.refusal_count links.new at.place ≤ A.refusal_count links.old at.place + one_if_closed result }
+    ensures elsewhere { (p : ℕ) → p ≢ at.place → A.refusal_count links.new p ≤ A.refusal_count links.old p }
 {
     for _ in 0..LONGEST {
         let Some(frame) = line.next() else {
@@ -95,7 +103,14 @@ pub(crate) fn seat<A: Arrivals>(
     at: At,
     line: &mut Line,
 ) -> Result<(), Broken>
-    ensures { coordinator.new.formula ≡ coordinator.old.formula }
+    ensures formula { coordinator.new.formula ≡ coordinator.old.formula }
+    ensures fresh { line.old.standing ≡ Ungreeted → (coordinator.new.verdict ≡ coordinator.old.verdict) × (line.new ≡ line.old) × (result ≡ Ok tt) }
+    ensures most { A.call_count links.new ≤ A.call_count links.old + 4038 }
+    ensures rises { A.call_count links.old ≤ A.call_count links.new }
+    ensures arrivals { A.arrival_count links.new ≡ A.arrival_count links.old }
+    ensures begun { (p : ℕ) → A.link_count links.new p ≡ A.link_count links.old p }
+    ensures here { A.refusal_count links.new at.place ≤ A.refusal_count links.old at.place + one_if_closed result }
+    ensures elsewhere { (p : ℕ) → p ≢ at.place → A.refusal_count links.new p ≤ A.refusal_count links.old p }
 {
     let Some(worker) = line.queued() else {
         return Ok(());

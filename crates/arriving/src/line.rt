@@ -1,5 +1,8 @@
 //! One link of a coordinator.
 
+ghost use Rattle.std.specs.Prelude.{◌≡◌, None, IfOk};
+ghost use Rattle.arriving.specs.declared.line.Standing.TheVariants.{Ungreeted};
+
 use frames::{Frame, FrameFault, Reader, WorkerNumber};
 use std::alloc::{AllocError, Global};
 
@@ -56,7 +59,9 @@ pub struct Line {
 
 impl Line {
     /// A link that begins.
-    pub(crate) fn new(alloc: Global, tick: u64) -> Result<Line, AllocError> {
+    pub(crate) fn new(alloc: Global, tick: u64) -> Result<Line, AllocError>
+        ensures { IfOk result (λ l. l.standing ≡ Ungreeted) }
+    {
         Ok(Line {
             alloc,
             reader: Reader::new(alloc)?,
@@ -108,7 +113,9 @@ impl Line {
     }
 
     /// Who greeted and waits for the end of another link.
-    pub(crate) fn queued(&self) -> Option<WorkerNumber> {
+    pub(crate) fn queued(&self) -> Option<WorkerNumber>
+        ensures { self.now.standing ≡ Ungreeted → result ≡ None }
+    {
         match self.standing {
             Standing::Queued => self.worker,
             _ => None,

@@ -1,15 +1,19 @@
 //! The run of a coordinator whose links are taken up as their bytes come.
 
-ghost use Rattle.std.specs.Prelude.{◌≡◌, ◌≤◌, All, IfOk};
+ghost use Rattle.std.specs.Prelude.{◌≡◌, ◌≤◌, ◌+◌, ℕ, [], All, IfOk, OnOk, false, true};
 ghost use Rattle.dimacs.specs.logic.Cnf.{Cnf};
 ghost use Rattle.cube_split.specs.Pairs.{IsBaseWith};
 ghost use Rattle.evidence.specs.Jobs.{IsInside};
 ghost use Rattle.lrat_check.specs.Verdicts.{Right};
+ghost use Rattle.lrat_check.specs.declared.verdict.Verdict.TheVariants.{Nothing};
+ghost use Rattle.links.specs.Arrivals.{begun_at};
+ghost use Rattle.arriving.specs.Accounts.{AreBounded, EachCloses, HasBegun, OnceEach, RoseBy, nobody, open_of};
 ghost use Rattle.arriving.specs.Run.{formula_of, verdict_of};
+ghost use Rattle.arriving.specs.inner.Lines.{AreFresh};
 
-use crate::coordinating::is_decided;
+use crate::coordinating::{is_decided, progress_of};
 use crate::floor::{
-    Desk, end_all_overdue, end_unserved, hear, hear_all, reach, seat_all, tell_parked, welcome,
+    Desk, end_all_overdue, end_unserved, hear_all, hear_at, reach, seat_all, tell_parked, welcome,
 };
 use crate::line::Line;
 use crate::plan::Plan;
@@ -34,15 +38,25 @@ pub struct Run {
     desk: Desk,
     lines: Vec<Option<Line>>,
     tick: u64,
+    /// The last tick at which a link was open, or the first.
+    linked: Option<u64>,
 }
 
 impl Run {
     /// A coordinator that begins, without a link.
-    pub fn new(alloc: Global, formula: Formula, tree: Tree, plan: &Plan) -> Result<Run, AllocError>
+    pub(crate) fn new(
+        alloc: Global,
+        formula: Formula,
+        tree: Tree,
+        plan: &Plan,
+    ) -> Result<Run, AllocError>
         requires inside { (B : Cnf) → IsBaseWith formula plan.now.defs B → All (IsInside B) tree }
         requires workers { (1 ≤ plan.now.workers) × (plan.now.workers ≤ 64) }
         requires defs { plan.now.defs ≤ 64 }
         ensures formula { IfOk result (λ r. formula_of r ≡ formula) }
+        ensures verdict { IfOk result (λ r. verdict_of r ≡ Nothing) }
+        ensures stuck { IfOk result (λ r. r.desk.coordinator.stuck ≡ false) }
+        ensures links { IfOk result (λ r. r.lines.items ≡ []) }
     {
         let made = Coordinator::with_defs(
             alloc,
@@ -65,6 +79,7 @@ impl Run {
             },
             lines: Vec::new(alloc),
             tick: 0,
+            linked: None,
         })
     }
 
@@ -77,19 +92,22 @@ impl Run {
     }
 
     /// Whether a verdict is held, or none will be.
-    fn is_over(&self) -> bool {
+    fn is_over(&self) -> bool
+        ensures { verdict_of self.now ≡ Nothing → self.now.desk.coordinator.stuck ≡ false → result ≡ false }
+    {
         is_decided(&self.desk.coordinator) || self.desk.coordinator.stuck()
     }
 
     /// A link begins.
-    fn begin<A: Arrivals>(&mut self, links: &mut A, place: u8) -> Result<(), AllocError>
-        ensures { formula_of self.new ≡ formula_of self.old }
+    fn begin(&mut self, place: u8) -> Result<(), AllocError>
+        ensures formula { formula_of self.new ≡ formula_of self.old }
+        ensures verdict { verdict_of self.new ≡ verdict_of self.old }
+        ensures opens { (p : ℕ) → open_of self.new p ≤ open_of self.old p + begun_at (Event.Linked place) p }
+        ensures fresh { AreFresh self.old.lines.items → AreFresh self.new.lines.items }
     {
         let line = Line::new(self.alloc, self.tick)?;
         reach(&mut self.lines, place)?;
-        if (place as usize) < self.lines.len() {
-            welcome(links, &mut self.desk, &mut self.lines[place as usize], line);
-        }
+        welcome(&mut self.desk, place, &mut self.lines, line);
         Ok(())
     }
 
@@ -100,28 +118,31 @@ impl Run {
         place: u8,
         bytes: &[u8],
     ) -> Result<(), AllocError>
-        ensures { formula_of self.new ≡ formula_of self.old }
+        ensures formula { formula_of self.new ≡ formula_of self.old }
+        ensures most { A.call_count links.new ≤ A.call_count links.old + 4037 }
+        ensures rises { A.call_count links.old ≤ A.call_count links.new }
+        ensures arrivals { A.arrival_count links.new ≡ A.arrival_count links.old }
+        ensures begun { (p : ℕ) → A.link_count links.new p ≡ A.link_count links.old p }
+        ensures each { (p : ℕ) → A.refusal_count links.new p + open_of self.new p ≤ A.refusal_count links.old p + open_of self.old p }
+        ensures first { self.old.lines.items ≡ [] → (verdict_of self.new ≡ verdict_of self.old) × (self.new.lines.items ≡ []) }
     {
         let at = At {
             place,
             tick: self.tick,
         };
-        if self.lines.len() <= place as usize {
-            links.hang_up(place);
-            return Ok(());
-        }
-        hear(
-            links,
-            &mut self.desk,
-            at,
-            &mut self.lines[place as usize],
-            bytes,
-        )
+        hear_at(links, &mut self.desk, at, &mut self.lines, bytes)
     }
 
     /// Takes what comes next. Answers whether anything may come yet.
     fn hear_next<A: Arrivals>(&mut self, links: &mut A) -> Result<bool, AllocError>
-        ensures { formula_of self.new ≡ formula_of self.old }
+        ensures formula { formula_of self.new ≡ formula_of self.old }
+        ensures one { RoseBy 1 (A.call_count links.old) (A.call_count links.new) }
+        ensures most { A.call_count links.new ≤ A.call_count links.old + 4038 }
+        ensures rises { A.call_count links.old ≤ A.call_count links.new }
+        ensures arrivals { A.arrival_count links.old ≤ A.arrival_count links.new }
+        ensures arrived { IfOk result (λ goes_on. goes_on ≡ true → A.arrival_count links.new ≡ A.arrival_count links.old + 1) }
+        ensures each { EachCloses (open_of self.old) (open_of self.new) (A.link_count links.old) (A.link_count links.new) (A.refusal_count links.old) (A.refusal_count links.new) }
+        ensures first { self.old.lines.items ≡ [] → (verdict_of self.new ≡ verdict_of self.old) × AreFresh self.new.lines.items }
     {
         let mut room = [0u8; LONGEST];
         let arrival = links.receive_any(&mut room);
@@ -129,37 +150,10 @@ impl Run {
         match arrival.event {
             Event::Over => return Ok(false),
             Event::Quiet => {}
-            Event::Linked { place } => self.begin(links, place)?,
+            Event::Linked { place } => self.begin(place)?,
             Event::Bytes { place, count } => self.take(links, place, &room[..count])?,
         }
         Ok(true)
-    }
-
-    /// Takes what comes next, ends what is overdue, links who waits, and tells who is parked. Answers whether anything may come yet.
-    fn turn<A: Arrivals>(&mut self, links: &mut A) -> Result<bool, AllocError>
-        ensures { formula_of self.new ≡ formula_of self.old }
-    {
-        let before = self.tick;
-        let goes_on = self.hear_next(links)?;
-        let tick = self.tick;
-        if tick != before {
-            end_all_overdue(links, &mut self.desk, tick, &mut self.lines)?;
-        }
-        seat_all(links, &mut self.desk, tick, &mut self.lines)?;
-        tell_parked(links, &mut self.desk, tick, &mut self.lines)?;
-        Ok(goes_on)
-    }
-
-    /// Goes on until a verdict is held, none will be, or nothing comes any more.
-    fn go_on<A: Arrivals>(&mut self, links: &mut A) -> Result<(), AllocError>
-        ensures { formula_of self.new ≡ formula_of self.old }
-    {
-        for _ in 0..ARRIVALS {
-            if self.is_over() || !self.turn(links)? {
-                return Ok(());
-            }
-        }
-        Ok(())
     }
 
     /// Whether a link is open.
@@ -167,25 +161,133 @@ impl Run {
         self.lines.iter().any(|line| line.is_some())
     }
 
+    /// Whether no link was open for as long as patience lasts.
+    fn is_deserted(&self) -> bool {
+        match (self.desk.patience.ticks(), self.linked) {
+            (Some(ticks), Some(linked)) => {
+                !self.has_link() && ticks <= self.tick.saturating_sub(linked)
+            }
+            _ => false,
+        }
+    }
+
+    /// What is to be done at another tick than this: ends what is overdue, notes whether a link is open, and shows how far the run has come.
+    fn look_round<A: Arrivals>(&mut self, links: &mut A, before: u64) -> Result<(), AllocError>
+        ensures formula { formula_of self.new ≡ formula_of self.old }
+        ensures verdict { verdict_of self.new ≡ verdict_of self.old }
+        ensures most { A.call_count links.new ≤ A.call_count links.old }
+        ensures rises { A.call_count links.old ≤ A.call_count links.new }
+        ensures arrivals { A.arrival_count links.new ≡ A.arrival_count links.old }
+        ensures begun { (p : ℕ) → A.link_count links.new p ≡ A.link_count links.old p }
+        ensures each { (p : ℕ) → A.refusal_count links.new p + open_of self.new p ≤ A.refusal_count links.old p + open_of self.old p }
+        ensures fresh { AreFresh self.old.lines.items → AreFresh self.new.lines.items }
+    {
+        if self.tick == before {
+            return Ok(());
+        }
+        end_all_overdue(links, &mut self.desk, self.tick, &mut self.lines)?;
+        if self.linked.is_none() || self.has_link() {
+            self.linked = Some(self.tick);
+        }
+        links.show(&progress_of(&self.desk.coordinator));
+        Ok(())
+    }
+
+    /// Links who waits, and tells who is parked.
+    fn attend<A: Arrivals>(&mut self, links: &mut A, before: u64) -> Result<(), AllocError>
+        ensures formula { formula_of self.new ≡ formula_of self.old }
+        ensures most { A.call_count links.new ≤ A.call_count links.old + 1029945 }
+        ensures rises { A.call_count links.old ≤ A.call_count links.new }
+        ensures arrivals { A.arrival_count links.new ≡ A.arrival_count links.old }
+        ensures begun { (p : ℕ) → A.link_count links.new p ≡ A.link_count links.old p }
+        ensures each { (p : ℕ) → A.refusal_count links.new p + open_of self.new p ≤ A.refusal_count links.old p + open_of self.old p }
+        ensures fresh { AreFresh self.old.lines.items → verdict_of self.new ≡ verdict_of self.old }
+    {
+        self.look_round(links, before)?;
+        seat_all(links, &mut self.desk, self.tick, &mut self.lines)?;
+        tell_parked(links, &mut self.desk, self.tick, &mut self.lines)
+    }
+
+    /// Takes what comes next, ends what is overdue, links who waits, and tells who is parked. Answers whether anything may come yet.
+    fn turn<A: Arrivals>(&mut self, links: &mut A) -> Result<bool, AllocError>
+        ensures formula { formula_of self.new ≡ formula_of self.old }
+        ensures one { RoseBy 1 (A.call_count links.old) (A.call_count links.new) }
+        ensures most { A.call_count links.new ≤ A.call_count links.old + 1033984 }
+        ensures rises { A.call_count links.old ≤ A.call_count links.new }
+        ensures arrivals { A.arrival_count links.old ≤ A.arrival_count links.new }
+        ensures arrived { IfOk result (λ goes_on. goes_on ≡ true → A.arrival_count links.new ≡ A.arrival_count links.old + 1) }
+        ensures each { EachCloses (open_of self.old) (open_of self.new) (A.link_count links.old) (A.link_count links.new) (A.refusal_count links.old) (A.refusal_count links.new) }
+        ensures first { self.old.lines.items ≡ [] → verdict_of self.new ≡ verdict_of self.old }
+    {
+        let before = self.tick;
+        let goes_on = self.hear_next(links)?;
+        self.attend(links, before)?;
+        Ok(goes_on)
+    }
+
+    /// Goes on until a verdict is held, none will be, or nothing comes any more.
+    fn go_on<A: Arrivals>(&mut self, links: &mut A) -> Result<(), AllocError>
+        requires links { self.old.lines.items ≡ [] }
+        requires verdict { verdict_of self.old ≡ Nothing }
+        requires stuck { self.old.desk.coordinator.stuck ≡ false }
+        ensures formula { formula_of self.new ≡ formula_of self.old }
+        ensures used { OnOk result (HasBegun (A.call_count links.old) (A.call_count links.new) (verdict_of self.new)) }
+        ensures most { AreBounded (A.arrival_count links.old) (A.arrival_count links.new) (A.call_count links.old) (A.call_count links.new) }
+        ensures each { EachCloses (open_of self.old) (open_of self.new) (A.link_count links.old) (A.link_count links.new) (A.refusal_count links.old) (A.refusal_count links.new) }
+    {
+        for _ in 0..ARRIVALS {
+            if self.is_over() {
+                return Ok(());
+            }
+            match self.turn(links) {
+                Ok(true) => {}
+                Ok(false) => return Ok(()),
+                Err(error) => return Err(error),
+            }
+            if self.is_deserted() {
+                return Ok(());
+            }
+        }
+        Ok(())
+    }
+
+    /// Goes on for as long as someone is served.
+    fn hand_on<A: Arrivals>(&mut self, links: &mut A) -> Result<(), AllocError>
+        ensures formula { formula_of self.new ≡ formula_of self.old }
+        ensures most { AreBounded (A.arrival_count links.old) (A.arrival_count links.new) (A.call_count links.old) (A.call_count links.new) }
+        ensures each { EachCloses (open_of self.old) (open_of self.new) (A.link_count links.old) (A.link_count links.new) (A.refusal_count links.old) (A.refusal_count links.new) }
+    {
+        for _ in 0..ARRIVALS {
+            end_unserved(links, &mut self.desk, self.tick, SILENCE, &mut self.lines);
+            if !self.has_link() {
+                return Ok(());
+            }
+            match self.turn(links) {
+                Ok(true) => {}
+                Ok(false) => return Ok(()),
+                Err(error) => return Err(error),
+            }
+        }
+        Ok(())
+    }
+
     /// Hands the verdict out to those that are linked, for as long as they ask for it. Without one nothing is done.
     pub fn hand_out<A: Arrivals>(&mut self, links: &mut A) -> Result<(), AllocError>
-        ensures { formula_of self.new ≡ formula_of self.old }
+        ensures formula { formula_of self.new ≡ formula_of self.old }
+        ensures most { AreBounded (A.arrival_count links.old) (A.arrival_count links.new) (A.call_count links.old) (A.call_count links.new) }
+        ensures each { EachCloses (open_of self.old) (open_of self.new) (A.link_count links.old) (A.link_count links.new) (A.refusal_count links.old) (A.refusal_count links.new) }
     {
         if !is_decided(&self.desk.coordinator) || !self.has_link() {
             return Ok(());
         }
         // Time has gone by since the verdict, in which nobody was listened to.
-        if !self.hear_next(links)? {
-            return Ok(());
+        match self.hear_next(links) {
+            Ok(true) => {}
+            Ok(false) => return Ok(()),
+            Err(error) => return Err(error),
         }
         hear_all(&mut self.lines, self.tick);
-        for _ in 0..ARRIVALS {
-            end_unserved(links, &mut self.desk, self.tick, SILENCE, &mut self.lines);
-            if !self.has_link() || !self.turn(links)? {
-                return Ok(());
-            }
-        }
-        Ok(())
+        self.hand_on(links)
     }
 }
 
@@ -202,6 +304,10 @@ pub fn decide<A: Arrivals>(
     requires workers { (1 ≤ plan.now.workers) × (plan.now.workers ≤ 64) }
     requires defs { plan.now.defs ≤ 64 }
     ensures right { IfOk result (λ r. Right formula (verdict_of r)) }
+    ensures used { IfOk result (λ r. HasBegun (A.call_count links.old) (A.call_count links.new) (verdict_of r)) }
+    ensures most { AreBounded (A.arrival_count links.old) (A.arrival_count links.new) (A.call_count links.old) (A.call_count links.new) }
+    ensures each { OnceEach (A.link_count links.old) (A.link_count links.new) (A.refusal_count links.old) (A.refusal_count links.new) }
+    ensures closes { IfOk result (λ r. EachCloses nobody (open_of r) (A.link_count links.old) (A.link_count links.new) (A.refusal_count links.old) (A.refusal_count links.new)) }
 {
     let mut run = match Run::new(alloc, formula, tree, plan) {
         Ok(run) => run,

@@ -1,6 +1,7 @@
 //! What workers are told.
 
-ghost use Rattle.std.specs.Prelude.{◌≡◌};
+ghost use Rattle.std.specs.Prelude.{◌≡◌, ◌≢◌, ◌≤◌, ◌+◌, ℕ};
+ghost use Rattle.arriving.specs.inner.Lines.{one_if_closed};
 
 use crate::coordinating::poll;
 use crate::line::{Broken, Line};
@@ -40,6 +41,11 @@ fn mark_of(cube: &Cube) -> u64 {
 }
 
 impl Patience {
+    /// How long a task may take that was not taken back, and a run without a link.
+    pub(crate) fn ticks(&self) -> Option<u64> {
+        self.ticks
+    }
+
     /// A task may take so many ticks, or for ever.
     pub(crate) fn new(alloc: Global, ticks: Option<u64>) -> Patience {
         Patience {
@@ -69,7 +75,14 @@ impl Patience {
 }
 
 /// Sends a frame over the link at a place.
-fn send<A: Arrivals>(links: &mut A, place: u8, frame: &Frame) -> Result<(), Broken> {
+fn send<A: Arrivals>(links: &mut A, place: u8, frame: &Frame) -> Result<(), Broken>
+    ensures most { A.call_count links.new ≤ A.call_count links.old + 1 }
+    ensures rises { A.call_count links.old ≤ A.call_count links.new }
+    ensures arrivals { A.arrival_count links.new ≡ A.arrival_count links.old }
+    ensures begun { (p : ℕ) → A.link_count links.new p ≡ A.link_count links.old p }
+    ensures here { A.refusal_count links.new place ≤ A.refusal_count links.old place + one_if_closed result }
+    ensures elsewhere { (p : ℕ) → p ≢ place → A.refusal_count links.new p ≤ A.refusal_count links.old p }
+{
     let mut room = [0u8; LONGEST];
     let count = len(frame);
     encode(frame, &mut room);
@@ -98,7 +111,14 @@ pub(crate) fn tell<A: Arrivals>(
     at: At,
     line: &mut Line,
 ) -> Result<(), Broken>
-    ensures { coordinator.new.formula ≡ coordinator.old.formula }
+    ensures formula { coordinator.new.formula ≡ coordinator.old.formula }
+    ensures verdict { coordinator.new.verdict ≡ coordinator.old.verdict }
+    ensures most { A.call_count links.new ≤ A.call_count links.old + 1 }
+    ensures rises { A.call_count links.old ≤ A.call_count links.new }
+    ensures arrivals { A.arrival_count links.new ≡ A.arrival_count links.old }
+    ensures begun { (p : ℕ) → A.link_count links.new p ≡ A.link_count links.old p }
+    ensures here { A.refusal_count links.new at.place ≤ A.refusal_count links.old at.place + one_if_closed result }
+    ensures elsewhere { (p : ℕ) → p ≢ at.place → A.refusal_count links.new p ≤ A.refusal_count links.old p }
 {
     let Some(worker) = line.seated() else {
         return Ok(());

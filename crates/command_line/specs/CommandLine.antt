@@ -75,6 +75,8 @@ pub record NamesOptions (rows : List Row) (options : Options) : Type 0 where
   pub incarnation_is : NamesNumberOr rows (codes "incarnation") 0 (2 ^ 64 - 1) 1 options.incarnation
   pub defs_is : NamesNumberOr rows (codes "defs") 0 64 0 options.defs
   pub ahead_is : NamesFlag rows (codes "ahead") options.ahead
+  pub patience_is : NamesAnyNumber rows (codes "patience") 1 1000000000 options.patience
+  pub progress_is : NamesFlag rows (codes "progress") options.progress
   pub quiet_is : NamesFlag rows (codes "quiet") options.quiet
   pub witness_is : NamesFlag rows (codes "no-witness") (not options.witness)
 

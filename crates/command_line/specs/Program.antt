@@ -39,15 +39,16 @@ cubes_app =
     (named_file_rule (codes "cubes"))) (any_number_rule (codes "split") 1 (2 ^ 32 - 1))) (any_number_rule (codes "on") 1 (2 ^ 31 - 1)))
     (named_file_rule (codes "complete"))) (file_rule (codes "INPUT") true)
 
--- `solve`, a search
+-- `solve [--progress]`, a search
 abbrev pub solve_app : App
-solve_app = with_files (with_search (new_app (codes "solve")))
+solve_app = with_files (with_search (with_rule (new_app (codes "solve")) (long_flag_rule (codes "progress"))))
 
--- `serve --port P [--session S]`, a search: P from 1 to 65,535, and S any number of 64 bits, else 1
+-- `serve --port P [--session S] [--patience T] [--progress]`, a search: P from 1 to 65,535, S any number of 64 bits, else 1, and T
+-- from 1 to 1,000,000,000
 abbrev pub serve_app : App
 serve_app =
-    with_files (with_search (with_rule (with_rule (new_app (codes "serve")) (needed_number_rule (codes "port") 1 65535))
-    (number_rule (codes "session") 0 (2 ^ 64 - 1) (codes "1"))))
+    with_files (with_search (with_rule (with_rule (with_rule (with_rule (new_app (codes "serve")) (needed_number_rule (codes "port") 1 65535))
+    (number_rule (codes "session") 0 (2 ^ 64 - 1) (codes "1"))) (any_number_rule (codes "patience") 1 1000000000)) (long_flag_rule (codes "progress"))))
 
 -- `work --port P [--number W] [--incarnation I] [--ahead]`, and files: W from 1 to 64, else 1, and I any number of
 -- 64 bits, else 1

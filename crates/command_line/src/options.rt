@@ -19,6 +19,10 @@ pub struct Options {
     pub defs: u32,
     /// Whether the worker sends before it works, so that the coordinator goes on to others; else not.
     pub ahead: bool,
+    /// How many seconds a task may take while another worker is free, and a run without a link, from 1 to 1,000,000,000; else for ever.
+    pub patience: Option<u64>,
+    /// Whether it is told on standard error how far the run has come.
+    pub progress: bool,
     /// Whether `c` lines are left out.
     pub quiet: bool,
     /// Whether the `v` lines of an assignment are printed.

@@ -4,6 +4,7 @@ pub mod ExampleLemmas
 pub mod GatherLemmas
 pub mod KeptLemmas
 pub mod Places
+pub mod ProgressLemmas
 pub mod SplitLemmas
 pub mod SplitStates
 pub mod PollLemmas

@@ -3,6 +3,7 @@ pub mod Examples
 pub mod Extending
 pub mod Invariant
 pub mod Laws
+pub mod Progress
 pub mod Splits
 pub mod Tables
 pub mod inner

@@ -1,8 +1,9 @@
 //! The leaves of a tree: the state of each, and the fragments of those that are closed.
 
-ghost use Rattle.std.specs.Prelude.{◌≡◌, ◌≢◌, ℕ, ◌<◌, ◌↔◌, IsTrue, [], length, replicate, position, slice_set, slice_index_or, vec_len, vec_capacity, Some, false, IfOk, OnOk, OnErr};
+ghost use Rattle.std.specs.Prelude.{◌≡◌, ◌≢◌, ℕ, ◌<◌, ◌↔◌, IsTrue, [], count_by, length, replicate, position, slice_set, slice_index_or, vec_len, vec_capacity, Some, false, IfOk, OnOk, OnErr};
 ghost use Rattle.icnf.specs.Leaves.{IsFree, branched};
 ghost use Rattle.coordinator_core.specs.Coordinator.{AreClosed, is_open};
+ghost use Rattle.coordinator_core.specs.Progress.{is_closed};
 ghost use Rattle.coordinator_core.specs.Splits.{doubled};
 ghost use Rattle.coordinator_core.specs.declared.desks.LeafState.TheVariants.{Open, GivenTo, Closed};
 
@@ -108,6 +109,13 @@ impl LeafTable {
         ensures { IsTrue result ↔ AreClosed self.now.states }
     {
         self.unclosed == 0
+    }
+
+    /// How many are closed.
+    pub(crate) fn closed(&self) -> usize
+        ensures { result ≡ count_by is_closed self.now.states }
+    {
+        self.states.len().saturating_sub(self.unclosed)
     }
 
     /// The fragments, empty where a leaf is not closed.

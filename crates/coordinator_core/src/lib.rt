@@ -15,6 +15,7 @@ mod gathering;
 mod laws;
 mod leaves;
 mod polling;
+mod progress;
 mod splitting;
 mod wanting;
 

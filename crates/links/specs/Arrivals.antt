@@ -10,6 +10,13 @@ IsWithin (Bytes place count) room = count ≤ room
 IsWithin Quiet room = ⊤
 IsWithin Over room = ⊤
 
+-- one where something came
+abbrev pub arrived : Event → ℕ
+arrived (Linked place) = 1
+arrived (Bytes place count) = 1
+arrived Quiet = 1
+arrived Over = 0
+
 -- how many links begin at a place
 abbrev pub begun_at : Event → ℕ → ℕ
 begun_at (Linked place) p = if p == place then 1 else 0

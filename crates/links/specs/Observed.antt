@@ -10,6 +10,10 @@ station_of links = links.station
 abbrev pub observed_calls : {S : Type 0} → Observed S → ℕ
 observed_calls links = links.calls
 
+-- how often something came
+abbrev pub arrivals_of : {S : Type 0} → Observed S → ℕ
+arrivals_of links = links.arrivals
+
 -- how many links began at a place
 abbrev pub links_at : {S : Type 0} → Observed S → ℕ → ℕ
 links_at links place = slice_index links.links place

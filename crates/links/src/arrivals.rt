@@ -2,9 +2,10 @@
 
 ghost use Rattle.std.specs.Prelude.{◌≡◌, ◌≢◌, ◌≤◌, ◌+◌, ℕ, length};
 ghost use Rattle.links.specs.Counts.{one_more, one_more_if_err};
-ghost use Rattle.links.specs.Arrivals.{IsWithin, begun_at};
+ghost use Rattle.links.specs.Arrivals.{IsWithin, arrived, begun_at};
 
 use crate::link::LinkFault;
+use crate::progress::Progress;
 
 /// What came to the coordinator's ends.
 #[derive(Clone, Copy, Debug, PartialEq, Eq)]
@@ -28,10 +29,12 @@ pub struct Arrival {
     pub event: Event,
 }
 
-/// The coordinator's ends of links that come and go. Each has a place, 0 to 255; a place may have one link after another. The calls, and of
-/// each place the links that began and the refusals, are counted; the calls and the refusals stay at 2^64 - 1.
+/// The coordinator's ends of links that come and go. Each has a place, 0 to 255; a place may have one link after another. The calls, what
+/// came, and of each place the links that began and the refusals, are counted; the calls and the refusals stay at 2^64 - 1.
 pub trait Arrivals {
     ghost call_count: { Self → ℕ };
+
+    ghost arrival_count: { Self → ℕ };
 
     ghost link_count: { Self → ℕ → ℕ };
 
@@ -41,12 +44,14 @@ pub trait Arrivals {
     fn receive_any(&mut self, room: &mut [u8]) -> Arrival
         ensures within { IsWithin result.event (length room.new) }
         ensures calls { call_count self.new ≡ one_more (call_count self.old) }
+        ensures arrivals { arrival_count self.new ≡ arrival_count self.old + arrived result.event }
         ensures links { (p : ℕ) → link_count self.new p ≡ link_count self.old p + begun_at result.event p }
         ensures refusals { (p : ℕ) → refusal_count self.new p ≡ refusal_count self.old p };
 
     /// Sends bytes over the link at a place, without waiting.
     fn send_to(&mut self, place: u8, bytes: &[u8]) -> Result<(), LinkFault>
         ensures calls { call_count self.new ≡ one_more (call_count self.old) }
+        ensures arrivals { arrival_count self.new ≡ arrival_count self.old }
         ensures links { (p : ℕ) → link_count self.new p ≡ link_count self.old p }
         ensures refusal { refusal_count self.new place ≡ one_more_if_err result (refusal_count self.old place) }
         ensures elsewhere { (p : ℕ) → p ≢ place → refusal_count self.new p ≡ refusal_count self.old p };
@@ -54,6 +59,14 @@ pub trait Arrivals {
     /// Ends the link at a place.
     fn hang_up(&mut self, place: u8)
         ensures calls { call_count self.new ≡ call_count self.old }
+        ensures arrivals { arrival_count self.new ≡ arrival_count self.old }
+        ensures links { (p : ℕ) → link_count self.new p ≡ link_count self.old p }
+        ensures refusals { (p : ℕ) → refusal_count self.new p ≡ refusal_count self.old p };
+
+    /// Is told how far the run has come, when the tick is another.
+    fn show(&mut self, progress: &Progress)
+        ensures calls { call_count self.new ≡ call_count self.old }
+        ensures arrivals { arrival_count self.new ≡ arrival_count self.old }
         ensures links { (p : ℕ) → link_count self.new p ≡ link_count self.old p }
         ensures refusals { (p : ℕ) → refusal_count self.new p ≡ refusal_count self.old p };
 }

@@ -3,6 +3,7 @@
 ghost use Rattle.std.specs.Prelude.{◌≤◌, length, IfOk};
 
 use crate::link::{End, LinkFault};
+use crate::progress::Progress;
 
 /// Carries bytes, and counts nothing.
 pub trait Carrier {
@@ -12,4 +13,7 @@ pub trait Carrier {
     /// Puts bytes that came to an end at the front of the room, and answers how many; 0 means that the link has ended.
     fn fetch(&mut self, at: End, room: &mut [u8]) -> Result<usize, LinkFault>
         ensures { IfOk result (λ n. n ≤ length room.new) };
+
+    /// Is told how far the run has come. Most show it to nobody.
+    fn show(&mut self, _progress: &Progress) {}
 }

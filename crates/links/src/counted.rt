@@ -7,6 +7,7 @@ ghost use Rattle.links.specs.Ends.{link_of};
 
 use crate::carrier::Carrier;
 use crate::link::{End, LinkFault, Links};
+use crate::progress::Progress;
 
 /// How many links are counted by themselves: those of workers 0 to 64.
 const LINKS: usize = 65;
@@ -113,6 +114,10 @@ impl<C: Carrier> Links for Counted<C> {
     fn receive(&mut self, at: End, room: &mut [u8]) -> Result<usize, LinkFault> {
         let answer = self.carrier.fetch(at, room);
         self.tally.note(at, answer)
+    }
+
+    fn show(&mut self, progress: &Progress) {
+        self.carrier.show(progress);
     }
 
     fn calls(&self) -> u64 {

@@ -4,6 +4,7 @@ ghost use Rattle.std.specs.Prelude.{◌≡◌, ◌≢◌, ◌≤◌, ℕ, length
 ghost use Rattle.links.specs.Counts.{one_more, one_more_if_err};
 ghost use Rattle.links.specs.Ends.{link_of};
 
+use crate::progress::Progress;
 use thiserror::Error;
 
 /// One of the two ends of a worker's link, by the worker's number, from 1.
@@ -43,6 +44,12 @@ pub trait Links {
         ensures refusals { refusal_count self.new ≡ one_more_if_err result (refusal_count self.old) }
         ensures here { link_of at ≤ 64 → refused_at self.new (link_of at) ≡ one_more_if_err result (refused_at self.old (link_of at)) }
         ensures elsewhere { (worker : ℕ) → worker ≢ link_of at → refused_at self.new worker ≡ refused_at self.old worker };
+
+    /// Is told how far the run has come, after each turn of a link.
+    fn show(&mut self, progress: &Progress)
+        ensures calls { call_count self.new ≡ call_count self.old }
+        ensures refusals { refusal_count self.new ≡ refusal_count self.old }
+        ensures refused { refused_at self.new ≡ refused_at self.old };
 
     /// How many sends and receives there were.
     fn calls(&self) -> u64

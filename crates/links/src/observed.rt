@@ -2,12 +2,13 @@
 
 ghost use Rattle.std.specs.Prelude.{◌≡◌, ◌≢◌, ◌≤◌, ◌<◌, ◌+◌, ◌^◌, ℕ, length, replicate, slice_index, if◌then◌else◌};
 ghost use Rattle.links.specs.Counts.{one_more, one_more_if_err};
-ghost use Rattle.links.specs.Arrivals.{IsWithin, begun_at};
-ghost use Rattle.links.specs.Observed.{station_of, observed_calls, links_at, refusals_at};
+ghost use Rattle.links.specs.Arrivals.{IsWithin, arrived, begun_at};
+ghost use Rattle.links.specs.Observed.{station_of, arrivals_of, observed_calls, links_at, refusals_at};
 
 use crate::arrivals::{Arrival, Arrivals, Event};
 use crate::counted::count;
 use crate::link::LinkFault;
+use crate::progress::Progress;
 use crate::station::Station;
 
 /// How many places there are.
@@ -18,6 +19,7 @@ const PLACES: usize = 256;
 pub struct Observed<S> {
     station: S,
     calls: u64,
+    arrivals: u64,
     links: [u64; PLACES],
     refusals: [u64; PLACES],
 }
@@ -53,12 +55,14 @@ impl<S> Observed<S> {
     pub fn new(station: S) -> Observed<S>
         ensures station { station_of result ≡ station }
         ensures calls { observed_calls result ≡ 0 }
+        ensures arrivals { arrivals_of result ≡ 0 }
         ensures links { (p : ℕ) → links_at result p ≡ 0 }
         ensures refusals { (p : ℕ) → refusals_at result p ≡ 0 }
     {
         Observed {
             station,
             calls: 0,
+            arrivals: 0,
             links: [0; PLACES],
             refusals: [0; PLACES],
         }
@@ -72,8 +76,33 @@ impl<S> Observed<S> {
     }
 }
 
+impl<S: Station> Observed<S> {
+    /// Counts what came, and answers it. Where there is no number left, nothing comes any more.
+    fn note_event(&mut self, event: Event) -> Event
+        ensures within { (room : ℕ) → IsWithin event room → IsWithin result room }
+        ensures calls { observed_calls self.new ≡ observed_calls self.old }
+        ensures arrivals { arrivals_of self.new ≡ arrivals_of self.old + arrived result }
+        ensures links { (p : ℕ) → links_at self.new p ≡ links_at self.old p + begun_at result p }
+        ensures refusals { (p : ℕ) → refusals_at self.new p ≡ refusals_at self.old p }
+    {
+        if event == Event::Over || self.arrivals == u64::MAX {
+            return Event::Over;
+        }
+        self.arrivals += 1;
+        if let Event::Linked { place } = event {
+            if !welcome(&mut self.links, place) {
+                self.station.drop_at(place);
+                return Event::Quiet;
+            }
+        }
+        event
+    }
+}
+
 impl<S: Station> Arrivals for Observed<S> {
     ghost call_count = { observed_calls };
+
+    ghost arrival_count = { arrivals_of };
 
     ghost link_count = { links_at };
 
@@ -82,18 +111,9 @@ impl<S: Station> Arrivals for Observed<S> {
     fn receive_any(&mut self, room: &mut [u8]) -> Arrival {
         count(&mut self.calls);
         let arrival = self.station.await_any(room);
-        match arrival.event {
-            Event::Linked { place } => {
-                if welcome(&mut self.links, place) {
-                    return arrival;
-                }
-                self.station.drop_at(place);
-                Arrival {
-                    tick: arrival.tick,
-                    event: Event::Quiet,
-                }
-            }
-            _ => arrival,
+        Arrival {
+            tick: arrival.tick,
+            event: self.note_event(arrival.event),
         }
     }
 
@@ -105,5 +125,9 @@ impl<S: Station> Arrivals for Observed<S> {
 
     fn hang_up(&mut self, place: u8) {
         self.station.drop_at(place);
+    }
+
+    fn show(&mut self, progress: &Progress) {
+        self.station.show(progress);
     }
 }

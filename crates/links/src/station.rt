@@ -5,6 +5,7 @@ ghost use Rattle.links.specs.Arrivals.{IsWithin};
 
 use crate::arrivals::Arrival;
 use crate::link::LinkFault;
+use crate::progress::Progress;
 
 /// Carries bytes over the links of a coordinator's ends, which come and go, and counts nothing.
 pub trait Station {
@@ -17,4 +18,7 @@ pub trait Station {
 
     /// Ends the link at a place.
     fn drop_at(&mut self, place: u8);
+
+    /// Is told how far the run has come. Most show it to nobody.
+    fn show(&mut self, _progress: &Progress) {}
 }

@@ -2,6 +2,7 @@
 use Rattle.std.specs.Prelude.{ℕ, List, Option, Some, None}
 use Rattle.lrat_check.specs.declared.verdict.Verdict.{Verdict}
 use Rattle.lrat_check.specs.declared.verdict.Verdict.TheVariants.{Nothing, Model, Proof}
+use Rattle.arriving.specs.Accounts.{nobody, open_of}
 use Rattle.arriving.specs.Run.{verdict_of}
 use Rattle.arriving.specs.declared.run.Run.{Run}
 use Rattle.reports.specs.declared.report.Report.{Report}
@@ -21,3 +22,11 @@ report_with report (Some run) = record report { proof = proof_in (verdict_of run
 -- what is reported: the text and the status, and the proof that the coordinator holds
 abbrev pub report_of : Service → Report
 report_of service = report_with service.report service.run
+
+-- how many links a coordinator has at a place, one or none
+abbrev pub links_in : Option Run → ℕ → ℕ
+links_in None = nobody
+links_in (Some run) = open_of run
+
+abbrev pub links_of : Service → ℕ → ℕ
+links_of service = links_in service.run

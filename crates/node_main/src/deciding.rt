@@ -4,9 +4,10 @@ ghost use Rattle.std.specs.Prelude.{◌≡◌, ℕ, IfOk, None, Some};
 ghost use Rattle.dimacs.specs.text.Answer.{Lines};
 ghost use Rattle.dimacs.specs.logic.Cnf.{Cnf};
 ghost use Rattle.lrat_check.specs.Verdicts.{Right};
+ghost use Rattle.arriving.specs.Accounts as arrivals;
 ghost use Rattle.runs.specs.Accounts.{HasBegun};
 ghost use Rattle.node_main.specs.Deciding.{Decides};
-ghost use Rattle.node_main.specs.Running.{WasRun};
+ghost use Rattle.node_main.specs.Running.{WasRun, WasServed};
 ghost use Rattle.node_main.specs.Serving.{proof_in};
 
 use command_line::Options;
@@ -33,7 +34,8 @@ pub(crate) fn reported(
     options: &Options,
 ) -> Result<Report, AllocError>
     // With its proof the report decides the formula.
-    ensures { (F : Cnf) → Right F verdict.now → IfOk result (λ r. Decides F options.now (record r { proof = proof_in verdict.now })) }
+    ensures decides { (F : Cnf) → Right F verdict.now → IfOk result (λ r. Decides F options.now (record r { proof = proof_in verdict.now })) }
+    ensures used { (base calls : ℕ) → arrivals.HasBegun base calls verdict.now → IfOk result (λ r. WasServed base calls (record r { proof = proof_in verdict.now })) }
 {
     match verdict {
         Verdict::Nothing => answered(alloc, Answer::Unknown, options.witness, 0),

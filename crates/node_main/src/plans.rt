@@ -29,13 +29,14 @@ pub(crate) fn service_plan(options: &Options) -> Plan
     ensures limit { result.limit ≡ options.now.limit }
     ensures session { result.session ≡ options.now.session }
     ensures defs { result.defs ≡ options.now.defs }
+    ensures patience { result.patience ≡ options.now.patience }
 {
     Plan {
         workers: options.workers,
         limit: options.limit,
         session: options.session,
         defs: options.defs,
-        patience: None,
+        patience: options.patience,
     }
 }
 

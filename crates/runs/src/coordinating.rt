@@ -8,6 +8,7 @@ ghost use Rattle.runs.specs.declared.broken.Broken.TheVariants.{NoMemory};
 use crate::broken::{Broken, noted};
 use coordinator_core::Coordinator;
 use frames::{Frame, WorkerNumber};
+use links::Progress;
 use lrat_check::Verdict;
 use std::alloc::AllocError;
 use worker_core::Worker;
@@ -69,4 +70,14 @@ pub(crate) fn is_over(coordinator: &Coordinator) -> bool
         Verdict::Nothing => coordinator.stuck(),
         _ => true,
     }
+}
+
+/// How far it has come.
+pub(crate) fn progress_of(coordinator: &Coordinator) -> Progress {
+    Progress::of(
+        coordinator.planted_count(),
+        coordinator.leaf_count(),
+        coordinator.closed_count(),
+        coordinator.job_count(),
+    )
 }

@@ -1,11 +1,11 @@
 //! The words that runs share, and the options that they name.
 
-ghost use Rattle.std.specs.Prelude.{IfSome, IfNone};
-ghost use Rattle.command_line.specs.CommandLine.{NamesOptions, NamesPrinting};
+ghost use Rattle.std.specs.Prelude.{ℕ, Option, IfSome, IfNone, codes};
+ghost use Rattle.command_line.specs.CommandLine.{NamesAnyNumber, NamesOptions, NamesPrinting};
 ghost use Rattle.command_line.specs.Options.{AreOptions};
 ghost use Rattle.command_line.specs.declared.options.Options.{Options};
 
-use crate::commands::words::number_or;
+use crate::commands::words::{is_named, number_of, number_or};
 use crate::options::Options;
 use crate::printing::Printing;
 use word_rules::{Found, Need, Word};
@@ -77,6 +77,36 @@ pub(crate) const PROOF: Word<'static> = Word::File {
     help: "The file to which an LRAT proof is written, where nothing satisfies INPUT",
 };
 
+/// Whether it is told how far the run has come.
+pub(crate) const PROGRESS: Word<'static> = Word::LongFlag {
+    name: "progress",
+    help: "Tell on standard error, once a second, how far the run has come",
+};
+
+/// The most seconds of patience.
+const LONGEST: u64 = 1_000_000_000;
+
+/// How long a task may take.
+pub(crate) const PATIENCE: Word<'static> = Word::Number {
+    name: "patience",
+    low: 1,
+    high: LONGEST,
+    need: Need::Optional,
+    help: "How many seconds a task may take while another worker is free; else for ever",
+};
+
+/// The patience that the words name, or that they name none.
+fn patience_of(given: &Found) -> Option<Option<u64>>
+    ensures found { IfSome result (NamesAnyNumber given.now.rows (codes "patience") 1 1000000000) }
+    ensures none { IfNone result ((patience : Option ℕ) → NamesAnyNumber given.now.rows (codes "patience") 1 1000000000 patience → ⊥) }
+{
+    if !is_named(given, "patience") {
+        return Some(None);
+    }
+    let seconds = number_of(given, "patience", 1, LONGEST)?;
+    Some(Some(seconds))
+}
+
 /// The options that the words of a run name; the usual one where its command has no word for it.
 pub(crate) fn options_of(given: &Found) -> Option<Options>
     ensures found { IfSome result (NamesOptions given.now.rows) }
@@ -90,6 +120,7 @@ pub(crate) fn options_of(given: &Found) -> Option<Options>
     let number = number_or(given, "number", 1, 64, 1)?;
     let incarnation = number_or(given, "incarnation", 0, u64::MAX, 1)?;
     let defs = number_or(given, "defs", 0, 64, 0)?;
+    let patience = patience_of(given)?;
     let printing = printing_of(given);
     Some(Options {
         workers: workers as u32,
@@ -100,6 +131,8 @@ pub(crate) fn options_of(given: &Found) -> Option<Options>
         incarnation,
         defs: defs as u32,
         ahead: given.flag("ahead"),
+        patience,
+        progress: given.flag("progress"),
         quiet: printing.quiet,
         witness: printing.witness,
     })

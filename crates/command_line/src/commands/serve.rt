@@ -5,7 +5,8 @@ ghost use Rattle.command_line.specs.CommandLine.{IsInRange, Makes};
 ghost use Rattle.command_line.specs.declared.request.Request.{Request};
 
 use crate::commands::run_words::{
-    CUBES, DEFS, DEPTH, LIMIT, NO_WITNESS, PROOF, QUIET, STATUS, WORKERS, options_of,
+    CUBES, DEFS, DEPTH, LIMIT, NO_WITNESS, PATIENCE, PROGRESS, PROOF, QUIET, STATUS, WORKERS,
+    options_of,
 };
 use crate::commands::words::{INPUT, PORT, file_of, number_of};
 use crate::request::Request;
@@ -25,6 +26,8 @@ pub(crate) const RULES: CommandRules<'static> = CommandRules {
             need: Need::Usual("1"),
             help: "The number of this session, any number of 64 bits",
         },
+        PATIENCE,
+        PROGRESS,
         WORKERS,
         DEPTH,
         LIMIT,

@@ -5,9 +5,11 @@ ghost use Rattle.command_line.specs.Options.{AreOptions};
 ghost use Rattle.cube_split.specs.Pairs.{IsBaseWith};
 ghost use Rattle.dimacs.specs.logic.Cnf.{Cnf};
 ghost use Rattle.evidence.specs.Jobs.{IsInside};
+ghost use Rattle.arriving.specs.Accounts.{AreBounded, EachCloses, OnceEach, nobody};
 ghost use Rattle.arriving.specs.Run.{verdict_of};
 ghost use Rattle.node_main.specs.Deciding.{Decides};
-ghost use Rattle.node_main.specs.Serving.{proof_in, report_of};
+ghost use Rattle.node_main.specs.Serving.{links_of, proof_in, report_of};
+ghost use Rattle.node_main.specs.Running.{WasServed};
 ghost use Rattle.node_main.specs.Solving.{Solves};
 ghost use Rattle.node_main.specs.Starting.{IsStart, Starts};
 ghost use Rattle.node_main.specs.Truth.{IsTrueReport};
@@ -70,7 +72,10 @@ impl Service {
     }
 
     /// Hands the verdict out to those that are linked, for as long as they ask for it.
-    pub fn hand_out<A: Arrivals>(&mut self, links: &mut A) -> Result<(), AllocError> {
+    pub fn hand_out<A: Arrivals>(&mut self, links: &mut A) -> Result<(), AllocError>
+        ensures most { AreBounded (A.arrival_count links.old) (A.arrival_count links.new) (A.call_count links.old) (A.call_count links.new) }
+        ensures closes { EachCloses (links_of self.old) (links_of self.new) (A.link_count links.old) (A.link_count links.new) (A.refusal_count links.old) (A.refusal_count links.new) }
+    {
         match &mut self.run {
             Some(run) => run.hand_out(links),
             None => Ok(()),
@@ -88,7 +93,11 @@ fn attend_to<A: Arrivals>(
 ) -> Result<Service, AllocError>
     requires inside { (B : Cnf) → IsBaseWith formula options.now.defs B → All (IsInside B) tree }
     requires options { AreOptions options.now }
-    ensures { IfOk result (λ s. Decides formula options.now (report_of s)) }
+    ensures decides { IfOk result (λ s. Decides formula options.now (report_of s)) }
+    ensures used { IfOk result (λ s. WasServed (A.call_count links.old) (A.call_count links.new) (report_of s)) }
+    ensures most { AreBounded (A.arrival_count links.old) (A.arrival_count links.new) (A.call_count links.old) (A.call_count links.new) }
+    ensures each { OnceEach (A.link_count links.old) (A.link_count links.new) (A.refusal_count links.old) (A.refusal_count links.new) }
+    ensures closes { IfOk result (λ s. EachCloses nobody (links_of s) (A.link_count links.old) (A.link_count links.new) (A.refusal_count links.old) (A.refusal_count links.new)) }
 {
     let run = match arriving::decide(alloc, formula, tree, &service_plan(options), links) {
         Ok(run) => run,
@@ -114,6 +123,10 @@ pub fn run_attend<A: Arrivals>(
     requires { AreOptions options.now }
     ensures report { IfOk result (λ s. Solves input.now (option_map (λ t. t.now) cubes.entry) options.now (report_of s)) }
     ensures truth { IfOk result (λ s. IsTrueReport input.now (report_of s)) }
+    ensures used { IfOk result (λ s. WasServed (A.call_count links.old) (A.call_count links.new) (report_of s)) }
+    ensures most { AreBounded (A.arrival_count links.old) (A.arrival_count links.new) (A.call_count links.old) (A.call_count links.new) }
+    ensures each { OnceEach (A.link_count links.old) (A.link_count links.new) (A.refusal_count links.old) (A.refusal_count links.new) }
+    ensures closes { IfOk result (λ s. EachCloses nobody (links_of s) (A.link_count links.old) (A.link_count links.new) (A.refusal_count links.old) (A.refusal_count links.new)) }
 {
     match begin(alloc, dimacs::read(alloc, input), cubes, options) {
         Ok(start) => attend(alloc, start, options, links),
@@ -133,6 +146,10 @@ pub fn attend<A: Arrivals>(
     requires start { IsStart options.now start }
     ensures report { (input : List ℕ) (cubes : Option (List ℕ)) → Starts input cubes options.now start → IfOk result (λ s. Solves input cubes options.now (report_of s)) }
     ensures truth { (input : List ℕ) (cubes : Option (List ℕ)) → Starts input cubes options.now start → IfOk result (λ s. IsTrueReport input (report_of s)) }
+    ensures used { IfOk result (λ s. WasServed (A.call_count links.old) (A.call_count links.new) (report_of s)) }
+    ensures most { AreBounded (A.arrival_count links.old) (A.arrival_count links.new) (A.call_count links.old) (A.call_count links.new) }
+    ensures each { OnceEach (A.link_count links.old) (A.link_count links.new) (A.refusal_count links.old) (A.refusal_count links.new) }
+    ensures closes { IfOk result (λ s. EachCloses nobody (links_of s) (A.link_count links.old) (A.link_count links.new) (A.refusal_count links.old) (A.refusal_count links.new)) }
 {
     accepted_proofs_are_sound();
     let (formula, tree) = match start {

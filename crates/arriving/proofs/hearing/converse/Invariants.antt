@@ -1,5 +1,11 @@
-use Rattle.std.proofs.Common.{◌≡◌}
+use Rattle.std.proofs.Common.{◌≡◌, ◌≤◌, ℕ, ◌+◌}
 use Rattle.arriving.proofs.hearing.converse.Given as goal
 
 abbrev pub invariant-loop : goal.invariant-loop
-invariant-loop g l = l.coordinator.formula ≡ l.fn.coordinator.formula
+invariant-loop g l =
+    (l.coordinator.formula ≡ l.fn.coordinator.formula)
+    × (g.A.Arrivals.call_count l.links ≤ g.A.Arrivals.call_count l.fn.links + l.counter)
+    × (g.A.Arrivals.call_count l.fn.links ≤ g.A.Arrivals.call_count l.links)
+    × (g.A.Arrivals.arrival_count l.links ≡ g.A.Arrivals.arrival_count l.fn.links)
+    × ((p : ℕ) → g.A.Arrivals.link_count l.links p ≡ g.A.Arrivals.link_count l.fn.links p)
+    × ((p : ℕ) → g.A.Arrivals.refusal_count l.links p ≤ g.A.Arrivals.refusal_count l.fn.links p)

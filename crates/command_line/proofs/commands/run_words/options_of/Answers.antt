@@ -10,9 +10,14 @@ pub returns-in_err-defs-clause-none : goal.returns-in_err-defs-clause-none
 returns-in_err-defs-clause-none c =
     if_none c.from_residual-in_err-defs.result _ (λ options names. c.in_err-defs.ensures.none options.defs names.defs_is)
 
+pub returns-in_err-patience-clause-none : goal.returns-in_err-patience-clause-none
+returns-in_err-patience-clause-none c =
+    if_none c.from_residual-in_err-patience.result _ (λ options names. c.in_err-patience.ensures.none options.patience names.patience_is)
+
 pub returns-clause-found : goal.returns-clause-found
 returns-clause-found c =
     let ahead = c.flag.ensures in
+    let progress = c.flag-2.ensures in
     let printing = c.printing_of-printing.ensures in
     record {
       workers_is = c.in_ok-workers.ensures.found;
@@ -23,6 +28,8 @@ returns-clause-found c =
       incarnation_is = c.in_ok-incarnation.ensures.found;
       defs_is = c.in_ok-defs.ensures.found;
       ahead_is = read_flag c.args.given.now.rows (codes "ahead") c.flag.result ahead.none ahead.yes ahead.no;
+      patience_is = c.in_ok-patience.ensures.found;
+      progress_is = read_flag c.args.given.now.rows (codes "progress") c.flag-2.result progress.none progress.yes progress.no;
       quiet_is = printing.quiet_is;
       witness_is = printing.witness_is;
     }

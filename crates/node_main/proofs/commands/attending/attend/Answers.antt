@@ -10,7 +10,7 @@ attend_to-requires-clause-inside g c =
 pub returns-clause-report : goal.returns-clause-report
 returns-clause-report g c = λ input cubes starts.
     let at = c.in-With in
-    serving_solves c.attend_to.result input cubes c.args.options.now c.args.start at.formula at.tree at.is starts c.attend_to.ensures
+    serving_solves c.attend_to.result input cubes c.args.options.now c.args.start at.formula at.tree at.is starts c.attend_to.ensures.decides
 
 pub returns-clause-truth : goal.returns-clause-truth
 returns-clause-truth g c = λ input cubes starts.

@@ -1,0 +1,74 @@
+-- How runs of turns add up.
+use Rattle.std.proofs.Common.{◌≡◌, ◌≤◌, ℕ, ◌+◌, ◌⊎◌, ◌∙◌, inl, inr, List, [], Option, Bool, true, false, subst, arith}
+use Rattle.lrat_check.specs.declared.verdict.Verdict.{Verdict}
+use Rattle.lrat_check.specs.declared.verdict.Verdict.TheVariants.{Nothing}
+use Rattle.arriving.specs.declared.line.Line.{Line}
+use Rattle.arriving.specs.Accounts.{EachCloses, HasBegun, RoseBy}
+
+pub rose_on : (k a b c : ℕ) → RoseBy k a b → b ≤ c → RoseBy k a c
+rose_on k a b c rose rises = elim rose [
+  | inl far ↦ inl (omega (arith, far, rises))
+  | inr top ↦ inr (omega (arith, top, rises))
+]
+
+rose_more : (j k a b c : ℕ) → RoseBy j a b → RoseBy k b c → b ≤ c → RoseBy (j + k) a c
+rose_more j k a b c first second rises = elim first [
+  | inl far ↦ elim second [
+    | inl more ↦ inl (omega (arith, far, more))
+    | inr top ↦ inr top
+  ]
+  | inr top ↦ inr (omega (arith, top, rises))
+]
+
+-- another turn of a run that has begun
+pub goes_on : (base old new : ℕ) (v w : Verdict) → HasBegun base old v → RoseBy 1 old new → old ≤ new → HasBegun base new w
+goes_on base old new v w begun one rises = record {
+  one = rose_on 1 base old new begun.one rises;
+  two = inr (rose_more 1 1 base old new begun.one one rises);
+}
+
+-- the first turn
+pub begins : (old new : ℕ) (v w : Verdict) → w ≡ v → v ≡ Nothing → RoseBy 1 old new → HasBegun old new w
+begins old new v w same nothing one = record { one = one; two = inl (same ∙ nothing) }
+
+pub closes_on : (a b c m n o r s t : ℕ → ℕ) → EachCloses a b m n r s → EachCloses b c n o s t → EachCloses a c m o r t
+closes_on a b c m n o r s t first second p =
+    let x = first p in
+    let y = second p in
+    omega (arith, x, y)
+
+pub closes_then : (a b c m n o r s t : ℕ → ℕ) → EachCloses a b m n r s → ((p : ℕ) → o p ≡ n p) → ((p : ℕ) → t p + c p ≤ s p + b p) → EachCloses a c m o r t
+closes_then a b c m n o r s t first same turn p =
+    let x = first p in
+    let y = same p in
+    let z = turn p in
+    omega (arith, x, y, z)
+
+-- no turn was made yet, or the run has begun
+abbrev pub Stage : ℕ → ℕ → ℕ → List (Option Line) → Bool → Verdict → Type 0
+Stage turns base calls lines stuck verdict =
+    ((turns ≡ 0) × (lines ≡ []) × (verdict ≡ Nothing) × (stuck ≡ false) × (calls ≡ base)) ⊎ HasBegun base calls verdict
+
+pub after_turn : (turns base mid new : ℕ) (lines : List (Option Line)) (stuck : Bool) (v w : Verdict) → Stage turns base mid lines stuck v
+    → RoseBy 1 mid new → mid ≤ new → (lines ≡ [] → w ≡ v) → HasBegun base new w
+after_turn turns base mid new lines stuck v w stage one rises first = elim stage [
+  | inl at_first ↦ subst (λ b. HasBegun b new w) at_first.4 (begins mid new v w (first at_first.1) at_first.2 one)
+  | inr begun ↦ goes_on base mid new v w begun one rises
+]
+
+-- a run is not over before its first turn
+pub over_later : (turns base calls : ℕ) (lines : List (Option Line)) (stuck over : Bool) (v : Verdict) → Stage turns base calls lines stuck v
+    → (v ≡ Nothing → stuck ≡ false → over ≡ false) → over ≡ true → HasBegun base calls v
+over_later turns base calls lines stuck over v stage never is_over = elim stage [
+  | inl at_first ↦ absurd (differ (never at_first.2 at_first.3) is_over)
+  | inr begun ↦ begun
+]
+  where
+    differ : over ≡ false → over ≡ true → ⊥
+    differ before after = cc
+
+pub at_end : (turns base calls : ℕ) (lines : List (Option Line)) (stuck : Bool) (v : Verdict) → Stage turns base calls lines stuck v → 1 ≤ turns → HasBegun base calls v
+at_end turns base calls lines stuck v stage some = elim stage [
+  | inl at_first ↦ let none = at_first.0 in absurd (omega (arith, none, some))
+  | inr begun ↦ begun
+]

@@ -1,0 +1,26 @@
+use Rattle.std.proofs.Common.{rules, ◌<◌, length}
+use Rattle.arriving.proofs.Places.{turned, fresh_at, set_fresh}
+use Rattle.arriving.proofs.floor.end_all_overdue.Goals as goal
+
+pub returns-in_err-end_overdue-clause-each : goal.returns-in_err-end_overdue-clause-each
+returns-in_err-end_overdue-clause-each g c =
+    let at : c.loop-place.place < length c.loop-place.lines = search rules in
+    turned _ _ _ c.args.lines.now c.loop-place.lines c.loop-place.place c.end_overdue.new.line c.index-lines-place.result at c.end_overdue.ensures.here c.end_overdue.ensures.elsewhere c.loop-place.invariant.5
+
+pub returns-in_err-end_overdue-clause-fresh : goal.returns-in_err-end_overdue-clause-fresh
+returns-in_err-end_overdue-clause-fresh g c =
+    let at : c.loop-place.place < length c.loop-place.lines = search rules in
+    λ fresh. set_fresh c.loop-place.lines c.loop-place.place c.end_overdue.new.line (c.end_overdue.ensures.fresh (fresh_at c.loop-place.lines c.loop-place.place c.index-lines-place.result at (c.loop-place.invariant.7 fresh))) (c.loop-place.invariant.7 fresh)
+
+pub loop-place-preserved : goal.loop-place-preserved
+loop-place-preserved g c =
+    let at : c.loop-place.place < length c.loop-place.lines = search rules in (
+      search rules,
+      search rules,
+      search rules,
+      search rules,
+      search rules,
+      turned _ _ _ c.args.lines.now c.loop-place.lines c.loop-place.place c.end_overdue.new.line c.index-lines-place.result at c.end_overdue.ensures.here c.end_overdue.ensures.elsewhere c.loop-place.invariant.5,
+      search rules,
+      λ fresh. set_fresh c.loop-place.lines c.loop-place.place c.end_overdue.new.line (c.end_overdue.ensures.fresh (fresh_at c.loop-place.lines c.loop-place.place c.index-lines-place.result at (c.loop-place.invariant.7 fresh))) (c.loop-place.invariant.7 fresh),
+    )
