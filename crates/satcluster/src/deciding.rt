@@ -4,6 +4,7 @@ ghost use Rattle.command_line.specs.Options.{AreOptions};
 
 use crate::files::{no_memory, read_cubes, read_formula, refused};
 use crate::proof_file::write_proof;
+use crate::showing::{Showing, Shown};
 use hub::Hub;
 use links::{Counted, Joined, Loopback, Observed};
 use node_main::{Options, Refusal, Report, attend, begin, run_solve_of, run_work_of};
@@ -46,19 +47,30 @@ fn kept<R: Runtime + AllocGlobal>(
     Ok(report)
 }
 
+/// Where it is told how far a run has come, which is nowhere if the words do not ask for it.
+fn asked(options: &Options, showing: Showing) -> Showing {
+    if options.progress {
+        showing
+    } else {
+        Showing::Nowhere
+    }
+}
+
 /// Decides a formula in this process, over connections of its own.
 pub(crate) fn solve<R: Runtime + AllocGlobal + Net>(
     rt: &R,
     files: &Files,
     options: &Options,
+    showing: Showing,
 ) -> Result<Report, Refusal>
     requires { AreOptions options.now }
 {
     let found = read_formula(rt, files.input)?;
     let cubes = read_cubes(rt, files.cubes)?;
     let carrier = Loopback::open(rt, rt.alloc(), options.workers).map_err(not_linked)?;
-    let mut links = Counted::new(carrier);
+    let mut links = Counted::new(Shown::new(rt, carrier, asked(options, showing)));
     let run = run_solve_of(rt.alloc(), found, lent(&cubes), options, &mut links);
+    links.carrier().end();
     kept(rt, run.map_err(no_memory)?, files)
 }
 
@@ -83,6 +95,7 @@ pub(crate) fn serve<R: Runtime + AllocGlobal + Net>(
     port: u16,
     files: &Files,
     options: &Options,
+    showing: Showing,
 ) -> Result<Report, Refusal>
     requires { AreOptions options.now }
 {
@@ -90,8 +103,9 @@ pub(crate) fn serve<R: Runtime + AllocGlobal + Net>(
     let found = read_formula(rt, files.input)?;
     let cubes = read_cubes(rt, files.cubes)?;
     let start = begin(rt.alloc(), found, lent(&cubes), options).map_err(no_memory)?;
-    let mut links = Observed::new(hub);
+    let mut links = Observed::new(Shown::new(rt, hub, asked(options, showing)));
     let run = attend(rt.alloc(), start, options, &mut links);
+    links.station().end();
     let mut service = run.map_err(no_memory)?;
     if let (Some(path), Some(proof)) = (files.proof, service.proof()) {
         write_proof(rt, path, proof, files.input, files.cubes)?;

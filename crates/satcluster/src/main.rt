@@ -13,6 +13,7 @@ mod leaf_runs;
 mod lift;
 mod model;
 mod proof_file;
+mod showing;
 mod trim;
 
 use check::check;
@@ -25,8 +26,10 @@ use leaves::Search;
 use lift::lift;
 use model::model;
 use node_main::{Refusal, Report, Request, UsageFault, command, run_cubes};
+use showing::Showing;
 use std::alloc::AllocError;
 use std::env;
+use std::io::IsTerminal;
 use std::net::Net;
 use std::process::ExitCode;
 use std::rt::Runtime;
@@ -49,8 +52,12 @@ fn drill<R: Runtime + AllocGlobal>(
     node_main::drill(rt.alloc(), input.as_slice(), seed, turns).map_err(no_memory)
 }
 
-/// The report of a request, or why it has none.
-fn answer<R: Runtime + AllocGlobal + Net>(rt: &R, request: &Request) -> Result<Report, Refusal>
+/// The report of a request, or why it has none. How far a run has come is told so, where the words ask for it.
+fn answer<R: Runtime + AllocGlobal + Net>(
+    rt: &R,
+    request: &Request,
+    showing: Showing,
+) -> Result<Report, Refusal>
     requires { IsInRange request.now }
 {
     match *request {
@@ -65,7 +72,7 @@ fn answer<R: Runtime + AllocGlobal + Net>(rt: &R, request: &Request) -> Result<R
                 cubes,
                 proof,
             };
-            solve(rt, &files, &options)
+            solve(rt, &files, &options, showing)
         }
         Request::Check { input, proof } => check(rt, input, proof),
         Request::Cubes { input, depth } => cubes(rt, input, depth),
@@ -81,7 +88,7 @@ fn answer<R: Runtime + AllocGlobal + Net>(rt: &R, request: &Request) -> Result<R
                 cubes,
                 proof,
             };
-            serve(rt, port, &files, &options)
+            serve(rt, port, &files, &options, showing)
         }
         Request::Work {
             port,
@@ -172,9 +179,15 @@ fn is_quiet(request: &Request) -> bool {
 }
 
 /// The report of the words, or the line of a run without one.
-fn respond<R: Runtime + AllocGlobal + Net>(rt: &R, words: &[&str]) -> Result<Report, &'static str> {
+fn respond<R: Runtime + AllocGlobal + Net>(
+    rt: &R,
+    words: &[&str],
+    showing: Showing,
+) -> Result<Report, &'static str> {
     match command(rt.alloc(), words) {
-        Ok(request) => { answer(rt, &request).map_err(|refusal| refusal.line(is_quiet(&request))) }
+        Ok(request) => {
+            answer(rt, &request, showing).map_err(|refusal| refusal.line(is_quiet(&request)))
+        }
         Err(UsageFault::Help(text)) => {
             let report = Report::of(rt.alloc(), text.as_str().as_bytes(), 0);
             report.map_err(|_| Refusal::NoMemory.line(false))
@@ -191,15 +204,20 @@ fn words<R: Runtime + AllocGlobal>(rt: &R) -> Result<Vec<String>, Refusal> {
 }
 
 /// The report of the program's words. Where they cannot be copied it is not known whether they have `-q`.
-fn run<R: Runtime + AllocGlobal + Net>(rt: &R) -> Result<Report, &'static str> {
+fn run<R: Runtime + AllocGlobal + Net>(rt: &R, showing: Showing) -> Result<Report, &'static str> {
     let owned = words(rt).map_err(|refusal| refusal.line(false))?;
     let lent: Result<Vec<&str>, AllocError> = owned.iter().map(|w| w.as_str()).collect(rt.alloc());
     let lent = lent.map_err(|_| Refusal::NoMemory.line(false))?;
-    respond(rt, lent.as_slice())
+    respond(rt, lent.as_slice(), showing)
 }
 
 fn main(rt: HostRuntime) -> ExitCode {
-    let (printed, status) = match run(&rt) {
+    let showing = if rt.stderr().is_terminal() {
+        Showing::InPlace
+    } else {
+        Showing::Lines
+    };
+    let (printed, status) = match run(&rt, showing) {
         Ok(report) => (print(&rt, report.stdout.as_slice()), report.status),
         Err(line) => (print(&rt, line.as_bytes()), 1),
     };
