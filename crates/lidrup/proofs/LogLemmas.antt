@@ -18,7 +18,7 @@ use Rattle.lrat_text.specs.Log.{Cube}
 use Rattle.lrat_text.specs.Taking.{HandsOn, TakesAll}
 use Rattle.lrat_text.specs.declared.step.Step.{Step}
 use Rattle.lidrup.specs.CubeLog.{LeadsTo, ClosesCube}
-use Rattle.lidrup.specs.inner.Lines.{Made, MadeOf, TakesPiece, Takes, IsClosing, at_line}
+use Rattle.lidrup.specs.inner.Lines.{MadeOf, TakesPiece, Takes, IsClosing, at_line}
 use Rattle.lidrup.specs.declared.lines.CubeLines.{CubeLines}
 
 hands_none : (s : LogState) → HandsOn TakesLogLine s [] s []

@@ -1,7 +1,7 @@
-use Rattle.std.proofs.Common.{◌∙◌, List, sym, ap, subst, arith}
+use Rattle.std.proofs.Common.{◌∙◌, sym, ap, subst}
 use Rattle.std.specs.Prelude.{Contains}
 use Rattle.std.proofs.lemmas.List.{take_all}
-use Rattle.dimacs.specs.logic.Literal.{Literal, Clause, has, negation}
+use Rattle.dimacs.specs.logic.Literal.{Clause, has, negation}
 use Rattle.dimacs.proofs.Members.{has-Contains}
 use Rattle.lidrup.proofs.LogLemmas.{negates_more}
 use Rattle.lidrup.proofs.cube_log.negates.Goals as goal
