@@ -1,0 +1,2 @@
+pub mod CubeLog
+pub mod inner
