@@ -11,6 +11,7 @@ import itertools
 import os
 import resource
 import random
+import re
 import signal
 import socket
 import subprocess
@@ -315,6 +316,34 @@ def slow_reader(cluster):
     ok("a peer that reads nothing behind a full buffer")
 
 
+def patience(cluster):
+    """With `--patience` a run that nobody comes to ends, and a silent worker loses its leaf to one that is free."""
+    port = free_port()
+    coordinator = cluster.serve(port, "--workers", 1, "--patience", 1, "two.cnf")
+    cluster.ends("a coordinator that nobody comes to", coordinator, 0, "s UNKNOWN\n")
+    coordinator = cluster.serve(port, "--workers", 2, "--depth", 0, "--patience", 1, "-n", "two.cnf")
+    with socket.create_connection(("127.0.0.1", port)) as silent:
+        silent.sendall(idle(1, 1))
+        silent.settimeout(SECONDS)
+        same("a silent worker gets a task", b"CC\x01", silent.recv(3))
+        worker = cluster.start("work", "--port", port, "--number", 2, "-n", "two.cnf")
+        for what, process in (("worker", worker), ("coordinator", coordinator)):
+            cluster.ends("beside a worker that is silent, the " + what, process, 10, "s SATISFIABLE\n")
+    ok("patience: nobody comes, and a silent worker's leaf is given to another")
+
+
+def progress(cluster):
+    """With `--progress` a run tells once a second how far it has come, on standard error alone."""
+    run = cluster.start("solve", "--depth", 5, "--progress", "pigeons.cnf")
+    out, err = run.communicate(timeout=SECONDS)
+    same("a run that tells how far it is", (20, b"s UNSATISFIABLE\n"), (run.returncode, out))
+    lines = err.decode().splitlines()
+    told = r"c \d+ s: \d+ closed, \d+ given, \d+ open, \d+ split, \d+\.\d MB"
+    if not lines or not all(re.fullmatch(told, line) for line in lines):
+        differs("how far a run is", "lines like " + told, lines)
+    ok("how far a run has come, in %d lines" % len(lines))
+
+
 def lost_worker(cluster):
     port = free_port()
     coordinator = cluster.serve(port, "--workers", 2, "--depth", 3, "pigeons.cnf", "served.lrat")
@@ -401,7 +430,7 @@ def main():
         try:
             for test in (endless_files, faulty_files, refused_links, closed_peers, defined_variables):
                 test(cluster)
-            for test in (one_process, lost_worker, slow_reader, many_workers):
+            for test in (patience, one_process, progress, lost_worker, slow_reader, many_workers):
                 test(cluster)
             killed_workers(cluster, kills)
             lost_coordinator(cluster, kills // 10)
