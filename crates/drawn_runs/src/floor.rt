@@ -1,6 +1,6 @@
 //! Links in memory, over which what happens is drawn.
 
-ghost use Rattle.std.specs.Prelude.{◌≤◌, length};
+ghost use Rattle.std.specs.Prelude.{◌<◌, ◌≤◌, ℕ, IfOk, IfSome, length};
 ghost use Rattle.links.specs.Arrivals.{IsWithin};
 
 use crate::peer::Peer;
@@ -88,6 +88,7 @@ impl<'a> Floor<'a> {
     /// A number below this, from 1 on.
     fn below(&mut self, end: u64) -> u64
         requires { 1 ≤ end }
+        ensures { result < end }
     {
         self.words.next_u64() % end
     }
@@ -101,7 +102,9 @@ impl<'a> Floor<'a> {
     }
 
     /// A drawn worker links at a drawn place, where that is free. In order only one of each number does.
-    fn link(&mut self) -> Result<Option<Event>, AllocError> {
+    fn link(&mut self) -> Result<Option<Event>, AllocError>
+        ensures { IfOk result (λ found. IfSome found (λ event. (most : ℕ) → IsWithin event most)) }
+    {
         let place = self.below(PLACES as u64) as u8;
         let number = 1 + self.below(WORKERS) as u32;
         if place as usize >= self.peers.len() || self.peers[place as usize].is_some() {
@@ -118,7 +121,9 @@ impl<'a> Floor<'a> {
     }
 
     /// A link ends.
-    fn end(&mut self, place: u8) -> Option<Event> {
+    fn end(&mut self, place: u8) -> Option<Event>
+        ensures { IfSome result (λ event. (most : ℕ) → IsWithin event most) }
+    {
         let peer = self.peers.get_mut(place as usize)?;
         if let Some(gone) = peer {
             self.refused = self.refused.saturating_add(gone.refused);
@@ -128,7 +133,9 @@ impl<'a> Floor<'a> {
     }
 
     /// Some of the bytes of a worker come, or the end of its link, where it is done or is silent in order.
-    fn send(&mut self, place: u8, room: &mut [u8]) -> Option<Event> {
+    fn send(&mut self, place: u8, room: &mut [u8]) -> Option<Event>
+        ensures { IfSome result (λ event. IsWithin event (length room.new)) }
+    {
         let most = 1 + self.below(room.len() as u64 + 1) as usize;
         let is_orderly = self.disorder == 0;
         let Some(Some(peer)) = self.peers.get_mut(place as usize) else {
@@ -145,7 +152,9 @@ impl<'a> Floor<'a> {
     }
 
     /// A worker works.
-    fn work(&mut self, place: u8) -> Result<Option<Event>, AllocError> {
+    fn work(&mut self, place: u8) -> Result<Option<Event>, AllocError>
+        ensures { IfOk result (λ found. IfSome found (λ event. (most : ℕ) → IsWithin event most)) }
+    {
         if let Some(Some(peer)) = self.peers.get_mut(place as usize) {
             peer.turn()?;
         }
@@ -153,7 +162,9 @@ impl<'a> Floor<'a> {
     }
 
     /// What goes wrong while disorder lasts.
-    fn go_wrong(&mut self, place: u8) -> Result<Option<Event>, AllocError> {
+    fn go_wrong(&mut self, place: u8) -> Result<Option<Event>, AllocError>
+        ensures { IfOk result (λ found. IfSome found (λ event. (most : ℕ) → IsWithin event most)) }
+    {
         if self.disorder == 0 {
             return Ok(None);
         }
@@ -171,7 +182,9 @@ impl<'a> Floor<'a> {
     }
 
     /// What is drawn next.
-    fn draw(&mut self, room: &mut [u8]) -> Result<Option<Event>, AllocError> {
+    fn draw(&mut self, room: &mut [u8]) -> Result<Option<Event>, AllocError>
+        ensures { IfOk result (λ found. IfSome found (λ event. IsWithin event (length room.new))) }
+    {
         let place = self.below(PLACES as u64) as u8;
         match self.below(16) {
             0..=6 => Ok(self.send(place, room)),
