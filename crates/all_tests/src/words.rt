@@ -384,7 +384,7 @@ const REFUSED: &[&'static str] = &[
     "satcluster leaf --cubes f.icnf f.cnf",
     "satcluster leaf --cubes f.icnf --leaf 0 f.cnf",
     "satcluster leaf --cubes f.icnf --leaf 4294967296 f.cnf",
-    "satcluster refute --cubes f.icnf --leaf 1 --to 2 f.cnf",
+    "satcluster refute --cubes f.icnf --leaf 1 --to 0 f.cnf",
     "satcluster refute --cubes f.icnf --leaf 1 --limit 140737488355329 f.cnf",
     "satcluster join --cubes f.icnf f.cnf f.lrat",
     "satcluster join f.cnf f.lrat l.frag",
