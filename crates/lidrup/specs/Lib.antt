@@ -1,2 +1,0 @@
-pub mod CubeLog
-pub mod inner
