@@ -101,7 +101,7 @@ not_below a b e = grind (arith, nat_tests)
 pub none_of : (n i : ℕ) → ◌≡◌ {A = ℕ} (get_or (replicate n 0) i 0) 0
 none_of n i = elim (cases_lt i n) [
   | inl below ↦ get_or-replicate n i 0 0 below
-  | inr past ↦ get_or_past (replicate n 0) i 0 (let l : length (replicate n 0) ≡ n = length-replicate n 0 in omega arith)
+  | inr past ↦ get_or_past (replicate n 0) i 0 (subst (λ (k : ℕ). k ≤ i) (sym (length-replicate n 0)) past)
 ]
 
 -- ---- one place more, and one less
