@@ -1,19 +1,17 @@
 -- Lemmas that close nothing where their places are not found.
-use Rattle.std.proofs.Common.{◌≡◌, ℕ, ◌<◌, ◌≤◌, ◌⊎◌, inl, inr, Bool, true, false, ◌&&◌, ◌||◌, Option, Some, None, List, [], ◌∷◌, ◌++◌, length, refl, sym, ◌∙◌, ap, subst, arith}
-use Rattle.std.specs.Prelude.{is_none}
-use Rattle.std.specs.List.{All, Contains, list_any}
+use Rattle.std.proofs.Common.{◌≡◌, ℕ, ◌<◌, ◌≤◌, Bool, true, false, ◌&&◌, ◌||◌, Some, None, List, [], refl, sym, ◌∙◌, ap, subst, arith}
+use Rattle.std.specs.List.{All, list_any}
 use Rattle.std.proofs.lemmas.List.Elements.{All-contains}
 use Rattle.std.proofs.lemmas.List.Folds.{list_any-append}
-use Rattle.dimacs.specs.logic.Literal.{Literal, Clause, IsWithin, negation, var_of}
+use Rattle.dimacs.specs.logic.Literal.{IsWithin, negation}
 use Rattle.dimacs.proofs.LiteralLemmas.{var_of-negation}
 use Rattle.icnf.specs.Leaves.{Cube}
 use Rattle.gathering.specs.Bits.{Has}
 use Rattle.gathering.specs.Closing.{closes, Numbered, can_close}
 use Rattle.gathering.specs.declared.index.Index.{Index}
 use Rattle.gathering.specs.declared.lemma.Candidate.{Candidate}
-use Rattle.gathering.specs.declared.lemma.Lemma.{Lemma}
 use Rattle.gathering.specs.declared.tree.Node.{Node, Leaf as Single, Fork'}
-use Rattle.gathering.specs.Trees.{leaf_in, leaves_in, IsSubtree, ArePlaced, AreCovered, AreOpen, IsIndexed, Stands, row_of}
+use Rattle.gathering.specs.Trees.{leaves_in, IsSubtree, ArePlaced, AreCovered, AreOpen, IsIndexed}
 use Rattle.gathering.specs.inner.Trees.{AllStand, IsFound, candidate_of, HasSettled}
 use Rattle.gathering.proofs.SettleLemmas.{closes_negates}
 use Rattle.gathering.proofs.TreeLemmas.{placed_inside, unchanged}

@@ -1,7 +1,6 @@
 -- An index that grows.
-use Rattle.std.proofs.Common.{◌≡◌, ◌≢◌, ℕ, ◌+◌, ◌-◌, ◌*◌, ◌/◌, ◌%◌, ◌<◌, ◌≤◌, ◌⊎◌, inl, inr, List, [], ◌∷◌, ◌++◌, length, get_or, set, take, refl, sym, ◌∙◌, ap, subst, arith}
+use Rattle.std.proofs.Common.{◌≡◌, ◌≢◌, ℕ, ◌+◌, ◌-◌, ◌*◌, ◌/◌, ◌%◌, ◌<◌, ◌≤◌, inl, inr, List, [], ◌∷◌, ◌++◌, length, get_or, set, refl, sym, ◌∙◌, ap, subst, arith}
 use Rattle.std.specs.Int.{bit_at}
-use Rattle.std.specs.List.{Contains}
 use Rattle.std.proofs.Math.ListN.{replicate, length-set}
 use Rattle.std.proofs.lemmas.Bool.{cases_eq, cases_lt}
 use Rattle.std.proofs.lemmas.List.{get_or-set_same, get_or-set_other, get_or_past, get_or_append_left, get_or-append_right, get_or_read}
@@ -10,7 +9,7 @@ use Rattle.dimacs.specs.logic.Literal.{Literal, Pos, Neg, IsWithin, index_of, ne
 use Rattle.dimacs.proofs.Members.{Contains-cons_cases, Contains-nil}
 use Rattle.icnf.specs.Leaves.{Cube}
 use Rattle.gathering.specs.Bits.{Has}
-use Rattle.gathering.specs.Trees.{AreCovered, AreMet, ArePlaced, Keeps, Stands, block_of, row_of}
+use Rattle.gathering.specs.Trees.{AreCovered, AreMet, Keeps, Stands, block_of, row_of}
 use Rattle.gathering.specs.declared.index.Index.{Index}
 use Rattle.gathering.specs.declared.tree.Node.{Node, Leaf as Single, Fork'}
 use Rattle.gathering.proofs.BitLemmas.{none_of, past_none}

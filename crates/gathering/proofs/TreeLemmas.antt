@@ -1,27 +1,23 @@
 -- A tree in memory, and what a lemma closes in it.
 use Rattle.std.proofs.Common.{◌≡◌, ◌≢◌, ℕ, zero, suc, ◌+◌, ◌<◌, ◌≤◌, inl, inr, ◌⊎◌, Bool, true, false, ◌&&◌, ◌||◌, cond, Option, Some, None, List, [], ◌∷◌, ◌++◌, length, map, drop, get_or, refl, sym, ◌∙◌, ap, subst, arith, append_assoc, length-append, length-drop}
 use Rattle.std.specs.Prelude.{is_some, is_none}
-use Rattle.std.specs.List.{Contains, list_any, list_all}
+use Rattle.std.specs.List.{list_any, list_all}
 use Rattle.std.proofs.Math.Seq.{drop-append_seam, get_or-append_seam}
-use Rattle.std.proofs.lemmas.Bool.{true≢false, cases_Bool}
+use Rattle.std.proofs.lemmas.Bool.{true≢false}
 use Rattle.std.proofs.lemmas.List.{append-nil, get_or-drop, map-append}
-use Rattle.std.proofs.lemmas.List.Elements.{Contains-append_left, Contains-append_right}
 use Rattle.std.proofs.lemmas.List.Folds.{list_any-append}
-use Rattle.dimacs.specs.logic.Literal.{Literal, Clause, IsTautology, negation, has, var_of}
-use Rattle.dimacs.proofs.LiteralLemmas.{var_of-negation}
-use Rattle.dimacs.proofs.Members.{Contains-head, has-Contains}
+use Rattle.dimacs.specs.logic.Literal.{Literal, negation, var_of}
 use Rattle.icnf.specs.Leaves.{Cube, IsFree, Leaves}
 use Rattle.icnf.specs.Leaves as icnf
-use Rattle.proof_join.proofs.NodeLemmas.{no_pair_longer}
 use Rattle.gathering.specs.Closing.{closes, Numbered, Leaf, is_closed, can_close, closed_by, settled, open_from, with_open}
 use Rattle.gathering.specs.declared.lemma.Candidate.{Candidate}
 use Rattle.gathering.specs.Bits.{Has}
 use Rattle.gathering.specs.declared.index.Index.{Index}
 use Rattle.gathering.specs.declared.places.Places.{Places}
 use Rattle.gathering.specs.declared.tree.Node.{Node, Leaf as Single, Fork'}
-use Rattle.gathering.specs.Trees.{leaf_in, leaves_in, IsSubtree, ArePlaced, AreCovered, AreOpen, left_of, right_of}
+use Rattle.gathering.specs.Trees.{leaves_in, IsSubtree, ArePlaced, AreCovered, AreOpen, left_of, right_of}
 use Rattle.gathering.specs.inner.Trees.{candidate_of, AreLow, Clears, HasSettled, IsFound, IsPart, IsMadeOf, Settles, open_leaf}
-use Rattle.gathering.proofs.SettleLemmas.{both, closes_negates}
+use Rattle.gathering.proofs.SettleLemmas.{both}
 
 -- ---- a lemma that closes nothing changes nothing
 neither : (a b : Bool) → (a || b) ≡ false → (a ≡ false) × (b ≡ false)

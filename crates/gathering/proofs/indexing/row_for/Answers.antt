@@ -1,4 +1,4 @@
-use Rattle.std.proofs.Common.{◌≡◌, ◌≤◌, ◌*◌, ◌+◌, ℕ, List, length, get_or, sym, ap, subst, arith}
+use Rattle.std.proofs.Common.{◌≡◌, ◌≤◌, ◌*◌, ◌+◌, ℕ, List, length, get_or, sym, subst, arith}
 use Rattle.gathering.proofs.IndexLemmas.{append_keeps, rows_within, set_keeps, stands_still, zero_read, zeros_within}
 use Rattle.gathering.proofs.indexing.row_for.Goals as goal
 

@@ -1,7 +1,7 @@
 use Rattle.std.proofs.Common.{◌≡◌, ◌+◌, ◌<◌, ◌≤◌, ◌∙◌, ◌++◌, ◌∷◌, [], All, take, sym, ap, subst, arith}
 use Rattle.std.proofs.lemmas.List.{take_more, take_all}
 use Rattle.std.proofs.lemmas.List.Elements.{All-nil, All-cons, All-append}
-use Rattle.dimacs.specs.logic.Literal.{Literal, IsWithin, index_of, negation}
+use Rattle.dimacs.specs.logic.Literal.{Literal, IsWithin, index_of}
 use Rattle.gathering.proofs.IndexLemmas.{known_within}
 use Rattle.gathering.proofs.matching.are_known.Goals as goal
 

@@ -1,4 +1,4 @@
-use Rattle.std.proofs.Common.{◌≡◌, ◌++◌, ◌∙◌, sym, ap, subst, arith}
+use Rattle.std.proofs.Common.{◌≡◌, ◌++◌, ◌∙◌, sym, ap, subst}
 use Rattle.std.specs.List.{list_all}
 use Rattle.icnf.specs.Leaves.{Cube}
 use Rattle.gathering.specs.Closing.{is_closed}
