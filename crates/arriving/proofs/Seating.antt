@@ -119,8 +119,10 @@ apart_seated lines i line d true at answer barred kept apart = record { one_plac
     was : (place worker : ℕ) → seated_in (line_at (set lines i line) place) ≡ Some worker
         → (seated_in (line_at lines place) ≡ Some worker) ⊎ ((place ≡ i) × (queued_in (get_or lines i d) ≡ Some worker))
     was place worker seated = back lines i line d (λ w. queued_in (get_or lines i d) ≡ Some w) at kept place worker seated
+
     none : (worker : ℕ) → queued_in (get_or lines i d) ≡ Some worker → list_any (seats worker) lines ≡ false
     none worker waits = may_sit_is lines (queued_in (line_at lines i)) worker (sym answer) (ap queued_in (sym (found_at lines i d at)) ∙ waits)
+
     one_place : (p q worker : ℕ) → seated_in (line_at (set lines i line) p) ≡ Some worker → seated_in (line_at (set lines i line) q) ≡ Some worker → p ≡ q
     one_place p q worker at_p at_q = elim (was p worker at_p) [
       | inl first ↦ elim (was q worker at_q) [

@@ -25,8 +25,8 @@ loop-place-preserved g c =
       search rules,
       λ apart. apart_kept c.loop-place.lines c.loop-place.place c.tell_if_parked.new.line c.index-lines-place.result at c.tell_if_parked.ensures.seat (c.loop-place.invariant.7 apart),
       rests_on c.loop-place.lines c.loop-place.place c.tell_if_parked.new.line at
-      (not_parked c.in_ok-tell_if_parked.field-0 c.tell_if_parked.new.line c.tell_if_parked.new.desk.coordinator c.in_ok-tell_if_parked.ensures.parked c.if-branch.false)
-      c.loop-place.invariant.8,
+          (not_parked c.in_ok-tell_if_parked.field-0 c.tell_if_parked.new.line c.tell_if_parked.new.desk.coordinator c.in_ok-tell_if_parked.ensures.parked c.if-branch.false)
+          c.loop-place.invariant.8,
     )
 
 pub returns-in_err-tell_if_parked-clause-apart : goal.returns-in_err-tell_if_parked-clause-apart
