@@ -1,2 +1,4 @@
 mod Places
+mod Polls
 mod Runs
+mod Seating

@@ -1,5 +1,6 @@
 use Rattle.std.proofs.Common.{rules, ◌<◌, length}
 use Rattle.arriving.proofs.Places.{turned, fresh_at, set_fresh}
+use Rattle.arriving.proofs.Seating.{apart_kept}
 use Rattle.arriving.proofs.floor.end_all_overdue.Goals as goal
 
 pub returns-in_err-end_overdue-clause-each : goal.returns-in_err-end_overdue-clause-each
@@ -23,4 +24,10 @@ loop-place-preserved g c =
       turned _ _ _ c.args.lines.now c.loop-place.lines c.loop-place.place c.end_overdue.new.line c.index-lines-place.result at c.end_overdue.ensures.here c.end_overdue.ensures.elsewhere c.loop-place.invariant.5,
       search rules,
       λ fresh. set_fresh c.loop-place.lines c.loop-place.place c.end_overdue.new.line (c.end_overdue.ensures.fresh (fresh_at c.loop-place.lines c.loop-place.place c.index-lines-place.result at (c.loop-place.invariant.7 fresh))) (c.loop-place.invariant.7 fresh),
+      λ apart. apart_kept c.loop-place.lines c.loop-place.place c.end_overdue.new.line c.index-lines-place.result at c.end_overdue.ensures.seat (c.loop-place.invariant.8 apart),
     )
+
+pub returns-in_err-end_overdue-clause-apart : goal.returns-in_err-end_overdue-clause-apart
+returns-in_err-end_overdue-clause-apart g c = λ apart.
+    let at : c.loop-place.place < length c.loop-place.lines = search rules in
+    apart_kept c.loop-place.lines c.loop-place.place c.end_overdue.new.line c.index-lines-place.result at c.end_overdue.ensures.seat (c.loop-place.invariant.8 apart)
