@@ -9,7 +9,8 @@ use Rattle.dimacs.specs.logic.Literal.{Literal, Pos, Neg, IsWithin, index_of, ne
 use Rattle.dimacs.proofs.Members.{Contains-cons_cases, Contains-nil}
 use Rattle.icnf.specs.Leaves.{Cube}
 use Rattle.gathering.specs.Bits.{Has}
-use Rattle.gathering.specs.Trees.{AreCovered, AreMet, Keeps, Stands, block_of, row_of}
+use Rattle.gathering.specs.Trees.{AreCovered, AreMet, Stands, block_of, row_of}
+use Rattle.gathering.specs.inner.Trees.{Keeps}
 use Rattle.gathering.specs.declared.index.Index.{Index}
 use Rattle.gathering.specs.declared.tree.Node.{Node, Leaf as Single, Fork'}
 use Rattle.gathering.proofs.BitLemmas.{none_of, past_none}

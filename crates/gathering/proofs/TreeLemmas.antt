@@ -15,8 +15,8 @@ use Rattle.gathering.specs.Bits.{Has}
 use Rattle.gathering.specs.declared.index.Index.{Index}
 use Rattle.gathering.specs.declared.places.Places.{Places}
 use Rattle.gathering.specs.declared.tree.Node.{Node, Leaf as Single, Fork'}
-use Rattle.gathering.specs.Trees.{leaves_in, IsSubtree, ArePlaced, AreCovered, AreOpen, left_of, right_of}
-use Rattle.gathering.specs.inner.Trees.{candidate_of, AreLow, Clears, HasSettled, IsFound, IsPart, IsMadeOf, Settles, open_leaf}
+use Rattle.gathering.specs.Trees.{leaves_in, IsSubtree, ArePlaced, AreCovered, AreOpen}
+use Rattle.gathering.specs.inner.Trees.{candidate_of, AreLow, Clears, HasSettled, IsFound, IsPart, IsMadeOf, Settles, left_of, open_leaf, right_of}
 use Rattle.gathering.proofs.SettleLemmas.{both}
 
 -- ---- a lemma that closes nothing changes nothing

@@ -8,7 +8,6 @@ use Rattle.gathering.specs.Closing.{Numbered, Leaf, is_closed}
 use Rattle.gathering.specs.Bits.{Has}
 use Rattle.gathering.specs.declared.index.Index.{Index}
 use Rattle.gathering.specs.declared.lemma.Lemma.{Lemma}
-use Rattle.gathering.specs.declared.places.Places.{Places}
 use Rattle.gathering.specs.declared.tree.Node.{Node, Leaf as Single, Fork'}
 
 -- what a lemma in memory is
@@ -44,20 +43,6 @@ pub record Stands (index : Index) (l : Literal) (p : ℕ) : Type 0 where
   pub row : 0 < row_of index l
   pub block : 0 < block_of index l p
   pub bit : Has index.words.items (block_of index l p * 1024 + p % 1024)
-
--- whatever had a place has it still
-abbrev pub Keeps : Index → Index → Type 0
-Keeps old new = (l : Literal) (p : ℕ) → Stands old l p → Stands new l p
-
--- the places of any tree's leaves, and those of a fork's branches
-abbrev pub whole : Places
-whole = record { from = 0; to = 65536 }
-
-abbrev pub left_of : ℕ → Places → Places
-left_of middle at = record { from = at.from; to = middle }
-
-abbrev pub right_of : ℕ → Places → Places
-right_of middle at = record { from = middle; to = at.to }
 
 -- the leaves of a subtree have places between these, and they rise
 abbrev pub ArePlaced : ℕ → ℕ → Node → Type 0

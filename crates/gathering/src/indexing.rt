@@ -3,8 +3,8 @@
 ghost use Rattle.std.specs.Prelude.{◌≡◌, ℕ, ◌+◌, ◌*◌, ◌/◌, ◌^◌, ◌<◌, ◌≤◌, IfOk, OnOk, length, slice_index_or};
 ghost use Rattle.dimacs.specs.logic.Literal.{Literal, index_of, var_of};
 ghost use Rattle.gathering.specs.Bits.{Has};
-ghost use Rattle.gathering.specs.Trees.{AreCovered, AreMet, Keeps, Stands};
-ghost use Rattle.gathering.specs.inner.Trees.{AreLow};
+ghost use Rattle.gathering.specs.Trees.{AreCovered, AreMet, Stands};
+ghost use Rattle.gathering.specs.inner.Trees.{AreLow, Keeps};
 
 use crate::bits::{BLOCK, BLOCKS, WIDE, set};
 use crate::index::{CODES, Index};

@@ -1,7 +1,7 @@
 //! Places of leaves.
 
 ghost use Rattle.std.specs.Prelude.{◌≡◌, ◌≤◌, ◌^◌};
-ghost use Rattle.gathering.specs.Trees.{left_of, right_of, whole};
+ghost use Rattle.gathering.specs.inner.Trees.{left_of, right_of, whole};
 
 /// Leaves, from the place of the first to before `to`.
 #[derive(Clone, Copy)]

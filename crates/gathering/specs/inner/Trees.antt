@@ -13,6 +13,20 @@ use Rattle.gathering.specs.declared.lemma.Candidate.{Candidate}
 use Rattle.gathering.specs.declared.places.Places.{Places}
 use Rattle.gathering.specs.declared.tree.Node.{Node, Leaf as Single, Fork'}
 
+-- whatever had a place has it still
+abbrev pub Keeps : Index → Index → Type 0
+Keeps old new = (l : Literal) (p : ℕ) → Stands old l p → Stands new l p
+
+-- the places of any tree's leaves, and those of a fork's branches
+abbrev pub whole : Places
+whole = record { from = 0; to = 65536 }
+
+abbrev pub left_of : ℕ → Places → Places
+left_of middle at = record { from = at.from; to = middle }
+
+abbrev pub right_of : ℕ → Places → Places
+right_of middle at = record { from = middle; to = at.to }
+
 -- what a lemma that is lent is
 abbrev pub candidate_of : Candidate → Numbered
 candidate_of l = record { id = l.id; clause = l.clause.now }

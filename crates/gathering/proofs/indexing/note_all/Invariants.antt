@@ -1,5 +1,6 @@
 use Rattle.std.proofs.Common.{take}
-use Rattle.gathering.specs.Trees.{AreMet, Keeps}
+use Rattle.gathering.specs.Trees.{AreMet}
+use Rattle.gathering.specs.inner.Trees.{Keeps}
 use Rattle.gathering.proofs.indexing.note_all.Given as goal
 
 abbrev pub invariant-loop-l : goal.invariant-loop-l
