@@ -2,3 +2,4 @@ mod Places
 mod Polls
 mod Runs
 mod Seating
+mod Sweeping

@@ -167,6 +167,9 @@ rests_on lines i line at none so_far place below = elim (eqb_tells place i) [
   | inr differs ↦ let other = differs.1 in ap parked_in (line_there lines i place line other) ∙ so_far place (omega (arith, other, below))
 ]
 
+pub nobody_at_end : (lines : List (Option Line)) (places : ℕ) → 255 ≤ places → NobodyRests lines places → NobodyRests lines 255
+nobody_at_end lines places all so_far place below = so_far place (omega (arith, all, below))
+
 pub nobody_beyond : (lines : List (Option Line)) (places : ℕ) → length lines ≤ places → NobodyRests lines places → NobodyRests lines 255
 nobody_beyond lines places far so_far place below = elim (cases_lt place places) [
   | inl before ↦ so_far place before
@@ -197,4 +200,5 @@ not_parked false line c fact same = fact
 
 pub rests_here : (lines : List (Option Line)) (i : ℕ) (line : Option Line) (c : CoordinatorState) → i < length lines → IsSomeAnd (parked_in line) (HasNothing c)
     → AreServed (set lines i line) c
-rests_here lines i line c at rests = inr (i, subst (λ (x : Option Line). IsSomeAnd (parked_in x) (HasNothing c)) (sym (line_here lines i line at)) rests)
+rests_here lines i line c at rests =
+    AreServed.one i (subst (λ (x : Option Line). IsSomeAnd (parked_in x) (HasNothing c)) (sym (line_here lines i line at)) rests)

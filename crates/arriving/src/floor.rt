@@ -6,7 +6,7 @@ ghost use Rattle.arriving.specs.Accounts.{one_if_open, open_at};
 ghost use Rattle.arriving.specs.inner.Deliveries.{AreHeard, AreServed, HasNothing};
 ghost use Rattle.arriving.specs.inner.Greetings.{IsGreeted};
 ghost use Rattle.arriving.specs.inner.Lines.{AreFresh, IsFresh, one_if_closed};
-ghost use Rattle.arriving.specs.inner.Quiet.{is_overdue_in};
+ghost use Rattle.arriving.specs.inner.Quiet.{AreSwept, is_overdue_in, rests};
 ghost use Rattle.arriving.specs.inner.Seats.{AreApart, IsLost, line_at, may_sit, parked_in, queued_in, seated_in, seated_worker, seats};
 ghost use Rattle.links.specs.Arrivals.{begun_at};
 ghost use Rattle.links.specs.declared.arrivals.Event.{Event};
@@ -193,12 +193,20 @@ fn queued(line: &Option<Line>) -> Option<WorkerNumber>
 
 /// Whether the worker at a place waits for something to do.
 fn is_parked(line: &Option<Line>) -> bool
-    ensures { MatchBool result (IsSome (parked_in line.now)) (parked_in line.now ≡ None) }
+    ensures value { result ≡ rests line.now }
+    ensures cases { MatchBool result (IsSome (parked_in line.now)) (parked_in line.now ≡ None) }
 {
     match line {
         Some(line) => line.parked().is_some(),
         None => false,
     }
+}
+
+/// Whether the worker at some place waits for something to do.
+fn has_parked(lines: &[Option<Line>]) -> bool
+    ensures { result ≡ list_any rests lines.now }
+{
+    lines.iter().any(|line| is_parked(line))
 }
 
 /// Whether the link at a place has been quiet for too long, while another worker is free or not.
@@ -413,12 +421,13 @@ pub(crate) fn end_all_overdue<A: Arrivals>(
     ensures each { (p : ℕ) → A.refusal_count links.new p + open_at lines.new p ≤ A.refusal_count links.old p + open_at lines.old p }
     ensures fresh { AreFresh lines.old → AreFresh lines.new }
     ensures apart { AreApart lines.old → AreApart lines.new }
+    ensures swept { OnOk result (AreSwept 255 lines.old lines.new tick) }
 {
     for place in 0..u8::MAX {
         if lines.len() <= place as usize {
             return Ok(());
         }
-        let is_other_free = lines.iter().any(|line| is_parked(line));
+        let is_other_free = has_parked(lines);
         let at = At { place, tick };
         end_overdue(links, desk, at, is_other_free, &mut lines[place as usize])?;
     }

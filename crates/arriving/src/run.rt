@@ -9,6 +9,7 @@ ghost use Rattle.lrat_check.specs.declared.verdict.Verdict.TheVariants.{Nothing}
 ghost use Rattle.links.specs.Arrivals.{begun_at};
 ghost use Rattle.arriving.specs.Accounts.{AreBounded, EachCloses, HasBegun, OnceEach, RoseBy, nobody, open_of};
 ghost use Rattle.arriving.specs.Run.{formula_of, verdict_of};
+ghost use Rattle.arriving.specs.inner.Deliveries.{AreServed};
 ghost use Rattle.arriving.specs.inner.Lines.{AreFresh};
 ghost use Rattle.arriving.specs.inner.Seats.{AreApart};
 
@@ -208,6 +209,7 @@ impl Run {
         ensures each { (p : ℕ) → A.refusal_count links.new p + open_of self.new p ≤ A.refusal_count links.old p + open_of self.old p }
         ensures fresh { AreFresh self.old.lines.items → verdict_of self.new ≡ verdict_of self.old }
         ensures apart { AreApart self.old.lines.items → AreApart self.new.lines.items }
+        ensures told { OnOk result (AreServed self.new.lines.items self.new.desk.coordinator) }
     {
         self.look_round(links, before)?;
         seat_all(links, &mut self.desk, self.tick, &mut self.lines)?;
@@ -225,6 +227,7 @@ impl Run {
         ensures each { EachCloses (open_of self.old) (open_of self.new) (A.link_count links.old) (A.link_count links.new) (A.refusal_count links.old) (A.refusal_count links.new) }
         ensures first { self.old.lines.items ≡ [] → verdict_of self.new ≡ verdict_of self.old }
         ensures apart { AreApart self.old.lines.items → AreApart self.new.lines.items }
+        ensures told { OnOk result (AreServed self.new.lines.items self.new.desk.coordinator) }
     {
         let before = self.tick;
         let goes_on = self.hear_next(links)?;

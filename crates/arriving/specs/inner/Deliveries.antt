@@ -1,5 +1,5 @@
 -- What comes over a link is delivered.
-use Rattle.std.specs.Prelude.{◌≡◌, ◌≢◌, ◌<◌, ◌⊎◌, ℕ, List, [], ◌∷◌, Option, Some, None, IsSomeAnd, Ok}
+use Rattle.std.specs.Prelude.{◌≡◌, ◌≢◌, ◌<◌, ℕ, List, [], ◌∷◌, Option, Some, None, IsSomeAnd, Ok}
 use Rattle.lrat_check.specs.declared.verdict.Reaction.{Reaction}
 use Rattle.lrat_check.specs.declared.verdict.Reaction.TheVariants as reaction
 use Rattle.frames.specs.Stream.{TakesPiece}
@@ -54,6 +54,9 @@ HasNothing c worker = (coordinator_poll c worker).frame ≡ Rest
 abbrev pub NobodyRests : List (Option Line) → ℕ → Type 0
 NobodyRests lines places = (place : ℕ) → place < places → parked_in (line_at lines place) ≡ None
 
--- nobody is parked where a run looks, or the coordinator has nothing for one who is
-abbrev pub AreServed : List (Option Line) → CoordinatorState → Type 0
-AreServed lines c = NobodyRests lines 255 ⊎ ((place : ℕ) × IsSomeAnd (parked_in (line_at lines place)) (HasNothing c))
+-- Whoever is parked has nothing to do.
+pub data AreServed (lines : List (Option Line)) (c : CoordinatorState) : Type 0 where
+  -- nobody is parked where a run looks
+  nobody : NobodyRests lines 255 → AreServed lines c
+  -- the coordinator has nothing for one who is
+  one : (place : ℕ) → IsSomeAnd (parked_in (line_at lines place)) (HasNothing c) → AreServed lines c

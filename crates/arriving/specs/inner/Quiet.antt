@@ -1,8 +1,10 @@
 -- How long a link may be quiet.
-use Rattle.std.specs.Prelude.{ℕ, ◌-◌, nat_le, Bool, true, false, Option, Some, None}
+use Rattle.std.specs.Prelude.{◌≡◌, ◌<◌, ℕ, ◌-◌, nat_le, Bool, true, false, List, Option, Some, None, is_some}
+use Rattle.std.specs.List.{list_any}
 use Rattle.arriving.specs.declared.line.Line.{Line}
 use Rattle.arriving.specs.declared.line.Standing.{Standing}
 use Rattle.arriving.specs.declared.line.Standing.TheVariants.{Ungreeted, Queued, Parked, Asked, Working}
+use Rattle.arriving.specs.inner.Seats.{line_at, parked_in}
 
 -- how many ticks a line may be quiet by where it stands: 30 for what was asked for, a task as long as its patience while another worker is
 -- free; else for ever
@@ -37,3 +39,12 @@ is_overdue line tick is_other_free = is_past (ticks_by line.standing line.patien
 abbrev pub is_overdue_in : Option Line → ℕ → Bool → Bool
 is_overdue_in None tick is_other_free = false
 is_overdue_in (Some line) tick is_other_free = is_overdue line tick is_other_free
+
+-- a worker at a place is free
+abbrev pub rests : Option Line → Bool
+rests line = is_some (parked_in line)
+
+-- before this place each link that was overdue has ended, while a worker is free or not, and all others stand as they did
+pub record AreSwept (places : ℕ) (old new : List (Option Line)) (tick : ℕ) : Type 0 where
+  pub ended : (place : ℕ) → place < places → is_overdue_in (line_at old place) tick (list_any rests old) ≡ true → line_at new place ≡ None
+  pub stays : (place : ℕ) → is_overdue_in (line_at old place) tick (list_any rests old) ≡ false → line_at new place ≡ line_at old place

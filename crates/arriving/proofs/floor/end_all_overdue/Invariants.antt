@@ -2,6 +2,7 @@ use Rattle.std.proofs.Common.{◌≡◌, ◌≤◌, ℕ, ◌+◌, ◌*◌}
 use Rattle.arriving.specs.Accounts.{open_at}
 use Rattle.arriving.specs.inner.Lines.{AreFresh}
 use Rattle.arriving.specs.inner.Seats.{AreApart}
+use Rattle.arriving.proofs.Sweeping.{IsSweeping}
 use Rattle.arriving.proofs.floor.end_all_overdue.Given as goal
 
 abbrev pub invariant-loop-place : goal.invariant-loop-place
@@ -15,3 +16,4 @@ invariant-loop-place g l =
     × (l.desk.coordinator.verdict ≡ l.fn.desk.coordinator.verdict)
     × (AreFresh l.fn.lines → AreFresh l.lines)
     × (AreApart l.fn.lines → AreApart l.lines)
+    × IsSweeping l.place l.fn.lines l.lines l.tick
