@@ -5,6 +5,7 @@ ghost use Rattle.cube_split.specs.Definitions.{IsPairOf, base_with};
 ghost use Rattle.dimacs.specs.logic.Base.{pure_literals};
 ghost use Rattle.dimacs.specs.logic.Cnf.{Cnf};
 ghost use Rattle.dimacs.specs.logic.Literal.{IsWithin};
+ghost use Rattle.icnf.specs.Leaves.{Cube};
 ghost use Rattle.lrat_text.specs.Log.{Closes};
 ghost use Rattle.lrat_text.specs.Proof.{Accepts};
 ghost use Rattle.proof_join.specs.Definitions.{JoinedOver};
@@ -111,7 +112,7 @@ fn text_at(fragments: &[PackedText], i: usize) -> &PackedText
 impl Joining {
     /// The preamble's lines, before the first leaf.
     ///
-    /// It answers `TooLong` only where they would have 2^32 bytes or more.
+    /// It answers `TooLong` only where they would have 2^32 bytes or more, and every text that is joined behind them.
     pub fn begin(
         alloc: Global,
         formula: &Formula,
@@ -121,7 +122,8 @@ impl Joining {
         requires pairs { All (IsPairOf formula.now.vars) preamble.now.pairs }
         ensures begun { IfOk result (λ j. j ≡ preamble_front formula.now preamble.now.pairs) }
         ensures front { IfOk result (IsFrontOf formula.now preamble.now.pairs [] []) }
-        ensures long { IfErr result (λ f. f ≡ JoinFault.TooLong → 2 ^ 32 ≤ length (preamble_front formula.now preamble.now.pairs).standing.text) }
+        ensures long { IfErr result (λ f. f ≡ JoinFault.TooLong → (leaves : List Cube) (texts : List (List ℕ)) (text : List ℕ)
+            → JoinedOver formula.now preamble.now.pairs leaves texts text → 2 ^ 32 ≤ length text) }
     {
         let mut out = Output::behind(alloc, PackedText::new(alloc), None);
         let base = match put_preamble(alloc, &mut out, formula, preamble) {
