@@ -150,7 +150,8 @@ impl Coordinator {
         if !self.leaves.are_closed() {
             return Reaction::Taken;
         }
-        let front = begun_or(self.alloc, self.front.take(), &self.formula, &self.preamble);
+        let held = self.front.take();
+        let front = begun_or(self.alloc, held, &self.formula, &self.preamble);
         match join_rest(
             front,
             &self.formula,

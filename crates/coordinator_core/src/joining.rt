@@ -79,6 +79,14 @@ pub(crate) fn join_rest(
     }
 }
 
+/// The fragment at a place.
+fn text_at(fragments: &[PackedText], place: usize) -> &PackedText
+    requires { place < length fragments.now }
+    ensures { result.now ≡ slice_index_or fragments.now place [] }
+{
+    &fragments[place]
+}
+
 /// Joins the leaf at this place, which is closed and comes next, where joining has begun.
 fn join_next(
     front: Result<Joining, JoinFault>,
@@ -95,7 +103,7 @@ fn join_next(
 {
     let _ = tree.leaves();
     match front {
-        Ok(joining) => joining.advance(tree.cube(place), &fragments[place]),
+        Ok(joining) => joining.advance(tree.cube(place), text_at(fragments, place)),
         Err(fault) => Err(fault),
     }
 }
@@ -114,7 +122,8 @@ impl Coordinator {
         if !self.leaves.is_closed(place) {
             return false;
         }
-        let front = begun_or(self.alloc, self.front.take(), &self.formula, &self.preamble);
+        let held = self.front.take();
+        let front = begun_or(self.alloc, held, &self.formula, &self.preamble);
         match join_next(front, &self.tree, self.leaves.fragments(), place) {
             Ok(joining) => {
                 self.front = Some(joining);

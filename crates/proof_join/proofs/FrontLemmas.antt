@@ -3,20 +3,21 @@ use Rattle.std.proofs.Common.{◌≡◌, ◌≢◌, ℕ, zero, suc, ◌+◌, ◌
 use Rattle.std.specs.Prelude.{nat_eq}
 use Rattle.std.proofs.Math.Seq.{take-append_seam, get_or-append_seam}
 use Rattle.std.proofs.lemmas.Bool.{eqb-true, eq-eqb}
-use Rattle.std.proofs.lemmas.List.{append-nil, map-append, take_more, take-append-drop, take-append-le, get_or_append_left, length-take-le}
+use Rattle.std.proofs.lemmas.List.{append-nil, map-append, take_more, take_all, take-append-drop, take-append-le, get_or_append_left, length-take-le}
 use Rattle.dimacs.specs.logic.Cnf.{Cnf}
 use Rattle.dimacs.specs.logic.Literal.{Literal, Pos, Clause, negation}
 use Rattle.dimacs.proofs.LiteralLemmas.{negation-negation}
 use Rattle.icnf.specs.Leaves.{Cube}
 use Rattle.cube_split.specs.Definitions.{base_with}
 use Rattle.cube_split.specs.declared.pair.Pair.{Pair}
-use Rattle.lrat_text.specs.Runs.{text_of}
+use Rattle.lrat_text.specs.Runs.{text_of, top_of}
 use Rattle.lrat_text.specs.declared.step.Step.{Step}
 use Rattle.proof_join.specs.Definitions.{preamble_steps}
 use Rattle.proof_join.specs.Fronts.{Branch, Standing, Front, waiting, settled, appended, appended_all, preamble_front, IsFrontOf}
-use Rattle.proof_join.specs.Joining.{Closed, leaf, fork, fragments, cubes, Part, part, leaf_part}
+use Rattle.proof_join.specs.Joining.{Closed, Joined, leaf, fork, fragments, cubes, Part, part, leaf_part}
 use Rattle.proof_join.specs.inner.Fronts.{HasLeft}
 use Rattle.proof_join.specs.inner.Steps.{own_part, steps_in, steps_each}
+use Rattle.lrat_text.proofs.RunLemmas.{text_append}
 use Rattle.proof_join.proofs.SubtreeLemmas.{leaf_count, fork_text, fork_ends}
 
 -- ---- a subtree is finished
@@ -75,11 +76,11 @@ settled_shorter p ys (suc d) text top i C (left ∷ finished) h =
     (settled_shorter p ys d (text ++ text_of top own.steps) own.top own.id own.clause finished (omega arith))
 
 -- ---- leaves one after the other
-pub all_append : (f : Front) (xs ys : List Cube) (as bs : List (List Step)) → length xs ≡ length as → appended_all f (xs ++ ys) (as ++ bs) ≡ appended_all (appended_all f xs as) ys bs
-all_append f [] ys [] bs e = refl
-all_append f [] ys (a ∷ as) bs e = absurd (omega arith)
-all_append f (x ∷ xs) ys [] bs e = absurd (omega arith)
-all_append f (x ∷ xs) ys (a ∷ as) bs e = all_append (appended f x a) xs ys as bs (omega arith)
+pub all_append : (f : Front) (xs ys : List Cube) (one two : List (List Step)) → length xs ≡ length one → appended_all f (xs ++ ys) (one ++ two) ≡ appended_all (appended_all f xs one) ys two
+all_append f [] ys [] two e = refl
+all_append f [] ys (a ∷ one) two e = absurd (omega arith)
+all_append f (x ∷ xs) ys [] two e = absurd (omega arith)
+all_append f (x ∷ xs) ys (a ∷ one) two e = all_append (appended f x a) xs ys one two (omega arith)
 
 pub appended_more : (f : Front) (q : Cube) (steps : List Step) → GoesOn (f.standing.text ++ text_of f.standing.top (leaf_part f.base f.standing.top steps).steps) (appended f q steps).standing.text
 unfolding appended
@@ -191,19 +192,39 @@ front_more F pairs leaves texts f q text h =
 pub front_none : (F : Cnf) (pairs : List Pair) → IsFrontOf F pairs [] [] (preamble_front F pairs)
 front_none F pairs = record { base = refl; count = refl; each = refl; is = refl }
 
--- all leaves of a tree
-pub front_whole : (F : Cnf) (pairs : List Pair) (leaves : List Cube) (texts : List (List ℕ)) (f : Front) (tree : Closed) → IsFrontOf F pairs leaves texts f → cubes [] tree ≡ leaves → steps_each texts ≡ fragments tree
-    → f.standing.text ≡ text_of (length F.clauses) (preamble_steps F pairs) ++ text_of (length (base_with F pairs).clauses) (part (length (base_with F pairs).clauses) [] (length (base_with F pairs).clauses) tree).steps
-front_whole F pairs leaves texts f tree h leaves_are steps_are =
-    ap (λ (g : Front). g.standing.text) (h.is
-    ∙ ap (λ (cs : List Cube). appended_all (preamble_front F pairs) cs (steps_each texts)) (sym leaves_are)
+-- one leaf more of a tree
+pub front_next : (F : Cnf) (pairs : List Pair) (leaves : List Cube) (texts : List (List ℕ)) (k : ℕ) (f new : Front) (q : Cube) (text : List ℕ) → IsFrontOf F pairs (take k leaves) (take k texts) f → k < length leaves → k < length texts
+    → q ≡ get_or leaves k [] → text ≡ get_or texts k [] → new ≡ appended f q (steps_in text) → IsFrontOf F pairs (take (k + 1) leaves) (take (k + 1) texts) new
+front_next F pairs leaves texts k f new q text h inside below q_is text_is e =
+    subst (λ (ts : List (List ℕ)). IsFrontOf F pairs (take (k + 1) leaves) ts new) (ap (λ (t : List ℕ). take k texts ++ t ∷ []) text_is ∙ sym (take_more texts k [] below))
+    (subst (λ (cs : List Cube). IsFrontOf F pairs cs (take k texts ++ text ∷ []) new) (ap (λ (c : Cube). take k leaves ++ c ∷ []) q_is ∙ sym (take_more leaves k [] inside))
+    (subst (IsFrontOf F pairs (take k leaves ++ q ∷ []) (take k texts ++ text ∷ [])) (sym e) (front_more F pairs (take k leaves) (take k texts) f q text h)))
+
+-- how many those are
+pub front_count : (F : Cnf) (pairs : List Pair) (leaves : List Cube) (texts : List (List ℕ)) (k : ℕ) (f : Front) → IsFrontOf F pairs (take k leaves) (take k texts) f → k ≤ length leaves → f.count ≡ k
+front_count F pairs leaves texts k f h inside = h.count ∙ length-take-le k leaves inside
+
+-- the text of all leaves
+abbrev pub text_of_all : Cnf → List Pair → List Cube → List (List ℕ) → List ℕ
+text_of_all F pairs leaves texts = (appended_all (preamble_front F pairs) leaves (steps_each texts)).standing.text
+
+pub all_text : (F : Cnf) (pairs : List Pair) (leaves : List Cube) (texts : List (List ℕ)) (tree : Closed) → cubes [] tree ≡ leaves → steps_each texts ≡ fragments tree
+    → text_of_all F pairs leaves texts
+    ≡ text_of (length F.clauses) (preamble_steps F pairs) ++ text_of (length (base_with F pairs).clauses) (part (length (base_with F pairs).clauses) [] (length (base_with F pairs).clauses) tree).steps
+all_text F pairs leaves texts tree leaves_are steps_are =
+    ap (λ (g : Front). g.standing.text) (ap (λ (cs : List Cube). appended_all (preamble_front F pairs) cs (steps_each texts)) (sym leaves_are)
     ∙ ap (appended_all (preamble_front F pairs) (cubes [] tree)) steps_are
     ∙ tree_appended [] tree (preamble_front F pairs) tt)
 
+pub front_all : (F : Cnf) (pairs : List Pair) (leaves : List Cube) (texts : List (List ℕ)) (k : ℕ) (f : Front) → IsFrontOf F pairs (take k leaves) (take k texts) f → length leaves ≤ k → length texts ≤ k → f.standing.text ≡ text_of_all F pairs leaves texts
+front_all F pairs leaves texts k f h a b =
+    ap (λ (g : Front). g.standing.text) (h.is
+    ∙ ap (λ (cs : List Cube). appended_all (preamble_front F pairs) cs (steps_each (take k texts))) (take_all k leaves a)
+    ∙ ap (λ (ts : List (List ℕ)). appended_all (preamble_front F pairs) leaves (steps_each ts)) (take_all k texts b))
+
 -- the text of some first leaves begins that of all
-pub front_goes_on : (F : Cnf) (pairs : List Pair) (leaves : List Cube) (texts : List (List ℕ)) (k : ℕ) (f : Front) → IsFrontOf F pairs (take k leaves) (take k texts) f → (whole : Front) → IsFrontOf F pairs leaves texts whole
-    → GoesOn f.standing.text whole.standing.text
-front_goes_on F pairs leaves texts k f h whole g =
+pub front_goes_on : (F : Cnf) (pairs : List Pair) (leaves : List Cube) (texts : List (List ℕ)) (k : ℕ) (f : Front) → IsFrontOf F pairs (take k leaves) (take k texts) f → GoesOn f.standing.text (text_of_all F pairs leaves texts)
+front_goes_on F pairs leaves texts k f h =
     let same_length : length (take k leaves) ≡ length (steps_each (take k texts)) = sym (length-steps (take k texts) ∙ h.each) in
     let z = all_more f (drop k leaves) (steps_each (drop k texts)) in
     (z.0, z.1 ∙ ap (λ (x : Front). x.standing.text) (
@@ -211,5 +232,77 @@ front_goes_on F pairs leaves texts k f h whole g =
     ∙ sym (all_append (preamble_front F pairs) (take k leaves) (drop k leaves) (steps_each (take k texts)) (steps_each (drop k texts)) same_length)
     ∙ ap (appended_all (preamble_front F pairs) (take k leaves ++ drop k leaves)) (sym (map-append steps_in (take k texts) (drop k texts)))
     ∙ ap (λ (ts : List (List ℕ)). appended_all (preamble_front F pairs) (take k leaves ++ drop k leaves) (steps_each ts)) (take-append-drop k texts)
-    ∙ ap (λ (cs : List Cube). appended_all (preamble_front F pairs) cs (steps_each texts)) (take-append-drop k leaves)
-    ∙ sym g.is))
+    ∙ ap (λ (cs : List Cube). appended_all (preamble_front F pairs) cs (steps_each texts)) (take-append-drop k leaves)))
+
+-- ---- how long texts are
+pub goes_long : (short text : List ℕ) (n : ℕ) → GoesOn short text → n ≤ length short → n ≤ length text
+goes_long short text n (more, e) long = let a : length (short ++ more) ≡ length text = ap length e in let b = length-append short more in omega arith
+
+-- the preamble's lines begin what is joined behind them
+pub preamble_begins : (F : Cnf) (lines : List Step) (leaves : List Cube) (texts : List (List ℕ)) (text : List ℕ) → Joined F lines leaves texts text → GoesOn (text_of (length F.clauses) lines) text
+preamble_begins F lines leaves texts text j =
+    let b : ℕ = length F.clauses + length lines in
+    let more : List Step = (part b [] b j.tree).steps in
+    (text_of (top_of (length F.clauses) lines) more, sym (j.is ∙ text_append (length F.clauses) lines more))
+
+-- ---- as it is held
+pub made_front : (F : Cnf) (pairs : List Pair) (b : ℕ) (text : List ℕ) (finished : List Branch) → b ≡ length (base_with F pairs).clauses → text ≡ text_of (length F.clauses) (preamble_steps F pairs) → finished ≡ []
+    → ◌≡◌ {A = Front} (record { base = b; count = 0; standing = record { text = text; top = b; finished = finished } }) (preamble_front F pairs)
+made_front F pairs b text finished base_is text_is none =
+    ap (λ (n : ℕ). record { base = n; count = 0; standing = record { text = text; top = n; finished = finished } }) base_is
+    ∙ ap (λ (t : List ℕ). record { base = length (base_with F pairs).clauses; count = 0; standing = record { text = t; top = length (base_with F pairs).clauses; finished = finished } }) text_is
+    ∙ ap (λ (bs : List Branch). record { base = length (base_with F pairs).clauses; count = 0; standing = record { text = text_of (length F.clauses) (preamble_steps F pairs); top = length (base_with F pairs).clauses; finished = bs } }) none
+
+-- what a leaf leaves, and what is made of it
+pub leaf_step : (f : Front) (q : Cube) (steps : List Step) (out : List ℕ) (top id : ℕ) (C : Clause)
+    → out ≡ f.standing.text ++ text_of f.standing.top (leaf_part f.base f.standing.top steps).steps → top ≡ (leaf_part f.base f.standing.top steps).top
+    → id ≡ (leaf_part f.base f.standing.top steps).id → C ≡ (leaf_part f.base f.standing.top steps).clause
+    → settled q (length q) out top id C f.standing.finished ≡ (appended f q steps).standing
+unfolding appended
+leaf_step f q steps out top id C out_is top_is id_is C_is =
+    let p : Part = leaf_part f.base f.standing.top steps in
+    let text : List ℕ = f.standing.text ++ text_of f.standing.top p.steps in
+    ap (λ (o : List ℕ). settled q (length q) o top id C f.standing.finished) out_is
+    ∙ ap (λ (n : ℕ). settled q (length q) text n id C f.standing.finished) top_is
+    ∙ ap (λ (n : ℕ). settled q (length q) text p.top n C f.standing.finished) id_is
+    ∙ ap (λ (D : Clause). settled q (length q) text p.top p.id D f.standing.finished) C_is
+
+pub made_appended : (f : Front) (q : Cube) (steps : List Step) (out text : List ℕ) (top : ℕ) (finished : List Branch) → text ≡ out
+    → ◌≡◌ {A = Standing} (record { text = out; top = top; finished = finished }) (appended f q steps).standing
+    → ◌≡◌ {A = Front} (record { base = f.base; count = f.count + 1; standing = record { text = text; top = top; finished = finished } }) (appended f q steps)
+unfolding appended
+made_appended f q steps out text top finished same e =
+    ap (λ (t : List ℕ). record { base = f.base; count = f.count + 1; standing = record { text = t; top = top; finished = finished } }) same
+    ∙ ap (λ (s : Standing). record { base = f.base; count = f.count + 1; standing = s }) e
+
+-- what a fork leaves
+get_or_any : {X : Type 0} (xs : List X) (i : ℕ) (d e : X) → i < length xs → get_or xs i d ≡ get_or xs i e
+get_or_any [] i d e h = absurd (omega arith)
+get_or_any (x ∷ xs) zero d e h = refl
+get_or_any (x ∷ xs) (suc i) d e h = get_or_any xs i d e (omega arith)
+
+module _ (q : Cube) (d above : ℕ) (text : List ℕ) (top i : ℕ) (C : Clause) (left : Branch) (finished all : List Branch) (branch at : Literal)
+    (all_are : all ≡ left ∷ finished) (same : left.depth ≡ d) (up : d ≡ suc above) (inside : above < length q) (at_is : at ≡ get_or q above at) (branch_is : branch ≡ negation at) where
+  abbrev pub own_fork : Part
+  own_fork = own_part (take above q) branch top left.id left.clause i C
+
+  fork_there : settled q d text top i C all ≡ settled q above (text ++ text_of top own_fork.steps) own_fork.top own_fork.id own_fork.clause finished
+  fork_there =
+      ap (settled q d text top i C) all_are
+      ∙ settled_left q d above text top i C left finished up same
+      ∙ ap (λ (x : Literal). let own : Part = own_part (take above q) x top left.id left.clause i C in settled q above (text ++ text_of top own.steps) own.top own.id own.clause finished)
+      (ap negation (get_or_any q above (Pos 0) at inside ∙ sym at_is) ∙ sym branch_is)
+
+  pub fork_step : (new : List ℕ) (new_top id : ℕ) (E : Clause) → new ≡ text ++ text_of top own_fork.steps → new_top ≡ own_fork.top → id ≡ own_fork.id → E ≡ own_fork.clause
+      → settled q d text top i C all ≡ settled q above new new_top id E finished
+  fork_step new new_top id E new_is top_is id_is E_is =
+      fork_there
+      ∙ ap (λ (o : List ℕ). settled q above o own_fork.top own_fork.id own_fork.clause finished) (sym new_is)
+      ∙ ap (λ (n : ℕ). settled q above new n own_fork.id own_fork.clause finished) (sym top_is)
+      ∙ ap (λ (n : ℕ). settled q above new new_top n own_fork.clause finished) (sym id_is)
+      ∙ ap (λ (D : Clause). settled q above new new_top id D finished) (sym E_is)
+
+  pub fork_goes : GoesOn (text ++ text_of top own_fork.steps) (settled q d text top i C all).text
+  fork_goes =
+      let z = settled_more q above (text ++ text_of top own_fork.steps) own_fork.top own_fork.id own_fork.clause finished in
+      (z.0, z.1 ∙ ap (λ (s : Standing). s.text) (sym fork_there))

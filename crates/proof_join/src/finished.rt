@@ -1,7 +1,7 @@
 //! Finished subtrees that no fork has yet.
 
 ghost use Rattle.std.specs.Prelude.{◌≡◌, ◌<◌, ◌∷◌, MatchBool, MatchOption, OnOk, IfErr};
-ghost use Rattle.proof_join.specs.inner.Fronts.{HasLeft, branches};
+ghost use Rattle.proof_join.specs.inner.Fronts.{HasLeft, branch_of, branches};
 
 use crate::fault::JoinFault;
 use crate::subtree::Subtree;
@@ -18,25 +18,25 @@ fn has_left(finished: &[Finished], depth: usize) -> bool
     ensures { MatchBool result (HasLeft depth (branches finished.now)) (¬ (HasLeft depth (branches finished.now))) }
 {
     let count = finished.len();
-    if count == 0 || depth == 0 {
+    if count == 0 {
+        return false;
+    }
+    if depth == 0 {
         return false;
     }
     finished[count - 1].depth == depth
 }
 
 /// Takes the left one beside a subtree at this depth, if it is there.
-pub(crate) fn take_left(finished: &mut Vec<Finished>, depth: usize) -> Option<Subtree>
+pub(crate) fn take_left(finished: &mut Vec<Finished>, depth: usize) -> Option<Finished>
     ensures { MatchOption result
         ((finished.new.items ≡ finished.old.items) × ¬ (HasLeft depth (branches finished.old.items)))
-        (λ left. (0 < depth) × (branches finished.old.items ≡ record { depth = depth; id = left.id; clause = left.clause.items } ∷ branches finished.new.items)) }
+        (λ left. (0 < depth) × (branches finished.old.items ≡ branch_of left ∷ branches finished.new.items) × (left.depth ≡ depth)) }
 {
     if !has_left(finished, depth) {
         return None;
     }
-    match finished.pop() {
-        None => None,
-        Some(Finished { depth: _, subtree }) => Some(subtree),
-    }
+    finished.pop()
 }
 
 /// Puts one to the others.
@@ -48,8 +48,6 @@ pub(crate) fn put_finished(
     ensures put { OnOk result (branches finished.new.items ≡ record { depth = depth; id = subtree.id; clause = subtree.clause.items } ∷ branches finished.old.items) }
     ensures memory { IfErr result (λ f. f ≡ JoinFault.NoMemory) }
 {
-    match finished.push(Finished { depth, subtree }) {
-        Ok(()) => Ok(()),
-        Err(_) => Err(JoinFault::NoMemory),
-    }
+    finished.push(Finished { depth, subtree })?;
+    Ok(())
 }

@@ -88,7 +88,7 @@ fn settle(
         &mut growing.writer,
         &cube[..above],
         branch,
-        left,
+        left.subtree,
         subtree,
     ) {
         Ok(fork) => settle(alloc, growing, cube, above, fork),
