@@ -1,5 +1,5 @@
 -- Leaves that are appended one after the other make the part of their tree.
-use Rattle.std.proofs.Common.{◌≡◌, ◌≢◌, ℕ, zero, suc, ◌+◌, ◌-◌, ◌<◌, ◌≤◌, Bool, true, false, cond, List, [], ◌∷◌, ◌++◌, length, get_or, take, drop, refl, sym, ◌∙◌, ap, subst, arith, append_assoc, length-append}
+use Rattle.std.proofs.Common.{◌≡◌, ℕ, zero, suc, ◌+◌, ◌<◌, ◌≤◌, Bool, true, false, cond, List, [], ◌∷◌, ◌++◌, length, get_or, take, drop, refl, sym, ◌∙◌, ap, subst, arith, append_assoc, length-append}
 use Rattle.std.specs.Prelude.{nat_eq}
 use Rattle.std.proofs.Math.Seq.{take-append_seam, get_or-append_seam}
 use Rattle.std.proofs.lemmas.Bool.{eqb-true, eq-eqb}
@@ -226,13 +226,15 @@ front_all F pairs leaves texts k f h a b =
 pub front_goes_on : (F : Cnf) (pairs : List Pair) (leaves : List Cube) (texts : List (List ℕ)) (k : ℕ) (f : Front) → IsFrontOf F pairs (take k leaves) (take k texts) f → GoesOn f.standing.text (text_of_all F pairs leaves texts)
 front_goes_on F pairs leaves texts k f h =
     let same_length : length (take k leaves) ≡ length (steps_each (take k texts)) = sym (length-steps (take k texts) ∙ h.each) in
-    let z = all_more f (drop k leaves) (steps_each (drop k texts)) in
-    (z.0, z.1 ∙ ap (λ (x : Front). x.standing.text) (
-    ap (λ (x : Front). appended_all x (drop k leaves) (steps_each (drop k texts))) h.is
-    ∙ sym (all_append (preamble_front F pairs) (take k leaves) (drop k leaves) (steps_each (take k texts)) (steps_each (drop k texts)) same_length)
-    ∙ ap (appended_all (preamble_front F pairs) (take k leaves ++ drop k leaves)) (sym (map-append steps_in (take k texts) (drop k texts)))
-    ∙ ap (λ (ts : List (List ℕ)). appended_all (preamble_front F pairs) (take k leaves ++ drop k leaves) (steps_each ts)) (take-append-drop k texts)
-    ∙ ap (λ (cs : List Cube). appended_all (preamble_front F pairs) cs (steps_each texts)) (take-append-drop k leaves)))
+    let z = all_more f (drop k leaves) (steps_each (drop k texts)) in (
+      z.0,
+      z.1 ∙ ap (λ (x : Front). x.standing.text) (
+          ap (λ (x : Front). appended_all x (drop k leaves) (steps_each (drop k texts))) h.is
+          ∙ sym (all_append (preamble_front F pairs) (take k leaves) (drop k leaves) (steps_each (take k texts)) (steps_each (drop k texts)) same_length)
+          ∙ ap (appended_all (preamble_front F pairs) (take k leaves ++ drop k leaves)) (sym (map-append steps_in (take k texts) (drop k texts)))
+          ∙ ap (λ (ts : List (List ℕ)). appended_all (preamble_front F pairs) (take k leaves ++ drop k leaves) (steps_each ts)) (take-append-drop k texts)
+          ∙ ap (λ (cs : List Cube). appended_all (preamble_front F pairs) cs (steps_each texts)) (take-append-drop k leaves)),
+    )
 
 -- ---- how long texts are
 pub goes_long : (short text : List ℕ) (n : ℕ) → GoesOn short text → n ≤ length short → n ≤ length text

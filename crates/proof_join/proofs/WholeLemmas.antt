@@ -16,8 +16,8 @@ use Rattle.lrat_text.specs.Writing.{line_of}
 use Rattle.lrat_text.specs.declared.step.Step.{Step}
 use Rattle.lrat_text.specs.declared.step.Step.TheVariants.{Add, Delete}
 use Rattle.lrat_text.specs.Runs.{text_of, top_of}
-use Rattle.proof_join.specs.Joining.{leaf, cubes, fragments, part, AreSpelled, Joined, AllClose, IsPreamble, unit_steps}
-use Rattle.proof_join.specs.inner.Steps.{Writes, steps_in, steps_each, IsLow, AreLow, IsFragment, IsBelow}
+use Rattle.proof_join.specs.Joining.{leaf, part, AreSpelled, Joined, AllClose, IsPreamble, unit_steps}
+use Rattle.proof_join.specs.inner.Steps.{Writes, steps_in, steps_each, IsLow, AreLow, IsFragment}
 use Rattle.proof_join.proofs.JoinLemmas.{spelled_limits, some_clause, tree_closed, joined_accepts}
 use Rattle.lrat_text.specs.Proof.{Accepts}
 use Rattle.cube_split.proofs.PureLemmas.{pure_within}
@@ -139,17 +139,6 @@ module _ (F B : Cnf) (lines : List Step) (leaves : List Cube) (texts : List (Lis
 
   pub base_some : 1 ≤ length B.clauses
   base_some = some_clause B [] whole.1.tree (tree_closed B whole.1.tree leaves texts whole.1.free whole.1.leaves_are close whole.1.spelled)
-
-  abbrev pub all_below : IsBelow leaves (steps_each texts) 0 0
-  all_below = record {
-    path = [];
-    tree = whole.1.tree;
-    later = [];
-    more = [];
-    long = refl;
-    leaves_are = sym (append-nil (cubes [] whole.1.tree) ∙ whole.1.leaves_are);
-    steps_are = each_spelled texts (fragments whole.1.tree) whole.1.spelled ∙ sym (append-nil (fragments whole.1.tree));
-  }
 
   pub whole_is : IsPreamble F B lines → (base : ℕ) → base ≡ length B.clauses
       → text_of (length F.clauses) lines ++ text_of base (part base [] base whole.1.tree).steps ≡ whole.0

@@ -10,7 +10,7 @@ use Rattle.cube_split.specs.Definitions.{base_with}
 use Rattle.cube_split.specs.declared.pair.Pair.{Pair}
 use Rattle.proof_join.specs.Definitions.{preamble_steps}
 use Rattle.proof_join.specs.Joining.{Part, leaf_part}
-use Rattle.proof_join.specs.inner.Steps.{own_part, steps_each, steps_in}
+use Rattle.proof_join.specs.inner.Steps.{own_part, steps_each}
 
 -- a finished subtree that no fork has yet: the length of the path to it, its clause, and the number of that
 pub record Branch : Type 0 where

@@ -1,7 +1,7 @@
 -- What stands of a joined text, as the code holds it.
 use Rattle.std.specs.Prelude.{◌≡◌, ℕ, ◌+◌, ◌<◌, ◌≤◌, ◌^◌, List, [], ◌∷◌, length, map, reverse, All}
 use Rattle.dimacs.specs.logic.Literal.{IsWithin}
-use Rattle.proof_join.specs.Fronts.{Branch, Standing, Front}
+use Rattle.proof_join.specs.Fronts.{Branch, Front}
 use Rattle.proof_join.specs.declared.finished.Finished.{Finished}
 
 abbrev pub branch_of : Finished → Branch

@@ -1,6 +1,6 @@
-use Rattle.std.proofs.Common.{◌≡◌, ◌-◌, ◌∷◌, ◌∙◌, suc, List, All, length, arith, ap, sym, subst}
+use Rattle.std.proofs.Common.{◌-◌, ◌∷◌, ◌∙◌, List, All, length, arith, ap, sym, subst}
 use Rattle.std.proofs.lemmas.List.Elements.{All-weaker}
-use Rattle.proof_join.specs.Fronts.{Branch, Standing, settled}
+use Rattle.proof_join.specs.Fronts.{Branch, Standing}
 use Rattle.proof_join.specs.inner.Fronts.{IsUpTo, branch_of, branches}
 use Rattle.proof_join.specs.inner.Steps.{Writes}
 use Rattle.proof_join.specs.declared.subtree.Subtree.{Subtree}
@@ -29,8 +29,7 @@ settle-requires t c =
     let same = ap length wrote.0 in
     let below = wrote.1 in
     let top = c.args.growing.now.writer.top in
-    let all : All (IsUpTo c.args.growing.now.writer.top) (branch_of c.in-Some.left ∷ branches c.take_left.new.finished.items) = subst (λ (bs : List Branch). All (IsUpTo c.args.growing.now.writer.top) bs) c.in-Some.ensures.1 c.requires.finished in
-    (
+    let all : All (IsUpTo c.args.growing.now.writer.top) (branch_of c.in-Some.left ∷ branches c.take_left.new.finished.items) = subst (λ (bs : List Branch). All (IsUpTo c.args.growing.now.writer.top) bs) c.in-Some.ensures.1 c.requires.finished in (
       omega arith,
       (
         omega arith,

@@ -1,4 +1,4 @@
-use Rattle.std.proofs.Common.{◌≡◌, ℕ, ◌+◌, ◌≤◌, ◌∙◌, List, [], length, take, get_or, refl, arith, ap, sym, subst}
+use Rattle.std.proofs.Common.{◌+◌, ◌≤◌, List, [], length, take, get_or, refl, arith, ap, sym, subst}
 use Rattle.icnf.specs.Leaves.{Cube}
 use Rattle.lrat_text.specs.Log.{Closes}
 use Rattle.cube_split.specs.Definitions.{base_with}
@@ -20,8 +20,7 @@ text_at-requires c =
 
 pub advance-requires-clause-closes : goal.advance-requires-clause-closes
 advance-requires-clause-closes c =
-    let here = close_at (base_with c.args.formula.now c.args.preamble.now.pairs) c.args.tree.now c.args.fragments.now c.requires.closed c.loop-place.place (omega arith) in
-    (
+    let here = close_at (base_with c.args.formula.now c.args.preamble.now.pairs) c.args.tree.now c.args.fragments.now c.requires.closed c.loop-place.place (omega arith) in (
       base_with c.args.formula.now c.args.preamble.now.pairs,
       sym c.loop-place.invariant.front.base,
       subst (λ (q : Cube). Closes (base_with c.args.formula.now c.args.preamble.now.pairs) q c.text_at.result.now) (sym c.cube.ensures.cube)
