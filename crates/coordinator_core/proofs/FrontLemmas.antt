@@ -1,5 +1,5 @@
 -- What is joined of the first leaves stays so, whatever changes behind them.
-use Rattle.std.proofs.Common.{◌≡◌, ◌≢◌, ℕ, zero, suc, ◌+◌, ◌<◌, ◌≤◌, Bool, true, false, List, [], ◌∷◌, length, take, get_or, Option, Some, None, Result, Ok, Err, IfOk, IfErr, refl, sym, ap, ◌∙◌, subst, arith, ◌⊎◌, inl, inr}
+use Rattle.std.proofs.Common.{◌≡◌, ◌≢◌, ℕ, zero, suc, ◌+◌, ◌<◌, ◌≤◌, Bool, true, false, List, [], ◌∷◌, length, take, get_or, Option, Some, None, Result, Ok, Err, IfOk, refl, sym, ap, ◌∙◌, subst, arith, ◌⊎◌, inl, inr}
 use Rattle.std.specs.Prelude.{position, slice_get, slice_set}
 use Rattle.std.proofs.lemmas.Bool.{cases_lt}
 use Rattle.std.proofs.lemmas.List.{take-set-le}
@@ -145,10 +145,8 @@ some_joined_of F pairs tree leaves fragments o f e h = let g : IsJoined F pairs 
 
 -- ---- what calls answer
 pub at_ok : {A E : Type 0} (r : Result A E) (x : A) (P : A → Type 0) → r ≡ Ok x → IfOk r P → P x
-at_ok {A} {E} r x P e h = let g : IfOk {A} {E} (Ok x) P = subst (λ (s : Result A E). IfOk s P) e h in g
-
-pub at_err : {A E : Type 0} (r : Result A E) (x : E) (P : E → Type 0) → r ≡ Err x → IfErr r P → P x
-at_err {A} {E} r x P e h = let g : IfErr {A} {E} (Err x) P = subst (λ (s : Result A E). IfErr s P) e h in g
+at_ok (Ok y) x P e h = let same : y ≡ x = cc in subst P same h
+at_ok (Err y) x P e h = absurd cc
 
 pub begun_joined : (F : Cnf) (pairs : List Pair) (tree : List Cube) (leaves : List LeafState) (fragments : List (List ℕ)) (r : Result Front JoinFault) → IfOk r (IsFrontOf F pairs [] []) → IfOk r (IsFrontOfTree F pairs tree leaves fragments)
 begun_joined F pairs tree leaves fragments (Err e) h = tt
