@@ -24,8 +24,7 @@ join_next-requires-clause-closes c =
     let closed_there : slice_get c.self.inside.leaves.states c.place_of-place.result ≡ Some Closed = c.is_closed.ensures.0 c.if-not-is_closed.false in
     let joined : IsJoined c.self.inside.formula c.self.inside.preamble.pairs c.self.inside.tree c.self.inside.leaves.states c.fragments.result.now c.take-held.result =
     subst (IsJoined c.self.inside.formula c.self.inside.preamble.pairs c.self.inside.tree c.self.inside.leaves.states c.fragments.result.now) (sym c.take-held.ensures.value)
-    (subst (λ (ts : List (List ℕ)). IsJoined c.self.inside.formula c.self.inside.preamble.pairs c.self.inside.tree c.self.inside.leaves.states ts c.self.inside.front) (sym c.fragments.ensures) c.self.invariant.4) in
-    (
+    (subst (λ (ts : List (List ℕ)). IsJoined c.self.inside.formula c.self.inside.preamble.pairs c.self.inside.tree c.self.inside.leaves.states ts c.self.inside.front) (sym c.fragments.ensures) c.self.invariant.4) in (
       c.self.inside.formula,
       c.self.inside.preamble.pairs,
       subst (λ (ts : List (List ℕ)). Closes (base_with c.self.inside.formula c.self.inside.preamble.pairs) (get_or c.self.inside.tree c.place_of-place.result []) (get_or ts c.place_of-place.result [])) (sym c.fragments.ensures) (c.self.invariant.2.closing c.place_of-place.result closed_there),
@@ -37,8 +36,7 @@ invariant_of-self c =
     let closed_there : slice_get c.self.inside.leaves.states c.place_of-place.result ≡ Some Closed = c.is_closed.ensures.0 c.if-not-is_closed.false in
     let joined : IsJoined c.self.inside.formula c.self.inside.preamble.pairs c.self.inside.tree c.self.inside.leaves.states c.fragments.result.now c.take-held.result =
     subst (IsJoined c.self.inside.formula c.self.inside.preamble.pairs c.self.inside.tree c.self.inside.leaves.states c.fragments.result.now) (sym c.take-held.ensures.value)
-    (subst (λ (ts : List (List ℕ)). IsJoined c.self.inside.formula c.self.inside.preamble.pairs c.self.inside.tree c.self.inside.leaves.states ts c.self.inside.front) (sym c.fragments.ensures) c.self.invariant.4) in
-    (
+    (subst (λ (ts : List (List ℕ)). IsJoined c.self.inside.formula c.self.inside.preamble.pairs c.self.inside.tree c.self.inside.leaves.states ts c.self.inside.front) (sym c.fragments.ensures) c.self.invariant.4) in (
       c.self.invariant.0,
       c.self.invariant.1,
       c.self.invariant.2,

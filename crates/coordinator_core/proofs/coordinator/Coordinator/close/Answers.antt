@@ -37,8 +37,7 @@ begun_or-front-requires-clause-pairs c = pairs_inside _ c.self.invariant.2
 
 pub join_rest-requires-clause-front : goal.join_rest-requires-clause-front
 join_rest-requires-clause-front c =
-    let t = taken_at _ c.args.self.now c.args.worker c.number.result _ _ _ c.self.view_is c.number.ensures.value c.self.invariant.2 c.requires.closes c.index_mut.ensures.value c.take.ensures.value c.in-Some.is in
-    (
+    let t = taken_at _ c.args.self.now c.args.worker c.number.result _ _ _ c.self.view_is c.number.ensures.value c.self.invariant.2 c.requires.closes c.index_mut.ensures.value c.take.ensures.value c.in-Some.is in (
       c.close-before.new.self.states,
       c.begun_or-front.ensures.front c.self.inside.tree c.close-before.new.self.states c.fragments.result.now
           (held_joined _ _ _ c.self.inside.leaves c.close-before.new.self c.self.inside.front c.in-Some.job.leaf Closed c.emptied-job.result.1 c.take-held.result c.fragments.result.now c.close-before.ensures.now (leaf_unclosed _ _ _ (job_fair _ _ _ _ _ t))
