@@ -74,6 +74,13 @@ pub(crate) fn lose(coordinator: &mut Coordinator, worker: WorkerNumber)
     coordinator.lost(worker)
 }
 
+/// Has it join one leaf more, if one can be: nobody waits for longer than a leaf's fragment takes.
+pub(crate) fn join_ahead(coordinator: &mut Coordinator)
+    ensures { coordinator.new ≡ coordinator.old }
+{
+    let _ = coordinator.advance();
+}
+
 /// Whether it holds a verdict.
 pub(crate) fn is_decided(coordinator: &Coordinator) -> bool
     ensures { coordinator.now.verdict ≡ Nothing → result ≡ false }

@@ -13,7 +13,7 @@ ghost use Rattle.arriving.specs.inner.Deliveries.{AreServed};
 ghost use Rattle.arriving.specs.inner.Lines.{AreFresh};
 ghost use Rattle.arriving.specs.inner.Seats.{AreApart};
 
-use crate::coordinating::{is_decided, progress_of};
+use crate::coordinating::{is_decided, join_ahead, progress_of};
 use crate::floor::{
     Desk, end_all_overdue, end_unserved, hear_all, hear_at, reach, seat_all, tell_parked, welcome,
 };
@@ -216,7 +216,8 @@ impl Run {
         tell_parked(links, &mut self.desk, self.tick, &mut self.lines)
     }
 
-    /// Takes what comes next, ends what is overdue, links who waits, and tells who is parked. Answers whether anything may come yet.
+    /// Takes what comes next, ends what is overdue, links who waits, and tells who is parked; then joins a leaf in the time that would be
+    /// waited. Answers whether anything may come yet.
     fn turn<A: Arrivals>(&mut self, links: &mut A) -> Result<bool, AllocError>
         ensures formula { formula_of self.new ≡ formula_of self.old }
         ensures one { RoseBy 1 (A.call_count links.old) (A.call_count links.new) }
@@ -232,6 +233,7 @@ impl Run {
         let before = self.tick;
         let goes_on = self.hear_next(links)?;
         self.attend(links, before)?;
+        join_ahead(&mut self.desk.coordinator);
         Ok(goes_on)
     }
 

@@ -12,7 +12,7 @@ use Rattle.proof_join.specs.inner.Steps.{Writes}
 use Rattle.proof_join.proofs.AppendLemmas.{base_count, preamble_whole}
 use Rattle.proof_join.proofs.SubtreeLemmas.{writes_more}
 use Rattle.proof_join.proofs.WholeLemmas.{pure_small}
-use Rattle.proof_join.proofs.joining.put_preamble.Goals as goal
+use Rattle.proof_join.proofs.preamble.put_preamble.Goals as goal
 
 pub put_units-requires-clause-within : goal.put_units-requires-clause-within
 put_units-requires-clause-within c =

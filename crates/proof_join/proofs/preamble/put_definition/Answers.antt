@@ -5,7 +5,7 @@ use Rattle.cube_split.specs.Definitions.{both_clause, part_clause}
 use Rattle.proof_join.specs.inner.Steps.{Writes}
 use Rattle.proof_join.proofs.AppendLemmas.{after_one, after_two, after_three, both_line, part_line}
 use Rattle.proof_join.proofs.SubtreeLemmas.{writes_more}
-use Rattle.proof_join.proofs.joining.put_definition.Goals as goal
+use Rattle.proof_join.proofs.preamble.put_definition.Goals as goal
 
 pub returns-in-Err-put_line : goal.returns-in-Err-put_line
 returns-in-Err-put_line c =

@@ -4,7 +4,7 @@ use Rattle.cube_split.specs.declared.pair.Pair.{Pair}
 use Rattle.proof_join.specs.Definitions.{all_steps, definition_steps}
 use Rattle.proof_join.proofs.AppendLemmas.{pair_more, pairs_front}
 use Rattle.proof_join.proofs.SubtreeLemmas.{writes_more}
-use Rattle.proof_join.proofs.joining.put_definitions.Goals as goal
+use Rattle.proof_join.proofs.preamble.put_definitions.Goals as goal
 
 pub returns-in-Err-clause-text : goal.returns-in-Err-clause-text
 returns-in-Err-clause-text c =

@@ -1,7 +1,7 @@
 use Rattle.std.proofs.Common.{◌≡◌, ◌+◌, ◌^◌, ◌<◌, ◌++◌, take, length}
 use Rattle.proof_join.specs.Joining.{unit_steps}
 use Rattle.lrat_text.specs.Runs.{text_of}
-use Rattle.proof_join.proofs.joining.put_units.Given as goal
+use Rattle.proof_join.proofs.preamble.put_units.Given as goal
 
 abbrev pub invariant-loop-unit : goal.invariant-loop-unit
 invariant-loop-unit l = record {

@@ -1,7 +1,7 @@
 use Rattle.std.proofs.Common.{◌≡◌, ◌+◌, ◌*◌, ◌^◌, ◌<◌, ◌++◌, take, length}
 use Rattle.lrat_text.specs.Runs.{text_of}
 use Rattle.proof_join.specs.Definitions.{all_steps}
-use Rattle.proof_join.proofs.joining.put_definitions.Given as goal
+use Rattle.proof_join.proofs.preamble.put_definitions.Given as goal
 
 -- the lines of the pairs so far
 abbrev pub invariant-loop-pair : goal.invariant-loop-pair

@@ -6,7 +6,7 @@ use Rattle.proof_join.specs.Joining.{unit_steps}
 use Rattle.lrat_text.specs.Runs.{text_of, top_of}
 use Rattle.proof_join.proofs.SubtreeLemmas.{writes_more}
 use Rattle.proof_join.proofs.WholeLemmas.{unit_more, units_front}
-use Rattle.proof_join.proofs.joining.put_units.Goals as goal
+use Rattle.proof_join.proofs.preamble.put_units.Goals as goal
 
 pub returns-in-Err-clause-text : goal.returns-in-Err-clause-text
 returns-in-Err-clause-text c =
