@@ -1,5 +1,5 @@
 -- Lemmas that close cubes.
-use Rattle.std.proofs.Common.{◌≡◌, ◌⊎◌, inl, inr, ℕ, ◌+◌, ◌<◌, ◌∙◌, Bool, true, false, List, [], ◌++◌, Some, refl, sym, ap, subst, length, take, get_or}
+use Rattle.std.proofs.Common.{◌≡◌, ◌⊎◌, inl, inr, ℕ, ◌+◌, ◌<◌, ◌∙◌, Bool, true, false, List, [], ◌++◌, Ok, Some, refl, sym, ap, subst, length, take, get_or}
 use Rattle.std.specs.Prelude.{Contains, MatchBool}
 use Rattle.std.specs.Bool.{OnTrue}
 use Rattle.std.specs.FinMap.{get}
@@ -13,10 +13,14 @@ use Rattle.lrat_check.proofs.LogLines.{HasTakenLog, log_taken}
 use Rattle.lrat_text.specs.Grammar.{LineSpells}
 use Rattle.lrat_text.specs.Log.{Cube}
 use Rattle.lrat_text.specs.declared.step.Step.{Step}
-use Rattle.lidrup.specs.CubeLog.{LeadsTo, ClosesCube, IsClosing, Negates}
+use Rattle.lidrup.specs.CubeLog.{ClosesCube, IsClosed, IsEnded, LeadsTo, Stands}
+use Rattle.lidrup.specs.Lidrup.{ClosesQuery, IsClosing, Negates, State, closing_of, lidrup_of}
+use Rattle.lidrup.specs.View.{state_of}
+use Rattle.lidrup.specs.declared.cube_log.CubeLog.{CubeLog}
+use Rattle.lidrup.proofs.LogLemmas.{ends_ok, stands_base}
 
 -- a live lemma closes the cube
-pub closes_cube : (F : Cnf) (q : Cube) (text : List ℕ) (s : LogState) (number : ℕ) → LeadsTo F text s → IsClosing s number q → ClosesCube F q text
+pub closes_cube : (F : Cnf) (q : Cube) (text : List ℕ) (s : LogState) (number : ℕ) → LeadsTo F text s → IsClosing s.base s.live number q → ClosesCube F q text
 closes_cube F q text s number l k =
     let taken : (steps : List Step) × HasTakenLog F text steps s [] = log_taken F l.start text s [] l.begun l.hands in
     let steps = taken.0 in
@@ -51,11 +55,41 @@ negates_more q C i l inside at here before k m = elim (Contains-push_cases (take
   | inr same ↦ subst (λ j. Contains q (negation j)) (at ∙ same) here
 ]
 
-pub closing_is : (s : LogState) (number : ℕ) (q : Cube) (C : Clause) → s.base < number → get s.live number ≡ Some C → Negates q C → IsClosing s number q
-closing_is s number q C own lives negates = record { clause = C; own = own; lives = lives; negates = negates }
+pub closing_is : (m : ℕ) (live : ClauseMap) (number : ℕ) (q : Cube) (C : Clause) → m < number → get live number ≡ Some C → Negates q C → IsClosing m live number q
+closing_is m live number q C own lives negates = record { clause = C; own = own; lives = lives; negates = negates }
 
-pub closing_not : (s : LogState) (number : ℕ) (q : Cube) (C : Clause) → get s.live number ≡ Some C → ¬ (Negates q C) → ¬ (IsClosing s number q)
-closing_not s number q C lives not k =
+pub closing_not : (m : ℕ) (live : ClauseMap) (number : ℕ) (q : Cube) (C : Clause) → get live number ≡ Some C → ¬ (Negates q C) → ¬ (IsClosing m live number q)
+closing_not m live number q C lives not k =
     let both : Some C ≡ Some k.clause = sym lives ∙ k.lives in
     let same : k.clause ≡ C = cc in
     not (subst (Negates q) same k.negates)
+
+-- what is told of a query is told of the text
+pub closes_text : (F : Cnf) (bytes written : List ℕ) (x : CubeLog) (query : ℕ) (q : Cube) (b : Bool) → IsEnded x → Stands F bytes written x → MatchBool b (IsClosed x query q) (¬ (IsClosed x query q))
+    → MatchBool b (ClosesQuery F bytes query q) (¬ (ClosesQuery F bytes query q))
+closes_text F bytes written x query q b e s =
+    match_weaker b (IsClosed x query q) (¬ (IsClosed x query q)) (ClosesQuery F bytes query q) (¬ (ClosesQuery F bytes query q)) to (λ not k. not (back k))
+  where
+    state : State
+    state = state_of x.lines.known
+
+    comes : lidrup_of F bytes ≡ Ok (written ++ x.lines.out.items, state)
+    comes = (ends_ok F bytes written x e.fine e.whole s).comes
+
+    base : x.lines.known.log.checker.base ≡ length F.clauses
+    base = stands_base F bytes written x e.fine s
+
+    to : IsClosed x query q → ClosesQuery F bytes query q
+    to k = record {
+      log = written ++ x.lines.out.items;
+      state = state;
+      comes = comes;
+      closing = subst (λ (m : ℕ). IsClosing m state.live (closing_of state query) q) base k.closing;
+    }
+
+    back : ClosesQuery F bytes query q → IsClosed x query q
+    back k =
+        let both : Ok (written ++ x.lines.out.items, state) ≡ Ok (k.log, k.state) = sym comes ∙ k.comes in
+        let pair : (written ++ x.lines.out.items, state) ≡ (k.log, k.state) = cc in
+        let same : k.state ≡ state = sym (ap (λ (p : List ℕ × State). p.1) pair) in
+        record { fine = e.fine; closing = subst (λ (m : ℕ). IsClosing m state.live (closing_of state query) q) (sym base) (subst (λ (t : State). IsClosing (length F.clauses) t.live (closing_of t query) q) same k.closing) }

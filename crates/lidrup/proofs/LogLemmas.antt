@@ -132,13 +132,21 @@ leads_spells F text s l =
     let h : HasTakenLog F text taken.0 s [] = taken.1 in
     (taken.0, subst (λ (x : List ℕ). LineSpells x taken.0) (sym (h.whole ∙ append-nil h.front)) h.spelled, h.log)
 
+-- the checker's formula has as many clauses
+pub stands_base : (F : Cnf) (bytes written : List ℕ) (x : CubeLog) → x.fault ≡ None → Stands F bytes written x → x.lines.known.log.checker.base ≡ length F.clauses
+stands_base F bytes written x fine s =
+    let l = s.log fine in
+    let taken : (steps : List Step) × HasTakenLog F (written ++ x.lines.out.items) steps x.lines.known.log.checker [] =
+    log_taken F l.start (written ++ x.lines.out.items) x.lines.known.log.checker [] l.begun l.hands in
+    taken.1.base
+
 -- what is known at the end of a text without a fault that ends so
 at_end : (F : Cnf) (bytes written : List ℕ) (x : CubeLog) → x.fault ≡ None → IsOpen x.begun → Stands F bytes written x
-    → lidrup_of F bytes ≡ behind (written ++ x.lines.out.items) (lidrup_end x.lines.line x.begun)
+    → lidrup_of F bytes ≡ behind (written ++ x.lines.out.items) (lidrup_end (state_of x.lines.known) x.lines.line x.begun)
 at_end F bytes written x fine bare s = at s.taken
   where
     at : (x.fault ≡ Some no_memory) ⊎ ((more : List ℕ) → lidrup_of F (bytes ++ more) ≡ behind (written ++ x.lines.out.items) (text_after x more))
-        → lidrup_of F bytes ≡ behind (written ++ x.lines.out.items) (lidrup_end x.lines.line x.begun)
+        → lidrup_of F bytes ≡ behind (written ++ x.lines.out.items) (lidrup_end (state_of x.lines.known) x.lines.line x.begun)
     at (inl e) = absurd (let no : ◌≡◌ {A = Option CheckFault} None (Some no_memory) = sym fine ∙ e in cc)
     at (inr h) =
         ap (lidrup_of F) (sym (append-nil bytes))
@@ -147,12 +155,12 @@ at_end F bytes written x fine bare s = at s.taken
         ∙ ap (λ (b : List ℕ). behind (written ++ x.lines.out.items) (lidrup_text x.lines.known.log.checker.base (state_of x.lines.known) x.lines.line b)) (append-nil x.begun)
         ∙ ap (behind (written ++ x.lines.out.items)) (text-end x.lines.known.log.checker.base (state_of x.lines.known) x.lines.line x.begun bare)
 
-pub ends_ok : (F : Cnf) (bytes written : List ℕ) (x : CubeLog) → x.fault ≡ None → x.begun ≡ [] → Stands F bytes written x → EndsAs F bytes (written ++ x.lines.out.items) (Ok tt)
+pub ends_ok : (F : Cnf) (bytes written : List ℕ) (x : CubeLog) → x.fault ≡ None → x.begun ≡ [] → Stands F bytes written x → EndsAs F bytes (written ++ x.lines.out.items) (state_of x.lines.known) (Ok tt)
 ends_ok F bytes written x fine none s = record {
-  written =
+  comes =
       at_end F bytes written x fine (subst (λ (b : List ℕ). IsOpen b) (sym none) (All-nil (λ b. eqb b 10 ≡ false))) s
-      ∙ ap (λ (b : List ℕ). behind (written ++ x.lines.out.items) (lidrup_end x.lines.line b)) none
-      ∙ ap (λ (o : List ℕ). Ok o) (append-nil (written ++ x.lines.out.items));
+      ∙ ap (λ (b : List ℕ). behind (written ++ x.lines.out.items) (lidrup_end (state_of x.lines.known) x.lines.line b)) none
+      ∙ ap (λ (o : List ℕ). Ok (o, state_of x.lines.known)) (append-nil (written ++ x.lines.out.items));
   is_log = leads_spells F (written ++ x.lines.out.items) x.lines.known.log.checker (s.log fine);
 }
 
@@ -160,14 +168,14 @@ pub ends_cut : (F : Cnf) (bytes written : List ℕ) (x : CubeLog) → x.fault �
     → lidrup_of F bytes ≡ refused 1 x.lines.line 2
 ends_cut F bytes written x fine bare some s = at_end F bytes written x fine bare s ∙ at x.begun some
   where
-    at : (b : List ℕ) → eqb (length b) 0 ≡ false → behind (written ++ x.lines.out.items) (lidrup_end x.lines.line b) ≡ refused 1 x.lines.line 2
+    at : (b : List ℕ) → eqb (length b) 0 ≡ false → behind (written ++ x.lines.out.items) (lidrup_end (state_of x.lines.known) x.lines.line b) ≡ refused 1 x.lines.line 2
     at [] e = absurd (both_ways (eqb 0 0) e refl)
     at (b ∷ bs) e = refl
 
-pub ends_fault : (F : Cnf) (bytes written : List ℕ) (x : CubeLog) (fault : CheckFault) → x.fault ≡ Some fault → Stands F bytes written x → EndsAs F bytes (written ++ x.lines.out.items) (Err fault)
+pub ends_fault : (F : Cnf) (bytes written : List ℕ) (x : CubeLog) (fault : CheckFault) → x.fault ≡ Some fault → Stands F bytes written x → EndsAs F bytes (written ++ x.lines.out.items) (state_of x.lines.known) (Err fault)
 ends_fault F bytes written x fault is s = at s.taken
   where
-    at : (x.fault ≡ Some no_memory) ⊎ ((more : List ℕ) → lidrup_of F (bytes ++ more) ≡ behind (written ++ x.lines.out.items) (text_after x more)) → EndsAs F bytes (written ++ x.lines.out.items) (Err fault)
+    at : (x.fault ≡ Some no_memory) ⊎ ((more : List ℕ) → lidrup_of F (bytes ++ more) ≡ behind (written ++ x.lines.out.items) (text_after x more)) → EndsAs F bytes (written ++ x.lines.out.items) (state_of x.lines.known) (Err fault)
     at (inl e) = inl (let same : ◌≡◌ {A = Option CheckFault} (Some fault) (Some no_memory) = sym is ∙ e in cc)
     at (inr h) = inr (
         ap (lidrup_of F) (sym (append-nil bytes))

@@ -23,7 +23,7 @@ behind_none (Ok rest) = refl
 behind_none (Err fault) = refl
 
 pub behind_append : (a b : List ℕ) (t : Text) → behind (a ++ b) t ≡ behind a (behind b t)
-behind_append a b (Ok rest) = ap (λ (x : List ℕ). Ok x) (append_assoc a b rest)
+behind_append a b (Ok rest) = ap (λ (x : List ℕ). Ok (x, rest.1)) (append_assoc a b rest.0)
 behind_append a b (Err fault) = refl
 
 -- ---- lines
@@ -39,7 +39,7 @@ text-line m s n line rest none =
     (fun_ext (λ t. sym (ap (by_pieces (lidrup_pieces m t (n + 1))) more.2)))
 
 -- and ends where no line is left
-pub text-end : (m : ℕ) (s : State) (n : ℕ) (text : List ℕ) → All (λ b. is_lf b ≡ false) text → lidrup_text m s n text ≡ lidrup_end n text
+pub text-end : (m : ℕ) (s : State) (n : ℕ) (text : List ℕ) → All (λ b. is_lf b ≡ false) text → lidrup_text m s n text ≡ lidrup_end s n text
 unfolding lidrup_text lidrup_pieces
 text-end m s n text none = ap (by_pieces (lidrup_pieces m s n)) (slice_split_none is_lf text none)
 

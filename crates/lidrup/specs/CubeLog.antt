@@ -1,9 +1,9 @@
 -- The log of many cubes, beside the bytes of it that are handed out.
-use Rattle.std.specs.Prelude.{◌≡◌, ◌⊎◌, ℕ, ◌<◌, List, [], ◌++◌, Option, Some, None, Result, Ok, Err, Contains, length}
+use Rattle.std.specs.Prelude.{◌≡◌, ◌⊎◌, ℕ, ◌<◌, List, [], ◌++◌, Option, Some, None, Result, Ok, Err, length}
 use Rattle.std.specs.FinMap.{get}
 use Rattle.dimacs.specs.logic.ClauseMap.{map_of}
 use Rattle.dimacs.specs.logic.Cnf.{Cnf}
-use Rattle.dimacs.specs.logic.Literal.{Literal, Clause, negation}
+use Rattle.dimacs.specs.logic.Literal.{Clause}
 use Rattle.lrat_check.specs.Checking.{no_memory}
 use Rattle.lrat_check.specs.Logs.{IsBegun, LogState, SpellsLog, TakesLogLine}
 use Rattle.lrat_check.specs.declared.checking.CheckFault.{CheckFault}
@@ -12,7 +12,7 @@ use Rattle.lrat_text.specs.Log.{Cube, IsLog}
 use Rattle.lrat_text.specs.Runs.{after_steps}
 use Rattle.lrat_text.specs.Taking.{HandsOn}
 use Rattle.lrat_text.specs.declared.step.Step.{Step}
-use Rattle.lidrup.specs.Lidrup.{Text, behind, closing_of, lidrup_of, lidrup_text}
+use Rattle.lidrup.specs.Lidrup.{IsClosing, Negates, State, Text, behind, closing_of, lidrup_of, lidrup_text}
 use Rattle.lidrup.specs.View.{state_of}
 use Rattle.lidrup.specs.declared.cube_log.CubeLog.{CubeLog}
 use Rattle.lidrup.specs.declared.known.Known.{Known}
@@ -44,32 +44,26 @@ abbrev pub KeepsLog : List ℕ → CubeLog → CubeLog → Type 0
 KeepsLog piece old new = (F : Cnf) (bytes written : List ℕ) → Stands F bytes written old → Stands F (bytes ++ piece) written new
 
 -- ---- the end
--- the text comes to this log, which is one over the formula
-pub record ComesTo (F : Cnf) (bytes log : List ℕ) : Type 0 where
-  pub written : lidrup_of F bytes ≡ Ok log
+-- the text comes to this log, which is one over the formula, and this is known behind it
+pub record ComesTo (F : Cnf) (bytes log : List ℕ) (s : State) : Type 0 where
+  pub comes : lidrup_of F bytes ≡ Ok (log, s)
   pub is_log : SpellsLog F log
 
 -- what is answered where no further byte comes: the text comes to the log that was written; or its first fault
-abbrev pub EndsAs : Cnf → List ℕ → List ℕ → Result (Unit {0}) CheckFault → Type 0
-EndsAs F bytes log (Ok _) = ComesTo F bytes log
-EndsAs F bytes log (Err fault) = (fault ≡ no_memory) ⊎ (lidrup_of F bytes ≡ Err fault)
+abbrev pub EndsAs : Cnf → List ℕ → List ℕ → State → Result (Unit {0}) CheckFault → Type 0
+EndsAs F bytes log s (Ok _) = ComesTo F bytes log s
+EndsAs F bytes log s (Err fault) = (fault ≡ no_memory) ⊎ (lidrup_of F bytes ≡ Err fault)
+
+-- no line was refused, and none is begun
+pub record IsEnded (x : CubeLog) : Type 0 where
+  pub fine : x.fault ≡ None
+  pub whole : x.begun ≡ []
 
 -- ---- cubes
--- each literal of the clause is the negation of one of the cube's
-abbrev pub Negates : Cube → Clause → Type 0
-Negates q C = (l : Literal) → Contains C l → Contains q (negation l)
-
--- a lemma of the log's own is live under this number, and closes the cube
-pub record IsClosing (s : LogState) (number : ℕ) (q : Cube) : Type 0 where
-  pub clause : Clause
-  pub own : s.base < number
-  pub lives : get s.live number ≡ Some clause
-  pub negates : Negates q clause
-
 -- no line was refused, and the lemma that closes the cube of a query, from 0, closes this cube
 pub record IsClosed (x : CubeLog) (query : ℕ) (q : Cube) : Type 0 where
   pub fine : x.fault ≡ None
-  pub closing : IsClosing x.lines.known.log.checker (closing_of (state_of x.lines.known) query) q
+  pub closing : IsClosing x.lines.known.log.checker.base x.lines.known.log.checker.live (closing_of (state_of x.lines.known) query) q
 
 -- the text is a log over the formula, at whose end a lemma of its own is live that closes the cube
 pub record ClosesCube (F : Cnf) (q : Cube) (text : List ℕ) : Type 0 where

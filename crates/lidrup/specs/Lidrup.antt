@@ -1,14 +1,15 @@
 -- The log over a formula that a LIDRUP text comes to, line by line; or the text's first fault.
-use Rattle.std.specs.Prelude.{ℕ, ◌+◌, ◌-◌, ◌==◌, nat_eq, nat_lt, nat_le, List, [], ◌∷◌, ◌++◌, Option, Some, None, Result, Ok, Err, length, map, take, slice_index, if◌then◌else◌}
+use Rattle.std.specs.Prelude.{◌≡◌, ℕ, ◌<◌, ◌+◌, ◌-◌, ◌==◌, nat_eq, nat_lt, nat_le, List, [], ◌∷◌, ◌++◌, Option, Some, None, Result, Ok, Err, Contains, length, map, take, slice_index, if◌then◌else◌}
+use Rattle.std.specs.FinMap.{get}
 use Rattle.dimacs.specs.logic.ClauseMap.{ClauseMap, map_of}
 use Rattle.dimacs.specs.logic.Cnf.{Cnf}
-use Rattle.dimacs.specs.logic.Literal.{Clause, negation}
+use Rattle.dimacs.specs.logic.Literal.{Literal, Clause, negation}
 use Rattle.dimacs.specs.text.Words.{lines}
 use Rattle.lrat_check.specs.Faults.{is_none_left}
 use Rattle.lrat_check.specs.Logs.{log_step_fault}
 use Rattle.lrat_check.specs.declared.checking.CheckFault.{CheckFault}
 use Rattle.lrat_text.specs.Faults.{fault_number}
-use Rattle.lrat_text.specs.Log.{after_step, top_after}
+use Rattle.lrat_text.specs.Log.{Cube, after_step, top_after}
 use Rattle.lrat_text.specs.Runs.{text_of}
 use Rattle.lrat_text.specs.declared.fault.TextFault.{TextFault}
 use Rattle.lrat_text.specs.declared.step.Step.{Step}
@@ -114,16 +115,16 @@ take_read m s (Ok line) = take_line m s line
 take_read m s (Err fault) = Err (1, fault_number fault)
 
 -- ---- texts
--- the log, or the fault
+-- the log, and what is known behind the text; or the fault
 abbrev pub Text : Type 0
-Text = Result (List ℕ) CheckFault
+Text = Result (List ℕ × State) CheckFault
 
 abbrev pub refused : ℕ → ℕ → ℕ → Text
 refused number line text = Err (record { number = number; line = line; text = text })
 
 -- bytes, and those that come behind them
 abbrev pub behind : List ℕ → Text → Text
-behind front (Ok rest) = Ok (front ++ rest)
+behind front (Ok rest) = Ok (front ++ rest.0, rest.1)
 behind front (Err fault) = Err fault
 
 abbrev pub going_on : ℕ → ℕ → Taken → (State → Text) → Text
@@ -135,13 +136,13 @@ abbrev pub lidrup_line : ℕ → State → ℕ → List ℕ → (State → Text)
 lidrup_line m s line text later = if s.empty == 0 then going_on line s.top (take_read m s (line_in text)) later else later s
 
 -- behind the last LF stands nothing
-abbrev pub lidrup_end : ℕ → List ℕ → Text
-lidrup_end line [] = Ok []
-lidrup_end line (b ∷ bs) = refused 1 line 2
+abbrev pub lidrup_end : State → ℕ → List ℕ → Text
+lidrup_end s line [] = Ok ([], s)
+lidrup_end s line (b ∷ bs) = refused 1 line 2
 
 -- the pieces of a text between LFs; the first is the line of this number
 unfoldable pub lidrup_pieces : ℕ → State → ℕ → List ℕ → List (List ℕ) → Text
-lidrup_pieces m s line piece [] = lidrup_end line piece
+lidrup_pieces m s line piece [] = lidrup_end s line piece
 lidrup_pieces m s line piece (next ∷ pieces) = lidrup_line m s line piece (λ t. lidrup_pieces m t (line + 1) next pieces)
 
 -- a text has at least one piece
@@ -165,3 +166,21 @@ lidrup_of F text = lidrup_text (length F.clauses) (begun F) 1 text
 -- the number of the lemma that closes the cube of a query, from 0: the empty one closes each; 0 if there is none
 abbrev pub closing_of : State → ℕ → ℕ
 closing_of s query = if s.empty == 0 then slice_index s.closings query else s.empty
+
+-- each literal of the clause is the negation of one of the cube's
+abbrev pub Negates : Cube → Clause → Type 0
+Negates q C = (l : Literal) → Contains C l → Contains q (negation l)
+
+-- behind a formula of m clauses, a lemma of the log's own is live under this number, and closes the cube
+pub record IsClosing (m : ℕ) (live : ClauseMap) (number : ℕ) (q : Cube) : Type 0 where
+  pub clause : Clause
+  pub own : m < number
+  pub lives : get live number ≡ Some clause
+  pub negates : Negates q clause
+
+-- the text comes to a log, and the lemma that closes the cube of a query closes this cube
+pub record ClosesQuery (F : Cnf) (text : List ℕ) (query : ℕ) (q : Cube) : Type 0 where
+  pub log : List ℕ
+  pub state : State
+  pub comes : lidrup_of F text ≡ Ok (log, state)
+  pub closing : IsClosing (length F.clauses) state.live (closing_of state query) q

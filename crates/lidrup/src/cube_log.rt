@@ -3,7 +3,9 @@
 ghost use Rattle.std.specs.Prelude.{◌≡◌, ◌++◌, ℕ, List, [], IfOk, OnOk, IfErr, MatchBool};
 ghost use Rattle.std.specs.Bool.{OnTrue};
 ghost use Rattle.dimacs.specs.logic.Cnf.{Cnf};
-ghost use Rattle.lidrup.specs.CubeLog.{ClosesCube, EndsAs, IsClosed, IsClosing, KeepsLog, Negates, Stands};
+ghost use Rattle.lidrup.specs.CubeLog.{ClosesCube, EndsAs, IsClosed, IsEnded, KeepsLog, Stands};
+ghost use Rattle.lidrup.specs.Lidrup.{ClosesQuery, IsClosing, Negates};
+ghost use Rattle.lidrup.specs.View.{state_of};
 ghost use Rattle.lidrup.specs.inner.Acting.{Leads, LeadsToFault};
 
 use crate::fault::out_of_memory;
@@ -83,7 +85,8 @@ impl CubeLog {
 
     /// Where no further byte comes: what was written is the log that the text comes to; or the text's first fault.
     pub fn finish(&self) -> Result<(), CheckFault>
-        ensures { (F : Cnf) (bytes written : List ℕ) → Stands F bytes written self.now → EndsAs F bytes (written ++ self.now.lines.out.items) result }
+        ensures ends { (F : Cnf) (bytes written : List ℕ) → Stands F bytes written self.now → EndsAs F bytes (written ++ self.now.lines.out.items) (state_of self.now.lines.known) result }
+        ensures ended { OnOk result (IsEnded self.now) }
     {
         if let Some(fault) = self.fault {
             return Err(fault);
@@ -98,9 +101,11 @@ impl CubeLog {
         })
     }
 
-    /// Whether the lemma that closes the cube of a query of the text, counted from 0, closes this cube.
+    /// Whether the lemma that closes the cube of a query of the text, counted from 0, closes this cube; no where a line was refused.
     pub fn closes(&self, query: usize, cube: &[Lit]) -> bool
         ensures which { MatchBool result (IsClosed self.now query cube.now) (¬ (IsClosed self.now query cube.now)) }
+        // so it is by the definition, where the text has ended
+        ensures text { (F : Cnf) (bytes written : List ℕ) → IsEnded self.now → Stands F bytes written self.now → MatchBool result (ClosesQuery F bytes query cube.now) (¬ (ClosesQuery F bytes query cube.now)) }
         // the log has such a lemma then
         ensures closes { OnTrue result ((F : Cnf) (bytes written : List ℕ) → Stands F bytes written self.now → ClosesCube F cube.now (written ++ self.now.lines.out.items)) }
     {
@@ -117,7 +122,7 @@ impl CubeLog {
 
 /// Whether a lemma of the log is live under this number, and has negations of the cube's literals alone.
 fn has_closing(log: &LogChecker, number: u64, cube: &[Lit]) -> bool
-    ensures { MatchBool result (IsClosing log.now number cube.now) (¬ (IsClosing log.now number cube.now)) }
+    ensures { MatchBool result (IsClosing log.now.base log.now.live number cube.now) (¬ (IsClosing log.now.base log.now.live number cube.now)) }
 {
     if number <= log.base() {
         return false;

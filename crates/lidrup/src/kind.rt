@@ -85,11 +85,7 @@ fn body(line: &[u8]) -> &[u8]
 }
 
 /// Leaves the line of LRAT text that says what a line of this kind says.
-pub(crate) fn spell(
-    kind: StepKind,
-    line: &[u8],
-    spelled: &mut Vec<u8>,
-) -> Result<(), AllocError>
+pub(crate) fn spell(kind: StepKind, line: &[u8], spelled: &mut Vec<u8>) -> Result<(), AllocError>
     ensures { OnOk result (spelled.new.items ≡ lrat_line kind line.now) }
 {
     spelled.clear();
