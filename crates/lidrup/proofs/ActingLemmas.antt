@@ -1,12 +1,11 @@
 -- What a line comes to, and what the code does.
-use Rattle.std.proofs.Common.{◌≡◌, ◌⊎◌, inl, inr, ℕ, ◌+◌, ◌-◌, ◌≤◌, ◌<◌, Bool, true, false, List, [], ◌∷◌, ◌++◌, Option, Some, None, Ok, Err, cond, refl, sym, ◌∙◌, ap, subst, length, take, append_assoc, eqb, arith, length-append}
-use Rattle.std.specs.Prelude.{nat_le, nat_lt, option_map, map}
+use Rattle.std.proofs.Common.{◌≡◌, ◌⊎◌, inl, inr, ℕ, ◌+◌, ◌-◌, Bool, true, false, List, [], ◌∷◌, ◌++◌, Option, Some, None, Ok, Err, cond, refl, sym, ◌∙◌, ap, subst, length, take, eqb, arith, length-append}
+use Rattle.std.specs.Prelude.{option_map}
 use Rattle.std.proofs.lemmas.List.{append-nil, take_at}
 use Rattle.std.proofs.lemmas.List.Elements.{All-cons, All-nil}
 use Rattle.dimacs.specs.logic.ClauseMap.{ClauseMap}
-use Rattle.dimacs.specs.logic.Literal.{Clause, negation}
 use Rattle.lrat_check.specs.Checking.{no_memory}
-use Rattle.lrat_check.specs.Logs.{LogState, TakesLogLine, RefusesLogLine, after_line, by_fault as by_log_fault, line_read, log_line, log_step_fault}
+use Rattle.lrat_check.specs.Logs.{LogState, TakesLogLine, RefusesLogLine, after_line, by_fault as by_log_fault, line_read, log_step_fault}
 use Rattle.lrat_check.specs.declared.checking.CheckFault.{CheckFault}
 use Rattle.lrat_check.proofs.Lines.{no_lf_from}
 use Rattle.lrat_check.proofs.Logs.{takes_line}
@@ -15,12 +14,12 @@ use Rattle.lrat_text.specs.Lines.{IsOpen}
 use Rattle.lrat_text.specs.Log.{after_step, top_after}
 use Rattle.lrat_text.specs.Reading.{step_in}
 use Rattle.lrat_text.specs.Runs.{text_of}
-use Rattle.lrat_text.specs.Taking.{HandsOn, ended}
+use Rattle.lrat_text.specs.Taking.{HandsOn}
 use Rattle.lrat_text.specs.Writing.{line_of, line_text}
 use Rattle.lrat_text.specs.declared.step.Step.{Step}
 use Rattle.lrat_text.proofs.LineLemmas.{written_spells, written_one_line}
 use Rattle.lrat_text.proofs.SpellingLemmas.{spelled_found}
-use Rattle.lidrup.specs.Lidrup.{Names, State, Taken, Text, after, behind, by_fault, empty_after, going_on, lidrup_line, logged, take_read}
+use Rattle.lidrup.specs.Lidrup.{Names, State, Taken, after, by_fault, empty_after, going_on, logged, take_read}
 use Rattle.lidrup.specs.Lines.{line_in}
 use Rattle.lidrup.specs.View.{state_of}
 use Rattle.lidrup.specs.inner.Acting.{Acts, Checked, Logs, LineStops, RefusesLog, Stays, Takes, fault_of_log}

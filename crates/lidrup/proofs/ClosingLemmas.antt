@@ -1,5 +1,5 @@
 -- Lemmas that close cubes.
-use Rattle.std.proofs.Common.{◌≡◌, ◌⊎◌, inl, inr, ℕ, ◌+◌, ◌<◌, ◌∙◌, Bool, true, false, List, [], ◌++◌, Ok, Some, refl, sym, ap, subst, length, take, get_or}
+use Rattle.std.proofs.Common.{◌≡◌, inl, inr, ℕ, ◌+◌, ◌<◌, ◌∙◌, Bool, true, false, List, [], ◌++◌, Ok, Some, sym, ap, subst, length, take, get_or}
 use Rattle.std.specs.Prelude.{Contains, MatchBool}
 use Rattle.std.specs.Bool.{OnTrue}
 use Rattle.std.specs.FinMap.{get}

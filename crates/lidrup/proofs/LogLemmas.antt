@@ -1,5 +1,5 @@
 -- The log of many cubes, beside the bytes of it that are handed out.
-use Rattle.std.proofs.Common.{◌≡◌, ◌⊎◌, inl, inr, ℕ, ◌∙◌, Bool, true, false, List, [], ◌∷◌, ◌++◌, Option, Some, None, Ok, Err, eqb, refl, sym, ap, subst, append_assoc, length, arith}
+use Rattle.std.proofs.Common.{◌≡◌, ◌⊎◌, inl, inr, ℕ, ◌∙◌, true, false, List, [], ◌∷◌, ◌++◌, Option, Some, None, Ok, Err, eqb, refl, sym, ap, subst, append_assoc, length, arith}
 use Rattle.std.specs.Prelude.{is_some}
 use Rattle.std.proofs.lemmas.Bool.{both_ways, ne_eqb}
 use Rattle.std.proofs.lemmas.List.{append-nil}
@@ -13,7 +13,7 @@ use Rattle.lrat_text.specs.Grammar.{LineSpells}
 use Rattle.lrat_text.specs.Lines.{IsOpen}
 use Rattle.lrat_text.specs.Taking.{HandsOn}
 use Rattle.lrat_text.specs.declared.step.Step.{Step}
-use Rattle.lidrup.specs.CubeLog.{LeadsTo, Stands, ComesTo, EndsAs, by_kept, text_after}
+use Rattle.lidrup.specs.CubeLog.{LeadsTo, Stands, EndsAs, by_kept, text_after}
 use Rattle.lidrup.specs.Lidrup.{State, Text, begun, behind, lidrup_end, lidrup_of, lidrup_text, refused}
 use Rattle.lidrup.specs.View.{state_of}
 use Rattle.lidrup.specs.inner.Acting.{Leads, LeadsToFault}

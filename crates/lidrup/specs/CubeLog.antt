@@ -15,7 +15,6 @@ use Rattle.lrat_text.specs.declared.step.Step.{Step}
 use Rattle.lidrup.specs.Lidrup.{IsClosing, Negates, State, Text, behind, closing_of, lidrup_of, lidrup_text}
 use Rattle.lidrup.specs.View.{state_of}
 use Rattle.lidrup.specs.declared.cube_log.CubeLog.{CubeLog}
-use Rattle.lidrup.specs.declared.known.Known.{Known}
 
 -- ---- what has been taken
 -- the text is a log over the formula, whose lines led to this state

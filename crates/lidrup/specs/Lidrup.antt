@@ -11,7 +11,6 @@ use Rattle.lrat_check.specs.declared.checking.CheckFault.{CheckFault}
 use Rattle.lrat_text.specs.Faults.{fault_number}
 use Rattle.lrat_text.specs.Log.{Cube, after_step, top_after}
 use Rattle.lrat_text.specs.Runs.{text_of}
-use Rattle.lrat_text.specs.declared.fault.TextFault.{TextFault}
 use Rattle.lrat_text.specs.declared.step.Step.{Step}
 use Rattle.lrat_text.specs.declared.step.Step.TheVariants.{Add, Delete}
 use Rattle.lidrup.specs.Lines.{Line, Given, Learnt, Closed, Deleted, Asked, Silent, Read, line_in}

@@ -1,5 +1,5 @@
 -- What the code does with a line.
-use Rattle.std.specs.Prelude.{◌≡◌, ◌⊎◌, ℕ, ◌+◌, List, [], ◌∷◌, ◌++◌, ◌==◌, Option, Some, None, Ok, Err, option_map, if◌then◌else◌}
+use Rattle.std.specs.Prelude.{◌≡◌, ◌⊎◌, ℕ, ◌+◌, List, [], ◌++◌, ◌==◌, Some, None, Ok, Err, option_map, if◌then◌else◌}
 use Rattle.lrat_check.specs.Checking.{no_memory}
 use Rattle.lrat_check.specs.Logs.{LogState, TakesLogLine, log_step_fault}
 use Rattle.lrat_check.specs.declared.checking.CheckFault.{CheckFault}

@@ -1,5 +1,4 @@
 use Rattle.std.proofs.Common.{◌≡◌, ◌++◌, ◌∙◌, ℕ, None, subst, sym}
-use Rattle.std.specs.Bool.{MatchBool}
 use Rattle.lidrup.specs.CubeLog.{IsClosed}
 use Rattle.lidrup.specs.Lidrup.{IsClosing}
 use Rattle.lidrup.proofs.ClosingLemmas.{closes_cube, closes_text, match_weaker, true_of}

@@ -1,5 +1,5 @@
-use Rattle.std.proofs.Common.{◌∙◌, refl, sym}
-use Rattle.lidrup.proofs.LogLemmas.{no_fault, stands_fault, stands_kept, stands_more}
+use Rattle.std.proofs.Common.{◌∙◌, sym}
+use Rattle.lidrup.proofs.LogLemmas.{no_fault, stands_more}
 use Rattle.lidrup.proofs.cube_log.CubeLog.feed.Goals as goal
 
 pub returns-in-Ok : goal.returns-in-Ok
