@@ -20,6 +20,8 @@ mod joining;
 #[cfg(test)]
 mod lifted;
 #[cfg(test)]
+mod many_cubes;
+#[cfg(test)]
 mod pieces;
 #[cfg(test)]
 mod profile;

@@ -1,0 +1,76 @@
+-- The log of many cubes, beside the bytes of it that are handed out.
+use Rattle.std.specs.Prelude.{◌≡◌, ◌⊎◌, ℕ, ◌<◌, List, [], ◌++◌, Option, Some, None, Result, Ok, Err, length}
+use Rattle.std.specs.FinMap.{get}
+use Rattle.dimacs.specs.logic.ClauseMap.{map_of}
+use Rattle.dimacs.specs.logic.Cnf.{Cnf}
+use Rattle.dimacs.specs.logic.Literal.{Clause}
+use Rattle.lrat_check.specs.Checking.{no_memory}
+use Rattle.lrat_check.specs.Logs.{IsBegun, LogState, SpellsLog, TakesLogLine}
+use Rattle.lrat_check.specs.declared.checking.CheckFault.{CheckFault}
+use Rattle.lrat_text.specs.Grammar.{LineSpells}
+use Rattle.lrat_text.specs.Log.{Cube, IsLog}
+use Rattle.lrat_text.specs.Runs.{after_steps}
+use Rattle.lrat_text.specs.Taking.{HandsOn}
+use Rattle.lrat_text.specs.declared.step.Step.{Step}
+use Rattle.lidrup.specs.Lidrup.{IsClosing, Negates, State, Text, behind, closing_of, lidrup_of, lidrup_text}
+use Rattle.lidrup.specs.View.{state_of}
+use Rattle.lidrup.specs.declared.cube_log.CubeLog.{CubeLog}
+
+-- ---- what has been taken
+-- the text is a log over the formula, whose lines led to this state
+pub record LeadsTo (F : Cnf) (text : List ℕ) (s : LogState) : Type 0 where
+  pub start : LogState
+  pub begun : IsBegun F start
+  pub hands : HandsOn TakesLogLine start text s []
+
+-- a fault stays
+abbrev pub by_kept : Option CheckFault → Text → Text
+by_kept None rest = rest
+by_kept (Some fault) rest = Err fault
+
+-- what is written where these bytes are still to come, and no others
+abbrev pub text_after : CubeLog → List ℕ → Text
+text_after x more = by_kept x.fault (lidrup_text x.lines.known.log.checker.base (state_of x.lines.known) x.lines.line (x.begun ++ more))
+
+-- These bytes of a text have been taken, and behind the bytes written stands what is not handed out yet: whatever follows, the log that
+-- the text comes to begins with them. And they are a log over the formula, unless a line was refused.
+pub record Stands (F : Cnf) (bytes written : List ℕ) (x : CubeLog) : Type 0 where
+  pub taken : (x.fault ≡ Some no_memory) ⊎ ((more : List ℕ) → lidrup_of F (bytes ++ more) ≡ behind (written ++ x.lines.out.items) (text_after x more))
+  pub log : x.fault ≡ None → LeadsTo F (written ++ x.lines.out.items) x.lines.known.log.checker
+
+-- a piece is taken behind the bytes before
+abbrev pub KeepsLog : List ℕ → CubeLog → CubeLog → Type 0
+KeepsLog piece old new = (F : Cnf) (bytes written : List ℕ) → Stands F bytes written old → Stands F (bytes ++ piece) written new
+
+-- ---- the end
+-- the text comes to this log, which is one over the formula, and this is known behind it
+pub record ComesTo (F : Cnf) (bytes log : List ℕ) (s : State) : Type 0 where
+  pub comes : lidrup_of F bytes ≡ Ok (log, s)
+  pub is_log : SpellsLog F log
+
+-- what is answered where no further byte comes: the text comes to the log that was written; or its first fault
+abbrev pub EndsAs : Cnf → List ℕ → List ℕ → State → Result (Unit {0}) CheckFault → Type 0
+EndsAs F bytes log s (Ok _) = ComesTo F bytes log s
+EndsAs F bytes log s (Err fault) = (fault ≡ no_memory) ⊎ (lidrup_of F bytes ≡ Err fault)
+
+-- no line was refused, and none is begun
+pub record IsEnded (x : CubeLog) : Type 0 where
+  pub fine : x.fault ≡ None
+  pub whole : x.begun ≡ []
+
+-- ---- cubes
+-- no line was refused, and the lemma that closes the cube of a query, from 0, closes this cube
+pub record IsClosed (x : CubeLog) (query : ℕ) (q : Cube) : Type 0 where
+  pub fine : x.fault ≡ None
+  pub closing : IsClosing x.lines.known.log.checker.base x.lines.known.log.checker.live (closing_of (state_of x.lines.known) query) q
+
+-- the text is a log over the formula, at whose end a lemma of its own is live that closes the cube
+pub record ClosesCube (F : Cnf) (q : Cube) (text : List ℕ) : Type 0 where
+  pub steps : List Step
+  pub spells : LineSpells text steps
+  pub is_log : IsLog F steps
+  pub id : ℕ
+  pub clause : Clause
+  pub own : length F.clauses < id
+  pub lives : get (after_steps (map_of F) steps) id ≡ Some clause
+  pub negates : Negates q clause

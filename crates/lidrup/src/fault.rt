@@ -1,0 +1,66 @@
+//! Why a line is refused.
+
+ghost use Rattle.std.specs.Prelude.{◌≡◌};
+ghost use Rattle.lrat_check.specs.Checking.{no_memory};
+ghost use Rattle.lidrup.specs.inner.Faults.{line_refusal};
+ghost use Rattle.lidrup.specs.declared.fault.LineFault.TheVariants.{NoMemory};
+
+use lrat_check::CheckFault;
+use lrat_text::TextFault;
+use std::alloc::{AllocError, AllocFailed};
+
+/// The first fault of a line.
+#[derive(Clone, Copy)]
+pub(crate) enum LineFault {
+    /// The line says nothing that a line can.
+    Text(TextFault),
+    /// A number is not above those before it.
+    NumberNotRising,
+    /// A hint or a closing lemma is not there.
+    UnknownClause,
+    /// The line of the log that it comes to has the fault of this number.
+    OfLog(u8),
+    /// A growth was refused, or a number has no room.
+    NoMemory,
+}
+
+impl From<AllocError> for LineFault {
+    ghost from_gives = { λ _ e. e ≡ NoMemory };
+
+    fn from(_e: AllocError) -> LineFault {
+        LineFault::NoMemory
+    }
+}
+
+impl<T: Drop> From<AllocFailed<T>> for LineFault {
+    ghost from_gives = { λ _ e. e ≡ NoMemory };
+
+    fn from(_e: AllocFailed<T>) -> LineFault {
+        LineFault::NoMemory
+    }
+}
+
+/// The fault of a growth that was refused.
+pub(crate) fn out_of_memory() -> CheckFault
+    ensures { result ≡ no_memory }
+{
+    CheckFault {
+        number: 14,
+        line: 0,
+        text: 0,
+    }
+}
+
+/// The fault of the line of this number.
+pub(crate) fn refused(fault: LineFault, line: u64) -> CheckFault
+    ensures { result ≡ line_refusal fault line }
+{
+    let (number, text) = match fault {
+        LineFault::Text(fault) => (1, fault.number()),
+        LineFault::NumberNotRising => (2, 0),
+        LineFault::UnknownClause => (3, 0),
+        LineFault::OfLog(number) => (number, 0),
+        LineFault::NoMemory => return out_of_memory(),
+    };
+    CheckFault { number, line, text }
+}

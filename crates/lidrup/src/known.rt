@@ -1,0 +1,238 @@
+//! What a line of a LIDRUP text comes to.
+
+ghost use Rattle.std.specs.Prelude.{◌≡◌, ◌+◌, ℕ, List, [], All, IfOk, IfErr, OnOk, map};
+ghost use Rattle.dimacs.specs.logic.Literal.{IsWithin, negation};
+ghost use Rattle.lrat_check.specs.Logs.{IsBegun};
+ghost use Rattle.lrat_text.specs.Grammar.{IsClauseNumber, IsStep};
+ghost use Rattle.lrat_text.specs.Steps.{step_of};
+ghost use Rattle.lrat_text.specs.declared.step.Step.TheVariants as owned;
+ghost use Rattle.lidrup.specs.Lidrup.{begun, closing_of as closing_in, logged, naming, take_line, take_read};
+ghost use Rattle.lidrup.specs.Lines.{Given, Learnt, Closed, Deleted, Asked, said};
+ghost use Rattle.lidrup.specs.View.{state_of};
+ghost use Rattle.lidrup.specs.inner.Acting.{Acts, Stays};
+
+use crate::fault::LineFault;
+use crate::kind::StepKind;
+use crate::logging::CheckedLog;
+use crate::names::Names;
+use crate::numbers::{LIMIT, forget, translate};
+use dimacs::{Formula, Lit};
+use lrat_text::{StepRef, TextFault};
+use std::alloc::{AllocError, Global};
+
+/// What is known between two lines.
+#[derive(Drop)]
+pub(crate) struct Known {
+    pub(crate) log: CheckedLog,
+    pub(crate) names: Names,
+    /// The greatest foreign number.
+    pub(crate) last: u64,
+    /// How many clauses of the formula were given.
+    pub(crate) given: u64,
+    /// The number of the lemma that closed a cube last; 0 if there is none.
+    pub(crate) closing: u64,
+    /// The number of such a lemma, by the queries in turn; 0 if there is none.
+    pub(crate) closings: Vec<u64>,
+    /// The numbers of a line of the log, and its literals.
+    numbers: Vec<u64>,
+    literals: Vec<Lit>,
+}
+
+/// The fault of a line that has something where its kind has nothing.
+const BAD: LineFault = LineFault::Text(TextFault::BadToken);
+
+/// Leaves the negations of literals.
+fn negate(lits: &[Lit], negated: &mut Vec<Lit>) -> Result<(), AllocError>
+    ensures { OnOk result (negated.new.items ≡ map negation lits.now) }
+{
+    negated.clear();
+    for l in lits {
+        negated.push(l.negate())?;
+    }
+    Ok(())
+}
+
+impl Known {
+    /// Nothing is known of a text over the formula.
+    pub(crate) fn of(alloc: Global, formula: Formula) -> Result<Known, AllocError>
+        ensures state { IfOk result (λ x. state_of x ≡ begun formula) }
+        ensures log { IfOk result (λ x. IsBegun formula x.log.checker) }
+    {
+        let log = CheckedLog::of(alloc, formula)?;
+        let names = Names::new(alloc)?;
+        Ok(Known {
+            log,
+            names,
+            last: 0,
+            given: 0,
+            closing: 0,
+            closings: Vec::new(alloc),
+            numbers: Vec::new(alloc),
+            literals: Vec::new(alloc),
+        })
+    }
+
+    /// The number of the lemma that closes the cube of a query, from 0; 0 if there is none.
+    pub(crate) fn closing_of(&self, query: usize) -> u64
+        ensures { result ≡ closing_in (state_of self.now) query }
+    {
+        if self.log.empty != 0 {
+            return self.log.empty;
+        }
+        if query < self.closings.len() {
+            return self.closings[query];
+        }
+        0
+    }
+
+    /// A lemma is added, with `numbers` for its hints, and named.
+    fn add(&mut self, id: u64, lits: &[Lit], out: &mut Vec<u8>) -> Result<(), LineFault>
+        requires literals { All (IsWithin 2000000) lits.now }
+        requires hints { All IsClauseNumber self.old.numbers.items }
+        ensures took { OnOk result (Acts (logged self.old.log.checker.base (naming (state_of self.old) id (self.old.log.checker.top + 1)) (owned.Add (self.old.log.checker.top + 1) lits.now self.old.numbers.items [])) self.old self.new out.old.items out.new.items) }
+        ensures refused { IfErr result (Stays (logged self.old.log.checker.base (naming (state_of self.old) id (self.old.log.checker.top + 1)) (owned.Add (self.old.log.checker.top + 1) lits.now self.old.numbers.items []))) }
+    {
+        match self.log.add(lits, &self.numbers, out) {
+            Ok(()) => {}
+            Err(fault) => return Err(fault),
+        }
+        self.names.put(id, self.log.checker.top())?;
+        self.last = id;
+        Ok(())
+    }
+
+    /// A clause is given.
+    fn give(&mut self, id: u64, lits: &[Lit], out: &mut Vec<u8>) -> Result<(), LineFault>
+        requires { All (IsWithin 2000000) lits.now }
+        ensures took { OnOk result (Acts (take_line self.old.log.checker.base (state_of self.old) (Given id lits.now)) self.old self.new out.old.items out.new.items) }
+        ensures refused { IfErr result (Stays (take_line self.old.log.checker.base (state_of self.old) (Given id lits.now))) }
+    {
+        if id <= self.last {
+            return Err(LineFault::NumberNotRising);
+        }
+        let clauses = self.log.checker.base();
+        if self.given < clauses {
+            let number = self.given + 1;
+            self.names.put(id, number)?;
+            self.given = number;
+            self.last = id;
+            return Ok(());
+        }
+        if self.closing == 0 {
+            return Err(LineFault::UnknownClause);
+        }
+        if self.closing >= LIMIT {
+            return Err(LineFault::NoMemory);
+        }
+        self.numbers.clear();
+        self.numbers.push(self.closing)?;
+        self.add(id, lits, out)
+    }
+
+    /// A lemma was learnt.
+    fn learn(
+        &mut self,
+        id: u64,
+        lits: &[Lit],
+        hints: &[u64],
+        out: &mut Vec<u8>,
+    ) -> Result<(), LineFault>
+        requires { All (IsWithin 2000000) lits.now }
+        ensures took { OnOk result (Acts (take_line self.old.log.checker.base (state_of self.old) (Learnt id lits.now hints.now)) self.old self.new out.old.items out.new.items) }
+        ensures refused { IfErr result (Stays (take_line self.old.log.checker.base (state_of self.old) (Learnt id lits.now hints.now))) }
+    {
+        if id <= self.last {
+            return Err(LineFault::NumberNotRising);
+        }
+        if !translate(&self.names, hints, &mut self.numbers)? {
+            return Err(LineFault::UnknownClause);
+        }
+        self.add(id, lits, out)
+    }
+
+    /// The cube that was asked for last is closed, by these literals of it.
+    fn close(&mut self, lits: &[Lit], hints: &[u64], out: &mut Vec<u8>) -> Result<(), LineFault>
+        requires { All (IsWithin 2000000) lits.now }
+        ensures took { OnOk result (Acts (take_line self.old.log.checker.base (state_of self.old) (Closed lits.now hints.now)) self.old self.new out.old.items out.new.items) }
+        ensures refused { IfErr result (Stays (take_line self.old.log.checker.base (state_of self.old) (Closed lits.now hints.now))) }
+    {
+        if self.closings.is_empty() {
+            return Err(LineFault::UnknownClause);
+        }
+        if !translate(&self.names, hints, &mut self.numbers)? {
+            return Err(LineFault::UnknownClause);
+        }
+        negate(lits, &mut self.literals)?;
+        match self.log.add(&self.literals, &self.numbers, out) {
+            Ok(()) => {}
+            Err(fault) => return Err(fault),
+        }
+        let number = self.log.checker.top();
+        self.closings.pop();
+        self.closings.push(number)?;
+        self.closing = number;
+        Ok(())
+    }
+
+    /// Clauses go.
+    fn delete(&mut self, ids: &[u64], out: &mut Vec<u8>) -> Result<(), LineFault>
+        ensures took { OnOk result (Acts (take_line self.old.log.checker.base (state_of self.old) (Deleted ids.now)) self.old self.new out.old.items out.new.items) }
+        ensures refused { IfErr result (Stays (take_line self.old.log.checker.base (state_of self.old) (Deleted ids.now))) }
+    {
+        let clauses = self.log.checker.base();
+        forget(&mut self.names, clauses, ids, &mut self.numbers)?;
+        if self.numbers.is_empty() {
+            return Ok(());
+        }
+        self.log.delete(&self.numbers, out)
+    }
+
+    /// A cube is asked for.
+    pub(crate) fn ask(&mut self) -> Result<(), LineFault>
+        ensures took { OnOk result ((out : List ℕ) → Acts (take_line self.old.log.checker.base (state_of self.old) Asked) self.old self.new out out) }
+        ensures refused { IfErr result (λ f. f ≡ LineFault.NoMemory) }
+    {
+        self.closings.push(0)?;
+        Ok(())
+    }
+
+    /// Does what a line says of which the LRAT line spells this step.
+    pub(crate) fn take(
+        &mut self,
+        kind: StepKind,
+        step: StepRef<'_>,
+        out: &mut Vec<u8>,
+    ) -> Result<(), LineFault>
+        requires { IsStep (step_of step) }
+        ensures took { OnOk result (Acts (take_read self.old.log.checker.base (state_of self.old) (said kind (step_of step.entry))) self.old self.new out.old.items out.new.items) }
+        ensures refused { IfErr result (Stays (take_read self.old.log.checker.base (state_of self.old) (said kind (step_of step.entry)))) }
+    {
+        match step {
+            StepRef::Add {
+                id,
+                lits,
+                hints,
+                groups,
+            } => {
+                if !groups.is_empty() {
+                    return Err(BAD);
+                }
+                match kind {
+                    StepKind::Given => {
+                        if !hints.is_empty() {
+                            return Err(BAD);
+                        }
+                        self.give(id, lits, out)
+                    }
+                    StepKind::Learnt => self.learn(id, lits, hints, out),
+                    StepKind::Closed => self.close(lits, hints, out),
+                    StepKind::Deleted => Err(BAD),
+                }
+            }
+            StepRef::Delete { ids } => match kind {
+                StepKind::Deleted => self.delete(ids, out),
+                StepKind::Given | StepKind::Learnt | StepKind::Closed => Err(BAD),
+            },
+        }
+    }
+}

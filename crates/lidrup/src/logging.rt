@@ -1,0 +1,126 @@
+//! A log that grows step by step, and is checked as it grows.
+
+ghost use Rattle.std.specs.Prelude.{◌≡◌, ◌+◌, [], All, OnOk, IfOk, IfErr};
+ghost use Rattle.dimacs.specs.logic.Literal.{IsWithin};
+ghost use Rattle.lrat_check.specs.Logs.{IsBegun};
+ghost use Rattle.lrat_text.specs.Grammar.{IsClauseNumber, IsStep};
+ghost use Rattle.lrat_text.specs.Steps.{step_of};
+ghost use Rattle.lrat_text.specs.declared.step.Step.TheVariants as owned;
+ghost use Rattle.lidrup.specs.inner.Acting.{Checked, Logs, RefusesLog, fault_of_log};
+
+use crate::fault::LineFault;
+use crate::numbers::LIMIT;
+use dimacs::{Formula, Lit};
+use lrat_check::{CheckFault, LogChecker};
+use lrat_text::{Groups, StepRef, put_ref};
+use std::alloc::{AllocError, Global};
+
+/// What a refusal of the checker says of the line.
+fn of_log(fault: CheckFault) -> LineFault
+    ensures { result ≡ fault_of_log fault }
+{
+    if fault.number == 14 {
+        return LineFault::NoMemory;
+    }
+    LineFault::OfLog(fault.number)
+}
+
+/// The checker takes the line of a step, which is left in `made`. The line of a deletion begins with the number `front`.
+fn check(
+    checker: &mut LogChecker,
+    step: StepRef<'_>,
+    front: u64,
+    made: &mut Vec<u8>,
+) -> Result<(), LineFault>
+    requires limits { IsStep (step_of step) }
+    requires numbered { IsClauseNumber front }
+    ensures took { OnOk result (Checked front checker.old (step_of step.entry) checker.new made.new.items) }
+    ensures refused { IfErr result (RefusesLog checker.old (step_of step.entry)) }
+{
+    made.clear();
+    put_ref(step, front, made)?;
+    let end = made.len().saturating_sub(1);
+    match checker.take(&made[..end]) {
+        Ok(()) => Ok(()),
+        Err(fault) => Err(of_log(fault)),
+    }
+}
+
+/// A log over a formula.
+#[derive(Drop)]
+pub(crate) struct CheckedLog {
+    pub(crate) checker: LogChecker,
+    /// The number of the empty lemma; 0 if there is none.
+    pub(crate) empty: u64,
+    /// The line that was made last.
+    made: Vec<u8>,
+}
+
+impl CheckedLog {
+    /// No step was taken.
+    pub(crate) fn of(alloc: Global, formula: Formula) -> Result<CheckedLog, AllocError>
+        ensures begun { IfOk result (λ x. IsBegun formula x.checker) }
+        ensures empty { IfOk result (λ x. x.empty ≡ 0) }
+    {
+        let checker = LogChecker::of(alloc, formula)?;
+        Ok(CheckedLog {
+            checker,
+            empty: 0,
+            made: Vec::new(alloc),
+        })
+    }
+
+    /// Adds a lemma under the next number.
+    pub(crate) fn add(
+        &mut self,
+        lits: &[Lit],
+        hints: &[u64],
+        out: &mut Vec<u8>,
+    ) -> Result<(), LineFault>
+        requires literals { All (IsWithin 2000000) lits.now }
+        requires hints { All IsClauseNumber hints.now }
+        ensures took { OnOk result (Logs self.old (owned.Add (self.old.checker.top + 1) lits.now hints.now []) self.new out.old.items out.new.items) }
+        ensures refused { IfErr result (RefusesLog self.old.checker (owned.Add (self.old.checker.top + 1) lits.now hints.now [])) }
+    {
+        let id = self.checker.top() + 1;
+        if id >= LIMIT {
+            return Err(LineFault::NoMemory);
+        }
+        let no_group = Groups::new(*self.made.allocator());
+        let step = StepRef::Add {
+            id,
+            lits,
+            hints,
+            groups: &no_group,
+        };
+        match check(&mut self.checker, step, id, &mut self.made) {
+            Ok(()) => {}
+            Err(fault) => return Err(fault),
+        }
+        out.extend_from_slice(&self.made)?;
+        if lits.is_empty() {
+            self.empty = id;
+        }
+        Ok(())
+    }
+
+    /// Deletes lemmas.
+    pub(crate) fn delete(&mut self, ids: &[u64], out: &mut Vec<u8>) -> Result<(), LineFault>
+        requires { All IsClauseNumber ids.now }
+        ensures took { OnOk result (Logs self.old (owned.Delete ids.now) self.new out.old.items out.new.items) }
+        ensures refused { IfErr result (RefusesLog self.old.checker (owned.Delete ids.now)) }
+    {
+        let front = self.checker.top();
+        // A lemma that is deleted was added before.
+        if front == 0 {
+            return Err(LineFault::NoMemory);
+        }
+        let step = StepRef::Delete { ids };
+        match check(&mut self.checker, step, front, &mut self.made) {
+            Ok(()) => {}
+            Err(fault) => return Err(fault),
+        }
+        out.extend_from_slice(&self.made)?;
+        Ok(())
+    }
+}

@@ -1,0 +1,69 @@
+//! Foreign numbers of hints and of deletions as numbers of the log.
+
+ghost use Rattle.std.specs.Prelude.{◌≡◌, ◌++◌, ◌∷◌, [], All, OnOk, IfOk, Some, None, if◌then◌else◌};
+ghost use Rattle.lrat_text.specs.Grammar.{IsClauseNumber};
+ghost use Rattle.lidrup.specs.Lidrup.{forgotten, own_numbers};
+ghost use Rattle.lidrup.specs.View.{names_of};
+
+use crate::names::Names;
+use std::alloc::AllocError;
+
+/// The least number that no clause has.
+pub(crate) const LIMIT: u64 = 1 << 48;
+
+/// Puts a number of the log behind others. Each is one of a clause, so none is refused for what it is.
+fn put(number: u64, numbers: &mut Vec<u64>) -> Result<(), AllocError>
+    requires { All IsClauseNumber numbers.old.items }
+    ensures put { OnOk result (numbers.new.items ≡ numbers.old.items ++ number ∷ []) }
+    ensures all { OnOk result (All IsClauseNumber numbers.new.items) }
+{
+    if number == 0 || number >= LIMIT {
+        return Err(AllocError);
+    }
+    numbers.push(number)?;
+    Ok(())
+}
+
+/// Leaves the log's numbers of the hints, and says whether each names a clause.
+pub(crate) fn translate(
+    names: &Names,
+    hints: &[u64],
+    numbers: &mut Vec<u64>,
+) -> Result<bool, AllocError>
+    ensures numbers { IfOk result (λ b. own_numbers (names_of names.now) [] hints.now ≡ (if b then Some numbers.new.items else None)) }
+    ensures all { OnOk result (All IsClauseNumber numbers.new.items) }
+{
+    numbers.clear();
+    for hint in hints {
+        match names.get(*hint) {
+            Some(number) => put(number, numbers)?,
+            None => return Ok(false),
+        }
+    }
+    Ok(true)
+}
+
+/// The numbers name nothing any more. Leaves those of the log's own lemmas among them.
+pub(crate) fn forget(
+    names: &mut Names,
+    clauses: u64,
+    ids: &[u64],
+    numbers: &mut Vec<u64>,
+) -> Result<(), AllocError>
+    ensures names { OnOk result (forgotten clauses (names_of names.old) [] ids.now ≡ (names_of names.new, numbers.new.items)) }
+    ensures all { OnOk result (All IsClauseNumber numbers.new.items) }
+{
+    numbers.clear();
+    for id in ids {
+        match names.get(*id) {
+            Some(number) => {
+                if clauses < number {
+                    put(number, numbers)?;
+                }
+            }
+            None => {}
+        }
+        names.remove(*id);
+    }
+    Ok(())
+}
