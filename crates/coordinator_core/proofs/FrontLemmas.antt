@@ -10,7 +10,7 @@ use Rattle.icnf.specs.Leaves.{Cube, branched}
 use Rattle.cube_split.specs.Definitions.{base_with}
 use Rattle.cube_split.specs.declared.pair.Pair.{Pair}
 use Rattle.proof_join.specs.Fronts.{Front, IsFrontOf, appended}
-use Rattle.proof_join.specs.inner.Steps.{steps_in}
+use Rattle.proof_join.specs.Steps.{steps_in}
 use Rattle.proof_join.specs.declared.fault.JoinFault.{JoinFault}
 use Rattle.proof_join.proofs.FrontLemmas.{front_next, front_count}
 use Rattle.coordinator_core.specs.Coordinator.{is_open}

@@ -7,7 +7,7 @@ use Rattle.lrat_text.specs.Runs.{text_of, top_of}
 use Rattle.lrat_text.specs.declared.step.Step.TheVariants.{Add}
 use Rattle.lrat_text.proofs.RunLemmas.{text_append, top_append}
 use Rattle.proof_join.specs.Joining.{Part, fork_part, with_line, with_clause_of, resolvent}
-use Rattle.proof_join.specs.inner.Steps.{own_part}
+use Rattle.proof_join.specs.Steps.{own_part}
 use Rattle.proof_join.proofs.SubtreeLemmas.{IsFork}
 use Rattle.gathering.specs.Gathering.{Ended, leaf, fork, forks}
 use Rattle.gathering.specs.declared.lemma.Lemma.{Lemma}

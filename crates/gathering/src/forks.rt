@@ -3,7 +3,7 @@
 ghost use Rattle.std.specs.Prelude.{◌≡◌, ◌≢◌, ◌+◌, ◌^◌, ◌<◌, ◌≤◌, ◌++◌, ◌∷◌, [], true, false, IfOk, IfErr, OnOk};
 ghost use Rattle.std.specs.List.{list_all};
 ghost use Rattle.proof_join.specs.Joining.{resolvent};
-ghost use Rattle.proof_join.specs.inner.Steps.{own_part};
+ghost use Rattle.proof_join.specs.Steps.{own_part};
 ghost use Rattle.gathering.specs.Closing.{is_closed};
 ghost use Rattle.gathering.specs.Gathering.{forks};
 ghost use Rattle.gathering.specs.Trees.{leaves_in, lemma_of};

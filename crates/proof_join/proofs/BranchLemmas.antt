@@ -5,7 +5,8 @@ use Rattle.std.proofs.lemmas.Bool.{eqb-true, eq-eqb, false≢true}
 use Rattle.std.specs.List.{All}
 use Rattle.std.proofs.lemmas.List.{map-append, reverse-append, take_more, take_all}
 use Rattle.proof_join.specs.Fronts.{Branch}
-use Rattle.proof_join.specs.inner.Fronts.{branch_of, branches, HasLeft}
+use Rattle.proof_join.specs.Fronts.{branch_of, branches}
+use Rattle.proof_join.specs.inner.Fronts.{HasLeft}
 use Rattle.proof_join.specs.declared.finished.Finished.{Finished}
 
 pub branches_none : branches [] ≡ []

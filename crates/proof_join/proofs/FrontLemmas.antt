@@ -16,7 +16,7 @@ use Rattle.proof_join.specs.Definitions.{preamble_steps}
 use Rattle.proof_join.specs.Fronts.{Branch, Standing, Front, waiting, settled, appended, appended_all, preamble_front, IsFrontOf}
 use Rattle.proof_join.specs.Joining.{Closed, Joined, leaf, fork, fragments, cubes, Part, part, leaf_part}
 use Rattle.proof_join.specs.inner.Fronts.{HasLeft}
-use Rattle.proof_join.specs.inner.Steps.{own_part, steps_in, steps_each}
+use Rattle.proof_join.specs.Steps.{own_part, steps_in, steps_each}
 use Rattle.lrat_text.proofs.RunLemmas.{text_append}
 use Rattle.proof_join.proofs.SubtreeLemmas.{leaf_count, fork_text, fork_ends}
 

@@ -16,7 +16,7 @@ use Rattle.lrat_text.specs.declared.step.Step.TheVariants.{Add}
 use Rattle.proof_join.specs.Numbering.{renumbered, renumbered_group}
 use Rattle.proof_join.specs.Renumbering.{raised, raised_steps, highest_after, lines_from, LineFits, LinesFit, Renumbers}
 use Rattle.proof_join.specs.inner.Raising.{Unless, IsPut, IsLeft, IsUnderWay}
-use Rattle.proof_join.specs.inner.Steps.{steps_in}
+use Rattle.proof_join.specs.Steps.{steps_in}
 use Rattle.proof_join.specs.declared.renumbering.Stop.{Stop}
 use Rattle.proof_join.specs.declared.renumbering.Stop.TheVariants.{NoText, NoMemory}
 use Rattle.proof_join.proofs.StepLemmas.{next_line, no_line, read_same, spelled_in}

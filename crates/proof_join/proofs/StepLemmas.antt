@@ -18,7 +18,8 @@ use Rattle.lrat_text.proofs.SpellingLemmas.{spelled_found}
 use Rattle.dimacs.specs.text.Words
 use Rattle.proof_join.specs.Numbering.{behind, renumbered}
 use Rattle.lrat_text.specs.Runs.{text_of, top_of}
-use Rattle.proof_join.specs.inner.Steps.{with_step, steps_of, steps_in, IsLow, Writes, last_of}
+use Rattle.proof_join.specs.Steps.{with_step, steps_of, steps_in}
+use Rattle.proof_join.specs.inner.Steps.{IsLow, Writes, last_of}
 use Rattle.proof_join.specs.declared.fault.JoinFault.{JoinFault}
 use Rattle.proof_join.specs.declared.fault.JoinFault.TheVariants.{TooLong, NoMemory}
 use Rattle.proof_join.proofs.NumberLemmas.{behind_low, behind_high}

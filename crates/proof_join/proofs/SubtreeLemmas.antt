@@ -14,7 +14,8 @@ use Rattle.lrat_text.specs.Runs.{text_of, top_of}
 use Rattle.proof_join.specs.Joining.{Closed, leaf, fork, fragments, cubes, Part, part, fork_part, with_line, with_clause_of, resolvent}
 use Rattle.proof_join.specs.declared.fault.JoinFault.{JoinFault}
 use Rattle.proof_join.specs.declared.fault.JoinFault.TheVariants.{TooLong, NoMemory}
-use Rattle.proof_join.specs.inner.Steps.{Writes, EndsByAddition, clause_of, last_of, own_part}
+use Rattle.proof_join.specs.Steps.{own_part}
+use Rattle.proof_join.specs.inner.Steps.{Writes, EndsByAddition, clause_of, last_of}
 use Rattle.proof_join.proofs.JoinLemmas.{spelled_limits}
 use Rattle.proof_join.proofs.LogLemmas.{last_is}
 use Rattle.lrat_text.proofs.RunLemmas.{top_append, text_append}

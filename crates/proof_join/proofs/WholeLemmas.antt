@@ -17,7 +17,8 @@ use Rattle.lrat_text.specs.declared.step.Step.{Step}
 use Rattle.lrat_text.specs.declared.step.Step.TheVariants.{Add, Delete}
 use Rattle.lrat_text.specs.Runs.{text_of, top_of}
 use Rattle.proof_join.specs.Joining.{leaf, part, AreSpelled, Joined, AllClose, IsPreamble, unit_steps}
-use Rattle.proof_join.specs.inner.Steps.{Writes, steps_in, steps_each, IsLow, AreLow, IsFragment}
+use Rattle.proof_join.specs.Steps.{steps_in, steps_each}
+use Rattle.proof_join.specs.inner.Steps.{Writes, IsLow, AreLow, IsFragment}
 use Rattle.proof_join.proofs.JoinLemmas.{spelled_limits, some_clause, tree_closed, joined_accepts}
 use Rattle.lrat_text.specs.Proof.{Accepts}
 use Rattle.cube_split.proofs.PureLemmas.{pure_within}

@@ -1,6 +1,6 @@
 -- What stands of a joined text when the first leaves of a tree are appended. `finish` promises what it comes to: that is the joined text,
 -- and nobody has to read this to believe it.
-use Rattle.std.specs.Prelude.{◌≡◌, ℕ, zero, suc, ◌+◌, nat_eq, List, [], ◌∷◌, ◌++◌, length, take, slice_index_or, if◌then◌else◌}
+use Rattle.std.specs.Prelude.{◌≡◌, ℕ, zero, suc, ◌+◌, nat_eq, List, [], ◌∷◌, ◌++◌, length, map, reverse, take, slice_index_or, if◌then◌else◌}
 use Rattle.dimacs.specs.logic.Cnf.{Cnf}
 use Rattle.dimacs.specs.logic.Literal.{Pos, Clause, negation}
 use Rattle.icnf.specs.Leaves.{Cube}
@@ -10,13 +10,22 @@ use Rattle.cube_split.specs.Definitions.{base_with}
 use Rattle.cube_split.specs.declared.pair.Pair.{Pair}
 use Rattle.proof_join.specs.Definitions.{preamble_steps}
 use Rattle.proof_join.specs.Joining.{Part, leaf_part}
-use Rattle.proof_join.specs.inner.Steps.{own_part, steps_each}
+use Rattle.proof_join.specs.Steps.{own_part, steps_each}
+use Rattle.proof_join.specs.declared.finished.Finished.{Finished}
 
 -- a finished subtree that no fork has yet: the length of the path to it, its clause, and the number of that
 pub record Branch : Type 0 where
   pub depth : ℕ
   pub id : ℕ
   pub clause : Clause
+
+-- what the code holds of them
+abbrev pub branch_of : Finished → Branch
+branch_of b = record { depth = b.depth; id = b.subtree.id; clause = b.subtree.clause.items }
+
+-- the last one first
+unfoldable pub branches : List Finished → List Branch
+branches items = reverse (map branch_of items)
 
 -- the text so far, the number of its last addition, and the finished subtrees that no fork has yet, the last one first
 pub record Standing : Type 0 where

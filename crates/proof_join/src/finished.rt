@@ -1,7 +1,8 @@
 //! Finished subtrees that no fork has yet.
 
 ghost use Rattle.std.specs.Prelude.{◌≡◌, ◌<◌, ◌∷◌, MatchBool, MatchOption, OnOk, IfErr};
-ghost use Rattle.proof_join.specs.inner.Fronts.{HasLeft, branch_of, branches};
+ghost use Rattle.proof_join.specs.Fronts.{branch_of, branches};
+ghost use Rattle.proof_join.specs.inner.Fronts.{HasLeft};
 
 use crate::fault::JoinFault;
 use crate::subtree::Subtree;

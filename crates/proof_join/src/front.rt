@@ -11,8 +11,10 @@ ghost use Rattle.lrat_text.specs.Proof.{Accepts};
 ghost use Rattle.proof_join.specs.Definitions.{JoinedOver};
 ghost use Rattle.proof_join.specs.Fronts.{IsFrontOf, appended, preamble_front, settled};
 ghost use Rattle.proof_join.specs.Joining.{AllClose};
-ghost use Rattle.proof_join.specs.inner.Fronts.{IsUpTo, branches};
-ghost use Rattle.proof_join.specs.inner.Steps.{Writes, steps_in};
+ghost use Rattle.proof_join.specs.Fronts.{branches};
+ghost use Rattle.proof_join.specs.inner.Fronts.{IsUpTo};
+ghost use Rattle.proof_join.specs.Steps.{steps_in};
+ghost use Rattle.proof_join.specs.inner.Steps.{Writes};
 
 use crate::fault::JoinFault;
 use crate::finished::{Finished, put_finished, take_left};
@@ -50,7 +52,8 @@ pub struct Joining {
 
 impl Model for Joining {
     ghost use Rattle.proof_join.specs.Fronts.{Front};
-    ghost use Rattle.proof_join.specs.inner.Fronts.{IsOrderly, branches};
+    ghost use Rattle.proof_join.specs.Fronts.{branches};
+    ghost use Rattle.proof_join.specs.inner.Fronts.{IsOrderly};
 
     ghost Value = { Front };
 

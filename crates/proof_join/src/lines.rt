@@ -8,7 +8,8 @@ ghost use Rattle.lrat_text.specs.Writing.{line_of};
 ghost use Rattle.lrat_text.specs.declared.step.Step.{Step};
 ghost use Rattle.proof_join.specs.Numbering.{behind, renumbered};
 ghost use Rattle.lrat_text.specs.Runs.{text_of, top_of};
-ghost use Rattle.proof_join.specs.inner.Steps.{IsLow, IsOwn, Writes, last_of, steps_in};
+ghost use Rattle.proof_join.specs.Steps.{steps_in};
+ghost use Rattle.proof_join.specs.inner.Steps.{IsLow, IsOwn, Writes, last_of};
 
 use crate::fault::JoinFault;
 use crate::output::{Output, put_copy, put_line};

@@ -5,7 +5,8 @@ ghost use Rattle.dimacs.specs.logic.Literal.{Clause, IsWithin, negation, has};
 ghost use Rattle.lrat_text.specs.declared.step.Step.{Step};
 ghost use Rattle.proof_join.specs.Joining.{leaf_part, resolvent};
 ghost use Rattle.lrat_text.specs.Runs.{text_of};
-ghost use Rattle.proof_join.specs.inner.Steps.{IsFragment, Writes, clause_of, own_part, steps_in};
+ghost use Rattle.proof_join.specs.Steps.{own_part, steps_in};
+ghost use Rattle.proof_join.specs.inner.Steps.{IsFragment, Writes, clause_of};
 
 use crate::fault::JoinFault;
 use crate::lines::{Scratch, Shift, put_fragment};

@@ -1,15 +1,7 @@
 -- What stands of a joined text, as the code holds it.
-use Rattle.std.specs.Prelude.{◌≡◌, ℕ, ◌+◌, ◌<◌, ◌≤◌, ◌^◌, List, [], ◌∷◌, length, map, reverse, All}
+use Rattle.std.specs.Prelude.{◌≡◌, ℕ, ◌+◌, ◌<◌, ◌≤◌, ◌^◌, List, [], ◌∷◌, length, All}
 use Rattle.dimacs.specs.logic.Literal.{IsWithin}
 use Rattle.proof_join.specs.Fronts.{Branch, Front}
-use Rattle.proof_join.specs.declared.finished.Finished.{Finished}
-
-abbrev pub branch_of : Finished → Branch
-branch_of b = record { depth = b.depth; id = b.subtree.id; clause = b.subtree.clause.items }
-
--- the last one first
-unfoldable pub branches : List Finished → List Branch
-branches items = reverse (map branch_of items)
 
 -- the last finished subtree is the left one beside a subtree at this depth
 abbrev pub HasLeft : ℕ → List Branch → Type 0

@@ -1,5 +1,5 @@
 use Rattle.std.proofs.Common.{arith}
-use Rattle.proof_join.specs.inner.Fronts.{branches}
+use Rattle.proof_join.specs.Fronts.{branches}
 use Rattle.proof_join.proofs.BranchLemmas.{no_items, no_depth, tells_left}
 use Rattle.proof_join.proofs.finished.has_left.Goals as goal
 

@@ -1,5 +1,5 @@
 use Rattle.std.proofs.Common.{◌∙◌, ap}
-use Rattle.proof_join.specs.inner.Fronts.{branches}
+use Rattle.proof_join.specs.Fronts.{branches}
 use Rattle.proof_join.specs.declared.finished.Finished.{Finished}
 use Rattle.proof_join.proofs.BranchLemmas.{branches_end}
 use Rattle.proof_join.proofs.finished.put_finished.Goals as goal

@@ -1,6 +1,7 @@
 use Rattle.std.proofs.Common.{◌≡◌, List, vec_len, length, subst, rules}
 use Rattle.std.proofs.lemmas.Bool.{MatchBool-at_true}
-use Rattle.proof_join.specs.inner.Fronts.{HasLeft, branches}
+use Rattle.proof_join.specs.Fronts.{branches}
+use Rattle.proof_join.specs.inner.Fronts.{HasLeft}
 use Rattle.proof_join.specs.declared.finished.Finished.{Finished}
 use Rattle.proof_join.proofs.BranchLemmas.{takes_left}
 use Rattle.proof_join.proofs.finished.take_left.Goals as goal

@@ -1,7 +1,8 @@
 use Rattle.std.proofs.Common.{◌-◌, ◌∷◌, ◌∙◌, List, All, length, arith, ap, sym, subst}
 use Rattle.std.proofs.lemmas.List.Elements.{All-weaker}
 use Rattle.proof_join.specs.Fronts.{Branch, Standing}
-use Rattle.proof_join.specs.inner.Fronts.{IsUpTo, branch_of, branches}
+use Rattle.proof_join.specs.Fronts.{branch_of, branches}
+use Rattle.proof_join.specs.inner.Fronts.{IsUpTo}
 use Rattle.proof_join.specs.inner.Steps.{Writes}
 use Rattle.proof_join.specs.declared.subtree.Subtree.{Subtree}
 use Rattle.proof_join.proofs.BranchLemmas.{first_of, others_of}

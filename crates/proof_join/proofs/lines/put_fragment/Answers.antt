@@ -8,7 +8,8 @@ use Rattle.lrat_text.specs.Writing.{line_of}
 use Rattle.lrat_text.specs.declared.step.Step.{Step}
 use Rattle.proof_join.specs.Numbering.{behind, renumbered}
 use Rattle.lrat_text.specs.Runs.{text_of, top_of}
-use Rattle.proof_join.specs.inner.Steps.{IsLow, AreLow, last_of, steps_in}
+use Rattle.proof_join.specs.Steps.{steps_in}
+use Rattle.proof_join.specs.inner.Steps.{IsLow, AreLow, last_of}
 use Rattle.proof_join.proofs.StepLemmas.{next_line, read_same, no_line, writes_longer, longer, top_on, text_on, last_at, last_read, top_of_on, line_some}
 use Rattle.proof_join.proofs.lines.put_fragment.Goals as goal
 

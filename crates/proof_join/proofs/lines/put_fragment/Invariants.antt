@@ -2,7 +2,8 @@ use Rattle.std.proofs.Common.{◌≡◌, ◌+◌, ◌-◌, ◌≤◌, ◌<◌, �
 use Rattle.lrat_text.specs.Grammar.{LineSpells}
 use Rattle.lrat_text.specs.Runs.{text_of, top_of}
 use Rattle.proof_join.specs.Numbering.{behind, renumbered}
-use Rattle.proof_join.specs.inner.Steps.{AreLow, last_of, steps_in}
+use Rattle.proof_join.specs.Steps.{steps_in}
+use Rattle.proof_join.specs.inner.Steps.{AreLow, last_of}
 use Rattle.proof_join.proofs.StepLemmas.{LastIs}
 use Rattle.proof_join.proofs.lines.put_fragment.Given as goal
 

@@ -2,8 +2,9 @@ use Rattle.std.proofs.Common.{◌≡◌, ℕ, ◌^◌, ◌≤◌, ◌++◌, ◌�
 use Rattle.lrat_text.specs.Runs.{text_of}
 use Rattle.proof_join.specs.Fronts.{Front, Standing, appended, settled}
 use Rattle.proof_join.specs.Joining.{leaf_part}
-use Rattle.proof_join.specs.inner.Fronts.{branches}
-use Rattle.proof_join.specs.inner.Steps.{IsFragment, steps_in}
+use Rattle.proof_join.specs.Fronts.{branches}
+use Rattle.proof_join.specs.Steps.{steps_in}
+use Rattle.proof_join.specs.inner.Steps.{IsFragment}
 use Rattle.proof_join.specs.declared.subtree.Subtree.{Subtree}
 use Rattle.proof_join.proofs.FrontLemmas.{appended_more, goes_long, leaf_step, made_appended}
 use Rattle.proof_join.proofs.WholeLemmas.{closes_fragment, closes_some, too_long}

@@ -3,7 +3,8 @@ use Rattle.std.proofs.lemmas.List.Elements.{All-nil}
 use Rattle.lrat_text.specs.Runs.{text_of}
 use Rattle.proof_join.specs.Definitions.{preamble_steps}
 use Rattle.proof_join.specs.Fronts.{Branch, IsFrontOf}
-use Rattle.proof_join.specs.inner.Fronts.{IsUpTo, branches}
+use Rattle.proof_join.specs.Fronts.{branches}
+use Rattle.proof_join.specs.inner.Fronts.{IsUpTo}
 use Rattle.proof_join.proofs.BranchLemmas.{branches_none}
 use Rattle.proof_join.proofs.FrontLemmas.{front_none, goes_long, made_front, preamble_begins}
 use Rattle.proof_join.proofs.WholeLemmas.{too_long}

@@ -6,7 +6,7 @@ use Rattle.cube_split.specs.declared.pair.Pair.{Pair}
 use Rattle.proof_join.specs.Definitions.{preamble_steps}
 use Rattle.proof_join.specs.Fronts.{Front, IsFrontOf, appended}
 use Rattle.proof_join.specs.Joining.{IsPreamble}
-use Rattle.proof_join.specs.inner.Steps.{steps_in}
+use Rattle.proof_join.specs.Steps.{steps_in}
 use Rattle.proof_join.proofs.DefinitionLemmas.{definitions_lead}
 use Rattle.proof_join.proofs.FinishLemmas.{front_long, front_joined, front_accepts}
 use Rattle.proof_join.proofs.FrontLemmas.{front_next, front_count}
