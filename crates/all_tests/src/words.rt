@@ -239,7 +239,7 @@ fn a_leaf_and_a_lift_and_a_model(rt: HostRuntime) -> Result<(), Fail> {
     let lift = Request::Lift {
         input: "f.cnf",
         cubes: "f.icnf",
-        leaf: 1,
+        leaf: Some(1),
         proof: "l.lrat",
         fragment: "l.frag",
     };
@@ -248,6 +248,19 @@ fn a_leaf_and_a_lift_and_a_model(rt: HostRuntime) -> Result<(), Fail> {
         alloc,
         "satcluster lift --leaf 1 --cubes f.icnf f.cnf l.lrat l.frag",
         lift,
+    )?;
+    let all = Request::Lift {
+        input: "f.cnf",
+        cubes: "f.icnf",
+        leaf: None,
+        proof: "f.lidrup",
+        fragment: "f.frag",
+    };
+    asks(
+        &rt,
+        alloc,
+        "satcluster lift --cubes f.icnf f.cnf f.lidrup f.frag",
+        all,
     )?;
     let model = Request::Model {
         input: "f.cnf",

@@ -85,7 +85,7 @@ pub only_join : (rows : List Row) → ((input : Bor Text) (cubes : Bor Text) (pr
 only_join rows none (Join input cubes proof fragments printing) makes = none input cubes proof fragments printing makes
 only_join rows none other makes = differ (codes "join") (name_of other) refl refl (is_named (codes "join") rows other makes)
 
-pub only_lift : (rows : List Row) → ((input : Bor Text) (cubes : Bor Text) (leaf : ℕ) (proof : Bor Text) (fragment : Bor Text) → Makes (codes "lift") rows (Lift input cubes leaf proof fragment) → ⊥) → (r : Request) → Makes (codes "lift") rows r → ⊥
+pub only_lift : (rows : List Row) → ((input : Bor Text) (cubes : Bor Text) (leaf : Option ℕ) (proof : Bor Text) (fragment : Bor Text) → Makes (codes "lift") rows (Lift input cubes leaf proof fragment) → ⊥) → (r : Request) → Makes (codes "lift") rows r → ⊥
 only_lift rows none (Lift input cubes leaf proof fragment) makes = none input cubes leaf proof fragment makes
 only_lift rows none other makes = differ (codes "lift") (name_of other) refl refl (is_named (codes "lift") rows other makes)
 

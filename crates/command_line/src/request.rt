@@ -90,11 +90,11 @@ pub enum Request<'a> {
         printing: Printing,
     },
     /// Make a fragment of a proof of the formula of a leaf, by its number among the cubes of a file, from 1 to 4,294,967,295, and
-    /// write it to a file.
+    /// write it to a file; or one fragment of what was written for all of these cubes.
     Lift {
         input: &'a str,
         cubes: &'a str,
-        leaf: u32,
+        leaf: Option<u32>,
         proof: &'a str,
         fragment: &'a str,
     },

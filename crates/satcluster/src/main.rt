@@ -23,7 +23,7 @@ use files::{no_memory, read, refused};
 use join::{JoinFiles, join};
 use leaf_runs::{LeafFiles, LeafRange, leaf, refute, split};
 use leaves::Search;
-use lift::lift;
+use lift::{LiftFiles, lift};
 use model::model;
 use node_main::{Refusal, Report, Request, UsageFault, command, run_cubes};
 use showing::Showing;
@@ -161,7 +161,15 @@ fn answer<R: Runtime + AllocGlobal + Net>(
             leaf,
             proof,
             fragment,
-        } => lift(rt, input, cubes, leaf, proof, fragment),
+        } => {
+            let files = LiftFiles {
+                input,
+                cubes,
+                proof,
+                fragment,
+            };
+            lift(rt, &files, leaf)
+        }
         Request::Model { input, output } => model(rt, input, output),
         Request::Trim { input, proof, out } => trim(rt, input, proof, out),
     }
