@@ -344,6 +344,21 @@ def progress(cluster):
     ok("how far a run has come, in %d lines" % len(lines))
 
 
+def rounds(cluster):
+    """With `--rounds` the coordinator begins when all workers are there, and takes them in turns."""
+    port = free_port()
+    coordinator = cluster.serve(port, "--rounds", "--workers", 2, "--depth", 3, "pigeons.cnf", "rounds.lrat")
+    early = cluster.start("work", "--port", port, "--number", 1, "--ahead", "pigeons.cnf")
+    wait_for("one is linked", lambda: sockets_at(port, "01") == 1)
+    time.sleep(0.2)
+    same("a run waits for its workers", (None, None), (coordinator.poll(), early.poll()))
+    late = cluster.start("work", "--port", port, "--number", 2, "--ahead", "pigeons.cnf")
+    for what, process in (("worker that was early", early), ("worker that was late", late), ("coordinator", coordinator)):
+        cluster.ends("in rounds the " + what, process, 20, "s UNSATISFIABLE\n")
+    cluster.verifies("pigeons.cnf", "rounds.lrat")
+    ok("two workers that are taken in turns")
+
+
 def lost_worker(cluster):
     port = free_port()
     coordinator = cluster.serve(port, "--workers", 2, "--depth", 3, "pigeons.cnf", "served.lrat")
@@ -430,7 +445,7 @@ def main():
         try:
             for test in (endless_files, faulty_files, refused_links, closed_peers, defined_variables):
                 test(cluster)
-            for test in (patience, one_process, progress, lost_worker, slow_reader, many_workers):
+            for test in (patience, one_process, progress, rounds, lost_worker, slow_reader, many_workers):
                 test(cluster)
             killed_workers(cluster, kills)
             lost_coordinator(cluster, kills // 10)

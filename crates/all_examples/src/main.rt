@@ -8,28 +8,12 @@ use dimacs::words::next_word;
 use dimacs::{Assignment, Formula, read, satisfies};
 use links::{Counted, Memory};
 use lrat_check::check;
-use node_main::{Options, run_solve};
+use node_main::{USUAL, run_solve};
 use std::alloc::{AllocError, Global};
 use std::io::Write;
 use std::process::ExitCode;
 use std::rt::Runtime;
 use std::{env, fs, io};
-
-/// Two workers, and sixteen leaves at most.
-const OPTIONS: Options = Options {
-    workers: 2,
-    depth: 4,
-    limit: 100_000,
-    session: 1,
-    number: 1,
-    incarnation: 1,
-    defs: 0,
-    ahead: false,
-    patience: None,
-    progress: false,
-    quiet: false,
-    witness: true,
-};
 
 /// The assignment that an answer prints; a variable that it leaves out is false.
 fn printed(alloc: Global, answer: &[u8], vars: u32) -> Result<Assignment, AllocError>
@@ -51,8 +35,8 @@ fn printed(alloc: Global, answer: &[u8], vars: u32) -> Result<Assignment, AllocE
 
 /// What is found of a formula, and whether it stands the test.
 fn found(alloc: Global, input: &[u8], formula: &Formula) -> Result<&'static str, AllocError> {
-    let mut links = Counted::new(Memory::new(alloc, OPTIONS.workers)?);
-    let report = run_solve(alloc, input, None, &OPTIONS, &mut links)?;
+    let mut links = Counted::new(Memory::new(alloc, USUAL.workers)?);
+    let report = run_solve(alloc, input, None, &USUAL, &mut links)?;
     match (report.status, &report.proof) {
         (10, None) => {
             let assignment = printed(alloc, report.stdout.as_slice(), formula.vars())?;

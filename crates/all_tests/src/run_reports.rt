@@ -8,7 +8,7 @@ use dimacs::FormulaReader;
 use links::{
     Bytewise, Carrier, Counted, End, LinkFault, Links, Memory, RefusesAll, RefusesAt, Script,
 };
-use node_main::{Options, Report, run_serve, run_solve, run_solve_of, run_work};
+use node_main::{Options, Report, USUAL, run_serve, run_solve, run_solve_of, run_work};
 use std::alloc::{AllocError, Global};
 use std::process::Abort;
 use std::test::Fail;
@@ -17,16 +17,7 @@ use std::test::Fail;
 pub(crate) const ALONE: Options = Options {
     workers: 1,
     depth: 0,
-    limit: 100_000,
-    session: 1,
-    number: 1,
-    incarnation: 1,
-    defs: 0,
-    ahead: false,
-    patience: None,
-    progress: false,
-    quiet: false,
-    witness: true,
+    ..USUAL
 };
 
 /// Two workers, one for each leaf.

@@ -1,25 +1,9 @@
 //! What words ask for on a command line.
 
-use command_line::{Options, Printing, Request, UsageFault, command};
+use command_line::{Options, Printing, Request, USUAL, UsageFault, command};
 use std::alloc::{AllocError, Global};
 use std::process::Abort;
 use std::test::Fail;
-
-/// What stands where no word names another.
-const USUAL: Options = Options {
-    workers: 2,
-    depth: 4,
-    limit: 100_000,
-    session: 1,
-    number: 1,
-    incarnation: 1,
-    defs: 0,
-    ahead: false,
-    patience: None,
-    progress: false,
-    quiet: false,
-    witness: true,
-};
 
 /// What is printed where no word leaves anything out.
 const PRINTED: Printing = Printing {
@@ -97,9 +81,26 @@ fn a_service_with_its_defaults_and_with_all_its_words(rt: HostRuntime) -> Result
         input: "f.cnf",
         cubes: None,
         proof: None,
-        options: USUAL,
+        options: Options {
+            depth: 8,
+            limit: 1_000_000,
+            ..USUAL
+        },
     };
     asks(&rt, rt.alloc(), "satcluster serve --port 1 f.cnf", plain)?;
+    let many = Request::Serve {
+        port: 1,
+        input: "f.cnf",
+        cubes: None,
+        proof: None,
+        options: Options {
+            workers: 9,
+            depth: 10,
+            limit: 1_000_000,
+            ..USUAL
+        },
+    };
+    asks(&rt, rt.alloc(), "satcluster serve --port 1 --workers 9 f.cnf", many)?;
     let full = Request::Serve {
         port: 65_535,
         input: "f.cnf",
@@ -112,13 +113,14 @@ fn a_service_with_its_defaults_and_with_all_its_words(rt: HostRuntime) -> Result
             session: u64::MAX,
             patience: Some(1_000_000_000),
             progress: true,
+            rounds: true,
             quiet: true,
             witness: false,
             ..USUAL
         },
     };
     let words =
-        "satcluster serve --port 65535 --session 18446744073709551615 --patience 1000000000 --progress --workers 1 --depth 0 --limit 1 --cubes f.icnf -qn f.cnf f.lrat";
+        "satcluster serve --port 65535 --session 18446744073709551615 --patience 1000000000 --progress --rounds --workers 1 --depth 0 --limit 1 --cubes f.icnf -qn f.cnf f.lrat";
     asks(&rt, rt.alloc(), words, full)?;
     Ok(())
 }
@@ -368,6 +370,8 @@ const REFUSED: &[&'static str] = &[
     "satcluster serve --port 7000 --patience 1000000001 f.cnf",
     "satcluster solve --patience 1 f.cnf",
     "satcluster work --port 7000 --progress f.cnf",
+    "satcluster work --port 7000 --rounds f.cnf",
+    "satcluster solve --rounds f.cnf",
     "satcluster work f.cnf",
     "satcluster work --port 7000",
     "satcluster work --port 7000 --number 0 f.cnf",

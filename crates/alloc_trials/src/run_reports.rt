@@ -5,7 +5,7 @@ ghost use Rattle.command_line.specs.Options.{AreOptions};
 use crate::call::{Answer, Call, Tried, made, try_twice};
 use crate::searches::FOUR;
 use links::{Counted, Memory};
-use node_main::{Options, Report, run_solve};
+use node_main::{Options, Report, USUAL, run_solve};
 use std::alloc::{AllocError, Global};
 
 /// Two units, which `1 -2` alone satisfies.
@@ -15,16 +15,7 @@ const UNITS: &[u8] = b"p cnf 2 2\n1 0\n-2 0\n";
 const ALONE: Options = Options {
     workers: 1,
     depth: 0,
-    limit: 100_000,
-    session: 1,
-    number: 1,
-    incarnation: 1,
-    defs: 0,
-    ahead: false,
-    patience: None,
-    progress: false,
-    quiet: false,
-    witness: true,
+    ..USUAL
 };
 
 /// Two workers, one for each leaf.

@@ -1,2 +1,5 @@
 mod Places
+mod Polls
 mod Runs
+mod Seating
+mod Sweeping

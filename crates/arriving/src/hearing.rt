@@ -1,8 +1,12 @@
 //! What comes over a link.
 
-ghost use Rattle.std.specs.Prelude.{◌≡◌, ◌≢◌, ◌≤◌, ◌+◌, ℕ, Ok};
+ghost use Rattle.std.specs.Prelude.{◌≡◌, ◌≢◌, ◌≤◌, ◌+◌, ◌⊎◌, ◌∷◌, ℕ, [], Ok, None, Some, IsSome, OnOk};
+ghost use Rattle.frames.specs.declared.frame.Frame.TheVariants.{Idle};
 ghost use Rattle.arriving.specs.declared.line.Standing.TheVariants.{Ungreeted};
+ghost use Rattle.arriving.specs.inner.Deliveries.{AreDelivered, IsHeard, StaysLinked};
+ghost use Rattle.arriving.specs.inner.Greetings.{IsGreeted};
 ghost use Rattle.arriving.specs.inner.Lines.{one_if_closed};
+ghost use Rattle.arriving.specs.inner.Seats.{queued_worker, seated_worker};
 
 use crate::coordinating::deliver;
 use crate::line::{Broken, Line};
@@ -38,7 +42,9 @@ fn deliver_one(
     line: &mut Line,
     frame: &Frame,
 ) -> Result<(), Broken>
-    ensures { coordinator.new.formula ≡ coordinator.old.formula }
+    ensures formula { coordinator.new.formula ≡ coordinator.old.formula }
+    ensures link { StaysLinked line.old line.new }
+    ensures heard { OnOk result (IsHeard frame.now coordinator.old coordinator.new) }
 {
     if !is_own(line, frame) {
         return Err(Broken::Closed);
@@ -69,6 +75,10 @@ pub(crate) fn converse<A: Arrivals>(
     ensures begun { (p : ℕ) → A.link_count links.new p ≡ A.link_count links.old p }
     ensures here { A.refusal_count links.new at.place ≤ A.refusal_count links.old at.place + one_if_closed result }
     ensures elsewhere { (p : ℕ) → p ≢ at.place → A.refusal_count links.new p ≤ A.refusal_count links.old p }
+    ensures seat { seated_worker line.new ≡ seated_worker line.old }
+    ensures reader { line.new.reader ≡ line.old.reader }
+    ensures none_waits { OnOk result (line.new.waiting.items ≡ []) }
+    ensures delivered { OnOk result (AreDelivered (seated_worker line.old) line.old.waiting.items coordinator.old coordinator.new) }
 {
     for _ in 0..LONGEST {
         let Some(frame) = line.next() else {
@@ -81,11 +91,17 @@ pub(crate) fn converse<A: Arrivals>(
             return Err(broken);
         }
     }
+    // No room has so many frames in it.
+    if line.has_next() {
+        return Err(Broken::Closed);
+    }
     Ok(())
 }
 
 /// Its first frame, where that has come, has to be Idle of one of the workers.
-pub(crate) fn greet(line: &mut Line, highest: u32) -> Result<(), Broken> {
+pub(crate) fn greet(line: &mut Line, highest: u32) -> Result<(), Broken>
+    ensures { IsGreeted highest line.old result line.new }
+{
     if !line.is_ungreeted() {
         return Ok(());
     }
@@ -104,13 +120,16 @@ pub(crate) fn seat<A: Arrivals>(
     line: &mut Line,
 ) -> Result<(), Broken>
     ensures formula { coordinator.new.formula ≡ coordinator.old.formula }
-    ensures fresh { line.old.standing ≡ Ungreeted → (coordinator.new.verdict ≡ coordinator.old.verdict) × (line.new ≡ line.old) × (result ≡ Ok tt) }
+    ensures none { queued_worker line.old ≡ None → (coordinator.new ≡ coordinator.old) × (line.new ≡ line.old) × (result ≡ Ok tt) }
     ensures most { A.call_count links.new ≤ A.call_count links.old + 4038 }
     ensures rises { A.call_count links.old ≤ A.call_count links.new }
     ensures arrivals { A.arrival_count links.new ≡ A.arrival_count links.old }
     ensures begun { (p : ℕ) → A.link_count links.new p ≡ A.link_count links.old p }
     ensures here { A.refusal_count links.new at.place ≤ A.refusal_count links.old at.place + one_if_closed result }
     ensures elsewhere { (p : ℕ) → p ≢ at.place → A.refusal_count links.new p ≤ A.refusal_count links.old p }
+    ensures seat { (worker : ℕ) → queued_worker line.old ≡ Some worker → seated_worker line.new ≡ Some worker }
+    ensures none_waits { OnOk result (IsSome (queued_worker line.old) → line.new.waiting.items ≡ []) }
+    ensures delivered { OnOk result ((worker : ℕ) → queued_worker line.old ≡ Some worker → AreDelivered (Some worker) (Idle worker line.old.incarnation ∷ line.old.waiting.items) coordinator.old coordinator.new) }
 {
     let Some(worker) = line.queued() else {
         return Ok(());

@@ -1,7 +1,7 @@
 //! One link of a coordinator.
 
-ghost use Rattle.std.specs.Prelude.{◌≡◌, None, IfOk};
-ghost use Rattle.arriving.specs.declared.line.Standing.TheVariants.{Ungreeted};
+ghost use Rattle.std.specs.Prelude.{◌≡◌, [], None, Ok, IfOk, OnOk};
+ghost use Rattle.arriving.specs.declared.line.Standing.TheVariants.{Ungreeted, Parked, Asked, Working};
 
 use frames::{Frame, FrameFault, Reader, WorkerNumber};
 use std::alloc::{AllocError, Global};
@@ -58,9 +58,16 @@ pub struct Line {
 }
 
 impl Line {
+    ghost use Rattle.std.specs.Prelude.{MatchBool, ◌≢◌};
+    ghost use Rattle.frames.specs.Stream.{TakesPiece};
+    ghost use Rattle.arriving.specs.inner.Greetings.{Greets, HandsOut};
+    ghost use Rattle.arriving.specs.inner.Quiet.{is_overdue, quiet_since};
+    ghost use Rattle.arriving.specs.inner.Seats.{parked_worker, queued_worker, seated_worker};
+
     /// A link that begins.
     pub(crate) fn new(alloc: Global, tick: u64) -> Result<Line, AllocError>
-        ensures { IfOk result (λ l. l.standing ≡ Ungreeted) }
+        ensures fresh { IfOk result (λ l. l.standing ≡ Ungreeted) }
+        ensures silent { IfOk result (λ l. l.waiting.items ≡ []) }
     {
         Ok(Line {
             alloc,
@@ -77,7 +84,10 @@ impl Line {
     }
 
     /// Takes the next bytes; none are its end. Who waits for the end of another link has nothing to say.
-    pub(crate) fn take(&mut self, bytes: &[u8]) -> Result<(), Broken> {
+    pub(crate) fn take(&mut self, bytes: &[u8]) -> Result<(), Broken>
+        ensures same { self.new ≡ record self.old { reader = self.new.reader; waiting = self.new.waiting } }
+        ensures taken { OnOk result (TakesPiece self.old.reader bytes.now self.old.waiting.items self.new.waiting.items (Ok tt) self.new.reader) }
+    {
         if bytes.is_empty() || self.standing == Standing::Queued {
             return Err(Broken::Closed);
         }
@@ -89,20 +99,34 @@ impl Line {
     }
 
     /// The first frame that waits.
-    pub(crate) fn next(&mut self) -> Option<Frame> {
+    pub(crate) fn next(&mut self) -> Option<Frame>
+        ensures { HandsOut self.old result self.new }
+    {
         if self.waiting.is_empty() {
             return None;
         }
         Some(self.waiting.remove(0))
     }
 
+    /// Whether a frame waits.
+    pub(crate) fn has_next(&self) -> bool
+        ensures { MatchBool result (self.now.waiting.items ≢ []) (self.now.waiting.items ≡ []) }
+    {
+        !self.waiting.is_empty()
+    }
+
     /// Notes its first frame, which has to be Idle of a worker whose number is not above this.
-    pub(crate) fn greet(&mut self, frame: &Frame, highest: u32) -> Result<(), Broken> {
+    pub(crate) fn greet(&mut self, frame: &Frame, highest: u32) -> Result<(), Broken>
+        ensures { Greets frame.now highest self.old result self.new }
+    {
         match frame {
             Frame::Idle {
                 worker,
                 incarnation,
-            } if worker.number() <= highest => {
+            } => {
+                if highest < worker.number() {
+                    return Err(Broken::Closed);
+                }
                 self.worker = Some(*worker);
                 self.incarnation = *incarnation;
                 self.standing = Standing::Queued;
@@ -114,34 +138,45 @@ impl Line {
 
     /// Who greeted and waits for the end of another link.
     pub(crate) fn queued(&self) -> Option<WorkerNumber>
-        ensures { self.now.standing ≡ Ungreeted → result ≡ None }
+        ensures { result ≡ queued_worker self.now }
     {
         match self.standing {
             Standing::Queued => self.worker,
-            _ => None,
+            Standing::Ungreeted | Standing::Parked | Standing::Asked | Standing::Working => None,
         }
     }
 
     /// Whose link it is; none where nobody is linked.
-    pub(crate) fn seated(&self) -> Option<WorkerNumber> {
+    pub(crate) fn seated(&self) -> Option<WorkerNumber>
+        ensures { result ≡ seated_worker self.now }
+    {
         match self.standing {
             Standing::Ungreeted | Standing::Queued => None,
-            _ => self.worker,
+            Standing::Parked | Standing::Asked | Standing::Working => self.worker,
+        }
+    }
+
+    /// Who is linked, and waits for something to do.
+    pub(crate) fn parked(&self) -> Option<WorkerNumber>
+        ensures { result ≡ parked_worker self.now }
+    {
+        match self.standing {
+            Standing::Parked => self.worker,
+            Standing::Ungreeted | Standing::Queued | Standing::Asked | Standing::Working => None,
         }
     }
 
     /// Whether nobody is linked yet, and the first frame has not come.
-    pub(crate) fn is_ungreeted(&self) -> bool {
+    pub(crate) fn is_ungreeted(&self) -> bool
+        ensures { MatchBool result (self.now.standing ≡ Ungreeted) (self.now.standing ≢ Ungreeted) }
+    {
         self.standing == Standing::Ungreeted
     }
 
-    /// Whether its worker waits for something to do.
-    pub(crate) fn is_parked(&self) -> bool {
-        self.standing == Standing::Parked
-    }
-
     /// Its worker's incarnation, as it greeted.
-    pub(crate) fn incarnation(&self) -> u64 {
+    pub(crate) fn incarnation(&self) -> u64
+        ensures { result ≡ self.now.incarnation }
+    {
         self.incarnation
     }
 
@@ -154,36 +189,52 @@ impl Line {
     }
 
     /// There is nothing to tell its worker.
-    pub(crate) fn park(&mut self) {
+    pub(crate) fn park(&mut self)
+        ensures { self.new ≡ record self.old { standing = Parked } }
+    {
         self.standing = Standing::Parked;
     }
 
-    /// Its worker is told to send something.
-    pub(crate) fn ask(&mut self, tick: u64) {
-        if self.standing != Standing::Asked && self.standing != Standing::Working {
-            self.since = tick;
+    /// The tick from which it is quiet if it is told something now: what is awaited already is awaited since then.
+    fn quiet_since(&self, tick: u64) -> u64
+        ensures { result ≡ quiet_since self.now tick }
+    {
+        match self.standing {
+            Standing::Asked | Standing::Working => self.since,
+            Standing::Ungreeted | Standing::Queued | Standing::Parked => tick,
         }
+    }
+
+    /// Its worker is told to send something.
+    pub(crate) fn ask(&mut self, tick: u64)
+        ensures { self.new ≡ record self.old { standing = Asked; since = quiet_since self.old tick } }
+    {
+        self.since = self.quiet_since(tick);
         self.standing = Standing::Asked;
     }
 
     /// Its worker is told to search under the leaf of this mark, as long as this.
-    pub(crate) fn set_to_work(&mut self, tick: u64, leaf: u64, patience: Option<u64>) {
-        if self.standing != Standing::Asked && self.standing != Standing::Working {
-            self.since = tick;
-        }
+    pub(crate) fn set_to_work(&mut self, tick: u64, leaf: u64, patience: Option<u64>)
+        ensures { self.new ≡ record self.old { standing = Working; since = quiet_since self.old tick; leaf = leaf; patience = patience } }
+    {
+        self.since = self.quiet_since(tick);
         self.standing = Standing::Working;
         self.leaf = leaf;
         self.patience = patience;
     }
 
     /// A frame was taken: it is not quiet.
-    pub(crate) fn hear(&mut self, tick: u64) {
+    pub(crate) fn hear(&mut self, tick: u64)
+        ensures { self.new ≡ record self.old { since = tick; declined = 0 } }
+    {
         self.since = tick;
         self.declined = 0;
     }
 
     /// A frame said nothing. Too many tasks that are answered with Idle break it.
-    pub(crate) fn ignore(&mut self, frame: &Frame) -> Result<(), Broken> {
+    pub(crate) fn ignore(&mut self, frame: &Frame) -> Result<(), Broken>
+        ensures { self.new ≡ record self.old { declined = self.new.declined } }
+    {
         if self.standing == Standing::Working && matches!(frame, Frame::Idle { .. }) {
             self.declined = self.declined.saturating_add(1);
             if DECLINED <= self.declined {
@@ -194,7 +245,9 @@ impl Line {
     }
 
     /// Whether it has been quiet too long, while another worker is free or not.
-    pub(crate) fn is_overdue(&self, tick: u64, is_other_free: bool) -> bool {
+    pub(crate) fn is_overdue(&self, tick: u64, is_other_free: bool) -> bool
+        ensures { result ≡ is_overdue self.now tick is_other_free }
+    {
         let quiet = tick.saturating_sub(self.since);
         match self.standing {
             Standing::Ungreeted | Standing::Queued | Standing::Asked => GREETING <= quiet,

@@ -9,9 +9,11 @@ ghost use Rattle.lrat_check.specs.declared.verdict.Verdict.TheVariants.{Nothing}
 ghost use Rattle.links.specs.Arrivals.{begun_at};
 ghost use Rattle.arriving.specs.Accounts.{AreBounded, EachCloses, HasBegun, OnceEach, RoseBy, nobody, open_of};
 ghost use Rattle.arriving.specs.Run.{formula_of, verdict_of};
+ghost use Rattle.arriving.specs.inner.Deliveries.{AreServed};
 ghost use Rattle.arriving.specs.inner.Lines.{AreFresh};
+ghost use Rattle.arriving.specs.inner.Seats.{AreApart};
 
-use crate::coordinating::{is_decided, progress_of};
+use crate::coordinating::{is_decided, join_ahead, progress_of};
 use crate::floor::{
     Desk, end_all_overdue, end_unserved, hear_all, hear_at, reach, seat_all, tell_parked, welcome,
 };
@@ -104,6 +106,7 @@ impl Run {
         ensures verdict { verdict_of self.new ≡ verdict_of self.old }
         ensures opens { (p : ℕ) → open_of self.new p ≤ open_of self.old p + begun_at (Event.Linked place) p }
         ensures fresh { AreFresh self.old.lines.items → AreFresh self.new.lines.items }
+        ensures apart { AreApart self.old.lines.items → AreApart self.new.lines.items }
     {
         let line = Line::new(self.alloc, self.tick)?;
         reach(&mut self.lines, place)?;
@@ -125,6 +128,7 @@ impl Run {
         ensures begun { (p : ℕ) → A.link_count links.new p ≡ A.link_count links.old p }
         ensures each { (p : ℕ) → A.refusal_count links.new p + open_of self.new p ≤ A.refusal_count links.old p + open_of self.old p }
         ensures first { self.old.lines.items ≡ [] → (verdict_of self.new ≡ verdict_of self.old) × (self.new.lines.items ≡ []) }
+        ensures apart { AreApart self.old.lines.items → AreApart self.new.lines.items }
     {
         let at = At {
             place,
@@ -143,6 +147,7 @@ impl Run {
         ensures arrived { IfOk result (λ goes_on. goes_on ≡ true → A.arrival_count links.new ≡ A.arrival_count links.old + 1) }
         ensures each { EachCloses (open_of self.old) (open_of self.new) (A.link_count links.old) (A.link_count links.new) (A.refusal_count links.old) (A.refusal_count links.new) }
         ensures first { self.old.lines.items ≡ [] → (verdict_of self.new ≡ verdict_of self.old) × AreFresh self.new.lines.items }
+        ensures apart { AreApart self.old.lines.items → AreApart self.new.lines.items }
     {
         let mut room = [0u8; LONGEST];
         let arrival = links.receive_any(&mut room);
@@ -181,6 +186,7 @@ impl Run {
         ensures begun { (p : ℕ) → A.link_count links.new p ≡ A.link_count links.old p }
         ensures each { (p : ℕ) → A.refusal_count links.new p + open_of self.new p ≤ A.refusal_count links.old p + open_of self.old p }
         ensures fresh { AreFresh self.old.lines.items → AreFresh self.new.lines.items }
+        ensures apart { AreApart self.old.lines.items → AreApart self.new.lines.items }
     {
         if self.tick == before {
             return Ok(());
@@ -202,13 +208,16 @@ impl Run {
         ensures begun { (p : ℕ) → A.link_count links.new p ≡ A.link_count links.old p }
         ensures each { (p : ℕ) → A.refusal_count links.new p + open_of self.new p ≤ A.refusal_count links.old p + open_of self.old p }
         ensures fresh { AreFresh self.old.lines.items → verdict_of self.new ≡ verdict_of self.old }
+        ensures apart { AreApart self.old.lines.items → AreApart self.new.lines.items }
+        ensures told { OnOk result (AreServed self.new.lines.items self.new.desk.coordinator) }
     {
         self.look_round(links, before)?;
         seat_all(links, &mut self.desk, self.tick, &mut self.lines)?;
         tell_parked(links, &mut self.desk, self.tick, &mut self.lines)
     }
 
-    /// Takes what comes next, ends what is overdue, links who waits, and tells who is parked. Answers whether anything may come yet.
+    /// Takes what comes next, ends what is overdue, links who waits, and tells who is parked; then joins a leaf in the time that would be
+    /// waited. Answers whether anything may come yet.
     fn turn<A: Arrivals>(&mut self, links: &mut A) -> Result<bool, AllocError>
         ensures formula { formula_of self.new ≡ formula_of self.old }
         ensures one { RoseBy 1 (A.call_count links.old) (A.call_count links.new) }
@@ -218,10 +227,13 @@ impl Run {
         ensures arrived { IfOk result (λ goes_on. goes_on ≡ true → A.arrival_count links.new ≡ A.arrival_count links.old + 1) }
         ensures each { EachCloses (open_of self.old) (open_of self.new) (A.link_count links.old) (A.link_count links.new) (A.refusal_count links.old) (A.refusal_count links.new) }
         ensures first { self.old.lines.items ≡ [] → verdict_of self.new ≡ verdict_of self.old }
+        ensures apart { AreApart self.old.lines.items → AreApart self.new.lines.items }
+        ensures told { OnOk result (AreServed self.new.lines.items self.new.desk.coordinator) }
     {
         let before = self.tick;
         let goes_on = self.hear_next(links)?;
         self.attend(links, before)?;
+        join_ahead(&mut self.desk.coordinator);
         Ok(goes_on)
     }
 
@@ -234,6 +246,7 @@ impl Run {
         ensures used { OnOk result (HasBegun (A.call_count links.old) (A.call_count links.new) (verdict_of self.new)) }
         ensures most { AreBounded (A.arrival_count links.old) (A.arrival_count links.new) (A.call_count links.old) (A.call_count links.new) }
         ensures each { EachCloses (open_of self.old) (open_of self.new) (A.link_count links.old) (A.link_count links.new) (A.refusal_count links.old) (A.refusal_count links.new) }
+        ensures apart { AreApart self.new.lines.items }
     {
         for _ in 0..ARRIVALS {
             if self.is_over() {
@@ -256,6 +269,7 @@ impl Run {
         ensures formula { formula_of self.new ≡ formula_of self.old }
         ensures most { AreBounded (A.arrival_count links.old) (A.arrival_count links.new) (A.call_count links.old) (A.call_count links.new) }
         ensures each { EachCloses (open_of self.old) (open_of self.new) (A.link_count links.old) (A.link_count links.new) (A.refusal_count links.old) (A.refusal_count links.new) }
+        ensures apart { AreApart self.old.lines.items → AreApart self.new.lines.items }
     {
         for _ in 0..ARRIVALS {
             end_unserved(links, &mut self.desk, self.tick, SILENCE, &mut self.lines);

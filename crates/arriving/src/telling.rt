@@ -1,7 +1,9 @@
 //! What workers are told.
 
-ghost use Rattle.std.specs.Prelude.{◌≡◌, ◌≢◌, ◌≤◌, ◌+◌, ℕ};
+ghost use Rattle.std.specs.Prelude.{◌≡◌, ◌≢◌, ◌≤◌, ◌+◌, ℕ, None, Some, IsSome, OnOk};
+ghost use Rattle.arriving.specs.inner.Deliveries.{HasNothing, IsAsked, StaysLinked};
 ghost use Rattle.arriving.specs.inner.Lines.{one_if_closed};
+ghost use Rattle.arriving.specs.inner.Seats.{parked_worker, seated_worker};
 
 use crate::coordinating::poll;
 use crate::line::{Broken, Line};
@@ -93,7 +95,10 @@ fn send<A: Arrivals>(links: &mut A, place: u8, frame: &Frame) -> Result<(), Brok
 }
 
 /// Notes what its worker is told.
-fn note(line: &mut Line, patience: &Patience, at: At, frame: &Frame) {
+fn note(line: &mut Line, patience: &Patience, at: At, frame: &Frame)
+    ensures link { IsSome (seated_worker line.old) → StaysLinked line.old line.new }
+    ensures parked { parked_worker line.new ≡ None }
+{
     match frame {
         Frame::Task { cube, .. } => {
             let leaf = mark_of(cube);
@@ -119,6 +124,9 @@ pub(crate) fn tell<A: Arrivals>(
     ensures begun { (p : ℕ) → A.link_count links.new p ≡ A.link_count links.old p }
     ensures here { A.refusal_count links.new at.place ≤ A.refusal_count links.old at.place + one_if_closed result }
     ensures elsewhere { (p : ℕ) → p ≢ at.place → A.refusal_count links.new p ≤ A.refusal_count links.old p }
+    ensures link { StaysLinked line.old line.new }
+    ensures asked { OnOk result (IsAsked (seated_worker line.old) coordinator.old coordinator.new) }
+    ensures parked { OnOk result ((worker : ℕ) → parked_worker line.new ≡ Some worker → HasNothing coordinator.new worker) }
 {
     let Some(worker) = line.seated() else {
         return Ok(());

@@ -50,6 +50,13 @@ left_out_is rows name low high usual none = record {
   no_text : (o : Option Text) (t : Text) → o ≡ None → o ≡ Some t → ⊥
   no_text o t none some = cc
 
+-- the words give an option one number
+pub same_number : (rows : List Row) (name : Text) (low high usual m n : ℕ) → NamesNumberOr rows name low high usual m → NamesNumberOr rows name low high usual n → m ≡ n
+same_number rows name low high usual m n first second = by_what (first_of name rows) refl where
+  by_what : (o : Option Text) → first_of name rows ≡ o → m ≡ n
+  by_what (Some t) e = (first.given t e).value ∙ sym (second.given t e).value
+  by_what None e = first.left_out e ∙ sym (second.left_out e)
+
 pub if_none : {X : Type 0} (r : Option X) (P : Type 0) → P → IfNone r P
 if_none None P h = h
 if_none (Some x) P h = tt

@@ -1,5 +1,5 @@
 -- What the words of a command line ask for, by the rules of `clap`.
-use Rattle.std.specs.Prelude.{◌≡◌, ℕ, ◌-◌, ◌^◌, ◌≤◌, List, [], ◌∷◌, length, map, Bool, true, false, not, Option, Some, None, option_map, codes, IfSome, ⊤}
+use Rattle.std.specs.Prelude.{◌≡◌, ℕ, ◌-◌, ◌^◌, ◌≤◌, nat_le, List, [], ◌∷◌, length, map, Bool, true, false, not, Option, Some, None, option_map, codes, IfSome, if◌then◌else◌, ⊤}
 use Rattle.std.specs.Borrow.{Bor}
 use Rattle.std.specs.Str.Parse.{IsNumeral, digits_value, without_leading_plus}
 use Rattle.clap.specs.Kinds.{IsAmong}
@@ -7,6 +7,8 @@ use Rattle.clap.specs.Words.{Row, Text, all_of, fault_of, first_of, one_of, subc
 use Rattle.clap.specs.declared.error.kind.ErrorKind.TheVariants as kind
 use Rattle.command_line.specs.Program.{program}
 use Rattle.command_line.specs.Options.{AreOptions}
+use Rattle.command_line.specs.declared.commands.run_words.Place.{Place}
+use Rattle.command_line.specs.declared.commands.run_words.Place.TheVariants.{AtPort, Here}
 use Rattle.command_line.specs.declared.options.Options.{Options}
 use Rattle.command_line.specs.declared.printing.Printing.{Printing}
 use Rattle.command_line.specs.declared.request.Request.{Request}
@@ -65,10 +67,15 @@ pub record NamesPrinting (rows : List Row) (printing : Printing) : Type 0 where
   pub quiet_is : NamesFlag rows (codes "quiet") printing.quiet
   pub witness_is : NamesFlag rows (codes "no-witness") (not printing.witness)
 
+-- how deep a run splits the formula where its words do not say it: at a port by how many workers there may be
+abbrev pub usual_depth : Place → ℕ → ℕ
+usual_depth Here workers = 4
+usual_depth AtPort workers = if nat_le workers 1 then 6 else (if nat_le workers 8 then 8 else 10)
+
 -- the options of a run, each by its word; the usual one where the command has no such word
-pub record NamesOptions (rows : List Row) (options : Options) : Type 0 where
+pub record NamesOptions (place : Place) (rows : List Row) (options : Options) : Type 0 where
   pub workers_is : NamesNumberOr rows (codes "workers") 1 64 2 options.workers
-  pub depth_is : NamesNumberOr rows (codes "depth") 0 16 4 options.depth
+  pub depth_is : NamesNumberOr rows (codes "depth") 0 16 (usual_depth place options.workers) options.depth
   pub limit_is : NamesNumberOr rows (codes "limit") 1 1000000000 100000 options.limit
   pub session_is : NamesNumberOr rows (codes "session") 0 (2 ^ 64 - 1) 1 options.session
   pub number_is : NamesNumberOr rows (codes "number") 1 64 1 options.number
@@ -77,6 +84,7 @@ pub record NamesOptions (rows : List Row) (options : Options) : Type 0 where
   pub ahead_is : NamesFlag rows (codes "ahead") options.ahead
   pub patience_is : NamesAnyNumber rows (codes "patience") 1 1000000000 options.patience
   pub progress_is : NamesFlag rows (codes "progress") options.progress
+  pub rounds_is : NamesFlag rows (codes "rounds") options.rounds
   pub quiet_is : NamesFlag rows (codes "quiet") options.quiet
   pub witness_is : NamesFlag rows (codes "no-witness") (not options.witness)
 
@@ -96,13 +104,13 @@ Makes name rows (Complete input list) =
     × NamesNothing rows (codes "depth") × NamesNothing rows (codes "cubes") × NamesNothing rows (codes "split") × NamesNothing rows (codes "on")
 Makes name rows (Solve input cubes proof options) =
     (name ≡ codes "solve") × NamesFile rows (codes "INPUT") (Some input) × NamesFile rows (codes "cubes") cubes
-    × NamesFile rows (codes "PROOF") proof × NamesOptions rows options
+    × NamesFile rows (codes "PROOF") proof × NamesOptions Here rows options
 Makes name rows (Serve port input cubes proof options) =
     (name ≡ codes "serve") × NamesNumber rows (codes "port") 1 65535 port × NamesFile rows (codes "INPUT") (Some input)
-    × NamesFile rows (codes "cubes") cubes × NamesFile rows (codes "PROOF") proof × NamesOptions rows options
+    × NamesFile rows (codes "cubes") cubes × NamesFile rows (codes "PROOF") proof × NamesOptions AtPort rows options
 Makes name rows (Work port input proof options) =
     (name ≡ codes "work") × NamesNumber rows (codes "port") 1 65535 port × NamesFile rows (codes "INPUT") (Some input)
-    × NamesFile rows (codes "PROOF") proof × NamesOptions rows options
+    × NamesFile rows (codes "PROOF") proof × NamesOptions Here rows options
 Makes name rows (Drill input seed turns) =
     (name ≡ codes "drill") × NamesFile rows (codes "INPUT") (Some input) × NamesNumber rows (codes "seed") 0 (2 ^ 64 - 1) seed
     × NamesNumber rows (codes "turns") 0 100000 turns

@@ -2,16 +2,15 @@
 use Rattle.std.specs.Prelude.{◌-◌, ◌^◌, true, false, codes}
 use Rattle.std.specs.Str.{byte}
 use Rattle.clap.specs.Simple.{on_top}
-use Rattle.clap.specs.Words.{App, new_app, with_rule, with_subcommand}
+use Rattle.clap.specs.Words.{App, Rule, Text, new_app, with_rule, with_subcommand}
 use Rattle.word_rules.specs.Rules.{any_number_rule, file_rule, files_rule, flag_rule, long_flag_rule, named_file_rule, needed_file_rule, needed_number_rule, number_rule}
 
--- `[--workers N] [--depth D] [--limit L] [--cubes FILE]`: N from 1 to 64, else 2, D from 0 to 16, else 4, and L from 1 to
--- 1,000,000,000, else 100,000
-abbrev pub with_search : App → App
-with_search a =
-    with_rule (with_rule (with_rule (with_rule a (number_rule (codes "workers") 1 64 (codes "2")))
-    (number_rule (codes "depth") 0 16 (codes "4"))) (number_rule (codes "limit") 1 1000000000 (codes "100000")))
-    (named_file_rule (codes "cubes"))
+-- `[--workers N] [--depth D] [--limit L] [--cubes FILE]`: N from 1 to 64, else 2, D by its rule, and L from 1 to 1,000,000,000, else
+-- this one
+abbrev pub with_search : Rule → Text → App → App
+with_search depth limit a =
+    with_rule (with_rule (with_rule (with_rule a (number_rule (codes "workers") 1 64 (codes "2"))) depth)
+    (number_rule (codes "limit") 1 1000000000 limit)) (named_file_rule (codes "cubes"))
 
 -- `[-q] [-n]`
 abbrev pub with_printing : App → App
@@ -39,16 +38,18 @@ cubes_app =
     (named_file_rule (codes "cubes"))) (any_number_rule (codes "split") 1 (2 ^ 32 - 1))) (any_number_rule (codes "on") 1 (2 ^ 31 - 1)))
     (named_file_rule (codes "complete"))) (file_rule (codes "INPUT") true)
 
--- `solve [--progress]`, a search
+-- `solve [--progress]`, a search: D from 0 to 16, else 4, and L else 100,000
 abbrev pub solve_app : App
-solve_app = with_files (with_search (with_rule (new_app (codes "solve")) (long_flag_rule (codes "progress"))))
+solve_app = with_files (with_search (number_rule (codes "depth") 0 16 (codes "4")) (codes "100000") (with_rule (new_app (codes "solve")) (long_flag_rule (codes "progress"))))
 
--- `serve --port P [--session S] [--patience T] [--progress]`, a search: P from 1 to 65,535, S any number of 64 bits, else 1, and T
--- from 1 to 1,000,000,000
+-- `serve --port P [--session S] [--patience T] [--progress] [--rounds]`, a search: P from 1 to 65,535, S any number of 64 bits, else 1,
+-- T from 1 to 1,000,000,000, D from 0 to 16, and L else 1,000,000
 abbrev pub serve_app : App
 serve_app =
-    with_files (with_search (with_rule (with_rule (with_rule (with_rule (new_app (codes "serve")) (needed_number_rule (codes "port") 1 65535))
-    (number_rule (codes "session") 0 (2 ^ 64 - 1) (codes "1"))) (any_number_rule (codes "patience") 1 1000000000)) (long_flag_rule (codes "progress"))))
+    with_files (with_search (any_number_rule (codes "depth") 0 16) (codes "1000000")
+    (with_rule (with_rule (with_rule (with_rule (with_rule (new_app (codes "serve")) (needed_number_rule (codes "port") 1 65535))
+    (number_rule (codes "session") 0 (2 ^ 64 - 1) (codes "1"))) (any_number_rule (codes "patience") 1 1000000000)) (long_flag_rule (codes "progress")))
+    (long_flag_rule (codes "rounds"))))
 
 -- `work --port P [--number W] [--incarnation I] [--ahead]`, and files: W from 1 to 64, else 1, and I any number of
 -- 64 bits, else 1

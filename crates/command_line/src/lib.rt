@@ -10,7 +10,7 @@ mod parsing;
 mod printing;
 mod request;
 
-pub use options::Options;
+pub use options::{Options, USUAL};
 pub use parsing::command;
 pub use printing::Printing;
 pub use request::{Request, UsageFault};

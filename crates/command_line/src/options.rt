@@ -5,9 +5,10 @@
 pub struct Options {
     /// How many workers there are, from 1 to 64; else 2.
     pub workers: u32,
-    /// How deep the formula is split, from 0 to 16, where no cubes are handed in; else 4.
+    /// How deep the formula is split, from 0 to 16, where no cubes are handed in; else 4, and at a port 6, 8 or 10 by its workers.
     pub depth: u32,
-    /// The most lemmas that the search under a leaf learns before the leaf is split, from 1 to 1,000,000,000; else 100,000.
+    /// The most lemmas that the search under a leaf learns before the leaf is split, from 1 to 1,000,000,000; else 100,000, and at a port
+    /// 1,000,000.
     pub limit: u64,
     /// The number of the coordinator's session; else 1.
     pub session: u64,
@@ -23,8 +24,27 @@ pub struct Options {
     pub patience: Option<u64>,
     /// Whether it is told on standard error how far the run has come.
     pub progress: bool,
+    /// Whether the coordinator takes its workers in turns, round by round.
+    pub rounds: bool,
     /// Whether `c` lines are left out.
     pub quiet: bool,
     /// Whether the `v` lines of an assignment are printed.
     pub witness: bool,
 }
+
+/// What stands where no word names another, if the workers are of this process.
+pub const USUAL: Options = Options {
+    workers: 2,
+    depth: 4,
+    limit: 100_000,
+    session: 1,
+    number: 1,
+    incarnation: 1,
+    defs: 0,
+    ahead: false,
+    patience: None,
+    progress: false,
+    rounds: false,
+    quiet: false,
+    witness: true,
+};

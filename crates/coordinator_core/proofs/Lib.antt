@@ -1,6 +1,7 @@
 pub mod BeginLemmas
 pub mod ClosingLemmas
 pub mod ExampleLemmas
+pub mod FrontLemmas
 pub mod GatherLemmas
 pub mod KeptLemmas
 pub mod Places

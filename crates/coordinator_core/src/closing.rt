@@ -12,12 +12,13 @@ ghost use Rattle.coordinator_core.specs.declared.desks.Job.{Job};
 
 use crate::coordinator::Coordinator;
 use crate::desks::{Fixed, Job};
+use crate::joining::{begun_or, join_rest};
 use cube_split::base_or;
 use evidence::Evidence;
 use frames::WorkerNumber;
 use lrat_check::{Reaction, Verdict, check_packed_fragment};
 use lrat_text::PackedText;
-use proof_join::{JoinFault, join_packed};
+use proof_join::JoinFault;
 use std::alloc::Global;
 
 /// What a fragment is found to be.
@@ -149,8 +150,10 @@ impl Coordinator {
         if !self.leaves.are_closed() {
             return Reaction::Taken;
         }
-        match join_packed(
-            self.alloc,
+        let held = self.front.take();
+        let front = begun_or(self.alloc, held, &self.formula, &self.preamble);
+        match join_rest(
+            front,
             &self.formula,
             &self.preamble,
             &self.tree,

@@ -19,6 +19,7 @@ use dimacs::{Base, Formula};
 use frames::WorkerNumber;
 use icnf::Tree;
 use lrat_check::Verdict;
+use proof_join::Joining;
 use std::alloc::{AllocError, Global};
 use std::marker::Model;
 
@@ -46,6 +47,10 @@ pub struct Coordinator {
     pub(crate) next: Option<u64>,
     pub(crate) stuck: bool,
     pub(crate) verdict: Verdict,
+    // what is joined of the first leaves before the last one is closed
+    pub(crate) front: Option<Joining>,
+    // whether joining begins before that: not where the text came to be too long
+    pub(crate) is_joining: bool,
 }
 
 impl Model for Coordinator {
@@ -55,6 +60,7 @@ impl Model for Coordinator {
     ghost use Rattle.coordinator_core.specs.Coordinator.{CoordinatorState};
     ghost use Rattle.coordinator_core.specs.Invariant.{IsCoordinator};
     ghost use Rattle.coordinator_core.specs.Tables.{next_of};
+    ghost use Rattle.coordinator_core.specs.inner.Fronts.{IsJoined};
     ghost use Rattle.coordinator_core.specs.inner.Tables.{HasRoom};
 
     ghost Value = { CoordinatorState };
@@ -89,7 +95,7 @@ impl Model for Coordinator {
       next = next_of c.next;
       stuck = c.stuck;
       verdict = c.verdict;
-    }) × HasRoom (c.formula.vars + length c.preamble.pairs) c.chooser };
+    }) × HasRoom (c.formula.vars + length c.preamble.pairs) c.chooser × IsJoined c.formula c.preamble.pairs c.tree c.leaves.states c.leaves.fragments c.front };
 }
 
 impl Drop for Coordinator {
@@ -111,6 +117,8 @@ impl Drop for Coordinator {
             next: _,
             stuck: _,
             verdict: _,
+            front: _,
+            is_joining: _,
         } = self;
     }
 }
@@ -192,6 +200,8 @@ impl Coordinator {
             next: Some(1),
             stuck: false,
             verdict: Verdict::Nothing,
+            front: None,
+            is_joining: true,
         })
     }
 
@@ -213,6 +223,8 @@ impl Coordinator {
         self.next = Some(1);
         self.stuck = false;
         self.verdict = Verdict::Nothing;
+        self.front = None;
+        self.is_joining = true;
         Ok(())
     }
 
@@ -281,6 +293,8 @@ impl Coordinator {
             next: _,
             stuck: _,
             verdict,
+            front: _,
+            is_joining: _,
         } = self;
         verdict
     }

@@ -1,6 +1,6 @@
 //! The leaves of a tree: the state of each, and the fragments of those that are closed.
 
-ghost use Rattle.std.specs.Prelude.{◌≡◌, ◌≢◌, ℕ, ◌<◌, ◌↔◌, IsTrue, [], count_by, length, replicate, position, slice_set, slice_index_or, vec_len, vec_capacity, Some, false, IfOk, OnOk, OnErr};
+ghost use Rattle.std.specs.Prelude.{◌≡◌, ◌≢◌, ℕ, ◌<◌, ◌↔◌, IsTrue, [], count_by, length, replicate, position, slice_get, slice_set, slice_index_or, vec_len, vec_capacity, Some, false, IfOk, OnOk, OnErr};
 ghost use Rattle.icnf.specs.Leaves.{IsFree, branched};
 ghost use Rattle.coordinator_core.specs.Coordinator.{AreClosed, is_open};
 ghost use Rattle.coordinator_core.specs.Progress.{is_closed};
@@ -109,6 +109,13 @@ impl LeafTable {
         ensures { IsTrue result ↔ AreClosed self.now.states }
     {
         self.unclosed == 0
+    }
+
+    /// Whether there is a leaf at a place, and it is closed.
+    pub(crate) fn is_closed(&self, place: usize) -> bool
+        ensures { IsTrue result ↔ (slice_get self.now.states place ≡ Some Closed) }
+    {
+        matches!(self.states.get(place), Some(LeafState::Closed))
     }
 
     /// How many are closed.

@@ -12,6 +12,7 @@ mod desks;
 mod examples;
 mod extending;
 mod gathering;
+mod joining;
 mod laws;
 mod leaves;
 mod polling;

@@ -9,7 +9,7 @@ mod peer;
 use dimacs::read;
 use floor::Floor;
 use links::Observed;
-use node_main::{Options, run_attend};
+use node_main::{Options, USUAL, run_attend};
 use std::alloc::{AllocError, Global};
 use std::io;
 use std::io::Write;
@@ -67,16 +67,7 @@ struct Tally {
 const OPTIONS: Options = Options {
     workers: 3,
     depth: 2,
-    limit: 100_000,
-    session: 1,
-    number: 1,
-    incarnation: 1,
-    defs: 0,
-    ahead: false,
-    patience: None,
-    progress: false,
-    quiet: false,
-    witness: true,
+    ..USUAL
 };
 
 /// Plays the run of a seed. Every fourth is in order.

@@ -10,6 +10,8 @@ pub mod OneTree
 pub mod TreeLemmas
 pub mod ResultLemmas
 pub mod NumberLemmas
+pub mod BitLemmas
+pub mod IndexLemmas
 pub mod CoverLemmas
 pub mod ForkLemmas
 pub mod WrittenLemmas

@@ -8,8 +8,7 @@ use Rattle.std.proofs.lemmas.List.Elements.{All-nil, All-cons, All-append, All-c
 use Rattle.std.proofs.lemmas.List.Sums.{fold-append}
 use Rattle.dimacs.specs.logic.ClauseMap.{ClauseMap, map_of}
 use Rattle.dimacs.specs.logic.Cnf.{Cnf}
-use Rattle.dimacs.specs.logic.Literal.{Clause, IsWithin, IsTautology}
-use Rattle.dimacs.proofs.Members.{Contains-nil}
+use Rattle.dimacs.specs.logic.Literal.{Clause, IsWithin}
 use Rattle.icnf.specs.Leaves.{Cube}
 use Rattle.lrat_text.specs.Grammar.{IsStep}
 use Rattle.lrat_text.specs.Log.{IsLog, additions}
@@ -22,11 +21,11 @@ use Rattle.proof_join.proofs.MapLemmas.{between_formula}
 use Rattle.gathering.specs.Closing.{Numbered, Leaf, can_close, settled, all_settled, spent}
 use Rattle.gathering.specs.Gathering.{Handed, Gathering, gathered, nothing, with_log, deletions, deleted, left_by, lemmas_of, live_from, with_live}
 use Rattle.gathering.specs.Written.{Stands, Between, IsUnderWay, WithinLog, Ending, NoneLive, lemmas_below, leaves_of, steps_within}
-use Rattle.gathering.specs.Trees.{IsSubtree, AreCovered, leaves_in, whole}
+use Rattle.gathering.specs.Trees.{IsSubtree, IsIndexed, leaves_in}
 use Rattle.gathering.specs.inner.Trees.{HasSettled}
 use Rattle.gathering.specs.inner.Gatherers.{Closes, Spends}
 use Rattle.gathering.specs.declared.gatherer.Gatherer.{Gatherer}
-use Rattle.gathering.specs.declared.spans.Span.{Span}
+use Rattle.gathering.specs.declared.index.Index.{Index}
 use Rattle.gathering.specs.declared.tree.Node.{Node}
 use Rattle.gathering.proofs.SmallLemmas.{live_added}
 use Rattle.gathering.proofs.PlacedLemmas.{IsSound, gathered_sound, sound_low, within_top, log_top, log_between}
@@ -118,14 +117,17 @@ own_small F log number C limits own live = elim (live_added (map_of F) log numbe
   | inr a ↦ let z : IsStep (Add a.0 C a.1 a.2) = All-contains IsStep log (Add a.0 C a.1 a.2) limits a.3 in z.1
 ]
 
-pub no_pair : ¬ (IsTautology [])
-no_pair (l, here, there) = Contains-nil l here
+pub same_indexed : (old new : Gatherer) → new.index ≡ old.index → new.unclosed.items ≡ old.unclosed.items → new.tree ≡ old.tree → IsIndexed old.index old.unclosed.items old.tree
+    → IsIndexed new.index new.unclosed.items new.tree
+same_indexed old new index unclosed tree h =
+    subst (λ (n : Node). IsIndexed new.index new.unclosed.items n) (sym tree)
+    (subst (λ (ps : List ℕ). IsIndexed new.index ps old.tree) (sym unclosed) (subst (λ (i : Index). IsIndexed i old.unclosed.items old.tree) (sym index) h))
 
 -- ---- what a call does to a gatherer that is under way
 module _ (F : Cnf) (cubes : List Cube) (logs : List Handed) (log : List Step) (some : List Leaf) (ids : List ℕ) (written : List ℕ) (old new : Gatherer) (way : IsUnderWay F cubes logs log some ids old written) where
   pub tried : (l : Numbered) (b : Bool) → All (IsWithin 2000000) l.clause → Closes old new l b → (b ≡ list_any (can_close l) some) × IsUnderWay F cubes logs log (settled l some) ids new written
   tried l b small c =
-      let h : HasSettled l [] old.tree new.tree b = c.tree small way.stands.tree way.stands.covered in (
+      let h : HasSettled l [] old.tree new.tree b = (c.tree small way.stands.tree way.stands.indexed).0 in (
         h.told ∙ ap (λ (ks : List Leaf). list_any (can_close l) ks) way.stands.leaves,
         record {
           are = way.are;
@@ -137,7 +139,7 @@ module _ (F : Cnf) (cubes : List Cube) (logs : List Handed) (log : List Step) (s
             base = c.base ∙ way.stands.base;
             top = c.top ∙ way.stands.top;
             tree = h.tree;
-            covered = subst (λ (ss : List Span). AreCovered ss whole new.tree) (sym c.spans) (h.covers old.spans.items whole way.stands.covered);
+            indexed = (c.tree small way.stands.tree way.stands.indexed).1;
             leaves = h.leaves ∙ ap (settled l) way.stands.leaves;
             text = way.stands.text;
           };
@@ -156,7 +158,7 @@ module _ (F : Cnf) (cubes : List Cube) (logs : List Handed) (log : List Step) (s
       base = s.base ∙ way.stands.base;
       top = s.top ∙ way.stands.top;
       tree = subst (IsSubtree []) (sym s.tree) way.stands.tree;
-      covered = subst (λ (n : Node). AreCovered new.spans.items whole n) (sym s.tree) (subst (λ (ss : List Span). AreCovered ss whole old.tree) (sym s.spans) way.stands.covered);
+      indexed = same_indexed old new s.index s.unclosed s.tree way.stands.indexed;
       leaves = ap (λ (n : Node). leaves_in n) s.tree ∙ way.stands.leaves;
       text = way.stands.text;
     };
@@ -255,9 +257,9 @@ begins_to_end F cubes logs log accepted g written way = record {
 
 pub log_ended : (F : Cnf) (cubes : List Cube) (logs : List Handed) (h : Handed) (n : ℕ) (written : List ℕ) (old new : Gatherer) (more : List ℕ)
     → Ending F cubes logs h n old written → ((k : ℕ) → n ≤ k → get (after_steps (map_of F) h.steps) k ≡ None)
-    → new.base ≡ old.base → new.top ≡ old.top → new.tree ≡ old.tree → new.spans.items ≡ old.spans.items → new.spent.items ≡ [] → more ≡ text_of (max 1 old.top) (deletions old.spent.items)
+    → new.base ≡ old.base → new.top ≡ old.top → new.tree ≡ old.tree → new.index ≡ old.index → new.unclosed.items ≡ old.unclosed.items → new.spent.items ≡ [] → more ≡ text_of (max 1 old.top) (deletions old.spent.items)
     → Between F cubes (logs ++ h ∷ []) new (written ++ more)
-log_ended F cubes logs h n written old new more e none base top tree spans spent_none more_is =
+log_ended F cubes logs h n written old new more e none base top tree index unclosed spent_none more_is =
     let m : ℕ = length F.clauses in
     let g : Gathering = gathered F cubes logs in
     let sound : IsSound F g = gathered_sound F cubes logs e.way.are in
@@ -275,7 +277,7 @@ log_ended F cubes logs h n written old new more e none base top tree spans spent
         base = base ∙ e.way.stands.base;
         top = top ∙ e.way.stands.top;
         tree = subst (IsSubtree []) (sym tree) e.way.stands.tree;
-        covered = subst (λ (x : Node). AreCovered new.spans.items whole x) (sym tree) (subst (λ (ss : List Span). AreCovered ss whole old.tree) (sym spans) e.way.stands.covered);
+        indexed = same_indexed old new index unclosed tree e.way.stands.indexed;
         leaves = ap (λ (x : Node). leaves_in x) tree ∙ e.way.stands.leaves ∙ ap (left_by h.accepted g.leaves) all;
         text = λ some.
             let low : m ≤ g.top = sound_low F g sound in

@@ -1,25 +1,23 @@
 -- A tree in memory, and what a lemma closes in it.
-use Rattle.std.proofs.Common.{◌≡◌, ◌≢◌, ℕ, zero, suc, ◌+◌, ◌<◌, inl, inr, ◌⊎◌, Bool, true, false, ◌&&◌, ◌||◌, cond, Option, Some, None, List, [], ◌∷◌, ◌++◌, length, map, drop, get_or, refl, sym, ◌∙◌, ap, subst, arith, append_assoc, length-append, length-drop}
+use Rattle.std.proofs.Common.{◌≡◌, ◌≢◌, ℕ, zero, suc, ◌+◌, ◌<◌, ◌≤◌, inl, inr, ◌⊎◌, Bool, true, false, ◌&&◌, ◌||◌, cond, Option, Some, None, List, [], ◌∷◌, ◌++◌, length, map, drop, get_or, refl, sym, ◌∙◌, ap, subst, arith, append_assoc, length-append, length-drop}
 use Rattle.std.specs.Prelude.{is_some, is_none}
-use Rattle.std.specs.List.{Contains, list_any, list_all}
+use Rattle.std.specs.List.{list_any, list_all}
 use Rattle.std.proofs.Math.Seq.{drop-append_seam, get_or-append_seam}
-use Rattle.std.proofs.lemmas.Bool.{true≢false, cases_Bool}
+use Rattle.std.proofs.lemmas.Bool.{true≢false}
 use Rattle.std.proofs.lemmas.List.{append-nil, get_or-drop, map-append}
-use Rattle.std.proofs.lemmas.List.Elements.{Contains-append_left, Contains-append_right}
 use Rattle.std.proofs.lemmas.List.Folds.{list_any-append}
-use Rattle.dimacs.specs.logic.Literal.{Literal, Clause, IsTautology, negation, has, var_of}
-use Rattle.dimacs.proofs.LiteralLemmas.{var_of-negation}
-use Rattle.dimacs.proofs.Members.{Contains-head, has-Contains}
+use Rattle.dimacs.specs.logic.Literal.{Literal, negation, var_of}
 use Rattle.icnf.specs.Leaves.{Cube, IsFree, Leaves}
 use Rattle.icnf.specs.Leaves as icnf
-use Rattle.proof_join.proofs.NodeLemmas.{no_pair_longer}
 use Rattle.gathering.specs.Closing.{closes, Numbered, Leaf, is_closed, can_close, closed_by, settled, open_from, with_open}
 use Rattle.gathering.specs.declared.lemma.Candidate.{Candidate}
-use Rattle.gathering.specs.declared.spans.Span.{Span}
+use Rattle.gathering.specs.Bits.{Has}
+use Rattle.gathering.specs.declared.index.Index.{Index}
+use Rattle.gathering.specs.declared.places.Places.{Places}
 use Rattle.gathering.specs.declared.tree.Node.{Node, Leaf as Single, Fork'}
-use Rattle.gathering.specs.Trees.{leaf_in, leaves_in, IsSubtree, AreCovered}
-use Rattle.gathering.specs.inner.Trees.{IsWindow, candidate_of, HasSettled, IsPart, IsMadeOf, TakesBranch, open_leaf}
-use Rattle.gathering.proofs.SettleLemmas.{both, closes_negates}
+use Rattle.gathering.specs.Trees.{leaves_in, IsSubtree, ArePlaced, AreCovered, AreOpen}
+use Rattle.gathering.specs.inner.Trees.{candidate_of, AreLow, Clears, HasSettled, IsFound, IsPart, IsMadeOf, Settles, left_of, open_leaf, right_of}
+use Rattle.gathering.proofs.SettleLemmas.{both}
 
 -- ---- a lemma that closes nothing changes nothing
 neither : (a b : Bool) → (a || b) ≡ false → (a ≡ false) × (b ≡ false)
@@ -46,41 +44,41 @@ closed_none l (k ∷ leaves) e =
     at (Some x) f = refl
 
 pub unchanged : (l : Numbered) (path : Cube) (node : Node) → IsSubtree path node → list_any (can_close l) (leaves_in node) ≡ false → HasSettled l path node node false
-unchanged l path node h e = record { tree = h; leaves = sym (settled_none l (leaves_in node) e); told = sym e; covers = λ spans at c. c }
+unchanged l path node h e = record { tree = h; leaves = sym (settled_none l (leaves_in node) e); told = sym e; covers = λ index from c. c }
 
 -- a subtree whose leaves are all closed
 pub closed_unchanged : (l : Numbered) (path : Cube) (node : Node) → IsSubtree path node → list_all is_closed (leaves_in node) ≡ true → HasSettled l path node node false
 closed_unchanged l path node h e = unchanged l path node h (closed_none l (leaves_in node) e)
 
--- ---- a branch behind a literal of the lemma
-pub other_free : (path : Cube) (x : Literal) → IsFree path (var_of x) → IsFree path (var_of (negation x))
-other_free path x h = subst (IsFree path) (sym (var_of-negation x)) h
+-- ---- places
+pub placed_inside : (from to : ℕ) (node : Node) → ArePlaced from to node → from < to
+placed_inside from to (Single cube closing) h = h
+placed_inside from to (Fork' branch middle closed p left q right) (a, b) = let l = placed_inside from middle left a in let r = placed_inside middle to right b in omega arith
 
-not_closed : (q : Cube) (C : Clause) (x : Literal) → Contains q x → ¬ (IsTautology q) → has C x ≡ true → closes q C ≡ false
-not_closed q C x here none inside = elim (cases_Bool (closes q C)) [
-  | inl passes ↦ absurd (none (x, here, closes_negates q C passes x (has-Contains C x inside)))
-  | inr fails ↦ fails
-]
+pub placed_wider : (from to more : ℕ) (node : Node) → to ≤ more → ArePlaced from to node → ArePlaced from more node
+placed_wider from to more (Single cube closing) up h = omega arith
+placed_wider from to more (Fork' branch middle closed p left q right) up (a, b) = (a, placed_wider middle to more right up b)
 
-none_below : (l : Numbered) (x : Literal) → has l.clause x ≡ true → (path : Cube) (node : Node) → IsSubtree path node → ¬ (IsTautology path) → Contains path x → list_any (can_close l) (leaves_in node) ≡ false
-none_below l x inside path (Single cube closing) h none here =
-    ap (λ b. (is_none (leaf_in cube.items closing).closing && b) || false) (ap (λ (q : Cube). closes q l.clause) h ∙ not_closed path l.clause x here none inside) ∙ nothing (is_none (leaf_in cube.items closing).closing)
-  where
-    nothing : (b : Bool) → ((b && false) || false) ≡ false
-    nothing true = refl
-    nothing false = refl
-none_below l x inside path (Fork' branch middle closed p left q right) (free, marked, a, c) none here =
-    list_any-append (can_close l) (leaves_in left) (leaves_in right)
-    ∙ ap (λ b. b || list_any (can_close l) (leaves_in right)) (none_below l x inside (path ++ branch ∷ []) left a (no_pair_longer path branch free none) (Contains-append_left path (branch ∷ []) x here))
-    ∙ none_below l x inside (path ++ negation branch ∷ []) right c (no_pair_longer path (negation branch) (other_free path branch free) none) (Contains-append_left path (negation branch ∷ []) x here)
+pub placed_low : (from to : ℕ) (node : Node) → ArePlaced from to node → to ≤ 65536 → AreLow from node
+placed_low from to (Single cube closing) h limit = omega arith
+placed_low from to (Fork' branch middle closed p left q right) (a, b) limit =
+    let high : middle < to = placed_inside middle to right b in (placed_low from middle left a (omega arith), placed_low middle to right b limit)
 
-pub taken_unchanged : (l : Numbered) (path : Cube) (node : Node) (x : Literal) → has l.clause x ≡ true → IsSubtree path node → ¬ (IsTautology path) → Contains path x → HasSettled l path node node false
-taken_unchanged l path node x inside h none here = unchanged l path node h (none_below l x inside path node h none here)
+-- a set that keeps the places of a subtree
+pub open_kept : (a b : List ℕ) (from to : ℕ) (node : Node) → ArePlaced from to node → ((p : ℕ) → from ≤ p → p < to → Has a p → Has b p) → AreOpen a from node → AreOpen b from node
+open_kept a b from to (Single cube closing) placed keeps h = λ none. keeps from (omega arith) placed (h none)
+open_kept a b from to (Fork' branch middle closed p left q right) (c, d) keeps (e, f) =
+    let low : from < middle = placed_inside from middle left c in
+    let high : middle < to = placed_inside middle to right d in
+    (open_kept a b from middle left c (λ p up down. keeps p up (omega arith)) e, open_kept a b middle to right d (λ p up down. keeps p (omega arith) down) f)
+
+pub open_all : (a : List ℕ) (from to : ℕ) (node : Node) → ArePlaced from to node → ((p : ℕ) → p < to → Has a p) → AreOpen a from node
+open_all a from to (Single cube closing) placed all = λ none. all from placed
+open_all a from to (Fork' branch middle closed p left q right) (c, d) all =
+    let high : middle < to = placed_inside middle to right d in
+    (open_all a from middle left c (λ p down. all p (omega arith)), open_all a middle to right d all)
 
 -- ---- a fork
-pub left_path : (path : Cube) (x : Literal) → Contains (path ++ x ∷ []) x
-left_path path x = Contains-append_right path (x ∷ []) x (Contains-head x [])
-
 pub fork_settled : (l : Numbered) (path : Cube) (left right left' right' : Node) (one two some : Bool)
     → HasSettled l path left left' one → (path' : Cube) → HasSettled l path' right right' two → some ≡ (one || two)
     → (leaves_in left' ++ leaves_in right' ≡ settled l (leaves_in left ++ leaves_in right)) × (some ≡ list_any (can_close l) (leaves_in left ++ leaves_in right))
@@ -242,19 +240,54 @@ pub record BecomesFork (l : Numbered) (path : Cube) (x : Literal) (left right le
   pub second : IsSubtree (path ++ negation x ∷ []) right'
   pub leaves : leaves_in left' ++ leaves_in right' ≡ settled l (leaves_in left ++ leaves_in right)
   pub told : some ≡ list_any (can_close l) (leaves_in left ++ leaves_in right)
-  pub first_covers : (spans : List Span) (at : Span) → AreCovered spans at left → AreCovered spans at left'
-  pub second_covers : (spans : List Span) (at : Span) → AreCovered spans at right → AreCovered spans at right'
+  pub first_covers : (index : Index) (from : ℕ) → AreCovered index from left → AreCovered index from left'
+  pub second_covers : (index : Index) (from : ℕ) → AreCovered index from right → AreCovered index from right'
 
-pub becomes_fork : (l : Candidate) (path : Cube) (spans : List Span) (x y : Literal) (left right a b left' right' : Node) (one_at two_at : Span) (closed one two some : Bool)
-    → IsFree path (var_of x) → ¬ (IsTautology path) → IsSubtree (path ++ x ∷ []) left → IsSubtree (path ++ negation x ∷ []) right
-    → AreCovered spans one_at left → AreCovered spans two_at right → IsWindow spans l.clause.now l.window
-    → a ≡ left → b ≡ right → y ≡ negation x → TakesBranch l one_at x a left' one → TakesBranch l two_at y b right' two
+pub becomes_fork : (l : Candidate) (path : Cube) (index : Index) (unclosed : List ℕ) (x : Literal) (left right a b left' right' : Node) (at one_at two_at : Places) (middle : ℕ) (closed one two some : Bool)
+    → IsSubtree (path ++ x ∷ []) left → IsSubtree (path ++ negation x ∷ []) right → ArePlaced at.from middle left → ArePlaced middle at.to right → at.to ≤ 65536
+    → AreCovered index at.from left → AreCovered index middle right → AreOpen unclosed at.from left → AreOpen unclosed middle right → IsFound index unclosed l.clause.now l.found.now
+    → a ≡ left → b ≡ right → one_at ≡ left_of middle at → two_at ≡ right_of middle at → Settles l one_at a left' one → Settles l two_at b right' two
     → ((p q : Cube) → IsSubtree p left' → IsSubtree q right' → closed ≡ list_all is_closed (leaves_in left' ++ leaves_in right')) → some ≡ (one || two)
     → BecomesFork (candidate_of l) path x left right left' right' closed some
-becomes_fork l path spans x y left right a b left' right' one_at two_at closed one two some free none h g ch cg window ea eb ey first second marks told =
-    let first' : TakesBranch l one_at x left left' one = subst (λ (n : Node). TakesBranch l one_at x n left' one) ea first in
-    let second' : TakesBranch l two_at (negation x) right right' two = subst (λ (z : Literal). TakesBranch l two_at z right right' two) ey (subst (λ (n : Node). TakesBranch l two_at y n right' two) eb second) in
-    let p : HasSettled (candidate_of l) (path ++ x ∷ []) left left' one = first' (path ++ x ∷ []) spans h (no_pair_longer path x free none) (left_path path x) ch window in
-    let q : HasSettled (candidate_of l) (path ++ negation x ∷ []) right right' two = second' (path ++ negation x ∷ []) spans g (no_pair_longer path (negation x) (other_free path x free) none) (left_path path (negation x)) cg window in
+becomes_fork l path index unclosed x left right a b left' right' at one_at two_at middle closed one two some h g pl pr limit cl cr ol or found ea eb el er first second marks told =
+    let first' : Settles l (left_of middle at) left left' one = subst (λ (z : Places). Settles l z left left' one) el (subst (λ (n : Node). Settles l one_at n left' one) ea first) in
+    let second' : Settles l (right_of middle at) right right' two = subst (λ (z : Places). Settles l z right right' two) er (subst (λ (n : Node). Settles l two_at n right' two) eb second) in
+    let inside : middle < at.to = placed_inside middle at.to right pr in
+    let p : HasSettled (candidate_of l) (path ++ x ∷ []) left left' one = first' (path ++ x ∷ []) index unclosed h pl (omega arith) cl ol found in
+    let q : HasSettled (candidate_of l) (path ++ negation x ∷ []) right right' two = second' (path ++ negation x ∷ []) index unclosed g pr limit cr or found in
     let z = fork_settled (candidate_of l) (path ++ x ∷ []) left right left' right' one two some p (path ++ negation x ∷ []) q told in
     record { marked = marks (path ++ x ∷ []) (path ++ negation x ∷ []) p.tree q.tree; first = p.tree; second = q.tree; leaves = z.0; told = z.1; first_covers = p.covers; second_covers = q.covers }
+
+-- what a fork's branches make of the set of open places
+pub record ClearsFork (at : Places) (middle : ℕ) (a b : List ℕ) (left right left' right' : Node) : Type 0 where
+  pub outside : (p : ℕ) → p < at.from ⊎ at.to ≤ p → Has a p → Has b p
+  pub placed : ArePlaced at.from middle left' × ArePlaced middle at.to right'
+  pub first : AreOpen a at.from left → AreOpen b at.from left'
+  pub second : AreOpen a middle right → AreOpen b middle right'
+
+clears_both : (at : Places) (middle : ℕ) (a m b : List ℕ) (left right left' right' : Node) → ArePlaced at.from middle left → ArePlaced middle at.to right
+    → Clears (left_of middle at) a m left left' → Clears (right_of middle at) m b right right' → ClearsFork at middle a b left right left' right'
+clears_both at middle a m b left right left' right' pl pr first second =
+    let low : at.from < middle = placed_inside at.from middle left pl in
+    let high : middle < at.to = placed_inside middle at.to right pr in
+    record {
+      outside = λ p far h. elim far [
+        | inl before ↦ second.outside p (inl (omega arith)) (first.outside p (inl before) h)
+        | inr behind ↦ second.outside p (inr behind) (first.outside p (inr (omega arith)) h)
+      ];
+      placed = (first.placed, second.placed);
+      first = λ h. open_kept m b at.from middle left' first.placed (λ p up down. second.outside p (inl down)) (first.left h);
+      second = λ h. second.left (open_kept a m middle at.to right pr (λ p up down. first.outside p (inr up)) h);
+    }
+
+pub clears_fork : (at one_at two_at : Places) (middle : ℕ) (x m y : List ℕ) (left right a b left' right' : Node) → ArePlaced at.from middle left → ArePlaced middle at.to right
+    → a ≡ left → b ≡ right → one_at ≡ left_of middle at → two_at ≡ right_of middle at
+    → (ArePlaced one_at.from one_at.to a → Clears one_at x m a left') → (ArePlaced two_at.from two_at.to b → Clears two_at m y b right') → ClearsFork at middle x y left right left' right'
+clears_fork at one_at two_at middle x m y left right a b left' right' pl pr ea eb el er first second =
+    clears_both at middle x m y left right left' right' pl pr
+    (subst (λ (z : Places). ArePlaced z.from z.to left → Clears z x m left left') el (subst (λ (n : Node). ArePlaced one_at.from one_at.to n → Clears one_at x m n left') ea first) pl)
+    (subst (λ (z : Places). ArePlaced z.from z.to right → Clears z m y right right') er (subst (λ (n : Node). ArePlaced two_at.from two_at.to n → Clears two_at m y n right') eb second) pr)
+
+-- a subtree that stays as it is
+pub clears_none : (at : Places) (a : List ℕ) (node : Node) → ArePlaced at.from at.to node → Clears at a a node node
+clears_none at a node placed = record { outside = λ p far h. h; placed = placed; left = λ h. h }

@@ -1,5 +1,5 @@
 -- A gatherer from one call to the next: its lines, and the end of a log.
-use Rattle.std.proofs.Common.{◌≡◌, ℕ, ◌≤◌, Bool, true, List, [], ◌∷◌, ◌++◌, length, map, drop, max, refl, sym, ◌∙◌, ap, subst, arith, append_assoc}
+use Rattle.std.proofs.Common.{◌≡◌, ℕ, ◌≤◌, true, List, [], ◌∷◌, ◌++◌, length, map, drop, max, refl, sym, ◌∙◌, ap, subst, arith, append_assoc}
 use Rattle.std.specs.List.{All}
 use Rattle.std.proofs.lemmas.List.{map-append, append-nil}
 use Rattle.std.proofs.lemmas.List.Elements.{All-nil, All-cons, All-append}
@@ -15,12 +15,12 @@ use Rattle.lrat_text.proofs.RunLemmas.{log_append, text_append, top_append}
 use Rattle.proof_join.specs.Numbering.{behind, renumbered}
 use Rattle.gathering.specs.Gathering.{Handed, Gathering, gathered}
 use Rattle.gathering.specs.Written.{Between, WithinLog, steps_within}
-use Rattle.gathering.specs.Trees.{IsSubtree, AreCovered, leaves_in, whole}
+use Rattle.gathering.specs.Trees.{IsSubtree, IsIndexed, leaves_in}
 use Rattle.gathering.specs.inner.Trees.{IsPart, IsMadeOf}
 use Rattle.gathering.specs.inner.Gatherers.{MovesTop}
 use Rattle.gathering.specs.declared.gatherer.Gatherer.{Gatherer}
-use Rattle.gathering.specs.declared.spans.Span.{Span}
 use Rattle.gathering.specs.declared.tree.Node.{Node}
+use Rattle.gathering.proofs.SettlingLemmas.{same_indexed}
 use Rattle.gathering.proofs.PlacedLemmas.{IsSound, gathered_sound, sound_low, within_top}
 
 -- ---- nothing is written yet
@@ -31,11 +31,11 @@ zero_drop (x ∷ xs) = refl
 abbrev pub whole_part : (cubes : List Cube) → Leaves [] cubes → IsPart cubes 0 0
 whole_part cubes h = record { path = []; here = cubes; later = []; long = refl; leaves = h; are = zero_drop cubes ∙ sym (append-nil cubes) }
 
-pub nothing_written : (F : Cnf) (cubes : List Cube) (g : Gatherer) → IsMadeOf [] cubes g.tree → AreCovered g.spans.items whole g.tree → g.base ≡ length F.clauses → g.top ≡ length F.clauses → g.spent.items ≡ [] → Between F cubes [] g []
-nothing_written F cubes g made covered base top none = record {
+pub nothing_written : (F : Cnf) (cubes : List Cube) (g : Gatherer) → IsMadeOf [] cubes g.tree → IsIndexed g.index g.unclosed.items g.tree → g.base ≡ length F.clauses → g.top ≡ length F.clauses → g.spent.items ≡ [] → Between F cubes [] g []
+nothing_written F cubes g made indexed base top none = record {
   are = All-nil (λ (h : Handed). IsLog F h.steps);
   limits = All-nil (λ (h : Handed). All IsStep h.steps);
-  stands = record { base = base; top = top; tree = made.tree; covered = covered; leaves = made.leaves; text = λ some. refl };
+  stands = record { base = base; top = top; tree = made.tree; indexed = indexed; leaves = made.leaves; text = λ some. refl };
   none_spent = none;
 }
 
@@ -88,7 +88,7 @@ module _ (F : Cnf) (cubes : List Cube) (logs : List Handed) (log : List Step) (w
           ∙ sym (top_append (length F.clauses) (steps_within F cubes logs log) (x ∷ [])) ∙ ap (top_of (length F.clauses)) (sym steps_longer)
           ∙ within_top F (gathered F cubes logs) sound (record { steps = log ++ step ∷ []; accepted = true }) longer;
       tree = subst (IsSubtree []) (sym moves.tree) way.stands.tree;
-      covered = subst (λ (n : Node). AreCovered new.spans.items whole n) (sym moves.tree) (subst (λ (ss : List Span). AreCovered ss whole old.tree) (sym moves.spans) way.stands.covered);
+      indexed = same_indexed old new moves.index moves.unclosed moves.tree way.stands.indexed;
       leaves = ap (λ (n : Node). leaves_in n) moves.tree ∙ way.stands.leaves;
       text = λ some. ap (λ (s : Step). written ++ line_of (max 1 old.top) s) same_numbers ∙ text_longer some ∙ ap (text_of (length F.clauses)) (sym steps_longer);
     };
@@ -107,7 +107,7 @@ within_same F cubes logs log written old new way moves = record {
     base = moves.base ∙ way.stands.base;
     top = moves.top ∙ way.stands.top;
     tree = subst (IsSubtree []) (sym moves.tree) way.stands.tree;
-    covered = subst (λ (n : Node). AreCovered new.spans.items whole n) (sym moves.tree) (subst (λ (ss : List Span). AreCovered ss whole old.tree) (sym moves.spans) way.stands.covered);
+    indexed = same_indexed old new moves.index moves.unclosed moves.tree way.stands.indexed;
     leaves = ap (λ (n : Node). leaves_in n) moves.tree ∙ way.stands.leaves;
     text = way.stands.text;
   };

@@ -1,3 +1,4 @@
+pub mod Bits
 pub mod Closing
 pub mod Examples
 pub mod Gathering

@@ -1,12 +1,13 @@
 -- A splitting tree in memory.
-use Rattle.std.specs.Prelude.{◌≡◌, ℕ, ◌-◌, ◌≤◌, Bool, Option, List, [], ◌∷◌, ◌++◌, max, min, slice_index_or, Contains}
+use Rattle.std.specs.Prelude.{◌≡◌, ℕ, ◌+◌, ◌*◌, ◌/◌, ◌%◌, ◌<◌, ◌≤◌, Option, None, List, [], ◌∷◌, ◌++◌, slice_index_or, Contains}
 use Rattle.std.specs.Option.{option_map}
 use Rattle.std.specs.List.{list_all}
-use Rattle.dimacs.specs.logic.Literal.{Literal, negation, var_of}
+use Rattle.dimacs.specs.logic.Literal.{Literal, index_of, negation, var_of}
 use Rattle.icnf.specs.Leaves.{Cube, IsFree}
 use Rattle.gathering.specs.Closing.{Numbered, Leaf, is_closed}
+use Rattle.gathering.specs.Bits.{Has}
+use Rattle.gathering.specs.declared.index.Index.{Index}
 use Rattle.gathering.specs.declared.lemma.Lemma.{Lemma}
-use Rattle.gathering.specs.declared.spans.Span.{Span}
 use Rattle.gathering.specs.declared.tree.Node.{Node, Leaf as Single, Fork'}
 
 -- what a lemma in memory is
@@ -30,32 +31,40 @@ IsSubtree path (Fork' branch middle closed p left q right) =
     × IsSubtree (path ++ branch ∷ []) left
     × IsSubtree (path ++ negation branch ∷ []) right
 
--- where a variable stands
-abbrev pub nowhere : Span
-nowhere = record { first = 4294967295; last = 0 }
+-- the row of a literal, and its block around a place; 0 where there is none
+abbrev pub row_of : Index → Literal → ℕ
+row_of index l = slice_index_or index.slots.items (index_of l) 0
 
-abbrev pub span_of : List Span → ℕ → Span
-span_of spans v = slice_index_or spans v nowhere
+abbrev pub block_of : Index → Literal → ℕ → ℕ
+block_of index l p = slice_index_or index.blocks.items (row_of index l * 64 + p / 1024) 0
 
--- two spans have a place in common
-abbrev pub IsMet : Span → Span → Type 0
-IsMet span at = (span.first ≤ at.last) × (at.first ≤ span.last)
+-- the literal has the place
+pub record Stands (index : Index) (l : Literal) (p : ℕ) : Type 0 where
+  pub row : 0 < row_of index l
+  pub block : 0 < block_of index l p
+  pub bit : Has index.words.items (block_of index l p * 1024 + p % 1024)
 
--- the places of any tree's leaves, and what a fork makes of a span
-abbrev pub whole : Span
-whole = record { first = 0; last = 65535 }
+-- the leaves of a subtree have places between these, and they rise
+abbrev pub ArePlaced : ℕ → ℕ → Node → Type 0
+ArePlaced from to (Single cube closing) = from < to
+ArePlaced from to (Fork' branch middle closed p left q right) = ArePlaced from middle left × ArePlaced middle to right
 
-abbrev pub left_span : ℕ → Span → Span
-left_span middle at = record { first = at.first; last = min at.last (middle - 1) }
-
-abbrev pub right_span : ℕ → Span → Span
-right_span middle at = record { first = max at.first middle; last = at.last }
-
--- each variable of a leaf's cube stands where the leaf is, if it is not above those of lines
-abbrev pub AreMet : List Span → Span → Cube → Type 0
-AreMet spans at cube = (l : Literal) → Contains cube l → var_of l ≤ 2000000 → IsMet (span_of spans (var_of l)) at
+-- each literal of a leaf's cube has the leaf's place, if its variable is not above those of lines
+abbrev pub AreMet : Index → ℕ → Cube → Type 0
+AreMet index at cube = (l : Literal) → Contains cube l → var_of l ≤ 2000000 → Stands index l at
 
 -- the same of each leaf of a subtree
-abbrev pub AreCovered : List Span → Span → Node → Type 0
-AreCovered spans at (Single cube closing) = AreMet spans at cube.items
-AreCovered spans at (Fork' branch middle closed p left q right) = AreCovered spans (left_span middle at) left × AreCovered spans (right_span middle at) right
+abbrev pub AreCovered : Index → ℕ → Node → Type 0
+AreCovered index from (Single cube closing) = AreMet index from cube.items
+AreCovered index from (Fork' branch middle closed p left q right) = AreCovered index from left × AreCovered index middle right
+
+-- the places of a subtree's open leaves are in the set
+abbrev pub AreOpen : List ℕ → ℕ → Node → Type 0
+AreOpen unclosed from (Single cube closing) = closing ≡ None → Has unclosed from
+AreOpen unclosed from (Fork' branch middle closed p left q right) = AreOpen unclosed from left × AreOpen unclosed middle right
+
+-- what is known of the places of a tree
+pub record IsIndexed (index : Index) (unclosed : List ℕ) (node : Node) : Type 0 where
+  pub placed : ArePlaced 0 65536 node
+  pub covered : AreCovered index 0 node
+  pub left : AreOpen unclosed 0 node

@@ -12,7 +12,7 @@ use Rattle.lrat_text.specs.declared.step.Step.TheVariants.{Add, Delete}
 use Rattle.proof_join.specs.Numbering.{behind, renumbered}
 use Rattle.gathering.specs.Closing.{Numbered, Leaf}
 use Rattle.gathering.specs.Gathering.{Handed, AreLogs, AreWritten, deleted, gathered, left_by, live_from}
-use Rattle.gathering.specs.Trees.{leaves_in, IsSubtree, AreCovered, whole}
+use Rattle.gathering.specs.Trees.{leaves_in, IsSubtree, IsIndexed}
 use Rattle.gathering.specs.declared.gatherer.Gatherer.{Gatherer}
 
 -- the leaves of a gatherer's tree, and the lemma that closes each
@@ -29,7 +29,7 @@ pub record Stands (F : Cnf) (cubes : List Cube) (g : Gatherer) (steps : List Ste
   pub base : g.base ≡ length F.clauses
   pub top : g.top ≡ high
   pub tree : IsSubtree [] g.tree
-  pub covered : AreCovered g.spans.items whole g.tree
+  pub indexed : IsIndexed g.index g.unclosed.items g.tree
   pub leaves : leaves_of g ≡ some
   pub text : 1 ≤ length F.clauses → written ≡ text_of (length F.clauses) steps
 

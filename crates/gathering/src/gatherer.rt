@@ -3,7 +3,7 @@
 ghost use Rattle.std.specs.Prelude.{◌≡◌, ◌^◌, ◌<◌, ◌≤◌, All, length};
 ghost use Rattle.lrat_text.specs.Grammar.{IsClauseNumber};
 
-use crate::spans::Span;
+use crate::index::Index;
 use crate::tree::Node;
 use std::alloc::Global;
 
@@ -20,13 +20,17 @@ pub struct Gatherer {
     pub(crate) begun: u64,
     pub(crate) top: u64,
     pub(crate) tree: Node,
-    /// Where the variables of the tree stand.
-    pub(crate) spans: Vec<Span>,
+    /// Where the literals of the tree stand.
+    pub(crate) index: Index,
+    /// The places of the leaves that are open, and of those that a lemma can close.
+    pub(crate) unclosed: Vec<u64>,
+    pub(crate) found: Vec<u64>,
     /// The numbers that are deleted behind this log.
     pub(crate) spent: Vec<u64>,
     /// The numbers of a line.
     pub(crate) numbers: Vec<u64>,
     ghost limit: { top < 2 ^ 48 },
-    ghost few: { length spans.items ≡ 2000001 },
+    ghost unclosed_len: { length unclosed.items ≡ 1024 },
+    ghost found_len: { length found.items ≡ 1024 },
     ghost deletable: { All IsClauseNumber spent.items },
 }

@@ -4,7 +4,6 @@ ghost use Rattle.std.specs.Prelude.{All};
 ghost use Rattle.dimacs.specs.logic.Literal.{IsWithin};
 ghost use Rattle.lrat_text.specs.Grammar.{IsClauseNumber};
 
-use crate::spans::Span;
 use dimacs::Lit;
 
 /// A clause of a proof, and its number.
@@ -16,12 +15,12 @@ pub(crate) struct Lemma {
     ghost small: { All (IsWithin 2000000) clause.items },
 }
 
-/// A lemma that is lent, and where the leaves stand that it can close.
+/// A lemma that is lent, and the places of the leaves that it can close.
 #[derive(Clone, Copy)]
 pub(crate) struct Candidate<'a> {
     pub(crate) id: u64,
     pub(crate) clause: &'a [Lit],
-    pub(crate) window: Span,
+    pub(crate) found: &'a [u64],
     ghost numbered: { IsClauseNumber id },
     ghost small: { All (IsWithin 2000000) clause.now },
 }

@@ -6,15 +6,19 @@
 //! definition fixes, it closes a leaf exactly where an accepted log does, and its text is an accepted proof of the formula.
 #![tactic(auto)]
 
+mod bits;
 mod ending;
 mod fault;
 mod forks;
 mod gatherer;
+mod index;
+mod indexing;
 mod laws;
 mod lemma;
+mod matching;
 mod numbers;
+mod places;
 mod settling;
-mod spans;
 mod tree;
 mod writer;
 mod writing;

@@ -18,7 +18,8 @@ ghost use Rattle.gathering.specs.inner.Gatherers.{Closes, Spends};
 use crate::fault::GatherFault;
 use crate::gatherer::Gatherer;
 use crate::lemma::Candidate;
-use crate::spans::{whole, window_of};
+use crate::matching::find;
+use crate::places::whole;
 use crate::tree::close_below;
 use dimacs::Lit;
 use lrat_text::{StepRef, put_ref};
@@ -49,15 +50,21 @@ impl Gatherer {
         requires { IsClauseNumber id }
         ensures { IfOk result (λ b. Closes self.old self.new (record { id = id; clause = lits.now }) b) }
     {
-        let Some(window) = window_of(&self.spans, lits) else {
+        if !find(&self.index, lits, &self.unclosed, &mut self.found) {
             return Ok(false);
-        };
+        }
         let lemma = Candidate {
             id,
             clause: lits,
-            window,
+            found: &self.found,
         };
-        close_below(self.alloc, &mut self.tree, whole(), lemma)
+        close_below(
+            self.alloc,
+            &mut self.tree,
+            whole(),
+            lemma,
+            &mut self.unclosed,
+        )
     }
 
     /// A number is deleted behind this log.

@@ -1,14 +1,15 @@
 //! A splitting tree whose leaves are closed one after the other.
 
-ghost use Rattle.std.specs.Prelude.{◌≡◌, ℕ, ◌+◌, ◌^◌, ◌<◌, ◌≤◌, Bool, ◌||◌, false, List, [], ◌∷◌, ◌++◌, All, Contains, IfOk, OnOk, length};
+ghost use Rattle.std.specs.Prelude.{◌≡◌, ℕ, ◌+◌, ◌^◌, ◌<◌, ◌≤◌, Bool, ◌||◌, None, false, List, [], ◌∷◌, ◌++◌, All, Contains, IfOk, OnOk, length};
 ghost use Rattle.std.specs.List.{list_any, list_all};
 ghost use Rattle.icnf.specs.Leaves.{Cube};
 ghost use Rattle.gathering.specs.Closing.{closes, is_closed, can_close, open_from, settled};
-ghost use Rattle.gathering.specs.Trees.{leaf_in, leaves_in, IsSubtree};
-ghost use Rattle.gathering.specs.inner.Trees.{candidate_of, IsMadeOf, IsPart, Settles, TakesBranch};
+ghost use Rattle.gathering.specs.Trees.{leaf_in, leaves_in, ArePlaced, IsSubtree};
+ghost use Rattle.gathering.specs.inner.Trees.{candidate_of, Clears, IsMadeOf, IsPart, Settles};
 
+use crate::bits::{clear, has_between};
 use crate::lemma::{Candidate, Lemma};
-use crate::spans::Span;
+use crate::places::Places;
 use dimacs::{Lit, has_literal};
 use icnf::Tree;
 use std::alloc::{AllocError, Global};
@@ -40,6 +41,7 @@ pub(crate) fn grow(
     requires part { IsPart tree.now next.old depth }
     ensures made { IfOk result (λ node. (h : IsPart tree.now next.old depth) → IsMadeOf h.path h.here node) }
     ensures next { OnOk result ((h : IsPart tree.now next.old depth) → next.new ≡ next.old + length h.here) }
+    ensures placed { IfOk result (λ node. ArePlaced next.old next.new node) }
 {
     let _ = tree.leaves();
     let place = *next;
@@ -103,6 +105,7 @@ fn close_leaf(
 ) -> Result<bool, AllocError>
     ensures leaf { OnOk result (leaf_in cube.now closing.new ∷ [] ≡ settled (candidate_of lemma.entry) (leaf_in cube.now closing.old ∷ [])) }
     ensures told { IfOk result (λ b. b ≡ list_any (can_close (candidate_of lemma.entry)) (leaf_in cube.now closing.old ∷ [])) }
+    ensures left { IfOk result (λ b. closing.new ≡ None → (closing.old ≡ None) × (b ≡ false)) }
 {
     if closing.is_some() {
         return Ok(false);
@@ -118,51 +121,40 @@ fn close_leaf(
     Ok(true)
 }
 
-/// Does what [`close_below`] does for a branch behind a literal: a lemma that has it closes none of its leaves, nor does one whose
-/// window they are not in.
-#[cycle(close)]
-fn close_branch(
-    alloc: Global,
-    node: &mut Node,
-    taken: Lit,
-    at: Span,
-    lemma: Candidate<'_>,
-) -> Result<bool, AllocError>
-    ensures { IfOk result (TakesBranch lemma.entry at taken node.old node.new) }
-{
-    if lemma.window.misses(at) {
-        return Ok(false);
-    }
-    if has_literal(lemma.clause, taken) {
-        return Ok(false);
-    }
-    close_below(alloc, node, at, lemma)
-}
-
-/// Closes each open leaf of a subtree, which stands in a span, that a lemma closes, and tells whether there was one.
-#[cycle(close)]
+/// Closes each open leaf of a subtree that a lemma closes, and tells whether there was one. Its place is no longer open then.
 pub(crate) fn close_below(
     alloc: Global,
     node: &mut Node,
-    at: Span,
+    at: Places,
     lemma: Candidate<'_>,
+    unclosed: &mut [u64],
 ) -> Result<bool, AllocError>
-    ensures { IfOk result (Settles lemma.entry at node.old node.new) }
+    ensures settled { IfOk result (Settles lemma.entry at node.old node.new) }
+    ensures left { OnOk result (ArePlaced at.from at.to node.old → Clears at unclosed.old unclosed.new node.old node.new) }
 {
+    if !has_between(lemma.found, at.from, at.to) {
+        return Ok(false);
+    }
     match node {
-        Node::Leaf { cube, closing } => close_leaf(alloc, cube, closing, lemma),
+        Node::Leaf { cube, closing } => {
+            let closed = close_leaf(alloc, cube, closing, lemma)?;
+            if closed {
+                clear(unclosed, at.from as usize);
+            }
+            Ok(closed)
+        }
         Node::Fork {
-            branch,
             middle,
             closed,
             left,
             right,
+            ..
         } => {
             if *closed {
                 return Ok(false);
             }
-            let first = close_branch(alloc, left, *branch, at.left(*middle), lemma)?;
-            let second = close_branch(alloc, right, branch.negate(), at.right(*middle), lemma)?;
+            let first = close_below(alloc, left, at.left(*middle), lemma, unclosed)?;
+            let second = close_below(alloc, right, at.right(*middle), lemma, unclosed)?;
             *closed = are_closed_below(left, right);
             Ok(either(first, second))
         }

@@ -15,10 +15,11 @@ ghost use Rattle.gathering.specs.Gathering.{Handed};
 ghost use Rattle.gathering.specs.inner.Gatherers.{MovesTop};
 ghost use Rattle.gathering.specs.Written.{Appends, Between, HasNoGroups, WithinLog};
 
+use crate::bits::{WORDS, full};
 use crate::fault::GatherFault;
 use crate::gatherer::Gatherer;
+use crate::indexing::index_of;
 use crate::numbers::Shift;
-use crate::spans::spans_of;
 use crate::tree::grow;
 use icnf::Tree;
 use lrat_text::{StepRef, put_ref};
@@ -33,14 +34,17 @@ impl Gatherer {
         let _ = tree.leaves();
         let mut next = 0;
         let node = grow(alloc, tree, &mut next, 0)?;
-        let spans = spans_of(alloc, &node)?;
+        let index = index_of(alloc, &node)?;
+        let unclosed = full(alloc, WORDS)?;
         Ok(Gatherer {
             alloc,
             base: clauses,
             begun: clauses,
             top: clauses,
             tree: node,
-            spans,
+            index,
+            unclosed,
+            found: vec![in alloc; 0; WORDS]?,
             spent: Vec::new(alloc),
             numbers: Vec::new(alloc),
         })

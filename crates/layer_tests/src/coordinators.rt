@@ -99,6 +99,8 @@ enum Turn<'a> {
     Says(u32, Told<'a>),
     /// The link of a worker is lost.
     Lost(u32),
+    /// It is to join one leaf more, and says whether it does.
+    Joins(bool),
 }
 
 fn worker_of(rt: &impl Abort, number: u32) -> WorkerNumber {
@@ -263,6 +265,10 @@ fn play(
                 assert!(rt; are_alike(&frame, &frame_of(rt, alloc, told)?));
             }
             Turn::Lost(worker) => coordinator.lost(worker_of(rt, worker)),
+            Turn::Joins(wanted) => {
+                let joins = coordinator.advance();
+                assert_eq!(rt; joins, wanted);
+            }
         }
     }
     Ok(())
@@ -395,6 +401,61 @@ fn other_jobs_and_fragments_stay_where_a_leaf_is_split(rt: HostRuntime) -> Resul
     )?;
     let formula = read(rt.alloc(), ALL_FOUR).ok().ok_or("a formula")?;
     assert!(rt; check(rt.alloc(), &formula, text_of(&coordinator)).is_ok());
+    Ok(())
+}
+
+/// The leaf 1 is split while the leaf -1 is closed, and each leaf is joined as soon as those in front of it are.
+#[test]
+fn leaves_are_joined_while_others_are_open(rt: HostRuntime) -> Result<(), Fail> {
+    let mut coordinator = of_two_leaves(&rt, rt.alloc())?;
+    play(
+        &rt,
+        rt.alloc(),
+        &mut coordinator,
+        &[
+            Turn::Joins(false),
+            Turn::Says(1, Told::Task(1, 1, Some(true))),
+            Turn::Says(2, Told::Task(1, 2, Some(false))),
+            Turn::Comes(Told::Done(second(2), Found::Proof(44)), Reaction::Taken),
+            Turn::Comes(Told::Piece(second(2), 0, RIGHT), Reaction::Taken),
+            Turn::Joins(false),
+            Turn::Comes(Told::Done(at(1), Found::Limit), Reaction::Taken),
+            Turn::Says(1, Told::Deeper(1, 3, true)),
+            Turn::Says(2, Told::Deeper(1, 4, false)),
+            Turn::Comes(Told::Done(at(3), Found::Proof(14)), Reaction::Taken),
+            Turn::Comes(Told::Piece(at(3), 0, BOTH_TRUE), Reaction::Taken),
+            Turn::Joins(true),
+            Turn::Joins(false),
+            Turn::Lost(2),
+            Turn::Joins(false),
+            Turn::Says(1, Told::Deeper(1, 5, false)),
+            Turn::Comes(Told::Done(at(5), Found::Proof(13)), Reaction::Taken),
+            Turn::Comes(Told::Piece(at(5), 0, ONE_TRUE), Reaction::Verdict),
+            Turn::Joins(false),
+        ],
+    )?;
+    let formula = read(rt.alloc(), ALL_FOUR).ok().ok_or("a formula")?;
+    assert!(rt; check(rt.alloc(), &formula, text_of(&coordinator)).is_ok());
+    Ok(())
+}
+
+#[test]
+fn a_restart_forgets_what_was_joined(rt: HostRuntime) -> Result<(), Fail> {
+    let mut coordinator = of_two_leaves(&rt, rt.alloc())?;
+    play(
+        &rt,
+        rt.alloc(),
+        &mut coordinator,
+        &[
+            Turn::Says(1, Told::Task(1, 1, Some(true))),
+            Turn::Comes(Told::Done(at(1), Found::Proof(13)), Reaction::Taken),
+            Turn::Comes(Told::Piece(at(1), 0, LEFT), Reaction::Taken),
+            Turn::Joins(true),
+        ],
+    )?;
+    coordinator.restart(2)?;
+    play_both(&rt, rt.alloc(), &mut coordinator, 2)?;
+    assert_eq!(rt; text_of(&coordinator), JOINED);
     Ok(())
 }
 

@@ -23,9 +23,9 @@ pub data Line : Type 0 where
   Asked : Line
   Silent : Line
 
--- `s` an answer, `m` a model, `w` and `r` a clause that goes aside and comes back, `f` a core, `p` the head, `c` a comment
+-- `s` an answer, `m` a model, `w` and `r` a clause that goes aside and comes back, `f` a core, `p` the head, `c` a comment, `e` the end of a query without an answer
 abbrev pub is_silent : ℕ → Bool
-is_silent b = b == byte "s" || b == byte "m" || b == byte "w" || b == byte "r" || b == byte "f" || b == byte "p" || b == byte "c"
+is_silent b = b == byte "s" || b == byte "m" || b == byte "w" || b == byte "r" || b == byte "f" || b == byte "p" || b == byte "c" || b == byte "e"
 
 -- the kind of a line by its first letter
 abbrev pub kind_of : ℕ → Kind

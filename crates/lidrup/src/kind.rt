@@ -41,6 +41,7 @@ fn is_silent(letter: u8) -> bool
         || letter == b'f'
         || letter == b'p'
         || letter == b'c'
+        || letter == b'e'
 }
 
 /// The kind of the lines that begin with this byte.

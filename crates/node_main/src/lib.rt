@@ -10,7 +10,7 @@ mod plans;
 mod splitting;
 mod starting;
 
-pub use command_line::{Options, Request, UsageFault, command};
+pub use command_line::{Options, Request, USUAL, UsageFault, command};
 pub use commands::attending::{Service, attend, run_attend};
 pub use commands::check::{ProofCheck, run_check};
 pub use commands::cubes::run_cubes;

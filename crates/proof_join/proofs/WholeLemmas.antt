@@ -1,5 +1,5 @@
 -- The fragments of a tree's leaves, and the whole text.
-use Rattle.std.proofs.Common.{◌≡◌, ℕ, ◌+◌, ◌^◌, ◌<◌, ◌≤◌, List, [], ◌∷◌, ◌++◌, length, take, get_or, drop, Err, refl, sym, ◌∙◌, ap, subst, arith, append_assoc, length-append}
+use Rattle.std.proofs.Common.{◌≡◌, ℕ, zero, suc, ◌+◌, ◌^◌, ◌<◌, ◌≤◌, List, [], ◌∷◌, ◌++◌, length, take, get_or, drop, Err, refl, sym, ◌∙◌, ap, subst, arith, append_assoc, length-append}
 use Rattle.std.specs.Prelude.{IsSome}
 use Rattle.std.specs.List.{All, Contains}
 use Rattle.std.specs.FinMap.{get}
@@ -16,9 +16,9 @@ use Rattle.lrat_text.specs.Writing.{line_of}
 use Rattle.lrat_text.specs.declared.step.Step.{Step}
 use Rattle.lrat_text.specs.declared.step.Step.TheVariants.{Add, Delete}
 use Rattle.lrat_text.specs.Runs.{text_of, top_of}
-use Rattle.proof_join.specs.Joining.{cubes, fragments, part, AreSpelled, Joined, AllClose, IsPreamble, unit_steps}
-use Rattle.proof_join.specs.inner.Steps.{Writes, steps_in, steps_each, IsLow, AreLow, IsFragment, IsBelow}
-use Rattle.proof_join.proofs.JoinLemmas.{some_clause, tree_closed, joined_accepts}
+use Rattle.proof_join.specs.Joining.{leaf, part, AreSpelled, Joined, AllClose, IsPreamble, unit_steps}
+use Rattle.proof_join.specs.inner.Steps.{Writes, steps_in, steps_each, IsLow, AreLow, IsFragment}
+use Rattle.proof_join.proofs.JoinLemmas.{spelled_limits, some_clause, tree_closed, joined_accepts}
 use Rattle.lrat_text.specs.Proof.{Accepts}
 use Rattle.cube_split.proofs.PureLemmas.{pure_within}
 use Rattle.proof_join.specs.declared.fault.JoinFault.{JoinFault}
@@ -46,7 +46,7 @@ steps_low : (m : ℕ) (M : ClauseMap) (top : ℕ) (steps : List Step) → AreLog
 steps_low m M top [] h between = tt
 steps_low m M top (step ∷ steps) h between = (step_low m M top step h.0 between, steps_low m (after_step M step) (top_after top step) steps h.1 (step_between m M top step h.0 between))
 
-closes_fragment : (B : Cnf) (q : Cube) (text : List ℕ) → Closes B q text → IsFragment (length B.clauses) text
+pub closes_fragment : (B : Cnf) (q : Cube) (text : List ℕ) → Closes B q text → IsFragment (length B.clauses) text
 closes_fragment B q text (steps, spelled, log, (front, last, splits, n)) =
     let e : steps_in text ≡ steps = spelled_in text steps spelled in
     let z = ends q last n in
@@ -63,6 +63,23 @@ all_fragments B [] [] h = All-nil (IsFragment (length B.clauses))
 all_fragments B [] (text ∷ texts) h = absurd h
 all_fragments B (q ∷ leaves) [] h = absurd h
 all_fragments B (q ∷ leaves) (text ∷ texts) h = All-cons (IsFragment (length B.clauses)) text texts (closes_fragment B q text h.0) (all_fragments B leaves texts h.1)
+
+-- a base over which something closes has a clause
+pub closes_some : (B : Cnf) (q : Cube) (text : List ℕ) → Closes B q text → 1 ≤ length B.clauses
+closes_some B q text (steps, spelled, log, ends_at) = some_clause B q (leaf steps) (log, ends_at, spelled_limits text steps spelled)
+
+-- each fragment closes the cube at its place
+pub close_at : (B : Cnf) (leaves : List Cube) (texts : List (List ℕ)) → AllClose B leaves texts → (i : ℕ) → i < length leaves → Closes B (get_or leaves i []) (get_or texts i [])
+close_at B [] texts h i below = absurd (omega arith)
+close_at B (q ∷ leaves) [] h i below = absurd h
+close_at B (q ∷ leaves) (text ∷ texts) h zero below = h.0
+close_at B (q ∷ leaves) (text ∷ texts) h (suc i) below = close_at B leaves texts h.1 i (omega arith)
+
+pub close_length : (B : Cnf) (leaves : List Cube) (texts : List (List ℕ)) → AllClose B leaves texts → length texts ≡ length leaves
+close_length B [] [] h = refl
+close_length B [] (text ∷ texts) h = absurd h
+close_length B (q ∷ leaves) [] h = absurd h
+close_length B (q ∷ leaves) (text ∷ texts) h = let e = close_length B leaves texts h.1 in omega arith
 
 pub each_spelled : (texts : List (List ℕ)) (steps : List (List Step)) → AreSpelled texts steps → steps_each texts ≡ steps
 each_spelled [] [] h = refl
@@ -122,17 +139,6 @@ module _ (F B : Cnf) (lines : List Step) (leaves : List Cube) (texts : List (Lis
 
   pub base_some : 1 ≤ length B.clauses
   base_some = some_clause B [] whole.1.tree (tree_closed B whole.1.tree leaves texts whole.1.free whole.1.leaves_are close whole.1.spelled)
-
-  abbrev pub all_below : IsBelow leaves (steps_each texts) 0 0
-  all_below = record {
-    path = [];
-    tree = whole.1.tree;
-    later = [];
-    more = [];
-    long = refl;
-    leaves_are = sym (append-nil (cubes [] whole.1.tree) ∙ whole.1.leaves_are);
-    steps_are = each_spelled texts (fragments whole.1.tree) whole.1.spelled ∙ sym (append-nil (fragments whole.1.tree));
-  }
 
   pub whole_is : IsPreamble F B lines → (base : ℕ) → base ≡ length B.clauses
       → text_of (length F.clauses) lines ++ text_of base (part base [] base whole.1.tree).steps ≡ whole.0

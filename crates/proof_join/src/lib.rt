@@ -11,15 +11,19 @@
 
 mod examples;
 mod fault;
+mod finished;
+mod front;
 mod joining;
 mod laws;
 mod lines;
 mod output;
+mod preamble;
 mod renumbering;
 mod subtree;
 
 pub use examples::{worked_definitions, worked_joins, worked_renumberings};
 pub use fault::JoinFault;
+pub use front::Joining;
 pub use joining::{join, join_packed};
 pub use laws::{
     definitions_are_a_preamble, definitions_are_rat, joined_is_accepted, one_text_is_joined,

@@ -1,6 +1,6 @@
 //! The text that is written.
 
-ghost use Rattle.std.specs.Prelude.{◌≡◌, ◌<◌, ◌++◌, [], codes, length};
+ghost use Rattle.std.specs.Prelude.{◌≡◌, ◌<◌, ◌++◌, codes, length};
 ghost use Rattle.lrat_text.specs.Grammar.{IsStep, IsClauseNumber};
 ghost use Rattle.lrat_text.specs.Steps.{step_of};
 ghost use Rattle.lrat_text.specs.Writing.{line_of};
@@ -54,12 +54,16 @@ fn limit(text: &PackedText) -> Result<(), JoinFault>
 }
 
 impl<'t> Output<'t> {
-    /// No text.
-    pub(crate) fn new(alloc: Global, like: Option<&'t PackedText>) -> Output<'t>
-        ensures { result ≡ [] }
+    /// This text, to be appended to.
+    pub(crate) fn behind(
+        alloc: Global,
+        text: PackedText,
+        like: Option<&'t PackedText>,
+    ) -> Output<'t>
+        ensures { result ≡ text }
     {
         Output {
-            text: PackedText::new(alloc),
+            text,
             like,
             line: Vec::new(alloc),
         }

@@ -51,8 +51,9 @@ fn exchange<L: Links>(
     Ok(())
 }
 
-/// The turn of an open link. A link that is broken is closed, and the coordinator is told.
-fn exchange_frames<L: Links>(
+/// The turn of an open link, behind which it is shown how far the run has come. A link that is broken is closed, and the coordinator
+/// is told.
+fn visit<L: Links>(
     links: &mut L,
     coordinator: &mut Coordinator,
     worker: WorkerNumber,
@@ -76,7 +77,10 @@ fn exchange_frames<L: Links>(
         Err(error) => return Err(error),
     };
     match exchange(links, coordinator, worker, seat, &frame) {
-        Ok(()) => Ok(()),
+        Ok(()) => {
+            links.show(&progress_of(coordinator));
+            Ok(())
+        }
         Err(broken) => {
             seat.is_open = false;
             seat.down.clear();
@@ -84,35 +88,6 @@ fn exchange_frames<L: Links>(
             lose(coordinator, worker);
             ended(broken)
         }
-    }
-}
-
-/// The turn of an open link, behind which it is shown how far the run has come.
-fn visit<L: Links>(
-    links: &mut L,
-    coordinator: &mut Coordinator,
-    worker: WorkerNumber,
-    seat: &mut Seat,
-) -> Result<(), AllocError>
-    requires worker { IsWorker coordinator.old worker }
-    requires open { seat.old.is_open ≡ true }
-    requires verdict { coordinator.old.verdict ≡ Nothing }
-    ensures formula { coordinator.new.formula ≡ coordinator.old.formula }
-    ensures workers { length coordinator.new.jobs ≡ length coordinator.old.jobs }
-    ensures refusals { L.refusal_count links.new + one_if_open seat.new.is_open ≤ L.refusal_count links.old + 1 }
-    ensures closes { Closes worker true seat.new.is_open (L.refused_at links.old) (L.refused_at links.new) }
-    ensures one { OnOk result (RoseBy 1 (L.call_count links.old) (L.call_count links.new)) }
-    ensures two { OnOk result ((coordinator.new.verdict ≡ Nothing) ⊎ RoseBy 2 (L.call_count links.old) (L.call_count links.new)) }
-    ensures three { OnOk result (seat.old.down.waiting.items ≡ [] → (coordinator.new.verdict ≡ Nothing) ⊎ RoseBy 3 (L.call_count links.old) (L.call_count links.new)) }
-    ensures rises { L.call_count links.old ≤ L.call_count links.new }
-    ensures most { L.call_count links.new ≤ L.call_count links.old + 8076 }
-{
-    match exchange_frames(links, coordinator, worker, seat) {
-        Ok(()) => {
-            links.show(&progress_of(coordinator));
-            Ok(())
-        }
-        Err(error) => Err(error),
     }
 }
 

@@ -2,16 +2,19 @@
 
 ghost use Rattle.command_line.specs.Options.{AreOptions};
 
+use crate::accepting::accept_workers;
 use crate::files::{no_memory, read_cubes, read_formula, refused};
 use crate::proof_file::write_proof;
 use crate::showing::{Showing, Shown};
 use hub::Hub;
 use links::{Counted, Joined, Loopback, Observed};
-use node_main::{Options, Refusal, Report, attend, begin, run_solve_of, run_work_of};
+use node_main::{
+    Options, Refusal, Report, Start, attend, begin, run_serve_from, run_solve_of, run_work_of,
+};
 use std::alloc::Global;
 use std::io;
 use std::io::Write;
-use std::net::Net;
+use std::net::{Ipv4Addr, Net, SocketAddr, TcpListener};
 use std::rt::Runtime;
 
 /// The files of a run.
@@ -90,7 +93,7 @@ fn open_hub<R: Runtime + Net>(
 
 /// Decides a formula by workers that connect to a port, come and go. What is wrong with a file is told before one is linked. At the
 /// verdict the proof is written and the answer printed; then the workers get it.
-pub(crate) fn serve<R: Runtime + AllocGlobal + Net>(
+fn serve_by_arrivals<R: Runtime + AllocGlobal + Net>(
     rt: &R,
     port: u16,
     files: &Files,
@@ -120,6 +123,50 @@ pub(crate) fn serve<R: Runtime + AllocGlobal + Net>(
         status,
         proof: None,
     })
+}
+
+/// The same in rounds: it begins when all workers are there, takes them in turns, and takes none again that is lost. The listener is
+/// kept to the end, so that a worker that comes late waits for it, and is not refused.
+fn serve_in_rounds<R: Runtime + AllocGlobal + Net>(
+    rt: &R,
+    port: u16,
+    files: &Files,
+    options: &Options,
+    showing: Showing,
+) -> Result<Report, Refusal>
+    requires { AreOptions options.now }
+{
+    let at = SocketAddr::from((Ipv4Addr::LOCALHOST, port));
+    let listener = TcpListener::bind(rt, at).map_err(not_linked)?;
+    let found = read_formula(rt, files.input)?;
+    let cubes = read_cubes(rt, files.cubes)?;
+    let start = match begin(rt.alloc(), found, lent(&cubes), options) {
+        Ok(Start::Refused(report)) => return Ok(report),
+        Ok(start) => start,
+        Err(error) => return Err(no_memory(error)),
+    };
+    let carrier = accept_workers::<R>(rt.alloc(), &listener, options.workers)?;
+    let mut links = Counted::new(Shown::new(rt, carrier, asked(options, showing)));
+    let run = run_serve_from(rt.alloc(), start, options, &mut links);
+    links.carrier().end();
+    kept(rt, run.map_err(no_memory)?, files)
+}
+
+/// Decides a formula by workers that connect to a port, as the words ask.
+pub(crate) fn serve<R: Runtime + AllocGlobal + Net>(
+    rt: &R,
+    port: u16,
+    files: &Files,
+    options: &Options,
+    showing: Showing,
+) -> Result<Report, Refusal>
+    requires { AreOptions options.now }
+{
+    if options.rounds {
+        serve_in_rounds(rt, port, files, options, showing)
+    } else {
+        serve_by_arrivals(rt, port, files, options, showing)
+    }
 }
 
 /// Prints a text on standard output.

@@ -4,6 +4,7 @@
 ghost use Rattle.std.specs.Prelude.{◌≤◌};
 ghost use Rattle.command_line.specs.CommandLine.{IsInRange};
 
+mod accepting;
 mod check;
 mod complete;
 mod deciding;

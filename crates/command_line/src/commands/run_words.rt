@@ -1,7 +1,7 @@
 //! The words that runs share, and the options that they name.
 
-ghost use Rattle.std.specs.Prelude.{ℕ, Option, IfSome, IfNone, codes};
-ghost use Rattle.command_line.specs.CommandLine.{NamesAnyNumber, NamesOptions, NamesPrinting};
+ghost use Rattle.std.specs.Prelude.{◌≡◌, ◌≤◌, ℕ, Option, IfSome, IfNone, codes};
+ghost use Rattle.command_line.specs.CommandLine.{NamesAnyNumber, NamesOptions, NamesPrinting, usual_depth};
 ghost use Rattle.command_line.specs.Options.{AreOptions};
 ghost use Rattle.command_line.specs.declared.options.Options.{Options};
 
@@ -107,14 +107,42 @@ fn patience_of(given: &Found) -> Option<Option<u64>>
     Some(Some(seconds))
 }
 
+/// Where the workers of a run are.
+#[derive(Clone, Copy)]
+pub(crate) enum Place {
+    /// In this process.
+    Here,
+    /// Wherever they come from to its port.
+    AtPort,
+}
+
+/// How deep the formula is split where no word says it. Many leaves let many workers end at the same time.
+fn usual_depth(place: Place, workers: u64) -> u64
+    ensures depth { result ≡ usual_depth place workers }
+    ensures most { result ≤ 16 }
+{
+    match place {
+        Place::Here => 4,
+        Place::AtPort => {
+            if workers <= 1 {
+                6
+            } else if workers <= 8 {
+                8
+            } else {
+                10
+            }
+        }
+    }
+}
+
 /// The options that the words of a run name; the usual one where its command has no word for it.
-pub(crate) fn options_of(given: &Found) -> Option<Options>
-    ensures found { IfSome result (NamesOptions given.now.rows) }
-    ensures none { IfNone result ((options : Options) → NamesOptions given.now.rows options → ⊥) }
+pub(crate) fn options_of(given: &Found, place: Place) -> Option<Options>
+    ensures found { IfSome result (NamesOptions place given.now.rows) }
+    ensures none { IfNone result ((options : Options) → NamesOptions place given.now.rows options → ⊥) }
     ensures range { IfSome result AreOptions }
 {
     let workers = number_or(given, "workers", 1, 64, 2)?;
-    let depth = number_or(given, "depth", 0, 16, 4)?;
+    let depth = number_or(given, "depth", 0, 16, usual_depth(place, workers))?;
     let limit = number_or(given, "limit", 1, 1_000_000_000, 100_000)?;
     let session = number_or(given, "session", 0, u64::MAX, 1)?;
     let number = number_or(given, "number", 1, 64, 1)?;
@@ -133,6 +161,7 @@ pub(crate) fn options_of(given: &Found) -> Option<Options>
         ahead: given.flag("ahead"),
         patience,
         progress: given.flag("progress"),
+        rounds: given.flag("rounds"),
         quiet: printing.quiet,
         witness: printing.witness,
     })

@@ -5,8 +5,7 @@ ghost use Rattle.command_line.specs.CommandLine.{IsInRange, Makes};
 ghost use Rattle.command_line.specs.declared.request.Request.{Request};
 
 use crate::commands::run_words::{
-    CUBES, DEFS, DEPTH, LIMIT, NO_WITNESS, PATIENCE, PROGRESS, PROOF, QUIET, STATUS, WORKERS,
-    options_of,
+    CUBES, DEFS, NO_WITNESS, PATIENCE, PROGRESS, PROOF, Place, QUIET, STATUS, WORKERS, options_of,
 };
 use crate::commands::words::{INPUT, PORT, file_of, number_of};
 use crate::request::Request;
@@ -28,9 +27,25 @@ pub(crate) const RULES: CommandRules<'static> = CommandRules {
         },
         PATIENCE,
         PROGRESS,
+        Word::LongFlag {
+            name: "rounds",
+            help: "Take the workers in turns, and begin when all are there",
+        },
         WORKERS,
-        DEPTH,
-        LIMIT,
+        Word::Number {
+            name: "depth",
+            low: 0,
+            high: 16,
+            need: Need::Optional,
+            help: "How many variables a cube has at most, from 0 to 16; else 6, 8 or 10 by the workers",
+        },
+        Word::Number {
+            name: "limit",
+            low: 1,
+            high: 1_000_000_000,
+            need: Need::Usual("1000000"),
+            help: "How many lemmas may be learnt under a cube, from 1 to 1000000000",
+        },
         CUBES,
         DEFS,
         QUIET,
@@ -48,7 +63,7 @@ pub(crate) fn asked<'a>(given: &Found<'a>) -> Option<Request<'a>>
 {
     let port = number_of(given, "port", 1, 65_535)?;
     let input = file_of(given, "INPUT")?;
-    let options = options_of(given)?;
+    let options = options_of(given, Place::AtPort)?;
     Some(Request::Serve {
         port: port as u16,
         input,

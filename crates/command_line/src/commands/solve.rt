@@ -5,7 +5,8 @@ ghost use Rattle.command_line.specs.CommandLine.{IsInRange, Makes};
 ghost use Rattle.command_line.specs.declared.request.Request.{Request};
 
 use crate::commands::run_words::{
-    CUBES, DEFS, DEPTH, LIMIT, NO_WITNESS, PROGRESS, PROOF, QUIET, STATUS, WORKERS, options_of,
+    CUBES, DEFS, DEPTH, LIMIT, NO_WITNESS, PROGRESS, PROOF, Place, QUIET, STATUS, WORKERS,
+    options_of,
 };
 use crate::commands::words::{INPUT, file_of};
 use crate::request::Request;
@@ -28,7 +29,7 @@ pub(crate) fn asked<'a>(given: &Found<'a>) -> Option<Request<'a>>
     ensures range { IfSome result IsInRange }
 {
     let input = file_of(given, "INPUT")?;
-    let options = options_of(given)?;
+    let options = options_of(given, Place::Here)?;
     Some(Request::Solve {
         input,
         cubes: file_of(given, "cubes"),

@@ -4,7 +4,7 @@ ghost use Rattle.std.specs.Prelude.{◌≡◌, IfSome, IfNone, codes};
 ghost use Rattle.command_line.specs.CommandLine.{IsInRange, Makes};
 ghost use Rattle.command_line.specs.declared.request.Request.{Request};
 
-use crate::commands::run_words::{DEFS, NO_WITNESS, PROOF, QUIET, STATUS, options_of};
+use crate::commands::run_words::{DEFS, NO_WITNESS, PROOF, Place, QUIET, STATUS, options_of};
 use crate::commands::words::{INPUT, PORT, file_of, number_of};
 use crate::request::Request;
 use word_rules::{CommandRules, Found, Need, Word};
@@ -50,7 +50,7 @@ pub(crate) fn asked<'a>(given: &Found<'a>) -> Option<Request<'a>>
 {
     let port = number_of(given, "port", 1, 65_535)?;
     let input = file_of(given, "INPUT")?;
-    let options = options_of(given)?;
+    let options = options_of(given, Place::Here)?;
     Some(Request::Work {
         port: port as u16,
         input,

@@ -1,5 +1,5 @@
 -- The steps of a text, one after the other, as a call that copies them meets them.
-use Rattle.std.specs.Prelude.{◌≡◌, ℕ, ◌+◌, ◌^◌, ◌<◌, ◌≤◌, List, [], ◌∷◌, ◌++◌, length, map, drop, not, All, Result, Ok, Err, if◌then◌else◌}
+use Rattle.std.specs.Prelude.{◌≡◌, ℕ, ◌+◌, ◌^◌, ◌<◌, ◌≤◌, List, [], ◌∷◌, ◌++◌, length, map, not, All, Result, Ok, Err, if◌then◌else◌}
 use Rattle.dimacs.specs.logic.Literal.{Literal, Clause, negation, has}
 use Rattle.dimacs.specs.logic.Rat.{Group}
 use Rattle.icnf.specs.Leaves.{Cube}
@@ -10,7 +10,7 @@ use Rattle.lrat_text.specs.Reading.{step_in}
 use Rattle.lrat_text.specs.declared.fault.TextFault.{TextFault}
 use Rattle.lrat_text.specs.declared.step.Step.{Step}
 use Rattle.lrat_text.specs.declared.step.Step.TheVariants.{Add, Delete}
-use Rattle.proof_join.specs.Joining.{Closed, Part, resolvent, cubes, fragments}
+use Rattle.proof_join.specs.Joining.{Part, resolvent}
 use Rattle.proof_join.specs.declared.fault.JoinFault.{JoinFault}
 use Rattle.proof_join.specs.declared.fault.JoinFault.TheVariants.{TooLong, NoMemory}
 
@@ -77,16 +77,6 @@ own_part path x top i C j D =
     if not (has C (negation x)) then record { steps = []; top = top; id = i; clause = C }
     else if not (has D x) then record { steps = []; top = top; id = j; clause = D }
     else record { steps = Add (top + 1) (resolvent path C D) (i ∷ j ∷ []) [] ∷ []; top = top + 1; id = top + 1; clause = resolvent path C D }
-
--- the leaves from a place on begin with those of a subtree below a path of this length
-pub record IsBelow (leaves : List Cube) (steps : List (List Step)) (next depth : ℕ) : Type 0 where
-  pub path : Cube
-  pub tree : Closed
-  pub later : List Cube
-  pub more : List (List Step)
-  pub long : length path ≡ depth
-  pub leaves_are : drop next leaves ≡ cubes path tree ++ later
-  pub steps_are : drop next steps ≡ fragments tree ++ more
 
 -- the steps of each of some texts
 abbrev pub steps_each : List (List ℕ) → List (List Step)

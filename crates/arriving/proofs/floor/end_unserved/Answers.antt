@@ -1,5 +1,6 @@
 use Rattle.std.proofs.Common.{rules, ◌<◌, length}
 use Rattle.arriving.proofs.Places.{turned}
+use Rattle.arriving.proofs.Seating.{apart_kept}
 use Rattle.arriving.proofs.floor.end_unserved.Goals as goal
 
 pub loop-place-preserved : goal.loop-place-preserved
@@ -12,4 +13,5 @@ loop-place-preserved g c =
       search rules,
       turned _ _ _ c.args.lines.now c.loop-place.lines c.loop-place.place c.end_if_unserved.new.line c.index-lines-place.result at c.end_if_unserved.ensures.here c.end_if_unserved.ensures.elsewhere c.loop-place.invariant.5,
       search rules,
+      λ apart. apart_kept c.loop-place.lines c.loop-place.place c.end_if_unserved.new.line c.index-lines-place.result at c.end_if_unserved.ensures.seat (c.loop-place.invariant.7 apart),
     )

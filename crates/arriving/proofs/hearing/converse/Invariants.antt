@@ -1,4 +1,7 @@
 use Rattle.std.proofs.Common.{◌≡◌, ◌≤◌, ℕ, ◌+◌}
+use Rattle.coordinator_core.specs.Coordinator.{CoordinatorState}
+use Rattle.arriving.specs.inner.Deliveries.{AreDelivered}
+use Rattle.arriving.specs.inner.Seats.{seated_worker}
 use Rattle.arriving.proofs.hearing.converse.Given as goal
 
 abbrev pub invariant-loop : goal.invariant-loop
@@ -9,3 +12,7 @@ invariant-loop g l =
     × (g.A.Arrivals.arrival_count l.links ≡ g.A.Arrivals.arrival_count l.fn.links)
     × ((p : ℕ) → g.A.Arrivals.link_count l.links p ≡ g.A.Arrivals.link_count l.fn.links p)
     × ((p : ℕ) → g.A.Arrivals.refusal_count l.links p ≤ g.A.Arrivals.refusal_count l.fn.links p)
+    × (seated_worker l.line ≡ seated_worker l.fn.line)
+    × (l.line.reader ≡ l.fn.line.reader)
+    × ((new : CoordinatorState) → AreDelivered (seated_worker l.fn.line) l.line.waiting.items l.coordinator new
+    → AreDelivered (seated_worker l.fn.line) l.fn.line.waiting.items l.fn.coordinator new)

@@ -1,5 +1,6 @@
 use Rattle.std.proofs.Common.{rules, inr, arith}
 use Rattle.arriving.proofs.Runs.{after_turn, at_end, closes_on, over_later}
+use Rattle.arriving.proofs.Seating.{apart_none}
 use Rattle.arriving.proofs.run.Run.go_on.Goals as goal
 
 pub returns-then-is_over-clause-used : goal.returns-then-is_over-clause-used
@@ -32,4 +33,5 @@ loop-preserved g c =
       omega (arith, bound, most, came),
       closes_on _ _ _ _ _ _ _ _ _ c.loop.invariant.2 c.turn.ensures.each,
       inr (after_turn _ _ _ _ _ _ _ _ c.loop.invariant.3 c.turn.ensures.one c.turn.ensures.rises c.turn.ensures.first),
+      c.turn.ensures.apart c.loop.invariant.4,
     )

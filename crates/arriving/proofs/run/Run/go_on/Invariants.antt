@@ -1,6 +1,7 @@
 use Rattle.std.proofs.Common.{◌≡◌, ◌≤◌, ◌+◌, ◌*◌}
 use Rattle.arriving.specs.Accounts.{EachCloses, open_of}
 use Rattle.arriving.proofs.Runs.{Stage}
+use Rattle.arriving.specs.inner.Seats.{AreApart}
 use Rattle.arriving.proofs.run.Run.go_on.Given as goal
 
 abbrev pub invariant-loop : goal.invariant-loop
@@ -9,3 +10,4 @@ invariant-loop g l =
     × (g.A.Arrivals.call_count l.links + 1033984 * g.A.Arrivals.arrival_count l.fn.links ≤ g.A.Arrivals.call_count l.fn.links + 1033984 * g.A.Arrivals.arrival_count l.links)
     × EachCloses (open_of l.fn.self) (open_of l.self) (g.A.Arrivals.link_count l.fn.links) (g.A.Arrivals.link_count l.links) (g.A.Arrivals.refusal_count l.fn.links) (g.A.Arrivals.refusal_count l.links)
     × Stage l.counter (g.A.Arrivals.call_count l.fn.links) (g.A.Arrivals.call_count l.links) l.self.lines.items l.self.desk.coordinator.stuck l.self.desk.coordinator.verdict
+    × AreApart l.self.lines.items

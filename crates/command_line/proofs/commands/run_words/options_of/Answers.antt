@@ -1,6 +1,14 @@
-use Rattle.std.proofs.Common.{codes}
-use Rattle.command_line.proofs.WordLemmas.{if_none, read_flag}
+use Rattle.std.proofs.Common.{ℕ, ◌∙◌, ap, codes, subst, sym}
+use Rattle.command_line.specs.CommandLine.{NamesNumberOr, usual_depth}
+use Rattle.command_line.proofs.WordLemmas.{if_none, read_flag, same_number}
 use Rattle.command_line.proofs.commands.run_words.options_of.Goals as goal
+
+pub returns-in_err-depth-clause-none : goal.returns-in_err-depth-clause-none
+returns-in_err-depth-clause-none c =
+    if_none c.from_residual-in_err-depth.result _ (λ options names.
+        let same = same_number c.args.given.now.rows (codes "workers") 1 64 2 _ _ names.workers_is c.in_ok-workers.ensures.found in
+        let usual = ap (usual_depth c.args.place) same ∙ sym c.usual_depth.ensures.depth in
+        c.in_err-depth.ensures.none options.depth (subst (λ (u : ℕ). NamesNumberOr c.args.given.now.rows (codes "depth") 0 16 u options.depth) usual names.depth_is))
 
 pub returns-in_err-incarnation-clause-none : goal.returns-in_err-incarnation-clause-none
 returns-in_err-incarnation-clause-none c =
@@ -18,10 +26,11 @@ pub returns-clause-found : goal.returns-clause-found
 returns-clause-found c =
     let ahead = c.flag.ensures in
     let progress = c.flag-2.ensures in
+    let rounds = c.flag-3.ensures in
     let printing = c.printing_of-printing.ensures in
     record {
       workers_is = c.in_ok-workers.ensures.found;
-      depth_is = c.in_ok-depth.ensures.found;
+      depth_is = subst (λ (u : ℕ). NamesNumberOr c.args.given.now.rows (codes "depth") 0 16 u c.in_ok-depth.depth) c.usual_depth.ensures.depth c.in_ok-depth.ensures.found;
       limit_is = c.in_ok-limit.ensures.found;
       session_is = c.in_ok-session.ensures.found;
       number_is = c.in_ok-number.ensures.found;
@@ -30,6 +39,7 @@ returns-clause-found c =
       ahead_is = read_flag c.args.given.now.rows (codes "ahead") c.flag.result ahead.none ahead.yes ahead.no;
       patience_is = c.in_ok-patience.ensures.found;
       progress_is = read_flag c.args.given.now.rows (codes "progress") c.flag-2.result progress.none progress.yes progress.no;
+      rounds_is = read_flag c.args.given.now.rows (codes "rounds") c.flag-3.result rounds.none rounds.yes rounds.no;
       quiet_is = printing.quiet_is;
       witness_is = printing.witness_is;
     }

@@ -4,6 +4,8 @@ use Rattle.coordinator_core.specs.inner.Calls.{refilled}
 use Rattle.coordinator_core.specs.Invariant.{IsCoordinator}
 use Rattle.coordinator_core.proofs.ClosingLemmas.{IsShut, taken_at, desk_is, job_fair, goes_on, all_there, joined_is, too_long_is, ends_closed, ends_joined, ends_too_long, some_joined, given_back, refused, text_back, leaf_back}
 use Rattle.coordinator_core.proofs.KeptLemmas.{leaf_within, leaf_unclosed, pairs_inside}
+use Rattle.coordinator_core.specs.declared.desks.LeafState.TheVariants.{Closed}
+use Rattle.coordinator_core.proofs.FrontLemmas.{rows_set, held_joined, none_joined}
 use Rattle.coordinator_core.proofs.coordinator.Coordinator.close.Goals as goal
 
 pub close-before-requires-clause-inside : goal.close-before-requires-clause-inside
@@ -21,7 +23,7 @@ invariant_of-self-then-not-are_closed c =
     let t = taken_at _ c.args.self.now c.args.worker c.number.result _ _ _ c.self.view_is c.number.ensures.value c.self.invariant.2 c.requires.closes c.index_mut.ensures.value c.take.ensures.value c.in-Some.is in
     let h : IsShut _ c.args.self.now c.args.worker c.number.result c.in-Some.job c.emptied-job.result.1 c.close-before.new.self c.take.new.self =
     record { taken = t; text_is = c.emptied-job.ensures.bytes; rows_are = c.close-before.ensures.now; none = c.take.ensures.after } in
-    (c.self.invariant.0, c.self.invariant.1, goes_on _ _ _ _ _ _ _ _ h (λ all. false≢true (sym c.if-not-are_closed.true ∙ c.are_closed.ensures.1 all)), c.self.invariant.3)
+    (c.self.invariant.0, c.self.invariant.1, goes_on _ _ _ _ _ _ _ _ h (λ all. false≢true (sym c.if-not-are_closed.true ∙ c.are_closed.ensures.1 all)), c.self.invariant.3, rows_set _ _ _ c.self.inside.leaves c.close-before.new.self c.self.inside.front c.in-Some.job.leaf Closed c.emptied-job.result.1 c.close-before.ensures.now (leaf_unclosed _ _ _ (job_fair _ _ _ _ _ t)) c.self.invariant.4)
 
 pub returns-then-not-are_closed : goal.returns-then-not-are_closed
 returns-then-not-are_closed c =
@@ -30,11 +32,23 @@ returns-then-not-are_closed c =
     record { taken = t; text_is = c.emptied-job.ensures.bytes; rows_are = c.close-before.ensures.now; none = c.take.ensures.after } in
     ends_closed _ _ _ _ _ _ _ _ h (λ all. false≢true (sym c.if-not-are_closed.true ∙ c.are_closed.ensures.1 all))
 
-pub join_packed-requires-clause-pairs : goal.join_packed-requires-clause-pairs
-join_packed-requires-clause-pairs c = pairs_inside _ c.self.invariant.2
+pub begun_or-front-requires-clause-pairs : goal.begun_or-front-requires-clause-pairs
+begun_or-front-requires-clause-pairs c = pairs_inside _ c.self.invariant.2
 
-pub join_packed-requires-clause-closed : goal.join_packed-requires-clause-closed
-join_packed-requires-clause-closed c =
+pub join_rest-requires-clause-front : goal.join_rest-requires-clause-front
+join_rest-requires-clause-front c =
+    let t = taken_at _ c.args.self.now c.args.worker c.number.result _ _ _ c.self.view_is c.number.ensures.value c.self.invariant.2 c.requires.closes c.index_mut.ensures.value c.take.ensures.value c.in-Some.is in (
+      c.close-before.new.self.states,
+      c.begun_or-front.ensures.front c.self.inside.tree c.close-before.new.self.states c.fragments.result.now
+          (held_joined _ _ _ c.self.inside.leaves c.close-before.new.self c.self.inside.front c.in-Some.job.leaf Closed c.emptied-job.result.1 c.take-held.result c.fragments.result.now c.close-before.ensures.now (leaf_unclosed _ _ _ (job_fair _ _ _ _ _ t))
+          c.take-held.ensures.value c.fragments.ensures c.self.invariant.4),
+    )
+
+pub join_rest-requires-clause-pairs : goal.join_rest-requires-clause-pairs
+join_rest-requires-clause-pairs c = pairs_inside _ c.self.invariant.2
+
+pub join_rest-requires-clause-closed : goal.join_rest-requires-clause-closed
+join_rest-requires-clause-closed c =
     let t = taken_at _ c.args.self.now c.args.worker c.number.result _ _ _ c.self.view_is c.number.ensures.value c.self.invariant.2 c.requires.closes c.index_mut.ensures.value c.take.ensures.value c.in-Some.is in
     let h : IsShut _ c.args.self.now c.args.worker c.number.result c.in-Some.job c.emptied-job.result.1 c.close-before.new.self c.take.new.self =
     record { taken = t; text_is = c.emptied-job.ensures.bytes; rows_are = c.close-before.ensures.now; none = c.take.ensures.after } in
@@ -45,7 +59,7 @@ invariant_of-self-in-Ok c =
     let t = taken_at _ c.args.self.now c.args.worker c.number.result _ _ _ c.self.view_is c.number.ensures.value c.self.invariant.2 c.requires.closes c.index_mut.ensures.value c.take.ensures.value c.in-Some.is in
     let h : IsShut _ c.args.self.now c.args.worker c.number.result c.in-Some.job c.emptied-job.result.1 c.close-before.new.self c.take.new.self =
     record { taken = t; text_is = c.emptied-job.ensures.bytes; rows_are = c.close-before.ensures.now; none = c.take.ensures.after } in
-    (c.self.invariant.0, c.self.invariant.1, joined_is _ _ _ _ _ _ _ _ _ c.in-Ok.text _ h c.fragments.ensures refl c.in-Ok.ensures.joined c.in-Ok.ensures.short c.in-Ok.ensures.accepted, c.self.invariant.3)
+    (c.self.invariant.0, c.self.invariant.1, joined_is _ _ _ _ _ _ _ _ _ c.in-Ok.text _ h c.fragments.ensures refl c.in-Ok.ensures.joined c.in-Ok.ensures.short c.in-Ok.ensures.accepted, c.self.invariant.3, none_joined _ _ _ _ _ _ c.take-held.ensures.after)
 
 pub invariant_of-self-in-Err-TooLong : goal.invariant_of-self-in-Err-TooLong
 invariant_of-self-in-Err-TooLong c =
@@ -54,7 +68,7 @@ invariant_of-self-in-Err-TooLong c =
     record { taken = t; text_is = c.emptied-job.ensures.bytes; rows_are = c.close-before.ensures.now; none = c.take.ensures.after } in
     let some = some_joined _ _ _ _ _ _ _ _ _ h (c.are_closed.ensures.0 c.if-not-are_closed.false) c.fragments.ensures in
     let long : 2 ^ 32 ≤ length some.0 = c.in-Err-TooLong.ensures.long c.in-Err-TooLong.field-0-is some.0 some.1 in
-    (c.self.invariant.0, c.self.invariant.1, too_long_is _ _ _ _ _ _ _ _ _ some.0 h c.fragments.ensures some.1 long, c.self.invariant.3)
+    (c.self.invariant.0, c.self.invariant.1, too_long_is _ _ _ _ _ _ _ _ _ some.0 h c.fragments.ensures some.1 long, c.self.invariant.3, none_joined _ _ _ _ _ _ c.take-held.ensures.after)
 
 pub give_back-bytes-requires-clause-inside : goal.give_back-bytes-requires-clause-inside
 give_back-bytes-requires-clause-inside c =
@@ -81,7 +95,7 @@ invariant_of-self-2 c =
     record { taken = t; text_is = c.emptied-job.ensures.bytes; rows_are = c.close-before.ensures.now; none = c.take.ensures.after } in
     let back = given_back _ _ _ _ _ c.filled.result _ c.close-before.result _ c.give_back-bytes.new.self _ h c.close-before.ensures.before c.give_back-bytes.ensures.now
     (c.filled.ensures ∙ ap (refilled c.emptied-job.result.0) (c.give_back-bytes.ensures.fragment ∙ text_back _ _ _ _ _ _ _ _ h) ∙ c.emptied-job.ensures.back) in
-    (c.self.invariant.0, c.self.invariant.1, subst IsCoordinator (sym back) c.self.invariant.2, c.self.invariant.3)
+    (c.self.invariant.0, c.self.invariant.1, subst IsCoordinator (sym back) c.self.invariant.2, c.self.invariant.3, none_joined _ _ _ _ _ _ c.take-held.ensures.after)
 
 pub returns-in-Ok : goal.returns-in-Ok
 returns-in-Ok c =

@@ -21,6 +21,7 @@ invariant_of-self c =
           is.grounds.formula is.grounds.defined (subst (IsTreeOf (base_with c.self.inside.formula d.pairs)) (sym c.in_ok-tree.ensures) is.grounds.planted_is) some few
           (sym c.in_ok-tree.ensures) c.leaves.ensures.value c.in_ok-leaves.ensures c.in_ok-jobs.ensures unwanted,
       c.self.invariant.3,
+      tt,
     )
 
 pub returns-clause-ok : goal.returns-clause-ok

@@ -17,6 +17,7 @@ invariant_of-result c =
           c.vars.ensures.valid defined (record { is_tree = c.leaves.ensures.valid; inside = c.requires.inside (base_with c.args.formula d.pairs) (record { pairs = d.pairs; defined = defined.defined; is = refl }) })
           c.requires.workers.0 c.requires.workers.1 c.in_ok-planted.ensures c.leaves.ensures.value c.in_ok-leaves.ensures c.in_ok-jobs.ensures unwanted,
       tt,
+      tt,
     )
 
 pub returns : goal.returns

@@ -14,5 +14,5 @@ returns-clause-ended c = (
   λ F cubes logs h n written e none.
       let text : c.in_ok-lines.lines.items ≡ text_of (max 1 c.args.self.now.top) (deletions c.args.self.now.spent.items) =
       c.in_ok-lines.ensures ∙ ap (λ (k : ℕ). text_of k (deletions c.deref.result.now)) (c.max.ensures ∙ max_one c.args.self.now.top) ∙ ap (λ (ns : List ℕ). text_of (max 1 c.args.self.now.top) (deletions ns)) c.deref.ensures.value in
-      log_ended F cubes logs h n written c.args.self.now _ c.in_ok-lines.lines.items e none refl refl refl refl c.clear.ensures.items text,
+      log_ended F cubes logs h n written c.args.self.now _ c.in_ok-lines.lines.items e none refl refl refl refl refl c.clear.ensures.items text,
 )

@@ -15,10 +15,12 @@ put_ref-requires-clause-limits c =
     c.in-Ok.ensures ∙ ap (λ (p : Cube). resolvent p c.deref-4.result.now c.deref-5.result.now) c.deref-3.ensures.value
     ∙ ap (λ (C : Clause). resolvent c.args.self.now.path.items C c.deref-5.result.now) c.deref-4.ensures.value ∙ ap (λ (D : Clause). resolvent c.args.self.now.path.items c.args.left.clause.items D) c.deref-5.ensures.value in
     let few = c.args.self.now.limit in
+    let left = c.args.left.numbered in
+    let right = c.args.right.numbered in
     let other = c.if-self-eq-LIMIT.false in (
       (omega arith, omega arith),
       subst (All (IsWithin 2000000)) (sym (c.deref-6.ensures.value ∙ is)) (resolvent_small c.args.self.now.path.items c.args.left.clause.items c.args.right.clause.items c.args.left.small c.args.right.small),
-      two_numbers c.args.left.id c.args.right.id c.args.left.numbered c.args.right.numbered,
+      two_numbers _ _ (omega arith, omega arith) (omega arith, omega arith),
       subst (λ (gs : List Group). All IsGroup gs) (sym c.new-groups.ensures) (All-nil IsGroup),
     )
 

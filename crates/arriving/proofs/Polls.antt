@@ -1,0 +1,77 @@
+-- What a poll gives, and frames that are handed out one by one.
+use Rattle.std.proofs.Common.{◌≡◌, ◌≢◌, ◌<◌, ℕ, zero, suc, Bool, true, false, List, [], ◌∷◌, length, get_or, Option, Some, None, Result, Ok, Err, refl, subst, sym, IfOk, OnOk, OnErr, arith, ◌^◌}
+use Rattle.std.specs.Prelude.{nat_lt, position, remove}
+use Rattle.lrat_check.specs.declared.verdict.Reaction.TheVariants as reaction
+use Rattle.lrat_check.specs.declared.verdict.Verdict.{Verdict}
+use Rattle.lrat_check.specs.declared.verdict.Verdict.TheVariants.{Nothing, Model, Proof}
+use Rattle.frames.specs.declared.frame.Frame.{Frame}
+use Rattle.frames.specs.declared.frame.Frame.TheVariants.{Rest}
+use Rattle.evidence.specs.Events.{Sent, Reacted, given_by}
+use Rattle.coordinator_core.specs.declared.desks.Fixed.{Fixed}
+use Rattle.coordinator_core.specs.declared.desks.Job.{Job}
+use Rattle.arriving.specs.inner.Deliveries.{AreDelivered, IsAsked, IsHeard}
+use Rattle.coordinator_core.specs.Coordinator.{CoordinatorState, CoordinatorPolls, coordinator_poll, poll_by, stuck_poll, job_poll, fixed_poll, leaf_poll, verdict_poll, want_at, job_at, is_open}
+
+polled : (c : CoordinatorState) (worker : ℕ) (frame : Frame) (new : CoordinatorState) → CoordinatorPolls c worker (Sent frame) new
+    → (frame ≡ (coordinator_poll c worker).frame) × (new ≡ (coordinator_poll c worker).after)
+polled c worker frame new (CoordinatorPolls.sends sent now) = (cc, now)
+polled c worker frame new (CoordinatorPolls.no_memory grows sent now) = absurd (cc)
+
+not_polled : (c : CoordinatorState) (worker : ℕ) (new : CoordinatorState) → CoordinatorPolls c worker (Reacted reaction.NoMemory) new → new ≡ c
+not_polled c worker new (CoordinatorPolls.sends sent now) = absurd (cc)
+not_polled c worker new (CoordinatorPolls.no_memory grows sent now) = now
+
+-- what a poll has given
+pub record IsPolled {E : Type 0} (c : CoordinatorState) (worker : ℕ) (given : Result Frame E) (new : CoordinatorState) : Type 0 where
+  pub frame : IfOk given (λ frame. frame ≡ (coordinator_poll c worker).frame)
+  pub after : OnOk given (new ≡ (coordinator_poll c worker).after)
+  pub err : OnErr given (new ≡ c)
+
+pub is_polled : {E : Type 0} (c : CoordinatorState) (worker : ℕ) (given : Result Frame E) (new : CoordinatorState) → CoordinatorPolls c worker (given_by given) new
+    → IsPolled c worker given new
+is_polled c worker (Ok frame) new polls = let told = polled c worker frame new polls in record { frame = told.0; after = told.1; err = tt }
+is_polled c worker (Err fault) new polls = record { frame = tt; after = tt; err = not_polled c worker new polls }
+
+-- a poll that gives Rest changes nothing
+rest_verdict : (c : CoordinatorState) (worker : ℕ) (want : Option ℕ) → (verdict_poll c worker want).frame ≡ Rest → (verdict_poll c worker want).after ≡ c
+rest_verdict c worker (Some offset) rest = cc
+rest_verdict c worker None rest = refl
+
+rest_fixed : (c : CoordinatorState) (worker : ℕ) (j : Job) (fixed : Option Fixed) → (fixed_poll c worker j fixed).frame ≡ Rest → (fixed_poll c worker j fixed).after ≡ c
+rest_fixed c worker j (Some x) rest = refl
+rest_fixed c worker j None rest = refl
+
+rest_leaf : (c : CoordinatorState) (worker : ℕ) (has_number : Bool) (leaf : Option ℕ) → (leaf_poll c worker has_number leaf).frame ≡ Rest
+    → (leaf_poll c worker has_number leaf).after ≡ c
+rest_leaf c worker true (Some leaf) rest = cc
+rest_leaf c worker true None rest = refl
+rest_leaf c worker false leaf rest = refl
+
+rest_job : (c : CoordinatorState) (worker : ℕ) (job : Option Job) → (job_poll c worker job).frame ≡ Rest → (job_poll c worker job).after ≡ c
+rest_job c worker (Some j) rest = rest_fixed c worker j j.fixed rest
+rest_job c worker None rest = rest_leaf c worker (nat_lt c.next (2 ^ 64)) (position is_open c.leaves) rest
+
+rest_stuck : (c : CoordinatorState) (worker : ℕ) (stuck : Bool) → (stuck_poll c worker stuck).frame ≡ Rest → (stuck_poll c worker stuck).after ≡ c
+rest_stuck c worker true rest = refl
+rest_stuck c worker false rest = rest_job c worker (job_at c worker) rest
+
+rest_by : (c : CoordinatorState) (worker : ℕ) (verdict : Verdict) → (poll_by c worker verdict).frame ≡ Rest → (poll_by c worker verdict).after ≡ c
+rest_by c worker Nothing rest = rest_stuck c worker c.stuck rest
+rest_by c worker (Model values) rest = rest_verdict c worker (want_at c worker) rest
+rest_by c worker (Proof text) rest = rest_verdict c worker (want_at c worker) rest
+
+pub rest_same : (c : CoordinatorState) (worker : ℕ) → (coordinator_poll c worker).frame ≡ Rest → (coordinator_poll c worker).after ≡ c
+rest_same c worker rest = rest_by c worker c.verdict rest
+
+-- the first frame is taken out
+pub first_out : (frames rest : List Frame) (frame : Frame) → 0 < length frames → frame ≡ get_or frames 0 frame → rest ≡ remove frames 0 → frames ≡ frame ∷ rest
+first_out [] rest frame some first others = absurd (omega (arith, some))
+first_out (x ∷ frames) rest frame some first others = cc
+
+-- one more frame was delivered
+pub delivered_on : (seat asked : Option ℕ) (frame : Frame) (waiting left after : List Frame) (old heard told new : CoordinatorState)
+    → waiting ≡ frame ∷ left → after ≡ left → asked ≡ seat → IsHeard frame old heard → IsAsked asked heard told
+    → AreDelivered seat after told new → AreDelivered seat waiting old new
+delivered_on seat asked frame waiting left after old heard told new first same is_seat is_heard is_asked rest =
+    subst (λ (frames : List Frame). AreDelivered seat frames old new) (sym first)
+    (heard, told, is_heard, subst (λ (worker : Option ℕ). IsAsked worker heard told) is_seat is_asked, subst (λ (frames : List Frame). AreDelivered seat frames told new) same rest)

@@ -1,0 +1,62 @@
+-- What comes over a link is delivered.
+use Rattle.std.specs.Prelude.{◌≡◌, ◌≢◌, ◌<◌, ℕ, List, [], ◌∷◌, Option, Some, None, IsSomeAnd, Ok}
+use Rattle.lrat_check.specs.declared.verdict.Reaction.{Reaction}
+use Rattle.lrat_check.specs.declared.verdict.Reaction.TheVariants as reaction
+use Rattle.frames.specs.Stream.{TakesPiece}
+use Rattle.frames.specs.declared.frame.Frame.{Frame}
+use Rattle.frames.specs.declared.frame.Frame.TheVariants.{Rest}
+use Rattle.evidence.specs.Events.{Delivered, Reacted}
+use Rattle.coordinator_core.specs.Coordinator.{CoordinatorState, CoordinatorStep, coordinator_poll}
+use Rattle.arriving.specs.declared.line.Line.{Line}
+use Rattle.arriving.specs.inner.Seats.{line_at, parked_in, seated_worker}
+
+-- a frame was delivered, and neither refused nor without the memory that it takes
+pub record IsHeard (frame : Frame) (old new : CoordinatorState) : Type 0 where
+  pub answer : Reaction
+  pub memory : answer ≢ reaction.NoMemory
+  pub right : (fault : ℕ) → answer ≢ reaction.Refused fault
+  pub step : CoordinatorStep old (Delivered frame) (Reacted answer) new
+
+-- the coordinator was asked for a frame to who is linked, if somebody is
+abbrev pub IsAsked : Option ℕ → CoordinatorState → CoordinatorState → Type 0
+IsAsked None old new = new ≡ old
+IsAsked (Some worker) old new = new ≡ (coordinator_poll old worker).after
+
+-- these frames were delivered one after the other, and behind each the coordinator was asked for a frame to who is linked
+abbrev pub AreDelivered : Option ℕ → List Frame → CoordinatorState → CoordinatorState → Type 0
+AreDelivered worker [] old new = new ≡ old
+AreDelivered worker (frame ∷ frames) old new =
+    (heard : CoordinatorState) × (told : CoordinatorState) × IsHeard frame old heard × IsAsked worker heard told × AreDelivered worker frames told new
+
+-- who is linked, what waits and what has come in part stay
+pub record StaysLinked (old new : Line) : Type 0 where
+  pub seat : seated_worker new ≡ seated_worker old
+  pub waiting : new.waiting.items ≡ old.waiting.items
+  pub reader : new.reader ≡ old.reader
+
+-- the frames of these bytes, behind those that waited, were delivered, and none waits
+pub record AreHeard (bytes : List ℕ) (old new : Line) (before after : CoordinatorState) : Type 0 where
+  pub frames : List Frame
+  pub came : TakesPiece old.reader bytes old.waiting.items frames (Ok tt) new.reader
+  pub delivered : AreDelivered (seated_worker old) frames before after
+  pub none_waits : new.waiting.items ≡ []
+
+-- what a frame tells a worker: nothing, by Rest
+abbrev pub IsToldBy : Frame → Option Frame → Type 0
+IsToldBy frame None = frame ≡ Rest
+IsToldBy frame (Some told) = (told ≡ frame) × (frame ≢ Rest)
+
+-- the coordinator has nothing for a worker to do
+abbrev pub HasNothing : CoordinatorState → ℕ → Type 0
+HasNothing c worker = (coordinator_poll c worker).frame ≡ Rest
+
+-- nobody is parked before this place
+abbrev pub NobodyRests : List (Option Line) → ℕ → Type 0
+NobodyRests lines places = (place : ℕ) → place < places → parked_in (line_at lines place) ≡ None
+
+-- Whoever is parked has nothing to do.
+pub data AreServed (lines : List (Option Line)) (c : CoordinatorState) : Type 0 where
+  -- nobody is parked where a run looks
+  nobody : NobodyRests lines 255 → AreServed lines c
+  -- the coordinator has nothing for one who is
+  one : (place : ℕ) → IsSomeAnd (parked_in (line_at lines place)) (HasNothing c) → AreServed lines c

@@ -1,0 +1,41 @@
+use Rattle.std.proofs.Common.{◌≡◌, ℕ, ◌+◌, ◌++◌, ◌∙◌, List, [], ◌∷◌, length, take, drop, arith, ap}
+use Rattle.dimacs.specs.logic.Rat.{Group}
+use Rattle.lrat_text.specs.Writing.{line_of}
+use Rattle.lrat_text.specs.declared.step.Step.TheVariants.{Add}
+use Rattle.proof_join.specs.Joining.{unit_steps}
+use Rattle.lrat_text.specs.Runs.{text_of, top_of}
+use Rattle.proof_join.proofs.SubtreeLemmas.{writes_more}
+use Rattle.proof_join.proofs.WholeLemmas.{unit_more, units_front}
+use Rattle.proof_join.proofs.preamble.put_units.Goals as goal
+
+pub returns-in-Err-clause-text : goal.returns-in-Err-clause-text
+returns-in-Err-clause-text c =
+    let v = c.loop-unit.invariant in
+    let n : ℕ = c.loop-unit.unit-index in
+    let last = v.last in
+    let id : ℕ = c.loop-unit.last + 1 in
+    let line : c.loop-unit.out ++ line_of id (Add id (c.unit-item.result ∷ []) [] c.new-groups.result) ≡ c.args.out.now ++ text_of c.args.top (unit_steps c.args.top (take (n + 1) c.args.units.now)) =
+    ap (λ (gs : List Group). c.loop-unit.out ++ line_of id (Add id (c.unit-item.result ∷ []) [] gs)) c.new-groups.ensures
+    ∙ unit_more c.args.out.now c.args.top c.args.units.now n id c.unit-item.result c.loop-unit.out c.loop-unit-test.true c.unit-item.is (omega arith) v.text in
+    writes_more (Unit {0}) ℕ c.in-Err.fault c.put_line.new.out (c.loop-unit.out ++ line_of id (Add id (c.unit-item.result ∷ []) [] c.new-groups.result))
+    (text_of (top_of c.args.top (unit_steps c.args.top (take (n + 1) c.args.units.now))) (unit_steps (c.args.top + length (take (n + 1) c.args.units.now)) (drop (n + 1) c.args.units.now)))
+    (c.args.out.now ++ text_of c.args.top (unit_steps c.args.top c.args.units.now))
+    (ap (λ (o : List ℕ). o ++ text_of (top_of c.args.top (unit_steps c.args.top (take (n + 1) c.args.units.now))) (unit_steps (c.args.top + length (take (n + 1) c.args.units.now)) (drop (n + 1) c.args.units.now))) line
+    ∙ units_front c.args.out.now c.args.top (n + 1) c.args.units.now)
+    c.in-Err.ensures
+
+pub loop-unit-preserved : goal.loop-unit-preserved
+loop-unit-preserved c =
+    let v = c.loop-unit.invariant in
+    let n : ℕ = c.loop-unit.unit-index in
+    let last = v.last in
+    let id : ℕ = c.loop-unit.last + 1 in
+    let wrote = c.in-Ok.ensures in
+    let same = ap length wrote.0 in
+    let below = wrote.1 in
+    record {
+      text = wrote.0 ∙ ap (λ (gs : List Group). c.loop-unit.out ++ line_of id (Add id (c.unit-item.result ∷ []) [] gs)) c.new-groups.ensures
+          ∙ unit_more c.args.out.now c.args.top c.args.units.now n id c.unit-item.result c.loop-unit.out c.loop-unit-test.true c.unit-item.is (omega arith) v.text;
+      last = omega arith;
+      short = omega arith;
+    }

@@ -1,0 +1,53 @@
+//! Finished subtrees that no fork has yet.
+
+ghost use Rattle.std.specs.Prelude.{◌≡◌, ◌<◌, ◌∷◌, MatchBool, MatchOption, OnOk, IfErr};
+ghost use Rattle.proof_join.specs.inner.Fronts.{HasLeft, branch_of, branches};
+
+use crate::fault::JoinFault;
+use crate::subtree::Subtree;
+
+/// A finished subtree, and the length of the path to it.
+#[derive(Drop)]
+pub(crate) struct Finished {
+    pub(crate) depth: usize,
+    pub(crate) subtree: Subtree,
+}
+
+/// Whether the last one is the left one beside a subtree at this depth.
+fn has_left(finished: &[Finished], depth: usize) -> bool
+    ensures { MatchBool result (HasLeft depth (branches finished.now)) (¬ (HasLeft depth (branches finished.now))) }
+{
+    let count = finished.len();
+    if count == 0 {
+        return false;
+    }
+    if depth == 0 {
+        return false;
+    }
+    finished[count - 1].depth == depth
+}
+
+/// Takes the left one beside a subtree at this depth, if it is there.
+pub(crate) fn take_left(finished: &mut Vec<Finished>, depth: usize) -> Option<Finished>
+    ensures { MatchOption result
+        ((finished.new.items ≡ finished.old.items) × ¬ (HasLeft depth (branches finished.old.items)))
+        (λ left. (0 < depth) × (branches finished.old.items ≡ branch_of left ∷ branches finished.new.items) × (left.depth ≡ depth)) }
+{
+    if !has_left(finished, depth) {
+        return None;
+    }
+    finished.pop()
+}
+
+/// Puts one to the others.
+pub(crate) fn put_finished(
+    finished: &mut Vec<Finished>,
+    depth: usize,
+    subtree: Subtree,
+) -> Result<(), JoinFault>
+    ensures put { OnOk result (branches finished.new.items ≡ record { depth = depth; id = subtree.id; clause = subtree.clause.items } ∷ branches finished.old.items) }
+    ensures memory { IfErr result (λ f. f ≡ JoinFault.NoMemory) }
+{
+    finished.push(Finished { depth, subtree })?;
+    Ok(())
+}
