@@ -147,14 +147,20 @@ fn written<R: Runtime + AllocGlobal>(
     Err(Refusal::Writing)
 }
 
+/// The leaf whose proof is lifted, or none where a text for all leaves is; the words name one of both.
+fn lifted_leaf(leaf: Option<u32>, lidrup: bool) -> Result<Option<u64>, Refusal> {
+    match (leaf, lidrup) {
+        (Some(leaf), false) => Ok(Some(u64::from(leaf))),
+        (None, true) => Ok(None),
+        _ => Err(Refusal::Usage),
+    }
+}
+
 /// What is to be made of a proof; none where there is no such leaf.
-fn task_of(alloc: Global, split: Split, leaf: Option<u32>) -> Result<Option<Task>, Refusal> {
+fn task_of(alloc: Global, split: Split, leaf: Option<u64>) -> Result<Option<Task>, Refusal> {
     let Some(leaf) = leaf else {
-        return Ok(Some(Task::All(
-            LiftAll::of(alloc, split).map_err(no_memory)?,
-        )));
+        return Ok(Some(Task::All(LiftAll::of(alloc, split).map_err(no_memory)?)));
     };
-    let leaf = u64::from(leaf);
     match Lift::of(alloc, split, leaf).map_err(no_memory)? {
         Some(lift) => Ok(Some(Task::Leaf(lift, leaf))),
         None => Ok(None),
@@ -167,7 +173,9 @@ pub(crate) fn lift<R: Runtime + AllocGlobal>(
     rt: &R,
     files: &LiftFiles<'_>,
     leaf: Option<u32>,
+    lidrup: bool,
 ) -> Result<Report, Refusal> {
+    let leaf = lifted_leaf(leaf, lidrup)?;
     let split = match begin(rt, files.input, files.cubes)? {
         Start::With(split) => split,
         Start::Refused(report) => return Ok(report),

@@ -160,6 +160,7 @@ fn answer<R: Runtime + AllocGlobal + Net>(
             input,
             cubes,
             leaf,
+            lidrup,
             proof,
             fragment,
         } => {
@@ -169,7 +170,7 @@ fn answer<R: Runtime + AllocGlobal + Net>(
                 proof,
                 fragment,
             };
-            lift(rt, &files, leaf)
+            lift(rt, &files, leaf, lidrup)
         }
         Request::Model { input, output } => model(rt, input, output),
         Request::Trim { input, proof, out } => trim(rt, input, proof, out),

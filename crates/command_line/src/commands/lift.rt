@@ -5,14 +5,14 @@ ghost use Rattle.command_line.specs.CommandLine.{IsInRange, Makes};
 ghost use Rattle.command_line.specs.declared.request.Request.{Request};
 
 use crate::commands::leaf_words::{CUBES, LAST_LEAF, leaf_or_none};
-use crate::commands::words::{INPUT, file_of};
+use crate::commands::words::{INPUT, file_of, is_given};
 use crate::request::Request;
 use word_rules::{CommandRules, Found, Need, Word};
 
 /// The words.
 pub(crate) const RULES: CommandRules<'static> = CommandRules {
     name: "lift",
-    about: "Makes a fragment of INPUT of a proof of the formula of a leaf, or of one for all leaves",
+    about: "Makes a fragment of INPUT of a proof of the formula of a leaf, or of a text for all leaves",
     after_help: "Status: 0 the fragment is written, 20 it closes all leaves, 1 it is not written, or an error",
     words: &[
         CUBES,
@@ -21,13 +21,17 @@ pub(crate) const RULES: CommandRules<'static> = CommandRules {
             low: 1,
             high: LAST_LEAF,
             need: Need::Optional,
-            help: "The leaf, by the number of its cube in that file, from 1 to 4294967295; else PROOF is a LIDRUP text for all of them",
+            help: "The leaf, by the number of its cube in that file, from 1 to 4294967295: PROOF is one of its formula",
+        },
+        Word::LongFlag {
+            name: "lidrup",
+            help: "In place of a leaf: PROOF is a LIDRUP text for all of them",
         },
         INPUT,
         Word::File {
             name: "PROOF",
             required: true,
-            help: "A proof of the formula of the leaf, an LRAT file that is read; or for all leaves a LIDRUP file",
+            help: "The proof, an LRAT file that is read, or a LIDRUP file",
         },
         Word::File {
             name: "FRAGMENT",
@@ -52,6 +56,7 @@ pub(crate) fn asked<'a>(given: &Found<'a>) -> Option<Request<'a>>
         input,
         cubes,
         leaf,
+        lidrup: is_given(given, "lidrup"),
         proof,
         fragment,
     })
