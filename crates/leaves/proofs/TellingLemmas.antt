@@ -33,6 +33,14 @@ closed_more (true ∷ bs) b = closed_more bs b
 closed_more (false ∷ bs) true = refl
 closed_more (false ∷ bs) false = refl
 
+-- what `closes` says of a leaf is what is told of it
+pub tells_leaf : (x : CubeLog) (place : ℕ) (q : Cube) (b : Bool) → IsEnded x
+    → ((F : Cnf) (bytes written : List ℕ) → IsEnded x → Stands F bytes written x → MatchBool b (ClosesQuery F bytes place q) (¬ (ClosesQuery F bytes place q)))
+    → OnTrue b ((F : Cnf) (bytes written : List ℕ) → Stands F bytes written x → ClosesCube F q (written ++ x.lines.out.items))
+    → (F : Cnf) (bytes written : List ℕ) → Stands F bytes written x → TellsLeaf F bytes (written ++ x.lines.out.items) place q b
+tells_leaf x place q true ended which closes F bytes written s = (which F bytes written ended s, closes F bytes written s)
+tells_leaf x place q false ended which closes F bytes written s = (which F bytes written ended s, tt)
+
 pub telling_none : (x : CubeLog) → IsTelling x [] [] 20
 telling_none x = record { told = []; long = refl; are = λ F bytes written s. tt; text_is = refl; status_is = refl }
 
