@@ -1,15 +1,18 @@
 -- Which leaves a log is told to close.
-use Rattle.std.proofs.Common.{◌≡◌, ℕ, ◌+◌, ◌<◌, Bool, true, false, List, [], ◌∷◌, ◌++◌, cond, refl, sym, ◌∙◌, ap, subst, length, take, get_or, append_assoc, arith, length-append}
+use Rattle.std.proofs.Common.{◌≡◌, ℕ, ◌+◌, ◌<◌, Bool, true, false, List, [], ◌∷◌, ◌++◌, cond, refl, sym, ◌∙◌, ap, subst, length, take, get_or, append_assoc, arith, length-append, IfOk, Result, Ok, Err, None}
+use Rattle.std.specs.declared.alloc.AllocError.{AllocError}
 use Rattle.std.specs.Prelude.{MatchBool}
 use Rattle.std.specs.Bool.{OnTrue}
 use Rattle.std.proofs.lemmas.List.{append-nil, length-take, take_more}
 use Rattle.dimacs.specs.logic.Cnf.{Cnf}
 use Rattle.icnf.specs.Leaves.{Cube}
-use Rattle.leaves.specs.Closing.{AreTold, TellsLeaf, are_closed, leaf_line, told_text}
+use Rattle.leaves.specs.Closing.{AreTold, LiftsAll, PrintsAll, TellsLeaf, are_closed, leaf_line, told_text}
+use Rattle.leaves.specs.declared.closing.LiftAll.{LiftAll}
 use Rattle.leaves.specs.inner.Telling.{IsTelling}
 use Rattle.lidrup.specs.CubeLog.{ClosesCube, IsEnded, Stands}
 use Rattle.lidrup.specs.Lidrup.{ClosesQuery}
 use Rattle.lidrup.specs.declared.cube_log.CubeLog.{CubeLog}
+use Rattle.reports.specs.declared.report.Report.{Report}
 
 told_more : (F : Cnf) (t l : List ℕ) (i : ℕ) (qs : List Cube) (bs : List Bool) (q : Cube) (b : Bool) → AreTold F t l i qs bs → TellsLeaf F t l (i + length qs) q b → AreTold F t l i (qs ++ q ∷ []) (bs ++ b ∷ [])
 told_more F t l i [] [] q b h last = let e : i + 0 ≡ i = omega arith in (subst (λ n. TellsLeaf F t l n q b) e last, tt)
@@ -26,7 +29,7 @@ text_more i (c ∷ bs) b =
     ap (λ (x : List ℕ). leaf_line i c ++ x) (text_more (i + 1) bs b ∙ ap (λ n. told_text (i + 1) bs ++ leaf_line n b) e)
     ∙ sym (append_assoc (leaf_line i c) (told_text (i + 1) bs) (leaf_line (i + length (c ∷ bs)) b))
 
-closed_more : (bs : List Bool) (b : Bool) → cond b (cond (are_closed bs) 20 0) 0 ≡ cond (are_closed (bs ++ b ∷ [])) 20 0
+closed_more : (bs : List Bool) (b : Bool) → ◌≡◌ {A = ℕ} (cond b (cond (are_closed bs) 20 0) 0) (cond (are_closed (bs ++ b ∷ [])) 20 0)
 closed_more [] true = refl
 closed_more [] false = refl
 closed_more (true ∷ bs) b = closed_more bs b
@@ -60,5 +63,16 @@ telling_more x cubes place q text status b inside at tells t =
           told_more F bytes (written ++ x.lines.out.items) 0 (take place cubes) t.told q b (t.are F bytes written s)
           (subst (λ n. TellsLeaf F bytes (written ++ x.lines.out.items) n q b) (sym here) (tells F bytes written s));
       text_is = ap (λ (o : List ℕ). o ++ leaf_line place b) t.text_is ∙ ap (λ n. told_text 0 t.told ++ leaf_line n b) (sym there) ∙ sym (text_more 0 t.told b);
-      status_is = ap (λ s. cond b s 0) t.status_is ∙ closed_more t.told b;
+      status_is = ap (λ (s : ℕ). cond b s 0) t.status_is ∙ closed_more t.told b;
     })
+
+-- the report of all leaves that were told
+pub reported : (l : LiftAll) (text : List ℕ) (status : ℕ) (r : Result Report AllocError) → IsTelling l.log l.tree text status
+    → IfOk r (λ o. o.stdout.items ≡ text) → IfOk r (λ o. o.status ≡ status) → IfOk r (λ o. o.proof ≡ None)
+    → IfOk r (λ o. (F : Cnf) (cubes : List Cube) (bytes written : List ℕ) → LiftsAll F cubes bytes written l → PrintsAll F cubes bytes (written ++ l.log.lines.out.items) o)
+reported l text status (Ok o) t out code proof = λ F cubes bytes written h. record {
+  told = t.told;
+  are = subst (λ (qs : List Cube). AreTold F bytes (written ++ l.log.lines.out.items) 0 qs t.told) h.tree (t.are F bytes written h.stands);
+  prints = record { status_is = code ∙ t.status_is; text_is = out ∙ t.text_is; no_proof = proof };
+}
+reported l text status (Err e) t out code proof = tt

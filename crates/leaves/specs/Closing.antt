@@ -1,8 +1,9 @@
 -- A LIDRUP text for the leaves of a tree, beside the bytes of the log that are handed out, and which leaves the log closes.
-use Rattle.std.specs.Prelude.{◌≡◌, ℕ, ◌+◌, Bool, true, false, MatchBool, List, [], ◌∷◌, ◌++◌, Option, None, Result, codes, decimal, ◌&&◌, if◌then◌else◌}
+use Rattle.std.specs.Prelude.{◌≡◌, ℕ, ◌+◌, Bool, true, false, MatchBool, List, [], ◌∷◌, ◌++◌, Result, ◌&&◌, if◌then◌else◌}
 use Rattle.std.specs.Bool.{OnTrue}
 use Rattle.dimacs.specs.logic.Cnf.{Cnf}
 use Rattle.icnf.specs.Leaves.{Cube}
+use Rattle.leaves.specs.Leaf.{Prints}
 use Rattle.leaves.specs.Notes.{missing_line}
 use Rattle.leaves.specs.Refuting.{closed_line}
 use Rattle.leaves.specs.declared.closing.LiftAll.{LiftAll}
@@ -30,7 +31,7 @@ abbrev pub leaf_line : ℕ → Bool → List ℕ
 leaf_line place true = closed_line (place + 1)
 leaf_line place false = missing_line place
 
--- ---- what is told of the leaves from a place on
+-- ---- what is told of the leaves from a place on, one after the other
 abbrev pub told_text : ℕ → List Bool → List ℕ
 told_text place [] = []
 told_text place (b ∷ bs) = leaf_line place b ++ told_text (place + 1) bs
@@ -49,9 +50,8 @@ AreTold F text log place [] (b ∷ bs) = ⊥
 AreTold F text log place (q ∷ qs) [] = ⊥
 AreTold F text log place (q ∷ qs) (b ∷ bs) = TellsLeaf F text log place q b × AreTold F text log (place + 1) qs bs
 
--- the report of the leaves that a log closes
+-- the report of all leaves of a tree: the status is 20 where all are told closed
 pub record PrintsAll (F : Cnf) (cubes : List Cube) (text log : List ℕ) (r : Report) : Type 0 where
   pub told : List Bool
   pub are : AreTold F text log 0 cubes told
-  pub text_is : r.stdout.items ≡ told_text 0 told
-  pub status_is : r.status ≡ (if are_closed told then 20 else 0)
+  pub prints : Prints (if are_closed told then 20 else 0) (told_text 0 told) r
