@@ -3,6 +3,7 @@
 ghost use Rattle.std.specs.Prelude.{◌≤◌, ◌<◌, ◌^◌};
 
 use dimacs::{Lit, Var, read};
+use leaves::{LiftAll, Split, SplitReader};
 use lidrup::CubeLog;
 use lrat_check::{CheckFault, check_log};
 use std::alloc::Global;
@@ -28,6 +29,15 @@ s UNSATISFIABLE\nu 2 0 30 0\ni 32 -2 0\nd 32 0\nq -2 -1 0\n\
 l 33 -7 -3 0 20 17 7 10 2 4 15 0\nl 34 -3 0 17 18 20 33 3 13 16 2 4 9 0\n\
 l 35 1 0 34 30 1 0\nl 36 -4 0 35 5 0\nl 37 -7 0 35 6 0\nl 38 -10 0 35 8 0\n\
 l 39 0 36 35 28 0\ns UNSATISFIABLE\nu 0 39 0\ni 40 0\n";
+
+/// The cubes, as the leaves of a tree.
+const LEAVES: &[u8] = b"a 1 4 0\na 1 -4 0\na -1 2 0\na -1 -2 0\n";
+
+/// What is told of them at the end of the text.
+const CLOSED: &[u8] = b"c leaf 1 closed\nc leaf 2 closed\nc leaf 3 closed\nc leaf 4 closed\n";
+
+/// The same where two of them are still open.
+const HALF: &[u8] = b"c leaf 1 closed\nc leaf 2 closed\nc leaf 3 missing\nc leaf 4 missing\n";
 
 /// Three clauses of three variables.
 const OTHER: &[u8] = b"p cnf 3 3\n1 2 3 0\n-1 2 0\n-2 3 0\n";
@@ -103,4 +113,49 @@ fn a_text_that_is_cut_or_of_another_formula_is_refused(rt: HostRuntime) -> Resul
     assert!(&rt; log.finish().is_err());
     assert!(&rt; !log.closes(0, &[positive(1), positive(4)]));
     Ok(())
+}
+
+/// The pigeons, split into the leaves.
+fn split(rt: &impl Abort, alloc: Global) -> Result<Split, Fail> {
+    let mut reader = SplitReader::new(alloc, read(alloc, PIGEONS)?)?;
+    reader.feed(b"p inccnf\n");
+    reader.feed(PIGEONS.get(12..).unwrap_or(b""));
+    reader.feed(LEAVES);
+    match reader.finish() {
+        Ok(split) => Ok(split),
+        Err(_) => panic!(rt; "no tree"),
+    }
+}
+
+/// A text tells this of the leaves, with this status, and its log is one over the pigeons.
+fn tells(
+    rt: &impl Abort,
+    alloc: Global,
+    text: &[u8],
+    stdout: &[u8],
+    status: u8,
+) -> Result<(), Fail> {
+    let mut log = Vec::new(alloc);
+    let mut lift = LiftAll::of(alloc, split(rt, alloc)?)?;
+    for piece in text.chunks(13) {
+        lift.feed(piece);
+        log.extend_from_slice(lift.written())?;
+        lift.forget();
+    }
+    match lift.finish() {
+        Ok(()) => {
+            let report = lift.report(alloc)?;
+            assert!(rt; report.stdout.as_slice() == stdout);
+            assert_eq!(rt; report.status, status);
+        }
+        Err(_) => panic!(rt; "a fault"),
+    }
+    assert!(rt; check_log(alloc, &read(alloc, PIGEONS)?, &log).is_ok());
+    Ok(())
+}
+
+#[test]
+fn it_is_told_which_leaves_are_closed(rt: HostRuntime) -> Result<(), Fail> {
+    tells(&rt, rt.alloc(), PROOF, CLOSED, 20)?;
+    tells(&rt, rt.alloc(), &PROOF[..OPEN], HALF, 0)
 }

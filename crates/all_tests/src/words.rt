@@ -100,7 +100,12 @@ fn a_service_with_its_defaults_and_with_all_its_words(rt: HostRuntime) -> Result
             ..USUAL
         },
     };
-    asks(&rt, rt.alloc(), "satcluster serve --port 1 --workers 9 f.cnf", many)?;
+    asks(
+        &rt,
+        rt.alloc(),
+        "satcluster serve --port 1 --workers 9 f.cnf",
+        many,
+    )?;
     let full = Request::Serve {
         port: 65_535,
         input: "f.cnf",
@@ -225,7 +230,7 @@ fn cubes_are_completed(rt: HostRuntime) -> Result<(), Fail> {
 }
 
 #[test]
-fn a_leaf_and_a_lift_and_a_model(rt: HostRuntime) -> Result<(), Fail> {
+fn a_leaf_and_a_model(rt: HostRuntime) -> Result<(), Fail> {
     let alloc = rt.alloc();
     let leaf = Request::Leaf {
         input: "f.cnf",
@@ -237,19 +242,6 @@ fn a_leaf_and_a_lift_and_a_model(rt: HostRuntime) -> Result<(), Fail> {
         alloc,
         "satcluster leaf --cubes f.icnf --leaf 4294967295 f.cnf",
         leaf,
-    )?;
-    let lift = Request::Lift {
-        input: "f.cnf",
-        cubes: "f.icnf",
-        leaf: 1,
-        proof: "l.lrat",
-        fragment: "l.frag",
-    };
-    asks(
-        &rt,
-        alloc,
-        "satcluster lift --leaf 1 --cubes f.icnf f.cnf l.lrat l.frag",
-        lift,
     )?;
     let model = Request::Model {
         input: "f.cnf",
@@ -263,6 +255,54 @@ fn a_leaf_and_a_lift_and_a_model(rt: HostRuntime) -> Result<(), Fail> {
     };
     asks(&rt, alloc, "satcluster trim f.cnf f.lrat g.lrat", trim)?;
     Ok(())
+}
+
+#[test]
+fn a_lift_of_a_leaf_or_of_all(rt: HostRuntime) -> Result<(), Fail> {
+    let alloc = rt.alloc();
+    let lift = Request::Lift {
+        input: "f.cnf",
+        cubes: "f.icnf",
+        leaf: Some(1),
+        lidrup: false,
+        proof: "l.lrat",
+        fragment: "l.frag",
+    };
+    asks(
+        &rt,
+        alloc,
+        "satcluster lift --leaf 1 --cubes f.icnf f.cnf l.lrat l.frag",
+        lift,
+    )?;
+    let all = Request::Lift {
+        input: "f.cnf",
+        cubes: "f.icnf",
+        leaf: None,
+        lidrup: true,
+        proof: "f.lidrup",
+        fragment: "f.frag",
+    };
+    asks(
+        &rt,
+        alloc,
+        "satcluster lift --lidrup --cubes f.icnf f.cnf f.lidrup f.frag",
+        all,
+    )?;
+    // The program refuses what names both, or neither.
+    let both = Request::Lift {
+        input: "f.cnf",
+        cubes: "f.icnf",
+        leaf: Some(7),
+        lidrup: true,
+        proof: "f.lidrup",
+        fragment: "f.frag",
+    };
+    asks(
+        &rt,
+        alloc,
+        "satcluster lift --lidrup --leaf 7 --cubes f.icnf f.cnf f.lidrup f.frag",
+        both,
+    )
 }
 
 #[test]
@@ -393,6 +433,8 @@ const REFUSED: &[&'static str] = &[
     "satcluster join --cubes f.icnf f.cnf f.lrat",
     "satcluster join f.cnf f.lrat l.frag",
     "satcluster lift --cubes f.icnf --leaf 1 f.cnf l.lrat",
+    "satcluster lift --cubes f.icnf --lidrup f.cnf l.lidrup",
+    "satcluster lift --cubes f.icnf --leaf 0 f.cnf l.lrat l.frag",
     "satcluster model f.cnf",
 ];
 

@@ -1,5 +1,5 @@
 -- Which requests the words behind a command's name make.
-use Rattle.std.proofs.Common.{◌≡◌, ◌∙◌, ℕ, true, false, List, Option, Some, Vec, Global, ap, codes, refl, subst, sym}
+use Rattle.std.proofs.Common.{◌≡◌, ◌∙◌, ℕ, Bool, true, false, List, Option, Some, Vec, Global, ap, codes, refl, subst, sym}
 use Rattle.std.specs.Borrow.{Bor}
 use Rattle.std.specs.Str.{bytes_eq}
 use Rattle.clap.specs.Words.{Row, Text, subcommand_of}
@@ -85,8 +85,8 @@ pub only_join : (rows : List Row) → ((input : Bor Text) (cubes : Bor Text) (pr
 only_join rows none (Join input cubes proof fragments printing) makes = none input cubes proof fragments printing makes
 only_join rows none other makes = differ (codes "join") (name_of other) refl refl (is_named (codes "join") rows other makes)
 
-pub only_lift : (rows : List Row) → ((input : Bor Text) (cubes : Bor Text) (leaf : ℕ) (proof : Bor Text) (fragment : Bor Text) → Makes (codes "lift") rows (Lift input cubes leaf proof fragment) → ⊥) → (r : Request) → Makes (codes "lift") rows r → ⊥
-only_lift rows none (Lift input cubes leaf proof fragment) makes = none input cubes leaf proof fragment makes
+pub only_lift : (rows : List Row) → ((input : Bor Text) (cubes : Bor Text) (leaf : Option ℕ) (lidrup : Bool) (proof : Bor Text) (fragment : Bor Text) → Makes (codes "lift") rows (Lift input cubes leaf lidrup proof fragment) → ⊥) → (r : Request) → Makes (codes "lift") rows r → ⊥
+only_lift rows none (Lift input cubes leaf lidrup proof fragment) makes = none input cubes leaf lidrup proof fragment makes
 only_lift rows none other makes = differ (codes "lift") (name_of other) refl refl (is_named (codes "lift") rows other makes)
 
 pub only_model : (rows : List Row) → ((input : Bor Text) (output : Bor Text) → Makes (codes "model") rows (Model input output) → ⊥) → (r : Request) → Makes (codes "model") rows r → ⊥

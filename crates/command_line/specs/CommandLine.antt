@@ -122,9 +122,10 @@ Makes name rows (Refute input cubes leaf to limit fragment printing) =
 Makes name rows (Join input cubes proof fragments printing) =
     (name ≡ codes "join") × NamesFile rows (codes "INPUT") (Some input) × NamesFile rows (codes "cubes") (Some cubes)
     × NamesFile rows (codes "PROOF") (Some proof) × NamesFiles rows (codes "NAME") fragments.items × NamesPrinting rows printing
-Makes name rows (Lift input cubes leaf proof fragment) =
-    (name ≡ codes "lift") × NamesFile rows (codes "INPUT") (Some input) × NamesFile rows (codes "cubes") (Some cubes) × NamesLeaf rows leaf
-    × NamesFile rows (codes "PROOF") (Some proof) × NamesFile rows (codes "FRAGMENT") (Some fragment)
+Makes name rows (Lift input cubes leaf lidrup proof fragment) =
+    (name ≡ codes "lift") × NamesFile rows (codes "INPUT") (Some input) × NamesFile rows (codes "cubes") (Some cubes)
+    × NamesAnyNumber rows (codes "leaf") 1 (2 ^ 32 - 1) leaf × NamesFlag rows (codes "lidrup") lidrup × NamesFile rows (codes "PROOF") (Some proof)
+    × NamesFile rows (codes "FRAGMENT") (Some fragment)
 Makes name rows (Model input output) =
     (name ≡ codes "model") × NamesFile rows (codes "INPUT") (Some input) × NamesFile rows (codes "FILE") (Some output)
 Makes name rows (Trim input proof out) =
@@ -180,6 +181,6 @@ IsInRange (Drill input seed turns) = turns ≤ 100000
 IsInRange (Leaf input cubes leaf) = IsLeafNumber leaf
 IsInRange (Refute input cubes leaf to limit fragment printing) = IsLeafNumber leaf × IfSome to IsLeafNumber × (1 ≤ limit) × (limit ≤ 2 ^ 47)
 IsInRange (Join input cubes proof fragments printing) = 1 ≤ length fragments.items
-IsInRange (Lift input cubes leaf proof fragment) = IsLeafNumber leaf
+IsInRange (Lift input cubes leaf lidrup proof fragment) = IfSome leaf IsLeafNumber
 IsInRange (Model input output) = ⊤
 IsInRange (Trim input proof out) = ⊤

@@ -83,10 +83,11 @@ join_app =
     with_rule (with_rule (with_rule (with_printing (with_rule (new_app (codes "join")) (needed_file_rule (codes "cubes")))) (file_rule (codes "INPUT") true))
     (file_rule (codes "PROOF") true)) (files_rule (codes "NAME"))
 
--- `lift --cubes FILE --leaf I INPUT PROOF FRAGMENT`
+-- `lift --cubes FILE [--leaf I] [--lidrup] INPUT PROOF FRAGMENT`: I from 1 to 4,294,967,295
 abbrev pub lift_app : App
 lift_app =
-    with_rule (with_rule (with_rule (with_leaf (new_app (codes "lift"))) (file_rule (codes "INPUT") true)) (file_rule (codes "PROOF") true))
+    with_rule (with_rule (with_rule (with_rule (with_rule (with_rule (new_app (codes "lift")) (needed_file_rule (codes "cubes")))
+    (any_number_rule (codes "leaf") 1 (2 ^ 32 - 1))) (long_flag_rule (codes "lidrup"))) (file_rule (codes "INPUT") true)) (file_rule (codes "PROOF") true))
     (file_rule (codes "FRAGMENT") true)
 
 -- `model INPUT FILE`

@@ -89,12 +89,13 @@ pub enum Request<'a> {
         fragments: Vec<&'a str>,
         printing: Printing,
     },
-    /// Make a fragment of a proof of the formula of a leaf, by its number among the cubes of a file, from 1 to 4,294,967,295, and
-    /// write it to a file.
+    /// Make a fragment of a proof and write it to a file: of one of the formula of a leaf, by its number among the cubes of a file, from
+    /// 1 to 4,294,967,295; or of a LIDRUP text for all of these cubes. The words may name both, or neither.
     Lift {
         input: &'a str,
         cubes: &'a str,
-        leaf: u32,
+        leaf: Option<u32>,
+        lidrup: bool,
         proof: &'a str,
         fragment: &'a str,
     },

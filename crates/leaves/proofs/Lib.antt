@@ -8,4 +8,5 @@ pub mod LineLemmas
 pub mod ReadingLemmas
 pub mod SplitLemmas
 pub mod UnitLemmas
+pub mod TellingLemmas
 pub mod TurnLemmas

@@ -1,3 +1,4 @@
+pub mod Closing
 pub mod Joining
 pub mod Leaf
 pub mod Lifting

@@ -3,4 +3,5 @@ pub mod Joins
 pub mod Lines
 pub mod Reading
 pub mod Splitting
+pub mod Telling
 pub mod Turns

@@ -4,6 +4,7 @@
 //! refutation is a log over the formula that closes its leaf, and what is joined is one proof of the formula alone.
 #![tactic(auto)]
 
+mod closing;
 mod join;
 mod laws;
 mod leaf;
@@ -15,6 +16,7 @@ mod split;
 mod splitting;
 mod turns;
 
+pub use closing::LiftAll;
 pub use join::{FileEnd, Join};
 pub use laws::joins_stand;
 pub use leaf::run_leaf;

@@ -1,10 +1,13 @@
-//! `lift`: a foreign proof of the formula of a leaf is read, and the log that it is lifted to is written meanwhile.
+//! `lift`: a foreign proof of the formula of a leaf, or what a solver wrote for all leaves, is read, and the log that it comes to is
+//! written meanwhile.
 
 use crate::files::{Pieces, no_memory, open, refused};
 use crate::leaf_runs::{Start, begin};
 use crate::proof_file::{Part, Place, append, is_same_file, keep, make_part, place_of, remove};
-use leaves::{Lift, LiftEnd, lift_report};
+use leaves::{Lift, LiftAll, LiftEnd, Split, lift_report};
+use lrat_check::CheckFault;
 use node_main::{Refusal, Report};
+use std::alloc::Global;
 use std::io;
 use std::io::{Read, Write};
 use std::rt::Runtime;
@@ -13,10 +16,51 @@ fn not_written(error: io::Error) -> Refusal {
     refused(error, Refusal::Writing)
 }
 
+/// The files of a lift: three that are read, and the one that is written.
+#[derive(Clone, Copy)]
+pub(crate) struct LiftFiles<'a> {
+    pub(crate) input: &'a str,
+    pub(crate) cubes: &'a str,
+    pub(crate) proof: &'a str,
+    pub(crate) fragment: &'a str,
+}
+
+/// What is made of a proof.
+#[derive(Drop)]
+enum Task {
+    /// A log that closes the leaf of this number.
+    Leaf(Lift, u64),
+    /// A log that closes each leaf, if it can.
+    All(LiftAll),
+}
+
+impl Task {
+    fn feed(&mut self, piece: &[u8]) {
+        match self {
+            Task::Leaf(lift, _) => lift.feed(piece),
+            Task::All(lift) => lift.feed(piece),
+        }
+    }
+
+    fn written(&self) -> &[u8] {
+        match self {
+            Task::Leaf(lift, _) => lift.written(),
+            Task::All(lift) => lift.written(),
+        }
+    }
+
+    fn forget(&mut self) {
+        match self {
+            Task::Leaf(lift, _) => lift.forget(),
+            Task::All(lift) => lift.forget(),
+        }
+    }
+}
+
 /// Reads a proof to its end, also behind a fault, and writes what it is lifted to.
 fn feed<F: Read + Write>(
     pieces: &mut Pieces<F>,
-    lift: &mut Lift,
+    task: &mut Task,
     part: &mut Part<F>,
 ) -> Result<(), Refusal> {
     for _ in 0..u64::MAX {
@@ -24,55 +68,73 @@ fn feed<F: Read + Write>(
         if piece.is_empty() {
             return Ok(());
         }
-        lift.feed(piece);
-        append(part, lift.written()).map_err(not_written)?;
-        lift.forget();
+        task.feed(piece);
+        append(part, task.written()).map_err(not_written)?;
+        task.forget();
     }
     Err(Refusal::Proof)
 }
 
-/// Writes the end of the log, or tells the first fault of a proof that was read to its end.
+/// How a proof was refused that was read to its end.
+fn refusal_of(fault: CheckFault) -> Result<LiftEnd, Refusal> {
+    if fault.is_no_memory() {
+        return Err(Refusal::NoMemory);
+    }
+    Ok(LiftEnd::Refused {
+        line: fault.line,
+        number: fault.number,
+    })
+}
+
+/// Writes the end of the log of a leaf, or tells the first fault of a proof that was read to its end.
 fn ended<F: Write>(lift: Lift, part: &mut Part<F>) -> Result<LiftEnd, Refusal> {
     match lift.finish() {
         Ok(rest) => {
             append(part, rest.as_slice()).map_err(not_written)?;
             Ok(LiftEnd::Lifted)
         }
-        Err(fault) if fault.is_no_memory() => Err(Refusal::NoMemory),
-        Err(fault) => Ok(LiftEnd::Refused {
-            line: fault.line,
-            number: fault.number,
-        }),
+        Err(fault) => refusal_of(fault),
     }
 }
 
-/// The report of the leaf of this number, whose proof is lifted to the part.
+/// The report of all leaves, or of the first fault of a text that was read to its end.
+fn all_ended(alloc: Global, lift: &LiftAll) -> Result<Report, Refusal> {
+    match lift.finish() {
+        Ok(()) => lift.report(alloc).map_err(no_memory),
+        Err(fault) => lift_report(alloc, 0, refusal_of(fault)?).map_err(no_memory),
+    }
+}
+
+/// The report of a proof that is lifted to the part.
 fn lifted<R: Runtime + AllocGlobal>(
     rt: &R,
     mut pieces: Pieces<R::File>,
-    mut lift: Lift,
+    mut task: Task,
     part: &mut Part<R::File>,
-    leaf: u64,
 ) -> Result<Report, Refusal> {
-    feed(&mut pieces, &mut lift, part)?;
-    let end = ended(lift, part)?;
-    lift_report(rt.alloc(), leaf, end).map_err(no_memory)
+    feed(&mut pieces, &mut task, part)?;
+    match task {
+        Task::Leaf(lift, leaf) => {
+            let end = ended(lift, part)?;
+            lift_report(rt.alloc(), leaf, end).map_err(no_memory)
+        }
+        Task::All(lift) => all_ended(rt.alloc(), &lift),
+    }
 }
 
-/// Lifts a proof to a part, which takes its place where the log closes the leaf, and is gone where it does not.
+/// Lifts a proof to a part, which takes its place where the proof has no fault, and is gone where it has one.
 fn written<R: Runtime + AllocGlobal>(
     rt: &R,
     pieces: Pieces<R::File>,
-    lift: Lift,
+    task: Task,
     place: &Place,
-    leaf: u64,
 ) -> Result<Report, Refusal> {
     let Some(mut part) = make_part(rt, place).map_err(not_written)? else {
         return Err(Refusal::Writing);
     };
-    let found = lifted(rt, pieces, lift, &mut part, leaf);
+    let found = lifted(rt, pieces, task, &mut part);
     let is_lifted = match &found {
-        Ok(report) => report.status == 0,
+        Ok(report) => report.status != 1,
         Err(_) => false,
     };
     if !is_lifted {
@@ -85,33 +147,51 @@ fn written<R: Runtime + AllocGlobal>(
     Err(Refusal::Writing)
 }
 
-/// A proof of the formula of a leaf becomes a log over the formula, which is written to a file: whole or not at all, and to none of the
-/// files that are read. The proof is opened before the file is made beside its place.
+/// The leaf whose proof is lifted, or none where a text for all leaves is; the words name one of both.
+fn lifted_leaf(leaf: Option<u32>, lidrup: bool) -> Result<Option<u64>, Refusal> {
+    match (leaf, lidrup) {
+        (Some(leaf), false) => Ok(Some(u64::from(leaf))),
+        (None, true) => Ok(None),
+        _ => Err(Refusal::Usage),
+    }
+}
+
+/// What is to be made of a proof; none where there is no such leaf.
+fn task_of(alloc: Global, split: Split, leaf: Option<u64>) -> Result<Option<Task>, Refusal> {
+    let Some(leaf) = leaf else {
+        return Ok(Some(Task::All(LiftAll::of(alloc, split).map_err(no_memory)?)));
+    };
+    match Lift::of(alloc, split, leaf).map_err(no_memory)? {
+        Some(lift) => Ok(Some(Task::Leaf(lift, leaf))),
+        None => Ok(None),
+    }
+}
+
+/// A proof of the formula of a leaf, or what was written for all leaves, becomes a log over the formula, which is written to a file:
+/// whole or not at all, and to none of the files that are read. The proof is opened before the file is made beside its place.
 pub(crate) fn lift<R: Runtime + AllocGlobal>(
     rt: &R,
-    input: &str,
-    cubes: &str,
-    leaf: u32,
-    proof: &str,
-    fragment: &str,
+    files: &LiftFiles<'_>,
+    leaf: Option<u32>,
+    lidrup: bool,
 ) -> Result<Report, Refusal> {
-    let split = match begin(rt, input, cubes)? {
+    let leaf = lifted_leaf(leaf, lidrup)?;
+    let split = match begin(rt, files.input, files.cubes)? {
         Start::With(split) => split,
         Start::Refused(report) => return Ok(report),
     };
-    let leaf = u64::from(leaf);
-    let Some(lift) = Lift::of(rt.alloc(), split, leaf).map_err(no_memory)? else {
-        return lift_report(rt.alloc(), leaf, LiftEnd::NoLeaf).map_err(no_memory);
+    let Some(task) = task_of(rt.alloc(), split, leaf)? else {
+        return lift_report(rt.alloc(), 0, LiftEnd::NoLeaf).map_err(no_memory);
     };
-    let pieces = open(rt, proof, Refusal::Proof)?;
-    if is_same_file(rt, fragment, input)
-        || is_same_file(rt, fragment, cubes)
-        || is_same_file(rt, fragment, proof)
+    let pieces = open(rt, files.proof, Refusal::Proof)?;
+    if is_same_file(rt, files.fragment, files.input)
+        || is_same_file(rt, files.fragment, files.cubes)
+        || is_same_file(rt, files.fragment, files.proof)
     {
         return Err(Refusal::Writing);
     }
-    match place_of(rt, fragment).map_err(not_written)? {
-        Some(place) => written(rt, pieces, lift, &place, leaf),
+    match place_of(rt, files.fragment).map_err(not_written)? {
+        Some(place) => written(rt, pieces, task, &place),
         None => Err(Refusal::Writing),
     }
 }

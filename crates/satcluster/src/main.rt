@@ -24,7 +24,7 @@ use files::{no_memory, read, refused};
 use join::{JoinFiles, join};
 use leaf_runs::{LeafFiles, LeafRange, leaf, refute, split};
 use leaves::Search;
-use lift::lift;
+use lift::{LiftFiles, lift};
 use model::model;
 use node_main::{Refusal, Report, Request, UsageFault, command, run_cubes};
 use showing::Showing;
@@ -160,9 +160,18 @@ fn answer<R: Runtime + AllocGlobal + Net>(
             input,
             cubes,
             leaf,
+            lidrup,
             proof,
             fragment,
-        } => lift(rt, input, cubes, leaf, proof, fragment),
+        } => {
+            let files = LiftFiles {
+                input,
+                cubes,
+                proof,
+                fragment,
+            };
+            lift(rt, &files, leaf, lidrup)
+        }
         Request::Model { input, output } => model(rt, input, output),
         Request::Trim { input, proof, out } => trim(rt, input, proof, out),
     }

@@ -4,24 +4,34 @@ ghost use Rattle.std.specs.Prelude.{◌≡◌, IfSome, IfNone, codes};
 ghost use Rattle.command_line.specs.CommandLine.{IsInRange, Makes};
 ghost use Rattle.command_line.specs.declared.request.Request.{Request};
 
-use crate::commands::leaf_words::{CUBES, LEAF, leaf_of};
-use crate::commands::words::{INPUT, file_of};
+use crate::commands::leaf_words::{CUBES, LAST_LEAF, leaf_or_none};
+use crate::commands::words::{INPUT, file_of, is_given};
 use crate::request::Request;
-use word_rules::{CommandRules, Found, Word};
+use word_rules::{CommandRules, Found, Need, Word};
 
 /// The words.
 pub(crate) const RULES: CommandRules<'static> = CommandRules {
     name: "lift",
-    about: "Makes a fragment of INPUT of a proof of the formula of a leaf",
-    after_help: "Status: 0 the fragment is written, 1 it is not, or an error",
+    about: "Makes a fragment of INPUT of a proof of the formula of a leaf, or of a text for all leaves",
+    after_help: "Status: 0 the fragment is written, 20 it closes all leaves, 1 it is not written, or an error",
     words: &[
         CUBES,
-        LEAF,
+        Word::Number {
+            name: "leaf",
+            low: 1,
+            high: LAST_LEAF,
+            need: Need::Optional,
+            help: "The leaf, by the number of its cube in that file, from 1 to 4294967295: PROOF is one of its formula",
+        },
+        Word::LongFlag {
+            name: "lidrup",
+            help: "In place of a leaf: PROOF is a LIDRUP text for all of them",
+        },
         INPUT,
         Word::File {
             name: "PROOF",
             required: true,
-            help: "A proof of the formula of the leaf, an LRAT file that is read",
+            help: "The proof, an LRAT file that is read, or a LIDRUP file",
         },
         Word::File {
             name: "FRAGMENT",
@@ -39,13 +49,14 @@ pub(crate) fn asked<'a>(given: &Found<'a>) -> Option<Request<'a>>
 {
     let input = file_of(given, "INPUT")?;
     let cubes = file_of(given, "cubes")?;
-    let leaf = leaf_of(given)?;
+    let leaf = leaf_or_none(given, "leaf")?;
     let proof = file_of(given, "PROOF")?;
     let fragment = file_of(given, "FRAGMENT")?;
     Some(Request::Lift {
         input,
         cubes,
         leaf,
+        lidrup: is_given(given, "lidrup"),
         proof,
         fragment,
     })

@@ -3,7 +3,7 @@
 ghost use Rattle.std.specs.Prelude.{◌≡◌, ◌≤◌, ℕ, List, IfOk, IfSome, IfNone, false, true};
 ghost use Rattle.std.specs.Borrow.{Bor};
 ghost use Rattle.clap.specs.Words.{Text};
-ghost use Rattle.command_line.specs.CommandLine.{IsNumber, NamesFile, NamesFiles, NamesNothing, NamesNumber, NamesNumberOr};
+ghost use Rattle.command_line.specs.CommandLine.{IsNumber, NamesFile, NamesFiles, NamesFlag, NamesNothing, NamesNumber, NamesNumberOr};
 
 use std::alloc::{AllocError, Global};
 use word_rules::{Found, Need, Word};
@@ -51,6 +51,13 @@ pub(crate) fn is_named(given: &Found, name: &str) -> bool
         Some(_) => true,
         None => false,
     }
+}
+
+/// Whether a flag is given.
+pub(crate) fn is_given(given: &Found, name: &str) -> bool
+    ensures { NamesFlag given.now.rows name.now result }
+{
+    given.flag(name)
 }
 
 /// The number in a range that the words give to an option.

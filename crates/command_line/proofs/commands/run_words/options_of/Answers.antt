@@ -6,9 +6,9 @@ use Rattle.command_line.proofs.commands.run_words.options_of.Goals as goal
 pub returns-in_err-depth-clause-none : goal.returns-in_err-depth-clause-none
 returns-in_err-depth-clause-none c =
     if_none c.from_residual-in_err-depth.result _ (λ options names.
-        let same = same_number c.args.given.now.rows (codes "workers") 1 64 2 _ _ names.workers_is c.in_ok-workers.ensures.found in
-        let usual = ap (usual_depth c.args.place) same ∙ sym c.usual_depth.ensures.depth in
-        c.in_err-depth.ensures.none options.depth (subst (λ (u : ℕ). NamesNumberOr c.args.given.now.rows (codes "depth") 0 16 u options.depth) usual names.depth_is))
+    let same = same_number c.args.given.now.rows (codes "workers") 1 64 2 _ _ names.workers_is c.in_ok-workers.ensures.found in
+    let usual = ap (usual_depth c.args.place) same ∙ sym c.usual_depth.ensures.depth in
+    c.in_err-depth.ensures.none options.depth (subst (λ (u : ℕ). NamesNumberOr c.args.given.now.rows (codes "depth") 0 16 u options.depth) usual names.depth_is))
 
 pub returns-in_err-incarnation-clause-none : goal.returns-in_err-incarnation-clause-none
 returns-in_err-incarnation-clause-none c =
