@@ -302,7 +302,8 @@ fn a_lift_of_a_leaf_or_of_all(rt: HostRuntime) -> Result<(), Fail> {
         alloc,
         "satcluster lift --lidrup --leaf 7 --cubes f.icnf f.cnf f.lidrup f.frag",
         both,
-    )
+    )?;
+    Ok(())
 }
 
 #[test]

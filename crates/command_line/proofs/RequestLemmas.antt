@@ -27,7 +27,7 @@ name_of (Drill input seed turns) = codes "drill"
 name_of (Leaf input cubes leaf) = codes "leaf"
 name_of (Refute input cubes leaf to limit fragment printing) = codes "refute"
 name_of (Join input cubes proof fragments printing) = codes "join"
-name_of (Lift input cubes leaf proof fragment) = codes "lift"
+name_of (Lift input cubes leaf lidrup proof fragment) = codes "lift"
 name_of (Model input output) = codes "model"
 name_of (Trim input proof out) = codes "trim"
 
@@ -43,7 +43,7 @@ is_named name rows (Drill input seed turns) makes = makes.0
 is_named name rows (Leaf input cubes leaf) makes = makes.0
 is_named name rows (Refute input cubes leaf to limit fragment printing) makes = makes.0
 is_named name rows (Join input cubes proof fragments printing) makes = makes.0
-is_named name rows (Lift input cubes leaf proof fragment) makes = makes.0
+is_named name rows (Lift input cubes leaf lidrup proof fragment) makes = makes.0
 is_named name rows (Model input output) makes = makes.0
 is_named name rows (Trim input proof out) makes = makes.0
 

@@ -1,4 +1,4 @@
-use Rattle.std.proofs.Common.{◌≡◌, ℕ, ◌<◌, ◌++◌, List, arith, length, subst, take}
+use Rattle.std.proofs.Common.{◌≡◌, ℕ, ◌<◌, List, arith, length, subst, sym, take}
 use Rattle.std.proofs.lemmas.List.{take_all}
 use Rattle.icnf.specs.Leaves.{Cube}
 use Rattle.leaves.specs.inner.Telling.{IsTelling}
@@ -20,6 +20,8 @@ loop-place-preserved c =
 pub returns : goal.returns
 returns c =
     let all : take c.loop-place.place c.args.self.now.tree ≡ c.args.self.now.tree = take_all c.loop-place.place c.args.self.now.tree (omega arith) in
-    reported c.args.self.now c.loop-place.text.items c.loop-place.status c.of.result
-    (subst (λ (qs : List Cube). IsTelling c.args.self.now.log qs c.loop-place.text.items c.loop-place.status) all c.loop-place.invariant)
+    let told : IsTelling c.args.self.now.log c.args.self.now.tree c.loop-place.text.items c.loop-place.status =
+    subst (λ (qs : List Cube). IsTelling c.args.self.now.log qs c.loop-place.text.items c.loop-place.status) all c.loop-place.invariant in
+    reported c.args.self.now c.deref.result.now c.loop-place.status c.of.result
+    (subst (λ (t : List ℕ). IsTelling c.args.self.now.log c.args.self.now.tree t c.loop-place.status) (sym c.deref.ensures.value) told)
     c.of.ensures.text c.of.ensures.status c.of.ensures.proof
