@@ -60,17 +60,22 @@ sweeps_on old lines i tick line d free at answer ends keeps so_far = record {
   where
     here : get_or lines i d ≡ line_at old i
     here = found_at lines i d at ∙ so_far.left i (omega arith)
+
     -- the test is that of the lines as they were
     test : is_overdue_in (get_or lines i d) tick free ≡ is_overdue_in (line_at old i) tick (list_any rests old)
     test = ap (λ (x : Option Line). is_overdue_in x tick free) here ∙ ap (λ (b : Bool). is_overdue_in (line_at old i) tick b) (answer ∙ so_far.free)
+
     gone : is_overdue_in (line_at old i) tick (list_any rests old) ≡ true → line ≡ None
     gone late = ends (test ∙ late)
+
     kept : is_overdue_in (line_at old i) tick (list_any rests old) ≡ false → line ≡ line_at old i
     kept timely = keeps (test ∙ timely) ∙ here
+
     as_free : (b : Bool) → is_overdue_in (line_at old i) tick (list_any rests old) ≡ b → rests line ≡ rests (line_at lines i)
     as_free true late =
         ap rests (gone late) ∙ sym (ap rests (so_far.left i (omega arith)) ∙ busy (line_at old i) tick (list_any rests old) late)
     as_free false timely = ap rests (kept timely ∙ sym (so_far.left i (omega arith)))
+
     ended : (place : ℕ) → place < i + 1 → is_overdue_in (line_at old place) tick (list_any rests old) ≡ true → line_at (set lines i line) place ≡ None
     ended place below late = elim (eqb_tells place i) [
       | inl same ↦
@@ -81,6 +86,7 @@ sweeps_on old lines i tick line d free at answer ends keeps so_far = record {
           let before : place < i = omega (arith, other, below) in
           line_there lines i place line other ∙ so_far.swept.ended place before late
     ]
+
     stays : (place : ℕ) → is_overdue_in (line_at old place) tick (list_any rests old) ≡ false → line_at (set lines i line) place ≡ line_at old place
     stays place timely = elim (eqb_tells place i) [
       | inl same ↦

@@ -27,7 +27,7 @@ loop-place-preserved g c =
       λ fresh. set_fresh c.loop-place.lines c.loop-place.place c.end_overdue.new.line (c.end_overdue.ensures.fresh (fresh_at c.loop-place.lines c.loop-place.place c.index-lines-place.result at (c.loop-place.invariant.7 fresh))) (c.loop-place.invariant.7 fresh),
       λ apart. apart_kept c.loop-place.lines c.loop-place.place c.end_overdue.new.line c.index-lines-place.result at c.end_overdue.ensures.seat (c.loop-place.invariant.8 apart),
       sweeps_on c.args.lines.now c.loop-place.lines c.loop-place.place c.args.tick c.end_overdue.new.line c.index-lines-place.result c.has_parked-is_other_free.result at c.has_parked-is_other_free.ensures
-      (λ late. (c.end_overdue.ensures.ended late).0) (λ timely. (c.end_overdue.ensures.stays timely).0) c.loop-place.invariant.9,
+          (λ late. (c.end_overdue.ensures.ended late).0) (λ timely. (c.end_overdue.ensures.stays timely).0) c.loop-place.invariant.9,
     )
 
 pub returns-in_err-end_overdue-clause-apart : goal.returns-in_err-end_overdue-clause-apart
