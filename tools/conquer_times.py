@@ -1,11 +1,13 @@
 #!/usr/bin/env python3
 """Times `conquer.py` against one process, and prints a row of a Markdown table for each formula.
 
-    tools/conquer_times.py [--solver NAME] [--depth D] [--jobs N] [--runs R] PATH-OF-satcluster FORMULA..
+    tools/conquer_times.py [--solver NAME] [--depth D] [--jobs N] [--runs R] [--split] PATH-OF-satcluster FORMULA..
 
 A row has the seconds by the clock of the solver on the whole formula, of `conquer.py` with one job and
-with N, of its leaves alone with N jobs, of `join` and of `check` by themselves, and the proof's size.
-Each figure is the least of R runs. `satcluster` on the whole formula is `solve --depth 0`.
+with N, of its leaves alone with one job and with N, of `join` and of `check` by themselves, and the
+proof's size. Each figure is the least of R runs, but that of the whole formula is of one; --split
+leaves it out.
+`satcluster` on the whole formula is `solve --depth 0`.
 """
 import argparse
 import os
@@ -73,16 +75,17 @@ def main():
     parser.add_argument("--depth", type=int, default=6)
     parser.add_argument("--jobs", type=int, default=4)
     parser.add_argument("--runs", type=int, default=1)
+    parser.add_argument("--split", action="store_true")
     parser.add_argument("program")
     parser.add_argument("formulas", nargs="+")
     asked = parser.parse_args()
     asked.program = os.path.abspath(asked.program)
-    print("| Formula | Unsplit | 1 job | %d jobs | Leaves | Join | Check | MB |" % asked.jobs)
-    print("|---|---|---|---|---|---|---|---|", flush=True)
+    print("| Formula | Unsplit | 1 job | its leaves | %d jobs | its leaves | Join | Check | MB |" % asked.jobs)
+    print("|---|---|---|---|---|---|---|---|---|", flush=True)
     for formula in asked.formulas:
         with tempfile.TemporaryDirectory() as folder:
-            whole = least([[unsplit(asked, formula, folder)] for _ in range(asked.runs)])
-            one = least([conquered(asked, formula, folder, 1)[:1] for _ in range(asked.runs)])
+            whole = [None if asked.split else unsplit(asked, formula, folder)]
+            one = least([conquered(asked, formula, folder, 1)[:2] for _ in range(asked.runs)])
             many = least([conquered(asked, formula, folder, asked.jobs) for _ in range(asked.runs)])
         name = os.path.basename(formula).removesuffix(".cnf")
         print("| `%s` | %s |" % (name, " | ".join(map(cell, whole + one + many))), flush=True)
