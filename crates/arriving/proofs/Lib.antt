@@ -1,5 +1,5 @@
 mod Places
 mod Polls
 mod Runs
-mod Seating
-mod Sweeping
+mod SeatLemmas
+mod SweepLemmas

@@ -8,8 +8,11 @@ mod coordinating;
 mod floor;
 mod hearing;
 mod line;
+mod parking;
 mod plan;
 mod run;
+mod seating;
+mod sweeping;
 mod telling;
 
 pub use plan::Plan;

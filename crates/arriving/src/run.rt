@@ -14,11 +14,12 @@ ghost use Rattle.arriving.specs.inner.Lines.{AreFresh};
 ghost use Rattle.arriving.specs.inner.Seats.{AreApart};
 
 use crate::coordinating::{is_decided, join_ahead, progress_of};
-use crate::floor::{
-    Desk, end_all_overdue, end_unserved, hear_all, hear_at, reach, seat_all, tell_parked, welcome,
-};
+use crate::floor::{Desk, hear_all, hear_at, reach, welcome};
 use crate::line::Line;
+use crate::parking::tell_parked;
 use crate::plan::Plan;
+use crate::seating::seat_all;
+use crate::sweeping::{end_all_overdue, end_unserved};
 use crate::telling::{At, LONGEST, Patience};
 use coordinator_core::Coordinator;
 use dimacs::Formula;
@@ -329,7 +330,7 @@ pub fn decide<A: Arrivals>(
     };
     match run.go_on(links) {
         Ok(()) => {
-            let _ = run.verdict();
+            let _ = run.verdict(); // with it comes that it is right
             Ok(run)
         }
         Err(error) => Err(error),

@@ -53,7 +53,6 @@ fn put_near(near: &mut Table, far: &Far, place: usize, slot: Slot) -> Result<(),
     ensures apart { IsApart near.new far.now }
     ensures len { length near.new ≡ length near.old }
 {
-    let _ = far;
     near.set(place, slot)
 }
 
@@ -67,7 +66,6 @@ fn replace_near(near: &mut Table, far: &Far, place: usize, slot: Slot)
     ensures apart { IsApart near.new far.now }
     ensures len { length near.new ≡ length near.old }
 {
-    let _ = far;
     near.replace(place, slot);
 }
 
@@ -79,7 +77,6 @@ fn free_near(near: &mut Table, far: &Far, place: usize)
     ensures apart { IsApart near.new far.now }
     ensures len { length near.new ≡ length near.old }
 {
-    let _ = far;
     near.free(place);
 }
 
@@ -91,7 +88,6 @@ fn put_far(near: &Table, far: &mut Far, number: u64, slot: Slot) -> Result<(), A
     ensures err { OnErr result (slots_of near.now far.new ≡ slots_of near.now far.old) }
     ensures apart { IsApart near.now far.new }
 {
-    let _ = near;
     far.insert(number, slot)?;
     Ok(())
 }
@@ -103,7 +99,6 @@ fn take_far(near: &Table, far: &mut Far, number: u64)
     ensures after { slots_of near.now far.new ≡ remove (slots_of near.now far.old) number }
     ensures apart { IsApart near.now far.new }
 {
-    let _ = near;
     far.remove(&number);
 }
 
@@ -115,7 +110,6 @@ fn replace_far(near: &Table, far: &mut Far, number: u64, slot: Slot)
     ensures after { slots_of near.now far.new ≡ insert (slots_of near.now far.old) number slot }
     ensures apart { IsApart near.now far.new }
 {
-    let _ = near;
     if let Some(old) = far.get_mut(&number) {
         *old = slot;
     }
@@ -130,7 +124,6 @@ fn make_place(near: &mut Table, far: &Far, place: usize) -> Result<(), AllocErro
     ensures here { OnOk result (place < length near.new) }
     ensures few { length near.new ≤ max (length near.old) (place + 1) }
 {
-    let _ = far;
     while near.len() <= place {
         near.grow()?;
     }

@@ -79,7 +79,7 @@ impl ClosedCluster {
     {
         // That both are within the limits.
         let _ = formula.vars();
-        let _ = tree.leaves();
+        let _ = tree.leaves(); // with it comes that the leaves are few
         Ok(ClosedCluster {
             schedule: Schedule::new(alloc, formula, tree, limit, workers, defs)?,
         })

@@ -3,8 +3,8 @@
 ghost use Rattle.std.specs.Prelude.{◌≡◌};
 ghost use Rattle.cluster.specs.OpenSchedule.{node_of};
 
+use crate::bytes::Bytes;
 use dimacs::Extension;
-use evidence::Bytes;
 
 /// An event of an open schedule. Nodes are numbered from 0.
 #[derive(Drop)]

@@ -5,6 +5,7 @@
 //! own frames alone, no reaction is a refusal.
 #![tactic(auto)]
 
+mod bytes;
 mod closed;
 mod event;
 mod laws;
@@ -13,6 +14,7 @@ mod node;
 mod open;
 mod schedule;
 
+pub use bytes::Bytes;
 pub use closed::ClosedCluster;
 pub use event::OpenEvent;
 pub use laws::verdicts_agree;

@@ -2,15 +2,13 @@
 
 ghost use Rattle.std.specs.Prelude.{◌≡◌, ◌↔◌, IsTrue, None};
 ghost use Rattle.frames.specs.declared.answer.Outcome.TheVariants.{Decided};
-ghost use Rattle.evidence.specs.Evidence.{HasWrongLength};
 ghost use Rattle.coordinator_core.specs.inner.Calls.{Stands};
 ghost use Rattle.coordinator_core.specs.Coordinator.{AnswersFirst, DeliversDone, DeliversIdle, IsAwaited, IsStale};
 ghost use Rattle.coordinator_core.specs.declared.desks.Job.{Job};
 
 use crate::coordinator::Coordinator;
 use crate::desks::Fixed;
-use dimacs::Formula;
-use evidence::Evidence;
+use evidence::{Evidence, has_wrong_length};
 use frames::{Attempt, Finding, Outcome, WorkerNumber};
 use lrat_check::Reaction;
 
@@ -24,16 +22,6 @@ pub(crate) enum Standing {
     Again,
     /// Another incarnation answered before.
     Anew,
-}
-
-/// Whether a finding is an assignment of another length than the formula has variables.
-fn has_wrong_length(formula: &Formula, finding: &Finding) -> bool
-    ensures { IsTrue result ↔ HasWrongLength formula.now finding.now }
-{
-    match finding {
-        Finding::Refuted { .. } => false,
-        Finding::Assignment { length } => *length != formula.vars(),
-    }
 }
 
 impl Coordinator {

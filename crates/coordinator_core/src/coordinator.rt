@@ -176,7 +176,7 @@ impl Coordinator {
         requires workers { (1 ≤ workers) × (workers ≤ 64) }
         ensures { IfOk result (λ c. (d : Definitions) × AreOf formula d × (d.wanted ≡ defs) × (c ≡ record (new_coordinator formula tree limit workers session) { definitions = d })) }
     {
-        let _ = formula.vars();
+        let _ = formula.vars(); // with it comes that the formula is within its limits
         let preamble = preamble_with(alloc, &formula, defs)?;
         let base = preamble.own_base(alloc, &formula)?;
         let planted = tree.copy(alloc)?;

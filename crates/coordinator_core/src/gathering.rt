@@ -228,7 +228,7 @@ impl Coordinator {
         ensures judged { (j : Job) (x : Fixed) → IsFixed self.now worker j x → Judges self.now.formula (AreValuesOf self.now.formula x.evidence.bytes) result }
         ensures formula { IsFormula self.now.formula }
     {
-        let _ = self.formula.vars();
+        let _ = self.formula.vars(); // with it comes that the formula is within its limits
         match self.job_of(worker) {
             None => Judged::NoMemory,
             Some(job) => match &job.fixed {

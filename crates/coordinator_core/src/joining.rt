@@ -101,7 +101,7 @@ fn join_next(
     ensures { (F : Cnf) (pairs : List Pair) (leaves : List LeafState) → slice_get leaves place ≡ Some Closed → IfOk front (IsFrontOfTree F pairs tree.now leaves fragments.now)
         → IfOk result (IsFrontOfTree F pairs tree.now leaves fragments.now) }
 {
-    let _ = tree.leaves();
+    let _ = tree.leaves(); // with it comes that the leaves are few
     match front {
         Ok(joining) => joining.advance(tree.cube(place), text_at(fragments, place)),
         Err(fault) => Err(fault),

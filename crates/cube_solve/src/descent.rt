@@ -41,8 +41,6 @@ fn open_level<P: Propagator>(propagator: &P, arena: &Arena, trail: &mut Trail, l
     ensures len { length trail.new.entries ≡ length trail.old.entries + 1 }
     ensures room { length trail.old.entries < trail.old.vars }
 {
-    let _ = propagator;
-    let _ = arena;
     let _len = trail.len(); // at most the number of variables, and so is the level
     let level = trail.level() + 1;
     trail.push(Assigned {

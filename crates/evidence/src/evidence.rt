@@ -1,11 +1,22 @@
 //! Evidence: the bytes that bear out an answer.
 
 ghost use Rattle.std.specs.Prelude.{◌≡◌, ◌≤◌, [], ◌++◌, ℕ, List, length, IsTrue, ◌↔◌, OnOk, OnErr};
-ghost use Rattle.evidence.specs.Evidence.{ComeNext, IsComplete, announced, with_bytes};
+ghost use Rattle.evidence.specs.Evidence.{ComeNext, HasWrongLength, IsComplete, announced, with_bytes};
 
+use dimacs::Formula;
 use frames::Finding;
 use lrat_text::PackedText;
 use std::alloc::{AllocError, Global};
+
+/// Whether an assignment is announced that has not a byte for each variable.
+pub fn has_wrong_length(formula: &Formula, finding: &Finding) -> bool
+    ensures { IsTrue result ↔ HasWrongLength formula.now finding.now }
+{
+    match finding {
+        Finding::Refuted { .. } => false,
+        Finding::Assignment { length } => *length != formula.vars(),
+    }
+}
 
 /// Evidence that comes in pieces: what was announced, and the bytes so far.
 #[derive(Drop)]

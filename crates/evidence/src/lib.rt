@@ -5,14 +5,12 @@
 //! keeps of a verdict exactly what is right for the longer formula.
 #![tactic(auto)]
 
-mod bytes;
 mod evidence;
 mod job;
 mod keeping;
 mod laws;
 
-pub use bytes::Bytes;
-pub use evidence::Evidence;
+pub use evidence::{Evidence, has_wrong_length};
 pub use job::JobName;
 pub use keeping::{Grown, grow};
 pub use laws::{rup_proofs_are_kept, what_is_kept_is_right};

@@ -147,7 +147,6 @@ fn rest_of(payload: &[u8]) -> Result<Frame, FrameFault>
     ensures decodes { Decodes Kind.Rest payload.now result }
     ensures room { result ≢ Err FrameFault.NoMemory }
 {
-    let _ = payload;
     Ok(Frame::Rest)
 }
 

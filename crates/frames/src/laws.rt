@@ -32,7 +32,7 @@ pub fn fields_are_right(frame: &Frame)
             fits_64(*session);
             fits_64(*job);
             fits_64(*limit);
-            let _ = cube.as_slice();
+            let _ = cube.as_slice(); // with it comes `IsCube`
         }
         Frame::Done { attempt, outcome } => {
             right_attempt(attempt);
@@ -49,7 +49,7 @@ pub fn fields_are_right(frame: &Frame)
         } => {
             right_attempt(attempt);
             fits_32(*offset);
-            let _ = bytes.len();
+            let _ = bytes.len(); // with it comes that they are at most 4,000
         }
         Frame::Verdict { session, finding } => {
             fits_64(*session);
@@ -62,7 +62,7 @@ pub fn fields_are_right(frame: &Frame)
         } => {
             fits_64(*session);
             fits_32(*offset);
-            let _ = worker.number();
+            let _ = worker.number(); // with it comes that it is one of 1 to 64
         }
         Frame::Part {
             session,
@@ -72,14 +72,14 @@ pub fn fields_are_right(frame: &Frame)
         } => {
             fits_64(*session);
             fits_32(*offset);
-            let _ = bytes.len();
+            let _ = bytes.len(); // with it comes that they are at most 4,000
         }
         Frame::Idle {
             worker,
             incarnation,
         } => {
             fits_64(*incarnation);
-            let _ = worker.number();
+            let _ = worker.number(); // with it comes that it is one of 1 to 64
         }
         Frame::Rest => {}
     }
@@ -91,7 +91,7 @@ fn right_attempt(attempt: &Attempt)
     fits_64(attempt.session);
     fits_64(attempt.job);
     fits_64(attempt.incarnation);
-    let _ = attempt.worker.number();
+    let _ = attempt.worker.number(); // with it comes that it is one of 1 to 64
 }
 
 fn right_finding(finding: &Finding)
@@ -119,11 +119,9 @@ fn right_outcome(outcome: &Outcome)
 fn fits_64(number: u64)
     ensures { number < 2 ^ 64 }
 {
-    let _ = number;
 }
 
 fn fits_32(number: u32)
     ensures { number < 2 ^ 32 }
 {
-    let _ = number;
 }

@@ -43,7 +43,7 @@ pub(crate) fn grow(
     ensures next { OnOk result ((h : IsPart tree.now next.old depth) → next.new ≡ next.old + length h.here) }
     ensures placed { IfOk result (λ node. ArePlaced next.old next.new node) }
 {
-    let _ = tree.leaves();
+    let _ = tree.leaves(); // with it comes that the leaves are few
     let place = *next;
     let cube = tree.cube(place);
     if cube.len() == depth {

@@ -31,7 +31,7 @@ impl Gatherer {
         requires { clauses < 2 ^ 48 }
         ensures { IfOk result (λ g. (F : Cnf) → length F.clauses ≡ clauses → Between F tree.now [] g []) }
     {
-        let _ = tree.leaves();
+        let _ = tree.leaves(); // with it comes that the leaves are few
         let mut next = 0;
         let node = grow(alloc, tree, &mut next, 0)?;
         let index = index_of(alloc, &node)?;

@@ -2,10 +2,9 @@
 
 ghost use Rattle.std.specs.Prelude.{◌≤◌, length};
 
-use cluster::{Node, OpenCluster, OpenEvent};
+use cluster::{Bytes, Node, OpenCluster, OpenEvent};
 use coordinator_core::Coordinator;
 use dimacs::{Formula, read};
-use evidence::Bytes;
 use frames::{Answer, Chunk, Finding, Frame, ProofLength, WorkerNumber, encode, len};
 use icnf::Tree;
 use lrat_check::{Reaction, Verdict};

@@ -58,7 +58,7 @@ fn named(formula: &Formula, cube: &[Lit], variable: u32) -> Option<Var>
     ensures some { IfSome result (λ v. SplitsOn formula.now cube.now (Some variable) v) }
     ensures none { IfNone result ((v : ℕ) → SplitsOn formula.now cube.now (Some variable) v → ⊥) }
 {
-    let _ = formula.vars();
+    let _ = formula.vars(); // with it comes that the formula is within its limits
     if variable > 0 && variable <= greatest_in(formula) && is_free(cube, variable) {
         Some(Var::new(variable))
     } else {

@@ -8,7 +8,6 @@ ghost use Rattle.lidrup.specs.Lidrup.{ClosesQuery, IsClosing, Negates};
 ghost use Rattle.lidrup.specs.View.{state_of};
 ghost use Rattle.lidrup.specs.inner.Acting.{Leads, LeadsToFault};
 
-use crate::fault::out_of_memory;
 use crate::known::Known;
 use crate::lines::CubeLines;
 use dimacs::{Formula, Lit, has_literal};
@@ -31,7 +30,7 @@ fn take_piece(begun: &mut LineBuffer, lines: &mut CubeLines, piece: &[u8]) -> Re
 {
     match begun.feed(piece, lines) {
         Ok(()) => Ok(()),
-        Err(PieceFault::NoMemory) => Err(out_of_memory()),
+        Err(PieceFault::NoMemory) => Err(CheckFault::no_memory()),
         Err(PieceFault::Line(fault)) => Err(fault),
     }
 }

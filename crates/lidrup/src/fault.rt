@@ -1,7 +1,6 @@
 //! Why a line is refused.
 
 ghost use Rattle.std.specs.Prelude.{◌≡◌};
-ghost use Rattle.lrat_check.specs.Checking.{no_memory};
 ghost use Rattle.lidrup.specs.inner.Faults.{line_refusal};
 ghost use Rattle.lidrup.specs.declared.fault.LineFault.TheVariants.{NoMemory};
 
@@ -40,17 +39,6 @@ impl<T: Drop> From<AllocFailed<T>> for LineFault {
     }
 }
 
-/// The fault of a growth that was refused.
-pub(crate) fn out_of_memory() -> CheckFault
-    ensures { result ≡ no_memory }
-{
-    CheckFault {
-        number: 14,
-        line: 0,
-        text: 0,
-    }
-}
-
 /// The fault of the line of this number.
 pub(crate) fn refused(fault: LineFault, line: u64) -> CheckFault
     ensures { result ≡ line_refusal fault line }
@@ -60,7 +48,7 @@ pub(crate) fn refused(fault: LineFault, line: u64) -> CheckFault
         LineFault::NumberNotRising => (2, 0),
         LineFault::UnknownClause => (3, 0),
         LineFault::OfLog(number) => (number, 0),
-        LineFault::NoMemory => return out_of_memory(),
+        LineFault::NoMemory => return CheckFault::no_memory(),
     };
     CheckFault { number, line, text }
 }

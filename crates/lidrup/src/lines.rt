@@ -8,7 +8,7 @@ ghost use Rattle.lidrup.specs.View.{state_of};
 ghost use Rattle.lidrup.specs.inner.Acting.{Acts, Stays};
 ghost use Rattle.lidrup.specs.inner.Faults.{fault_of_text};
 
-use crate::fault::{LineFault, out_of_memory, refused};
+use crate::fault::{LineFault, refused};
 use crate::kind::{Kind, StepKind, kind_of_line, spell};
 use crate::known::Known;
 use lrat_check::CheckFault;
@@ -79,7 +79,7 @@ impl TakesLines for CubeLines {
 
     fn take_line(&mut self, line: &[u8]) -> Result<(), CheckFault> {
         let Some(next) = self.line.checked_add(1) else {
-            return Err(out_of_memory());
+            return Err(CheckFault::no_memory());
         };
         if self.known.log.empty == 0 {
             match self.take(line) {

@@ -13,7 +13,8 @@ use Rattle.lrat_check.specs.declared.checking.LineChecker.{LineChecker}
 use Rattle.lrat_check.specs.inner.Lines.{Takes, Refuses}
 use Rattle.lrat_check.specs.State.{State}
 use Rattle.lrat_check.specs.Checking.{check_text, check_of, check_end, no_memory, GivesCheck}
-use Rattle.lrat_check.specs.inner.Checking.{piece_refusal, Stops}
+use Rattle.lrat_check.specs.Refusals.{piece_refusal}
+use Rattle.lrat_check.specs.inner.Checking.{Stops}
 use Rattle.lrat_check.specs.Stream.{Progress, Within, Failed, check_more, answer_in, HasTaken, TakesPiece}
 use Rattle.lrat_check.specs.inner.Stream.{LeadsTo, Reaches}
 use Rattle.lrat_check.proofs.Lines.{check_text-line, check_text-end}

@@ -5,6 +5,7 @@ pub mod Holding
 pub mod Judging
 pub mod Logs
 pub mod Numbers
+pub mod Refusals
 pub mod Soundness
 pub mod State
 pub mod Stream

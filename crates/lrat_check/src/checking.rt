@@ -2,7 +2,8 @@
 
 ghost use Rattle.std.specs.Prelude.{◌≡◌, ◌==◌, ◌⊎◌, ◌+◌, None, OnOk, IfErr, MatchResult};
 ghost use Rattle.lrat_check.specs.Checking.{no_memory, text_end};
-ghost use Rattle.lrat_check.specs.inner.Checking.{piece_refusal, text_refusal, GoesOn, Stops, step_refusal};
+ghost use Rattle.lrat_check.specs.Refusals.{piece_refusal, text_refusal};
+ghost use Rattle.lrat_check.specs.inner.Checking.{GoesOn, Stops, step_refusal};
 
 use crate::checker::Checker;
 use crate::fault::StepFault;
@@ -31,38 +32,48 @@ impl CheckFault {
     {
         self.number == 14
     }
+
+    /// Want of memory.
+    pub fn no_memory() -> CheckFault
+        ensures { result ≡ no_memory }
+    {
+        CheckFault {
+            number: 14,
+            line: 0,
+            text: 0,
+        }
+    }
+
+    /// The fault of a line that spells no step.
+    pub fn of_text(fault: TextFault, line: u64) -> CheckFault
+        ensures { result ≡ text_refusal fault line }
+    {
+        match fault {
+            TextFault::NoMemory => CheckFault::no_memory(),
+            _ => CheckFault {
+                number: 1,
+                line,
+                text: fault.number(),
+            },
+        }
+    }
+
+    /// The fault of a piece that was not taken to its end.
+    pub fn of_piece(fault: PieceFault<CheckFault>) -> CheckFault
+        ensures { result ≡ piece_refusal fault }
+    {
+        match fault {
+            PieceFault::NoMemory => CheckFault::no_memory(),
+            PieceFault::Line(fault) => fault,
+        }
+    }
 }
 
 impl From<AllocError> for CheckFault {
     ghost from_gives = { λ _ e. e ≡ no_memory };
 
     fn from(_e: AllocError) -> CheckFault {
-        out_of_memory()
-    }
-}
-
-/// The fault of a growth that was refused.
-pub(crate) fn out_of_memory() -> CheckFault
-    ensures { result ≡ no_memory }
-{
-    CheckFault {
-        number: 14,
-        line: 0,
-        text: 0,
-    }
-}
-
-/// The fault of a line that spells no step.
-pub(crate) fn text_refused(fault: TextFault, line: u64) -> CheckFault
-    ensures { result ≡ text_refusal fault line }
-{
-    match fault {
-        TextFault::NoMemory => out_of_memory(),
-        _ => CheckFault {
-            number: 1,
-            line,
-            text: fault.number(),
-        },
+        CheckFault::no_memory()
     }
 }
 
@@ -71,7 +82,7 @@ pub(crate) fn step_refused(fault: StepFault, line: u64) -> CheckFault
     ensures { result ≡ step_refusal fault line }
 {
     match fault {
-        StepFault::NoMemory => out_of_memory(),
+        StepFault::NoMemory => CheckFault::no_memory(),
         _ => CheckFault {
             number: fault.number(),
             line,
@@ -93,7 +104,7 @@ pub(crate) fn take_line(
 {
     match read_line(buffer, text) {
         Ok(()) => {}
-        Err(fault) => return Err(text_refused(fault, line)),
+        Err(fault) => return Err(CheckFault::of_text(fault, line)),
     }
     match checker.take(buffer.as_ref()) {
         Ok(()) => Ok(()),
@@ -107,7 +118,7 @@ pub(crate) fn next_line(line: u64) -> Result<u64, CheckFault>
 {
     match line.checked_add(1) {
         Some(next) => Ok(next),
-        None => Err(out_of_memory()),
+        None => Err(CheckFault::no_memory()),
     }
 }
 
@@ -143,16 +154,6 @@ impl TakesLines for LineChecker {
             }
             Err(fault) => Err(fault),
         }
-    }
-}
-
-/// The fault of a piece that was not taken to its end.
-pub(crate) fn piece_refused(fault: PieceFault<CheckFault>) -> CheckFault
-    ensures { result ≡ piece_refusal fault }
-{
-    match fault {
-        PieceFault::NoMemory => out_of_memory(),
-        PieceFault::Line(fault) => fault,
     }
 }
 

@@ -9,7 +9,7 @@ ghost use Rattle.lrat_check.specs.Checking.{GivesCheck, no_memory};
 ghost use Rattle.lrat_check.specs.Fragments.{closes, fragment_end, fragment_of};
 ghost use Rattle.lrat_check.specs.Logs.{text_from};
 
-use crate::checking::{CheckFault, finish, out_of_memory};
+use crate::checking::{CheckFault, finish};
 use crate::log_checker::LogChecker;
 use dimacs::{Base, Lit, has_literal};
 use lrat_text::{PackedLines, PackedText, StepRef, take_lines};
@@ -92,7 +92,7 @@ pub fn check_fragment(
 {
     match LogChecker::over(alloc, base) {
         Ok(mut log) => check_lines(&mut log, cube, fragment),
-        Err(_) => Err(out_of_memory()),
+        Err(_) => Err(CheckFault::no_memory()),
     }
 }
 
@@ -111,6 +111,6 @@ pub fn check_packed_fragment(
 {
     match LogChecker::over(alloc, base) {
         Ok(mut log) => check_packed_lines(alloc, &mut log, cube, fragment),
-        Err(_) => Err(out_of_memory()),
+        Err(_) => Err(CheckFault::no_memory()),
     }
 }

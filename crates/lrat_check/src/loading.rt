@@ -21,7 +21,6 @@ pub(crate) fn slots_of(
     requires { ArePlaces places.now (length literals.now) }
     ensures { IfOk result (IsFilled literals.now places.now) }
 {
-    let _ = literals;
     let mut near = Blocks::new(alloc);
     for i in 0..places.len() - 1 {
         let place = places[i] as usize;

@@ -10,7 +10,7 @@ ghost use Rattle.lrat_check.specs.Checking.{GivesCheck, no_memory};
 ghost use Rattle.lrat_check.specs.Logs.{AreBehind, CutsOff, IsBegun, KeepsFormula, RefusesLogLine, SpellsLog, StandsOver, TakesLogLine, begun, log_end, log_of, text_from};
 ghost use Rattle.lrat_check.specs.inner.LogStates.{log_refusal, state_of};
 
-use crate::checking::{CheckFault, finish, next_line, out_of_memory, step_refused, text_refused};
+use crate::checking::{CheckFault, finish, next_line, step_refused};
 use crate::log::{LogClauses, LogFault};
 use dimacs::{Base, Formula, Lit};
 use lrat_text::{StepBuffer, StepRef, TakesLines, read_line, take_lines};
@@ -48,7 +48,7 @@ fn take_line(
 {
     match read_line(buffer, text) {
         Ok(()) => {}
-        Err(fault) => return Err(text_refused(fault, line)),
+        Err(fault) => return Err(CheckFault::of_text(fault, line)),
     }
     match log.take(buffer.as_ref()) {
         Ok(()) => Ok(()),
@@ -253,6 +253,6 @@ pub fn check_log(alloc: Global, formula: &Formula, text: &[u8]) -> Result<(), Ch
 {
     match LogChecker::over(alloc, formula.as_base()) {
         Ok(mut log) => check_lines(&mut log, text),
-        Err(_) => Err(out_of_memory()),
+        Err(_) => Err(CheckFault::no_memory()),
     }
 }

@@ -101,7 +101,6 @@ fn make_place(
     ensures same { live_of literals.now near.new far.now ≡ live_of literals.now near.old far.now }
     ensures store { IsStore literals.now near.new far.now }
 {
-    let _ = literals;
     while near.len() <= place {
         near.grow()?;
     }
@@ -125,7 +124,6 @@ fn put_near(
     ensures err { OnErr result (live_of literals.now near.new far.now ≡ live_of literals.now near.old far.now) }
     ensures store { IsStore literals.now near.new far.now }
 {
-    let _ = literals;
     let old = near.get(place);
     near.set(place, slot)?;
     Ok(old)
@@ -165,8 +163,6 @@ fn put_far(
     ensures err { OnErr result (live_of literals.now near.now far.new ≡ live_of literals.now near.now far.old) }
     ensures store { IsStore literals.now near.now far.new }
 {
-    let _ = literals;
-    let _ = near;
     match far.places.get(&id) {
         Some(place) => {
             let place = *place;
@@ -190,7 +186,6 @@ fn take_near(literals: &[Lit], near: &mut Blocks, far: &Far, place: usize) -> Op
     ensures after { live_of literals.now near.new far.now ≡ remove (live_of literals.now near.old far.now) place }
     ensures store { IsStore literals.now near.new far.now }
 {
-    let _ = literals;
     let old = near.get(place);
     near.free(place);
     old
@@ -205,8 +200,6 @@ fn take_far(literals: &[Lit], near: &Blocks, far: &mut Far, id: u64) -> Option<S
     ensures after { live_of literals.now near.now far.new ≡ remove (live_of literals.now near.now far.old) id }
     ensures store { IsStore literals.now near.now far.new }
 {
-    let _ = literals;
-    let _ = near;
     match far.places.remove(&id) {
         Some(place) => {
             let old = far.slots[place].slot();
@@ -286,7 +279,6 @@ pub(crate) fn whole(slots: &[Cell]) -> &[Cell]
 pub(crate) fn is_small(literals: &[Lit], near: &Blocks, far: &Far)
     ensures { len (live_of literals.now near.now far.now) < 2 ^ 63 }
 {
-    let _ = literals;
     near.is_small();
     let _far = whole(&far.slots);
 }

@@ -9,7 +9,7 @@ ghost use Rattle.lrat_check.specs.Stream.{Within, Failed, check_more, has_failed
 ghost use Rattle.lrat_check.specs.inner.Stream.{LeadsTo};
 
 use crate::checker::Checker;
-use crate::checking::{CheckFault, LineChecker, finish, out_of_memory, piece_refused};
+use crate::checking::{CheckFault, LineChecker, finish};
 use dimacs::Formula;
 use lrat_text::{LineBuffer, StepBuffer, reading_is_spelling};
 use std::alloc::{AllocError, Global};
@@ -32,7 +32,7 @@ fn take_piece(
 {
     match begun.feed(piece, lines) {
         Ok(()) => Ok(()),
-        Err(fault) => Err(piece_refused(fault)),
+        Err(fault) => Err(CheckFault::of_piece(fault)),
     }
 }
 
@@ -128,7 +128,7 @@ fn check_all(alloc: Global, formula: &Formula, proof: &[u8]) -> Result<(), Check
     ensures { GivesCheck result (check_of formula.now proof.now) }
 {
     let Ok(mut stream) = StreamChecker::new(alloc, formula) else {
-        return Err(out_of_memory());
+        return Err(CheckFault::no_memory());
     };
     match stream.feed(proof) {
         Ok(()) => stream.finish(),
@@ -141,7 +141,7 @@ pub fn check_pieces(alloc: Global, formula: &Formula, pieces: &[Vec<u8>]) -> Res
     ensures { GivesCheck result (check_of formula.now (joined pieces.now)) }
 {
     let Ok(mut stream) = StreamChecker::new(alloc, formula) else {
-        return Err(out_of_memory());
+        return Err(CheckFault::no_memory());
     };
     for piece in pieces {
         if let Err(fault) = stream.feed(piece) {

@@ -5,8 +5,8 @@
 #![tactic(auto)]
 
 mod commands;
-mod deciding;
 mod plans;
+mod reporting;
 mod splitting;
 mod starting;
 

@@ -39,7 +39,7 @@ fn read_split(alloc: Global, formula: &Formula, cubes: &[u8]) -> Result<Split, A
     ensures splits { IfOk result (SplitsByText formula.now cubes.now) }
     ensures inside { (defs : ℕ) → IfOk result (StaysInside formula.now defs) }
 {
-    let _ = formula.vars();
+    let _ = formula.vars(); // with it comes that the formula is within its limits
     let (other, tree) = match icnf::read(alloc, cubes) {
         Ok(found) => found,
         Err(fault) if fault.kind == Kind::NoMemory => return Err(AllocError),
@@ -87,7 +87,7 @@ pub(crate) fn split_of(
     ensures splits { IfOk result (Splits formula.now (option_map (λ t. t.now) cubes.entry) depth defs) }
     ensures inside { IfOk result (StaysInside formula.now defs) }
 {
-    let _ = formula.vars();
+    let _ = formula.vars(); // with it comes that the formula is within its limits
     match cubes {
         Some(cubes) => read_split(alloc, formula, cubes),
         None => split_by_rule(alloc, formula, depth, defs),

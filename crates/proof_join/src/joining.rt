@@ -37,9 +37,9 @@ pub fn join_packed(
     // What is joined is a proof of the formula alone.
     ensures accepted { IfOk result (λ text. Accepts formula.now text) }
 {
-    let _ = tree.leaves();
-    let _ = formula.vars();
-    let _ = preamble.pairs();
+    let _ = tree.leaves(); // with it comes that the leaves are few
+    let _ = formula.vars(); // with it comes that the formula is within its limits
+    let _ = preamble.pairs(); // with it comes that they are at most 64
     match Joining::begin(alloc, formula, preamble) {
         Ok(joining) => joining.finish(formula, preamble, tree, fragments),
         Err(fault) => Err(fault),

@@ -26,7 +26,7 @@ use Rattle.lrat_check.specs.declared.checking.CheckFault.{CheckFault}
 use Rattle.lrat_check.proofs.Lines.{is_lf, first_piece, no_lf_from}
 use Rattle.proof_lift.specs.Lifting.{State, Lifted, Text, refused, is_met, behind, lifted_step, lift_step, lift_line, lift_end, lift_pieces, by_pieces, lift_text, lift_of}
 use Rattle.proof_lift.specs.Stream.{Held, Progress, Within, Failed, state_in, lift_more, answer_in, HasTaken, TakesPiece, empty_lemma, EndsWithLine, IsLastFault, IsFaultOf, IsEnded, GivesEnd}
-use Rattle.proof_lift.specs.inner.Faults.{piece_refusal}
+use Rattle.lrat_check.specs.Refusals.{piece_refusal}
 use Rattle.proof_lift.specs.inner.Lines.{LineStops, Takes, Refuses}
 use Rattle.proof_lift.specs.inner.Ready.{SameLeaf, state_of}
 use Rattle.proof_lift.specs.inner.Stream.{LeadsTo, Appends}

@@ -11,7 +11,7 @@ ghost use Rattle.proof_lift.specs.Stream.{Within, Failed, HasTaken, TakesPiece, 
 ghost use Rattle.proof_lift.specs.inner.Ready.{IsReady};
 ghost use Rattle.proof_lift.specs.inner.Stream.{LeadsTo, Appends};
 
-use crate::fault::{piece_refused, step_refused};
+use crate::fault::step_refused;
 use crate::lifting::Lifting;
 use crate::lines::LiftLines;
 use dimacs::{Formula, Lit};
@@ -39,7 +39,7 @@ fn take_piece(
     swap(&mut lines.out, out);
     match taken {
         Ok(()) => Ok(()),
-        Err(fault) => Err(piece_refused(fault)),
+        Err(fault) => Err(CheckFault::of_piece(fault)),
     }
 }
 

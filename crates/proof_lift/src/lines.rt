@@ -1,6 +1,6 @@
 //! What is handed the lines of a foreign proof, one after the other.
 
-use crate::fault::{out_of_memory, step_refused, text_refused};
+use crate::fault::step_refused;
 use crate::lifting::Lifting;
 use lrat_check::CheckFault;
 use lrat_text::{StepBuffer, TakesLines, read_line};
@@ -29,10 +29,10 @@ impl TakesLines for LiftLines {
     fn take_line(&mut self, line: &[u8]) -> Result<(), CheckFault> {
         match read_line(&mut self.buffer, line) {
             Ok(()) => {}
-            Err(fault) => return Err(text_refused(fault, self.line)),
+            Err(fault) => return Err(CheckFault::of_text(fault, self.line)),
         }
         let Some(next) = self.line.checked_add(1) else {
-            return Err(out_of_memory());
+            return Err(CheckFault::no_memory());
         };
         if !self.lifting.closed {
             match self

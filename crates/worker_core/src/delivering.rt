@@ -2,7 +2,6 @@
 
 ghost use Rattle.std.specs.Prelude.{◌≡◌, ◌<◌, length, IsTrue, ◌↔◌, OnErr, IfOk, Some};
 ghost use Rattle.evidence.specs.Events.{Delivered, Reacted};
-ghost use Rattle.evidence.specs.Evidence.{HasWrongLength};
 ghost use Rattle.evidence.specs.Jobs.{IsLater, IsInside};
 ghost use Rattle.worker_core.specs.declared.candidate.Candidate.{Candidate};
 ghost use Rattle.worker_core.specs.Worker.{DeliversTask, DeliversFetch, DeliversVerdict, DeliversPart, IsNews, WorkerStep};
@@ -12,8 +11,8 @@ use crate::collecting::{Collected, collect, is_next, judge};
 use crate::work::Work;
 use crate::worker::Worker;
 use cube_split::base_or;
-use dimacs::{Base, Formula, Lit};
-use evidence::{Evidence, JobName};
+use dimacs::{Base, Lit};
+use evidence::{Evidence, JobName, has_wrong_length};
 use frames::{Answer, Attempt, Chunk, Cube, Finding, Frame};
 use lrat_check::{Reaction, Verdict};
 use std::alloc::{AllocError, Global};
@@ -105,7 +104,7 @@ impl Worker {
         if !self.is_news(session) {
             return Reaction::Ignored;
         }
-        if has_wrong_length(&self.formula, finding) {
+        if has_wrong_length(&self.formula, &finding) {
             return Reaction::Refused(2);
         }
         let candidate = Candidate {
@@ -228,15 +227,5 @@ fn copy_of(alloc: Global, cube: &Cube) -> Result<Cube, AllocError>
     match cube.copy(alloc) {
         Ok(copy) => Ok(copy),
         Err(refused) => Err(refused),
-    }
-}
-
-/// Whether an assignment is announced that has not a byte for each variable.
-fn has_wrong_length(formula: &Formula, finding: Finding) -> bool
-    ensures { IsTrue result ↔ HasWrongLength formula.now finding }
-{
-    match finding {
-        Finding::Refuted { .. } => false,
-        Finding::Assignment { length } => length != formula.vars(),
     }
 }

@@ -14,8 +14,8 @@ ghost use Rattle.node_main.specs.Solving.{Solves};
 ghost use Rattle.node_main.specs.Starting.{IsStart, Starts};
 ghost use Rattle.node_main.specs.Truth.{IsTrueReport};
 
-use crate::deciding::reported;
 use crate::plans::service_plan;
+use crate::reporting::reported;
 use crate::starting::{Start, begin};
 use arriving::Run;
 use command_line::Options;

@@ -82,7 +82,7 @@ fn drill_formula(
 ) -> Result<Report, AllocError>
     ensures { IfOk result (DrillsFormula formula.now seed turns) }
 {
-    let _ = formula.vars();
+    let _ = formula.vars(); // with it comes that the formula is within its limits
     let tree = tree(alloc, formula, DEPTH)?;
     let mut cluster = ClosedCluster::new(alloc, formula, tree, LIMIT, WORKERS)?;
     let words = draw(alloc, seed, turns)?;

@@ -8,8 +8,8 @@ ghost use Rattle.node_main.specs.Solving.{Solves};
 ghost use Rattle.node_main.specs.Starting.{IsStart, Starts};
 ghost use Rattle.node_main.specs.Truth.{IsTrueReport};
 
-use crate::deciding::decided;
 use crate::plans::coordinator_plan;
+use crate::reporting::decided;
 use crate::starting::{Start, begin};
 use command_line::Options;
 use links::Links;

@@ -8,8 +8,8 @@ ghost use Rattle.node_main.specs.Running.{WasRun};
 ghost use Rattle.node_main.specs.Solving.{Works};
 ghost use Rattle.node_main.specs.Truth.{IsTrueReport};
 
-use crate::deciding::decided;
 use crate::plans::worker_plan;
+use crate::reporting::decided;
 use crate::starting::refused_input;
 use command_line::Options;
 use dimacs::{DimacsFault, Formula, Kind};

@@ -1,6 +1,6 @@
 use Rattle.std.proofs.Common.{rules, ◌∙◌, ◌<◌, length}
 use Rattle.arriving.proofs.Places.{same_at}
-use Rattle.arriving.proofs.Seating.{apart_kept}
+use Rattle.arriving.proofs.SeatLemmas.{apart_kept}
 use Rattle.arriving.proofs.floor.hear_all.Goals as goal
 
 pub loop-place-preserved : goal.loop-place-preserved

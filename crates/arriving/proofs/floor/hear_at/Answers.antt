@@ -1,6 +1,6 @@
 use Rattle.std.proofs.Common.{rules, ◌<◌, length}
 use Rattle.arriving.proofs.Places.{turned_once}
-use Rattle.arriving.proofs.Seating.{apart_kept}
+use Rattle.arriving.proofs.SeatLemmas.{apart_kept}
 use Rattle.arriving.proofs.floor.hear_at.Goals as goal
 
 pub returns-clause-each : goal.returns-clause-each

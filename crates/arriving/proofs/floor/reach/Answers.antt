@@ -1,6 +1,6 @@
 use Rattle.std.proofs.Common.{rules, ◌≡◌, ◌∙◌, ◌++◌, ◌∷◌, [], None}
 use Rattle.arriving.proofs.Places.{pushed, pushed_fresh}
-use Rattle.arriving.proofs.Seating.{apart_pushed}
+use Rattle.arriving.proofs.SeatLemmas.{apart_pushed}
 use Rattle.arriving.proofs.floor.reach.Goals as goal
 
 pub loop-preserved : goal.loop-preserved

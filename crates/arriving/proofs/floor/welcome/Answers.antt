@@ -1,6 +1,6 @@
 use Rattle.std.proofs.Common.{rules, ◌<◌, length, None, Some}
 use Rattle.arriving.proofs.Places.{opened, set_fresh}
-use Rattle.arriving.proofs.Seating.{apart_kept, none_sits}
+use Rattle.arriving.proofs.SeatLemmas.{apart_kept, none_sits}
 use Rattle.arriving.proofs.floor.welcome.Goals as goal
 
 pub returns-clause-opens : goal.returns-clause-opens

@@ -2,7 +2,7 @@ use Rattle.proof_lift.specs.View.{held_of}
 use Rattle.std.proofs.Common.{◌≡◌, ◌⊎◌, ℕ, List, sym, subst}
 use Rattle.lrat_check.specs.Checking.{no_memory}
 use Rattle.lrat_check.specs.declared.checking.CheckFault.{CheckFault}
-use Rattle.proof_lift.specs.inner.Faults.{piece_refusal}
+use Rattle.lrat_check.specs.Refusals.{piece_refusal}
 use Rattle.proof_lift.specs.Stream.{Within, Failed}
 use Rattle.proof_lift.specs.inner.Stream.{LeadsTo, Appends}
 use Rattle.proof_lift.proofs.StreamLemmas.{hands_write, stops_write}
@@ -22,7 +22,7 @@ returns-in-Err-clause-stopped c =
     let t = c.feed-taken.new.taker in
     let old = c.args.lines.now in
     let P = λ (fault : CheckFault) (appended : List ℕ). (fault ≡ no_memory) ⊎ LeadsTo (Within (held_of old.lifting) old.line c.args.begun.now) c.args.piece.now appended (Failed fault) in
-    subst (λ f. Appends c.args.out.now.items c.swap-2.new.y.items (P f)) (sym c.piece_refused.ensures)
+    subst (λ f. Appends c.args.out.now.items c.swap-2.new.y.items (P f)) (sym c.of_piece.ensures)
     (subst (λ v. Appends v.items c.swap-2.new.y.items (P (piece_refusal c.in-Err.fault))) c.swap.ensures.x_after
     (subst (λ v. Appends c.swap.new.x.items v.items (P (piece_refusal c.in-Err.fault))) (sym c.swap-2.ensures.y_after)
     (stops_write (record old { out = c.swap.new.x }) c.args.begun.now c.args.piece.now t c.in-Err.fault c.in-Err.ensures.taken)))

@@ -1,8 +1,8 @@
 use Rattle.std.proofs.Common.{rules, ◌<◌, ◌≤◌, length}
 use Rattle.arriving.specs.inner.Deliveries.{AreServed}
 use Rattle.arriving.proofs.Places.{turned}
-use Rattle.arriving.proofs.Seating.{apart_kept, nobody_at_end, nobody_beyond, not_parked, rests_here, rests_on, still_parked}
-use Rattle.arriving.proofs.floor.tell_parked.Goals as goal
+use Rattle.arriving.proofs.SeatLemmas.{apart_kept, nobody_at_end, nobody_beyond, not_parked, rests_here, rests_on, still_parked}
+use Rattle.arriving.proofs.parking.tell_parked.Goals as goal
 
 pub returns-in_err-tell_if_parked-clause-each : goal.returns-in_err-tell_if_parked-clause-each
 returns-in_err-tell_if_parked-clause-each g c =

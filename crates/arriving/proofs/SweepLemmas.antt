@@ -9,7 +9,7 @@ use Rattle.arriving.specs.declared.line.Standing.{Standing}
 use Rattle.arriving.specs.declared.line.Standing.TheVariants.{Ungreeted, Queued, Parked, Asked, Working}
 use Rattle.arriving.specs.inner.Quiet.{AreSwept, is_overdue_in, is_past, rests, ticks_by}
 use Rattle.arriving.specs.inner.Seats.{line_at, parked_by}
-use Rattle.arriving.proofs.Seating.{found_at, line_beyond, line_here, line_there}
+use Rattle.arriving.proofs.SeatLemmas.{found_at, line_beyond, line_here, line_there}
 use Rattle.std.specs.Prelude.{is_some}
 
 -- who is overdue is not free

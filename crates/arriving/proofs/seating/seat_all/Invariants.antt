@@ -2,7 +2,7 @@ use Rattle.std.proofs.Common.{◌≡◌, ◌≤◌, ℕ, ◌+◌, ◌*◌}
 use Rattle.arriving.specs.Accounts.{open_at}
 use Rattle.arriving.specs.inner.Lines.{AreFresh}
 use Rattle.arriving.specs.inner.Seats.{AreApart}
-use Rattle.arriving.proofs.floor.seat_all.Given as goal
+use Rattle.arriving.proofs.seating.seat_all.Given as goal
 
 abbrev pub invariant-loop-place : goal.invariant-loop-place
 invariant-loop-place g l =

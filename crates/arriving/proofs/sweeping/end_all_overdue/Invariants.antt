@@ -1,7 +1,9 @@
 use Rattle.std.proofs.Common.{◌≡◌, ◌≤◌, ℕ, ◌+◌, ◌*◌}
 use Rattle.arriving.specs.Accounts.{open_at}
+use Rattle.arriving.specs.inner.Lines.{AreFresh}
 use Rattle.arriving.specs.inner.Seats.{AreApart}
-use Rattle.arriving.proofs.floor.end_unserved.Given as goal
+use Rattle.arriving.proofs.SweepLemmas.{IsSweeping}
+use Rattle.arriving.proofs.sweeping.end_all_overdue.Given as goal
 
 abbrev pub invariant-loop-place : goal.invariant-loop-place
 invariant-loop-place g l =
@@ -12,4 +14,6 @@ invariant-loop-place g l =
     × ((p : ℕ) → g.A.Arrivals.link_count l.links p ≡ g.A.Arrivals.link_count l.fn.links p)
     × ((p : ℕ) → g.A.Arrivals.refusal_count l.links p + open_at l.lines p ≤ g.A.Arrivals.refusal_count l.fn.links p + open_at l.fn.lines p)
     × (l.desk.coordinator.verdict ≡ l.fn.desk.coordinator.verdict)
+    × (AreFresh l.fn.lines → AreFresh l.lines)
     × (AreApart l.fn.lines → AreApart l.lines)
+    × IsSweeping l.place l.fn.lines l.lines l.tick

@@ -1,7 +1,7 @@
 use Rattle.std.proofs.Common.{rules, ◌∙◌, ◌<◌, length}
 use Rattle.arriving.proofs.Places.{turned, fresh_at, set_fresh}
-use Rattle.arriving.proofs.Seating.{apart_seated}
-use Rattle.arriving.proofs.floor.seat_all.Goals as goal
+use Rattle.arriving.proofs.SeatLemmas.{apart_seated}
+use Rattle.arriving.proofs.seating.seat_all.Goals as goal
 
 pub returns-in_err-seat_one-clause-each : goal.returns-in_err-seat_one-clause-each
 returns-in_err-seat_one-clause-each g c =

@@ -1,7 +1,7 @@
 use Rattle.std.proofs.Common.{rules, ◌<◌, length}
 use Rattle.arriving.proofs.Places.{turned}
-use Rattle.arriving.proofs.Seating.{apart_kept}
-use Rattle.arriving.proofs.floor.end_unserved.Goals as goal
+use Rattle.arriving.proofs.SeatLemmas.{apart_kept}
+use Rattle.arriving.proofs.sweeping.end_unserved.Goals as goal
 
 pub loop-place-preserved : goal.loop-place-preserved
 loop-place-preserved g c =

@@ -1,8 +1,8 @@
 use Rattle.std.proofs.Common.{rules, ◌<◌, ◌≤◌, length, refl}
 use Rattle.arriving.proofs.Places.{turned, fresh_at, set_fresh}
-use Rattle.arriving.proofs.Seating.{apart_kept}
-use Rattle.arriving.proofs.Sweeping.{sweeps_none, sweeps_on, swept_at_end, swept_beyond}
-use Rattle.arriving.proofs.floor.end_all_overdue.Goals as goal
+use Rattle.arriving.proofs.SeatLemmas.{apart_kept}
+use Rattle.arriving.proofs.SweepLemmas.{sweeps_none, sweeps_on, swept_at_end, swept_beyond}
+use Rattle.arriving.proofs.sweeping.end_all_overdue.Goals as goal
 
 pub returns-in_err-end_overdue-clause-each : goal.returns-in_err-end_overdue-clause-each
 returns-in_err-end_overdue-clause-each g c =

@@ -1,7 +1,7 @@
 use Rattle.std.proofs.Common.{ap}
 use Rattle.arriving.specs.declared.floor.Desk.{Desk}
-use Rattle.arriving.proofs.Seating.{served}
-use Rattle.arriving.proofs.floor.tell_one.Goals as goal
+use Rattle.arriving.proofs.SeatLemmas.{served}
+use Rattle.arriving.proofs.parking.tell_one.Goals as goal
 
 pub returns-clause-parked : goal.returns-clause-parked
 returns-clause-parked g c =
