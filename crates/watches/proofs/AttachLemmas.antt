@@ -13,11 +13,12 @@ use Rattle.watches.specs.inner.Scanning.{IsHere}
 use Rattle.watches.specs.declared.watched.places.Place.{Place}
 use Rattle.watches.specs.inner.Chains.{literal_at, next_of, twin, IsIn, IsOnce, IsChain, AreChains, AppendsTwo}
 use Rattle.watches.specs.inner.Ready.{AreNamed}
-use Rattle.watches.specs.inner.Watching.{owner, no_clause, IsGuarded, IsKept, IsLong, IsSettled, IsWatching}
+use Rattle.watches.specs.inner.Watching.{owner, no_clause, IsGuarded, IsKept, IsLong, IsSettled, IsWatching, AreWatching}
 use Rattle.watches.proofs.ChainLemmas.{chain_kept, chain_from}
 use Rattle.watches.proofs.TwinLemmas.{twins_of, twin_even, twin_odd}
 use Rattle.watches.proofs.SwapLemmas.{apart_at}
 use Rattle.watches.proofs.WakeLemmas.{index_high}
+use Rattle.watches.specs.Ready.{Watches}
 
 -- one clause more, of another number
 pub named_push : (clauses : List Ref) (at : Ref) → AreNamed clauses → ((i : ℕ) → i < length clauses → (get_or clauses i no_clause).number ≢ at.number) → AreNamed (clauses ++ at ∷ [])
@@ -47,19 +48,22 @@ pub record Appends (old new : List Place) (C : Clause) : Type 0 where
 pub appends : (old new : List Place) (C : Clause) (a b : Literal) → AppendsTwo old new a b → ((d : Literal) → 2 ≤ length C → (a ≡ get_or C 0 d) × (b ≡ get_or C 1 d)) → Appends old new C
 appends old new C a b h g = record { long = h.long; first = h.first; second = h.second; third = h.third; others = h.others; literals = h.literals; one = λ d l. h.literal_one ∙ (g d l).0; two = λ d l. h.literal_two ∙ (g d l).1 }
 
-module _ (xs ys : List Place) (clauses : List Ref) (base head : ℕ) (m : Clauses) (t : TrailValue) (paths : ℕ → List ℕ) (w : IsWatching xs clauses base head m t paths)
-    (whole : length xs ≡ base + 2 * length clauses) (at : Ref) (C : Clause) (st : Stands m at C) (within : All (IsWithin t.vars) C) (differ : IsDistinct same C)
-    (fresh : (i : ℕ) → i < length clauses → (get_or clauses i no_clause).number ≢ at.number) (a : Appends xs ys C) where
-  abbrev with_two : ℕ → List ℕ
-  with_two k = cond (eqb k 0) (length xs ∷ (length xs + 1) ∷ paths 0) (paths k)
+module _ (W : Watches) (ys : List Place) (m : Clauses) (t : TrailValue) (paths : ℕ → List ℕ) (w : IsWatching W m t paths)
+    (whole : length W.places ≡ W.base + 2 * length W.clauses) (at : Ref) (C : Clause) (st : Stands m at C) (within : All (IsWithin t.vars) C) (differ : IsDistinct same C)
+    (fresh : (i : ℕ) → i < length W.clauses → (get_or W.clauses i no_clause).number ≢ at.number) (a : Appends W.places ys C) where
+  abbrev more : Watches
+  more = record W { places = ys; clauses = W.clauses ++ at ∷ [] }
 
-  at_zero : with_two 0 ≡ length xs ∷ (length xs + 1) ∷ paths 0
+  abbrev with_two : ℕ → List ℕ
+  with_two k = cond (eqb k 0) (length W.places ∷ (length W.places + 1) ∷ paths 0) (paths k)
+
+  at_zero : with_two 0 ≡ length W.places ∷ (length W.places + 1) ∷ paths 0
   at_zero = refl
 
   elsewhere_same : (k : ℕ) → k ≢ 0 → with_two k ≡ paths k
-  elsewhere_same k n = ap (λ b. cond b (length xs ∷ (length xs + 1) ∷ paths 0) (paths k)) (ne_eqb k 0 n)
+  elsewhere_same k n = ap (λ b. cond b (length W.places ∷ (length W.places + 1) ∷ paths 0) (paths k)) (ne_eqb k 0 n)
 
-  high : 0 < base
+  high : 0 < W.base
   high = let b = w.wide in omega arith
 
   still : (q k : ℕ) → IsIn q (paths k) → IsIn q (with_two k)
@@ -68,7 +72,7 @@ module _ (xs ys : List Place) (clauses : List Ref) (base head : ℕ) (m : Clause
     | inr n ↦ subst (IsIn q) (sym (elsewhere_same k n)) h
   ]
 
-  was : (q k : ℕ) → IsIn q (with_two k) → ((k ≡ 0) × ((q ≡ length xs) ⊎ (q ≡ length xs + 1))) ⊎ IsIn q (paths k)
+  was : (q k : ℕ) → IsIn q (with_two k) → ((k ≡ 0) × ((q ≡ length W.places) ⊎ (q ≡ length W.places + 1))) ⊎ IsIn q (paths k)
   was q k h = elim (cases_eq k 0) [
     | inl e ↦ elim (subst (λ j. IsIn q (with_two j)) e h) [
       | inl x ↦ inl (e, inl x)
@@ -77,23 +81,23 @@ module _ (xs ys : List Place) (clauses : List Ref) (base head : ℕ) (m : Clause
     | inr n ↦ inr (subst (IsIn q) (elsewhere_same k n) h)
   ]
 
-  old_low : (q k : ℕ) → IsIn q (paths k) → (base ≤ q) × (q < length xs)
+  old_low : (q k : ℕ) → IsIn q (paths k) → (W.base ≤ q) × (q < length W.places)
   old_low q k h = w.chains.real k q h
 
   once : (k : ℕ) → IsOnce (with_two k)
   once k = elim (cases_eq k 0) [
     | inl e ↦ subst (λ j. IsOnce (with_two j)) (sym e) (
-      (λ h. elim h [ inl x ↦ omega (arith, x) | inr y ↦ let b = old_low (length xs) 0 y in omega (arith, b.1) ]),
-      ((λ h. let b = old_low (length xs + 1) 0 h in omega (arith, b.1)), w.chains.once 0),
+      (λ h. elim h [ inl x ↦ omega (arith, x) | inr y ↦ let b = old_low (length W.places) 0 y in omega (arith, b.1) ]),
+      ((λ h. let b = old_low (length W.places + 1) 0 h in omega (arith, b.1)), w.chains.once 0),
     )
     | inr n ↦ subst IsOnce (sym (elsewhere_same k n)) (w.chains.once k)
   ]
 
-  new_only : (q k : ℕ) → length xs ≤ q → IsIn q (with_two k) → k ≡ 0
+  new_only : (q k : ℕ) → length W.places ≤ q → IsIn q (with_two k) → k ≡ 0
   new_only q k l h = elim (was q k h) [ inl x ↦ x.0 | inr y ↦ absurd (let b = old_low q k y in omega (arith, b.1)) ]
 
   apart_chains : (k j q : ℕ) → IsIn q (with_two k) → IsIn q (with_two j) → k ≡ j
-  apart_chains k j q h i = elim (cases_lt q (length xs)) [
+  apart_chains k j q h i = elim (cases_lt q (length W.places)) [
     | inl l ↦ elim (was q k h) [
       | inl x ↦ absurd (elim x.1 [ inl y ↦ omega (arith, y) | inr y ↦ omega (arith, y) ])
       | inr x ↦ elim (was q j i) [
@@ -104,16 +108,16 @@ module _ (xs ys : List Place) (clauses : List Ref) (base head : ℕ) (m : Clause
     | inr l ↦ new_only q k l h ∙ sym (new_only q j l i)
   ]
 
-  kept_next : (q k : ℕ) → IsIn q (paths k) → next_of ys q ≡ next_of xs q
+  kept_next : (q k : ℕ) → IsIn q (paths k) → next_of ys q ≡ next_of W.places q
   kept_next q k h = let b = old_low q k h in let c = high in a.others q (λ e. omega (arith, b.0)) b.1
 
-  chain : (k : ℕ) → k < base → IsChain ys k (with_two k)
+  chain : (k : ℕ) → k < W.base → IsChain ys k (with_two k)
   chain k b = elim (cases_eq k 0) [
-    | inl e ↦ subst (λ j. IsChain ys j (with_two j)) (sym e) (a.first, (a.second, chain_from xs ys 0 (length xs + 1) (paths 0) a.third (λ q i. kept_next q 0 i) (w.chains.chain 0 high)))
-    | inr n ↦ subst (IsChain ys k) (sym (elsewhere_same k n)) (chain_kept xs ys k (paths k) (a.others k n (let c = w.low in omega arith)) (λ q i. kept_next q k i) (w.chains.chain k b))
+    | inl e ↦ subst (λ j. IsChain ys j (with_two j)) (sym e) (a.first, (a.second, chain_from W.places ys 0 (length W.places + 1) (paths 0) a.third (λ q i. kept_next q 0 i) (w.chains.chain 0 high)))
+    | inr n ↦ subst (IsChain ys k) (sym (elsewhere_same k n)) (chain_kept W.places ys k (paths k) (a.others k n (let c = w.low in omega arith)) (λ q i. kept_next q k i) (w.chains.chain k b))
   ]
 
-  chains : AreChains ys base with_two
+  chains : AreChains ys W.base with_two
   chains = record {
     chain = chain;
     once = once;
@@ -125,31 +129,31 @@ module _ (xs ys : List Place) (clauses : List Ref) (base head : ℕ) (m : Clause
   }
 
   -- ---- owners
-  owner_old : (q : ℕ) → base ≤ q → q < length xs → owner (clauses ++ at ∷ []) base q ≡ owner clauses base q
-  owner_old q b l = let d = w.even in let e = w.paired in get_or_append_left clauses (at ∷ []) no_clause ((q - base) / 2) (omega arith)
+  owner_old : (q : ℕ) → W.base ≤ q → q < length W.places → owner more q ≡ owner W q
+  owner_old q b l = let d = w.even in let e = w.paired in get_or_append_left W.clauses (at ∷ []) no_clause ((q - W.base) / 2) (omega arith)
 
-  owner_new : (q : ℕ) → (q ≡ length xs) ⊎ (q ≡ length xs + 1) → owner (clauses ++ at ∷ []) base q ≡ at
+  owner_new : (q : ℕ) → (q ≡ length W.places) ⊎ (q ≡ length W.places + 1) → owner more q ≡ at
   owner_new q h =
-      let half : length clauses ≡ (q - base) / 2 = elim h [ inl e ↦ omega (arith, e) | inr e ↦ omega (arith, e) ] in
-      get_or_push clauses at no_clause ((q - base) / 2) half
+      let half : length W.clauses ≡ (q - W.base) / 2 = elim h [ inl e ↦ omega (arith, e) | inr e ↦ omega (arith, e) ] in
+      get_or_push W.clauses at no_clause ((q - W.base) / 2) half
 
   -- a place is an old one, or one of the two
-  which : (q : ℕ) → IsLong ys (clauses ++ at ∷ []) base q → IsLong xs clauses base q ⊎ ((q ≡ length xs) ⊎ (q ≡ length xs + 1))
-  which q h = elim (cases_lt q (length xs)) [
+  which : (q : ℕ) → IsLong more q → IsLong W q ⊎ ((q ≡ length W.places) ⊎ (q ≡ length W.places + 1))
+  which q h = elim (cases_lt q (length W.places)) [
     | inl l ↦ inl (h.0, l, subst (λ (o : Ref). 2 ≤ o.len) (owner_old q h.0 l) h.2)
-    | inr g ↦ inr (elim (cases_eq q (length xs)) [ inl e ↦ inl e | inr n ↦ inr (let l = a.long in let b = h.1 in omega arith) ])
+    | inr g ↦ inr (elim (cases_eq q (length W.places)) [ inl e ↦ inl e | inr n ↦ inr (let l = a.long in let b = h.1 in omega arith) ])
   ]
 
-  long_on : (q : ℕ) → IsLong xs clauses base q → IsLong ys (clauses ++ at ∷ []) base q
+  long_on : (q : ℕ) → IsLong W q → IsLong more q
   long_on q h = (h.0, omega (arith, h.1, a.long), subst (λ (o : Ref). 2 ≤ o.len) (sym (owner_old q h.0 h.1)) h.2)
 
-  new_long : (q : ℕ) → (q ≡ length xs) ⊎ (q ≡ length xs + 1) → IsLong ys (clauses ++ at ∷ []) base q → 2 ≤ length C
+  new_long : (q : ℕ) → (q ≡ length W.places) ⊎ (q ≡ length W.places + 1) → IsLong more q → 2 ≤ length C
   new_long q e h = let b : 2 ≤ at.len = subst (λ (o : Ref). 2 ≤ o.len) (owner_new q e) h.2 in omega (arith, st.1)
 
-  even_p : length xs % 2 ≡ 0
+  even_p : length W.places % 2 ≡ 0
   even_p = w.paired
 
-  front : (q : ℕ) (D : Clause) (d : Literal) → IsLong ys (clauses ++ at ∷ []) base q → Stands m (owner (clauses ++ at ∷ []) base q) D → literal_at ys q ≡ get_or D (q % 2) d
+  front : (q : ℕ) (D : Clause) (d : Literal) → IsLong more q → Stands m (owner more q) D → literal_at ys q ≡ get_or D (q % 2) d
   front q D d h s = elim (which q h) [
     | inl o ↦ a.literals q o.1 ∙ w.front q D d o (subst (λ r. Stands m r D) (owner_old q o.0 o.1) s)
     | inr e ↦
@@ -162,19 +166,19 @@ module _ (xs ys : List Place) (clauses : List Ref) (base head : ℕ) (m : Clause
         ]
   ]
 
-  twin_first : twin (length xs) ≡ length xs + 1
-  twin_first = twin_even (length xs) even_p
+  twin_first : twin (length W.places) ≡ length W.places + 1
+  twin_first = twin_even (length W.places) even_p
 
-  twin_second : twin (length xs + 1) ≡ length xs
-  twin_second = let z = even_p in let o = twin_odd (length xs + 1) (omega arith) in omega arith
+  twin_second : twin (length W.places + 1) ≡ length W.places
+  twin_second = let z = even_p in let o = twin_odd (length W.places + 1) (omega arith) in omega arith
 
-  pair_apart : 2 ≤ length C → literal_at ys (length xs) ≢ literal_at ys (length xs + 1)
+  pair_apart : 2 ≤ length C → literal_at ys (length W.places) ≢ literal_at ys (length W.places + 1)
   pair_apart l e = let d = literal_at ys 0 in apart_at C 0 1 d differ (omega arith) (omega arith) (λ x. omega arith) (sym (a.one d l) ∙ e ∙ a.two d l)
 
-  old_twin : (q : ℕ) → q < length xs → twin q < length xs
+  old_twin : (q : ℕ) → q < length W.places → twin q < length W.places
   old_twin q l = let s = (twins_of q).sides in let h = (twins_of q).halves in let z = even_p in omega arith
 
-  apart : (q : ℕ) → IsLong ys (clauses ++ at ∷ []) base q → literal_at ys q ≢ literal_at ys (twin q)
+  apart : (q : ℕ) → IsLong more q → literal_at ys q ≢ literal_at ys (twin q)
   apart q h = elim (which q h) [
     | inl o ↦ λ g. w.apart q o (sym (a.literals q o.1) ∙ g ∙ a.literals (twin q) (old_twin q o.1))
     | inr e ↦
@@ -185,48 +189,48 @@ module _ (xs ys : List Place) (clauses : List Ref) (base head : ℕ) (m : Clause
         ]
   ]
 
-  home : (v : Literal) (q : ℕ) → IsWithin t.vars v → IsIn q (with_two (index_of v)) → (literal_at ys q ≡ v) × IsLong ys (clauses ++ at ∷ []) base q
+  home : (v : Literal) (q : ℕ) → IsWithin t.vars v → IsIn q (with_two (index_of v)) → (literal_at ys q ≡ v) × IsLong more q
   home v q b h = elim (was q (index_of v) h) [
     | inl x ↦ absurd (let i = index_high t.vars v b in omega (arith, x.0))
     | inr y ↦ let o = w.home v q b y in (a.literals q o.1.1 ∙ o.0, long_on q o.1)
   ]
 
-  kept : (q : ℕ) → IsLong ys (clauses ++ at ∷ []) base q → IsKept ys t.entries head with_two q
+  kept : (q : ℕ) → IsLong more q → IsKept ys t.entries W.head with_two q
   kept q h = elim (which q h) [
     | inl o ↦ elim (w.kept q o) [
       | inl i ↦ inl (still q 0 i)
       | inr i ↦ inr (
-        subst (λ l. IsIn q (with_two (index_of l))) (sym (a.literals q o.1)) (still q (index_of (literal_at xs q)) i.0),
-        subst (λ l. IsGuarded t.entries head l (literal_at ys (twin q))) (sym (a.literals q o.1)) (subst (IsGuarded t.entries head (literal_at xs q)) (sym (a.literals (twin q) (old_twin q o.1))) i.1),
+        subst (λ l. IsIn q (with_two (index_of l))) (sym (a.literals q o.1)) (still q (index_of (literal_at W.places q)) i.0),
+        subst (λ l. IsGuarded t.entries W.head l (literal_at ys (twin q))) (sym (a.literals q o.1)) (subst (IsGuarded t.entries W.head (literal_at W.places q)) (sym (a.literals (twin q) (old_twin q o.1))) i.1),
       )
     ]
     | inr e ↦ inl (elim e [ inl x ↦ inl x | inr x ↦ inr (inl x) ])
   ]
 
-  short : (i : ℕ) → base + 2 * i < length ys → (get_or (clauses ++ at ∷ []) i no_clause).len < 2 → IsIn (base + 2 * i) (with_two 0) ⊎ IsSettled m t.entries (get_or (clauses ++ at ∷ []) i no_clause)
-  short i b s = elim (cases_lt i (length clauses)) [
+  short : (i : ℕ) → W.base + 2 * i < length ys → (get_or (W.clauses ++ at ∷ []) i no_clause).len < 2 → IsIn (W.base + 2 * i) (with_two 0) ⊎ IsSettled m t.entries (get_or (W.clauses ++ at ∷ []) i no_clause)
+  short i b s = elim (cases_lt i (length W.clauses)) [
     | inl l ↦
-        let e = get_or_append_left clauses (at ∷ []) no_clause i l in
+        let e = get_or_append_left W.clauses (at ∷ []) no_clause i l in
         elim (w.short i (omega arith) (subst (λ (o : Ref). o.len < 2) e s)) [
-          | inl h ↦ inl (still (base + 2 * i) 0 h)
+          | inl h ↦ inl (still (W.base + 2 * i) 0 h)
           | inr h ↦ inr (subst (IsSettled m t.entries) (sym e) h)
         ]
     | inr g ↦ inl (inl (let l = a.long in omega arith))
   ]
 
-  named : AreNamed (clauses ++ at ∷ [])
-  named = named_push clauses at w.named fresh
+  named : AreNamed (W.clauses ++ at ∷ [])
+  named = named_push W.clauses at w.named fresh
 
-  pub attached : IsWatching ys (clauses ++ at ∷ []) base head m t with_two
+  pub attached : IsWatching more m t with_two
   attached = record {
     chains = chains;
     wide = w.wide;
     even = w.even;
     low = let l = a.long in let c = w.low in omega arith;
     paired = let l = a.long in let z = w.paired in omega arith;
-    partly = let l = a.long in let n = length-append clauses (at ∷ []) in omega arith;
+    partly = let l = a.long in let n = length-append W.clauses (at ∷ []) in omega arith;
     named = named;
-    here = All-push (IsHere m t.vars) clauses at w.here (C, st, within);
+    here = All-push (IsHere m t.vars) W.clauses at w.here (C, st, within);
     front = front;
     apart = apart;
     home = home;
@@ -235,5 +239,5 @@ module _ (xs ys : List Place) (clauses : List Ref) (base head : ℕ) (m : Clause
     handled = w.handled;
   }
 
-  pub some_watching : (more : ℕ → List ℕ) × IsWatching ys (clauses ++ at ∷ []) base head m t more
+  pub some_watching : AreWatching more m t
   some_watching = (with_two, attached)

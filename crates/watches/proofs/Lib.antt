@@ -14,6 +14,7 @@ pub mod RelinkLemmas
 pub mod StateLemmas
 pub mod WalkLemmas
 pub mod LawLemmas
+pub mod StepLemmas
 pub mod PlaceLemmas
 pub mod WakeLemmas
 pub mod DelayLemmas

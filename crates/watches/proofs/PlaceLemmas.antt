@@ -10,39 +10,39 @@ use Rattle.watches.specs.Law.{IsImplied, IsConflict, live_among}
 use Rattle.watches.specs.Scanning.{numbers}
 use Rattle.watches.specs.inner.Scanning.{IsHere}
 use Rattle.watches.specs.inner.ScanLaws.{has_number}
-use Rattle.watches.specs.declared.watched.places.Place.{Place}
 use Rattle.watches.specs.inner.Chains.{literal_at, twin}
 use Rattle.watches.specs.inner.Watching.{owner, no_clause, FindsWatch, IsLong, IsWatching}
 use Rattle.watches.specs.inner.Walking.{IsSatisfied}
 use Rattle.watches.proofs.TwinLemmas.{twins_of, owner_twin, long_twin, parity}
+use Rattle.watches.specs.Ready.{Watches}
 
-module _ (places : List Place) (clauses : List Ref) (base head : ℕ) (m : Clauses) (t : TrailValue) (paths : ℕ → List ℕ) (w : IsWatching places clauses base head m t paths)
-    (here : ℕ) (here_long : IsLong places clauses base here) (f : Literal) (here_lit : literal_at places here ≡ f) (f_false : holds t.entries (negation f) ≡ true) where
-  pub owner_in : (here - base) / 2 < length clauses
+module _ (W : Watches) (m : Clauses) (t : TrailValue) (paths : ℕ → List ℕ) (w : IsWatching W m t paths)
+    (here : ℕ) (here_long : IsLong W here) (f : Literal) (here_lit : literal_at W.places here ≡ f) (f_false : holds t.entries (negation f) ≡ true) where
+  pub owner_in : (here - W.base) / 2 < length W.clauses
   owner_in = let a = here_long.0 in let b = here_long.1 in let c = w.partly in let d = w.even in let e = w.paired in omega arith
 
-  pub standing : IsHere m t.vars (owner clauses base here)
-  standing = w.here ((here - base) / 2) no_clause owner_in
+  pub standing : IsHere m t.vars (owner W here)
+  standing = w.here ((here - W.base) / 2) no_clause owner_in
 
-  pub lives : (C : Clause) → Stands m (owner clauses base here) C → live_among (numbers clauses) (live_of m) (owner clauses base here).number C
-  lives C st = (has_number clauses ((here - base) / 2) no_clause owner_in, ((owner clauses base here).place, st.0))
+  pub lives : (C : Clause) → Stands m (owner W here) C → live_among (numbers W.clauses) (live_of m) (owner W here).number C
+  lives C st = (has_number W.clauses ((here - W.base) / 2) no_clause owner_in, ((owner W here).place, st.0))
 
-  pub twin_in : IsLong places clauses base (twin here)
-  twin_in = long_twin places clauses base here w.even w.paired here_long
+  pub twin_in : IsLong W (twin here)
+  twin_in = long_twin W here w.even w.paired here_long
 
-  pub two : (C : Clause) → Stands m (owner clauses base here) C → 2 ≤ length C
+  pub two : (C : Clause) → Stands m (owner W here) C → 2 ≤ length C
   two C st = omega (arith, here_long.2, st.1)
 
   pub side : (p : ℕ) → p % 2 < 2
   side p = elim (parity p) [ inl e ↦ omega arith | inr e ↦ omega arith ]
 
-  pub lit_here : (C : Clause) (d : Literal) → Stands m (owner clauses base here) C → f ≡ get_or C (here % 2) d
+  pub lit_here : (C : Clause) (d : Literal) → Stands m (owner W here) C → f ≡ get_or C (here % 2) d
   lit_here C d st = sym here_lit ∙ w.front here C d here_long st
 
-  pub lit_twin : (C : Clause) (d : Literal) → Stands m (owner clauses base here) C → literal_at places (twin here) ≡ get_or C (twin here % 2) d
-  lit_twin C d st = w.front (twin here) C d twin_in (subst (λ a. Stands m a C) (sym (owner_twin clauses base here w.even)) st)
+  pub lit_twin : (C : Clause) (d : Literal) → Stands m (owner W here) C → literal_at W.places (twin here) ≡ get_or C (twin here % 2) d
+  lit_twin C d st = w.front (twin here) C d twin_in (subst (λ a. Stands m a C) (sym (owner_twin W here w.even)) st)
 
-  pub other_in : IsWithin t.vars (literal_at places (twin here))
+  pub other_in : IsWithin t.vars (literal_at W.places (twin here))
   other_in =
       let s = standing in
       let z = side (twin here) in
@@ -50,7 +50,7 @@ module _ (places : List Place) (clauses : List Ref) (base head : ℕ) (m : Claus
       subst (IsWithin t.vars) (sym (lit_twin s.0 (Pos 0) s.1)) (s.2 (twin here % 2) (Pos 0) l)
 
   -- a literal of the clause is one of the first two or behind them
-  which : (C : Clause) (l : Literal) → Stands m (owner clauses base here) C → Contains C l → ((l ≡ f) ⊎ (l ≡ literal_at places (twin here))) ⊎ ((k : ℕ) × (2 ≤ k) × (k < length C) × (get_or C k l ≡ l))
+  which : (C : Clause) (l : Literal) → Stands m (owner W here) C → Contains C l → ((l ≡ f) ⊎ (l ≡ literal_at W.places (twin here))) ⊎ ((k : ℕ) × (2 ≤ k) × (k < length C) × (get_or C k l ≡ l))
   which C l st i =
       let tw = (twins_of here).sides in
       let a = side here in let b = side (twin here) in
@@ -63,17 +63,17 @@ module _ (places : List Place) (clauses : List Ref) (base head : ℕ) (m : Claus
       ]
 
   -- no literal behind the first two is free or true
-  pub is_false : (C : Clause) → Stands m (owner clauses base here) C → ((k : ℕ) (d : Literal) → 2 ≤ k → k < length C → holds t.entries (negation (get_or C k d)) ≡ true)
-      → holds t.entries (negation (literal_at places (twin here))) ≡ true → IsFalse (holds t.entries) C
+  pub is_false : (C : Clause) → Stands m (owner W here) C → ((k : ℕ) (d : Literal) → 2 ≤ k → k < length C → holds t.entries (negation (get_or C k d)) ≡ true)
+      → holds t.entries (negation (literal_at W.places (twin here))) ≡ true → IsFalse (holds t.entries) C
   is_false C st h o l i = elim (which C l st i) [
     | inl b ↦ elim b [ inl e ↦ ap (λ x. holds t.entries (negation x)) e ∙ f_false | inr e ↦ ap (λ x. holds t.entries (negation x)) e ∙ o ]
     | inr k ↦ ap (λ x. holds t.entries (negation x)) (sym k.3) ∙ h k.0 l k.1 k.2
   ]
 
-  pub is_unit : (C : Clause) → Stands m (owner clauses base here) C → ((k : ℕ) (d : Literal) → 2 ≤ k → k < length C → holds t.entries (negation (get_or C k d)) ≡ true)
-      → holds t.entries (literal_at places (twin here)) ≡ false → holds t.entries (negation (literal_at places (twin here))) ≡ false → IsUnit (holds t.entries) C (literal_at places (twin here))
+  pub is_unit : (C : Clause) → Stands m (owner W here) C → ((k : ℕ) (d : Literal) → 2 ≤ k → k < length C → holds t.entries (negation (get_or C k d)) ≡ true)
+      → holds t.entries (literal_at W.places (twin here)) ≡ false → holds t.entries (negation (literal_at W.places (twin here))) ≡ false → IsUnit (holds t.entries) C (literal_at W.places (twin here))
   is_unit C st h a b = record {
-    member = let z = side (twin here) in let l : twin here % 2 < length C = omega (arith, two C st) in (twin here % 2, l, sym (lit_twin C (literal_at places (twin here)) st));
+    member = let z = side (twin here) in let l : twin here % 2 < length C = omega (arith, two C st) in (twin here % 2, l, sym (lit_twin C (literal_at W.places (twin here)) st));
     not_true = a;
     not_false = b;
     others = λ l i n. elim (which C l st i) [
@@ -83,12 +83,12 @@ module _ (places : List Place) (clauses : List Ref) (base head : ℕ) (m : Claus
   }
 
   -- ---- in the words of the code: `at` is the owner, `ws` its literals
-  module _ (at : Ref) (owns : at ≡ owner clauses base here) where
+  module _ (at : Ref) (owns : at ≡ owner W here) where
     pub stands_at : Stands m at standing.0
     stands_at = subst (λ a. Stands m a standing.0) (sym owns) standing.1
 
-    lives_at : live_among (numbers clauses) (live_of m) at.number standing.0
-    lives_at = subst (λ (a : Ref). live_among (numbers clauses) (live_of m) a.number standing.0) (sym owns) (lives standing.0 standing.1)
+    lives_at : live_among (numbers W.clauses) (live_of m) at.number standing.0
+    lives_at = subst (λ (a : Ref). live_among (numbers W.clauses) (live_of m) a.number standing.0) (sym owns) (lives standing.0 standing.1)
 
     module _ (ws : Clause) (reads : (C : Clause) → Stands m at C → ws ≡ C) where
       pub ws_is : ws ≡ standing.0
@@ -107,11 +107,11 @@ module _ (places : List Place) (clauses : List Ref) (base head : ℕ) (m : Claus
         none_free : (k : ℕ) (d : Literal) → 2 ≤ k → k < length standing.0 → holds t.entries (negation (get_or standing.0 k d)) ≡ true
         none_free = subst (λ C. (k : ℕ) (d : Literal) → 2 ≤ k → k < length C → holds t.entries (negation (get_or C k d)) ≡ true) ws_is none
 
-        pub conflicts : (o : Literal) → o ≡ literal_at places (twin here) → holds t.entries (negation o) ≡ true → IsConflict (live_among (numbers clauses) (live_of m)) t.entries at.number
+        pub conflicts : (o : Literal) → o ≡ literal_at W.places (twin here) → holds t.entries (negation o) ≡ true → IsConflict (live_among (numbers W.clauses) (live_of m)) t.entries at.number
         conflicts o e h = (standing.0, lives_at, is_false standing.0 standing.1 none_free (ap (λ l. holds t.entries (negation l)) (sym e) ∙ h))
 
-        pub implies : (o : Literal) (n : ℕ) → o ≡ literal_at places (twin here) → holds t.entries o ≡ false → holds t.entries (negation o) ≡ false → n ≡ present t.entries
-            → IsImplied (live_among (numbers clauses) (live_of m)) t.entries (record { literal = o; level = n; reason = Some at.number })
+        pub implies : (o : Literal) (n : ℕ) → o ≡ literal_at W.places (twin here) → holds t.entries o ≡ false → holds t.entries (negation o) ≡ false → n ≡ present t.entries
+            → IsImplied (live_among (numbers W.clauses) (live_of m)) t.entries (record { literal = o; level = n; reason = Some at.number })
         implies o n e a b l = record {
           number = at.number;
           clause = standing.0;
@@ -122,8 +122,8 @@ module _ (places : List Place) (clauses : List Ref) (base head : ℕ) (m : Claus
         }
 
   -- where the other watch is true the clause is satisfied, by any trail
-  pub satisfied : (u : TrailValue) → holds u.entries (literal_at places (twin here)) ≡ true → IsSatisfied m u.entries (owner clauses base here)
+  pub satisfied : (u : TrailValue) → holds u.entries (literal_at W.places (twin here)) ≡ true → IsSatisfied m u.entries (owner W here)
   satisfied u h C st =
       let z = side (twin here) in
       let l : twin here % 2 < length C = omega (arith, two C st) in
-      (literal_at places (twin here), (twin here % 2, l, sym (lit_twin C (literal_at places (twin here)) st)), h)
+      (literal_at W.places (twin here), (twin here % 2, l, sym (lit_twin C (literal_at W.places (twin here)) st)), h)

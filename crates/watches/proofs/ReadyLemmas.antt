@@ -19,7 +19,7 @@ use Rattle.watches.specs.inner.Scanning.{IsHere}
 use Rattle.watches.specs.inner.ScanLaws.{has_number, here_pushed}
 use Rattle.watches.specs.declared.watched.places.Place.{Place}
 use Rattle.watches.specs.inner.Chains.{AppendsTwo}
-use Rattle.watches.specs.inner.Watching.{IsWatching, IsLong, no_clause}
+use Rattle.watches.specs.inner.Watching.{IsWatching, IsLong, no_clause, fresh_watches}
 use Rattle.watches.specs.Ready.{Watches, attached_of}
 use Rattle.watches.specs.inner.Ready.{AreNamed, AreWatches, IsReady}
 use Rattle.watches.proofs.MovingLemmas.{stands_followed, all_here_followed}
@@ -33,7 +33,7 @@ pub ready_cut : (w : Watches) (now : ℕ) (m : Clauses) (t u : TrailValue) (gone
 ready_cut w now m t u gone level r v e a c l n = record {
   wide = omega (arith, r.wide);
   here = here_pushed m t u w.clauses r.here v;
-  watching = λ s. let x = r.watching s in (x.0, cut w.places w.clauses w.base w.head m t x.0 x.1 u gone level now v e a c l n);
+  watching = λ s. let x = r.watching s in (x.0, cut w m t x.0 x.1 u gone level now v e a c l n);
 }
 
 -- ---- a clause was attached
@@ -65,7 +65,7 @@ module _ (w : Watches) (cs : List Ref) (ls : List Bool) (among : w.clauses ≡ a
     watching = λ s.
         let x = r.watching s in
         let all : w.clauses ≡ cs = among ∙ all_attached cs ls h.marked (h.none_gone s) in
-        some_watching w.places ys w.clauses w.base w.head k t x.0 x.1 (omega (arith, h.whole, ap length all)) at C st within differ new_number (appends w.places ys C one two appended firsts);
+        some_watching w ys k t x.0 x.1 (omega (arith, h.whole, ap length all)) at C st within differ new_number (appends w.places ys C one two appended firsts);
   }
 
 -- ---- numbers of clauses, by places
@@ -150,9 +150,12 @@ attached_at cs ls n h =
     (s.place, s.within, s.live, ap (λ (r : Ref). r.number) (sym (s.same no_clause)) ∙ x.2)
 
 -- ---- clauses moved
-module _ (m k : Clauses) (moves : List (Ref × Ref)) (old new : List Ref) (h : IsCompacted m k moves) (f : AreFollowed moves old new) where
-  pub watching_followed : (places : List Place) (base head : ℕ) (t : TrailValue) (paths : ℕ → List ℕ) → IsWatching places old base head m t paths → IsWatching places new base head k t paths
-  watching_followed places base head t paths w = record {
+module _ (m k : Clauses) (moves : List (Ref × Ref)) (W : Watches) (new : List Ref) (h : IsCompacted m k moves) (f : AreFollowed moves W.clauses new) where
+  abbrev then_watches : Watches
+  then_watches = record W { clauses = new }
+
+  pub watching_followed : (t : TrailValue) (paths : ℕ → List ℕ) → IsWatching W m t paths → IsWatching then_watches k t paths
+  watching_followed t paths w = record {
     chains = w.chains;
     wide = w.wide;
     even = w.even;
@@ -160,43 +163,43 @@ module _ (m k : Clauses) (moves : List (Ref × Ref)) (old new : List Ref) (h : I
     paired = w.paired;
     partly = omega (arith, w.partly, f.long);
     named = λ i j a b e. w.named i j (omega (arith, f.long)) (omega (arith, f.long)) (sym (same_number i (omega (arith, f.long))) ∙ e ∙ same_number j (omega (arith, f.long)));
-    here = all_here_followed m k moves t.vars old new h f w.here;
-    front = λ p C d l s. let b = owned p l.0 l.1 in w.front p C d (long_back p l) (stands_back ((p - base) / 2) C b s);
+    here = all_here_followed m k moves t.vars W.clauses new h f w.here;
+    front = λ p C d l s. let b = owned p l.0 l.1 in w.front p C d (long_back p l) (stands_back ((p - W.base) / 2) C b s);
     apart = λ p l. w.apart p (long_back p l);
     home = λ v p b i. let x = w.home v p b i in (x.0, long_on p x.1);
     kept = λ p l. w.kept p (long_back p l);
-    short = λ i b s. let l : i < length old = let c = w.partly in omega arith in elim (w.short i b (omega (arith, same_len i l))) [
+    short = λ i b s. let l : i < length W.clauses = let c = w.partly in omega arith in elim (w.short i b (omega (arith, same_len i l))) [
       | inl x ↦ inl x
       | inr x ↦ inr (λ C st. x C (stands_back i C l st))
     ];
     handled = w.handled;
   } where
-    same_number : (i : ℕ) → i < length old → (get_or new i no_clause).number ≡ (get_or old i no_clause).number
+    same_number : (i : ℕ) → i < length W.clauses → (get_or new i no_clause).number ≡ (get_or W.clauses i no_clause).number
     same_number i l = (f.each i no_clause l).number
 
-    stands_both : (i : ℕ) → i < length old → (C : Clause) × Stands m (get_or old i no_clause) C × Stands k (get_or new i no_clause) C
-    stands_both i l = let s = w.here i no_clause l in (s.0, s.1, stands_followed m k moves (get_or old i no_clause) (get_or new i no_clause) s.0 h (f.each i no_clause l) s.1)
+    stands_both : (i : ℕ) → i < length W.clauses → (C : Clause) × Stands m (get_or W.clauses i no_clause) C × Stands k (get_or new i no_clause) C
+    stands_both i l = let s = w.here i no_clause l in (s.0, s.1, stands_followed m k moves (get_or W.clauses i no_clause) (get_or new i no_clause) s.0 h (f.each i no_clause l) s.1)
 
-    same_len : (i : ℕ) → i < length old → (get_or new i no_clause).len ≡ (get_or old i no_clause).len
+    same_len : (i : ℕ) → i < length W.clauses → (get_or new i no_clause).len ≡ (get_or W.clauses i no_clause).len
     same_len i l = let b = stands_both i l in b.2.1 ∙ sym b.1.1
 
-    stands_back : (i : ℕ) (C : Clause) → i < length old → Stands k (get_or new i no_clause) C → Stands m (get_or old i no_clause) C
-    stands_back i C l st = let b = stands_both i l in subst (Stands m (get_or old i no_clause)) (stands_once k (get_or new i no_clause) b.0 C b.2 st) b.1
+    stands_back : (i : ℕ) (C : Clause) → i < length W.clauses → Stands k (get_or new i no_clause) C → Stands m (get_or W.clauses i no_clause) C
+    stands_back i C l st = let b = stands_both i l in subst (Stands m (get_or W.clauses i no_clause)) (stands_once k (get_or new i no_clause) b.0 C b.2 st) b.1
 
-    owned : (p : ℕ) → base ≤ p → p < length places → (p - base) / 2 < length old
+    owned : (p : ℕ) → W.base ≤ p → p < length W.places → (p - W.base) / 2 < length W.clauses
     owned p a b = let c = w.partly in let e = w.even in let g = w.paired in omega arith
 
-    long_back : (p : ℕ) → IsLong places new base p → IsLong places old base p
-    long_back p l = (l.0, l.1, omega (arith, l.2, same_len ((p - base) / 2) (owned p l.0 l.1)))
+    long_back : (p : ℕ) → IsLong then_watches p → IsLong W p
+    long_back p l = (l.0, l.1, omega (arith, l.2, same_len ((p - W.base) / 2) (owned p l.0 l.1)))
 
-    long_on : (p : ℕ) → IsLong places old base p → IsLong places new base p
-    long_on p l = (l.0, l.1, omega (arith, l.2, same_len ((p - base) / 2) (owned p l.0 l.1)))
+    long_on : (p : ℕ) → IsLong W p → IsLong then_watches p
+    long_on p l = (l.0, l.1, omega (arith, l.2, same_len ((p - W.base) / 2) (owned p l.0 l.1)))
 
 pub ready_followed : (w : Watches) (news : List Ref) (moves : List (Ref × Ref)) → AreFollowed moves w.clauses news → (m k : Clauses) (t : TrailValue) → IsCompacted m k moves → IsReady w m t → IsReady (record w { clauses = news }) k t
 ready_followed w news moves f m k t h r = record {
   wide = r.wide;
   here = all_here_followed m k moves t.vars w.clauses news h f r.here;
-  watching = λ s. let x = r.watching s in (x.0, watching_followed m k moves w.clauses news h f w.places w.base w.head t x.0 x.1);
+  watching = λ s. let x = r.watching s in (x.0, watching_followed m k moves w news h f t x.0 x.1);
 }
 
 pub watches_followed : (places : List Place) (base : ℕ) (old new : List Ref) (ls : List Bool) (stale : Bool) (moves : List (Ref × Ref)) → AreFollowed moves old new → AreWatches places old ls base stale → AreWatches places new ls base stale
@@ -217,7 +220,7 @@ watches_followed places base old new ls stale moves f h = record {
 -- ---- the chains were made anew
 -- heads with no places behind them
 pub nothing_watched : (places : List Place) (base : ℕ) (m : Clauses) (t : TrailValue) → 2 * t.vars + 2 ≤ base → base % 2 ≡ 0 → length places ≡ base → All (λ p. p.next.number ≡ 0) places
-    → IsWatching places [] base (length t.entries) m t (λ _. [])
+    → IsWatching (fresh_watches places [] base (length t.entries)) m t (λ _. [])
 nothing_watched places base m t wide even long ended = record {
   chains = record {
     chain = λ l b. ended l _ (omega arith);

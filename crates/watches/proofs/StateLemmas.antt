@@ -14,18 +14,18 @@ use Rattle.watches.specs.Scanning.{numbers}
 use Rattle.watches.specs.inner.Scanning.{IsHere}
 use Rattle.watches.proofs.Swept.{same_clause}
 use Rattle.watches.proofs.TrailLemmas.{holds_at}
-use Rattle.watches.specs.declared.watched.places.Place.{Place}
 use Rattle.watches.specs.inner.Chains.{literal_at, twin, IsIn}
-use Rattle.watches.specs.inner.Watching.{owner, no_clause, IsGuarded, IsLong, IsWatching}
+use Rattle.watches.specs.inner.Watching.{owner, no_clause, past_head, IsGuarded, IsLong, IsWatching}
 use Rattle.watches.proofs.GuardLemmas.{up_to_holds, up_to_kept, guarded_cut}
 use Rattle.watches.proofs.TwinLemmas.{twins_of, owner_twin, long_twin, parity}
 use Rattle.watches.specs.inner.Walking.{IsConsistent, IsSatisfied}
+use Rattle.watches.specs.Ready.{Watches}
 
-module _ (places : List Place) (clauses : List Ref) (base head : ℕ) (m : Clauses) (t : TrailValue) (paths : ℕ → List ℕ) (w : IsWatching places clauses base head m t paths) where
+module _ (W : Watches) (m : Clauses) (t : TrailValue) (paths : ℕ → List ℕ) (w : IsWatching W m t paths) where
   -- literals above a level were taken out
   pub cut : (u : TrailValue) (gone : List Assigned) (level now : ℕ) → u.vars ≡ t.vars → t.entries ≡ u.entries ++ gone
-      → All (λ e. e.level ≤ level) u.entries → All (λ e. level < e.level) gone → now ≤ head → now ≤ length u.entries
-      → IsWatching places clauses base now m u paths
+      → All (λ e. e.level ≤ level) u.entries → All (λ e. level < e.level) gone → now ≤ W.head → now ≤ length u.entries
+      → IsWatching (record W { head = now }) m u paths
   cut u gone level now v e a c l n = record {
     chains = w.chains;
     wide = omega (arith, w.wide);
@@ -34,7 +34,7 @@ module _ (places : List Place) (clauses : List Ref) (base head : ℕ) (m : Claus
     paired = w.paired;
     partly = w.partly;
     named = w.named;
-    here = subst (λ n. All (IsHere m n) clauses) (sym v) w.here;
+    here = subst (λ n. All (IsHere m n) W.clauses) (sym v) w.here;
     front = w.front;
     apart = w.apart;
     home = λ l p b h. w.home l p (subst (λ n. IsWithin n l) v b) h;
@@ -42,8 +42,8 @@ module _ (places : List Place) (clauses : List Ref) (base head : ℕ) (m : Claus
       | inl i ↦ inl i
       | inr i ↦ inr (
         i.0,
-        guarded_cut u.entries gone head now level (literal_at places p) (literal_at places (twin p)) a c l n
-            (subst (λ es. IsGuarded es head (literal_at places p) (literal_at places (twin p))) e i.1),
+        guarded_cut u.entries gone W.head now level (literal_at W.places p) (literal_at W.places (twin p)) a c l n
+            (subst (λ es. IsGuarded es W.head (literal_at W.places p) (literal_at W.places (twin p))) e i.1),
       )
     ];
     short = λ i b s. elim (w.short i b s) [
@@ -54,9 +54,9 @@ module _ (places : List Place) (clauses : List Ref) (base head : ℕ) (m : Claus
   }
 
   -- an entry was handled: each place in the chain of the literal that it makes false is guarded
-  pub advance : (f : Literal) (level : ℕ) → ((d : Assigned) → (get_or t.entries head d).literal ≡ negation f) → ((d : Assigned) → (get_or t.entries head d).level ≡ level) → head < length t.entries
-      → ((p : ℕ) → IsIn p (paths (index_of f)) → up_to t.entries level (literal_at places (twin p)) ≡ true)
-      → IsWatching places clauses base (head + 1) m t paths
+  pub advance : (f : Literal) (level : ℕ) → ((d : Assigned) → (get_or t.entries W.head d).literal ≡ negation f) → ((d : Assigned) → (get_or t.entries W.head d).level ≡ level) → W.head < length t.entries
+      → ((p : ℕ) → IsIn p (paths (index_of f)) → up_to t.entries level (literal_at W.places (twin p)) ≡ true)
+      → IsWatching (past_head W) m t paths
   advance f level is at l g = record {
     chains = w.chains;
     wide = w.wide;
@@ -75,11 +75,11 @@ module _ (places : List Place) (clauses : List Ref) (base head : ℕ) (m : Claus
       | inl i ↦ inl i
       | inr i ↦ inr (
         i.0,
-        λ j d b e. elim (cases_eq j head) [
+        λ j d b e. elim (cases_eq j W.head) [
           | inl q ↦
-              let neg : negation f ≡ negation (literal_at places p) = sym (is d) ∙ ap (λ z. (get_or t.entries z d).literal) (sym q) ∙ e in
-              let same_f : f ≡ literal_at places p = sym (negation-negation f) ∙ ap negation neg ∙ negation-negation (literal_at places p) in
-              subst (λ n. up_to t.entries n (literal_at places (twin p)) ≡ true) (sym (ap (λ z. (get_or t.entries z d).level) q ∙ at d))
+              let neg : negation f ≡ negation (literal_at W.places p) = sym (is d) ∙ ap (λ z. (get_or t.entries z d).literal) (sym q) ∙ e in
+              let same_f : f ≡ literal_at W.places p = sym (negation-negation f) ∙ ap negation neg ∙ negation-negation (literal_at W.places p) in
+              subst (λ n. up_to t.entries n (literal_at W.places (twin p)) ≡ true) (sym (ap (λ z. (get_or t.entries z d).level) q ∙ at d))
               (g p (subst (λ z. IsIn p (paths (index_of z))) (sym same_f) i.0))
           | inr n ↦ i.1 j d (omega arith) e
         ],
@@ -121,53 +121,53 @@ module _ (es : List Assigned) (sound : IsConsistent es) (C : Clause) where
 contains_at : (C : Clause) (i : ℕ) (l : Literal) → i < length C → ((d : Literal) → l ≡ get_or C i d) → Contains C l
 contains_at C i l b e = (i, b, sym (e l))
 
-module _ (places : List Place) (clauses : List Ref) (base head : ℕ) (m : Clauses) (t : TrailValue) (paths : ℕ → List ℕ) (w : IsWatching places clauses base head m t paths)
-    (sound : IsConsistent t.entries) (done : length t.entries ≤ head) (all : length places ≡ base + 2 * length clauses)
-    (seen : (p : ℕ) → IsIn p (paths 0) → IsSatisfied m t.entries (owner clauses base p)) where
-  calm_short : (i : ℕ) (C : Clause) → i < length clauses → (get_or clauses i no_clause).len < 2 → Stands m (get_or clauses i no_clause) C → IsCalm (holds t.entries) C
+module _ (W : Watches) (m : Clauses) (t : TrailValue) (paths : ℕ → List ℕ) (w : IsWatching W m t paths)
+    (sound : IsConsistent t.entries) (done : length t.entries ≤ W.head) (all : length W.places ≡ W.base + 2 * length W.clauses)
+    (seen : (p : ℕ) → IsIn p (paths 0) → IsSatisfied m t.entries (owner W p)) where
+  calm_short : (i : ℕ) (C : Clause) → i < length W.clauses → (get_or W.clauses i no_clause).len < 2 → Stands m (get_or W.clauses i no_clause) C → IsCalm (holds t.entries) C
   calm_short i C l s st = elim (w.short i (omega arith) s) [
     | inl h ↦
-        let half : (base + 2 * i - base) / 2 ≡ i = omega arith in
-        let own : owner clauses base (base + 2 * i) ≡ get_or clauses i no_clause = ap (λ j. get_or clauses j no_clause) half in
-        let b = seen (base + 2 * i) h C (subst (λ a. Stands m a C) (sym own) st) in
+        let half : (W.base + 2 * i - W.base) / 2 ≡ i = omega arith in
+        let own : owner W (W.base + 2 * i) ≡ get_or W.clauses i no_clause = ap (λ j. get_or W.clauses j no_clause) half in
+        let b = seen (W.base + 2 * i) h C (subst (λ a. Stands m a C) (sym own) st) in
         calm_true t.entries sound C b.0 b.1 b.2
     | inr h ↦ let b = h C st in calm_true t.entries sound C b.0 b.1 (up_to_holds t.entries 0 b.0 b.2)
   ]
 
   abbrev Guards : ℕ → Type 0
-  Guards p = holds t.entries (negation (literal_at places p)) ≡ true → holds t.entries (literal_at places (twin p)) ≡ true
+  Guards p = holds t.entries (negation (literal_at W.places p)) ≡ true → holds t.entries (literal_at W.places (twin p)) ≡ true
 
-  calm_long : (p : ℕ) (C : Clause) → IsLong places clauses base p → Stands m (owner clauses base p) C → IsCalm (holds t.entries) C
+  calm_long : (p : ℕ) (C : Clause) → IsLong W p → Stands m (owner W p) C → IsCalm (holds t.entries) C
   calm_long p C h st =
       let tw = twins_of p in
-      let g = long_twin places clauses base p w.even w.paired h in
-      let st' : Stands m (owner clauses base (twin p)) C = subst (λ a. Stands m a C) (sym (owner_twin clauses base p w.even)) st in
+      let g = long_twin W p w.even w.paired h in
+      let st' : Stands m (owner W (twin p)) C = subst (λ a. Stands m a C) (sym (owner_twin W p w.even)) st in
       let two : 2 ≤ length C = omega (arith, h.2, st.1) in
       let half : (n : ℕ) → n % 2 < 2 = λ n. elim (parity n) [ inl e ↦ omega arith | inr e ↦ omega arith ] in
       elim (w.kept p h) [
         | inl i ↦ let b = seen p i C st in calm_true t.entries sound C b.0 b.1 b.2
         | inr i ↦ elim (w.kept (twin p) g) [
           | inl j ↦ let b = seen (twin p) j C st' in calm_true t.entries sound C b.0 b.1 b.2
-          | inr j ↦ calm_two t.entries sound C (literal_at places p) (literal_at places (twin p))
-              (contains_at C (p % 2) (literal_at places p) (let a = half p in omega arith) (λ d. w.front p C d h st))
-              (contains_at C (twin p % 2) (literal_at places (twin p)) (let a = half (twin p) in omega arith) (λ d. w.front (twin p) C d g st'))
+          | inr j ↦ calm_two t.entries sound C (literal_at W.places p) (literal_at W.places (twin p))
+              (contains_at C (p % 2) (literal_at W.places p) (let a = half p in omega arith) (λ d. w.front p C d h st))
+              (contains_at C (twin p % 2) (literal_at W.places (twin p)) (let a = half (twin p) in omega arith) (λ d. w.front (twin p) C d g st'))
               (w.apart p h)
-              (guards t.entries sound C head (literal_at places p) (literal_at places (twin p)) done i.1)
-              (λ e. ap (λ q. holds t.entries (literal_at places q)) (sym tw.back) ∙ guards t.entries sound C head (literal_at places (twin p)) (literal_at places (twin (twin p))) done j.1 e)
+              (guards t.entries sound C W.head (literal_at W.places p) (literal_at W.places (twin p)) done i.1)
+              (λ e. ap (λ q. holds t.entries (literal_at W.places q)) (sym tw.back) ∙ guards t.entries sound C W.head (literal_at W.places (twin p)) (literal_at W.places (twin (twin p))) done j.1 e)
         ]
       ]
 
-  pub quiet : IsQuiet (live_among (numbers clauses) (live_of m)) t.entries
+  pub quiet : IsQuiet (live_among (numbers W.clauses) (live_of m)) t.entries
   quiet n C h =
       let i = h.0 in
-      let l : i.0 < length clauses = omega (arith, i.1, length-map clauses (λ (x : Ref). x.number)) in
-      let e : (get_or clauses i.0 no_clause).number ≡ n = sym (get_or-map (λ (x : Ref). x.number) clauses i.0 no_clause n l) ∙ i.2 in
+      let l : i.0 < length W.clauses = omega (arith, i.1, length-map W.clauses (λ (x : Ref). x.number)) in
+      let e : (get_or W.clauses i.0 no_clause).number ≡ n = sym (get_or-map (λ (x : Ref). x.number) W.clauses i.0 no_clause n l) ∙ i.2 in
       let s = w.here i.0 no_clause l in
-      let same_C : s.0 ≡ C = same_clause m n _ h.1.0 s.0 C (subst (λ x. get m x ≡ Some ((get_or clauses i.0 no_clause).place, s.0)) e s.1.0) h.1.1 in
-      let st : Stands m (get_or clauses i.0 no_clause) C = subst (Stands m (get_or clauses i.0 no_clause)) same_C s.1 in
-      let half : (base + 2 * i.0 - base) / 2 ≡ i.0 = omega arith in
-      let own : owner clauses base (base + 2 * i.0) ≡ get_or clauses i.0 no_clause = ap (λ j. get_or clauses j no_clause) half in
-      elim (cases_lt (get_or clauses i.0 no_clause).len 2) [
+      let same_C : s.0 ≡ C = same_clause m n _ h.1.0 s.0 C (subst (λ x. get m x ≡ Some ((get_or W.clauses i.0 no_clause).place, s.0)) e s.1.0) h.1.1 in
+      let st : Stands m (get_or W.clauses i.0 no_clause) C = subst (Stands m (get_or W.clauses i.0 no_clause)) same_C s.1 in
+      let half : (W.base + 2 * i.0 - W.base) / 2 ≡ i.0 = omega arith in
+      let own : owner W (W.base + 2 * i.0) ≡ get_or W.clauses i.0 no_clause = ap (λ j. get_or W.clauses j no_clause) half in
+      elim (cases_lt (get_or W.clauses i.0 no_clause).len 2) [
         | inl b ↦ calm_short i.0 C l b st
-        | inr b ↦ calm_long (base + 2 * i.0) C (omega arith, omega arith, subst (λ (a : Ref). 2 ≤ a.len) (sym own) b) (subst (λ a. Stands m a C) (sym own) st)
+        | inr b ↦ calm_long (W.base + 2 * i.0) C (omega arith, omega arith, subst (λ (a : Ref). 2 ≤ a.len) (sym own) b) (subst (λ a. Stands m a C) (sym own) st)
       ]

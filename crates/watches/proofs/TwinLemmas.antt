@@ -1,11 +1,11 @@
 -- The two places of a clause.
-use Rattle.std.proofs.Common.{◌≡◌, ◌≢◌, ℕ, zero, suc, ◌+◌, ◌-◌, ◌/◌, ◌%◌, ◌<◌, ◌≤◌, ◌⊎◌, inl, inr, cond, List, length, get_or, ap, sym, ◌∙◌, subst, arith}
+use Rattle.std.proofs.Common.{◌≡◌, ◌≢◌, ℕ, zero, suc, ◌+◌, ◌-◌, ◌/◌, ◌%◌, ◌<◌, ◌≤◌, ◌⊎◌, inl, inr, cond, length, get_or, ap, sym, ◌∙◌, subst, arith}
 use Rattle.std.specs.Int.{bit_at}
 use Rattle.std.specs.Int.RustNames.{bit_xor}
 use Rattle.std.proofs.lemmas.Bool.{cases_eq, ne_eqb, eq-eqb}
 use Rattle.std.proofs.lemmas.Nat.Bits.{same_from_bits, bit_at_xor, bit_at_lowest, bit_at-suc, bit_at-zero, bit_at-lt}
 use Rattle.clause_arena.specs.declared.reference.Ref.{Ref}
-use Rattle.watches.specs.declared.watched.places.Place.{Place}
+use Rattle.watches.specs.Ready.{Watches}
 use Rattle.watches.specs.inner.Chains.{twin}
 use Rattle.watches.specs.inner.Watching.{owner, no_clause, IsLong}
 
@@ -34,22 +34,22 @@ twins_of p = elim (parity p) [
 ]
 
 -- the clause of a place is its twin's
-pub owner_twin : (clauses : List Ref) (base p : ℕ) → base % 2 ≡ 0 → owner clauses base (twin p) ≡ owner clauses base p
-owner_twin clauses base p e =
+pub owner_twin : (W : Watches) (p : ℕ) → W.base % 2 ≡ 0 → owner W (twin p) ≡ owner W p
+owner_twin W p e =
     let t = twins_of p in
-    let h : (twin p - base) / 2 ≡ (p - base) / 2 = half p (twin p) t in
-    ap (λ i. get_or clauses i no_clause) h
+    let h : (twin p - W.base) / 2 ≡ (p - W.base) / 2 = half p (twin p) t in
+    ap (λ i. get_or W.clauses i no_clause) h
   where
-    half : (p q : ℕ) → AreTwins p q → (q - base) / 2 ≡ (p - base) / 2
+    half : (p q : ℕ) → AreTwins p q → (q - W.base) / 2 ≡ (p - W.base) / 2
     half p q t = let a = t.halves in let b = t.sides in omega arith
 
-pub long_twin : (places : List Place) (clauses : List Ref) (base p : ℕ) → base % 2 ≡ 0 → length places % 2 ≡ 0 → IsLong places clauses base p → IsLong places clauses base (twin p)
-long_twin places clauses base p e s h =
+pub long_twin : (W : Watches) (p : ℕ) → W.base % 2 ≡ 0 → length W.places % 2 ≡ 0 → IsLong W p → IsLong W (twin p)
+long_twin W p e s h =
     let t = twins_of p in
     let q = within (twin p) t h.0 h.1 in
-    (q.0, q.1, subst (λ (a : Ref). 2 ≤ a.len) (sym (owner_twin clauses base p e)) h.2)
+    (q.0, q.1, subst (λ (a : Ref). 2 ≤ a.len) (sym (owner_twin W p e)) h.2)
   where
-    within : (q : ℕ) → AreTwins p q → base ≤ p → p < length places → (base ≤ q) × (q < length places)
+    within : (q : ℕ) → AreTwins p q → W.base ≤ p → p < length W.places → (W.base ≤ q) × (q < length W.places)
     within q t a b = let x = t.halves in let y = t.sides in (omega arith, omega arith)
 
 -- places of one clause are the same or twins

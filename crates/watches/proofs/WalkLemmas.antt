@@ -1,7 +1,8 @@
 -- The walk along one chain, and what a visit of a place leaves.
-use Rattle.std.proofs.Common.{◌≡◌, ◌≢◌, ℕ, zero, suc, ◌+◌, ◌-◌, ◌/◌, ◌%◌, ◌<◌, ◌≤◌, ◌⊎◌, ◌||◌, inl, inr, Bool, true, false, eqb, List, [], ◌∷◌, ◌++◌, length, get_or, swap, Some, None, refl, ap, sym, ◌∙◌, subst, arith, Contains, All, append_assoc}
+use Rattle.std.proofs.Common.{◌≡◌, ◌≢◌, ℕ, zero, suc, ◌-◌, ◌/◌, ◌%◌, ◌<◌, ◌≤◌, ◌⊎◌, ◌||◌, inl, inr, Bool, true, false, eqb, List, [], ◌∷◌, ◌++◌, length, get_or, swap, Some, None, refl, ap, sym, ◌∙◌, subst, arith, Contains, All, append_assoc, length-append}
 use Rattle.std.specs.List.{IsDistinct, list_any}
 use Rattle.std.specs.FinMap.{get, insert}
+use Rattle.std.proofs.lemmas.List.{get_or_append_left}
 use Rattle.std.proofs.lemmas.List.Folds.{list_any-append}
 use Rattle.std.proofs.lemmas.Bool.{cases_eq, cases_lt, false≢true, ne_eqb, eqb-true, or_right}
 use Rattle.std.proofs.lemmas.List.Elements.{All-push, recursion_from_All}
@@ -9,30 +10,32 @@ use Rattle.std.proofs.lemmas.Map.Keys.{IsDistinct-cons}
 use Rattle.std.proofs.lemmas.Map.Steps.{length-le_from_distinct_below}
 use Rattle.dimacs.specs.logic.Literal.{Literal, Clause, Pos, IsWithin, negation, same, index_of}
 use Rattle.dimacs.specs.logic.Propagation.{IsFalse, IsUnit}
-use Rattle.dimacs.proofs.LiteralLemmas.{index_apart, index_below, same-true, same-itself, negation-negation, negation_apart}
+use Rattle.dimacs.proofs.LiteralLemmas.{index_apart, index_below, same-true, same-itself, negation-negation, negation_apart, IsWithin-negation}
 use Rattle.clause_arena.specs.declared.reference.Ref.{Ref}
 use Rattle.clause_arena.specs.Clauses.{Clauses, Stands, live_of}
 use Rattle.clause_arena.proofs.ClauseLaws.{get-insert_same, get-insert_other}
 use Rattle.watches.specs.declared.trail.Assigned.{Assigned}
-use Rattle.watches.specs.Trails.{TrailValue, holds, up_to, present}
+use Rattle.watches.specs.Trails.{TrailValue, IsTrailValue, holds, up_to, present}
 use Rattle.watches.specs.Law.{AreSame, IsReordered, IsImplied, live_among}
 use Rattle.watches.specs.Scanning.{numbers}
 use Rattle.watches.specs.inner.Scanning.{IsHere}
 use Rattle.watches.specs.inner.ScanLaws.{has_number}
 use Rattle.watches.proofs.Present.{present_le}
-use Rattle.watches.proofs.TrailLemmas.{distinct_nil, holds_push}
+use Rattle.watches.proofs.TrailLemmas.{distinct_nil, holds_push, consistent}
 use Rattle.watches.specs.declared.watched.places.Place.{Place}
 use Rattle.watches.specs.inner.Chains.{literal_at, next_of, twin, IsIn, IsOnce, IsChain, last_of, Relinks}
-use Rattle.watches.specs.inner.Watching.{owner, no_clause, FindsWatch, IsLong, IsWatching}
-use Rattle.watches.specs.inner.Walking.{IsConsistent, Walk, IsShorter, Stops, left_behind, left_from}
+use Rattle.watches.specs.inner.Watching.{owner, no_clause, past_head, FindsWatch, IsLong, IsWatching, AreWatching, IsRelinked}
+use Rattle.watches.specs.inner.Walking.{IsConsistent, Walk, IsShorter, IsWalk, Stops, Visits, left_behind, left_from}
 use Rattle.watches.proofs.ChainLemmas.{in_left, in_right, in_either, apart_before, once_back, last_in, last_push, chain_rest, left_is, after_l, moved_paths}
 use Rattle.watches.proofs.TwinLemmas.{twins_of, owner_twin, long_twin, parity}
-use Rattle.watches.proofs.GuardLemmas.{up_to_holds, holds_up_to}
+use Rattle.watches.proofs.GuardLemmas.{up_to_holds, holds_up_to, entry_holds}
 use Rattle.watches.specs.inner.ReadyLaws.{or_left, up_to_front}
 use Rattle.watches.proofs.SwapLemmas.{reordered}
 use Rattle.watches.proofs.RelinkLemmas.{moved}
 use Rattle.watches.specs.inner.ReadyLaws.{pushed}
 use Rattle.watches.proofs.StateLemmas.{advance}
+use Rattle.watches.specs.Ready.{Watches}
+use Rattle.watches.specs.declared.watched.outcome.Outcome.TheVariants.{Stays, Moves}
 
 -- ---- a path without repeats is no longer than there are places
 or_either : (a b : Bool) → (a || b) ≡ true → (a ≡ true) ⊎ (b ≡ true)
@@ -63,13 +66,13 @@ left_behind_is places p base (q ∷ path) c o z h =
     ap (left_from places (suc (length places))) c.0
     ∙ left_is places (suc (length places)) q path c.1 (omega arith) (let a = h q (inl refl) in omega (arith, a.0)) (λ r i. let a = h r (inr i) in omega (arith, a.0))
 
-pub walk_left : (places : List Place) (clauses : List Ref) (base head : ℕ) (m : Clauses) (t : TrailValue) (f : Literal) (level previous : ℕ) (w : Walk places clauses base head m t f level previous)
-    → left_behind places previous ≡ length w.rest
-walk_left places clauses base head m t f level previous w =
+pub walk_left : (W : Watches) (m : Clauses) (t : TrailValue) (f : Literal) (level previous : ℕ) (w : Walk W m t f level previous)
+    → left_behind W.places previous ≡ length w.rest
+walk_left W m t f level previous w =
     let a = index_below t.vars f w.f_in in
     let b = w.watching.wide in
-    left_behind_is places previous base w.rest
-    (subst (λ p. IsChain places p w.rest) (sym w.previous_is) (chain_rest places (index_of f) w.done w.rest (subst (IsChain places (index_of f)) w.path (w.watching.chains.chain (index_of f) (omega arith)))))
+    left_behind_is W.places previous W.base w.rest
+    (subst (λ p. IsChain W.places p w.rest) (sym w.previous_is) (chain_rest W.places (index_of f) w.done w.rest (subst (IsChain W.places (index_of f)) w.path (w.watching.chains.chain (index_of f) (omega arith)))))
     (once_back w.done w.rest (subst IsOnce w.path (w.watching.chains.once (index_of f))))
     (omega arith)
     (λ q i. w.watching.chains.real (index_of f) q (subst (IsIn q) (sym w.path) (in_right q w.done w.rest i)))
@@ -118,16 +121,16 @@ same_swapped m at C i j st hi hj = record {
 }
 
 -- ---- the place that is looked at
-module _ (places : List Place) (clauses : List Ref) (base head : ℕ) (m : Clauses) (t : TrailValue) (f : Literal) (level previous here : ℕ)
-    (w : Walk places clauses base head m t f level previous) (is : here ≡ next_of places previous) (some : 0 < here) where
-  pub f_head : index_of f < base
+module _ (W : Watches) (m : Clauses) (t : TrailValue) (f : Literal) (level previous here : ℕ)
+    (w : Walk W m t f level previous) (is : here ≡ next_of W.places previous) (some : 0 < here) where
+  pub f_head : index_of f < W.base
   f_head = let a = index_below t.vars f w.f_in in let b = w.watching.wide in omega arith
 
-  chain_behind : IsChain places previous w.rest
-  chain_behind = subst (λ p. IsChain places p w.rest) (sym w.previous_is) (chain_rest places (index_of f) w.done w.rest (subst (IsChain places (index_of f)) w.path (w.watching.chains.chain (index_of f) f_head)))
+  chain_behind : IsChain W.places previous w.rest
+  chain_behind = subst (λ p. IsChain W.places p w.rest) (sym w.previous_is) (chain_rest W.places (index_of f) w.done w.rest (subst (IsChain W.places (index_of f)) w.path (w.watching.chains.chain (index_of f) f_head)))
 
   pub behind : (more : List ℕ) × (w.rest ≡ here ∷ more)
-  behind = cons_of places previous here w.rest chain_behind is some
+  behind = cons_of W.places previous here w.rest chain_behind is some
 
   pub path_here : w.paths (index_of f) ≡ w.done ++ here ∷ behind.0
   path_here = w.path ∙ ap (λ r. w.done ++ r) behind.1
@@ -135,19 +138,19 @@ module _ (places : List Place) (clauses : List Ref) (base head : ℕ) (m : Claus
   pub here_in : IsIn here (w.paths (index_of f))
   here_in = subst (IsIn here) (sym path_here) (in_right here w.done (here ∷ behind.0) (inl refl))
 
-  pub here_long : IsLong places clauses base here
+  pub here_long : IsLong W here
   here_long = (w.watching.home f here w.f_in here_in).1
 
-  pub here_lit : literal_at places here ≡ f
+  pub here_lit : literal_at W.places here ≡ f
   here_lit = (w.watching.home f here w.f_in here_in).0
 
   once_here : IsOnce (w.done ++ here ∷ behind.0)
   once_here = subst IsOnce path_here (w.watching.chains.once (index_of f))
 
-  pub done_real : (q : ℕ) → IsIn q w.done → (base ≤ q) × (q < length places)
+  pub done_real : (q : ℕ) → IsIn q w.done → (W.base ≤ q) × (q < length W.places)
   done_real q h = w.watching.chains.real (index_of f) q (subst (IsIn q) (sym path_here) (in_left q w.done (here ∷ behind.0) h))
 
-  pub previous_in : previous < length places
+  pub previous_in : previous < length W.places
   previous_in = elim (last_in (index_of f) w.done) [
     | inl e ↦ let a = f_head in let b = w.watching.low in omega (arith, w.previous_is)
     | inr h ↦ let a = done_real (last_of (index_of f) w.done) h in omega (arith, w.previous_is, a.1)
@@ -165,37 +168,37 @@ module _ (places : List Place) (clauses : List Ref) (base head : ℕ) (m : Claus
     | inr h ↦ let a = done_real (last_of (index_of f) w.done) h in let c = index_below t.vars x b in let d = w.watching.wide in omega (arith, w.previous_is, a.0)
   ]
 
-  pub head_in : (x : Literal) → IsWithin t.vars x → (index_of x < base) × (index_of x < length places)
+  pub head_in : (x : Literal) → IsWithin t.vars x → (index_of x < W.base) × (index_of x < length W.places)
   head_in x b = let c = index_below t.vars x b in let d = w.watching.wide in let e = w.watching.low in (omega arith, omega arith)
 
   pub head_apart : (x : Literal) → IsWithin t.vars x → index_of x ≢ here
   head_apart x b e = let c = head_in x b in omega (arith, c.0, here_long.0)
 
-  pub owner_in : (here - base) / 2 < length clauses
+  pub owner_in : (here - W.base) / 2 < length W.clauses
   owner_in = let a = here_long.0 in let b = here_long.1 in let c = w.watching.partly in let d = w.watching.even in let e = w.watching.paired in omega arith
 
-  pub standing : IsHere m t.vars (owner clauses base here)
-  standing = w.watching.here ((here - base) / 2) no_clause owner_in
+  pub standing : IsHere m t.vars (owner W here)
+  standing = w.watching.here ((here - W.base) / 2) no_clause owner_in
 
-  pub lives : (C : Clause) → Stands m (owner clauses base here) C → live_among (numbers clauses) (live_of m) (owner clauses base here).number C
-  lives C st = (has_number clauses ((here - base) / 2) no_clause owner_in, ((owner clauses base here).place, st.0))
+  pub lives : (C : Clause) → Stands m (owner W here) C → live_among (numbers W.clauses) (live_of m) (owner W here).number C
+  lives C st = (has_number W.clauses ((here - W.base) / 2) no_clause owner_in, ((owner W here).place, st.0))
 
-  pub twin_in : IsLong places clauses base (twin here)
-  twin_in = long_twin places clauses base here w.watching.even w.watching.paired here_long
+  pub twin_in : IsLong W (twin here)
+  twin_in = long_twin W here w.watching.even w.watching.paired here_long
 
-  pub two : (C : Clause) → Stands m (owner clauses base here) C → 2 ≤ length C
+  pub two : (C : Clause) → Stands m (owner W here) C → 2 ≤ length C
   two C st = omega (arith, here_long.2, st.1)
 
   pub side : (p : ℕ) → p % 2 < 2
   side p = elim (parity p) [ inl e ↦ omega arith | inr e ↦ omega arith ]
 
-  pub lit_here : (C : Clause) (d : Literal) → Stands m (owner clauses base here) C → f ≡ get_or C (here % 2) d
+  pub lit_here : (C : Clause) (d : Literal) → Stands m (owner W here) C → f ≡ get_or C (here % 2) d
   lit_here C d st = sym here_lit ∙ w.watching.front here C d here_long st
 
-  pub lit_twin : (C : Clause) (d : Literal) → Stands m (owner clauses base here) C → literal_at places (twin here) ≡ get_or C (twin here % 2) d
-  lit_twin C d st = w.watching.front (twin here) C d twin_in (subst (λ a. Stands m a C) (sym (owner_twin clauses base here w.watching.even)) st)
+  pub lit_twin : (C : Clause) (d : Literal) → Stands m (owner W here) C → literal_at W.places (twin here) ≡ get_or C (twin here % 2) d
+  lit_twin C d st = w.watching.front (twin here) C d twin_in (subst (λ a. Stands m a C) (sym (owner_twin W here w.watching.even)) st)
 
-  pub other_in : IsWithin t.vars (literal_at places (twin here))
+  pub other_in : IsWithin t.vars (literal_at W.places (twin here))
   other_in =
       let s = standing in
       let z = side (twin here) in
@@ -203,7 +206,7 @@ module _ (places : List Place) (clauses : List Ref) (base head : ℕ) (m : Claus
       subst (IsWithin t.vars) (sym (lit_twin s.0 (Pos 0) s.1)) (s.2 (twin here % 2) (Pos 0) l)
 
   -- a literal of the clause is one of the first two or behind them
-  which : (C : Clause) (l : Literal) → Stands m (owner clauses base here) C → Contains C l → ((l ≡ f) ⊎ (l ≡ literal_at places (twin here))) ⊎ ((k : ℕ) × (2 ≤ k) × (k < length C) × (get_or C k l ≡ l))
+  which : (C : Clause) (l : Literal) → Stands m (owner W here) C → Contains C l → ((l ≡ f) ⊎ (l ≡ literal_at W.places (twin here))) ⊎ ((k : ℕ) × (2 ≤ k) × (k < length C) × (get_or C k l ≡ l))
   which C l st i =
       let tw = (twins_of here).sides in
       let a = side here in let b = side (twin here) in
@@ -216,17 +219,17 @@ module _ (places : List Place) (clauses : List Ref) (base head : ℕ) (m : Claus
       ]
 
   -- no literal behind the first two is free or true
-  pub is_false : (C : Clause) → Stands m (owner clauses base here) C → ((k : ℕ) (d : Literal) → 2 ≤ k → k < length C → holds t.entries (negation (get_or C k d)) ≡ true)
-      → holds t.entries (negation (literal_at places (twin here))) ≡ true → IsFalse (holds t.entries) C
+  pub is_false : (C : Clause) → Stands m (owner W here) C → ((k : ℕ) (d : Literal) → 2 ≤ k → k < length C → holds t.entries (negation (get_or C k d)) ≡ true)
+      → holds t.entries (negation (literal_at W.places (twin here))) ≡ true → IsFalse (holds t.entries) C
   is_false C st h o l i = elim (which C l st i) [
     | inl b ↦ elim b [ inl e ↦ ap (λ x. holds t.entries (negation x)) e ∙ w.f_false | inr e ↦ ap (λ x. holds t.entries (negation x)) e ∙ o ]
     | inr k ↦ ap (λ x. holds t.entries (negation x)) (sym k.3) ∙ h k.0 l k.1 k.2
   ]
 
-  pub is_unit : (C : Clause) → Stands m (owner clauses base here) C → ((k : ℕ) (d : Literal) → 2 ≤ k → k < length C → holds t.entries (negation (get_or C k d)) ≡ true)
-      → holds t.entries (literal_at places (twin here)) ≡ false → holds t.entries (negation (literal_at places (twin here))) ≡ false → IsUnit (holds t.entries) C (literal_at places (twin here))
+  pub is_unit : (C : Clause) → Stands m (owner W here) C → ((k : ℕ) (d : Literal) → 2 ≤ k → k < length C → holds t.entries (negation (get_or C k d)) ≡ true)
+      → holds t.entries (literal_at W.places (twin here)) ≡ false → holds t.entries (negation (literal_at W.places (twin here))) ≡ false → IsUnit (holds t.entries) C (literal_at W.places (twin here))
   is_unit C st h a b = record {
-    member = let z = side (twin here) in let l : twin here % 2 < length C = omega (arith, two C st) in (twin here % 2, l, sym (lit_twin C (literal_at places (twin here)) st));
+    member = let z = side (twin here) in let l : twin here % 2 < length C = omega (arith, two C st) in (twin here % 2, l, sym (lit_twin C (literal_at W.places (twin here)) st));
     not_true = a;
     not_false = b;
     others = λ l i n. elim (which C l st i) [
@@ -235,11 +238,11 @@ module _ (places : List Place) (clauses : List Ref) (base head : ℕ) (m : Claus
     ];
   }
 
-  left_here : left_behind places previous ≡ suc (length behind.0)
-  left_here = walk_left places clauses base head m t f level previous w ∙ ap length behind.1
+  left_here : left_behind W.places previous ≡ suc (length behind.0)
+  left_here = walk_left W m t f level previous w ∙ ap length behind.1
 
   -- the place stays
-  abbrev stayed : up_to t.entries level (literal_at places (twin here)) ≡ true → Walk places clauses base head m t f level here
+  abbrev stayed : up_to t.entries level (literal_at W.places (twin here)) ≡ true → Walk W m t f level here
   stayed g = record {
     paths = w.paths;
     done = w.done ++ here ∷ [];
@@ -249,7 +252,7 @@ module _ (places : List Place) (clauses : List Ref) (base head : ℕ) (m : Claus
     previous_is = sym (last_push (index_of f) here w.done);
     guarded = λ p h. elim (in_either p w.done (here ∷ []) h) [
       | inl a ↦ w.guarded p a
-      | inr b ↦ elim b [ inl e ↦ subst (λ q. up_to t.entries level (literal_at places (twin q)) ≡ true) (sym e) g | inr z ↦ absurd z ]
+      | inr b ↦ elim b [ inl e ↦ subst (λ q. up_to t.entries level (literal_at W.places (twin q)) ≡ true) (sym e) g | inr z ↦ absurd z ]
     ];
     f_in = w.f_in;
     f_false = w.f_false;
@@ -257,22 +260,22 @@ module _ (places : List Place) (clauses : List Ref) (base head : ℕ) (m : Claus
     levels = w.levels;
   }
 
-  pub stays : up_to t.entries level (literal_at places (twin here)) ≡ true → Walk places clauses base head m t f level here × IsShorter places places previous here
+  pub stays : up_to t.entries level (literal_at W.places (twin here)) ≡ true → Walk W m t f level here × IsShorter W.places W.places previous here
   stays g =
       let v = stayed g in
-      (v, record { less = omega (arith, walk_left places clauses base head m t f level here v, left_here) })
+      (v, record { less = omega (arith, walk_left W m t f level here v, left_here) })
 
   -- the clause's other watch came to the trail
   pub walk_pushed : (u : TrailValue) (e : Assigned) → u.vars ≡ t.vars → u.entries ≡ t.entries ++ e ∷ [] → holds t.entries e.literal ≡ false → holds t.entries (negation e.literal) ≡ false → e.level ≤ level
-      → Walk places clauses base head m u f level previous
+      → Walk W m u f level previous
   walk_pushed u e v q a b l = record {
     paths = w.paths;
     done = w.done;
     rest = w.rest;
     path = w.path;
     previous_is = w.previous_is;
-    watching = pushed places clauses base head m t w.paths w.watching u (e ∷ []) v q;
-    guarded = λ p h. subst (λ es. up_to es level (literal_at places (twin p)) ≡ true) (sym q) (up_to_front t.entries (e ∷ []) level (literal_at places (twin p)) (w.guarded p h));
+    watching = pushed W m t w.paths w.watching u (e ∷ []) v q;
+    guarded = λ p h. subst (λ es. up_to es level (literal_at W.places (twin p)) ≡ true) (sym q) (up_to_front t.entries (e ∷ []) level (literal_at W.places (twin p)) (w.guarded p h));
     f_in = subst (λ n. IsWithin n f) (sym v) w.f_in;
     f_false = subst (λ es. holds es (negation f) ≡ true) (sym q) (holds_front t.entries (e ∷ []) (negation f) w.f_false);
     sound = subst IsConsistent (sym q) (consistent_push t.entries e w.sound a b);
@@ -280,34 +283,34 @@ module _ (places : List Place) (clauses : List Ref) (base head : ℕ) (m : Claus
   }
 
   -- the place goes to another literal of its clause
-  module _ (ys : List Place) (x : Literal) (k : ℕ) (C : Clause) (st : Stands m (owner clauses base here) C) (a : 2 ≤ k) (b : k < length C) (at_k : (d : Literal) → get_or C k d ≡ x) (differ : IsDistinct same C)
-      (free : holds t.entries (negation x) ≡ false) (r : Relinks places ys previous here (index_of x) x) where
+  module _ (ys : List Place) (x : Literal) (k : ℕ) (C : Clause) (st : Stands m (owner W here) C) (a : 2 ≤ k) (b : k < length C) (at_k : (d : Literal) → get_or C k d ≡ x) (differ : IsDistinct same C)
+      (free : holds t.entries (negation x) ≡ false) (r : Relinks W.places ys previous here (index_of x) x) where
     pub x_apart : x ≢ f
     x_apart e = false≢true (sym free ∙ ap (λ l. holds t.entries (negation l)) e ∙ w.f_false)
 
-    abbrev went : Walk ys clauses base head (insert m (owner clauses base here).number ((owner clauses base here).place, swap C (here % 2) k)) t f level previous
+    abbrev went : Walk (record W { places = ys }) (insert m (owner W here).number ((owner W here).place, swap C (here % 2) k)) t f level previous
     went =
         let ha = index_apart x f x_apart in
-        let r' = subst (λ p. Relinks places ys p here (index_of x) x) w.previous_is r in
+        let r' = subst (λ p. Relinks W.places ys p here (index_of x) x) w.previous_is r in
         record {
           paths = moved_paths w.paths (index_of f) (w.done ++ behind.0) (index_of x) here;
           done = w.done;
           rest = behind.0;
-          watching = moved places ys clauses base head m t w.paths w.watching f x (index_of f) here k w.done behind.0 C f_head path_here ha here_long here_lit st a b at_k differ w.sound w.f_false free r';
+          watching = moved W ys m t w.paths w.watching f x (index_of f) here k w.done behind.0 C f_head path_here ha here_long here_lit st a b at_k differ w.sound w.f_false free r';
           path = after_l w.paths (index_of f) (index_of x) here w.done behind.0 path_here ha;
           previous_is = w.previous_is;
-          guarded = λ p h. subst (λ l. up_to t.entries level l ≡ true) (sym (r.literals (twin p) (λ e. w.sound f (up_to_holds t.entries level f (subst (λ l. up_to t.entries level l ≡ true) (ap (literal_at places) e ∙ here_lit) (w.guarded p h))) w.f_false))) (w.guarded p h);
+          guarded = λ p h. subst (λ l. up_to t.entries level l ≡ true) (sym (r.literals (twin p) (λ e. w.sound f (up_to_holds t.entries level f (subst (λ l. up_to t.entries level l ≡ true) (ap (literal_at W.places) e ∙ here_lit) (w.guarded p h))) w.f_false))) (w.guarded p h);
           f_in = w.f_in;
           f_false = w.f_false;
           sound = w.sound;
           levels = w.levels;
         }
 
-    pub moves : Walk ys clauses base head (insert m (owner clauses base here).number ((owner clauses base here).place, swap C (here % 2) k)) t f level previous × IsShorter places ys previous previous
-    moves = (went, record { less = omega (arith, walk_left ys clauses base head _ t f level previous went, left_here) })
+    pub moves : Walk (record W { places = ys }) (insert m (owner W here).number ((owner W here).place, swap C (here % 2) k)) t f level previous × IsShorter W.places ys previous previous
+    moves = (went, record { less = omega (arith, walk_left (record W { places = ys }) _ t f level previous went, left_here) })
 
   -- ---- in the words of the code: `at` is the owner, `ws` its literals
-  module _ (at : Ref) (owns : at ≡ owner clauses base here) (ws : Clause) (reads : (C : Clause) → Stands m at C → ws ≡ C) where
+  module _ (at : Ref) (owns : at ≡ owner W here) (ws : Clause) (reads : (C : Clause) → Stands m at C → ws ≡ C) where
     pub stands_at : Stands m at standing.0
     stands_at = subst (λ a. Stands m a standing.0) (sym owns) standing.1
 
@@ -327,37 +330,37 @@ module _ (places : List Place) (clauses : List Ref) (base head : ℕ) (m : Claus
       pub found_apart : x ≢ f
       found_apart e = false≢true (sym found.3 ∙ ap (λ l. holds t.entries (negation l)) e ∙ w.f_false)
 
-      pub moves_at : IsDistinct same ws → (new : Clauses) → ((C : Clause) → Stands m at C → new ≡ insert m at.number (at.place, swap C (here % 2) k)) → (ys : List Place) (h : ℕ) → h ≡ index_of x → Relinks places ys previous here h x
-          → AreSame m new × (Walk ys clauses base head new t f level previous × IsShorter places ys previous previous)
+      pub moves_at : IsDistinct same ws → (new : Clauses) → ((C : Clause) → Stands m at C → new ≡ insert m at.number (at.place, swap C (here % 2) k)) → (ys : List Place) (h : ℕ) → h ≡ index_of x → Relinks W.places ys previous here h x
+          → AreSame m new × (Walk (record W { places = ys }) new t f level previous × IsShorter W.places ys previous previous)
       moves_at differ new says ys h head_is r =
           let D = standing.0 in
           let e : new ≡ insert m at.number (at.place, swap D (here % 2) k) = says D stands_at in
           let kb : k < length D = subst (λ C. k < length C) ws_is found.1 in
-          let r' = subst (λ n. Relinks places ys previous here n x) head_is r in
+          let r' = subst (λ n. Relinks W.places ys previous here n x) head_is r in
           let z = side here in
           let a = two D standing.1 in
           let go = moves ys x k D standing.1 found.0 kb (subst (λ C. (d : Literal) → get_or C k d ≡ x) ws_is found.2) (subst (IsDistinct same) ws_is differ) found.3 r' in
-          let new_is : new ≡ insert m (owner clauses base here).number ((owner clauses base here).place, swap D (here % 2) k) = e ∙ ap (λ (b : Ref). insert m b.number (b.place, swap D (here % 2) k)) owns in (
+          let new_is : new ≡ insert m (owner W here).number ((owner W here).place, swap D (here % 2) k) = e ∙ ap (λ (b : Ref). insert m b.number (b.place, swap D (here % 2) k)) owns in (
             subst (AreSame m) (sym e) (same_swapped m at D (here % 2) k stands_at (omega arith) kb),
-            subst (λ n. Walk ys clauses base head n t f level previous × IsShorter places ys previous previous) (sym new_is) go,
+            subst (λ n. Walk (record W { places = ys }) n t f level previous × IsShorter W.places ys previous previous) (sym new_is) go,
           )
 
     module _ (none : FindsWatch t.entries ws None) where
       none_free : (k : ℕ) (d : Literal) → 2 ≤ k → k < length standing.0 → holds t.entries (negation (get_or standing.0 k d)) ≡ true
       none_free = subst (λ C. (k : ℕ) (d : Literal) → 2 ≤ k → k < length C → holds t.entries (negation (get_or C k d)) ≡ true) ws_is none
 
-      lives_at : live_among (numbers clauses) (live_of m) at.number standing.0
-      lives_at = subst (λ (a : Ref). live_among (numbers clauses) (live_of m) a.number standing.0) (sym owns) (lives standing.0 standing.1)
+      lives_at : live_among (numbers W.clauses) (live_of m) at.number standing.0
+      lives_at = subst (λ (a : Ref). live_among (numbers W.clauses) (live_of m) a.number standing.0) (sym owns) (lives standing.0 standing.1)
 
-      pub stops : (o : Literal) → o ≡ literal_at places (twin here) → holds t.entries (negation o) ≡ true → Stops places clauses base head m t at.number
+      pub stops : (o : Literal) → o ≡ literal_at W.places (twin here) → holds t.entries (negation o) ≡ true → Stops W m t at.number
       stops o e h = record {
         paths = w.paths;
         watching = w.watching;
         conflict = (standing.0, lives_at, is_false standing.0 standing.1 none_free (ap (λ l. holds t.entries (negation l)) (sym e) ∙ h));
       }
 
-      pub implies : (o : Literal) (n : ℕ) → o ≡ literal_at places (twin here) → holds t.entries o ≡ false → holds t.entries (negation o) ≡ false → n ≡ present t.entries
-          → IsImplied (live_among (numbers clauses) (live_of m)) t.entries (record { literal = o; level = n; reason = Some at.number })
+      pub implies : (o : Literal) (n : ℕ) → o ≡ literal_at W.places (twin here) → holds t.entries o ≡ false → holds t.entries (negation o) ≡ false → n ≡ present t.entries
+          → IsImplied (live_among (numbers W.clauses) (live_of m)) t.entries (record { literal = o; level = n; reason = Some at.number })
       implies o n e a b l = record {
         number = at.number;
         clause = standing.0;
@@ -368,20 +371,20 @@ module _ (places : List Place) (clauses : List Ref) (base head : ℕ) (m : Claus
       }
 
 -- the other watch came to the trail, and the place stays
-pub stays_pushed : (places : List Place) (clauses : List Ref) (base head : ℕ) (m : Clauses) (t : TrailValue) (f : Literal) (level previous here : ℕ)
-    (w : Walk places clauses base head m t f level previous) (is : here ≡ next_of places previous) (some : 0 < here)
-    → (u : TrailValue) (e : Assigned) → e.literal ≡ literal_at places (twin here) → holds t.entries e.literal ≡ false → holds t.entries (negation e.literal) ≡ false → e.level ≡ present t.entries
+pub stays_pushed : (W : Watches) (m : Clauses) (t : TrailValue) (f : Literal) (level previous here : ℕ)
+    (w : Walk W m t f level previous) (is : here ≡ next_of W.places previous) (some : 0 < here)
+    → (u : TrailValue) (e : Assigned) → e.literal ≡ literal_at W.places (twin here) → holds t.entries e.literal ≡ false → holds t.entries (negation e.literal) ≡ false → e.level ≡ present t.entries
     → u.vars ≡ t.vars → u.entries ≡ t.entries ++ e ∷ []
-    → Walk places clauses base head m u f level here × IsShorter places places previous here
-stays_pushed places clauses base head m t f level previous here w is some u e o a b l v q =
+    → Walk W m u f level here × IsShorter W.places W.places previous here
+stays_pushed W m t f level previous here w is some u e o a b l v q =
     let le : e.level ≤ level = let p = present_le t.entries level w.levels in omega arith in
-    let v' = walk_pushed places clauses base head m t f level previous here w is some u e v q a b le in
+    let v' = walk_pushed W m t f level previous here w is some u e v q a b le in
     let h : holds u.entries e.literal ≡ true = subst (λ es. holds es e.literal ≡ true) (sym q) (holds_pushed t.entries e) in
-    stays places clauses base head m u f level previous here v' is some (holds_up_to u.entries level (literal_at places (twin here)) v'.levels (ap (holds u.entries) (sym o) ∙ h))
+    stays W m u f level previous here v' is some (holds_up_to u.entries level (literal_at W.places (twin here)) v'.levels (ap (holds u.entries) (sym o) ∙ h))
 
 -- the last that was looked at lies in the store
-pub previous_low : (places : List Place) (clauses : List Ref) (base head : ℕ) (m : Clauses) (t : TrailValue) (f : Literal) (level previous : ℕ) (w : Walk places clauses base head m t f level previous) → previous < length places
-previous_low places clauses base head m t f level previous w =
+pub previous_low : (W : Watches) (m : Clauses) (t : TrailValue) (f : Literal) (level previous : ℕ) (w : Walk W m t f level previous) → previous < length W.places
+previous_low W m t f level previous w =
     let a = index_below t.vars f w.f_in in
     let b = w.watching.wide in
     let c = w.watching.low in
@@ -391,10 +394,10 @@ previous_low places clauses base head m t f level previous w =
     ]
 
 -- ---- the beginning and the end
-pub walk_begins : (places : List Place) (clauses : List Ref) (base head : ℕ) (m : Clauses) (t : TrailValue) (paths : ℕ → List ℕ) (f : Literal) (level : ℕ)
-    → IsWatching places clauses base head m t paths → IsWithin t.vars f → holds t.entries (negation f) ≡ true → IsConsistent t.entries → All (λ e. e.level ≤ level) t.entries
-    → Walk places clauses base head m t f level (index_of f)
-walk_begins places clauses base head m t paths f level w b g s l = record {
+pub walk_begins : (W : Watches) (m : Clauses) (t : TrailValue) (paths : ℕ → List ℕ) (f : Literal) (level : ℕ)
+    → IsWatching W m t paths → IsWithin t.vars f → holds t.entries (negation f) ≡ true → IsConsistent t.entries → All (λ e. e.level ≤ level) t.entries
+    → Walk W m t f level (index_of f)
+walk_begins W m t paths f level w b g s l = record {
   paths = paths;
   done = [];
   rest = paths (index_of f);
@@ -408,20 +411,20 @@ walk_begins places clauses base head m t paths f level w b g s l = record {
   levels = l;
 }
 
-pub walk_ends : (places : List Place) (clauses : List Ref) (base head : ℕ) (m : Clauses) (t : TrailValue) (f : Literal) (level previous : ℕ) (w : Walk places clauses base head m t f level previous)
-    → next_of places previous ≡ 0 → ((d : Assigned) → (get_or t.entries head d).literal ≡ negation f) → ((d : Assigned) → (get_or t.entries head d).level ≡ level) → head < length t.entries
-    → IsWatching places clauses base (head + 1) m t w.paths
-walk_ends places clauses base head m t f level previous w z is at l = advance places clauses base head m t w.paths w.watching f level is at l (λ p h. w.guarded p (only p h)) where
-  none_left : (rest : List ℕ) → IsChain places previous rest → ((q : ℕ) → IsIn q rest → 0 < q) → rest ≡ []
+pub walk_ends : (W : Watches) (m : Clauses) (t : TrailValue) (f : Literal) (level previous : ℕ) (w : Walk W m t f level previous)
+    → next_of W.places previous ≡ 0 → ((d : Assigned) → (get_or t.entries W.head d).literal ≡ negation f) → ((d : Assigned) → (get_or t.entries W.head d).level ≡ level) → W.head < length t.entries
+    → IsWatching (past_head W) m t w.paths
+walk_ends W m t f level previous w z is at l = advance W m t w.paths w.watching f level is at l (λ p h. w.guarded p (only p h)) where
+  none_left : (rest : List ℕ) → IsChain W.places previous rest → ((q : ℕ) → IsIn q rest → 0 < q) → rest ≡ []
   none_left [] c h = refl
   none_left (q ∷ rest) c h = absurd (let a = h q (inl refl) in omega (arith, c.0))
 
-  low : index_of f < base
+  low : index_of f < W.base
   low = let a = index_below t.vars f w.f_in in let b = w.watching.wide in omega arith
 
   rest_none : w.rest ≡ []
   rest_none = none_left w.rest
-      (subst (λ p. IsChain places p w.rest) (sym w.previous_is) (chain_rest places (index_of f) w.done w.rest (subst (IsChain places (index_of f)) w.path (w.watching.chains.chain (index_of f) low))))
+      (subst (λ p. IsChain W.places p w.rest) (sym w.previous_is) (chain_rest W.places (index_of f) w.done w.rest (subst (IsChain W.places (index_of f)) w.path (w.watching.chains.chain (index_of f) low))))
       (λ q i. let a = w.watching.chains.real (index_of f) q (subst (IsIn q) (sym w.path) (in_right q w.done w.rest i)) in omega (arith, a.0))
 
   only : (p : ℕ) → IsIn p (w.paths (index_of f)) → IsIn p w.done
@@ -429,3 +432,49 @@ walk_ends places clauses base head m t f level previous w z is at l = advance pl
     | inl a ↦ a
     | inr b ↦ absurd (subst (IsIn p) rest_none b)
   ]
+
+-- ---- the walk along the chain of the entry at the head
+pub walk_stays : (W : Watches) (m : Clauses) (t : TrailValue) (previous here : ℕ) (k : IsWalk W m t previous)
+    → Walk W m t (negation k.entry.literal) k.entry.level here × IsShorter W.places W.places previous here → Visits W W m t previous here Stays
+walk_stays W m t previous here k v = (record { entry = k.entry; inside = k.inside; entry_is = k.entry_is; walk = v.0 }, v.1)
+
+pub walk_grows : (W : Watches) (m : Clauses) (t u : TrailValue) (previous here : ℕ) (k : IsWalk W m t previous) (e : Assigned) → u.entries ≡ t.entries ++ e ∷ []
+    → Walk W m u (negation k.entry.literal) k.entry.level here × IsShorter W.places W.places previous here → Visits W W m u previous here Stays
+walk_grows W m t u previous here k e q v = (
+  record {
+    entry = k.entry;
+    inside = omega (arith, k.inside, ap length q, length-append t.entries (e ∷ []));
+    entry_is = λ d. ap (λ es. get_or es W.head d) q ∙ get_or_append_left t.entries (e ∷ []) d W.head k.inside ∙ k.entry_is d;
+    walk = v.0;
+  },
+  v.1,
+)
+
+pub walk_moves : (old new : Watches) (m n : Clauses) (t : TrailValue) (previous here : ℕ) (k : IsWalk old m t previous) → IsRelinked old new
+    → Walk (record old { places = new.places }) n t (negation k.entry.literal) k.entry.level previous × IsShorter old.places new.places previous previous → Visits old new n t previous here Moves
+walk_moves old new m n t previous here k r v = (subst (λ X. IsWalk X n t previous) (sym r.rest) (record { entry = k.entry; inside = k.inside; entry_is = k.entry_is; walk = v.0 }), v.1)
+
+pub walk_starts : (W : Watches) (m : Clauses) (t : TrailValue) (e : Assigned) → AreWatching W m t → IsTrailValue t → W.head < length t.entries → ((d : Assigned) → get_or t.entries W.head d ≡ e) → All (λ x. x.level ≤ e.level) t.entries
+    → IsWalk W m t (index_of (negation e.literal))
+walk_starts W m t e ready valid inside is levels = record {
+  entry = e;
+  inside = inside;
+  entry_is = is;
+  walk = walk_begins W m t ready.0 (negation e.literal) e.level ready.1
+      (IsWithin-negation t.vars e.literal (subst (λ (x : Assigned). IsWithin t.vars x.literal) (is e) (valid.within W.head e inside)))
+      (ap (holds t.entries) (negation-negation e.literal) ∙ subst (λ (x : Assigned). holds t.entries x.literal ≡ true) (is e) (entry_holds t.entries W.head e inside))
+      (λ l x y. consistent t.entries l valid.apart x y)
+      levels;
+}
+
+pub walk_stops : (W : Watches) (m : Clauses) (t : TrailValue) (previous : ℕ) (k : IsWalk W m t previous) → next_of W.places previous ≡ 0 → AreWatching (past_head W) m t
+walk_stops W m t previous k z = (
+  k.walk.paths,
+  walk_ends W m t (negation k.entry.literal) k.entry.level previous k.walk z
+      (λ d. ap (λ (x : Assigned). x.literal) (k.entry_is d) ∙ sym (negation-negation k.entry.literal))
+      (λ d. ap (λ (x : Assigned). x.level) (k.entry_is d))
+      k.inside,
+)
+
+pub walk_low : (W : Watches) (m : Clauses) (t : TrailValue) (previous : ℕ) → IsWalk W m t previous → previous < length W.places
+walk_low W m t previous k = previous_low W m t (negation k.entry.literal) k.entry.level previous k.walk

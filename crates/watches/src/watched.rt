@@ -5,16 +5,17 @@
 //! wait to be looked at, one for those that need no look any more. So a watch moves by three stores and nothing grows, and
 //! the clause's other watched literal is at hand: where it is true, the clause is not read.
 
-ghost use Rattle.std.specs.Prelude.{◌≡◌, ℕ, ◌+◌, ◌*◌, ◌<◌, ◌≤◌, [], List};
+ghost use Rattle.std.specs.Prelude.{◌≡◌, ◌+◌, ◌*◌, ◌<◌, []};
 ghost use Rattle.watches.specs.Scanning.{numbers};
 ghost use Rattle.watches.specs.inner.Ready.{IsReady};
 ghost use Rattle.watches.specs.inner.ReadyLaws.{ready_pushed, ready_elsewhere};
 
-mod drain;
+mod chains;
 mod lookup;
 mod ordering;
 mod outcome;
 mod places;
+mod propagation;
 mod renewal;
 mod replacement;
 mod starts;
@@ -25,11 +26,11 @@ mod walk;
 use crate::moving::follow_all;
 use crate::propagator::Propagator;
 use crate::trail::Trail;
-use crate::watched::drain::drain;
+use crate::watched::chains::Chains;
 use crate::watched::lookup::find_clause;
 use crate::watched::ordering::put_best_first;
-use crate::watched::places::{Place, append};
-use crate::watched::renewal::{first_two, put_heads, renew};
+use crate::watched::places::append;
+use crate::watched::renewal::{first_two, put_heads};
 use clause_arena::{Arena, Ref};
 use std::alloc::{AllocError, Global};
 use std::marker::Model;
@@ -41,19 +42,14 @@ const MOST_VARS: u32 = 2_147_483_647;
 const MOST_PLACES: usize = 4_294_967_294;
 
 /// Watches two literals of each clause, and looks at the clause only where one of them becomes false. The look for another literal
-/// to watch begins at the clause's place in `starts`, where its last one ended.
+/// to watch begins where the clause's last one ended.
 ///
 /// A clause that is detached is only marked, in `live`; the next `propagate` takes out all that are marked in one sweep, and makes the
 /// chains anew.
 #[derive(Drop)]
 pub struct Watched {
-    places: Vec<Place>,
-    clauses: Vec<Ref>,
+    chains: Chains,
     live: Vec<bool>,
-    starts: Vec<u32>,
-    base: usize,
-    head: usize,
-    stale: bool,
 }
 
 impl Model for Watched {
@@ -62,9 +58,9 @@ impl Model for Watched {
 
     ghost Value = { Watches };
 
-    ghost view = { λ w. record { places = w.places.items; clauses = attached_of w.clauses.items w.live.items; base = w.base; head = w.head; stale = w.stale } };
+    ghost view = { λ w. record { places = w.chains.places.items; clauses = attached_of w.chains.clauses.items w.live.items; base = w.chains.base; head = w.chains.head; stale = w.chains.stale } };
 
-    ghost invariant = { λ w. AreWatches w.places.items w.clauses.items w.live.items w.base w.stale };
+    ghost invariant = { λ w. AreWatches w.chains.places.items w.chains.clauses.items w.live.items w.chains.base w.chains.stale };
 }
 
 impl Watched {
@@ -73,13 +69,15 @@ impl Watched {
         ensures { numbers result.clauses ≡ [] }
     {
         Watched {
-            places: Vec::new(alloc),
-            clauses: Vec::new(alloc),
+            chains: Chains {
+                places: Vec::new(alloc),
+                clauses: Vec::new(alloc),
+                starts: Vec::new(alloc),
+                base: 0,
+                head: 0,
+                stale: false,
+            },
             live: Vec::new(alloc),
-            starts: Vec::new(alloc),
-            base: 0,
-            head: 0,
-            stale: false,
         }
     }
 }
@@ -98,79 +96,57 @@ impl Propagator for Watched {
             return Err(AllocError);
         }
         let base = 2 * (vars as usize) + 2;
-        let alloc = *self.places.allocator();
+        let alloc = *self.chains.places.allocator();
         let mut places = Vec::with_capacity(alloc, base)?;
         put_heads(&mut places, base);
-        self.places = places;
-        self.clauses.clear();
+        self.chains.places = places;
+        self.chains.clauses.clear();
         self.live.clear();
-        self.starts.clear();
-        self.base = base;
-        self.head = 0;
-        self.stale = false;
+        self.chains.starts.clear();
+        self.chains.base = base;
+        self.chains.head = 0;
+        self.chains.stale = false;
         Ok(())
     }
 
     fn attach(&mut self, arena: &mut Arena, trail: &Trail, at: Ref) -> Result<(), AllocError> {
-        if self.places.len() > MOST_PLACES {
+        if self.chains.places.len() > MOST_PLACES {
             return Err(AllocError);
         }
-        self.clauses.reserve(1)?;
+        self.chains.clauses.reserve(1)?;
         self.live.reserve(1)?;
-        self.places.reserve(2)?;
-        self.starts.reserve(1)?;
+        self.chains.places.reserve(2)?;
+        self.chains.starts.reserve(1)?;
         put_best_first(arena, trail, at);
         let pair = first_two(arena.clause(at));
-        self.clauses.push_reserved(at);
+        self.chains.clauses.push_reserved(at);
         self.live.push_reserved(true);
-        self.starts.push_reserved(0);
-        append(&mut self.places, pair.one, pair.two);
+        self.chains.starts.push_reserved(0);
+        append(&mut self.chains.places, pair.one, pair.two);
         Ok(())
     }
 
     fn detach(&mut self, _arena: &Arena, at: Ref) {
-        if let Some(i) = find_clause(&self.clauses, &self.live, at.number()) {
+        if let Some(i) = find_clause(&self.chains.clauses, &self.live, at.number()) {
             self.live[i] = false;
-            self.stale = true;
+            self.chains.stale = true;
         }
     }
 
     fn moved(&mut self, moves: &[(Ref, Ref)]) {
-        follow_all(&mut self.clauses, moves);
+        follow_all(&mut self.chains.clauses, moves);
     }
 
     fn undo(&mut self, trail: &mut Trail, level: u32) {
         trail.cut(level);
         let len = trail.len();
-        if len < self.head {
-            self.head = len;
+        if len < self.chains.head {
+            self.chains.head = len;
         }
     }
 
     fn propagate(&mut self, arena: &mut Arena, trail: &mut Trail) -> Option<u64> {
-        let base = self.base;
-        let mut head = renew(
-            &mut self.places,
-            &mut self.clauses,
-            &mut self.live,
-            &mut self.starts,
-            base,
-            arena,
-            trail,
-            self.stale,
-            self.head,
-        );
-        let found = drain(
-            &mut self.places,
-            &self.clauses,
-            base,
-            &mut self.starts,
-            arena,
-            trail,
-            &mut head,
-        );
-        self.head = head;
-        self.stale = false;
-        found
+        self.chains.renew(&mut self.live, arena, trail);
+        self.chains.propagate(arena, trail)
     }
 }

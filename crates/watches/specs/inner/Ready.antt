@@ -5,7 +5,7 @@ use Rattle.clause_arena.specs.Clauses.{Clauses}
 use Rattle.watches.specs.Trails.{TrailValue}
 use Rattle.watches.specs.inner.Scanning.{IsHere}
 use Rattle.watches.specs.declared.watched.places.Place.{Place}
-use Rattle.watches.specs.inner.Watching.{IsWatching, no_clause}
+use Rattle.watches.specs.inner.Watching.{AreWatching, no_clause}
 use Rattle.watches.specs.Ready.{Watches, attached_of}
 
 -- no two clauses have one number
@@ -26,4 +26,4 @@ pub record AreWatches (places : List Place) (clauses : List Ref) (live : List Bo
 pub record IsReady (w : Watches) (m : Clauses) (t : TrailValue) : Type 0 where
   pub wide : 2 * t.vars + 2 ≤ w.base
   pub here : All (IsHere m t.vars) w.clauses
-  pub watching : w.stale ≡ false → (paths : ℕ → List ℕ) × IsWatching w.places w.clauses w.base w.head m t paths
+  pub watching : w.stale ≡ false → AreWatching w m t

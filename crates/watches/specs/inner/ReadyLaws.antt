@@ -7,10 +7,8 @@ use Rattle.std.proofs.lemmas.Bool.{false≢true}
 use Rattle.std.proofs.lemmas.List.{get_or_append_left}
 use Rattle.std.proofs.lemmas.List.Folds.{list_any-append}
 use Rattle.dimacs.specs.logic.Literal.{Literal, IsWithin}
-use Rattle.clause_arena.specs.declared.reference.Ref.{Ref}
 use Rattle.clause_arena.specs.Clauses.{Clauses}
 use Rattle.watches.specs.declared.trail.Assigned.{Assigned}
-use Rattle.watches.specs.declared.watched.places.Place.{Place}
 use Rattle.watches.specs.Trails.{TrailValue, up_to}
 use Rattle.watches.specs.Scanning.{numbers}
 use Rattle.watches.specs.inner.Scanning.{IsHere}
@@ -32,9 +30,9 @@ guarded_pushed es more head w b l g i d h e =
     let s = get_or_append_left es more d i (omega arith) in
     subst (λ (x : Assigned). up_to (es ++ more) x.level b ≡ true) (sym s) (up_to_front es more _ b (g i d h (ap (λ (x : Assigned). x.literal) (sym s) ∙ e)))
 
-module _ (places : List Place) (clauses : List Ref) (base head : ℕ) (m : Clauses) (t : TrailValue) (paths : ℕ → List ℕ) (w : IsWatching places clauses base head m t paths) where
+module _ (W : Watches) (m : Clauses) (t : TrailValue) (paths : ℕ → List ℕ) (w : IsWatching W m t paths) where
   -- literals came to the trail's end
-  pub pushed : (u : TrailValue) (more : List Assigned) → u.vars ≡ t.vars → u.entries ≡ t.entries ++ more → IsWatching places clauses base head m u paths
+  pub pushed : (u : TrailValue) (more : List Assigned) → u.vars ≡ t.vars → u.entries ≡ t.entries ++ more → IsWatching W m u paths
   pushed u more v e = record {
     chains = w.chains;
     wide = omega (arith, w.wide);
@@ -43,13 +41,13 @@ module _ (places : List Place) (clauses : List Ref) (base head : ℕ) (m : Claus
     paired = w.paired;
     partly = w.partly;
     named = w.named;
-    here = subst (λ n. All (IsHere m n) clauses) (sym v) w.here;
+    here = subst (λ n. All (IsHere m n) W.clauses) (sym v) w.here;
     front = w.front;
     apart = w.apart;
     home = λ l p b h. w.home l p (subst (λ n. IsWithin n l) v b) h;
     kept = λ p h. elim (w.kept p h) [
       | inl i ↦ inl i
-      | inr i ↦ inr (i.0, subst (λ es. IsGuarded es head (literal_at places p) (literal_at places (twin p))) (sym e) (guarded_pushed t.entries more head (literal_at places p) (literal_at places (twin p)) w.handled i.1))
+      | inr i ↦ inr (i.0, subst (λ es. IsGuarded es W.head (literal_at W.places p) (literal_at W.places (twin p))) (sym e) (guarded_pushed t.entries more W.head (literal_at W.places p) (literal_at W.places (twin p)) w.handled i.1))
     ];
     short = λ i b s. elim (w.short i b s) [
       | inl h ↦ inl h
@@ -59,7 +57,7 @@ module _ (places : List Place) (clauses : List Ref) (base head : ℕ) (m : Claus
   }
 
   -- other clauses changed
-  pub elsewhere : (k : Clauses) → ((n : ℕ) → Contains (numbers clauses) n → get k n ≡ get m n) → IsWatching places clauses base head k t paths
+  pub elsewhere : (k : Clauses) → ((n : ℕ) → Contains (numbers W.clauses) n → get k n ≡ get m n) → IsWatching W k t paths
   elsewhere k e = record {
     chains = w.chains;
     wide = w.wide;
@@ -72,13 +70,13 @@ module _ (places : List Place) (clauses : List Ref) (base head : ℕ) (m : Claus
     home = w.home;
     kept = w.kept;
     handled = w.handled;
-    here = here_elsewhere m k t.vars clauses w.here e;
+    here = here_elsewhere m k t.vars W.clauses w.here e;
     front = λ p C d h s.
-        let l : (p - base) / 2 < length clauses = let a = h.0 in let b = h.1 in let c = w.partly in let z = w.even in let y = w.paired in omega arith in
-        w.front p C d h (sym (e _ (has_number clauses ((p - base) / 2) no_clause l)) ∙ s.0, s.1);
+        let l : (p - W.base) / 2 < length W.clauses = let a = h.0 in let b = h.1 in let c = w.partly in let z = w.even in let y = w.paired in omega arith in
+        w.front p C d h (sym (e _ (has_number W.clauses ((p - W.base) / 2) no_clause l)) ∙ s.0, s.1);
     short = λ i b s. elim (w.short i b s) [
       | inl h ↦ inl h
-      | inr h ↦ inr (λ C st. h C (sym (e _ (has_number clauses i no_clause (let c = w.partly in omega arith))) ∙ st.0, st.1))
+      | inr h ↦ inr (λ C st. h C (sym (e _ (has_number W.clauses i no_clause (let c = w.partly in omega arith))) ∙ st.0, st.1))
     ];
   }
 
@@ -86,12 +84,12 @@ pub ready_pushed : (w : Watches) (m : Clauses) (t u : TrailValue) (more : List A
 ready_pushed w m t u more r v e = record {
   wide = omega (arith, r.wide);
   here = here_pushed m t u w.clauses r.here v;
-  watching = λ s. let x = r.watching s in (x.0, pushed w.places w.clauses w.base w.head m t x.0 x.1 u more v e);
+  watching = λ s. let x = r.watching s in (x.0, pushed w m t x.0 x.1 u more v e);
 }
 
 pub ready_elsewhere : (w : Watches) (m k : Clauses) (t : TrailValue) → IsReady w m t → ((n : ℕ) → Contains (numbers w.clauses) n → get k n ≡ get m n) → IsReady w k t
 ready_elsewhere w m k t r e = record {
   wide = r.wide;
   here = here_elsewhere m k t.vars w.clauses r.here e;
-  watching = λ s. let x = r.watching s in (x.0, elsewhere w.places w.clauses w.base w.head m t x.0 x.1 k e);
+  watching = λ s. let x = r.watching s in (x.0, elsewhere w m t x.0 x.1 k e);
 }

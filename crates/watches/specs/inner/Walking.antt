@@ -1,35 +1,43 @@
 -- What holds on the way along one chain.
-use Rattle.std.specs.Prelude.{◌≡◌, ℕ, ◌+◌, zero, suc, ◌≤◌, ◌==◌, if◌then◌else◌, true, List, ◌++◌, length, All, Contains}
+use Rattle.std.specs.Prelude.{◌≡◌, ℕ, ◌+◌, zero, suc, ◌<◌, ◌≤◌, ◌==◌, if◌then◌else◌, true, List, ◌++◌, length, slice_index_or, All, Contains}
 use Rattle.dimacs.specs.logic.Literal.{Literal, Clause, IsWithin, negation, index_of}
 use Rattle.clause_arena.specs.declared.reference.Ref.{Ref}
 use Rattle.clause_arena.specs.Clauses.{Clauses, Stands, live_of}
 use Rattle.watches.specs.declared.trail.Assigned.{Assigned}
 use Rattle.watches.specs.Trails.{TrailValue, holds, up_to}
-use Rattle.watches.specs.Law.{IsConflict, live_among}
+use Rattle.watches.specs.Law.{Grows, IsConflict, AreSame, live_among}
 use Rattle.watches.specs.Scanning.{numbers}
 use Rattle.watches.specs.declared.watched.places.Place.{Place}
 use Rattle.watches.specs.declared.watched.outcome.Outcome.{Outcome}
 use Rattle.watches.specs.declared.watched.outcome.Outcome.TheVariants.{Stays, Moves, False}
+use Rattle.watches.specs.Ready.{Watches}
 use Rattle.watches.specs.inner.Chains.{IsIn, last_of, literal_at, next_of, twin}
-use Rattle.watches.specs.inner.Watching.{owner, IsWatching}
+use Rattle.watches.specs.inner.Watching.{owner, IsWatching, IsRelinked}
 
 -- no literal stands with its negation
 abbrev pub IsConsistent : List Assigned → Type 0
 IsConsistent es = (l : Literal) → holds es l ≡ true → holds es (negation l) ≡ true → ⊥
 
 -- `previous` is the last of the chain of f that was looked at
-pub record Walk (places : List Place) (clauses : List Ref) (base head : ℕ) (m : Clauses) (t : TrailValue) (f : Literal) (level previous : ℕ) : Type 0 where
+pub record Walk (W : Watches) (m : Clauses) (t : TrailValue) (f : Literal) (level previous : ℕ) : Type 0 where
   pub paths : ℕ → List ℕ
   pub done : List ℕ
   pub rest : List ℕ
-  pub watching : IsWatching places clauses base head m t paths
+  pub watching : IsWatching W m t paths
   pub path : paths (index_of f) ≡ done ++ rest
   pub previous_is : previous ≡ last_of (index_of f) done
-  pub guarded : (p : ℕ) → IsIn p done → up_to t.entries level (literal_at places (twin p)) ≡ true
+  pub guarded : (p : ℕ) → IsIn p done → up_to t.entries level (literal_at W.places (twin p)) ≡ true
   pub f_in : IsWithin t.vars f
   pub f_false : holds t.entries (negation f) ≡ true
   pub sound : IsConsistent t.entries
   pub levels : All (λ e. e.level ≤ level) t.entries
+
+-- the same, of the literal that the trail's entry at the head makes false
+pub record IsWalk (W : Watches) (m : Clauses) (t : TrailValue) (previous : ℕ) : Type 0 where
+  pub entry : Assigned
+  pub inside : W.head < length t.entries
+  pub entry_is : (d : Assigned) → slice_index_or t.entries W.head d ≡ entry
+  pub walk : Walk W m t (negation entry.literal) entry.level previous
 
 -- how many places a chain has from p on, at most n
 abbrev pub left_from : List Place → ℕ → ℕ → ℕ
@@ -44,41 +52,54 @@ left_behind places previous = left_from places (suc (length places)) (next_of pl
 pub record IsShorter (old new : List Place) (before behind : ℕ) : Type 0 where
   pub less : left_behind new behind + 1 ≡ left_behind old before
 
+-- places were relinked, the trail grew by what live clauses imply, and perhaps literals changed their places in clauses
+pub record IsStep (old new : Watches) (m k : Clauses) (t u : TrailValue) : Type 0 where
+  pub rest : IsRelinked old new
+  pub grows : Grows (live_among (numbers old.clauses) (live_of m)) t u
+  pub same : AreSame m k
+
+-- the same, and literals of the trail were worked through
+pub record HasPropagated (old new : Watches) (m k : Clauses) (t u : TrailValue) : Type 0 where
+  pub long : length new.places ≡ length old.places
+  pub rest : new ≡ record old { places = new.places; head = new.head }
+  pub grows : Grows (live_among (numbers old.clauses) (live_of m)) t u
+  pub same : AreSame m k
+
 -- the walk is over: a clause is false
-pub record Stops (places : List Place) (clauses : List Ref) (base head : ℕ) (m : Clauses) (t : TrailValue) (n : ℕ) : Type 0 where
+pub record Stops (W : Watches) (m : Clauses) (t : TrailValue) (n : ℕ) : Type 0 where
   pub paths : ℕ → List ℕ
-  pub watching : IsWatching places clauses base head m t paths
-  pub conflict : IsConflict (live_among (numbers clauses) (live_of m)) t.entries n
+  pub watching : IsWatching W m t paths
+  pub conflict : IsConflict (live_among (numbers W.clauses) (live_of m)) t.entries n
 
 -- what a visit leaves
-abbrev pub Visits : (old new : List Place) → List Ref → (base head : ℕ) → Clauses → TrailValue → Literal → (level previous here : ℕ) → Outcome → Type 0
-Visits old new clauses base head m t f level previous here Stays = Walk new clauses base head m t f level here × IsShorter old new previous here
-Visits old new clauses base head m t f level previous here Moves = Walk new clauses base head m t f level previous × IsShorter old new previous previous
-Visits old new clauses base head m t f level previous here (False n) = Stops new clauses base head m t n
+abbrev pub Visits : (old new : Watches) → Clauses → TrailValue → (previous here : ℕ) → Outcome → Type 0
+Visits old new m t previous here Stays = IsWalk new m t here × IsShorter old.places new.places previous here
+Visits old new m t previous here Moves = IsWalk new m t previous × IsShorter old.places new.places previous previous
+Visits old new m t previous here (False n) = Stops new m t n
 
 -- a literal of the clause is true
 abbrev pub IsSatisfied : Clauses → List Assigned → Ref → Type 0
 IsSatisfied m entries at = (C : Clause) → Stands m at C → (b : Literal) × Contains C b × (holds entries b ≡ true)
 
 -- `previous` is the last of the waiting places that was looked at; those that still wait have a clause with a true literal
-pub record Wake (places : List Place) (clauses : List Ref) (base head : ℕ) (m : Clauses) (t : TrailValue) (previous : ℕ) : Type 0 where
+pub record Wake (W : Watches) (m : Clauses) (t : TrailValue) (previous : ℕ) : Type 0 where
   pub paths : ℕ → List ℕ
   pub done : List ℕ
   pub rest : List ℕ
-  pub watching : IsWatching places clauses base head m t paths
+  pub watching : IsWatching W m t paths
   pub path : paths 0 ≡ done ++ rest
   pub previous_is : previous ≡ last_of 0 done
-  pub seen : (p : ℕ) → IsIn p done → IsSatisfied m t.entries (owner clauses base p)
+  pub seen : (p : ℕ) → IsIn p done → IsSatisfied m t.entries (owner W p)
   pub sound : IsConsistent t.entries
 
 -- what a look at a waiting place leaves
-abbrev pub Wakes : (old new : List Place) → List Ref → (base head : ℕ) → Clauses → TrailValue → (previous here : ℕ) → Outcome → Type 0
-Wakes old new clauses base head m t previous here Stays = Wake new clauses base head m t here × IsShorter old new previous here
-Wakes old new clauses base head m t previous here Moves = Wake new clauses base head m t previous × IsShorter old new previous previous
-Wakes old new clauses base head m t previous here (False n) = Stops new clauses base head m t n
+abbrev pub Wakes : (old new : Watches) → Clauses → TrailValue → (previous here : ℕ) → Outcome → Type 0
+Wakes old new m t previous here Stays = Wake new m t here × IsShorter old.places new.places previous here
+Wakes old new m t previous here Moves = Wake new m t previous × IsShorter old.places new.places previous previous
+Wakes old new m t previous here (False n) = Stops new m t n
 
 -- each waiting place was looked at: its clause has a true literal
-pub record Woken (places : List Place) (clauses : List Ref) (base head : ℕ) (m : Clauses) (t : TrailValue) : Type 0 where
+pub record Woken (W : Watches) (m : Clauses) (t : TrailValue) : Type 0 where
   pub paths : ℕ → List ℕ
-  pub watching : IsWatching places clauses base head m t paths
-  pub seen : (p : ℕ) → IsIn p (paths 0) → IsSatisfied m t.entries (owner clauses base p)
+  pub watching : IsWatching W m t paths
+  pub seen : (p : ℕ) → IsIn p (paths 0) → IsSatisfied m t.entries (owner W p)

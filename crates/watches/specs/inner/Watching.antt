@@ -8,6 +8,8 @@ use Rattle.watches.specs.Trails.{TrailValue, holds, up_to}
 use Rattle.watches.specs.inner.Scanning.{IsHere}
 use Rattle.watches.specs.declared.watched.replacement.Found.{Found}
 use Rattle.watches.specs.declared.watched.places.Place.{Place}
+use Rattle.watches.specs.declared.watched.chains.Chains.{Chains}
+use Rattle.watches.specs.Ready.{Watches}
 use Rattle.watches.specs.inner.Chains.{AreChains, IsIn, literal_at, twin}
 
 -- what a search for another literal to watch finds
@@ -19,9 +21,26 @@ FindsWatch entries C (Some r) = (2 ≤ r.place) × (r.place < length C) × ((d :
 abbrev pub no_clause : Ref
 no_clause = record { number = 0; place = 0; len = 0 }
 
+-- the watches of chains, where no clause is marked as detached
+abbrev pub watches_of : Chains → Watches
+watches_of c = record { places = c.places.items; clauses = c.clauses.items; base = c.base; head = c.head; stale = c.stale }
+
+-- watches whose chains were made anew
+abbrev pub fresh_watches : List Place → List Ref → (base head : ℕ) → Watches
+fresh_watches places clauses base head = record { places = places; clauses = clauses; base = base; head = head; stale = false }
+
+-- one literal more of the trail was worked through
+abbrev pub past_head : Watches → Watches
+past_head W = record W { head = W.head + 1 }
+
+-- as many places, perhaps in other chains or with other literals; all else is as it was
+pub record IsRelinked (old new : Watches) : Type 0 where
+  pub long : length new.places ≡ length old.places
+  pub rest : new ≡ record old { places = new.places }
+
 -- the clause that owns a place
-abbrev pub owner : List Ref → ℕ → ℕ → Ref
-owner clauses base p = slice_index_or clauses ((p - base) / 2) no_clause
+abbrev pub owner : Watches → ℕ → Ref
+owner W p = slice_index_or W.clauses ((p - W.base) / 2) no_clause
 
 -- where w became false among the first `head` literals of the trail, b is true, at no greater level
 abbrev pub IsGuarded : List Assigned → ℕ → Literal → Literal → Type 0
@@ -32,8 +51,8 @@ abbrev pub IsKept : List Place → List Assigned → ℕ → (ℕ → List ℕ) 
 IsKept places entries head paths p = IsIn p (paths 0) ⊎ (IsIn p (paths (index_of (literal_at places p))) × IsGuarded entries head (literal_at places p) (literal_at places (twin p)))
 
 -- a place of a clause of two or more literals
-abbrev pub IsLong : List Place → List Ref → ℕ → ℕ → Type 0
-IsLong places clauses base p = (base ≤ p) × (p < length places) × (2 ≤ (owner clauses base p).len)
+abbrev pub IsLong : Watches → ℕ → Type 0
+IsLong W p = (W.base ≤ p) × (p < length W.places) × (2 ≤ (owner W p).len)
 
 -- some literal of the clause is true at level 0, which no cut takes out
 abbrev pub IsSettled : Clauses → List Assigned → Ref → Type 0
@@ -41,20 +60,24 @@ IsSettled m entries at = (C : Clause) → Stands m at C → (b : Literal) × Con
 
 -- the first `base` places are the heads: 0 of the places that wait to be looked at, 1 of those that are done with, the others of the
 -- chains of literals by their index. Behind them each of the first clauses has two places; clauses behind these have none yet
-pub record IsWatching (places : List Place) (clauses : List Ref) (base head : ℕ) (m : Clauses) (t : TrailValue) (paths : ℕ → List ℕ) : Type 0 where
-  pub chains : AreChains places base paths
-  pub wide : 2 * t.vars + 2 ≤ base
-  pub even : base % 2 ≡ 0
-  pub low : base ≤ length places
-  pub paired : length places % 2 ≡ 0
-  pub partly : length places ≤ base + 2 * length clauses
-  pub named : (i j : ℕ) → i < length clauses → j < length clauses → (slice_index_or clauses i no_clause).number ≡ (slice_index_or clauses j no_clause).number → i ≡ j
-  pub here : All (IsHere m t.vars) clauses
+pub record IsWatching (W : Watches) (m : Clauses) (t : TrailValue) (paths : ℕ → List ℕ) : Type 0 where
+  pub chains : AreChains W.places W.base paths
+  pub wide : 2 * t.vars + 2 ≤ W.base
+  pub even : W.base % 2 ≡ 0
+  pub low : W.base ≤ length W.places
+  pub paired : length W.places % 2 ≡ 0
+  pub partly : length W.places ≤ W.base + 2 * length W.clauses
+  pub named : (i j : ℕ) → i < length W.clauses → j < length W.clauses → (slice_index_or W.clauses i no_clause).number ≡ (slice_index_or W.clauses j no_clause).number → i ≡ j
+  pub here : All (IsHere m t.vars) W.clauses
   -- the first two literals of a clause are those of its places
-  pub front : (p : ℕ) (C : Clause) (d : Literal) → IsLong places clauses base p → Stands m (owner clauses base p) C → literal_at places p ≡ slice_index_or C (p % 2) d
-  pub apart : (p : ℕ) → IsLong places clauses base p → literal_at places p ≢ literal_at places (twin p)
+  pub front : (p : ℕ) (C : Clause) (d : Literal) → IsLong W p → Stands m (owner W p) C → literal_at W.places p ≡ slice_index_or C (p % 2) d
+  pub apart : (p : ℕ) → IsLong W p → literal_at W.places p ≢ literal_at W.places (twin p)
   -- each place of a literal's chain has the literal
-  pub home : (l : Literal) (p : ℕ) → IsWithin t.vars l → IsIn p (paths (index_of l)) → (literal_at places p ≡ l) × IsLong places clauses base p
-  pub kept : (p : ℕ) → IsLong places clauses base p → IsKept places t.entries head paths p
-  pub short : (i : ℕ) → base + 2 * i < length places → (slice_index_or clauses i no_clause).len < 2 → IsIn (base + 2 * i) (paths 0) ⊎ IsSettled m t.entries (slice_index_or clauses i no_clause)
-  pub handled : head ≤ length t.entries
+  pub home : (l : Literal) (p : ℕ) → IsWithin t.vars l → IsIn p (paths (index_of l)) → (literal_at W.places p ≡ l) × IsLong W p
+  pub kept : (p : ℕ) → IsLong W p → IsKept W.places t.entries W.head paths p
+  pub short : (i : ℕ) → W.base + 2 * i < length W.places → (slice_index_or W.clauses i no_clause).len < 2 → IsIn (W.base + 2 * i) (paths 0) ⊎ IsSettled m t.entries (slice_index_or W.clauses i no_clause)
+  pub handled : W.head ≤ length t.entries
+
+-- the same, whatever the chains
+abbrev pub AreWatching : Watches → Clauses → TrailValue → Type 0
+AreWatching W m t = (paths : ℕ → List ℕ) × IsWatching W m t paths

@@ -1,13 +1,14 @@
 //! The chains, made anew.
 
-ghost use Rattle.std.specs.Prelude.{◌≡◌, ℕ, ◌+◌, ◌*◌, ◌%◌, ◌^◌, ◌<◌, ◌≤◌, true, false, [], All, List, length, slice_index_or, vec_capacity};
+ghost use Rattle.std.specs.Prelude.{◌≡◌, ◌+◌, ◌*◌, ◌%◌, ◌^◌, ◌<◌, ◌≤◌, true, false, [], All, length, slice_index_or, vec_capacity};
 ghost use Rattle.dimacs.specs.logic.Literal.{Literal};
 ghost use Rattle.watches.specs.inner.Scanning.{IsHere};
-ghost use Rattle.watches.specs.inner.Watching.{IsWatching};
+ghost use Rattle.watches.specs.inner.Watching.{watches_of, fresh_watches, AreWatching};
 ghost use Rattle.watches.specs.Ready.{attached_of};
 ghost use Rattle.watches.specs.inner.Ready.{AreNamed, AreWatches};
 
 use crate::trail::Trail;
+use crate::watched::chains::Chains;
 use crate::watched::places::{Place, PlaceId, append};
 use crate::watched::starts::sweep_starts;
 use crate::watched::sweeping::sweep;
@@ -60,7 +61,7 @@ fn chain_all(places: &mut Vec<Place>, clauses: &[Ref], base: usize, arena: &Aren
     requires wide { 2 * trail.now.vars + 2 ≤ base }
     requires named { AreNamed clauses.now }
     requires here { All (IsHere arena.now trail.now.vars) clauses.now }
-    ensures watching { (paths : ℕ → List ℕ) × IsWatching places.new.items clauses.now base (length trail.now.entries) arena.now trail.now paths }
+    ensures watching { AreWatching (fresh_watches places.new.items clauses.now base (length trail.now.entries)) arena.now trail.now }
     ensures whole { length places.new.items ≡ base + 2 * length clauses.now }
 {
     places.clear();
@@ -71,35 +72,30 @@ fn chain_all(places: &mut Vec<Place>, clauses: &[Ref], base: usize, arena: &Aren
     }
 }
 
-/// Takes out the clauses that are marked as detached and makes the chains anew, where they are stale. Answers how many literals of
-/// the trail need no more work then. It takes no memory.
-pub(crate) fn renew(
-    places: &mut Vec<Place>,
-    clauses: &mut Vec<Ref>,
-    live: &mut Vec<bool>,
-    starts: &mut Vec<u32>,
-    base: usize,
-    arena: &Arena,
-    trail: &Trail,
-    stale: bool,
-    head: usize,
-) -> usize
-    requires watches { AreWatches places.old.items clauses.old.items live.old.items base stale }
-    requires wide { 2 * trail.now.vars + 2 ≤ base }
-    requires here { All (IsHere arena.now trail.now.vars) (attached_of clauses.old.items live.old.items) }
-    requires watching { stale ≡ false → (paths : ℕ → List ℕ) × IsWatching places.old.items (attached_of clauses.old.items live.old.items) base head arena.now trail.now paths }
-    ensures clauses { clauses.new.items ≡ attached_of clauses.old.items live.old.items }
-    ensures live { All (λ b. b ≡ true) live.new.items }
-    ensures marked { length live.new.items ≡ length clauses.new.items }
-    ensures watching { (paths : ℕ → List ℕ) × IsWatching places.new.items clauses.new.items base result arena.now trail.now paths }
-    ensures whole { length places.new.items ≡ base + 2 * length clauses.new.items }
-    ensures no_more { length places.new.items ≤ length places.old.items }
-{
-    if !stale {
-        return head;
+impl Chains {
+    /// Takes out the clauses that are marked as detached and makes the chains anew, where they are stale: no literal of the trail
+    /// needs more work then. It takes no memory.
+    pub(crate) fn renew(&mut self, live: &mut Vec<bool>, arena: &Arena, trail: &Trail)
+        requires watches { AreWatches self.old.places.items self.old.clauses.items live.old.items self.old.base self.old.stale }
+        requires wide { 2 * trail.now.vars + 2 ≤ self.old.base }
+        requires here { All (IsHere arena.now trail.now.vars) (attached_of self.old.clauses.items live.old.items) }
+        requires watching { self.old.stale ≡ false → AreWatching (record (watches_of self.old) { clauses = attached_of self.old.clauses.items live.old.items }) arena.now trail.now }
+        ensures base { self.new.base ≡ self.old.base }
+        ensures fresh { self.new.stale ≡ false }
+        ensures clauses { self.new.clauses.items ≡ attached_of self.old.clauses.items live.old.items }
+        ensures live { All (λ b. b ≡ true) live.new.items }
+        ensures marked { length live.new.items ≡ length self.new.clauses.items }
+        ensures watching { AreWatching (watches_of self.new) arena.now trail.now }
+        ensures whole { length self.new.places.items ≡ self.new.base + 2 * length self.new.clauses.items }
+        ensures no_more { length self.new.places.items ≤ length self.old.places.items }
+    {
+        if !self.stale {
+            return;
+        }
+        sweep_starts(&mut self.starts, live);
+        sweep(&mut self.clauses, live);
+        chain_all(&mut self.places, &self.clauses, self.base, arena, trail);
+        self.head = trail.len();
+        self.stale = false;
     }
-    sweep_starts(starts, live);
-    sweep(clauses, live);
-    chain_all(places, clauses, base, arena, trail);
-    trail.len()
 }

@@ -2,7 +2,7 @@ use Rattle.std.proofs.Common.{◌≡◌, ℕ, ◌+◌, ◌*◌, List, [], length
 use Rattle.std.specs.List.{All}
 use Rattle.clause_arena.specs.declared.reference.Ref.{Ref}
 use Rattle.watches.specs.inner.Scanning.{IsHere}
-use Rattle.watches.specs.inner.Watching.{IsWatching}
+use Rattle.watches.specs.inner.Watching.{AreWatching, fresh_watches}
 use Rattle.watches.specs.Ready.{attached_of}
 use Rattle.watches.proofs.ReadyLemmas.{nothing_watched}
 use Rattle.watches.proofs.watched.WatchedPropagator.reserve.Goals as goal
@@ -15,9 +15,6 @@ returns-clause-ready c = λ m t e v.
     record {
       wide = omega arith;
       here = subst (All (IsHere m t.vars)) none (λ i d l. absurd (omega arith));
-      watching = λ _. (
-        (λ _. []),
-        subst (λ (cs : List Ref). IsWatching c.put_heads.new.places.items cs base 0 m t (λ _. [])) none
-            (subst (λ (n : ℕ). IsWatching c.put_heads.new.places.items [] base n m t (λ _. [])) (ap length e) empty),
-      );
+      watching = λ _. subst (λ (cs : List Ref). AreWatching (fresh_watches c.put_heads.new.places.items cs base 0) m t) none
+          (subst (λ (n : ℕ). AreWatching (fresh_watches c.put_heads.new.places.items [] base n) m t) (ap length e) ((λ _. []), empty));
     }

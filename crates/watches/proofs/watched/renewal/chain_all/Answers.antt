@@ -3,7 +3,7 @@ use Rattle.std.specs.List.{IsDistinct}
 use Rattle.std.proofs.lemmas.List.{take_more, take_all, get_or-take, length-take-le}
 use Rattle.dimacs.specs.logic.Literal.{Literal, Clause, same}
 use Rattle.clause_arena.specs.declared.reference.Ref.{Ref}
-use Rattle.watches.specs.inner.Watching.{IsWatching, no_clause}
+use Rattle.watches.specs.inner.Watching.{AreWatching, fresh_watches, no_clause}
 use Rattle.watches.proofs.AttachLemmas.{appends, some_watching}
 use Rattle.watches.proofs.ReadyLemmas.{nothing_watched}
 use Rattle.watches.proofs.watched.renewal.chain_all.Goals as goal
@@ -40,13 +40,13 @@ loop-i-preserved c =
     let words = c.clause.ensures.literals h.0 h.1 in
     let n : length (take i clauses) ≡ i = length-take-le i clauses (omega arith) in
     let appended = c.append.ensures.appended in
-    let x = some_watching c.loop-i.places.items c.append.new.places.items (take i clauses) c.args.base (length c.args.trail.now.entries) c.args.arena.now c.args.trail.now old.watching.0 old.watching.1
+    let x = some_watching (fresh_watches c.loop-i.places.items (take i clauses) c.args.base (length c.args.trail.now.entries)) c.append.new.places.items c.args.arena.now c.args.trail.now old.watching.0 old.watching.1
     (omega (arith, old.long)) at h.0 h.1 h.2 (subst (IsDistinct same) words c.clause.ensures.distinct)
     (λ j b e. let s : j ≡ i = c.requires.named j i (omega arith) l (ap (λ (r : Ref). r.number) (sym (get_or-take i clauses j no_clause (omega arith))) ∙ e) in omega arith)
     (appends c.loop-i.places.items c.append.new.places.items h.0 c.first_two-pair.result.one c.first_two-pair.result.two appended
     (subst (λ (C : Clause). (d : Literal) → 2 ≤ length C → (c.first_two-pair.result.one ≡ get_or C 0 d) × (c.first_two-pair.result.two ≡ get_or C 1 d)) words c.first_two-pair.ensures)) in
     record {
-      watching = (x.0, subst (λ (cs : List Ref). IsWatching c.append.new.places.items cs c.args.base (length c.args.trail.now.entries) c.args.arena.now c.args.trail.now x.0) (sym (take_more clauses i no_clause l)) x.1);
+      watching = subst (λ (cs : List Ref). AreWatching (fresh_watches c.append.new.places.items cs c.args.base (length c.args.trail.now.entries)) c.args.arena.now c.args.trail.now) (sym (take_more clauses i no_clause l)) x;
       long = omega (arith, appended.long, old.long);
       room = omega (arith, c.append.ensures.room, old.room);
     }
@@ -57,9 +57,6 @@ returns c =
     let e : c.loop-i.i ≡ length c.args.clauses.now = omega (arith, c.loop-i-test.false, c.loop-i.auto.i-end) in
     let n = length c.args.trail.now.entries in
     record {
-      watching = (
-        old.watching.0,
-        subst (λ (cs : List Ref). IsWatching c.loop-i.places.items cs c.args.base n c.args.arena.now c.args.trail.now old.watching.0) (take_all c.loop-i.i c.args.clauses.now (omega arith)) old.watching.1,
-      );
+      watching = subst (λ (cs : List Ref). AreWatching (fresh_watches c.loop-i.places.items cs c.args.base n) c.args.arena.now c.args.trail.now) (take_all c.loop-i.i c.args.clauses.now (omega arith)) old.watching;
       whole = omega (arith, old.long);
     }
