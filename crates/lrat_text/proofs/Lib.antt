@@ -1,3 +1,4 @@
+mod BackwardsLemmas
 pub mod DigitLemmas
 pub mod ClauseMapLemmas
 pub mod CountingLemmas

@@ -1,7 +1,7 @@
 -- The line that is written for a step.
-use Rattle.std.proofs.Common.{◌≡◌, ℕ, zero, suc, true, false, ◌+◌, ◌-◌, ◌<◌, ◌≤◌, Some, List, [], ◌∷◌, ◌++◌, map, length, take, slice_get, refl, sym, ap, subst, ◌∙◌, arith, drop, replicate, slice_set, append_assoc, length-drop, codes, decimal}
+use Rattle.std.proofs.Common.{◌≡◌, ℕ, true, false, ◌+◌, ◌<◌, ◌≤◌, Some, List, [], ◌∷◌, ◌++◌, map, length, take, slice_get, refl, sym, ap, ◌∙◌, append_assoc, codes, decimal}
 use Rattle.std.specs.List.{join_with_byte, flat_map}
-use Rattle.std.proofs.lemmas.List.{append-nil, length-set, take_all, take_more, take-replicate, flat_map_more}
+use Rattle.std.proofs.lemmas.List.{append-nil, take_more, flat_map_more}
 use Rattle.std.proofs.lemmas.List.Folds.{flat_map-map}
 use Rattle.std.proofs.lemmas.Grind.{flat_map-append}
 use Rattle.std.proofs.lemmas.Option.{slice_get_within, get_or_from_slice_get}
@@ -59,50 +59,6 @@ line_deletion top ids =
     rw (a, b, c) (simp append_assoc)
 
 pub ruleset lines_written = (line_addition, line_deletion)
-
--- two spaces stand before what is written behind them
-two_before : (k : ℕ) (text : List ℕ) → take (suc (suc k)) text ≡ replicate (suc (suc k)) 32 → drop k text ≡ 32 ∷ 32 ∷ drop (suc (suc k)) text
-two_before zero [] h = absurd (cc)
-two_before zero (a ∷ []) h = absurd (cc)
-two_before zero (a ∷ b ∷ bs) h = cc
-two_before (suc k) [] h = absurd (cc)
-two_before (suc k) (a ∷ bs) h = two_before k bs (cc)
-
-pub behind_spaces : (old new word : List ℕ) (start : ℕ) → 2 ≤ start → start ≤ 22 → old ≡ replicate 22 32
-    → take start new ≡ take start old → drop start new ≡ word ++ drop 22 old → drop (start - 2) new ≡ 32 ∷ 32 ∷ word
-behind_spaces old new word start two top spaces before written =
-    let at : start ≡ suc (suc (start - 2)) = omega arith in
-    let first : take start new ≡ replicate start 32 = before ∙ ap (take start) spaces ∙ take-replicate start 22 32 top in
-    let word_is : drop start new ≡ word = written ∙ ap (λ (x : List ℕ). word ++ drop 22 x) spaces ∙ append-nil word in
-    two_before (start - 2) new (subst (λ n. take n new ≡ replicate n 32) at first) ∙ ap (λ (x : List ℕ). 32 ∷ 32 ∷ x) (ap (λ n. drop n new) (sym at) ∙ word_is)
-
-space_by : (k : ℕ) (text word : List ℕ) → drop k text ≡ 32 ∷ 32 ∷ word → drop (suc k) text ≡ 32 ∷ word
-space_by zero [] word h = absurd (cc)
-space_by zero (a ∷ bs) word h = cc
-space_by (suc k) [] word h = absurd (cc)
-space_by (suc k) (a ∷ bs) word h = space_by k bs word h
-
-minus_by : (k : ℕ) (text word : List ℕ) → drop k text ≡ 32 ∷ 32 ∷ word → drop k (slice_set text (suc k) 45) ≡ 32 ∷ 45 ∷ word
-minus_by zero [] word h = absurd (cc)
-minus_by zero (a ∷ []) word h = absurd (cc)
-minus_by zero (a ∷ b ∷ bs) word h = cc
-minus_by (suc k) [] word h = absurd (cc)
-minus_by (suc k) (a ∷ bs) word h = minus_by k bs word h
-
--- a number with the space before it
-pub with_space : (text word : List ℕ) (start : ℕ) → length text ≡ 22 → 2 ≤ start → drop (start - 2) text ≡ 32 ∷ 32 ∷ word
-    → take (22 - (start - 1)) (drop (start - 1) text) ≡ 32 ∷ word
-with_space text word start long two h =
-    let at : start - 1 ≡ suc (start - 2) = omega arith in
-    take_all (22 - (start - 1)) (drop (start - 1) text) (omega (arith, length-drop (start - 1) text)) ∙ ap (λ n. drop n text) at ∙ space_by (start - 2) text word h
-
--- with a minus and the space before that
-pub with_minus : (text word : List ℕ) (start : ℕ) → length text ≡ 22 → 2 ≤ start → drop (start - 2) text ≡ 32 ∷ 32 ∷ word
-    → take (22 - (start - 2)) (drop (start - 2) (slice_set text (start - 1) 45)) ≡ 32 ∷ 45 ∷ word
-with_minus text word start long two h =
-    let at : start - 1 ≡ suc (start - 2) = omega arith in
-    take_all (22 - (start - 2)) (drop (start - 2) (slice_set text (start - 1) 45)) (omega (arith, length-drop (start - 2) (slice_set text (start - 1) 45), length-set text (start - 1) 45))
-    ∙ ap (λ n. drop (start - 2) (slice_set text n 45)) at ∙ minus_by (start - 2) text word h
 
 -- a literal's token by its sign
 pub minus_token : (l : Literal) → is_negative l ≡ true → 1 ≤ var_of l → literal_token l ≡ 45 ∷ decimal (var_of l)

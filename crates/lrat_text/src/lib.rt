@@ -1,6 +1,7 @@
 //! LRAT texts: steps of a proof, and the lines that spell them.
 #![tactic(auto)]
 
+mod backwards;
 mod buffer;
 mod fault;
 mod glyphs;

@@ -1,15 +1,16 @@
 //! Steps as lines.
 
-ghost use Rattle.std.specs.Prelude.{◌≡◌, ◌+◌, ◌-◌, ◌≤◌, ◌++◌, ◌∷◌, [], length, take, drop, replicate, OnOk, OnErr, decimal, codes, flat_map};
+ghost use Rattle.std.specs.Prelude.{◌≡◌, ◌≤◌, ◌++◌, length, OnOk, OnErr, decimal, flat_map};
 ghost use Rattle.lrat_text.specs.Grammar.{IsStep, IsClauseNumber};
 ghost use Rattle.lrat_text.specs.Steps.{step_of};
 ghost use Rattle.lrat_text.specs.Writing.{line_of};
 ghost use Rattle.lrat_text.specs.inner.Writing.{number_text, literal_text, group_text, lemma_text, reasons_text, deletion_text, Begins};
 
+use crate::backwards::{MANY, ROOM, write_literals, write_numbers};
 use crate::groups::Groups;
 use crate::step::{Step, StepRef};
 use dimacs::Lit;
-use itoa::{Buffer, write_digits};
+use itoa::Buffer;
 use std::alloc::AllocError;
 
 #[inline(always)]
@@ -29,59 +30,50 @@ fn put_number(out: &mut Vec<u8>, number: u64) -> Result<(), AllocError>
     put_text(out, text.as_bytes())
 }
 
-/// As many bytes as a space, a minus and a number have at most.
-const ROOM: usize = 22;
-
-/// Writes a number at the end of spaces, and tells where it begins: it goes to a text in one piece with the space before it.
-#[inline(always)]
-fn write_number(text: &mut [u8; ROOM], number: u64) -> usize
-    requires spaces { text.old ≡ replicate 22 32 }
-    ensures start { (2 ≤ result) × (result ≤ 22) }
-    ensures text { drop (result - 2) text.new ≡ codes "  " ++ decimal number }
-{
-    write_digits(number, text, ROOM)
-}
-
-#[inline(always)]
-fn put_literal(out: &mut Vec<u8>, literal: Lit) -> Result<(), AllocError>
-    ensures ok { OnOk result (out.new.items ≡ out.old.items ++ literal_text literal) }
+/// Appends a few literals behind spaces, in one piece.
+fn put_few_literals(out: &mut Vec<u8>, literals: &[Lit]) -> Result<(), AllocError>
+    requires { length literals.now ≤ 16 }
+    ensures ok { OnOk result (out.new.items ≡ out.old.items ++ flat_map literal_text literals.now) }
     ensures begins { Begins out.old.items out.new.items }
 {
-    let mut text = [b' '; ROOM];
-    let start = write_number(&mut text, u64::from(literal.var().number()));
-    if literal.is_negative() {
-        text[start - 1] = b'-';
-        return put_text(out, &text[start - 2..]);
-    }
-    put_text(out, &text[start - 1..])
+    let mut room = [b' '; ROOM];
+    let start = write_literals(&mut room, literals);
+    put_text(out, &room[start..])
 }
 
 fn put_literals(out: &mut Vec<u8>, literals: &[Lit]) -> Result<(), AllocError>
     ensures ok { OnOk result (out.new.items ≡ out.old.items ++ flat_map literal_text literals.now) }
     ensures begins { Begins out.old.items out.new.items }
 {
-    for literal in literals {
-        put_literal(out, *literal)?;
+    let mut done = 0;
+    while done < literals.len() {
+        let end = done + (literals.len() - done).min(MANY);
+        put_few_literals(out, &literals[done..end])?;
+        done = end;
     }
     Ok(())
 }
 
-#[inline(always)]
-fn put_spaced(out: &mut Vec<u8>, number: u64) -> Result<(), AllocError>
-    ensures ok { OnOk result (out.new.items ≡ out.old.items ++ number_text number) }
+/// Appends a few numbers behind spaces, in one piece.
+fn put_few_numbers(out: &mut Vec<u8>, numbers: &[u64]) -> Result<(), AllocError>
+    requires { length numbers.now ≤ 16 }
+    ensures ok { OnOk result (out.new.items ≡ out.old.items ++ flat_map number_text numbers.now) }
     ensures begins { Begins out.old.items out.new.items }
 {
-    let mut text = [b' '; ROOM];
-    let start = write_number(&mut text, number);
-    put_text(out, &text[start - 1..])
+    let mut room = [b' '; ROOM];
+    let start = write_numbers(&mut room, numbers);
+    put_text(out, &room[start..])
 }
 
 fn put_numbers(out: &mut Vec<u8>, numbers: &[u64]) -> Result<(), AllocError>
     ensures ok { OnOk result (out.new.items ≡ out.old.items ++ flat_map number_text numbers.now) }
     ensures begins { Begins out.old.items out.new.items }
 {
-    for number in numbers {
-        put_spaced(out, *number)?;
+    let mut done = 0;
+    while done < numbers.len() {
+        let end = done + (numbers.len() - done).min(MANY);
+        put_few_numbers(out, &numbers[done..end])?;
+        done = end;
     }
     Ok(())
 }

@@ -42,7 +42,7 @@ const MOST_VARS: u32 = 2_147_483_647;
 const MOST_PLACES: usize = 4_294_967_294;
 
 /// Watches two literals of each clause, and looks at the clause only where one of them becomes false. The look for another literal
-/// to watch begins where the clause's last one ended.
+/// to watch begins at the clause's place in `starts`, where its last one ended.
 ///
 /// A clause that is detached is only marked, in `live`; the next `propagate` takes out all that are marked in one sweep, and makes the
 /// chains anew.

@@ -1,10 +1,10 @@
 use Rattle.std.proofs.Common.{◌≡◌, ◌*◌, length, take}
 use Rattle.std.specs.List.{flat_map}
-use Rattle.lrat_text.specs.Packed.{byte_text}
-use Rattle.lrat_text.proofs.glyphs.write_glyphs.Given as goal
+use Rattle.lrat_text.specs.inner.Glyphs.{halves}
+use Rattle.lrat_text.proofs.glyphs.write_halves.Given as goal
 
 abbrev pub invariant-loop-i : goal.invariant-loop-i
 invariant-loop-i l = record {
   len : length l.text ≡ 2 * length l.pairs;
-  items : take (2 * l.i) l.text ≡ flat_map byte_text (take l.i l.pairs);
+  items : take (2 * l.i) l.text ≡ flat_map halves (take l.i l.pairs);
 }
