@@ -80,7 +80,8 @@ fn logs_and_the_fork_are_one_proof(rt: HostRuntime) -> Result<(), Fail> {
         proof.as_slice(),
         b"5 2 0 1 2 0\n6 -1 0 2 4 0\n6 d 5 0\n7 1 0 1 3 0\n8 0 6 7 0\n".as_slice()
     );
-    prints(&rt, rt.alloc(), FOUR, proof.as_slice(), VERIFIED)
+    prints(&rt, rt.alloc(), FOUR, proof.as_slice(), VERIFIED);
+    Ok(())
 }
 
 #[test]

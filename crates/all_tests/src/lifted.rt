@@ -122,7 +122,8 @@ fn are_joined(rt: &impl Abort, alloc: Global, left: &[u8], right: &[u8]) -> Resu
         }
     }
     let proof = proof_of(rt, alloc, &mut join)?;
-    prints(rt, alloc, PIGEONS, &proof, VERIFIED)
+    prints(rt, alloc, PIGEONS, &proof, VERIFIED);
+    Ok(())
 }
 
 #[test]

@@ -1,29 +1,28 @@
 //! How the search goes: the values that it tries again, the literals that its lemmas do without, and the lemmas that it forgets.
 
-use crate::checks::{VERIFIED, prints};
-use crate::run_reports::{ALONE, solved};
-use std::alloc::{AllocError, Global};
+use crate::run_reports::{ALONE, refutes, says, solved};
+use std::alloc::Global;
 use std::fmt::Write;
-use std::test::Fail;
+use std::process::Abort;
 
 /// Eight pigeons sit in seven holes, and no two of them in one: the variable of a pigeon and a hole is seven times the
 /// pigeon's number, and the hole's, from 1.
-fn pigeons(alloc: Global) -> Result<String, AllocError> {
+fn pigeons(rt: &impl Abort, alloc: Global) -> String {
     let mut text = String::new(alloc);
-    write!(text, "p cnf 56 204\n")?;
+    write!(text, "p cnf 56 204\n").expect(rt, "memory");
     for pigeon in 0..8u32 {
         let holes = 7 * pigeon;
         for hole in 1..8u32 {
-            write!(text, "{} ", holes + hole)?;
+            write!(text, "{} ", holes + hole).expect(rt, "memory");
         }
-        write!(text, "0\n")?;
+        write!(text, "0\n").expect(rt, "memory");
         for other in 0..pigeon {
             for hole in 1..8u32 {
-                write!(text, "-{} -{} 0\n", holes + hole, 7 * other + hole)?;
+                write!(text, "-{} -{} 0\n", holes + hole, 7 * other + hole).expect(rt, "memory");
             }
         }
     }
-    Ok(text)
+    text
 }
 
 /// How often a text holds a word of three bytes.
@@ -32,45 +31,31 @@ fn count(text: &[u8], word: &[u8]) -> usize {
 }
 
 #[test]
-fn a_variable_is_decided_with_its_last_value(rt: HostRuntime) -> Result<(), Fail> {
+fn a_variable_is_decided_with_its_last_value(rt: HostRuntime) {
     // The last three clauses leave no literal pure.
     let input = b"p cnf 4 6\n1 4 0\n2 3 0\n2 -3 0\n1 -1 0\n2 -2 0\n4 -4 0\n";
-    let report = solved(rt.alloc(), input, None, &ALONE)?;
-    assert_eq!(rt;
-        report.stdout.as_slice(),
-        b"s SATISFIABLE\nv -1 2 3 4 0\n".as_slice()
-    );
-    Ok(())
+    let report = solved(&rt, rt.alloc(), input, None, &ALONE);
+    says(&rt, &report, b"s SATISFIABLE\nv -1 2 3 4 0\n");
 }
 
 #[test]
-fn a_lemma_does_without_what_follows_by_two_reasons(rt: HostRuntime) -> Result<(), Fail> {
+fn a_lemma_does_without_what_follows_by_two_reasons(rt: HostRuntime) {
     // From -1 come 2 and 3, and with -4 the fourth clause is false: -3 follows from 1, by way of 2, which no clause of the
     // conflict names.
     let input = b"p cnf 7 8\n1 2 0\n-2 3 0\n4 1 5 0\n4 -3 -5 0\n-4 6 0\n-4 -6 0\n-1 7 0\n-1 -7 0\n";
-    let report = solved(rt.alloc(), input, None, &ALONE)?;
-    assert_eq!(rt; report.status, 20);
-    let proof = report.proof.ok_or("no proof")?.to_text(rt.alloc())?;
-    assert_eq!(rt;
-        proof.as_slice(),
-        b"9 4 1 0 1 2 3 4 0\n10 -4 0 5 6 0\n11 0 10 9 7 8 0\n".as_slice()
+    let report = solved(&rt, rt.alloc(), input, None, &ALONE);
+    let proof = refutes(&rt, rt.alloc(), input, &report);
+    assert!(rt;
+        proof.as_slice() == b"9 4 1 0 1 2 3 4 0\n10 -4 0 5 6 0\n11 0 10 9 7 8 0\n".as_slice()
     );
-    prints(&rt, rt.alloc(), input, proof.as_slice(), VERIFIED)
 }
 
 #[test]
-fn forgotten_lemmas_are_lines_of_the_proof(rt: HostRuntime) -> Result<(), Fail> {
-    let input = pigeons(rt.alloc())?;
-    let report = solved(rt.alloc(), input.as_str().as_bytes(), None, &ALONE)?;
-    assert_eq!(rt; report.status, 20);
-    let proof = report.proof.ok_or("no proof")?.to_text(rt.alloc())?;
+fn forgotten_lemmas_are_lines_of_the_proof(rt: HostRuntime) {
+    let text = pigeons(&rt, rt.alloc());
+    let input = text.as_str().as_bytes();
+    let report = solved(&rt, rt.alloc(), input, None, &ALONE);
+    let proof = refutes(&rt, rt.alloc(), input, &report);
     assert!(rt; count(proof.as_slice(), b" d ") > 0);
     assert_eq!(rt; count(proof.as_slice(), b"d 0"), 0);
-    prints(
-        &rt,
-        rt.alloc(),
-        input.as_str().as_bytes(),
-        proof.as_slice(),
-        VERIFIED,
-    )
 }

@@ -1,9 +1,8 @@
 //! What words ask for on a command line.
 
 use command_line::{Options, Printing, Request, USUAL, UsageFault, command};
-use std::alloc::{AllocError, Global};
+use std::alloc::Global;
 use std::process::Abort;
-use std::test::Fail;
 
 /// What is printed where no word leaves anything out.
 const PRINTED: Printing = Printing {
@@ -12,26 +11,24 @@ const PRINTED: Printing = Printing {
 };
 
 /// The words of a line, of which the first is the program's name.
-fn asks(rt: &impl Abort, alloc: Global, line: &str, want: Request) -> Result<(), AllocError> {
-    let words: Vec<&str> = line.split(' ').collect(alloc)?;
+fn asks(rt: &impl Abort, alloc: Global, line: &str, want: Request) {
+    let words: Vec<&str> = line.split(' ').collect(alloc).expect(rt, "memory");
     let request = command(alloc, words.as_slice()).ok();
     assert!(rt; request == Some(want));
-    Ok(())
 }
 
-fn refuses(rt: &impl Abort, alloc: Global, line: &str) -> Result<(), AllocError> {
-    let words: Vec<&str> = line.split(' ').collect(alloc)?;
+fn refuses(rt: &impl Abort, alloc: Global, line: &str) {
+    let words: Vec<&str> = line.split(' ').collect(alloc).expect(rt, "memory");
     let is_refused = match command(alloc, words.as_slice()) {
         Err(UsageFault::Usage) => true,
         _ => false,
     };
     assert!(rt; is_refused);
-    Ok(())
 }
 
 /// Words that ask for help: it has this text, no line that begins as an answer does, and no blank at a line's end.
-fn helps(rt: &impl Abort, alloc: Global, line: &str, part: &str) -> Result<(), AllocError> {
-    let words: Vec<&str> = line.split(' ').collect(alloc)?;
+fn helps(rt: &impl Abort, alloc: Global, line: &str, part: &str) {
+    let words: Vec<&str> = line.split(' ').collect(alloc).expect(rt, "memory");
     match command(alloc, words.as_slice()).err() {
         Some(UsageFault::Help(text)) => {
             assert!(rt; text.as_str().contains(part));
@@ -42,18 +39,17 @@ fn helps(rt: &impl Abort, alloc: Global, line: &str, part: &str) -> Result<(), A
         }
         _ => assert!(rt; false),
     }
-    Ok(())
 }
 
 #[test]
-fn a_solve_with_its_defaults_and_with_all_its_words(rt: HostRuntime) -> Result<(), Fail> {
+fn a_solve_with_its_defaults_and_with_all_its_words(rt: HostRuntime) {
     let plain = Request::Solve {
         input: "f.cnf",
         cubes: None,
         proof: None,
         options: USUAL,
     };
-    asks(&rt, rt.alloc(), "satcluster solve f.cnf", plain)?;
+    asks(&rt, rt.alloc(), "satcluster solve f.cnf", plain);
     let full = Request::Solve {
         input: "f.cnf",
         cubes: Some("f.icnf"),
@@ -70,12 +66,11 @@ fn a_solve_with_its_defaults_and_with_all_its_words(rt: HostRuntime) -> Result<(
     };
     let words =
         "satcluster solve --progress --workers 64 --depth 16 --limit 1000000000 --cubes f.icnf -q -n f.cnf f.lrat";
-    asks(&rt, rt.alloc(), words, full)?;
-    Ok(())
+    asks(&rt, rt.alloc(), words, full);
 }
 
 #[test]
-fn a_service_with_its_defaults_and_with_all_its_words(rt: HostRuntime) -> Result<(), Fail> {
+fn a_service_with_its_defaults_and_with_all_its_words(rt: HostRuntime) {
     let plain = Request::Serve {
         port: 1,
         input: "f.cnf",
@@ -87,7 +82,7 @@ fn a_service_with_its_defaults_and_with_all_its_words(rt: HostRuntime) -> Result
             ..USUAL
         },
     };
-    asks(&rt, rt.alloc(), "satcluster serve --port 1 f.cnf", plain)?;
+    asks(&rt, rt.alloc(), "satcluster serve --port 1 f.cnf", plain);
     let many = Request::Serve {
         port: 1,
         input: "f.cnf",
@@ -105,7 +100,7 @@ fn a_service_with_its_defaults_and_with_all_its_words(rt: HostRuntime) -> Result
         rt.alloc(),
         "satcluster serve --port 1 --workers 9 f.cnf",
         many,
-    )?;
+    );
     let full = Request::Serve {
         port: 65_535,
         input: "f.cnf",
@@ -126,19 +121,18 @@ fn a_service_with_its_defaults_and_with_all_its_words(rt: HostRuntime) -> Result
     };
     let words =
         "satcluster serve --port 65535 --session 18446744073709551615 --patience 1000000000 --progress --rounds --workers 1 --depth 0 --limit 1 --cubes f.icnf -qn f.cnf f.lrat";
-    asks(&rt, rt.alloc(), words, full)?;
-    Ok(())
+    asks(&rt, rt.alloc(), words, full);
 }
 
 #[test]
-fn a_worker_with_its_defaults_and_with_all_its_words(rt: HostRuntime) -> Result<(), Fail> {
+fn a_worker_with_its_defaults_and_with_all_its_words(rt: HostRuntime) {
     let plain = Request::Work {
         port: 7000,
         input: "f.cnf",
         proof: None,
         options: USUAL,
     };
-    asks(&rt, rt.alloc(), "satcluster work --port 7000 f.cnf", plain)?;
+    asks(&rt, rt.alloc(), "satcluster work --port 7000 f.cnf", plain);
     let full = Request::Work {
         port: 7000,
         input: "f.cnf",
@@ -155,23 +149,22 @@ fn a_worker_with_its_defaults_and_with_all_its_words(rt: HostRuntime) -> Result<
     };
     let words =
         "satcluster work --ahead --defs 64 --incarnation 0 --number 64 --port 7000 -q -n f.cnf f.lrat";
-    asks(&rt, rt.alloc(), words, full)?;
-    Ok(())
+    asks(&rt, rt.alloc(), words, full);
 }
 
 #[test]
-fn a_check_and_cubes_and_a_drill(rt: HostRuntime) -> Result<(), Fail> {
+fn a_check_and_cubes_and_a_drill(rt: HostRuntime) {
     let alloc = rt.alloc();
     let check = Request::Check {
         input: "f.cnf",
         proof: "f.lrat",
     };
-    asks(&rt, alloc, "satcluster check f.cnf f.lrat", check)?;
+    asks(&rt, alloc, "satcluster check f.cnf f.lrat", check);
     let cubes = Request::Cubes {
         input: "f.cnf",
         depth: 16,
     };
-    asks(&rt, alloc, "satcluster cubes --depth 16 f.cnf", cubes)?;
+    asks(&rt, alloc, "satcluster cubes --depth 16 f.cnf", cubes);
     let long = Request::Drill {
         input: "f.cnf",
         seed: u64::MAX,
@@ -182,7 +175,7 @@ fn a_check_and_cubes_and_a_drill(rt: HostRuntime) -> Result<(), Fail> {
         alloc,
         "satcluster drill --seed 18446744073709551615 --turns 100000 f.cnf",
         long,
-    )?;
+    );
     let none = Request::Drill {
         input: "f.cnf",
         seed: 0,
@@ -193,12 +186,11 @@ fn a_check_and_cubes_and_a_drill(rt: HostRuntime) -> Result<(), Fail> {
         alloc,
         "satcluster drill --turns 0 --seed 0 f.cnf",
         none,
-    )?;
-    Ok(())
+    );
 }
 
 #[test]
-fn a_leaf_is_cut_in_two(rt: HostRuntime) -> Result<(), Fail> {
+fn a_leaf_is_cut_in_two(rt: HostRuntime) {
     let by_rule = Request::Split {
         input: "f.cnf",
         cubes: "f.icnf",
@@ -206,7 +198,7 @@ fn a_leaf_is_cut_in_two(rt: HostRuntime) -> Result<(), Fail> {
         on: None,
     };
     let words = "satcluster cubes --cubes f.icnf --split 4294967295 f.cnf";
-    asks(&rt, rt.alloc(), words, by_rule)?;
+    asks(&rt, rt.alloc(), words, by_rule);
     let named = Request::Split {
         input: "f.cnf",
         cubes: "f.icnf",
@@ -214,23 +206,21 @@ fn a_leaf_is_cut_in_two(rt: HostRuntime) -> Result<(), Fail> {
         on: Some(2_147_483_647),
     };
     let words = "satcluster cubes --on 2147483647 --split 1 f.cnf --cubes f.icnf";
-    asks(&rt, rt.alloc(), words, named)?;
-    Ok(())
+    asks(&rt, rt.alloc(), words, named);
 }
 
 #[test]
-fn cubes_are_completed(rt: HostRuntime) -> Result<(), Fail> {
+fn cubes_are_completed(rt: HostRuntime) {
     let complete = Request::Complete {
         input: "f.cnf",
         list: "march.cubes",
     };
     let words = "satcluster cubes --complete march.cubes f.cnf";
-    asks(&rt, rt.alloc(), words, complete)?;
-    Ok(())
+    asks(&rt, rt.alloc(), words, complete);
 }
 
 #[test]
-fn a_leaf_and_a_model(rt: HostRuntime) -> Result<(), Fail> {
+fn a_leaf_and_a_model(rt: HostRuntime) {
     let alloc = rt.alloc();
     let leaf = Request::Leaf {
         input: "f.cnf",
@@ -242,23 +232,22 @@ fn a_leaf_and_a_model(rt: HostRuntime) -> Result<(), Fail> {
         alloc,
         "satcluster leaf --cubes f.icnf --leaf 4294967295 f.cnf",
         leaf,
-    )?;
+    );
     let model = Request::Model {
         input: "f.cnf",
         output: "-",
     };
-    asks(&rt, alloc, "satcluster model f.cnf -", model)?;
+    asks(&rt, alloc, "satcluster model f.cnf -", model);
     let trim = Request::Trim {
         input: "f.cnf",
         proof: "f.lrat",
         out: "g.lrat",
     };
-    asks(&rt, alloc, "satcluster trim f.cnf f.lrat g.lrat", trim)?;
-    Ok(())
+    asks(&rt, alloc, "satcluster trim f.cnf f.lrat g.lrat", trim);
 }
 
 #[test]
-fn a_lift_of_a_leaf_or_of_all(rt: HostRuntime) -> Result<(), Fail> {
+fn a_lift_of_a_leaf_or_of_all(rt: HostRuntime) {
     let alloc = rt.alloc();
     let lift = Request::Lift {
         input: "f.cnf",
@@ -273,7 +262,7 @@ fn a_lift_of_a_leaf_or_of_all(rt: HostRuntime) -> Result<(), Fail> {
         alloc,
         "satcluster lift --leaf 1 --cubes f.icnf f.cnf l.lrat l.frag",
         lift,
-    )?;
+    );
     let all = Request::Lift {
         input: "f.cnf",
         cubes: "f.icnf",
@@ -287,7 +276,7 @@ fn a_lift_of_a_leaf_or_of_all(rt: HostRuntime) -> Result<(), Fail> {
         alloc,
         "satcluster lift --lidrup --cubes f.icnf f.cnf f.lidrup f.frag",
         all,
-    )?;
+    );
     // The program refuses what names both, or neither.
     let both = Request::Lift {
         input: "f.cnf",
@@ -302,12 +291,11 @@ fn a_lift_of_a_leaf_or_of_all(rt: HostRuntime) -> Result<(), Fail> {
         alloc,
         "satcluster lift --lidrup --leaf 7 --cubes f.icnf f.cnf f.lidrup f.frag",
         both,
-    )?;
-    Ok(())
+    );
 }
 
 #[test]
-fn a_refutation_with_its_defaults_and_with_all_its_words(rt: HostRuntime) -> Result<(), Fail> {
+fn a_refutation_with_its_defaults_and_with_all_its_words(rt: HostRuntime) {
     let plain = Request::Refute {
         input: "f.cnf",
         cubes: "f.icnf",
@@ -322,7 +310,7 @@ fn a_refutation_with_its_defaults_and_with_all_its_words(rt: HostRuntime) -> Res
         rt.alloc(),
         "satcluster refute --cubes f.icnf --leaf 3 f.cnf",
         plain,
-    )?;
+    );
     let full = Request::Refute {
         input: "f.cnf",
         cubes: "f.icnf",
@@ -336,19 +324,18 @@ fn a_refutation_with_its_defaults_and_with_all_its_words(rt: HostRuntime) -> Res
         },
     };
     let words = "satcluster refute --cubes f.icnf --leaf 3 --to 9 --limit 1 -q -n f.cnf l.frag";
-    asks(&rt, rt.alloc(), words, full)?;
-    Ok(())
+    asks(&rt, rt.alloc(), words, full);
 }
 
 /// Flags may stand between the names of fragments, and `-` is a name.
 #[test]
-fn fragments_by_their_names(rt: HostRuntime) -> Result<(), Fail> {
+fn fragments_by_their_names(rt: HostRuntime) {
     let alloc = rt.alloc();
     let one = Request::Join {
         input: "f.cnf",
         cubes: "f.icnf",
         proof: "f.lrat",
-        fragments: vec![in alloc; "a"]?,
+        fragments: vec![in alloc; "a"].expect(&rt, "memory"),
         printing: PRINTED,
     };
     asks(
@@ -356,20 +343,19 @@ fn fragments_by_their_names(rt: HostRuntime) -> Result<(), Fail> {
         alloc,
         "satcluster join --cubes f.icnf f.cnf f.lrat a",
         one,
-    )?;
+    );
     let three = Request::Join {
         input: "f.cnf",
         cubes: "f.icnf",
         proof: "f.lrat",
-        fragments: vec![in alloc; "b", "-", "a"]?,
+        fragments: vec![in alloc; "b", "-", "a"].expect(&rt, "memory"),
         printing: Printing {
             quiet: true,
             ..PRINTED
         },
     };
     let words = "satcluster join f.cnf f.lrat b -q - --cubes f.icnf a";
-    asks(&rt, alloc, words, three)?;
-    Ok(())
+    asks(&rt, alloc, words, three);
 }
 
 /// Each line goes past a bound, lacks a word, names one twice, or names one that its command has not got.
@@ -440,35 +426,33 @@ const REFUSED: &[&'static str] = &[
 ];
 
 #[test]
-fn words_that_are_refused(rt: HostRuntime) -> Result<(), Fail> {
+fn words_that_are_refused(rt: HostRuntime) {
     for line in REFUSED {
-        refuses(&rt, rt.alloc(), line)?;
+        refuses(&rt, rt.alloc(), line);
     }
-    Ok(())
 }
 
 #[test]
-fn a_help_is_no_answer(rt: HostRuntime) -> Result<(), Fail> {
+fn a_help_is_no_answer(rt: HostRuntime) {
     let alloc = rt.alloc();
-    helps(&rt, alloc, "satcluster --help", "<COMMAND>")?;
-    helps(&rt, alloc, "satcluster help solve", "[PROOF]")?;
-    helps(&rt, alloc, "satcluster solve --help", "<INPUT>")?;
-    helps(&rt, alloc, "satcluster check -h", "<PROOF>")?;
-    helps(&rt, alloc, "satcluster cubes -h", "from 0 to 16")?;
-    helps(&rt, alloc, "satcluster cubes -h", "--split <split>")?;
-    helps(&rt, alloc, "satcluster cubes -h", "--complete <complete>")?;
-    helps(&rt, alloc, "satcluster serve -h", "--port <port>")?;
-    helps(&rt, alloc, "satcluster work -h", "--ahead")?;
-    helps(&rt, alloc, "satcluster drill -h", "from 0 to 100000")?;
-    helps(&rt, alloc, "satcluster leaf -h", "--cubes <cubes>")?;
+    helps(&rt, alloc, "satcluster --help", "<COMMAND>");
+    helps(&rt, alloc, "satcluster help solve", "[PROOF]");
+    helps(&rt, alloc, "satcluster solve --help", "<INPUT>");
+    helps(&rt, alloc, "satcluster check -h", "<PROOF>");
+    helps(&rt, alloc, "satcluster cubes -h", "from 0 to 16");
+    helps(&rt, alloc, "satcluster cubes -h", "--split <split>");
+    helps(&rt, alloc, "satcluster cubes -h", "--complete <complete>");
+    helps(&rt, alloc, "satcluster serve -h", "--port <port>");
+    helps(&rt, alloc, "satcluster work -h", "--ahead");
+    helps(&rt, alloc, "satcluster drill -h", "from 0 to 100000");
+    helps(&rt, alloc, "satcluster leaf -h", "--cubes <cubes>");
     helps(
         &rt,
         alloc,
         "satcluster refute -h",
         "[default: 140737488355328]",
-    )?;
-    helps(&rt, alloc, "satcluster join -h", "<NAME>...")?;
-    helps(&rt, alloc, "satcluster lift -h", "<FRAGMENT>")?;
-    helps(&rt, alloc, "satcluster model -h", "<FILE>")?;
-    Ok(())
+    );
+    helps(&rt, alloc, "satcluster join -h", "<NAME>...");
+    helps(&rt, alloc, "satcluster lift -h", "<FRAGMENT>");
+    helps(&rt, alloc, "satcluster model -h", "<FILE>");
 }

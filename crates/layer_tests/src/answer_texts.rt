@@ -41,50 +41,48 @@ fn all_are_judged(rt: &impl Abort, alloc: Global, rows: &[Row]) {
     }
 }
 
-#[test]
-fn each_clause_has_a_literal_that_is_named(rt: HostRuntime) {
-    let rows: [Row; 12] = [
-        (b"c x\ns SATISFIABLE\nv 1 -2 3 0\n", Ok(None)),
-        (b"v 1 3 -2\nv 0", Ok(None)),
-        (b"v1\t3\r\nv -2 0 \r\n \t\r\n\nc v 2\ns v -1\n", Ok(None)),
-        (b"v 1 3 0\n", Ok(Some(3))),
-        (b"v -2 3 0\n", Ok(Some(1))),
-        (b"v 2 -3 0\n", Ok(Some(2))),
-        (b"v 2 2 -1 -3 2 0\n", Ok(None)),
-        (b"v 0\n", Ok(Some(1))),
-        (b"v 1 3 -2 4 -2000000 0", Ok(None)),
-        (b"s UNSATISFIABLE\nv\nv 1 -2 3 0\nv \n", Ok(None)),
-        (b"c\ncv 7 x\nv 1 -2 3 0\ns", Ok(None)),
-        (b"v 1000000 4 5 6 7 8 0\n", Ok(Some(1))),
-    ];
-    all_are_judged(&rt, rt.alloc(), &rows);
-}
+const NAMED: &[Row] = &[
+    (b"c x\ns SATISFIABLE\nv 1 -2 3 0\n", Ok(None)),
+    (b"v 1 3 -2\nv 0", Ok(None)),
+    (b"v1\t3\r\nv -2 0 \r\n \t\r\n\nc v 2\ns v -1\n", Ok(None)),
+    (b"v 1 3 0\n", Ok(Some(3))),
+    (b"v -2 3 0\n", Ok(Some(1))),
+    (b"v 2 -3 0\n", Ok(Some(2))),
+    (b"v 2 2 -1 -3 2 0\n", Ok(None)),
+    (b"v 0\n", Ok(Some(1))),
+    (b"v 1 3 -2 4 -2000000 0", Ok(None)),
+    (b"s UNSATISFIABLE\nv\nv 1 -2 3 0\nv \n", Ok(None)),
+    (b"c\ncv 7 x\nv 1 -2 3 0\ns", Ok(None)),
+    (b"v 1000000 4 5 6 7 8 0\n", Ok(Some(1))),
+];
+
+const FAULTS: &[Row] = &[
+    (b"", Err((Kind::NotEnded, 1))),
+    (b"s SATISFIABLE\n", Err((Kind::NotEnded, 2))),
+    (b"v 1 -2 3\n", Err((Kind::NotEnded, 2))),
+    (b"v 1 -2 3 10", Err((Kind::NotEnded, 1))),
+    (b"s SATISFIABLE\n v 1 0\n", Err((Kind::ForeignLine, 2))),
+    (b"v 1\n1 0\n", Err((Kind::ForeignLine, 2))),
+    (b"\n\np cnf 1 1\n", Err((Kind::ForeignLine, 3))),
+    (b"v 1 x 0\n", Err((Kind::BadToken, 1))),
+    (b"v 01 0\n", Err((Kind::BadToken, 1))),
+    (b"v +1 0\n", Err((Kind::BadToken, 1))),
+    (b"v -0\n", Err((Kind::BadToken, 1))),
+    (b"v\nv 100000000 0\n", Err((Kind::BadToken, 2))),
+    (b"version 1\n", Err((Kind::BadToken, 1))),
+    (b"v 1 -2 0 3\n", Err((Kind::BehindEnd, 1))),
+    (b"v 1 -2 0\nv 3 0\n", Err((Kind::BehindEnd, 2))),
+    (b"v 0 0\n", Err((Kind::BehindEnd, 1))),
+    (b"v 0 x\n", Err((Kind::BehindEnd, 1))),
+    (b"v 1 -2\nv 2 0\n", Err((Kind::ComplementaryPair, 2))),
+    (b"v -1 -2 1 0", Err((Kind::ComplementaryPair, 1))),
+    (b"v 5000000 -5000000 0", Err((Kind::ComplementaryPair, 1))),
+];
 
 #[test]
-fn the_first_fault_is_told(rt: HostRuntime) {
-    let rows: [Row; 20] = [
-        (b"", Err((Kind::NotEnded, 1))),
-        (b"s SATISFIABLE\n", Err((Kind::NotEnded, 2))),
-        (b"v 1 -2 3\n", Err((Kind::NotEnded, 2))),
-        (b"v 1 -2 3 10", Err((Kind::NotEnded, 1))),
-        (b"s SATISFIABLE\n v 1 0\n", Err((Kind::ForeignLine, 2))),
-        (b"v 1\n1 0\n", Err((Kind::ForeignLine, 2))),
-        (b"\n\np cnf 1 1\n", Err((Kind::ForeignLine, 3))),
-        (b"v 1 x 0\n", Err((Kind::BadToken, 1))),
-        (b"v 01 0\n", Err((Kind::BadToken, 1))),
-        (b"v +1 0\n", Err((Kind::BadToken, 1))),
-        (b"v -0\n", Err((Kind::BadToken, 1))),
-        (b"v\nv 100000000 0\n", Err((Kind::BadToken, 2))),
-        (b"version 1\n", Err((Kind::BadToken, 1))),
-        (b"v 1 -2 0 3\n", Err((Kind::BehindEnd, 1))),
-        (b"v 1 -2 0\nv 3 0\n", Err((Kind::BehindEnd, 2))),
-        (b"v 0 0\n", Err((Kind::BehindEnd, 1))),
-        (b"v 0 x\n", Err((Kind::BehindEnd, 1))),
-        (b"v 1 -2\nv 2 0\n", Err((Kind::ComplementaryPair, 2))),
-        (b"v -1 -2 1 0", Err((Kind::ComplementaryPair, 1))),
-        (b"v 5000000 -5000000 0", Err((Kind::ComplementaryPair, 1))),
-    ];
-    all_are_judged(&rt, rt.alloc(), &rows);
+fn each_clause_has_a_literal_that_is_named_or_the_first_fault_is_told(rt: HostRuntime) {
+    all_are_judged(&rt, rt.alloc(), NAMED);
+    all_are_judged(&rt, rt.alloc(), FAULTS);
 }
 
 #[test]
@@ -106,16 +104,17 @@ fn what_is_named_is_an_assignment(rt: HostRuntime) {
 /// An answer, and what is printed of it with which status.
 type Printed = (&'static [u8], &'static [u8], u8);
 
+const REPORTS: &[Printed] = &[
+    (b"s SATISFIABLE\nv 1 -2 3 0\n", b"s VERIFIED\n", 0),
+    (b"v 1 2 3 0\n", b"s NOT VERIFIED\nc clause 3\n", 1),
+    (b"v 1 2\nv -1 0\n", b"s NOT VERIFIED\nc line 2 fault 4\n", 1),
+    (b"", b"s NOT VERIFIED\nc line 1 fault 5\n", 1),
+];
+
 #[test]
 fn a_report_tells_the_clause_or_the_fault(rt: HostRuntime) {
-    let rows: [Printed; 4] = [
-        (b"s SATISFIABLE\nv 1 -2 3 0\n", b"s VERIFIED\n", 0),
-        (b"v 1 2 3 0\n", b"s NOT VERIFIED\nc clause 3\n", 1),
-        (b"v 1 2\nv -1 0\n", b"s NOT VERIFIED\nc line 2 fault 4\n", 1),
-        (b"", b"s NOT VERIFIED\nc line 1 fault 5\n", 1),
-    ];
     let alloc = rt.alloc();
-    for (text, want, status) in &rows {
+    for (text, want, status) in REPORTS {
         let formula = read(alloc, THREE).expect(&rt, "a formula");
         let mut check = ModelCheck::of(alloc, formula);
         check.feed(*text);

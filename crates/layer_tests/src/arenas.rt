@@ -5,9 +5,10 @@ ghost use Rattle.std.specs.List.{IsDistinct};
 ghost use Rattle.dimacs.specs.logic.Literal.{Literal, Pos, Neg, same};
 ghost use Rattle.clause_arena.specs.Clauses.{IsLive};
 
+use crate::inputs::literal_of;
 use clause_arena::{Arena, Ref};
 use dimacs::{Lit, Var};
-use std::alloc::AllocError;
+use std::alloc::{AllocError, Global};
 use std::process::Abort;
 use std::test::Fail;
 
@@ -48,14 +49,16 @@ fn find(rt: &impl Abort, arena: &Arena, number: u64) -> Ref
     }
 }
 
-/// The clause of a number must be the three literals from a variable on.
-fn expect_three(rt: &impl Abort, arena: &Arena, number: u64, first: u32)
-    requires low { 1 ≤ first }
-    requires high { first < 10000 }
-{
+/// The clause of a number must have these literals.
+fn expect(rt: &impl Abort, arena: &Arena, number: u64, wanted: [i32; 3]) {
+    let [first, second, third] = wanted;
+    let literals = [
+        literal_of(rt, first),
+        literal_of(rt, second),
+        literal_of(rt, third),
+    ];
     let at = find(rt, arena, number);
-    assert_eq!(rt; at.number(), number);
-    assert_eq!(rt; arena.clause(at), three(first).as_slice());
+    assert!(rt; at.number() == number && arena.clause(at) == literals.as_slice());
 }
 
 fn remove(rt: &impl Abort, arena: &mut Arena, number: u64) {
@@ -63,73 +66,140 @@ fn remove(rt: &impl Abort, arena: &mut Arena, number: u64) {
     arena.remove(at);
 }
 
-#[test]
-fn a_great_number_is_a_number(rt: HostRuntime) -> Result<(), Fail> {
-    let mut arena = Arena::new(rt.alloc());
-    add(&rt, &mut arena, FAR, &three(5))?;
-    add(&rt, &mut arena, u64::MAX, &three(9))?;
-    add(&rt, &mut arena, 0, &three(1))?;
-    add(&rt, &mut arena, 1_000_000, &three(3))?;
-    expect_three(&rt, &arena, FAR, 5);
-    expect_three(&rt, &arena, u64::MAX, 9);
-    expect_three(&rt, &arena, 0, 1);
-    expect_three(&rt, &arena, 1_000_000, 3);
-    assert_eq!(rt; arena.find(FAR - 1), None);
-    assert_eq!(rt; arena.find(u64::MAX - 1), None);
-    remove(&rt, &mut arena, FAR);
-    assert_eq!(rt; arena.find(FAR), None);
-    expect_three(&rt, &arena, u64::MAX, 9);
+fn swap(rt: &impl Abort, arena: &mut Arena, number: u64, i: usize, j: usize) {
+    let at = find(rt, arena, number);
+    let len = arena.clause(at).len();
+    assert!(rt; i < len && j < len);
+    arena.swap(at, i, j);
+}
+
+/// What happens to an arena, or is to be seen of it.
+#[derive(Clone, Copy)]
+enum Turn {
+    /// Three literals come under a number, from a variable on.
+    Adds(u64, u32),
+    Removes(u64),
+    /// Two literals of a clause change places.
+    Swaps(u64, usize, usize),
+    /// A clause has these literals.
+    Is(u64, [i32; 3]),
+    Lacks(u64),
+}
+
+fn play_turn(rt: &impl Abort, arena: &mut Arena, turn: Turn) -> Result<(), AllocError> {
+    match turn {
+        Turn::Adds(number, first) => {
+            assert!(rt; first >= 1 && first < 10000);
+            add(rt, arena, number, &three(first))?;
+        }
+        Turn::Removes(number) => remove(rt, arena, number),
+        Turn::Swaps(number, i, j) => swap(rt, arena, number, i, j),
+        Turn::Is(number, literals) => expect(rt, arena, number, literals),
+        Turn::Lacks(number) => assert!(rt; arena.find(number).is_none()),
+    }
     Ok(())
 }
 
-#[test]
-fn two_literals_change_places(rt: HostRuntime) -> Result<(), Fail> {
-    let mut arena = Arena::new(rt.alloc());
-    add(&rt, &mut arena, 1, &three(1))?;
-    add(&rt, &mut arena, 2, &three(4))?;
-    add(&rt, &mut arena, 3, &three(7))?;
-    let at = find(&rt, &arena, 2);
-    let len = arena.clause(at).len();
-    assert_eq!(rt; len, 3);
-    arena.swap(at, 0, 2);
-    let [a, b, c] = three(4);
-    let at = find(&rt, &arena, 2);
-    assert_eq!(rt; arena.clause(at), [c, b, a].as_slice());
-    let len = arena.clause(at).len();
-    assert_eq!(rt; len, 3);
-    arena.swap(at, 1, 1);
-    let at = find(&rt, &arena, 2);
-    assert_eq!(rt; arena.clause(at), [c, b, a].as_slice());
-    expect_three(&rt, &arena, 1, 1);
-    expect_three(&rt, &arena, 3, 7);
+fn play(rt: &impl Abort, arena: &mut Arena, turns: &[Turn]) -> Result<(), AllocError> {
+    for turn in turns {
+        play_turn(rt, arena, *turn)?;
+    }
     Ok(())
 }
+
+const GREAT_NUMBERS: &[Turn] = &[
+    Turn::Adds(FAR, 5),
+    Turn::Adds(u64::MAX, 9),
+    Turn::Adds(0, 1),
+    Turn::Adds(1_000_000, 3),
+    Turn::Is(FAR, [5, -6, 7]),
+    Turn::Is(u64::MAX, [9, -10, 11]),
+    Turn::Is(0, [1, -2, 3]),
+    Turn::Is(1_000_000, [3, -4, 5]),
+    Turn::Lacks(FAR - 1),
+    Turn::Lacks(u64::MAX - 1),
+    Turn::Removes(FAR),
+    Turn::Lacks(FAR),
+    Turn::Is(u64::MAX, [9, -10, 11]),
+];
+
+const SWAPPED: &[Turn] = &[
+    Turn::Adds(1, 1),
+    Turn::Adds(2, 4),
+    Turn::Adds(3, 7),
+    Turn::Swaps(2, 0, 2),
+    Turn::Is(2, [6, -5, 4]),
+    Turn::Swaps(2, 1, 1),
+    Turn::Is(2, [6, -5, 4]),
+    Turn::Is(1, [1, -2, 3]),
+    Turn::Is(3, [7, -8, 9]),
+];
+
+#[test]
+fn clauses_have_great_numbers_and_their_literals_change_places(
+    rt: HostRuntime,
+) -> Result<(), Fail> {
+    for turns in [GREAT_NUMBERS, SWAPPED] {
+        play(&rt, &mut Arena::new(rt.alloc()), turns)?;
+    }
+    Ok(())
+}
+
+/// The gaps are closed, and the clauses of these numbers move.
+fn expect_moves(
+    rt: &impl Abort,
+    alloc: Global,
+    arena: &mut Arena,
+    numbers: &[u64],
+) -> Result<(), AllocError> {
+    let mut moved = Vec::new(alloc);
+    arena.compact(&mut moved)?;
+    assert_eq!(rt; moved.len(), numbers.len());
+    for i in 0..moved.len() {
+        let (from, to) = moved[i];
+        assert!(rt; i < numbers.len() && from.number() == numbers[i] && from != to);
+        assert!(rt; arena.find(numbers[i]) == Some(to));
+    }
+    Ok(())
+}
+
+const WITH_GAPS: &[Turn] = &[
+    Turn::Adds(FAR, 50),
+    Turn::Adds(1, 1),
+    Turn::Adds(2, 2),
+    Turn::Adds(3, 3),
+    Turn::Adds(4, 4),
+    Turn::Adds(5, 5),
+    Turn::Adds(6, 6),
+    Turn::Removes(2),
+    Turn::Removes(4),
+];
+
+const CLOSED: &[Turn] = &[
+    Turn::Is(1, [1, -2, 3]),
+    Turn::Is(3, [3, -4, 5]),
+    Turn::Is(5, [5, -6, 7]),
+    Turn::Is(6, [6, -7, 8]),
+    Turn::Is(FAR, [50, -51, 52]),
+    Turn::Lacks(2),
+];
 
 #[test]
 fn closing_gaps_tells_each_clause_that_moved(rt: HostRuntime) -> Result<(), Fail> {
     let mut arena = Arena::new(rt.alloc());
-    add(&rt, &mut arena, FAR, &three(50))?;
-    for number in 1..7 {
-        add(&rt, &mut arena, number, &three(number as u32))?;
-    }
-    remove(&rt, &mut arena, 2);
-    remove(&rt, &mut arena, 4);
-    let mut moved = Vec::new(rt.alloc());
-    arena.compact(&mut moved)?;
-    assert_eq!(rt; moved.len(), 5);
-    let numbers = [1, 3, 5, 6, FAR];
-    for (i, (from, to)) in moved.iter().enumerate() {
-        assert!(rt; i < 5);
-        assert_eq!(rt; from.number(), numbers[i]);
-        assert_eq!(rt; arena.find(numbers[i]), Some(*to));
-        assert_ne!(rt; from, to);
-    }
-    for number in [1, 3, 5, 6] {
-        expect_three(&rt, &arena, number, number as u32);
-    }
-    expect_three(&rt, &arena, FAR, 50);
-    assert_eq!(rt; arena.find(2), None);
+    play(&rt, &mut arena, WITH_GAPS)?;
+    expect_moves(&rt, rt.alloc(), &mut arena, &[1, 3, 5, 6, FAR])?;
+    play(&rt, &mut arena, CLOSED)?;
     Ok(())
+}
+
+/// A third of the clauses goes.
+fn thin(rt: &impl Abort, arena: &mut Arena) {
+    for number in 1..2000 {
+        if number % 3 == 0 {
+            remove(rt, arena, number);
+        }
+    }
 }
 
 #[test]
@@ -137,21 +207,19 @@ fn many_clauses_come_and_go(rt: HostRuntime) -> Result<(), Fail> {
     let mut arena = Arena::new(rt.alloc());
     let mut moved = Vec::new(rt.alloc());
     for number in 1..2000 {
-        add(&rt, &mut arena, number, &three(number as u32))?;
+        play_turn(&rt, &mut arena, Turn::Adds(number, number as u32))?;
     }
-    for number in 1..2000 {
-        if number % 3 == 0 {
-            remove(&rt, &mut arena, number);
-        }
-    }
+    thin(&rt, &mut arena);
     arena.compact(&mut moved)?;
     assert_eq!(rt; moved.len(), 1331);
     for number in 1..2000 {
-        if number % 3 == 0 {
-            assert_eq!(rt; arena.find(number), None);
+        let first = number as i32;
+        let turn = if number % 3 == 0 {
+            Turn::Lacks(number)
         } else {
-            expect_three(&rt, &arena, number, number as u32);
-        }
+            Turn::Is(number, [first, -(first + 1), first + 2])
+        };
+        play_turn(&rt, &mut arena, turn)?;
     }
     Ok(())
 }

@@ -8,6 +8,7 @@ use std::alloc::Global;
 use std::io;
 use std::io::{ErrorKind, Read, Write};
 use std::net::{Ipv4Addr, Net, OpenListener, SocketAddr, TcpListener};
+use std::process::Abort;
 use std::test::Fail;
 
 /// A stream that hands in its bytes one by one, the greatest first, and is interrupted before each.
@@ -54,14 +55,30 @@ fn play<L: Links>(links: &mut L, workers: u32) -> (u64, u64) {
     (links.calls(), links.refusals())
 }
 
-/// What arrives at the worker of what the coordinator sends, in one receive.
-fn heard<C: Carrier>(
-    links: &mut Counted<C>,
+/// What arrives at an end, in one receive into room for so many bytes, at most eight.
+fn hears<L: Links>(
+    rt: &impl Abort,
+    links: &mut L,
+    at: End,
+    size: usize,
+    wanted: Result<&[u8], LinkFault>,
+) {
+    let mut room = [0u8; 8];
+    assert!(rt; size <= 8);
+    match links.receive(at, &mut room[..size]) {
+        Ok(count) => assert!(rt; count <= 8 && Ok(&room[..count]) == wanted),
+        Err(fault) => assert!(rt; Err(fault) == wanted),
+    }
+}
+
+fn sends<L: Links>(
+    rt: &impl Abort,
+    links: &mut L,
+    from: End,
     bytes: &[u8],
-    room: &mut [u8],
-) -> Result<usize, LinkFault> {
-    links.send(End::Coordinator(1), bytes)?;
-    links.receive(End::Worker(1), room)
+    wanted: Result<(), LinkFault>,
+) {
+    assert!(rt; links.send(from, bytes) == wanted);
 }
 
 #[test]
@@ -75,12 +92,17 @@ fn in_memory(rt: HostRuntime) -> Result<(), Fail> {
 
 #[test]
 fn over_sockets(rt: HostRuntime) -> Result<(), Fail> {
-    let mut room = [0u8; 3];
     let mut links = Counted::new(Loopback::open(&rt, rt.alloc(), 64)?);
     assert_eq!(rt; play(&mut links, 64), (256, 0));
-    assert_eq!(rt; heard(&mut links, b"abc", &mut room), Ok(3));
-    assert_eq!(rt; room, *b"abc");
-    assert_eq!(rt; links.send(End::Coordinator(65), b"abc"), Err(LinkFault));
+    sends(&rt, &mut links, End::Coordinator(1), b"abc", Ok(()));
+    hears(&rt, &mut links, End::Worker(1), 3, Ok(b"abc"));
+    sends(
+        &rt,
+        &mut links,
+        End::Coordinator(65),
+        b"abc",
+        Err(LinkFault),
+    );
     assert_eq!(rt; (links.calls(), links.refusals()), (259, 1));
     Ok(())
 }
@@ -95,74 +117,61 @@ fn one_call_is_refused(rt: HostRuntime) -> Result<(), Fail> {
         let refusals = if number <= 12 { 1 } else { 0 };
         assert_eq!(rt; play(&mut Counted::new(carrier), 3), (12, refusals));
     }
-    Ok(())
-}
-
-#[test]
-fn every_call_is_refused(rt: HostRuntime) -> Result<(), Fail> {
     assert_eq!(rt; play(&mut Counted::new(RefusesAll), 3), (12, 12));
     Ok(())
 }
 
 #[test]
 fn one_byte_comes_a_call(rt: HostRuntime) -> Result<(), Fail> {
-    let mut room = [0u8; 4037];
     let mut links = Counted::new(Bytewise {
         carrier: Memory::new(rt.alloc(), 1)?,
     });
-    assert_eq!(rt; heard(&mut links, b"ab", &mut room), Ok(1));
-    assert_eq!(rt; links.receive(End::Worker(1), &mut []), Ok(0));
-    assert_eq!(rt; links.receive(End::Worker(1), &mut room), Ok(1));
-    assert_eq!(rt; links.receive(End::Worker(1), &mut room), Ok(0));
+    sends(&rt, &mut links, End::Coordinator(1), b"ab", Ok(()));
+    hears(&rt, &mut links, End::Worker(1), 8, Ok(b"a"));
+    hears(&rt, &mut links, End::Worker(1), 0, Ok(b""));
+    hears(&rt, &mut links, End::Worker(1), 8, Ok(b"b"));
+    hears(&rt, &mut links, End::Worker(1), 8, Ok(b""));
     Ok(())
 }
 
 #[test]
 fn hands_in_what_nobody_sent(rt: HostRuntime) -> Result<(), Fail> {
-    let mut room = [0u8; 2];
     let mut links = Counted::new(Script::new(rt.alloc(), b"abc")?);
-    assert_eq!(rt; links.receive(End::Worker(7), &mut room), Ok(2));
-    assert_eq!(rt; room, *b"ab");
-    assert_eq!(rt; heard(&mut links, b"xy", &mut room), Ok(1));
-    assert_eq!(rt; links.receive(End::Coordinator(1), &mut room), Ok(0));
+    hears(&rt, &mut links, End::Worker(7), 2, Ok(b"ab"));
+    sends(&rt, &mut links, End::Coordinator(1), b"xy", Ok(()));
+    hears(&rt, &mut links, End::Worker(1), 2, Ok(b"c"));
+    hears(&rt, &mut links, End::Coordinator(1), 2, Ok(b""));
     assert_eq!(rt; links.carrier().sent(), b"xy".as_slice());
     Ok(())
 }
 
-#[test]
-fn what_was_read_before_comes_first(rt: HostRuntime) -> Result<(), Fail> {
-    let mut room = [0u8; 2];
-    let mut served = Served::new(rt.alloc(), 2)?;
+/// Worker 2 of two has linked, and three bytes of it were read.
+fn served(rt: &impl Abort, alloc: Global) -> Served<Interrupted> {
+    let mut served = Served::new(alloc, 2).expect(rt, "memory");
+    assert!(rt; served.lacks(2) && !served.lacks(0) && !served.lacks(3));
     let stream = Interrupted {
         left: 1,
         is_next: false,
     };
-    assert!(rt; served.lacks(2));
-    assert!(rt; !served.lacks(0) && !served.lacks(3));
-    assert!(rt;
-        served
-            .link(2, stream, Vec::from_slice(rt.alloc(), b"abc")?)
-            .is_ok()
-    );
+    let read = Vec::from_slice(alloc, b"abc").expect(rt, "memory");
+    assert!(rt; served.link(2, stream, read).is_ok());
     assert!(rt; !served.lacks(2) && served.lacks(1) && !served.is_complete());
-    let mut links = Counted::new(served);
-    assert_eq!(rt; links.receive(End::Coordinator(2), &mut room), Ok(2));
-    assert_eq!(rt; room, *b"ab");
-    assert_eq!(rt; links.receive(End::Coordinator(2), &mut room), Ok(1));
-    assert_eq!(rt; room[0], b'c');
-    assert_eq!(rt; links.receive(End::Coordinator(2), &mut room), Ok(1));
-    assert_eq!(rt; room[0], 1);
-    assert_eq!(rt; links.receive(End::Coordinator(2), &mut room), Ok(0));
-    assert_eq!(rt; links.send(End::Coordinator(2), b"ab"), Ok(()));
+    served
+}
+
+#[test]
+fn what_was_read_before_comes_first(rt: HostRuntime) {
+    let mut links = Counted::new(served(&rt, rt.alloc()));
+    hears(&rt, &mut links, End::Coordinator(2), 2, Ok(b"ab"));
+    hears(&rt, &mut links, End::Coordinator(2), 2, Ok(b"c"));
+    hears(&rt, &mut links, End::Coordinator(2), 2, Ok(b"\x01"));
+    hears(&rt, &mut links, End::Coordinator(2), 2, Ok(b""));
+    sends(&rt, &mut links, End::Coordinator(2), b"ab", Ok(()));
     // Worker 1 never linked, and there is no worker 3.
-    assert_eq!(rt; links.receive(End::Coordinator(1), &mut room), Ok(0));
-    assert_eq!(rt; links.send(End::Coordinator(1), b"ab"), Err(LinkFault));
-    assert_eq!(rt;
-        links.receive(End::Coordinator(3), &mut room),
-        Err(LinkFault)
-    );
-    assert_eq!(rt; links.receive(End::Worker(2), &mut room), Err(LinkFault));
-    Ok(())
+    hears(&rt, &mut links, End::Coordinator(1), 2, Ok(b""));
+    sends(&rt, &mut links, End::Coordinator(1), b"ab", Err(LinkFault));
+    hears(&rt, &mut links, End::Coordinator(3), 2, Err(LinkFault));
+    hears(&rt, &mut links, End::Worker(2), 2, Err(LinkFault));
 }
 
 /// The two ends of one link, each in a carrier of its own.

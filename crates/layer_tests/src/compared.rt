@@ -34,35 +34,33 @@ fn all_are_told(rt: &impl Abort, alloc: Global, rows: &[Row]) {
     }
 }
 
-#[test]
-fn the_clauses_are_the_formulas(rt: HostRuntime) {
-    let rows: [Row; 10] = [
-        (CUBES, Ok(3)),
-        (b"p inccnf\n1 -3 0 2 0 0 a 0", Ok(1)),
-        (b"p inccnf\n1 3 0 2 0 0 a 0", Err(None)),
-        (b"p inccnf\n2 -3 0 2 0 0 a 0", Err(None)),
-        (b"p inccnf\n-3 1 0 2 0 0 a 0", Err(None)),
-        (b"p inccnf\n1 0 -3 2 0 0 a 0", Err(None)),
-        (b"p inccnf\n1 -3 0 2 0 2 0 a 0", Err(None)),
-        (b"p inccnf\n1 -3 0 2 0 a 0", Err(None)),
-        (b"p inccnf\n1 -3 0 2 0 0 0 a 0", Err(None)),
-        (b"p inccnf\na 0", Err(None)),
-    ];
-    all_are_told(&rt, rt.alloc(), &rows);
-}
+const CLAUSES: &[Row] = &[
+    (CUBES, Ok(3)),
+    (b"p inccnf\n1 -3 0 2 0 0 a 0", Ok(1)),
+    (b"p inccnf\n1 3 0 2 0 0 a 0", Err(None)),
+    (b"p inccnf\n2 -3 0 2 0 0 a 0", Err(None)),
+    (b"p inccnf\n-3 1 0 2 0 0 a 0", Err(None)),
+    (b"p inccnf\n1 0 -3 2 0 0 a 0", Err(None)),
+    (b"p inccnf\n1 -3 0 2 0 2 0 a 0", Err(None)),
+    (b"p inccnf\n1 -3 0 2 0 a 0", Err(None)),
+    (b"p inccnf\n1 -3 0 2 0 0 0 a 0", Err(None)),
+    (b"p inccnf\na 0", Err(None)),
+];
+
+const BEHIND: &[Row] = &[
+    (b"p inccnf\n9 0\nx", Err(Some((3, 3)))),
+    (b"p inccnf\n9 0\n1000001 0", Err(Some((8, 3)))),
+    (b"p inccnf\n9 0\na 10 0\n", Err(Some((4, 3)))),
+    (b"p inccnf\n9 0\na 9 0\n", Err(Some((12, 4)))),
+    (b"p inccnf\n9 0\na 9", Err(Some((5, 3)))),
+    (b"p inccnf\n9 0\na 9 0 a -9 0", Err(None)),
+    (b"p cnf 9 1\n9 0\n", Err(Some((2, 1)))),
+];
 
 #[test]
-fn a_fault_is_told_behind_another_clause(rt: HostRuntime) {
-    let rows: [Row; 7] = [
-        (b"p inccnf\n9 0\nx", Err(Some((3, 3)))),
-        (b"p inccnf\n9 0\n1000001 0", Err(Some((8, 3)))),
-        (b"p inccnf\n9 0\na 10 0\n", Err(Some((4, 3)))),
-        (b"p inccnf\n9 0\na 9 0\n", Err(Some((12, 4)))),
-        (b"p inccnf\n9 0\na 9", Err(Some((5, 3)))),
-        (b"p inccnf\n9 0\na 9 0 a -9 0", Err(None)),
-        (b"p cnf 9 1\n9 0\n", Err(Some((2, 1)))),
-    ];
-    all_are_told(&rt, rt.alloc(), &rows);
+fn the_clauses_are_the_formulas_and_a_fault_is_told_behind_another(rt: HostRuntime) {
+    all_are_told(&rt, rt.alloc(), CLAUSES);
+    all_are_told(&rt, rt.alloc(), BEHIND);
 }
 
 fn told_in_two(

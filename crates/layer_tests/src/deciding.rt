@@ -8,44 +8,82 @@ use std::alloc::{AllocError, Global};
 use std::process::Abort;
 use std::test::Fail;
 
-fn var(number: u32) -> Var
-    requires low { 1 ≤ number }
-    requires high { number ≤ 20 }
-    ensures { result ≡ number }
+fn var(rt: &impl Abort, number: u32) -> Var
+    ensures { result ≤ 20 }
 {
+    assert!(rt; number >= 1 && number <= 20);
     Var::new(number)
 }
 
-#[test]
-fn the_greatest_score_comes_first(rt: HostRuntime) -> Result<(), Fail> {
-    let mut heap = DecideHeap::new(rt.alloc());
-    heap.reserve(3)?;
-    heap.insert(var(1));
-    heap.insert(var(2));
-    heap.insert(var(3));
-    heap.bump(var(3));
-    heap.bump(var(2));
-    assert_eq!(rt; heap.pop_best(), Some(var(2)));
-    assert_eq!(rt; heap.pop_best(), Some(var(3)));
-    assert_eq!(rt; heap.pop_best(), Some(var(1)));
-    assert_eq!(rt; heap.pop_best(), None);
-    Ok(())
+/// What happens to a heap of twenty variables, and 0 for none that is taken out.
+#[derive(Clone, Copy)]
+enum Turn {
+    Inserts(u32),
+    Bumps(u32),
+    Halves,
+    Takes(u32),
 }
 
+fn number_of(taken: Option<Var>) -> u32 {
+    match taken {
+        Some(var) => var.number(),
+        None => 0,
+    }
+}
+
+fn play_turn(rt: &impl Abort, heap: &mut DecideHeap, turn: Turn)
+    requires { heap.old.vars ≡ 20 }
+    ensures { heap.new.vars ≡ 20 }
+{
+    match turn {
+        Turn::Inserts(number) => heap.insert(var(rt, number)),
+        Turn::Bumps(number) => heap.bump(var(rt, number)),
+        Turn::Halves => heap.halve(),
+        Turn::Takes(number) => assert_eq!(rt; number_of(heap.pop_best()), number),
+    }
+}
+
+fn play(rt: &impl Abort, heap: &mut DecideHeap, turns: &[Turn])
+    requires { heap.old.vars ≡ 20 }
+{
+    for turn in turns {
+        play_turn(rt, heap, *turn);
+    }
+}
+
+const BUMPED: &[Turn] = &[
+    Turn::Inserts(1),
+    Turn::Inserts(2),
+    Turn::Inserts(3),
+    Turn::Bumps(3),
+    Turn::Bumps(2),
+    Turn::Takes(2),
+    Turn::Takes(3),
+    Turn::Takes(1),
+    Turn::Takes(0),
+];
+
+const HALVED: &[Turn] = &[
+    Turn::Inserts(1),
+    Turn::Inserts(2),
+    Turn::Bumps(1),
+    Turn::Bumps(1),
+    Turn::Bumps(2),
+    Turn::Bumps(2),
+    Turn::Bumps(2),
+    Turn::Halves,
+    Turn::Takes(1),
+    Turn::Takes(2),
+];
+
+/// A tie, also one behind a halving, goes to the lower variable.
 #[test]
-fn a_tie_after_halving_goes_to_the_lower_variable(rt: HostRuntime) -> Result<(), Fail> {
-    let mut heap = DecideHeap::new(rt.alloc());
-    heap.reserve(2)?;
-    heap.insert(var(1));
-    heap.insert(var(2));
-    heap.bump(var(1));
-    heap.bump(var(1));
-    heap.bump(var(2));
-    heap.bump(var(2));
-    heap.bump(var(2));
-    heap.halve();
-    assert_eq!(rt; heap.pop_best(), Some(var(1)));
-    assert_eq!(rt; heap.pop_best(), Some(var(2)));
+fn the_greatest_score_comes_first(rt: HostRuntime) -> Result<(), Fail> {
+    for turns in [BUMPED, HALVED] {
+        let mut heap = DecideHeap::new(rt.alloc());
+        heap.reserve(20)?;
+        play(&rt, &mut heap, turns);
+    }
     Ok(())
 }
 
@@ -117,10 +155,10 @@ fn call(rt: &impl Abort, heap: &mut DecideHeap, entries: &mut [Entry], choice: u
         heap.halve();
         halve(entries);
     } else if choice < 8 {
-        heap.bump(var(number));
+        heap.bump(var(rt, number));
         bump(entries, number);
     } else if choice < 12 {
-        heap.insert(var(number));
+        heap.insert(var(rt, number));
         set_inside(entries, number, true);
     } else {
         let expected = best(entries);

@@ -1,12 +1,10 @@
 //! Nodes over defined variables.
 
-ghost use Rattle.std.specs.Prelude.{◌≤◌};
-
 use crate::inputs::FOUR;
-use crate::nodes::formula_of;
+use crate::told::{Found, Told, formula_of, frame_of, polled};
 use coordinator_core::Coordinator;
-use dimacs::{Builder, Lit, Var};
-use frames::{Attempt, Cube, Frame, Outcome, WorkerNumber};
+use dimacs::{Builder, Extension};
+use frames::{Frame, WorkerNumber};
 use icnf::Tree;
 use lrat_check::Reaction;
 use std::alloc::Global;
@@ -14,21 +12,22 @@ use std::process::Abort;
 use std::test::Fail;
 use worker_core::Worker;
 
-/// A task of a job, whose cube is one variable.
-fn task(alloc: Global, job: u64, variable: u32) -> Result<Frame, Fail>
-    requires { (1 ≤ variable) × (variable ≤ 100) }
-{
-    let mut cube = Cube::new(alloc);
-    let literal = Lit::positive(Var::new(variable));
-    if cube.takes(literal) {
-        cube.push(literal)?;
-    }
-    Ok(Frame::Task {
-        session: 1,
-        job,
-        limit: 1000,
-        cube,
-    })
+/// A worker is handed a task of a job, whose cube is one variable.
+fn answers(
+    rt: &impl Abort,
+    alloc: Global,
+    worker: &mut Worker,
+    task: Told,
+    want: Reaction,
+) -> Result<(), Fail> {
+    let frame = frame_of(rt, alloc, 1, task)?;
+    assert_eq!(rt; worker.deliver(&frame), want);
+    Ok(())
+}
+
+/// No clause, over three variables.
+fn third_variable(alloc: Global) -> Result<Extension, Fail> {
+    Ok(Builder::new(alloc)?.finish_extension(3))
 }
 
 #[test]
@@ -36,18 +35,34 @@ fn a_worker_keeps_as_many_definitions(rt: HostRuntime) -> Result<(), Fail> {
     let a = rt.alloc();
     let one = WorkerNumber::new(1);
     let mut plain = Worker::new(a, formula_of(a, FOUR)?, one, 1)?;
-    assert_eq!(rt; plain.deliver(&task(a, 1, 3)?), Reaction::Refused(3));
+    answers(
+        &rt,
+        a,
+        &mut plain,
+        Told::Task(1, &[3]),
+        Reaction::Refused(3),
+    )?;
     let mut worker = Worker::with_defs(a, formula_of(a, FOUR)?, one, 1, 1)?;
-    assert_eq!(rt; worker.deliver(&task(a, 1, 3)?), Reaction::Taken);
+    answers(&rt, a, &mut worker, Told::Task(1, &[3]), Reaction::Taken)?;
     worker.restart(2);
-    assert_eq!(rt; worker.deliver(&task(a, 1, 3)?), Reaction::Taken);
-    assert_eq!(rt; worker.deliver(&task(a, 2, 4)?), Reaction::Refused(3));
+    answers(&rt, a, &mut worker, Told::Task(1, &[3]), Reaction::Taken)?;
+    answers(
+        &rt,
+        a,
+        &mut worker,
+        Told::Task(2, &[4]),
+        Reaction::Refused(3),
+    )?;
     // Of three variables the next one is defined.
-    let extension = Builder::new(a)?.finish_extension(3);
-    assert_eq!(rt; worker.extend(&extension, 3), Reaction::Taken);
-    assert_eq!(rt; worker.deliver(&task(a, 1, 4)?), Reaction::Taken);
-    assert_eq!(rt; worker.deliver(&task(a, 2, 5)?), Reaction::Refused(3));
-    Ok(())
+    assert_eq!(rt; worker.extend(&third_variable(a)?, 3), Reaction::Taken);
+    answers(&rt, a, &mut worker, Told::Task(1, &[4]), Reaction::Taken)?;
+    answers(
+        &rt,
+        a,
+        &mut worker,
+        Told::Task(2, &[5]),
+        Reaction::Refused(3),
+    )
 }
 
 /// The number of the first literal of a task, 0 where it has none.
@@ -61,32 +76,20 @@ fn first_literal(frame: &Frame) -> i32 {
     }
 }
 
-/// What a coordinator tells a worker.
-fn told(rt: &impl Abort, coordinator: &mut Coordinator, worker: u32) -> Result<Frame, Fail> {
-    assert!(rt; worker >= 1 && worker <= coordinator.workers());
-    let frame = coordinator.poll(WorkerNumber::new(worker))?;
-    Ok(frame)
+/// A coordinator tells worker 1 a task of this first literal, 0 if it has none.
+fn tells(rt: &impl Abort, coordinator: &mut Coordinator, want: i32) -> Result<(), Fail> {
+    let frame = polled(rt, coordinator, 1)?;
+    assert_eq!(rt; first_literal(&frame), want);
+    Ok(())
 }
 
 #[test]
 fn a_coordinator_splits_on_a_defined_variable(rt: HostRuntime) -> Result<(), Fail> {
     let a = rt.alloc();
-    let one = WorkerNumber::new(1);
-    let tree = Tree::leaf(a)?;
-    let mut coordinator = Coordinator::with_defs(a, formula_of(a, FOUR)?, tree, 1000, 1, 1, 1)?;
-    assert_eq!(rt; first_literal(&coordinator.poll(one)?), 0);
-    let attempt = Attempt {
-        session: 1,
-        job: 1,
-        worker: one,
-        incarnation: 1,
-    };
-    let limited = Frame::Done {
-        attempt,
-        outcome: Outcome::Limit,
-    };
+    let formula = formula_of(a, FOUR)?;
+    let mut coordinator = Coordinator::with_defs(a, formula, Tree::leaf(a)?, 1000, 1, 1, 1)?;
+    tells(&rt, &mut coordinator, 0)?;
+    let limited = frame_of(&rt, a, 1, Told::Done(1, 1, Found::Limit))?;
     assert_eq!(rt; coordinator.deliver(&limited), Reaction::Taken);
-    let next = told(&rt, &mut coordinator, 1)?;
-    assert_eq!(rt; first_literal(&next), 3);
-    Ok(())
+    tells(&rt, &mut coordinator, 3)
 }

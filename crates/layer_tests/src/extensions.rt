@@ -1,14 +1,16 @@
 //! Clauses that are added at nodes.
 
-use crate::inputs::FOUR;
-use crate::nodes::{UNITS, cluster_of, formula_of, offer};
+use crate::inputs::{FOUR, UNITS, literal_of};
+use crate::nodes::{cluster_of, offer};
+use crate::told::{Found, Told, are_alike, formula_of, frame_of, polled};
 use cluster::{OpenCluster, OpenEvent};
 use coordinator_core::Coordinator;
-use dimacs::{Builder, Extension, Lit, Var};
-use frames::{Answer, Attempt, Chunk, Finding, Frame, Outcome, WorkerNumber};
+use dimacs::{Builder, Extension};
+use frames::Answer;
 use icnf::Tree;
 use lrat_check::{Reaction, Verdict};
 use std::alloc::Global;
+use std::process::Abort;
 use std::test::Fail;
 
 /// A proof of the four clauses, which defines a variable by RAT lemmas.
@@ -39,113 +41,103 @@ fn holds(cluster: &OpenCluster, node: usize, held: Held<'_>) -> bool {
     }
 }
 
-/// The clause `3`.
-fn three(alloc: Global) -> Result<Extension, Fail> {
-    let mut builder = Builder::new(alloc)?;
-    builder.push(Lit::positive(Var::new(3)))?;
-    builder.end_clause()?;
-    Ok(builder.finish_extension(3))
-}
-
-/// The clause `1`, or the clause `2`, over two variables.
-fn one_of_two(alloc: Global, second: bool) -> Result<Extension, Fail> {
-    let mut builder = Builder::new(alloc)?;
-    if second {
-        builder.push(Lit::positive(Var::new(2)))?;
-        builder.end_clause()?;
-        return Ok(builder.finish_extension(2));
+/// A clause of these literals.
+fn clause_of(rt: &impl Abort, alloc: Global, numbers: &[i32]) -> Extension {
+    let mut builder = Builder::new(alloc).expect(rt, "memory");
+    for number in numbers {
+        assert!(rt; builder.literals() < 100);
+        builder.push(literal_of(rt, *number)).expect(rt, "memory");
     }
-    builder.push(Lit::positive(Var::new(1)))?;
-    builder.end_clause()?;
-    Ok(builder.finish_extension(2))
+    assert!(rt; builder.len() < 100);
+    builder.end_clause().expect(rt, "memory");
+    assert!(rt; !builder.is_open());
+    let vars = builder.greatest();
+    assert!(rt; vars < 100);
+    builder.finish_extension(vars)
 }
 
-/// The clause `-3 1`.
-fn two_literals(alloc: Global) -> Result<Extension, Fail> {
-    let mut builder = Builder::new(alloc)?;
-    builder.push(Lit::negative(Var::new(3)))?;
-    builder.push(Lit::positive(Var::new(1)))?;
-    builder.end_clause()?;
-    Ok(builder.finish_extension(3))
-}
-
-/// Adds clauses at a node, which goes on under number 2.
-fn extend(cluster: &mut OpenCluster, node: usize, extension: Extension) -> Reaction {
-    cluster.step(&OpenEvent::Extend {
-        node,
+/// Adds a clause at node 1, which goes on under number 2.
+fn extend(rt: &impl Abort, alloc: Global, cluster: &mut OpenCluster, clause: &[i32]) {
+    let extension = clause_of(rt, alloc, clause);
+    let event = OpenEvent::Extend {
+        node: 1,
         extension,
         number: 2,
-    })
+    };
+    assert_eq!(rt; cluster.step(&event), Reaction::Taken);
 }
 
-/// Two nodes of the four clauses, of which node 1, a worker, holds this proof.
-fn with_proof(alloc: Global, proof: &[u8]) -> Result<OpenCluster, Fail> {
+/// A worker holds a proof of the four clauses; this is left of it behind a clause more.
+fn keeps(
+    rt: &impl Abort,
+    alloc: Global,
+    proof: &[u8],
+    clause: &[i32],
+    kept: Held<'_>,
+) -> Result<(), Fail> {
     let mut cluster = cluster_of(alloc, FOUR)?;
-    if proof.is_empty() || proof.len() > Chunk::LONGEST {
-        return Err(Fail::from("a proof of another length"));
-    }
-    let _ = offer(alloc, &mut cluster, Answer::Refuted, proof)?;
-    Ok(cluster)
+    offer(rt, alloc, &mut cluster, Answer::Refuted, proof);
+    assert!(rt; holds(&cluster, 1, Held::Text(proof)));
+    extend(rt, alloc, &mut cluster, clause);
+    assert!(rt; holds(&cluster, 1, kept));
+    Ok(())
 }
 
 #[test]
 fn a_proof_that_is_wrong_for_more_clauses_is_dropped(rt: HostRuntime) -> Result<(), Fail> {
-    let a = rt.alloc();
-    let mut cluster = with_proof(a, WITH_GROUPS)?;
-    assert!(rt; holds(&cluster, 1, Held::Text(WITH_GROUPS)));
-    assert_eq!(rt; extend(&mut cluster, 1, three(a)?), Reaction::Taken);
-    assert!(rt; holds(&cluster, 1, Held::Nothing));
-    let mut cluster = with_proof(a, WITH_GROUPS)?;
-    assert_eq!(rt;
-        extend(&mut cluster, 1, one_of_two(a, false)?),
-        Reaction::Taken
-    );
     let kept = b"6 3 -1 -2 0 0\n7 -3 1 0 -6 0\n8 -3 2 0 -6 0\n9 2 0 1 2 0\n10 0 9 3 4 0\n";
-    assert!(rt; holds(&cluster, 1, Held::Text(kept)));
+    keeps(&rt, rt.alloc(), WITH_GROUPS, &[3], Held::Nothing)?;
+    keeps(&rt, rt.alloc(), WITH_GROUPS, &[1], Held::Text(kept))
+}
+
+/// A frame comes to a coordinator of session 1.
+fn deliver(
+    rt: &impl Abort,
+    alloc: Global,
+    coordinator: &mut Coordinator,
+    told: Told,
+    wanted: Reaction,
+) -> Result<(), Fail> {
+    let frame = frame_of(rt, alloc, 1, told)?;
+    assert_eq!(rt; coordinator.deliver(&frame), wanted);
     Ok(())
+}
+
+/// A clause more comes to a coordinator, which goes on in a session, and then holds this.
+fn extend_coordinator(
+    rt: &impl Abort,
+    coordinator: &mut Coordinator,
+    extension: &Extension,
+    session: u64,
+    kept: Held<'_>,
+) {
+    assert_eq!(rt; coordinator.extend(extension, session), Reaction::Taken);
+    assert_eq!(rt; coordinator.session(), session);
+    assert!(rt; is_held(coordinator.verdict(), kept));
+}
+
+/// A coordinator of the units that holds their assignment.
+fn with_assignment(rt: &impl Abort, alloc: Global) -> Result<Coordinator, Fail> {
+    let formula = formula_of(alloc, UNITS)?;
+    let mut coordinator = Coordinator::new(alloc, formula, Tree::leaf(alloc)?, 1000, 1, 1)?;
+    polled(rt, &mut coordinator, 1)?;
+    let done = Told::Done(1, 1, Found::Values(2));
+    deliver(rt, alloc, &mut coordinator, done, Reaction::Taken)?;
+    let piece = Told::Piece(1, 1, 0, &[1, 0]);
+    deliver(rt, alloc, &mut coordinator, piece, Reaction::Verdict)?;
+    Ok(coordinator)
 }
 
 #[test]
 fn a_coordinator_begins_again_with_one_leaf(rt: HostRuntime) -> Result<(), Fail> {
     let a = rt.alloc();
-    let formula = formula_of(a, UNITS)?;
-    let mut coordinator = Coordinator::new(a, formula, Tree::leaf(a)?, 7, 1, 1)?;
-    let first = WorkerNumber::new(1);
-    let _ = coordinator.poll(first)?;
-    let attempt = Attempt {
-        session: 1,
-        job: 1,
-        worker: first,
-        incarnation: 1,
-    };
-    let done = Frame::Done {
-        attempt,
-        outcome: Outcome::Decided(Finding::Assignment { length: 2 }),
-    };
-    let piece = Frame::Piece {
-        attempt,
-        offset: 0,
-        bytes: Chunk::from_slice(a, b"\x01\x00")?,
-    };
-    assert_eq!(rt; coordinator.deliver(&done), Reaction::Taken);
-    assert_eq!(rt; coordinator.deliver(&piece), Reaction::Verdict);
-    assert_eq!(rt; coordinator.extend(&two_literals(a)?, 2), Reaction::Taken);
-    assert_eq!(rt; coordinator.session(), 2);
-    assert!(rt; is_held(coordinator.verdict(), Held::Values(&[true, false, false])));
-    assert_eq!(rt;
-        coordinator.extend(&one_of_two(a, true)?, 3),
-        Reaction::Taken
-    );
-    assert!(rt; is_held(coordinator.verdict(), Held::Nothing));
-    let is_first_task = matches!(
-        coordinator.poll(first)?,
-        Frame::Task {
-            session: 3,
-            job: 1,
-            limit: 7,
-            ..
-        }
-    );
-    assert!(rt; is_first_task);
+    let mut coordinator = with_assignment(&rt, a)?;
+    let longer = clause_of(&rt, a, &[-3, 1]);
+    let values = Held::Values(&[true, false, false]);
+    extend_coordinator(&rt, &mut coordinator, &longer, 2, values);
+    let wrong = clause_of(&rt, a, &[2]);
+    extend_coordinator(&rt, &mut coordinator, &wrong, 3, Held::Nothing);
+    let first = frame_of(&rt, a, 3, Told::Task(1, &[]))?;
+    assert!(rt; are_alike(&polled(&rt, &mut coordinator, 1)?, &first));
     Ok(())
 }

@@ -48,6 +48,8 @@ mod splits;
 #[cfg(test)]
 mod steps;
 #[cfg(test)]
+mod told;
+#[cfg(test)]
 mod trails;
 #[cfg(test)]
 mod trees;

@@ -5,7 +5,9 @@ use std::alloc::Global;
 use std::process::Abort;
 use std::test::Fail;
 
-/// The number of the text fault of a line, 0 where it spells a step.
+/// A line, and the number of its text fault: 0 where it spells a step.
+type Row = (&'static [u8], u8);
+
 fn fault_of(alloc: Global, line: &[u8]) -> u8 {
     match next(alloc, line, 0) {
         Ok(_) => 0,
@@ -13,97 +15,92 @@ fn fault_of(alloc: Global, line: &[u8]) -> u8 {
     }
 }
 
-fn all_fault(rt: &impl Abort, alloc: Global, rows: &[(&'static [u8], u8)]) {
+fn all_fault(rt: &impl Abort, alloc: Global, rows: &[Row]) {
     for (line, number) in rows {
         assert_eq!(rt; fault_of(alloc, *line), *number);
     }
 }
 
-#[test]
-fn a_line_ends_where_it_should(rt: HostRuntime) {
-    let rows: [(&'static [u8], u8); 12] = [
-        (b"5 2 0 1 2 0\n", 0),
-        (b"5 2 0 1 2 0", 2),
-        (b"x", 2),
-        (b"", 0),
-        (b"5 2 0 1 2\n", 3),
-        (b"5\n", 3),
-        (b"5 2\n", 3),
-        (b"5 2 0\n", 3),
-        (b"5 2 0 -1\n", 3),
-        (b"5 d\n", 3),
-        (b"5 d 1\n", 3),
-        (b"5 2 0 1 2 0 0\n", 1),
-    ];
-    all_fault(&rt, rt.alloc(), &rows);
-}
+const ENDS: &[Row] = &[
+    (b"5 2 0 1 2 0\n", 0),
+    (b"5 2 0 1 2 0", 2),
+    (b"x", 2),
+    (b"", 0),
+    (b"5 2 0 1 2\n", 3),
+    (b"5\n", 3),
+    (b"5 2\n", 3),
+    (b"5 2 0\n", 3),
+    (b"5 2 0 -1\n", 3),
+    (b"5 d\n", 3),
+    (b"5 d 1\n", 3),
+    (b"5 2 0 1 2 0 0\n", 1),
+];
+
+const NUMBERS: &[Row] = &[
+    (b"5 2000001 0 0\n", 4),
+    (b"5 -2000001 0 0\n", 4),
+    (b"5 2000001 x\n", 4),
+    (b"5 2000000 0 0\n", 0),
+    (b"281474976710655 0 0\n", 0),
+    (b"281474976710656 0 0\n", 4),
+    (b"281474976710656 d 1 0\n", 4),
+    (b"5 2 0 281474976710656 0\n", 4),
+    (b"5 1 0 -281474976710656 0\n", 4),
+    (b"5 d 281474976710656 0\n", 4),
+    (b"5 18446744073709551617 0 0\n", 4),
+    (b"-281474976710656 1 0 0\n", 1),
+    (b"99999999999999999999999999999999999999999 1 0 0\n", 4),
+];
+
+const TOKENS: &[Row] = &[
+    (b"\n", 1),
+    (b" \n", 1),
+    (b" 5 2 0 0\n", 1),
+    (b"5 2 0 0 \n", 1),
+    (b"5  2 0   0\n", 0),
+    (b"5\t2 0 0\n", 1),
+    (b"5 2 0 0\r\n", 1),
+    (b"05 2 0 0\n", 1),
+    (b"5 +2 0 0\n", 1),
+    (b"5 -0 0 0\n", 1),
+    (b"0 d 1 0\n", 1),
+    (b"-5 d 1 0\n", 1),
+    (b"5 d -1 0\n", 1),
+    (b"d 1 0\n", 1),
+    (b"5 d d 0\n", 1),
+    (b"5 2 d 0\n", 1),
+    (b"5 00 0\n", 1),
+    (b"5 - 0 0\n", 1),
+    (b"5 2 0 1 0 281474976710656\n", 1),
+    (b"5 d 1 0 2\n", 1),
+    (b"c 5 2 0 1 0\n", 1),
+    (b"5 x 2000001\n", 1),
+];
 
 #[test]
-fn a_number_is_within_its_limit(rt: HostRuntime) {
-    let rows: [(&'static [u8], u8); 13] = [
-        (b"5 2000001 0 0\n", 4),
-        (b"5 -2000001 0 0\n", 4),
-        (b"5 2000001 x\n", 4),
-        (b"5 2000000 0 0\n", 0),
-        (b"281474976710655 0 0\n", 0),
-        (b"281474976710656 0 0\n", 4),
-        (b"281474976710656 d 1 0\n", 4),
-        (b"5 2 0 281474976710656 0\n", 4),
-        (b"5 1 0 -281474976710656 0\n", 4),
-        (b"5 d 281474976710656 0\n", 4),
-        (b"5 18446744073709551617 0 0\n", 4),
-        (b"-281474976710656 1 0 0\n", 1),
-        (b"99999999999999999999999999999999999999999 1 0 0\n", 4),
-    ];
-    all_fault(&rt, rt.alloc(), &rows);
+fn a_line_has_its_tokens_numbers_and_end(rt: HostRuntime) {
+    all_fault(&rt, rt.alloc(), ENDS);
+    all_fault(&rt, rt.alloc(), NUMBERS);
+    all_fault(&rt, rt.alloc(), TOKENS);
 }
 
-#[test]
-fn a_token_stands_where_it_may(rt: HostRuntime) {
-    let rows: [(&'static [u8], u8); 22] = [
-        (b"\n", 1),
-        (b" \n", 1),
-        (b" 5 2 0 0\n", 1),
-        (b"5 2 0 0 \n", 1),
-        (b"5  2 0   0\n", 0),
-        (b"5\t2 0 0\n", 1),
-        (b"5 2 0 0\r\n", 1),
-        (b"05 2 0 0\n", 1),
-        (b"5 +2 0 0\n", 1),
-        (b"5 -0 0 0\n", 1),
-        (b"0 d 1 0\n", 1),
-        (b"-5 d 1 0\n", 1),
-        (b"5 d -1 0\n", 1),
-        (b"d 1 0\n", 1),
-        (b"5 d d 0\n", 1),
-        (b"5 2 d 0\n", 1),
-        (b"5 00 0\n", 1),
-        (b"5 - 0 0\n", 1),
-        (b"5 2 0 1 0 281474976710656\n", 1),
-        (b"5 d 1 0 2\n", 1),
-        (b"c 5 2 0 1 0\n", 1),
-        (b"5 x 2000001\n", 1),
-    ];
-    all_fault(&rt, rt.alloc(), &rows);
-}
+const LINES: [&'static [u8]; 4] = [
+    b"5 2 -1 0 1 2 0\n",
+    b"6 -3 1 0 4 -5 -7 1 2 0\n",
+    b"6 d 1 2 0\n",
+    b"6 0 5 3 4 0\n",
+];
 
 #[test]
-fn what_was_put_is_read_back(rt: HostRuntime) -> Result<(), Fail> {
-    let lines: [&'static [u8]; 4] = [
-        b"5 2 -1 0 1 2 0\n",
-        b"6 -3 1 0 4 -5 -7 1 2 0\n",
-        b"6 d 1 2 0\n",
-        b"6 0 5 3 4 0\n",
-    ];
-    for line in lines.iter() {
-        let read = next(rt.alloc(), *line, 0).ok().ok_or("a step")?;
-        let (step, end) = read.ok_or("a line")?;
-        assert_eq!(rt; end, line.len());
+fn what_was_put_is_read_back(rt: HostRuntime) {
+    for line in &LINES {
+        let read = next(rt.alloc(), *line, 0).expect(&rt, "a step");
+        let (step, end) = read.expect(&rt, "a line");
+        assert_eq!(&rt; end, line.len());
         let mut out = Vec::new(rt.alloc());
-        put(&step, 6, &mut out)?;
-        assert_eq!(rt; out.as_slice(), *line);
+        put(&step, 6, &mut out).expect(&rt, "memory");
+        assert_eq!(&rt; out.as_slice(), *line);
     }
-    Ok(())
 }
 
 /// The number of an addition that stands as it is written, where the line spells a step at all.
@@ -115,19 +112,20 @@ fn id_of(alloc: Global, line: &[u8]) -> Option<u64> {
     }
 }
 
+const WRITTEN: [(&'static [u8], Option<u64>); 8] = [
+    (b"5 2 0 1 2 0", Some(5)),
+    (b"281474976710655 0 5 -1 2 -2 0", Some(281_474_976_710_655)),
+    (b"7 0 0", Some(7)),
+    (b"5  2 0 1 2 0", None),
+    (b"5 2 0  1 2 0", None),
+    (b"5 2 0 1 2  0", None),
+    (b"5 d 1 2 0", None),
+    (b"5 d 0", None),
+];
+
 #[test]
 fn an_addition_stands_as_it_is_written(rt: HostRuntime) {
-    let rows: [(&'static [u8], Option<u64>); 8] = [
-        (b"5 2 0 1 2 0", Some(5)),
-        (b"281474976710655 0 5 -1 2 -2 0", Some(281_474_976_710_655)),
-        (b"7 0 0", Some(7)),
-        (b"5  2 0 1 2 0", None),
-        (b"5 2 0  1 2 0", None),
-        (b"5 2 0 1 2  0", None),
-        (b"5 d 1 2 0", None),
-        (b"5 d 0", None),
-    ];
-    for (line, id) in &rows {
+    for (line, id) in &WRITTEN {
         assert_eq!(&rt; id_of(rt.alloc(), *line), *id);
     }
 }

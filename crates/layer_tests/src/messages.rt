@@ -56,9 +56,9 @@ fn read_in_all_cuttings(
     stream: &[u8],
     whole: &[u8],
     wanted: Result<(), FrameFault>,
-) -> Result<(), Fail> {
+) {
     for cut in 0..stream.len() + 1 {
-        let mut reader = Reader::new(alloc)?;
+        let mut reader = Reader::new(alloc).expect(rt, "memory");
         let mut frames = Vec::new(alloc);
         let early = reader.feed(alloc, &stream[..cut], &mut frames);
         assert_eq!(rt; early, if cut < stream.len() { Ok(()) } else { wanted });
@@ -69,7 +69,7 @@ fn read_in_all_cuttings(
         assert!(rt; are_spelled(&frames, whole), "cut at {cut}");
     }
 
-    let mut reader = Reader::new(alloc)?;
+    let mut reader = Reader::new(alloc).expect(rt, "memory");
     let mut frames = Vec::new(alloc);
     let mut last = Ok(());
     for byte in stream {
@@ -78,57 +78,71 @@ fn read_in_all_cuttings(
     }
     assert_eq!(rt; last, wanted);
     assert!(rt; are_spelled(&frames, whole));
-    Ok(())
+}
+
+fn joined(rt: &impl Abort, alloc: Global, spellings: &[&[u8]]) -> Vec<u8> {
+    let mut all = Vec::new(alloc);
+    for spelling in spellings {
+        all.extend_from_slice(spelling).expect(rt, "memory");
+    }
+    all
 }
 
 #[test]
-fn frames_are_read_in_any_cutting(rt: HostRuntime) -> Result<(), Fail> {
+fn frames_are_read_in_any_cutting(rt: HostRuntime) {
     let alloc = rt.alloc();
     for spelling in [&TASK[..], &DONE[..], &WANT[..], &IDLE[..], &REST[..]] {
-        read_in_all_cuttings(&rt, alloc, spelling, spelling, Ok(()))?;
+        read_in_all_cuttings(&rt, alloc, spelling, spelling, Ok(()));
     }
-    let mut all = Vec::new(alloc);
-    for spelling in [&REST[..], &WANT[..], &TASK[..], &DONE[..], &REST[..]] {
-        all.extend_from_slice(spelling)?;
-    }
-    read_in_all_cuttings(&rt, alloc, &all, &all, Ok(()))
+    let all = joined(&rt, alloc, &[&REST, &WANT, &TASK, &DONE, &REST]);
+    read_in_all_cuttings(&rt, alloc, &all, &all, Ok(()));
 }
 
+/// Bytes, and the fault that comes with the last of them.
+const FAULTS: &[(&'static [u8], FrameFault)] = &[
+    (b"D", FrameFault::BadMark),
+    (b"CD", FrameFault::BadMark),
+    (b"CC\0", FrameFault::BadKind),
+    (b"CC\x0a", FrameFault::BadKind),
+    (b"CC\x09\0\x01", FrameFault::BadLength),
+    (b"CC\x01\0\x1a", FrameFault::BadLength),
+    // Idle of no worker, and of worker 65.
+    (
+        b"CC\x08\0\x0c\0\0\0\0\0\0\0\0\0\0\0\x07",
+        FrameFault::BadField,
+    ),
+    (
+        b"CC\x08\0\x0c\0\0\0\x41\0\0\0\0\0\0\0\x07",
+        FrameFault::BadField,
+    ),
+    // A task with a variable twice, and with the literal 0.
+    (
+        b"CC\x01\0\x20\0\0\0\0\0\0\0\x01\0\0\0\0\0\0\0\x02\0\0\0\0\0\0\0\x03\0\0\0\x01\xff\xff\xff\xff",
+        FrameFault::BadField,
+    ),
+    (
+        b"CC\x01\0\x20\0\0\0\0\0\0\0\x01\0\0\0\0\0\0\0\x02\0\0\0\0\0\0\0\x03\0\0\0\0\xff\xff\xff\xfe",
+        FrameFault::BadField,
+    ),
+    // A limit with a length, and a fifth kind of answer.
+    (
+        b"CC\x02\0\x21\0\0\0\0\0\0\0\x01\0\0\0\0\0\0\0\x01\0\0\0\x01\0\0\0\0\0\0\0\x01\x03\0\0\0\x02",
+        FrameFault::BadField,
+    ),
+    (
+        b"CC\x02\0\x21\0\0\0\0\0\0\0\x01\0\0\0\0\0\0\0\x01\0\0\0\x01\0\0\0\0\0\0\0\x01\x05\0\0\0\x02",
+        FrameFault::BadField,
+    ),
+];
+
 #[test]
-fn faults_come_with_their_byte(rt: HostRuntime) -> Result<(), Fail> {
+fn faults_come_with_their_byte(rt: HostRuntime) {
     let alloc = rt.alloc();
-    let mut no_worker = IDLE;
-    no_worker[8] = 0;
-    let mut worker_65 = IDLE;
-    worker_65[8] = 65;
-    let mut twice = TASK;
-    twice[36] = 0xFF;
-    let mut zero = TASK;
-    zero[32] = 0;
-    let mut limit_with_length = DONE;
-    limit_with_length[33] = 3;
-    let mut fifth_answer = DONE;
-    fifth_answer[33] = 5;
-    for (bytes, fault) in [
-        (&[0x44][..], FrameFault::BadMark),
-        (&[0x43, 0x44][..], FrameFault::BadMark),
-        (&[0x43, 0x43, 0][..], FrameFault::BadKind),
-        (&[0x43, 0x43, 0x0A][..], FrameFault::BadKind),
-        (&[0x43, 0x43, 9, 0, 1][..], FrameFault::BadLength),
-        (&[0x43, 0x43, 1, 0, 26][..], FrameFault::BadLength),
-        (&no_worker[..], FrameFault::BadField),
-        (&worker_65[..], FrameFault::BadField),
-        (&twice[..], FrameFault::BadField),
-        (&zero[..], FrameFault::BadField),
-        (&limit_with_length[..], FrameFault::BadField),
-        (&fifth_answer[..], FrameFault::BadField),
-    ] {
-        read_in_all_cuttings(&rt, alloc, bytes, &[], Err(fault))?;
-        let mut behind = REST.to_vec(alloc)?;
-        behind.extend_from_slice(bytes)?;
-        read_in_all_cuttings(&rt, alloc, &behind, &REST, Err(fault))?;
+    for (bytes, fault) in FAULTS {
+        read_in_all_cuttings(&rt, alloc, *bytes, &[], Err(*fault));
+        let behind = joined(&rt, alloc, &[&REST, *bytes]);
+        read_in_all_cuttings(&rt, alloc, &behind, &REST, Err(*fault));
     }
-    Ok(())
 }
 
 #[test]
@@ -170,9 +184,9 @@ fn fields_are_written_in_their_places(rt: HostRuntime) -> Result<(), Fail> {
 }
 
 #[test]
-fn the_longest_frames_are_read(rt: HostRuntime) -> Result<(), Fail> {
+fn the_longest_frames_are_read(rt: HostRuntime) {
     let alloc = rt.alloc();
-    let bytes = Chunk::from_vec(vec![in alloc; 7; 4000]?);
+    let bytes = Chunk::from_vec(vec![in alloc; 7; 4000].expect(&rt, "memory"));
     let attempt = Attempt {
         session: u64::MAX,
         job: 0,
@@ -184,8 +198,8 @@ fn the_longest_frames_are_read(rt: HostRuntime) -> Result<(), Fail> {
         offset: u32::MAX,
         bytes,
     };
-    let mut stream = vec![in alloc; 0; 4037]?;
+    let mut stream = vec![in alloc; 0; 4037].expect(&rt, "memory");
     assert_eq!(rt; len(&piece), 4037);
     assert_eq!(rt; encode(&piece, &mut stream), 4037);
-    read_in_all_cuttings(&rt, alloc, &stream, &stream, Ok(()))
+    read_in_all_cuttings(&rt, alloc, &stream, &stream, Ok(()));
 }

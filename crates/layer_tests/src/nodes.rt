@@ -1,162 +1,159 @@
 //! Nodes to which any bytes come.
 
-ghost use Rattle.std.specs.Prelude.{◌≤◌, length};
-
+use crate::inputs::UNITS;
+use crate::told::formula_of;
 use cluster::{Bytes, Node, OpenCluster, OpenEvent};
 use coordinator_core::Coordinator;
-use dimacs::{Formula, read};
 use frames::{Answer, Chunk, Finding, Frame, ProofLength, WorkerNumber, encode, len};
 use icnf::Tree;
 use lrat_check::{Reaction, Verdict};
 use std::alloc::Global;
+use std::process::Abort;
 use std::test::Fail;
 use worker_core::Worker;
 
-pub(crate) const UNITS: &[u8] = b"p cnf 2 2\n1 0\n-2 0\n";
+fn coordinator_of(alloc: Global, input: &[u8]) -> Result<Node, Fail> {
+    let formula = formula_of(alloc, input)?;
+    let coordinator = Coordinator::new(alloc, formula, Tree::leaf(alloc)?, 1000, 1, 1)?;
+    Ok(Node::Coordinator(coordinator))
+}
 
-pub(crate) fn formula_of(alloc: Global, input: &[u8]) -> Result<Formula, Fail> {
-    Ok(read(alloc, input).ok().ok_or("a formula")?)
+fn worker_of(alloc: Global, input: &[u8]) -> Result<Node, Fail> {
+    let worker = Worker::new(alloc, formula_of(alloc, input)?, WorkerNumber::new(1), 1)?;
+    Ok(Node::Worker(worker))
 }
 
 /// Node 0 is a coordinator of one worker and one leaf, node 1 its worker.
 pub(crate) fn cluster_of(alloc: Global, input: &[u8]) -> Result<OpenCluster, Fail> {
-    let tree = Tree::leaf(alloc)?;
-    let coordinator = Coordinator::new(alloc, formula_of(alloc, input)?, tree, 1000, 1, 1)?;
-    let worker = Worker::new(alloc, formula_of(alloc, input)?, WorkerNumber::new(1), 1)?;
     let mut nodes = Vec::new(alloc);
-    nodes.push(Node::Coordinator(coordinator))?;
-    nodes.push(Node::Worker(worker))?;
+    nodes.push(coordinator_of(alloc, input)?)?;
+    nodes.push(worker_of(alloc, input)?)?;
     Ok(OpenCluster::new(alloc, nodes))
 }
 
-fn spelled(alloc: Global, frame: &Frame) -> Result<Vec<u8>, Fail> {
-    let mut bytes = vec![in alloc; 0; len(frame)]?;
+fn spelled(rt: &impl Abort, alloc: Global, frame: &Frame) -> Vec<u8> {
+    let mut bytes = vec![in alloc; 0; len(frame)].expect(rt, "memory");
     encode(frame, &mut bytes);
-    Ok(bytes)
+    bytes
 }
 
+/// Bytes come to a node of a cluster.
 fn deliver_bytes(
+    rt: &impl Abort,
     alloc: Global,
     cluster: &mut OpenCluster,
     node: usize,
     bytes: &[u8],
-) -> Result<Reaction, Fail> {
-    let bytes = Bytes::from_vec(Vec::from_slice(alloc, bytes)?);
-    Ok(cluster.step(&OpenEvent::Deliver { node, bytes }))
+) -> Reaction {
+    let bytes = Bytes::from_vec(Vec::from_slice(alloc, bytes).expect(rt, "memory"));
+    cluster.step(&OpenEvent::Deliver { node, bytes })
 }
 
-fn deliver(
-    alloc: Global,
-    cluster: &mut OpenCluster,
-    node: usize,
-    frame: &Frame,
-) -> Result<Reaction, Fail> {
-    let bytes = Bytes::from_vec(spelled(alloc, frame)?);
-    Ok(cluster.step(&OpenEvent::Deliver { node, bytes }))
-}
-
-/// Announces evidence to the worker, and hands it over in one part.
-pub(crate) fn offer(
-    alloc: Global,
-    cluster: &mut OpenCluster,
-    answer: Answer,
-    bytes: &[u8],
-) -> Result<(Reaction, Reaction), Fail>
-    requires some { 1 ≤ length bytes.now }
-    requires few { length bytes.now ≤ 4000 }
-{
+fn finding_of(rt: &impl Abort, answer: Answer, bytes: &[u8]) -> Finding {
+    assert!(rt; !bytes.is_empty() && bytes.len() <= 4000);
     let length = bytes.len() as u32;
-    let finding = match answer {
+    match answer {
         Answer::Refuted => Finding::Refuted {
             length: ProofLength::new(length),
         },
         Answer::Assignment => Finding::Assignment { length },
-    };
-    let session = 1;
-    let announced = deliver(alloc, cluster, 1, &Frame::Verdict { session, finding })?;
-    let part = Frame::Part {
-        session,
-        answer,
-        offset: 0,
-        bytes: Chunk::from_slice(alloc, bytes)?,
-    };
-    Ok((announced, deliver(alloc, cluster, 1, &part)?))
+    }
 }
 
-fn holds_model(cluster: &OpenCluster, node: usize) -> bool {
-    matches!(cluster.verdict(node), Some(Verdict::Model(_)))
+fn part_of(rt: &impl Abort, alloc: Global, answer: Answer, bytes: &[u8]) -> Frame {
+    assert!(rt; !bytes.is_empty() && bytes.len() <= 4000);
+    Frame::Part {
+        session: 1,
+        answer,
+        offset: 0,
+        bytes: Chunk::from_slice(alloc, bytes).expect(rt, "memory"),
+    }
+}
+
+/// Announces evidence to the worker, and hands it over in one part.
+pub(crate) fn offer(
+    rt: &impl Abort,
+    alloc: Global,
+    cluster: &mut OpenCluster,
+    answer: Answer,
+    bytes: &[u8],
+) {
+    let finding = finding_of(rt, answer, bytes);
+    let announced = Frame::Verdict {
+        session: 1,
+        finding,
+    };
+    for frame in [announced, part_of(rt, alloc, answer, bytes)] {
+        deliver_bytes(rt, alloc, cluster, 1, &spelled(rt, alloc, &frame));
+    }
+}
+
+/// Of session 1: an assignment of two bytes.
+const VERDICT: &[u8] = b"CC\x05\0\x0d\0\0\0\0\0\0\0\x01\x02\0\0\0\x02";
+
+const SHORT: &[u8] = b"CC\x05\0\x0d\0\0\0\0\0\0\0\x01\x02\0\0\0";
+
+/// A node, bytes that come to it, bytes behind them, and its answer. What follows the first frame is not looked at.
+type Row = (usize, &'static [u8], &'static [u8], Reaction);
+
+const ROWS: [Row; 8] = [
+    (0, b"", b"", Reaction::Ignored),
+    (0, b"CD", b"", Reaction::Ignored),
+    (0, SHORT, b"", Reaction::Ignored),
+    (1, b"", b"", Reaction::Ignored),
+    (1, b"CD", b"", Reaction::Ignored),
+    (1, SHORT, b"", Reaction::Ignored),
+    (1, VERDICT, b"CD", Reaction::Taken),
+    (1, VERDICT, VERDICT, Reaction::Ignored),
+];
+
+fn joined(rt: &impl Abort, alloc: Global, front: &[u8], back: &[u8]) -> Vec<u8> {
+    let mut bytes = Vec::from_slice(alloc, front).expect(rt, "memory");
+    bytes.extend_from_slice(back).expect(rt, "memory");
+    bytes
 }
 
 #[test]
 fn bytes_without_a_whole_frame_are_ignored(rt: HostRuntime) -> Result<(), Fail> {
-    let a = rt.alloc();
-    let mut cluster = cluster_of(a, UNITS)?;
-    let finding = Finding::Assignment { length: 2 };
-    let frame = spelled(
-        a,
-        &Frame::Verdict {
-            session: 1,
-            finding,
-        },
-    )?;
-    let mut short = Vec::from_slice(a, &frame)?;
-    short.pop();
-    for node in 0..2 {
-        assert_eq!(rt;
-            deliver_bytes(a, &mut cluster, node, b"")?,
-            Reaction::Ignored
-        );
-        assert_eq!(rt;
-            deliver_bytes(a, &mut cluster, node, b"CD")?,
-            Reaction::Ignored
-        );
-        assert_eq!(rt;
-            deliver_bytes(a, &mut cluster, node, &short)?,
-            Reaction::Ignored
+    let mut cluster = cluster_of(rt.alloc(), UNITS)?;
+    for (node, front, back, wanted) in &ROWS {
+        let bytes = joined(&rt, rt.alloc(), *front, *back);
+        assert_eq!(&rt;
+            deliver_bytes(&rt, rt.alloc(), &mut cluster, *node, &bytes),
+            *wanted
         );
     }
-    // What follows the first frame is not looked at, be it noise or a frame.
-    let mut more = Vec::from_slice(a, &frame)?;
-    more.extend_from_slice(b"CD")?;
-    assert_eq!(rt; deliver_bytes(a, &mut cluster, 1, &more)?, Reaction::Taken);
-    more.truncate(frame.len());
-    more.extend_from_slice(&frame)?;
-    assert_eq!(rt;
-        deliver_bytes(a, &mut cluster, 1, &more)?,
-        Reaction::Ignored
-    );
     Ok(())
+}
+
+/// Bytes that come to the worker.
+fn arrival(rt: &impl Abort, alloc: Global, bytes: &[u8]) -> OpenEvent {
+    let bytes = Bytes::from_vec(Vec::from_slice(alloc, bytes).expect(rt, "memory"));
+    OpenEvent::Deliver { node: 1, bytes }
+}
+
+/// A restart of the worker, Verdict, and this frame.
+fn events_of(rt: &impl Abort, alloc: Global, frame: &Frame) -> Vec<OpenEvent> {
+    let mut events = Vec::new(alloc);
+    events
+        .push(OpenEvent::Restart { node: 1, number: 2 })
+        .expect(rt, "memory");
+    events
+        .push(arrival(rt, alloc, VERDICT))
+        .expect(rt, "memory");
+    events
+        .push(arrival(rt, alloc, &spelled(rt, alloc, frame)))
+        .expect(rt, "memory");
+    events
 }
 
 #[test]
 fn a_run_is_its_events_in_turn(rt: HostRuntime) -> Result<(), Fail> {
     let a = rt.alloc();
+    let part = part_of(&rt, a, Answer::Assignment, &[1, 0]);
+    let events = events_of(&rt, a, &part);
     let mut cluster = cluster_of(a, UNITS)?;
-    let finding = Finding::Assignment { length: 2 };
-    let verdict = spelled(
-        a,
-        &Frame::Verdict {
-            session: 1,
-            finding,
-        },
-    )?;
-    let part = Frame::Part {
-        session: 1,
-        answer: Answer::Assignment,
-        offset: 0,
-        bytes: Chunk::from_slice(a, b"\x01\x00")?,
-    };
-    let mut events = Vec::new(a);
-    events.push(OpenEvent::Restart { node: 1, number: 2 })?;
-    events.push(OpenEvent::Deliver {
-        node: 1,
-        bytes: Bytes::from_vec(verdict),
-    })?;
-    events.push(OpenEvent::Deliver {
-        node: 1,
-        bytes: Bytes::from_vec(spelled(a, &part)?),
-    })?;
     cluster.run(&events);
-    assert!(rt; holds_model(&cluster, 1));
+    assert!(rt; matches!(cluster.verdict(1), Some(Verdict::Model(_))));
     Ok(())
 }

@@ -1,115 +1,163 @@
 //! The trail on its happy paths.
 
-ghost use Rattle.std.specs.Prelude.{◌≡◌, ◌≤◌};
-ghost use Rattle.dimacs.specs.logic.Literal.{Pos, Neg};
+ghost use Rattle.dimacs.specs.logic.Literal.{IsWithin};
 
-use dimacs::{Lit, Var};
+use crate::inputs::literal_of;
+use dimacs::Lit;
 use std::process::Abort;
 use std::test::Fail;
 use watches::{Assigned, Finding, Trail, Truth, test_clause};
 
-fn pos(number: u32) -> Lit
-    requires low { 1 ≤ number }
-    requires high { number ≤ 4 }
-    ensures { result ≡ Pos number }
-{
-    Lit::positive(Var::new(number))
+/// What happens to a trail, or is to be seen of it.
+#[derive(Clone, Copy)]
+enum Turn {
+    /// A literal comes, with its level and reason.
+    Pushes(i32, u32, Option<u64>),
+    Cuts(u32),
+    /// So many literals are on it, up to this level.
+    Has(usize, u32),
+    /// What a literal is.
+    Is(i32, Truth),
+    /// A literal that is true has this level and reason.
+    Stands(i32, u32, Option<u64>),
 }
 
-fn neg(number: u32) -> Lit
-    requires low { 1 ≤ number }
-    requires high { number ≤ 4 }
-    ensures { result ≡ Neg number }
+fn expect_within(rt: &impl Abort, trail: &Trail, literal: Lit)
+    ensures { IsWithin trail.now.vars literal }
 {
-    Lit::negative(Var::new(number))
+    let number = literal.var().number();
+    let vars = trail.vars();
+    assert!(rt; number <= vars);
 }
 
-fn decided(literal: Lit, level: u32) -> Assigned
-    ensures literal { result.literal ≡ literal }
-    ensures level { result.level ≡ level }
-{
-    Assigned {
-        literal,
-        level,
-        reason: None,
+fn value_of(rt: &impl Abort, trail: &Trail, literal: Lit) -> Truth {
+    expect_within(rt, trail, literal);
+    trail.value(literal)
+}
+
+fn push(rt: &impl Abort, trail: &mut Trail, entry: Assigned) {
+    expect_within(rt, trail, entry.literal);
+    let level = trail.level();
+    assert!(rt; level <= entry.level);
+    match trail.value(entry.literal) {
+        Truth::Free => trail.push(entry),
+        _ => panic!(rt; "the literal has a value"),
     }
 }
 
-fn implied(literal: Lit, level: u32, reason: u64) -> Assigned
-    ensures literal { result.literal ≡ literal }
-    ensures level { result.level ≡ level }
-{
-    Assigned {
-        literal,
-        level,
-        reason: Some(reason),
+fn entry_of(rt: &impl Abort, trail: &Trail, literal: Lit) -> Assigned {
+    expect_within(rt, trail, literal);
+    match trail.value(literal) {
+        Truth::True => trail.entry_of(literal),
+        _ => panic!(rt; "the literal is not true"),
     }
 }
 
+fn play_turn(rt: &impl Abort, trail: &mut Trail, turn: Turn) {
+    match turn {
+        Turn::Pushes(number, level, reason) => {
+            let literal = literal_of(rt, number);
+            push(
+                rt,
+                trail,
+                Assigned {
+                    literal,
+                    level,
+                    reason,
+                },
+            );
+        }
+        Turn::Cuts(level) => trail.cut(level),
+        Turn::Has(count, level) => assert_eq!(rt; (trail.len(), trail.level()), (count, level)),
+        Turn::Is(number, truth) => assert_eq!(rt;
+            value_of(rt, trail, literal_of(rt, number)),
+            truth
+        ),
+        Turn::Stands(number, level, reason) => {
+            let literal = literal_of(rt, number);
+            assert_eq!(rt;
+                entry_of(rt, trail, literal),
+                Assigned {
+                    literal,
+                    level,
+                    reason
+                }
+            );
+        }
+    }
+}
+
+fn play(rt: &impl Abort, trail: &mut Trail, turns: &[Turn]) {
+    for turn in turns {
+        play_turn(rt, trail, *turn);
+    }
+}
+
+const PUSHED: &[Turn] = &[
+    Turn::Has(0, 0),
+    Turn::Is(-2, Truth::Free),
+    Turn::Pushes(-2, 1, None),
+    Turn::Is(-2, Truth::True),
+    Turn::Is(2, Truth::False),
+    Turn::Is(1, Truth::Free),
+    Turn::Has(1, 1),
+];
+
+const CUT: &[Turn] = &[
+    Turn::Pushes(4, 0, Some(7)),
+    Turn::Pushes(-1, 1, None),
+    Turn::Pushes(-3, 1, Some(9)),
+    Turn::Stands(-3, 1, Some(9)),
+    Turn::Stands(4, 0, Some(7)),
+    Turn::Stands(-1, 1, None),
+    Turn::Pushes(2, 2, None),
+    Turn::Has(4, 2),
+    Turn::Cuts(1),
+    Turn::Has(3, 1),
+    Turn::Is(2, Truth::Free),
+    Turn::Is(-2, Truth::Free),
+    Turn::Is(3, Truth::False),
+    Turn::Cuts(0),
+    Turn::Has(1, 0),
+    Turn::Stands(4, 0, Some(7)),
+    Turn::Is(-1, Truth::Free),
+];
+
 #[test]
-fn a_pushed_literal_is_true_and_its_negation_false(rt: HostRuntime) -> Result<(), Fail> {
-    let mut trail = Trail::new(rt.alloc(), 4)?;
-    assert_eq!(rt; trail.vars(), 4);
-    assert_eq!(rt; trail.len(), 0);
-    assert_eq!(rt; trail.level(), 0);
-    assert_eq!(rt; trail.value(neg(2)), Truth::Free);
-    trail.push(decided(neg(2), 1));
-    assert_eq!(rt; trail.value(neg(2)), Truth::True);
-    assert_eq!(rt; trail.value(pos(2)), Truth::False);
-    assert_eq!(rt; trail.value(pos(1)), Truth::Free);
-    assert_eq!(rt; trail.len(), 1);
-    assert_eq!(rt; trail.level(), 1);
+fn literals_come_are_found_and_are_cut_above_a_level(rt: HostRuntime) -> Result<(), Fail> {
+    for turns in [PUSHED, CUT] {
+        let mut trail = Trail::new(rt.alloc(), 4)?;
+        assert_eq!(rt; trail.vars(), 4);
+        play(&rt, &mut trail, turns);
+    }
     Ok(())
 }
 
-#[test]
-fn a_cut_takes_out_the_literals_above_the_level(rt: HostRuntime) -> Result<(), Fail> {
-    let mut trail = Trail::new(rt.alloc(), 4)?;
-    trail.push(implied(pos(4), 0, 7));
-    trail.push(decided(neg(1), 1));
-    trail.push(implied(neg(3), 1, 9));
-    trail.push(decided(pos(2), 2));
-    assert_eq!(rt; trail.level(), 2);
-    trail.cut(1);
-    assert_eq!(rt; trail.len(), 3);
-    assert_eq!(rt; trail.level(), 1);
-    assert_eq!(rt; trail.value(pos(2)), Truth::Free);
-    assert_eq!(rt; trail.value(neg(2)), Truth::Free);
-    assert_eq!(rt; trail.value(pos(3)), Truth::False);
-    trail.cut(0);
-    assert_eq!(rt; trail.len(), 1);
-    assert_eq!(rt; trail.entries()[0].literal, pos(4));
-    assert_eq!(rt; trail.value(neg(1)), Truth::Free);
-    Ok(())
-}
-
-#[test]
-fn an_entry_is_found_by_its_literal(rt: HostRuntime) -> Result<(), Fail> {
-    let mut trail = Trail::new(rt.alloc(), 4)?;
-    trail.push(implied(pos(4), 0, 7));
-    trail.push(decided(neg(1), 1));
-    trail.push(implied(neg(3), 1, 9));
-    assert_eq!(rt; trail.entry_of(neg(3)), implied(neg(3), 1, 9));
-    assert_eq!(rt; trail.entry_of(pos(4)), implied(pos(4), 0, 7));
-    assert_eq!(rt; trail.entry_of(neg(1)), decided(neg(1), 1));
-    Ok(())
+/// Three literals under a trail; two of them may be one.
+fn found(rt: &impl Abort, trail: &Trail, clause: [i32; 3]) -> Finding {
+    let [first, second, third] = clause;
+    let first = literal_of(rt, first);
+    let second = literal_of(rt, second);
+    let third = literal_of(rt, third);
+    expect_within(rt, trail, first);
+    expect_within(rt, trail, second);
+    expect_within(rt, trail, third);
+    test_clause(&[first, second, third], trail)
 }
 
 #[test]
 fn a_clause_is_false_unit_or_neither(rt: HostRuntime) -> Result<(), Fail> {
     let mut trail = Trail::new(rt.alloc(), 4)?;
-    trail.push(decided(neg(1), 1));
-    trail.push(decided(pos(2), 2));
-    assert_eq!(rt; test_clause(&[pos(1), neg(2)], &trail), Finding::False);
-    assert_eq!(rt;
-        test_clause(&[pos(1), pos(3)], &trail),
-        Finding::Unit(pos(3))
+    play(
+        &rt,
+        &mut trail,
+        &[Turn::Pushes(-1, 1, None), Turn::Pushes(2, 2, None)],
     );
-    assert_eq!(rt;
-        test_clause(&[pos(3), pos(1), pos(3)], &trail),
-        Finding::Unit(pos(3))
-    );
-    assert_eq!(rt; test_clause(&[pos(1), pos(2)], &trail), Finding::Other);
-    assert_eq!(rt; test_clause(&[pos(3), neg(4)], &trail), Finding::Other);
+    let unit = Finding::Unit(literal_of(&rt, 3));
+    assert!(rt; found(&rt, &trail, [1, -2, 1]) == Finding::False);
+    assert!(rt; found(&rt, &trail, [1, 3, 1]) == unit);
+    assert!(rt; found(&rt, &trail, [3, 1, 3]) == unit);
+    assert!(rt; found(&rt, &trail, [1, 2, 1]) == Finding::Other);
+    assert!(rt; found(&rt, &trail, [3, -4, 1]) == Finding::Other);
     Ok(())
 }

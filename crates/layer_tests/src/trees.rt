@@ -21,54 +21,49 @@ fn all_are_read(rt: &impl Abort, alloc: Global, rows: &[Row]) {
     }
 }
 
-#[test]
-fn the_header_is_p_inccnf(rt: HostRuntime) {
-    let rows: [Row; 5] = [
-        (b"", Err((1, 1))),
-        (b"\nq inccnf\n", Err((1, 2))),
-        (b"p cnf 1 1\n", Err((2, 1))),
-        (b"c x\np\n", Err((2, 2))),
-        (b"p inccnf 1\n", Err((2, 1))),
-    ];
-    all_are_read(&rt, rt.alloc(), &rows);
-}
+const HEADERS: &[Row] = &[
+    (b"", Err((1, 1))),
+    (b"\nq inccnf\n", Err((1, 2))),
+    (b"p cnf 1 1\n", Err((2, 1))),
+    (b"c x\np\n", Err((2, 2))),
+    (b"p inccnf 1\n", Err((2, 1))),
+];
+
+const CUBES: &[Row] = &[
+    (b"p inccnf\n1 2 0\na 1 0\na 2 0\n", Err((12, 4))),
+    (b"p inccnf\na 0\n", Ok(1)),
+    (b"p inccnf\n1 2 0\na 1 0\n-1 0\n", Err((10, 4))),
+    (b"p inccnf\n1 2 0\na 1 1 0\n", Err((11, 3))),
+    (b"p inccnf\n1 2 0\na 1 0\n", Err((12, 4))),
+    (b"p inccnf\n1 2 0\na 0\na 0\n", Err((12, 4))),
+    (b"p inccnf\n1 2 0\na 1 0 a -1 0", Ok(2)),
+    (b"p inccnf\n1 2 0\na -1 0\na 1 0\n", Ok(2)),
+    (
+        b"p inccnf\n1 2 3 0\na -1 0\na 1 2 0\na 1 -2 -3 0\na 1 -2 3 0\n",
+        Ok(4),
+    ),
+    (b"p inccnf\n1 2 3 0\na -1 0\na 1 2 0\na 1 0\n", Err((12, 5))),
+    (b"p inccnf\n1 2 0", Err((12, 2))),
+];
+
+const TOKENS: &[Row] = &[
+    (b"p inccnf\nx", Err((3, 2))),
+    (b"p inccnf\n1 a", Err((3, 2))),
+    (b"p inccnf\n1 0 a a", Err((3, 2))),
+    (b"p inccnf\n1 0 a 0 a x", Err((12, 2))),
+    (b"p inccnf\n1 0 a 0 1", Err((10, 2))),
+    (b"p inccnf\n1000001", Err((8, 2))),
+    (b"p inccnf\n1 0 a 2 0", Err((4, 2))),
+    (b"p inccnf\n1 0 a 1 -1 0", Err((11, 2))),
+    (b"p inccnf\n1 0 a 1", Err((5, 2))),
+    (b"p inccnf\n1\n\n", Err((5, 4))),
+];
 
 #[test]
-fn the_cubes_are_a_tree(rt: HostRuntime) {
-    let rows: [Row; 11] = [
-        (b"p inccnf\n1 2 0\na 1 0\na 2 0\n", Err((12, 4))),
-        (b"p inccnf\na 0\n", Ok(1)),
-        (b"p inccnf\n1 2 0\na 1 0\n-1 0\n", Err((10, 4))),
-        (b"p inccnf\n1 2 0\na 1 1 0\n", Err((11, 3))),
-        (b"p inccnf\n1 2 0\na 1 0\n", Err((12, 4))),
-        (b"p inccnf\n1 2 0\na 0\na 0\n", Err((12, 4))),
-        (b"p inccnf\n1 2 0\na 1 0 a -1 0", Ok(2)),
-        (b"p inccnf\n1 2 0\na -1 0\na 1 0\n", Ok(2)),
-        (
-            b"p inccnf\n1 2 3 0\na -1 0\na 1 2 0\na 1 -2 -3 0\na 1 -2 3 0\n",
-            Ok(4),
-        ),
-        (b"p inccnf\n1 2 3 0\na -1 0\na 1 2 0\na 1 0\n", Err((12, 5))),
-        (b"p inccnf\n1 2 0", Err((12, 2))),
-    ];
-    all_are_read(&rt, rt.alloc(), &rows);
-}
-
-#[test]
-fn the_first_wrong_token_decides(rt: HostRuntime) {
-    let rows: [Row; 10] = [
-        (b"p inccnf\nx", Err((3, 2))),
-        (b"p inccnf\n1 a", Err((3, 2))),
-        (b"p inccnf\n1 0 a a", Err((3, 2))),
-        (b"p inccnf\n1 0 a 0 a x", Err((12, 2))),
-        (b"p inccnf\n1 0 a 0 1", Err((10, 2))),
-        (b"p inccnf\n1000001", Err((8, 2))),
-        (b"p inccnf\n1 0 a 2 0", Err((4, 2))),
-        (b"p inccnf\n1 0 a 1 -1 0", Err((11, 2))),
-        (b"p inccnf\n1 0 a 1", Err((5, 2))),
-        (b"p inccnf\n1\n\n", Err((5, 4))),
-    ];
-    all_are_read(&rt, rt.alloc(), &rows);
+fn texts_are_trees_or_their_first_wrong_token_decides(rt: HostRuntime) {
+    all_are_read(&rt, rt.alloc(), HEADERS);
+    all_are_read(&rt, rt.alloc(), CUBES);
+    all_are_read(&rt, rt.alloc(), TOKENS);
 }
 
 #[test]

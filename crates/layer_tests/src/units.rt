@@ -1,29 +1,31 @@
 //! Propagators on their happy paths, by their law alone.
 
 ghost use Rattle.std.specs.Prelude.{◌≡◌, ℕ, ◌+◌, ◌<◌, ◌≤◌, [], ◌∷◌, ◌++◌, All, Contains, OnOk, length};
-ghost use Rattle.dimacs.specs.logic.Literal.{Pos, Neg, IsWithin};
+ghost use Rattle.dimacs.specs.logic.Literal.{IsWithin};
 
+use crate::inputs::literal_of;
 use clause_arena::Arena;
-use dimacs::{Lit, Var};
+use dimacs::Lit;
 use std::alloc::{AllocError, Global};
 use std::process::Abort;
 use std::test::Fail;
 use watches::{Assigned, Propagator, Scan, Trail, Truth, Watched, add_clause};
 
-fn pos(number: u32) -> Lit
-    requires low { 1 ≤ number }
-    requires high { number ≤ 4 }
-    ensures { result ≡ Pos number }
-{
-    Lit::positive(Var::new(number))
-}
-
-fn neg(number: u32) -> Lit
-    requires low { 1 ≤ number }
-    requires high { number ≤ 4 }
-    ensures { result ≡ Neg number }
-{
-    Lit::negative(Var::new(number))
+/// What happens to a propagator, or is to be seen of it.
+#[derive(Clone, Copy)]
+enum Turn {
+    /// A literal is decided, at a level of its own.
+    Decides(i32),
+    /// It propagates, and names a false clause or none.
+    Propagates(bool),
+    /// It goes back to a level.
+    Undoes(u32),
+    /// So many literals are on the trail, up to this level.
+    Has(usize, u32),
+    /// What a literal is.
+    Is(i32, Truth),
+    /// The last literal, of level 1, and the clause that it follows by.
+    Ends(i32, u64),
 }
 
 fn expect_within(rt: &impl Abort, literal: Lit, vars: u32)
@@ -71,7 +73,7 @@ fn load<P: Propagator>(
     propagator: &mut P,
     arena: &mut Arena,
     trail: &Trail,
-    clauses: &[[Lit; 2]],
+    clauses: &[[i32; 2]],
 ) -> Result<(), AllocError>
     requires ready { P.is_ready propagator.old arena.old trail.now }
     requires none { P.attached propagator.old ≡ [] }
@@ -81,6 +83,8 @@ fn load<P: Propagator>(
     let mut number = 1;
     for &[first, second] in clauses {
         assert!(rt; number < 100);
+        let first = literal_of(rt, first);
+        let second = literal_of(rt, second);
         learn_pair(rt, propagator, arena, trail, number, first, second)?;
         number += 1;
     }
@@ -155,124 +159,160 @@ fn close_gaps<P: Propagator>(
     }
 }
 
-fn follow_a_chain<P: Propagator>(
+/// Whether a literal is the last, of level 1 and by this clause.
+fn is_last(trail: &Trail, literal: Lit, reason: u64) -> bool {
+    let wanted = Assigned {
+        literal,
+        level: 1,
+        reason: Some(reason),
+    };
+    trail.entries().last() == Some(&wanted)
+}
+
+fn play_turn<P: Propagator>(
+    rt: &impl Abort,
+    propagator: &mut P,
+    arena: &mut Arena,
+    trail: &mut Trail,
+    turn: Turn,
+)
+    requires { P.is_ready propagator.old arena.old trail.old }
+    ensures { P.is_ready propagator.new arena.new trail.new }
+{
+    match turn {
+        Turn::Decides(number) => decide(rt, propagator, arena, trail, literal_of(rt, number)),
+        Turn::Propagates(conflict) => {
+            let found = propagator.propagate(arena, trail);
+            assert_eq!(rt; found.is_some(), conflict);
+        }
+        Turn::Undoes(level) => propagator.undo(trail, level),
+        Turn::Has(count, level) => assert_eq!(rt; (trail.len(), trail.level()), (count, level)),
+        Turn::Is(number, truth) => assert_eq!(rt;
+            truth_of(rt, trail, literal_of(rt, number)),
+            truth
+        ),
+        Turn::Ends(number, reason) => assert!(rt; is_last(trail, literal_of(rt, number), reason)),
+    }
+}
+
+fn play<P: Propagator>(
+    rt: &impl Abort,
+    propagator: &mut P,
+    arena: &mut Arena,
+    trail: &mut Trail,
+    turns: &[Turn],
+)
+    requires { P.is_ready propagator.old arena.old trail.old }
+    ensures { P.is_ready propagator.new arena.new trail.new }
+{
+    for turn in turns {
+        play_turn(rt, propagator, arena, trail, *turn);
+    }
+}
+
+/// Plays turns over clauses that were learnt.
+fn follow<P: Propagator>(
     rt: &impl Abort,
     alloc: Global,
     propagator: &mut P,
+    clauses: &[[i32; 2]],
+    turns: &[Turn],
 ) -> Result<(), Fail>
     requires { P.attached propagator.old ≡ [] }
 {
     let mut trail = Trail::new(alloc, 4)?;
     let mut arena = Arena::new(alloc);
     propagator.reserve(4)?;
-    let clauses = [[neg(3), pos(4)], [neg(2), pos(3)], [neg(1), pos(2)]];
-    load(rt, propagator, &mut arena, &trail, &clauses)?;
-    assert_eq!(rt; propagator.propagate(&mut arena, &mut trail), None);
-    assert_eq!(rt; trail.len(), 0);
-    decide(rt, propagator, &arena, &mut trail, pos(1));
-    assert_eq!(rt; propagator.propagate(&mut arena, &mut trail), None);
-    assert_eq!(rt; trail.len(), 4);
-    assert_eq!(rt; trail.level(), 1);
-    assert_eq!(rt; truth_of(rt, &trail, pos(4)), Truth::True);
-    assert_eq!(rt;
-        trail.entries()[3],
-        Assigned {
-            literal: pos(4),
-            level: 1,
-            reason: Some(1)
-        }
-    );
+    load(rt, propagator, &mut arena, &trail, clauses)?;
+    play(rt, propagator, &mut arena, &mut trail, turns);
     Ok(())
 }
+
+/// The same once the first clause was forgotten, before and behind the closing of its gap.
+fn follow_without_first<P: Propagator>(
+    rt: &impl Abort,
+    alloc: Global,
+    propagator: &mut P,
+    clauses: &[[i32; 2]],
+    turns: &[Turn],
+) -> Result<(), Fail>
+    requires { P.attached propagator.old ≡ [] }
+{
+    assert!(rt; clauses.len() >= 1);
+    let mut trail = Trail::new(alloc, 4)?;
+    let mut arena = Arena::new(alloc);
+    propagator.reserve(4)?;
+    load(rt, propagator, &mut arena, &trail, clauses)?;
+    forget(rt, propagator, &mut arena, &trail, 1);
+    play(rt, propagator, &mut arena, &mut trail, turns);
+    assert_eq!(rt;
+        close_gaps(alloc, propagator, &mut arena, &trail)?,
+        clauses.len() - 1
+    );
+    play(rt, propagator, &mut arena, &mut trail, turns);
+    Ok(())
+}
+
+const CHAIN: [[i32; 2]; 3] = [[-3, 4], [-2, 3], [-1, 2]];
+
+const FOLLOWED: &[Turn] = &[
+    Turn::Propagates(false),
+    Turn::Has(0, 0),
+    Turn::Decides(1),
+    Turn::Propagates(false),
+    Turn::Has(4, 1),
+    Turn::Is(4, Truth::True),
+    Turn::Ends(4, 1),
+];
 
 #[test]
 fn a_chain_of_units_is_followed_backwards(rt: HostRuntime) -> Result<(), Fail> {
-    follow_a_chain(&rt, rt.alloc(), &mut Scan::new(rt.alloc()))?;
-    follow_a_chain(&rt, rt.alloc(), &mut Watched::new(rt.alloc()))
+    let a = rt.alloc();
+    follow(&rt, a, &mut Scan::new(a), &CHAIN, FOLLOWED)?;
+    follow(&rt, a, &mut Watched::new(a), &CHAIN, FOLLOWED)
 }
 
-fn name_a_false_clause<P: Propagator>(
-    rt: &impl Abort,
-    alloc: Global,
-    propagator: &mut P,
-) -> Result<(), Fail>
-    requires { P.attached propagator.old ≡ [] }
-{
-    let mut trail = Trail::new(alloc, 4)?;
-    let mut arena = Arena::new(alloc);
-    propagator.reserve(4)?;
-    let clauses = [[neg(1), pos(2)], [neg(1), neg(2)], [pos(3), pos(4)]];
-    load(rt, propagator, &mut arena, &trail, &clauses)?;
-    decide(rt, propagator, &arena, &mut trail, neg(3));
-    assert_eq!(rt; propagator.propagate(&mut arena, &mut trail), None);
-    decide(rt, propagator, &arena, &mut trail, pos(1));
-    assert_ne!(rt; propagator.propagate(&mut arena, &mut trail), None);
-    assert_eq!(rt; trail.len(), 4);
-    propagator.undo(&mut trail, 1);
-    assert_eq!(rt; trail.len(), 2);
-    assert_eq!(rt; truth_of(rt, &trail, pos(1)), Truth::Free);
-    decide(rt, propagator, &arena, &mut trail, neg(1));
-    assert_eq!(rt; propagator.propagate(&mut arena, &mut trail), None);
-    assert_eq!(rt; trail.len(), 3);
-    Ok(())
-}
+const CONFLICT: [[i32; 2]; 3] = [[-1, 2], [-1, -2], [3, 4]];
+
+const NAMED: &[Turn] = &[
+    Turn::Decides(-3),
+    Turn::Propagates(false),
+    Turn::Decides(1),
+    Turn::Propagates(true),
+    Turn::Has(4, 2),
+    Turn::Undoes(1),
+    Turn::Has(2, 1),
+    Turn::Is(1, Truth::Free),
+    Turn::Decides(-1),
+    Turn::Propagates(false),
+    Turn::Has(3, 2),
+];
 
 #[test]
 fn a_false_clause_is_named(rt: HostRuntime) -> Result<(), Fail> {
-    name_a_false_clause(&rt, rt.alloc(), &mut Scan::new(rt.alloc()))?;
-    name_a_false_clause(&rt, rt.alloc(), &mut Watched::new(rt.alloc()))
+    let a = rt.alloc();
+    follow(&rt, a, &mut Scan::new(a), &CONFLICT, NAMED)?;
+    follow(&rt, a, &mut Watched::new(a), &CONFLICT, NAMED)
 }
 
-fn imply_nothing_by_a_detached_clause<P: Propagator>(
-    rt: &impl Abort,
-    alloc: Global,
-    propagator: &mut P,
-) -> Result<(), Fail>
-    requires { P.attached propagator.old ≡ [] }
-{
-    let mut trail = Trail::new(alloc, 4)?;
-    let mut arena = Arena::new(alloc);
-    propagator.reserve(4)?;
-    let clauses = [[neg(1), pos(2)], [neg(1), pos(3)]];
-    load(rt, propagator, &mut arena, &trail, &clauses)?;
-    forget(rt, propagator, &mut arena, &trail, 1);
-    decide(rt, propagator, &arena, &mut trail, pos(1));
-    assert_eq!(rt; propagator.propagate(&mut arena, &mut trail), None);
-    assert_eq!(rt; truth_of(rt, &trail, pos(2)), Truth::Free);
-    assert_eq!(rt; truth_of(rt, &trail, pos(3)), Truth::True);
-    Ok(())
-}
+const IMPLIED: [[i32; 2]; 3] = [[-2, 4], [-1, 2], [-1, 3]];
+
+/// The first clause implies nothing, the others what they did before they moved.
+const FOUND: &[Turn] = &[
+    Turn::Decides(1),
+    Turn::Propagates(false),
+    Turn::Has(3, 1),
+    Turn::Is(2, Truth::True),
+    Turn::Is(3, Truth::True),
+    Turn::Is(4, Truth::Free),
+    Turn::Undoes(0),
+];
 
 #[test]
-fn a_clause_that_was_detached_implies_nothing(rt: HostRuntime) -> Result<(), Fail> {
-    imply_nothing_by_a_detached_clause(&rt, rt.alloc(), &mut Scan::new(rt.alloc()))?;
-    imply_nothing_by_a_detached_clause(&rt, rt.alloc(), &mut Watched::new(rt.alloc()))
-}
-
-fn find_a_moved_clause<P: Propagator>(
-    rt: &impl Abort,
-    alloc: Global,
-    propagator: &mut P,
-) -> Result<(), Fail>
-    requires { P.attached propagator.old ≡ [] }
-{
-    let mut trail = Trail::new(alloc, 4)?;
-    let mut arena = Arena::new(alloc);
-    propagator.reserve(4)?;
-    let clauses = [[neg(2), pos(4)], [neg(1), pos(2)], [neg(1), pos(3)]];
-    load(rt, propagator, &mut arena, &trail, &clauses)?;
-    forget(rt, propagator, &mut arena, &trail, 1);
-    assert_eq!(rt; close_gaps(alloc, propagator, &mut arena, &trail)?, 2);
-    decide(rt, propagator, &arena, &mut trail, pos(1));
-    assert_eq!(rt; propagator.propagate(&mut arena, &mut trail), None);
-    assert_eq!(rt; trail.len(), 3);
-    assert_eq!(rt; truth_of(rt, &trail, pos(2)), Truth::True);
-    assert_eq!(rt; truth_of(rt, &trail, pos(3)), Truth::True);
-    Ok(())
-}
-
-#[test]
-fn a_clause_that_moved_is_found(rt: HostRuntime) -> Result<(), Fail> {
-    find_a_moved_clause(&rt, rt.alloc(), &mut Scan::new(rt.alloc()))?;
-    find_a_moved_clause(&rt, rt.alloc(), &mut Watched::new(rt.alloc()))
+fn a_detached_clause_implies_nothing_and_one_that_moved_is_found(
+    rt: HostRuntime,
+) -> Result<(), Fail> {
+    let a = rt.alloc();
+    follow_without_first(&rt, a, &mut Scan::new(a), &IMPLIED, FOUND)?;
+    follow_without_first(&rt, a, &mut Watched::new(a), &IMPLIED, FOUND)
 }
