@@ -71,7 +71,7 @@ def look(root, seen):
             folder = os.readlink(f"/proc/{pid}/cwd")
         except OSError:
             continue
-        seconds = sum(map(int, fields[11:15])) / TICK
+        seconds = sum(map(int, fields[11:13])) / TICK  # its own, since those of its jobs are seen by themselves
         name = words[words.index("--crate-name") + 1]
         memory = max(int(fields[21]) * PAGE >> 20, seen.get((pid, fields[19]), (0, 0, 0, 0))[3])
         seen[pid, fields[19]] = name, kind_of(words, folder), seconds, memory
