@@ -1,10 +1,10 @@
 #!/usr/bin/env python3
 """Refuses each allocation of a run in turn: the first, the second, and so on, until a run meets no refusal.
 
-    tools/alloc_trials.py [--only WORD] [PATH-OF-satcluster PATH-OF-alloc_trials]
+    tools/alloc_trials.py [--only WORD] [PATH-OF-satcluster PATH-OF-trials]
 
-Each run answers what it answers with ample memory, or says that memory is wanting and leaves every file as it was; `alloc_trials` makes
-the call once more after a refusal, and answers then what it answers with ample memory. Tells how many allocations each trial has, a line
+Each run answers what it answers with ample memory, or says that memory is wanting and leaves every file as it was; `trials` makes the
+call once more after a refusal, and answers then what it answers with ample memory. Tells how many allocations each trial has, a line
 each, and ends with status 1 at the first that gives another answer. Needs gcc: a library that is loaded before the C library counts what
 is asked of `malloc` and `realloc`.
 """
@@ -20,7 +20,7 @@ SECONDS = 60
 CRATES = os.path.join(os.path.dirname(os.path.abspath(__file__)), "..", "crates")
 
 # The programs, where `rt run` has built them.
-BUILT = [os.path.join(CRATES, name, "out", name) for name in ["satcluster", "alloc_trials"]]
+BUILT = [os.path.join(CRATES, name, "out", name) for name in ["satcluster", "trials"]]
 
 # A request for less room is counted too. At its end the program says how many requests it made; nothing else goes to standard error.
 COUNTER = r"""
@@ -114,7 +114,7 @@ WORK = "work --port %d four.cnf"
 # What either may answer beside its answer with ample memory: no verdict was held, no link could be opened, and want of memory.
 WITHOUT_VERDICT = [(0, "s UNKNOWN\n"), (1, "c cannot open links\n"), (1, "c no memory\n")]
 
-# The calls that `alloc_trials` makes, and the last line of what it prints with ample memory.
+# The calls that `trials` makes, and the last line of what it prints with ample memory.
 CALLS = [
     ("search_four", "6 0 5 2 4 0"),
     ("search_eight", "12 0 10 11 5 6 0"),

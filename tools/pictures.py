@@ -16,7 +16,7 @@ ROOT = Path(__file__).resolve().parent.parent
 FOLDER = ROOT / "docs" / "pictures"
 
 # Crates that are not drawn.
-TESTS = {"layer_tests", "all_tests", "all_examples", "alloc_trials", "drawn_runs"}
+TESTS = {"layer_tests", "all_tests", "trials"}
 
 # What each of the others is for, with its colour.
 KINDS = {

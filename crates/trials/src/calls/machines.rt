@@ -1,0 +1,314 @@
+//! The frames that complete a proof at a worker, and close the last leaf at a coordinator; clauses that are added at nodes that hold a
+//! verdict.
+
+use super::call::{Answer, Call, Tried, try_twice};
+use super::joining::{LEFT, RIGHT_WITH_DELETION};
+use crate::formulas::{FOUR, UNITS};
+use coordinator_core::Coordinator;
+use dimacs::{Builder, Extension, Lit, Var, read};
+use frames::{
+    Answer as Evidence, Attempt, Chunk, Finding, Frame, Outcome, ProofLength, WorkerNumber,
+};
+use icnf::Tree;
+use lrat_check::{Reaction, Verdict};
+use std::alloc::{AllocError, Global};
+use worker_core::Worker;
+
+/// A proof of the four clauses, in two parts.
+const PROOF: &[u8] = b"5 2 0 1 2 0\n6 0 5 3 4 0\n";
+
+const FIRST: &[u8] = b"5 2 0 1 2 0\n6 0 5";
+
+const LAST: &[u8] = b" 3 4 0\n";
+
+/// The fragments of both leaves, joined.
+const JOINED: &[u8] = b"5 -1 0 2 4 0\n6 2 0 1 2 0\n7 1 2 0 1 0\n7 d 7 0\n8 1 0 6 3 0\n9 0 5 8 0\n";
+
+/// The proof, and the joined one, where a fifth clause stands behind the four.
+const RAISED_PROOF: &[u8] = b"6 2 0 1 2 0\n7 0 6 3 4 0\n";
+
+const RAISED_JOINED: &[u8] =
+    b"6 -1 0 2 4 0\n7 2 0 1 2 0\n8 1 2 0 1 0\n8 d 8 0\n9 1 0 7 3 0\n10 0 6 9 0\n";
+
+/// A worker that has all parts of a proof but the last.
+#[derive(Drop)]
+struct AtWorker {
+    worker: Worker,
+    last: Frame,
+}
+
+/// A coordinator whose leaves are closed but for one.
+#[derive(Drop)]
+struct AtCoordinator {
+    coordinator: Coordinator,
+    last: Frame,
+}
+
+/// A worker to which a clause is added, the verdict that it holds before, and the one that it is to hold then.
+#[derive(Drop)]
+struct ExtendedWorker {
+    worker: Worker,
+    extension: Extension,
+    old: Held,
+    new: Held,
+}
+
+/// The same of a coordinator.
+#[derive(Drop)]
+struct ExtendedCoordinator {
+    coordinator: Coordinator,
+    extension: Extension,
+    old: Held,
+    new: Held,
+}
+
+/// A verdict that is held.
+#[derive(Clone, Copy)]
+enum Held {
+    Text(&'static [u8]),
+    Values(&'static [bool]),
+}
+
+/// Whether this is held.
+fn holds(verdict: &Verdict, held: Held) -> bool {
+    match (verdict, held) {
+        (Verdict::Proof(text), Held::Text(wanted)) => text.as_plain() == Some(wanted),
+        (Verdict::Model(values), Held::Values(wanted)) => values.values() == wanted,
+        _ => false,
+    }
+}
+
+/// What a reaction to an extension says, where one verdict was held before, and another one is to be held then.
+fn kept_of(reaction: Reaction, verdict: &Verdict, old: Held, new: Held) -> Answer {
+    match reaction {
+        Reaction::Taken if holds(verdict, new) => Answer::Said("the verdict is kept\n"),
+        Reaction::NoMemory if holds(verdict, old) => Answer::NoMemory,
+        Reaction::NoMemory => Answer::Changed,
+        _ => Answer::Said("the verdict is not kept\n"),
+    }
+}
+
+/// What a reaction says, where this proof is to be held.
+fn answer_of(reaction: Reaction, verdict: &Verdict, wanted: &[u8]) -> Answer {
+    match (reaction, verdict) {
+        (Reaction::Verdict, Verdict::Proof(text)) if text.as_plain() == Some(wanted) => {
+            Answer::Said("the proof is held\n")
+        }
+        (Reaction::NoMemory, Verdict::Nothing) => Answer::NoMemory,
+        (Reaction::NoMemory, _) => Answer::Changed,
+        _ => Answer::Said("the proof is not held\n"),
+    }
+}
+
+impl Call for AtWorker {
+    fn make(&mut self) -> Answer {
+        let reaction = self.worker.deliver(&self.last);
+        answer_of(reaction, self.worker.verdict(), PROOF)
+    }
+}
+
+impl Call for AtCoordinator {
+    fn make(&mut self) -> Answer {
+        let reaction = self.coordinator.deliver(&self.last);
+        answer_of(reaction, self.coordinator.verdict(), JOINED)
+    }
+}
+
+impl Call for ExtendedWorker {
+    fn make(&mut self) -> Answer {
+        let reaction = self.worker.extend(&self.extension, 2);
+        kept_of(reaction, self.worker.verdict(), self.old, self.new)
+    }
+}
+
+impl Call for ExtendedCoordinator {
+    fn make(&mut self) -> Answer {
+        let reaction = self.coordinator.extend(&self.extension, 2);
+        kept_of(reaction, self.coordinator.verdict(), self.old, self.new)
+    }
+}
+
+/// A part of the proof in session 1.
+fn part(alloc: Global, offset: u32, bytes: &[u8]) -> Option<Frame> {
+    if bytes.is_empty() || bytes.len() > Chunk::LONGEST {
+        return None;
+    }
+    Some(Frame::Part {
+        session: 1,
+        answer: Evidence::Refuted,
+        offset,
+        bytes: Chunk::from_slice(alloc, bytes).ok()?,
+    })
+}
+
+/// A worker that lacks the last part of the proof, and that part.
+fn before_the_last_part(alloc: Global) -> Option<AtWorker> {
+    let formula = read(alloc, FOUR).ok()?;
+    let mut worker = Worker::new(alloc, formula, WorkerNumber::new(1), 1).ok()?;
+    let length = ProofLength::new(24);
+    let announced = Frame::Verdict {
+        session: 1,
+        finding: Finding::Refuted { length },
+    };
+    let first = part(alloc, 0, FIRST)?;
+    let last = part(alloc, FIRST.len() as u32, LAST)?;
+    if worker.deliver(&announced) != Reaction::Taken || worker.deliver(&first) != Reaction::Taken {
+        return None;
+    }
+    Some(AtWorker { worker, last })
+}
+
+pub(crate) fn last_part(alloc: Global) -> Option<Tried> {
+    Some(try_twice(&mut before_the_last_part(alloc)?))
+}
+
+/// The clause `3`.
+fn clause_three(alloc: Global) -> Result<Extension, AllocError> {
+    let mut builder = Builder::new(alloc)?;
+    builder.push(Lit::positive(Var::new(3)))?;
+    builder.end_clause()?;
+    Ok(builder.finish_extension(3))
+}
+
+/// The clause `-3`.
+fn clause_not_three(alloc: Global) -> Result<Extension, AllocError> {
+    let mut builder = Builder::new(alloc)?;
+    builder.push(Lit::negative(Var::new(3)))?;
+    builder.end_clause()?;
+    Ok(builder.finish_extension(3))
+}
+
+pub(crate) fn extended_proof(alloc: Global) -> Option<Tried> {
+    let AtWorker { mut worker, last } = before_the_last_part(alloc)?;
+    let extension = clause_three(alloc).ok()?;
+    if worker.deliver(&last) != Reaction::Verdict {
+        return None;
+    }
+    Some(try_twice(&mut ExtendedWorker {
+        worker,
+        extension,
+        old: Held::Text(PROOF),
+        new: Held::Text(RAISED_PROOF),
+    }))
+}
+
+pub(crate) fn extended_assignment(alloc: Global) -> Option<Tried> {
+    let formula = read(alloc, UNITS).ok()?;
+    let mut worker = Worker::new(alloc, formula, WorkerNumber::new(1), 1).ok()?;
+    let extension = clause_not_three(alloc).ok()?;
+    let announced = Frame::Verdict {
+        session: 1,
+        finding: Finding::Assignment { length: 2 },
+    };
+    let all = Frame::Part {
+        session: 1,
+        answer: Evidence::Assignment,
+        offset: 0,
+        bytes: Chunk::from_slice(alloc, b"\x01\x00").ok()?,
+    };
+    if worker.deliver(&announced) != Reaction::Taken || worker.deliver(&all) != Reaction::Verdict {
+        return None;
+    }
+    Some(try_twice(&mut ExtendedWorker {
+        worker,
+        extension,
+        old: Held::Values(&[true, false]),
+        new: Held::Values(&[true, false, false]),
+    }))
+}
+
+/// The attempt of worker 1 at a job of session 1.
+fn attempt(job: u64) -> Attempt {
+    Attempt {
+        session: 1,
+        job,
+        worker: WorkerNumber::new(1),
+        incarnation: 1,
+    }
+}
+
+/// The fragment of a job is done, whose length is 1 to 4,000 bytes.
+fn done(job: u64, fragment: &[u8]) -> Option<Frame> {
+    if fragment.is_empty() || fragment.len() > Chunk::LONGEST {
+        return None;
+    }
+    let length = ProofLength::new(fragment.len() as u32);
+    Some(Frame::Done {
+        attempt: attempt(job),
+        outcome: Outcome::Decided(Finding::Refuted { length }),
+    })
+}
+
+/// All of it, in one piece.
+fn piece(alloc: Global, job: u64, fragment: &[u8]) -> Option<Frame> {
+    if fragment.is_empty() || fragment.len() > Chunk::LONGEST {
+        return None;
+    }
+    Some(Frame::Piece {
+        attempt: attempt(job),
+        offset: 0,
+        bytes: Chunk::from_slice(alloc, fragment).ok()?,
+    })
+}
+
+/// Gives worker 1 its next job, and takes the announcement of its fragment. None where memory was wanting.
+fn announce(coordinator: &mut Coordinator, job: u64, fragment: &[u8]) -> Option<()> {
+    let done = done(job, fragment)?;
+    if coordinator.workers() < 1 {
+        return None;
+    }
+    let _ = coordinator.poll(WorkerNumber::new(1)).ok()?;
+    match coordinator.deliver(&done) {
+        Reaction::Taken => Some(()),
+        _ => None,
+    }
+}
+
+/// A coordinator of one worker, and of the leaves 1 and -1.
+fn of_two_leaves(alloc: Global) -> Option<Coordinator> {
+    let formula = read(alloc, FOUR).ok()?;
+    if formula.vars() < 1 {
+        return None;
+    }
+    let Ok(mut tree) = Tree::leaf(alloc) else {
+        return None;
+    };
+    match tree.split(0, Var::new(1)) {
+        Ok(()) => Coordinator::new(alloc, formula, tree, 1000, 1, 1).ok(),
+        Err(_) => None,
+    }
+}
+
+/// A coordinator whose leaves are closed but for one, and the piece that closes it.
+fn before_the_last_piece(alloc: Global) -> Option<AtCoordinator> {
+    let mut coordinator = of_two_leaves(alloc)?;
+    let left = piece(alloc, 1, LEFT)?;
+    let last = piece(alloc, 2, RIGHT_WITH_DELETION)?;
+    announce(&mut coordinator, 1, LEFT)?;
+    if coordinator.deliver(&left) != Reaction::Taken {
+        return None;
+    }
+    announce(&mut coordinator, 2, RIGHT_WITH_DELETION)?;
+    Some(AtCoordinator { coordinator, last })
+}
+
+pub(crate) fn last_piece(alloc: Global) -> Option<Tried> {
+    Some(try_twice(&mut before_the_last_piece(alloc)?))
+}
+
+pub(crate) fn extended_join(alloc: Global) -> Option<Tried> {
+    let AtCoordinator {
+        mut coordinator,
+        last,
+    } = before_the_last_piece(alloc)?;
+    let extension = clause_three(alloc).ok()?;
+    if coordinator.deliver(&last) != Reaction::Verdict {
+        return None;
+    }
+    Some(try_twice(&mut ExtendedCoordinator {
+        coordinator,
+        extension,
+        old: Held::Text(JOINED),
+        new: Held::Text(RAISED_JOINED),
+    }))
+}

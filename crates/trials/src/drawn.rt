@@ -1,0 +1,115 @@
+//! Plays drawn runs of `serve`, whose workers are in memory, and counts what is not as it has to be.
+
+ghost use Rattle.std.specs.Prelude.{◌≤◌};
+
+mod floor;
+mod peer;
+
+use crate::formulas::FOUR;
+use dimacs::read;
+use floor::Floor;
+use links::Observed;
+use node_main::{Options, USUAL, run_attend};
+use std::alloc::{AllocError, Global};
+use std::io;
+use std::io::Write;
+use std::rt::Runtime;
+
+/// How many runs of each formula.
+const RUNS: u64 = 400;
+
+/// A formula, its name, and the status of its answer.
+struct Known {
+    name: &'static str,
+    text: &'static [u8],
+    status: u8,
+}
+
+/// Four pigeons in three holes.
+const PIGEONS: &[u8] =
+    b"p cnf 12 22\n1 2 3 0\n4 5 6 0\n7 8 9 0\n10 11 12 0\n-1 -4 0\n-1 -7 0\n-1 -10 0\n-4 -7 0\n-4 -10 0\n-7 -10 0\n-2 -5 0\n-2 -8 0\n-2 -11 0\n-5 -8 0\n-5 -11 0\n-8 -11 0\n-3 -6 0\n-3 -9 0\n-3 -12 0\n-6 -9 0\n-6 -12 0\n-9 -12 0\n";
+
+/// Three pigeons in three holes.
+const ROOM: &[u8] =
+    b"p cnf 9 12\n1 2 3 0\n4 5 6 0\n7 8 9 0\n-1 -4 0\n-1 -7 0\n-4 -7 0\n-2 -5 0\n-2 -8 0\n-5 -8 0\n-3 -6 0\n-3 -9 0\n-6 -9 0\n";
+
+const FORMULAS: [Known; 3] = [
+    Known {
+        name: "four clauses",
+        text: FOUR,
+        status: 20,
+    },
+    Known {
+        name: "four pigeons",
+        text: PIGEONS,
+        status: 20,
+    },
+    Known {
+        name: "three pigeons",
+        text: ROOM,
+        status: 10,
+    },
+];
+
+/// What was counted.
+#[derive(Clone, Copy)]
+struct Tally {
+    decided: u64,
+    wrong: u64,
+    refused: u64,
+}
+
+/// Three workers.
+const OPTIONS: Options = Options {
+    workers: 3,
+    depth: 2,
+    ..USUAL
+};
+
+/// Plays the run of a seed. Every fourth is in order.
+fn play(alloc: Global, known: &Known, seed: u64, tally: &mut Tally) -> Result<(), AllocError> {
+    let Ok(formula) = read(alloc, known.text) else {
+        return Ok(());
+    };
+    let disorder = seed % 4 * 500;
+    let floor = Floor::new(alloc, &formula, seed, disorder)?;
+    let mut links = Observed::new(floor);
+    let mut service = run_attend(alloc, known.text, None, &OPTIONS, &mut links)?;
+    let hung_up = links.station().hung_up();
+    service.hand_out(&mut links)?;
+    let refused = links.station().refused().saturating_add(hung_up);
+    tally.refused = tally.refused.saturating_add(refused);
+    if service.status() == known.status {
+        tally.decided = tally.decided.saturating_add(1);
+    } else if service.status() != 0 {
+        tally.wrong = tally.wrong.saturating_add(1);
+    }
+    Ok(())
+}
+
+/// Plays the runs of a formula.
+fn play_all(alloc: Global, known: &Known) -> Result<Tally, AllocError> {
+    let mut tally = Tally {
+        decided: 0,
+        wrong: 0,
+        refused: 0,
+    };
+    for seed in 0..RUNS {
+        play(alloc, known, seed, &mut tally)?;
+    }
+    Ok(tally)
+}
+
+/// Plays the runs of each formula, and prints what was counted.
+pub(crate) fn play_formulas<R: Runtime + AllocGlobal>(rt: &R) -> io::Result<()> {
+    for known in &FORMULAS {
+        let Tally {
+            decided,
+            wrong,
+            refused,
+        } = play_all(rt.alloc(), known)?;
+        let name = known.name;
+        println!(rt; "{name}: of {RUNS} runs {decided} decided, {wrong} wrong, {refused} refused")?;
+    }
+    Ok(())
+}
