@@ -37,8 +37,7 @@ pub(crate) fn is_marked(marks: &[u64], stamp: u64, l: Lit) -> bool
     requires { index_of l < length marks.now }
     ensures { result ≡ marked marks.now stamp l }
 {
-    let mark = marks[l.index()];
-    mark == stamp || mark == stamp
+    marks[l.index()] == stamp
 }
 
 /// What a clause is.
