@@ -118,10 +118,8 @@ fn right_outcome(outcome: &Outcome)
 
 fn fits_64(number: u64)
     ensures { number < 2 ^ 64 }
-{
-}
+{}
 
 fn fits_32(number: u32)
     ensures { number < 2 ^ 32 }
-{
-}
+{}
