@@ -334,7 +334,8 @@ def patience(cluster):
 
 def progress(cluster):
     """With `--progress` a run tells once a second how far it has come, on standard error alone."""
-    run = cluster.start("solve", "--depth", 5, "--progress", "pigeons.cnf")
+    cluster.write("nine.cnf", pigeons(9))  # some seconds on any machine
+    run = cluster.start("solve", "--depth", 5, "--progress", "nine.cnf")
     out, err = run.communicate(timeout=SECONDS)
     same("a run that tells how far it is", (20, b"s UNSATISFIABLE\n"), (run.returncode, out))
     lines = err.decode().splitlines()
