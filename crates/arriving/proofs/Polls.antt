@@ -1,5 +1,5 @@
 -- What a poll gives, and frames that are handed out one by one.
-use Rattle.std.proofs.Common.{◌≡◌, ◌≢◌, ◌<◌, ℕ, zero, suc, Bool, true, false, List, [], ◌∷◌, length, get_or, Option, Some, None, Result, Ok, Err, refl, subst, sym, IfOk, OnOk, OnErr, arith, ◌^◌}
+use Rattle.std.proofs.Common.{◌≡◌, ◌<◌, ℕ, Bool, true, false, List, [], ◌∷◌, length, get_or, Option, Some, None, Result, Ok, Err, refl, subst, sym, IfOk, OnOk, OnErr, arith, ◌^◌}
 use Rattle.std.specs.Prelude.{nat_lt, position, remove}
 use Rattle.lrat_check.specs.declared.verdict.Reaction.TheVariants as reaction
 use Rattle.lrat_check.specs.declared.verdict.Verdict.{Verdict}

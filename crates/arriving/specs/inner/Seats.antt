@@ -1,5 +1,5 @@
 -- Whose link a line is: nobody's before a greeting, and while it waits for the end of another one.
-use Rattle.std.specs.Prelude.{◌≡◌, ◌==◌, ℕ, Bool, true, false, not, List, Option, Some, None, slice_index_or}
+use Rattle.std.specs.Prelude.{◌≡◌, ◌==◌, ℕ, Bool, false, not, List, Option, Some, None, slice_index_or}
 use Rattle.std.specs.List.{list_any}
 use Rattle.evidence.specs.Events.{Lost, Silent}
 use Rattle.coordinator_core.specs.Coordinator.{CoordinatorState, CoordinatorStep}

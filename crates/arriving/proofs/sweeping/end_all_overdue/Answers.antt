@@ -1,4 +1,4 @@
-use Rattle.std.proofs.Common.{rules, ◌<◌, ◌≤◌, length, refl}
+use Rattle.std.proofs.Common.{rules, ◌<◌, ◌≤◌, length}
 use Rattle.arriving.proofs.Places.{turned, fresh_at, set_fresh}
 use Rattle.arriving.proofs.SeatLemmas.{apart_kept}
 use Rattle.arriving.proofs.SweepLemmas.{sweeps_none, sweeps_on, swept_at_end, swept_beyond}

@@ -1,6 +1,5 @@
 use Rattle.std.proofs.Common.{rules, inr, arith}
 use Rattle.arriving.proofs.Runs.{after_turn, at_end, closes_on, over_later}
-use Rattle.arriving.proofs.SeatLemmas.{apart_none}
 use Rattle.arriving.proofs.run.Run.go_on.Goals as goal
 
 pub returns-then-is_over-clause-used : goal.returns-then-is_over-clause-used
