@@ -16,7 +16,7 @@ ROOT = Path(__file__).resolve().parent.parent
 FOLDER = ROOT / "docs" / "pictures"
 
 # Crates that are not drawn.
-TESTS = {"layer_tests", "all_tests", "trials"}
+TESTS = {"crate_tests", "program_tests", "trials"}
 
 # What each of the others is for, with its colour.
 KINDS = {
@@ -31,7 +31,7 @@ KINDS = {
         ["cube_solve", "conflict_analysis", "decide_heap", "watches", "clause_arena", "proof_trim"],
     ),
     "splitting and joining": ("#f7f0c8", ["cube_split", "icnf", "proof_join", "trimming"]),
-    "formulas and proofs": ("#f6d9dc", ["lrat_check", "lrat_text", "dimacs"]),
+    "formulas and proofs": ("#f6d9dc", ["lrat_check", "packed_text", "lrat_text", "dimacs"]),
 }
 
 

@@ -5,7 +5,9 @@
 #![tactic(auto)]
 
 mod coordinating;
+mod deciding;
 mod floor;
+mod handing;
 mod hearing;
 mod line;
 mod parking;
@@ -15,5 +17,6 @@ mod seating;
 mod sweeping;
 mod telling;
 
+pub use deciding::decide;
 pub use plan::Plan;
-pub use run::{Run, decide};
+pub use run::Run;

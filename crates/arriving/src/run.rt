@@ -7,19 +7,19 @@ ghost use Rattle.evidence.specs.Jobs.{IsInside};
 ghost use Rattle.lrat_check.specs.Verdicts.{Right};
 ghost use Rattle.lrat_check.specs.declared.verdict.Verdict.TheVariants.{Nothing};
 ghost use Rattle.links.specs.Arrivals.{begun_at};
-ghost use Rattle.arriving.specs.Accounts.{AreBounded, EachCloses, HasBegun, OnceEach, RoseBy, nobody, open_of};
+ghost use Rattle.arriving.specs.Accounts.{EachCloses, RoseBy, open_of};
 ghost use Rattle.arriving.specs.Run.{formula_of, verdict_of};
 ghost use Rattle.arriving.specs.inner.Deliveries.{AreServed};
 ghost use Rattle.arriving.specs.inner.Lines.{AreFresh};
 ghost use Rattle.arriving.specs.inner.Seats.{AreApart};
 
 use crate::coordinating::{is_decided, join_ahead, progress_of};
-use crate::floor::{Desk, hear_all, hear_at, reach, welcome};
+use crate::floor::{Desk, hear_at, reach, welcome};
 use crate::line::Line;
 use crate::parking::tell_parked;
 use crate::plan::Plan;
 use crate::seating::seat_all;
-use crate::sweeping::{end_all_overdue, end_unserved};
+use crate::sweeping::end_all_overdue;
 use crate::telling::{At, LONGEST, Patience};
 use coordinator_core::Coordinator;
 use dimacs::Formula;
@@ -29,20 +29,17 @@ use lrat_check::Verdict;
 use std::alloc::{AllocError, Global};
 
 /// How often something comes at most.
-const ARRIVALS: u64 = 1 << 63;
-
-/// How many ticks a worker may be silent to whom the verdict is handed out.
-const SILENCE: u64 = 10;
+pub(crate) const ARRIVALS: u64 = 1 << 63;
 
 /// A coordinator and its links.
 #[derive(Drop)]
 pub struct Run {
-    alloc: Global,
-    desk: Desk,
-    lines: Vec<Option<Line>>,
-    tick: u64,
+    pub(crate) alloc: Global,
+    pub(crate) desk: Desk,
+    pub(crate) lines: Vec<Option<Line>>,
+    pub(crate) tick: u64,
     /// The last tick at which a link was open, or the first.
-    linked: Option<u64>,
+    pub(crate) linked: Option<u64>,
 }
 
 impl Run {
@@ -95,7 +92,7 @@ impl Run {
     }
 
     /// Whether a verdict is held, or none will be.
-    fn is_over(&self) -> bool
+    pub(crate) fn is_over(&self) -> bool
         ensures { verdict_of self.now ≡ Nothing → self.now.desk.coordinator.stuck ≡ false → result ≡ false }
     {
         is_decided(&self.desk.coordinator) || self.desk.coordinator.stuck()
@@ -139,7 +136,7 @@ impl Run {
     }
 
     /// Takes what comes next. Answers whether anything may come yet.
-    fn hear_next<A: Arrivals>(&mut self, links: &mut A) -> Result<bool, AllocError>
+    pub(crate) fn hear_next<A: Arrivals>(&mut self, links: &mut A) -> Result<bool, AllocError>
         ensures formula { formula_of self.new ≡ formula_of self.old }
         ensures one { RoseBy 1 (A.call_count links.old) (A.call_count links.new) }
         ensures most { A.call_count links.new ≤ A.call_count links.old + 4038 }
@@ -163,12 +160,12 @@ impl Run {
     }
 
     /// Whether a link is open.
-    fn has_link(&self) -> bool {
+    pub(crate) fn has_link(&self) -> bool {
         self.lines.iter().any(|line| line.is_some())
     }
 
     /// Whether no link was open for as long as patience lasts.
-    fn is_deserted(&self) -> bool {
+    pub(crate) fn is_deserted(&self) -> bool {
         match (self.desk.patience.ticks(), self.linked) {
             (Some(ticks), Some(linked)) => {
                 !self.has_link() && ticks <= self.tick.saturating_sub(linked)
@@ -219,7 +216,7 @@ impl Run {
 
     /// Takes what comes next, ends what is overdue, links who waits, and tells who is parked; then joins a leaf in the time that would be
     /// waited. Answers whether anything may come yet.
-    fn turn<A: Arrivals>(&mut self, links: &mut A) -> Result<bool, AllocError>
+    pub(crate) fn turn<A: Arrivals>(&mut self, links: &mut A) -> Result<bool, AllocError>
         ensures formula { formula_of self.new ≡ formula_of self.old }
         ensures one { RoseBy 1 (A.call_count links.old) (A.call_count links.new) }
         ensures most { A.call_count links.new ≤ A.call_count links.old + 1033984 }
@@ -236,103 +233,5 @@ impl Run {
         self.attend(links, before)?;
         join_ahead(&mut self.desk.coordinator);
         Ok(goes_on)
-    }
-
-    /// Goes on until a verdict is held, none will be, or nothing comes any more.
-    fn go_on<A: Arrivals>(&mut self, links: &mut A) -> Result<(), AllocError>
-        requires links { self.old.lines.items ≡ [] }
-        requires verdict { verdict_of self.old ≡ Nothing }
-        requires stuck { self.old.desk.coordinator.stuck ≡ false }
-        ensures formula { formula_of self.new ≡ formula_of self.old }
-        ensures used { OnOk result (HasBegun (A.call_count links.old) (A.call_count links.new) (verdict_of self.new)) }
-        ensures most { AreBounded (A.arrival_count links.old) (A.arrival_count links.new) (A.call_count links.old) (A.call_count links.new) }
-        ensures each { EachCloses (open_of self.old) (open_of self.new) (A.link_count links.old) (A.link_count links.new) (A.refusal_count links.old) (A.refusal_count links.new) }
-        ensures apart { AreApart self.new.lines.items }
-    {
-        for _ in 0..ARRIVALS {
-            if self.is_over() {
-                return Ok(());
-            }
-            match self.turn(links) {
-                Ok(true) => {}
-                Ok(false) => return Ok(()),
-                Err(error) => return Err(error),
-            }
-            if self.is_deserted() {
-                return Ok(());
-            }
-        }
-        Ok(())
-    }
-
-    /// Goes on for as long as someone is served.
-    fn hand_on<A: Arrivals>(&mut self, links: &mut A) -> Result<(), AllocError>
-        ensures formula { formula_of self.new ≡ formula_of self.old }
-        ensures most { AreBounded (A.arrival_count links.old) (A.arrival_count links.new) (A.call_count links.old) (A.call_count links.new) }
-        ensures each { EachCloses (open_of self.old) (open_of self.new) (A.link_count links.old) (A.link_count links.new) (A.refusal_count links.old) (A.refusal_count links.new) }
-        ensures apart { AreApart self.old.lines.items → AreApart self.new.lines.items }
-    {
-        for _ in 0..ARRIVALS {
-            end_unserved(links, &mut self.desk, self.tick, SILENCE, &mut self.lines);
-            if !self.has_link() {
-                return Ok(());
-            }
-            match self.turn(links) {
-                Ok(true) => {}
-                Ok(false) => return Ok(()),
-                Err(error) => return Err(error),
-            }
-        }
-        Ok(())
-    }
-
-    /// Hands the verdict out to those that are linked, for as long as they ask for it. Without one nothing is done.
-    pub fn hand_out<A: Arrivals>(&mut self, links: &mut A) -> Result<(), AllocError>
-        ensures formula { formula_of self.new ≡ formula_of self.old }
-        ensures most { AreBounded (A.arrival_count links.old) (A.arrival_count links.new) (A.call_count links.old) (A.call_count links.new) }
-        ensures each { EachCloses (open_of self.old) (open_of self.new) (A.link_count links.old) (A.link_count links.new) (A.refusal_count links.old) (A.refusal_count links.new) }
-    {
-        if !is_decided(&self.desk.coordinator) || !self.has_link() {
-            return Ok(());
-        }
-        // Time has gone by since the verdict, in which nobody was listened to.
-        match self.hear_next(links) {
-            Ok(true) => {}
-            Ok(false) => return Ok(()),
-            Err(error) => return Err(error),
-        }
-        hear_all(&mut self.lines, self.tick);
-        self.hand_on(links)
-    }
-}
-
-/// Decides a formula over links that come and go: until a verdict is held, none will be, or nothing comes any more. It returns at the
-/// verdict, with the links as they are. An error is want of memory.
-pub fn decide<A: Arrivals>(
-    alloc: Global,
-    formula: Formula,
-    tree: Tree,
-    plan: &Plan,
-    links: &mut A,
-) -> Result<Run, AllocError>
-    requires inside { (B : Cnf) → IsBaseWith formula plan.now.defs B → All (IsInside B) tree }
-    requires workers { (1 ≤ plan.now.workers) × (plan.now.workers ≤ 64) }
-    requires defs { plan.now.defs ≤ 64 }
-    ensures right { IfOk result (λ r. Right formula (verdict_of r)) }
-    ensures used { IfOk result (λ r. HasBegun (A.call_count links.old) (A.call_count links.new) (verdict_of r)) }
-    ensures most { AreBounded (A.arrival_count links.old) (A.arrival_count links.new) (A.call_count links.old) (A.call_count links.new) }
-    ensures each { OnceEach (A.link_count links.old) (A.link_count links.new) (A.refusal_count links.old) (A.refusal_count links.new) }
-    ensures closes { IfOk result (λ r. EachCloses nobody (open_of r) (A.link_count links.old) (A.link_count links.new) (A.refusal_count links.old) (A.refusal_count links.new)) }
-{
-    let mut run = match Run::new(alloc, formula, tree, plan) {
-        Ok(run) => run,
-        Err(error) => return Err(error),
-    };
-    match run.go_on(links) {
-        Ok(()) => {
-            let _ = run.verdict(); // with it comes that it is right
-            Ok(run)
-        }
-        Err(error) => Err(error),
     }
 }

@@ -3,7 +3,7 @@ use Rattle.std.proofs.Common.{◌≡◌, ℕ, ◌+◌, ◌-◌, ◌<◌, ◌≤�
 use Rattle.std.specs.Prelude.{T}
 use Rattle.std.specs.List.{IsDistinct}
 use Rattle.std.specs.Option.{option_or, option_map, IsSome}
-use Rattle.std.specs.BTreeMap.{BTreeMap, IsOrdered}
+use Rattle.std.specs.BTreeMap.{IsOrdered}
 use Rattle.std.specs.FinMap.{get, entries, entries_sorted, get-entries, find, is_sorted}
 use Rattle.std.specs.FinMap.Entries.{below_all}
 use Rattle.std.specs.Ordering.{nat_cmp}
@@ -13,6 +13,7 @@ use Rattle.std.proofs.lemmas.List.Elements.{Contains-get_or}
 use Rattle.dimacs.specs.logic.Literal.{Literal, Clause, same}
 use Rattle.clause_arena.specs.declared.reference.Ref.{Ref}
 use Rattle.clause_arena.specs.declared.slot.Slot.{Slot}
+use Rattle.clause_arena.specs.declared.slots.Tables.{Tables}
 use Rattle.clause_arena.specs.Slots.{Slots}
 use Rattle.clause_arena.specs.inner.Slots.{near_entries, slots_of, IsApart}
 use Rattle.clause_arena.specs.Contents.{clause_at, value_at, entry_at, contents}
@@ -25,12 +26,12 @@ use Rattle.clause_arena.proofs.PackingLemmas.{packed, packed_over, unpacked_none
 use Rattle.clause_arena.proofs.MoveLemmas.{IsTold, told_has_moved, moved_is_told, moves_rise}
 
 -- the lists of the table and of the map, one after the other
-pub refs_listed : (near : List (Option Slot)) (far : BTreeMap ℕ Slot) (old mid : List Ref) → IsApart near far → IsOrdered nat_cmp far → mid ≡ old ++ map ref_of (near_entries 0 near)
-    → mid ++ map ref_of far.entries ≡ old ++ refs_of (slots_of near far)
-refs_listed near far old mid apart ordered e =
-    ap (λ xs. xs ++ map ref_of far.entries) e
-    ∙ append_assoc old (map ref_of (near_entries 0 near)) (map ref_of far.entries)
-    ∙ ap (λ xs. old ++ xs) (sym (map-append ref_of (near_entries 0 near) far.entries) ∙ ap (map ref_of) (sym (entries-slots_of near far apart ordered)))
+pub refs_listed : (t : Tables) (old mid : List Ref) → IsApart t → IsOrdered nat_cmp t.far → mid ≡ old ++ map ref_of (near_entries 0 t.near)
+    → mid ++ map ref_of t.far.entries ≡ old ++ refs_of (slots_of t)
+refs_listed t old mid apart ordered e =
+    ap (λ xs. xs ++ map ref_of t.far.entries) e
+    ∙ append_assoc old (map ref_of (near_entries 0 t.near)) (map ref_of t.far.entries)
+    ∙ ap (λ xs. old ++ xs) (sym (map-append ref_of (near_entries 0 t.near) t.far.entries) ∙ ap (map ref_of) (sym (entries-slots_of t apart ordered)))
 
 -- ---- how many literals there are
 below_entries : (ws : List Literal) (x : ℕ) (es : List (ℕ × Slot)) → T (below_all nat_cmp x es) → T (below_all nat_cmp x (map (entry_at ws) es))

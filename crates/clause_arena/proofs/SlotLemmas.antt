@@ -12,6 +12,7 @@ use Rattle.std.proofs.lemmas.List.{get_or_past}
 use Rattle.std.proofs.lemmas.Map.Views.{tells_apart}
 use Rattle.std.proofs.lemmas.Map.Lookups.{exact_unsigned}
 use Rattle.clause_arena.specs.declared.slot.Slot.{Slot}
+use Rattle.clause_arena.specs.declared.slots.Tables.{Tables}
 use Rattle.clause_arena.specs.Slots.{Slots}
 use Rattle.clause_arena.specs.inner.Slots.{near_entries, slots_of, IsApart}
 
@@ -68,84 +69,91 @@ find-lookup [] q = refl
 find-lookup (e ∷ es) q = ap (cond (eq_by_cmp nat_cmp q e.0) (Some e.1)) (find-lookup es q)
 
 -- the slot of a number stands at its place, or under its key
-pub get-slots_of : (near : List (Option Slot)) (far : BTreeMap ℕ Slot) (q : ℕ) → get (slots_of near far) q ≡ option_or (get_or near q None) (tree.get nat_cmp far q)
-get-slots_of near far q =
-    get-from_entries nat_cmp_total (near_entries 0 near ++ far.entries) q
-    ∙ find-or (near_entries 0 near) far.entries q
-    ∙ ap (λ o. option_or o (find nat_cmp q far.entries)) (find_at near q 0 q (omega arith))
-    ∙ ap (option_or (get_or near q None)) (find-lookup far.entries q)
+pub get-slots_of : (t : Tables) (q : ℕ) → get (slots_of t) q ≡ option_or (get_or t.near q None) (tree.get nat_cmp t.far q)
+get-slots_of t q =
+    get-from_entries nat_cmp_total (near_entries 0 t.near ++ t.far.entries) q
+    ∙ find-or (near_entries 0 t.near) t.far.entries q
+    ∙ ap (λ o. option_or o (find nat_cmp q t.far.entries)) (find_at t.near q 0 q (omega arith))
+    ∙ ap (option_or (get_or t.near q None)) (find-lookup t.far.entries q)
 
 or_none : (o : Option Slot) → option_or o None ≡ o
 or_none None = refl
 or_none (Some c) = refl
 
-pub get_near : (near : List (Option Slot)) (far : BTreeMap ℕ Slot) (q : ℕ) → IsApart near far → q < length near → get (slots_of near far) q ≡ get_or near q None
-get_near near far q apart lt = get-slots_of near far q ∙ ap (option_or (get_or near q None)) (apart.free q lt) ∙ or_none (get_or near q None)
+pub get_near : (t : Tables) (q : ℕ) → IsApart t → q < length t.near → get (slots_of t) q ≡ get_or t.near q None
+get_near t q apart lt = get-slots_of t q ∙ ap (option_or (get_or t.near q None)) (apart.free q lt) ∙ or_none (get_or t.near q None)
 
-pub get_far : (near : List (Option Slot)) (far : BTreeMap ℕ Slot) (q : ℕ) → length near ≤ q → get (slots_of near far) q ≡ tree.get nat_cmp far q
-get_far near far q le = get-slots_of near far q ∙ ap (λ o. option_or o (tree.get nat_cmp far q)) (get_or_past near q None le)
+pub get_far : (t : Tables) (q : ℕ) → length t.near ≤ q → get (slots_of t) q ≡ tree.get nat_cmp t.far q
+get_far t q le = get-slots_of t q ∙ ap (λ o. option_or o (tree.get nat_cmp t.far q)) (get_or_past t.near q None le)
+
+-- with another table, or another map
+abbrev pub with_near : Tables → List (Option Slot) → Tables
+with_near t near = record t { near = near }
+
+abbrev pub with_far : Tables → BTreeMap ℕ Slot → Tables
+with_far t far = record t { far = far }
 
 -- ---- another slot at a place, or none
-module _ (near : List (Option Slot)) (far : BTreeMap ℕ Slot) (i : ℕ) (apart : IsApart near far) (here : i < length near) (o : Option Slot) where
-  pub apart-set : IsApart (set near i o) far
-  apart-set = record { free = λ q lt. apart.free q (omega (arith, length-set near i o)) }
+module _ (t : Tables) (i : ℕ) (apart : IsApart t) (here : i < length t.near) (o : Option Slot) where
+  pub apart-set : IsApart (with_near t (set t.near i o))
+  apart-set = record { free = λ q lt. apart.free q (omega (arith, length-set t.near i o)) }
 
-  set_changed : (q : ℕ) (b : Bool) → eq_by_cmp nat_cmp q i ≡ b → get (slots_of (set near i o) far) q ≡ cond b o (get (slots_of near far) q)
+  set_changed : (q : ℕ) (b : Bool) → eq_by_cmp nat_cmp q i ≡ b → get (slots_of (with_near t (set t.near i o))) q ≡ cond b o (get (slots_of t) q)
   set_changed q true e =
       let at : q ≡ i = same_number q i e in
-      get_near (set near i o) far q apart-set (omega (arith, length-set near i o))
-      ∙ ap (λ k. get_or (set near i o) k None) at ∙ get_or-set_same near i o None here
+      get_near (with_near t (set t.near i o)) q apart-set (omega (arith, length-set t.near i o))
+      ∙ ap (λ k. get_or (set t.near i o) k None) at ∙ get_or-set_same t.near i o None here
   set_changed q false e =
       let ne : q ≢ i = λ at. absurd (let h : true ≡ false = sym (same_test q i at) ∙ e in cc) in
-      get-slots_of (set near i o) far q
-      ∙ ap (λ x. option_or x (tree.get nat_cmp far q)) (get_or-set_other near i q o None ne)
-      ∙ sym (get-slots_of near far q)
+      get-slots_of (with_near t (set t.near i o)) q
+      ∙ ap (λ x. option_or x (tree.get nat_cmp t.far q)) (get_or-set_other t.near i q o None ne)
+      ∙ sym (get-slots_of t q)
 
-  set_change : (q : ℕ) → get (slots_of (set near i o) far) q ≡ cond (eq_by_cmp nat_cmp q i) o (get (slots_of near far) q)
+  set_change : (q : ℕ) → get (slots_of (with_near t (set t.near i o))) q ≡ cond (eq_by_cmp nat_cmp q i) o (get (slots_of t) q)
   set_change q = set_changed q (eq_by_cmp nat_cmp q i) refl
 
-  pub near-insert : (s : Slot) → o ≡ Some s → slots_of (set near i o) far ≡ insert (slots_of near far) i s
+  pub near-insert : (s : Slot) → o ≡ Some s → slots_of (with_near t (set t.near i o)) ≡ insert (slots_of t) i s
   near-insert s is = same_slots _ _ (λ q.
-      set_change q ∙ ap (λ x. cond (eq_by_cmp nat_cmp q i) x (get (slots_of near far) q)) is
-      ∙ sym (get-insert nat_cmp_total (slots_of near far) i s q))
+      set_change q ∙ ap (λ x. cond (eq_by_cmp nat_cmp q i) x (get (slots_of t) q)) is
+      ∙ sym (get-insert nat_cmp_total (slots_of t) i s q))
 
-  pub near-remove : o ≡ None → slots_of (set near i o) far ≡ remove (slots_of near far) i
+  pub near-remove : o ≡ None → slots_of (with_near t (set t.near i o)) ≡ remove (slots_of t) i
   near-remove is = same_slots _ _ (λ q.
-      set_change q ∙ ap (λ x. cond (eq_by_cmp nat_cmp q i) x (get (slots_of near far) q)) is
-      ∙ sym (get-remove nat_cmp_total (slots_of near far) i q))
+      set_change q ∙ ap (λ x. cond (eq_by_cmp nat_cmp q i) x (get (slots_of t) q)) is
+      ∙ sym (get-remove nat_cmp_total (slots_of t) i q))
 
 -- ---- another slot under a key, or none
 abbrev pub Says : BTreeMap ℕ Slot → BTreeMap ℕ Slot → ℕ → Option Slot → Type 0
 Says old new number o = (q : ℕ) → tree.get nat_cmp new q ≡ cond (is_at (nat_cmp number) q) o (tree.get nat_cmp old q)
 
-module _ (near : List (Option Slot)) (old new : BTreeMap ℕ Slot) (number : ℕ) (beyond : length near ≤ number) (o : Option Slot) (says : Says old new number o) where
-  far_changed : (q : ℕ) (b : Bool) → eq_by_cmp nat_cmp number q ≡ b → get (slots_of near new) q ≡ cond b o (get (slots_of near old) q)
+module _ (t : Tables) (new : BTreeMap ℕ Slot) (number : ℕ) (beyond : length t.near ≤ number) (o : Option Slot) (says : Says t.far new number o) where
+  far_changed : (q : ℕ) (b : Bool) → eq_by_cmp nat_cmp number q ≡ b → get (slots_of (with_far t new)) q ≡ cond b o (get (slots_of t) q)
   far_changed q true e =
       let at : number ≡ q = same_number number q e in
-      get_far near new q (omega arith) ∙ says q ∙ ap (λ b. cond b o (tree.get nat_cmp old q)) e
+      get_far (with_far t new) q (omega arith) ∙ says q ∙ ap (λ b. cond b o (tree.get nat_cmp t.far q)) e
   far_changed q false e =
-      get-slots_of near new q
-      ∙ ap (option_or (get_or near q None)) (says q ∙ ap (λ b. cond b o (tree.get nat_cmp old q)) e)
-      ∙ sym (get-slots_of near old q)
+      get-slots_of (with_far t new) q
+      ∙ ap (option_or (get_or t.near q None)) (says q ∙ ap (λ b. cond b o (tree.get nat_cmp t.far q)) e)
+      ∙ sym (get-slots_of t q)
 
-  far_change : (q : ℕ) → get (slots_of near new) q ≡ cond (eq_by_cmp nat_cmp q number) o (get (slots_of near old) q)
+  far_change : (q : ℕ) → get (slots_of (with_far t new)) q ≡ cond (eq_by_cmp nat_cmp q number) o (get (slots_of t) q)
   far_change q =
-      far_changed q (eq_by_cmp nat_cmp number q) refl ∙ ap (λ b. cond b o (get (slots_of near old) q)) (test_flips number q)
+      far_changed q (eq_by_cmp nat_cmp number q) refl ∙ ap (λ b. cond b o (get (slots_of t) q)) (test_flips number q)
 
-  pub apart-far : IsApart near old → IsApart near new
+  pub apart-far : IsApart t → IsApart (with_far t new)
   apart-far apart = record {
-    free = λ q lt. let ne : number ≢ q = omega arith in says q ∙ ap (λ b. cond b o (tree.get nat_cmp old q)) (apart_test number q ne) ∙ apart.free q lt;
+    free = λ q lt. let ne : number ≢ q = omega arith in says q ∙ ap (λ b. cond b o (tree.get nat_cmp t.far q)) (apart_test number q ne) ∙ apart.free q lt;
   }
 
-  pub far-insert : (s : Slot) → o ≡ Some s → slots_of near new ≡ insert (slots_of near old) number s
+  pub far-insert : (s : Slot) → o ≡ Some s → slots_of (with_far t new) ≡ insert (slots_of t) number s
   far-insert s is = same_slots _ _ (λ q.
-      far_change q ∙ ap (λ x. cond (eq_by_cmp nat_cmp q number) x (get (slots_of near old) q)) is
-      ∙ sym (get-insert nat_cmp_total (slots_of near old) number s q))
+      far_change q ∙ ap (λ x. cond (eq_by_cmp nat_cmp q number) x (get (slots_of t) q)) is
+      ∙ sym (get-insert nat_cmp_total (slots_of t) number s q))
 
-  pub far-remove : o ≡ None → slots_of near new ≡ remove (slots_of near old) number
+  pub far-remove : o ≡ None → slots_of (with_far t new) ≡ remove (slots_of t) number
   far-remove is = same_slots _ _ (λ q.
-      far_change q ∙ ap (λ x. cond (eq_by_cmp nat_cmp q number) x (get (slots_of near old) q)) is
-      ∙ sym (get-remove nat_cmp_total (slots_of near old) number q))
+      far_change q ∙ ap (λ x. cond (eq_by_cmp nat_cmp q number) x (get (slots_of t) q)) is
+      ∙ sym (get-remove nat_cmp_total (slots_of t) number q))
 
 -- ---- a free place more
 near_entries-push : (near : List (Option Slot)) (n : ℕ) → near_entries n (near ++ None ∷ []) ≡ near_entries n near
@@ -153,8 +161,8 @@ near_entries-push [] n = refl
 near_entries-push (None ∷ near) n = near_entries-push near (n + 1)
 near_entries-push (Some v ∷ near) n = ap (λ (es : List (ℕ × Slot)). (n, v) ∷ es) (near_entries-push near (n + 1))
 
-pub slots_of-push : (near : List (Option Slot)) (far : BTreeMap ℕ Slot) → slots_of (near ++ None ∷ []) far ≡ slots_of near far
-slots_of-push near far = ap (λ (es : List (ℕ × Slot)). from_entries {R = nat_cmp} (es ++ far.entries)) (near_entries-push near 0)
+pub slots_of-push : (t : Tables) → slots_of (with_near t (t.near ++ None ∷ [])) ≡ slots_of t
+slots_of-push t = ap (λ (es : List (ℕ × Slot)). from_entries {R = nat_cmp} (es ++ t.far.entries)) (near_entries-push t.near 0)
 
 none_there : (o : Option Slot) → (IsSome o → ⊥) → o ≡ None
 none_there None h = refl
@@ -164,16 +172,16 @@ none_there (Some s) h = absurd (h refl)
 pub nothing_at : (far : BTreeMap ℕ Slot) (place q : ℕ) → ((k : ℕ) → IsSome (tree.get nat_cmp far k) → place < k) → q ≤ place → tree.get nat_cmp far q ≡ None
 nothing_at far place q below le = none_there (tree.get nat_cmp far q) (λ s. let lt = below q s in absurd (omega arith))
 
-pub apart-push : (near : List (Option Slot)) (far : BTreeMap ℕ Slot) (place : ℕ) → length near ≤ place → ((k : ℕ) → IsSome (tree.get nat_cmp far k) → place < k) → IsApart near far → IsApart (near ++ None ∷ []) far
-apart-push near far place le below apart = record {
-  free = λ q lt. nothing_at far place q below (omega (arith, length-append near (None ∷ [])));
+pub apart-push : (t : Tables) (place : ℕ) → length t.near ≤ place → ((k : ℕ) → IsSome (tree.get nat_cmp t.far k) → place < k) → IsApart t → IsApart (with_near t (t.near ++ None ∷ []))
+apart-push t place le below apart = record {
+  free = λ q lt. nothing_at t.far place q below (omega (arith, length-append t.near (None ∷ [])));
 }
 
 -- ---- no slot at all
-pub slots_of-none : (near : List (Option Slot)) (far : BTreeMap ℕ Slot) → near ≡ [] → far.entries ≡ [] → slots_of near far ≡ empty
-slots_of-none near far e f =
-    ap (λ xs. from_entries {R = nat_cmp} (near_entries 0 xs ++ far.entries)) e
+pub slots_of-none : (t : Tables) → t.near ≡ [] → t.far.entries ≡ [] → slots_of t ≡ empty
+slots_of-none t e f =
+    ap (λ xs. from_entries {R = nat_cmp} (near_entries 0 xs ++ t.far.entries)) e
     ∙ ap (λ (es : List (ℕ × Slot)). from_entries {R = nat_cmp} es) f
 
-pub apart-none : (near : List (Option Slot)) (far : BTreeMap ℕ Slot) → far.entries ≡ [] → IsApart near far
-apart-none near far f = record { free = λ q lt. ap (lookup (is_at (nat_cmp q))) f }
+pub apart-none : (t : Tables) → t.far.entries ≡ [] → IsApart t
+apart-none t f = record { free = λ q lt. ap (lookup (is_at (nat_cmp q))) f }

@@ -4,7 +4,7 @@ use Rattle.std.specs.Prelude.{T, ◌&&◌}
 use Rattle.std.specs.List.{AllByRecursion}
 use Rattle.std.specs.List.Sorted.{IsStrictlySortedBy}
 use Rattle.std.specs.Map.{lookup, keys_of}
-use Rattle.std.specs.BTreeMap.{BTreeMap, IsOrdered, is_at}
+use Rattle.std.specs.BTreeMap.{IsOrdered, is_at}
 use Rattle.std.specs.FinMap.{entries, from_entries, from_sorted, find, is_sorted, get-from_entries, get-from_sorted, entries-from_sorted, same_map, nat_cmp-IsAntisymmetric}
 use Rattle.std.specs.FinMap.Entries.{below_all}
 use Rattle.std.specs.Ordering.{nat_cmp, eq_by_cmp, is_lt}
@@ -13,6 +13,7 @@ use Rattle.std.specs.declared.cmp.Ordering.TheVariants.{Less, Equal, Greater}
 use Rattle.std.specs.Cmp.{nat_cmp_total, nat_cmp_is, ranked}
 use Rattle.std.proofs.lemmas.Bool.Decides.{leb_tells}
 use Rattle.clause_arena.specs.declared.slot.Slot.{Slot}
+use Rattle.clause_arena.specs.declared.slots.Tables.{Tables}
 use Rattle.clause_arena.specs.inner.Slots.{near_entries, slots_of, IsApart}
 use Rattle.clause_arena.proofs.SlotLemmas.{same_test, same_number}
 
@@ -114,11 +115,11 @@ unfolding IsStrictlySortedBy
 sorted_entries [] h = tt
 sorted_entries (e ∷ es) h = both _ _ (all_below e.0 es h.0) (sorted_entries es h.1)
 
-pub sorted_all : (near : List (Option Slot)) (far : BTreeMap ℕ Slot) → IsApart near far → IsOrdered nat_cmp far → T (is_sorted nat_cmp (near_entries 0 near ++ far.entries))
-sorted_all near far apart ordered =
-    (listed near 0 (length near) far.entries (omega arith) (record {
-      from = keys_beyond (length near) far.entries (λ q lt. apart.free q lt);
-      sorted = sorted_entries far.entries ordered;
+pub sorted_all : (t : Tables) → IsApart t → IsOrdered nat_cmp t.far → T (is_sorted nat_cmp (near_entries 0 t.near ++ t.far.entries))
+sorted_all t apart ordered =
+    (listed t.near 0 (length t.near) t.far.entries (omega arith) (record {
+      from = keys_beyond (length t.near) t.far.entries (λ q lt. apart.free q lt);
+      sorted = sorted_entries t.far.entries ordered;
     })).sorted
 
 pub entries-from_entries : {X : Type 0} (es : List (ℕ × X)) → T (is_sorted nat_cmp es) → entries (from_entries {R = nat_cmp} es) ≡ es
@@ -126,5 +127,5 @@ entries-from_entries es sorted =
     ap entries (same_map nat_cmp_total nat_cmp-IsAntisymmetric (from_entries es) (from_sorted es) (λ q. get-from_entries nat_cmp_total es q ∙ sym (get-from_sorted nat_cmp es q sorted)))
     ∙ entries-from_sorted nat_cmp es sorted
 
-pub entries-slots_of : (near : List (Option Slot)) (far : BTreeMap ℕ Slot) → IsApart near far → IsOrdered nat_cmp far → entries (slots_of near far) ≡ near_entries 0 near ++ far.entries
-entries-slots_of near far apart ordered = entries-from_entries (near_entries 0 near ++ far.entries) (sorted_all near far apart ordered)
+pub entries-slots_of : (t : Tables) → IsApart t → IsOrdered nat_cmp t.far → entries (slots_of t) ≡ near_entries 0 t.near ++ t.far.entries
+entries-slots_of t apart ordered = entries-from_entries (near_entries 0 t.near ++ t.far.entries) (sorted_all t apart ordered)

@@ -7,17 +7,14 @@ ghost use Rattle.clause_arena.specs.inner.Packing.{refs_of, moved_by};
 
 use crate::reference::Ref;
 use crate::slot::Slot;
-use crate::slots::{Far, find, list, put, replace, reserve_place, take};
-use crate::table::Table;
+use crate::slots::Tables;
 use std::alloc::{AllocError, Global};
-use std::collections::BTreeMap;
 use std::marker::Model;
 
 /// The slots of the live clauses, by their numbers.
 #[derive(Drop)]
 pub(crate) struct Index {
-    near: Table,
-    far: Far,
+    tables: Tables,
     /// How many clauses were ever put in: it bounds how many places may be free.
     taken: u64,
 }
@@ -31,9 +28,9 @@ impl Model for Index {
 
     ghost coded = { slots_code };
 
-    ghost view = { λ i. slots_of i.near i.far };
+    ghost view = { λ i. slots_of i.tables };
 
-    ghost invariant = { λ i. IsApart i.near i.far × (length i.near ≤ 4 * (i.taken + 8192)) };
+    ghost invariant = { λ i. IsApart i.tables × (length i.tables.near ≤ 4 * (i.taken + 8192)) };
 }
 
 impl Index {
@@ -42,8 +39,7 @@ impl Index {
         ensures { result ≡ empty }
     {
         Index {
-            near: Table::new(alloc),
-            far: BTreeMap::new(alloc),
+            tables: Tables::new(alloc),
             taken: 0,
         }
     }
@@ -53,7 +49,7 @@ impl Index {
     pub(crate) fn get(&self, number: u64) -> Option<Slot>
         ensures { result ≡ get self.now number }
     {
-        find(&self.near, &self.far, number)
+        self.tables.find(number)
     }
 
     /// Puts a slot under a number.
@@ -63,15 +59,15 @@ impl Index {
         ensures err { OnErr result (self.new ≡ self.old) }
     {
         self.taken = self.taken.saturating_add(1);
-        reserve_place(&mut self.near, &self.far, self.taken, number)?;
-        put(&mut self.near, &mut self.far, number, slot)
+        self.tables.reserve_place(self.taken, number)?;
+        self.tables.put(number, slot)
     }
 
     /// Takes out the slot of a number.
     pub(crate) fn remove(&mut self, number: u64)
         ensures { self.new ≡ remove self.old number }
     {
-        take(&mut self.near, &mut self.far, number);
+        self.tables.take(number);
     }
 
     /// Puts another slot under a number that has one.
@@ -80,7 +76,7 @@ impl Index {
         requires room { slot.place < 2 ^ 32 - 1 }
         ensures { self.new ≡ insert self.old number slot }
     {
-        replace(&mut self.near, &mut self.far, number, slot);
+        self.tables.replace(number, slot);
     }
 
     /// Puts each clause where it has moved.
@@ -105,6 +101,6 @@ impl Index {
         ensures same { self.new ≡ self.old }
         ensures listed { OnOk result (refs.new.items ≡ refs.old.items ++ refs_of self.old) }
     {
-        list(&mut self.near, &self.far, refs)
+        self.tables.list(refs)
     }
 }

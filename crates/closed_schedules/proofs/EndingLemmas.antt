@@ -5,7 +5,7 @@ use Rattle.frames.specs.Answers.{length_of}
 use Rattle.frames.specs.declared.answer.Answer.{Answer}
 use Rattle.frames.specs.declared.answer.Answer.TheVariants as answers
 use Rattle.frames.specs.declared.answer.Finding.{Finding}
-use Rattle.frames.specs.declared.answer.Outcome.TheVariants as told
+use Rattle.frames.specs.declared.answer.Ending.TheVariants as told
 use Rattle.frames.specs.declared.frame.Attempt.{Attempt}
 use Rattle.evidence.specs.Evidence.{IsComplete, with_bytes}
 use Rattle.worker_core.specs.Worker.{WorkerState, Collects, DeliversPart, DeliversVerdict, IsNews, IsOfCandidate, candidate_of}

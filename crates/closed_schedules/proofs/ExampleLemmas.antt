@@ -17,7 +17,7 @@ use Rattle.lrat_check.specs.declared.verdict.Verdict.TheVariants.{Nothing, Model
 use Rattle.lrat_check.specs.declared.verdict.Reaction.TheVariants as reaction
 use Rattle.frames.specs.declared.answer.Answer.TheVariants as answers
 use Rattle.frames.specs.declared.answer.Finding.TheVariants as findings
-use Rattle.frames.specs.declared.answer.Outcome.TheVariants as told
+use Rattle.frames.specs.declared.answer.Ending.TheVariants as told
 use Rattle.frames.specs.declared.frame.Attempt.{Attempt}
 use Rattle.frames.specs.declared.frame.Frame.{Frame}
 use Rattle.frames.specs.declared.frame.Frame.TheVariants.{Task, Done, Fetch, Piece, Verdict as VerdictFrame, Want, Part, Idle, Rest}

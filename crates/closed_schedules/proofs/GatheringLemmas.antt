@@ -13,8 +13,8 @@ use Rattle.frames.specs.Answers.{answer_of}
 use Rattle.frames.specs.declared.answer.Answer.{Answer}
 use Rattle.frames.specs.declared.answer.Answer.TheVariants as answers
 use Rattle.frames.specs.declared.answer.Finding.{Finding}
-use Rattle.frames.specs.declared.answer.Outcome.{Outcome}
-use Rattle.frames.specs.declared.answer.Outcome.TheVariants as told
+use Rattle.frames.specs.declared.answer.Ending.{Ending}
+use Rattle.frames.specs.declared.answer.Ending.TheVariants as told
 use Rattle.frames.specs.declared.frame.Attempt.{Attempt}
 use Rattle.frames.specs.declared.frame.Frame.{Frame}
 use Rattle.frames.specs.declared.frame.Frame.TheVariants.{Task, Done, Fetch, Piece, Verdict as VerdictFrame, Want, Part, Idle, Rest}
@@ -32,7 +32,7 @@ use Rattle.coordinator_core.specs.declared.desks.LeafState.TheVariants.{Open, Gi
 use Rattle.coordinator_core.specs.Invariant.{IsCoordinator}
 use Rattle.evidence.proofs.EvidenceLemmas.{IsBorneOut, borne_out}
 use Rattle.closed_schedules.specs.ClosedLaws.{StandsIn}
-use Rattle.closed_schedules.proofs.Told.{Told, Asked, Answered, Decision, Reply, Met, Shown, IsTold, IsTrueReply, IsSettled, desk_of, IsHonestCoordinator, IsHonestJob, IsFront, IsFrontOf, asks, answers_so, decides, outcome_of}
+use Rattle.closed_schedules.proofs.Told.{Told, Asked, Answered, Decision, Reply, Met, Shown, IsTold, IsTrueReply, IsSettled, desk_of, IsHonestCoordinator, IsHonestJob, IsFront, IsFrontOf, asks, answers_so, decides, ending_of}
 use Rattle.closed_schedules.proofs.Fronts.{front_grows, empty_front}
 use Rattle.closed_schedules.proofs.Desks.{job_from_1, job_desk}
 use Rattle.closed_schedules.proofs.Places.{got_set_other, got_set_same, read_set_cases, read_within, same_some, none_some}
@@ -320,7 +320,7 @@ same_attempt attempt c j incarnation session number inc =
     ∙ ap (λ (i : ℕ). record { session = c.session; job = j.number; worker = attempt.worker; incarnation = i }) inc
 
 -- what an answer that is true tells
-finding_told : (reply : Reply) (finding : Finding) → told.Decided finding ≡ outcome_of reply → (answer : Answer) × (all : List ℕ) × (reply ≡ Shown answer all) × (finding ≡ finding_of answer (length all))
+finding_told : (reply : Reply) (finding : Finding) → told.Decided finding ≡ ending_of reply → (answer : Answer) × (all : List ℕ) × (reply ≡ Shown answer all) × (finding ≡ finding_of answer (length all))
 finding_told Met finding e = absurd (never e)
   where
     never : told.Decided finding ≡ told.Limit → ⊥
@@ -412,16 +412,16 @@ limit_fair T c worker j answer new honest at (MeetsLimit.stops whole a now) = su
 limit_fair T c worker j answer new honest at (MeetsLimit.no_memory may a now) = unchanged T c answer _ new honest a tt now
 
 -- a first answer that is true is not refused
-first_fair : (T : Told) (c : CoordinatorState) (attempt : Attempt) (j : Job) (outcome : Outcome) (answer : Reaction) (new : CoordinatorState)
-    → IsSettled c.formula (coordinator_base c) T → IsHonestCoordinator T c → IsCoordinator new → (reply : Reply) → Contains T.answered (answers_so attempt reply) → outcome ≡ outcome_of reply
-    → IsAwaited c attempt.session attempt.job attempt.worker j → AnswersFirst c attempt j outcome answer new → IsFairStep T c answer new
-first_fair T c attempt j outcome answer new settled honest is reply known says awaited (AnswersFirst.limited end meets) =
+first_fair : (T : Told) (c : CoordinatorState) (attempt : Attempt) (j : Job) (ending : Ending) (answer : Reaction) (new : CoordinatorState)
+    → IsSettled c.formula (coordinator_base c) T → IsHonestCoordinator T c → IsCoordinator new → (reply : Reply) → Contains T.answered (answers_so attempt reply) → ending ≡ ending_of reply
+    → IsAwaited c attempt.session attempt.job attempt.worker j → AnswersFirst c attempt j ending answer new → IsFairStep T c answer new
+first_fair T c attempt j ending answer new settled honest is reply known says awaited (AnswersFirst.limited end meets) =
     quiet T c answer new settled (limit_fair T c attempt.worker j answer new honest awaited.job meets)
-first_fair T c attempt j outcome answer new settled honest is reply known says awaited (AnswersFirst.wrong_length finding end wrong a now) =
+first_fair T c attempt j ending answer new settled honest is reply known says awaited (AnswersFirst.wrong_length finding end wrong a now) =
     let h = finding_told reply finding (sym end ∙ says) in
     let shown : Contains T.answered (answers_so attempt (Shown h.0 h.1)) = subst (λ (r : Reply). Contains T.answered (answers_so attempt r)) h.2 known in
     absurd (shown_length c.formula (coordinator_base c) T.asked (name_of attempt) h.0 h.1 (settled.true_reply attempt _ shown) (subst (HasWrongLength c.formula) h.3 wrong))
-first_fair T c attempt j outcome answer new settled honest is reply known says awaited (AnswersFirst.fixes finding end long gathers) =
+first_fair T c attempt j ending answer new settled honest is reply known says awaited (AnswersFirst.fixes finding end long gathers) =
     let h = finding_told reply finding (sym end ∙ says) in
     let shown : Contains T.answered (answers_so attempt (Shown h.0 h.1)) = subst (λ (r : Reply). Contains T.answered (answers_so attempt r)) h.2 known in
     let from_1 : 1 ≤ attempt.worker = job_from_1 c attempt.worker j awaited.job in
@@ -430,14 +430,14 @@ first_fair T c attempt j outcome answer new settled honest is reply known says a
     (fixes_honest T c attempt j finding h.0 h.1 awaited (honest.jobs attempt.worker j from_1 at) shown h.3) gathers
 
 -- an answer that is true is not refused
-done_fair : (T : Told) (c : CoordinatorState) (attempt : Attempt) (outcome : Outcome) (answer : Reaction) (new : CoordinatorState)
-    → IsSettled c.formula (coordinator_base c) T → IsHonestCoordinator T c → IsCoordinator new → (reply : Reply) → Contains T.answered (answers_so attempt reply) → outcome ≡ outcome_of reply
-    → DeliversDone c attempt outcome answer new → IsFairStep T c answer new
-done_fair T c attempt outcome answer new settled honest is reply known says (DeliversDone.strays none a now) = quiet T c answer new settled (unchanged T c answer _ new honest a tt now)
-done_fair T c attempt outcome answer new settled honest is reply known says (DeliversDone.first j awaited free answered) =
-    first_fair T c attempt j outcome answer new settled honest is reply known says awaited answered
-done_fair T c attempt outcome answer new settled honest is reply known says (DeliversDone.again j x fetched a now) = quiet T c answer new settled (unchanged T c answer _ new honest a tt now)
-done_fair T c attempt outcome answer new settled honest is reply known says (DeliversDone.anew j x awaited fixed other a now) =
+done_fair : (T : Told) (c : CoordinatorState) (attempt : Attempt) (ending : Ending) (answer : Reaction) (new : CoordinatorState)
+    → IsSettled c.formula (coordinator_base c) T → IsHonestCoordinator T c → IsCoordinator new → (reply : Reply) → Contains T.answered (answers_so attempt reply) → ending ≡ ending_of reply
+    → DeliversDone c attempt ending answer new → IsFairStep T c answer new
+done_fair T c attempt ending answer new settled honest is reply known says (DeliversDone.strays none a now) = quiet T c answer new settled (unchanged T c answer _ new honest a tt now)
+done_fair T c attempt ending answer new settled honest is reply known says (DeliversDone.first j awaited free answered) =
+    first_fair T c attempt j ending answer new settled honest is reply known says awaited answered
+done_fair T c attempt ending answer new settled honest is reply known says (DeliversDone.again j x fetched a now) = quiet T c answer new settled (unchanged T c answer _ new honest a tt now)
+done_fair T c attempt ending answer new settled honest is reply known says (DeliversDone.anew j x awaited fixed other a now) =
     quiet T c answer new settled (drops T c attempt.worker j Open c.fragments c.stuck answer _ new honest (job_from_1 c attempt.worker j awaited.job) (job_desk c attempt.worker j awaited.job) a tt now)
 
 -- a piece that is true is not refused
@@ -492,7 +492,7 @@ want_fair T c session worker offset answer new honest (DeliversWant.notes wanted
 -- a frame that tells what is true leaves a coordinator honest, and is not refused
 pub frame_fair : (T : Told) (limit : ℕ) (c : CoordinatorState) (frame : Frame) (answer : Reaction) (new : CoordinatorState)
     → IsSettled c.formula (coordinator_base c) T → IsHonestCoordinator T c → IsCoordinator new → IsTold T limit frame → CoordinatorDelivers c frame answer new → IsFairStep T c answer new
-frame_fair T limit c (Done attempt outcome) answer new settled honest is says step = done_fair T c attempt outcome answer new settled honest is says.0 says.1 says.2 step
+frame_fair T limit c (Done attempt ending) answer new settled honest is says step = done_fair T c attempt ending answer new settled honest is says.0 says.1 says.2 step
 frame_fair T limit c (Piece attempt offset bytes) answer new settled honest is says step = piece_fair T c attempt offset bytes answer new settled honest is says.0 says.1 says.2 says.3 step
 frame_fair T limit c (Idle worker incarnation) answer new settled honest is says step = quiet T c answer new settled (idle_fair T c worker incarnation answer new honest step)
 frame_fair T limit c (Want session worker offset) answer new settled honest is says step = quiet T c answer new settled (want_fair T c session worker offset answer new honest step)

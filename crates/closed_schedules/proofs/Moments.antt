@@ -6,7 +6,7 @@ use Rattle.dimacs.specs.logic.Base.{numbers_from}
 use Rattle.dimacs.specs.logic.Cnf.{Cnf, IsFormula}
 use Rattle.lrat_check.specs.Verdicts.{Right, Agreement}
 use Rattle.lrat_check.specs.declared.verdict.Reaction.{Reaction}
-use Rattle.frames.specs.declared.answer.Outcome.TheVariants as told
+use Rattle.frames.specs.declared.answer.Ending.TheVariants as told
 use Rattle.frames.specs.declared.frame.Frame.{Frame}
 use Rattle.frames.specs.declared.frame.Frame.TheVariants.{Task, Piece, Part, Done, Verdict as VerdictFrame}
 use Rattle.cube_split.specs.Pairs.{AreOf}
@@ -20,7 +20,7 @@ use Rattle.closed_schedules.specs.declared.event.ClosedEvent.TheVariants.{Delive
 use Rattle.closed_schedules.specs.declared.event.ClosedEvent.{ClosedEvent}
 use Rattle.closed_schedules.specs.ClosedSchedule.{Beginning, ClosedState, HappensClosed, RunsClosed, StepsAt, HappensDeliver, first_worker, new_closed, held_by, verdict_at}
 use Rattle.closed_schedules.specs.ClosedLaws.{HandsOver, EndsWell, IsMoment, NeverRefused, PiecesEndWell, DonesEndWell, PartsEndWell, VerdictsEndWell, ClosedIsJoined, AlwaysRight, NeverDiffer, OneFormula, OneTask, OneAnswer, StandsIn, OneText}
-use Rattle.closed_schedules.proofs.Told.{Told, IsTold, IsMember, IsHonestCluster, IsHonestJob, shared_base, outcome_of, Shown}
+use Rattle.closed_schedules.proofs.Told.{Told, IsTold, IsMember, IsHonestCluster, IsHonestJob, shared_base, ending_of, Shown}
 use Rattle.frames.specs.declared.answer.Answer.{Answer}
 use Rattle.closed_schedules.proofs.Saying.{IsPlain}
 use Rattle.closed_schedules.proofs.Desks.{job_from_1, job_desk}
@@ -176,7 +176,7 @@ one_answer law b s r attempt first second one other =
     let here = listed b is.0 s (Done attempt first) is.1 one in
     let there = listed b is.0 s (Done attempt second) is.1 other in
     let same : here.0 ≡ there.0 = is.1.settled.one_reply attempt here.0 there.0 here.1 there.1 in
-    here.2 ∙ ap outcome_of same ∙ sym there.2
+    here.2 ∙ ap ending_of same ∙ sym there.2
 
 pub one_text : CoordinatorsStay → OneText
 one_text law b s r attempt first second p q one other =

@@ -65,7 +65,7 @@ deciding_more T d = record { asked = λ x h. h; answered = λ x h. h; decided = 
 -- a true frame stays true
 pub told_stays : (T U : Told) (limit : ℕ) → IsMore T U → (frame : Frame) → IsTold T limit frame → IsTold U limit frame
 told_stays T U limit more (Task session job bound cube) h = (h.0, more.asked _ h.1)
-told_stays T U limit more (Done attempt outcome) h = (h.0, more.answered _ h.1, h.2)
+told_stays T U limit more (Done attempt ending) h = (h.0, more.answered _ h.1, h.2)
 told_stays T U limit more (Fetch attempt offset) h = (h.0, h.1, more.answered _ h.2)
 told_stays T U limit more (Piece attempt offset bytes) h = (h.0, h.1, more.answered _ h.2, h.3)
 told_stays T U limit more (VerdictFrame session finding) h = (h.0, more.decided _ h.1, h.2)

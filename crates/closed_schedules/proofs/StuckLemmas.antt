@@ -8,8 +8,8 @@ use Rattle.icnf.specs.Leaves.{Cube}
 use Rattle.lrat_check.specs.declared.verdict.Verdict.{Verdict}
 use Rattle.lrat_check.specs.declared.verdict.Verdict.TheVariants.{Nothing, Model, Proof}
 use Rattle.lrat_check.specs.declared.verdict.Reaction.{Reaction}
-use Rattle.frames.specs.declared.answer.Outcome.{Outcome}
-use Rattle.frames.specs.declared.answer.Outcome.TheVariants as told
+use Rattle.frames.specs.declared.answer.Ending.{Ending}
+use Rattle.frames.specs.declared.answer.Ending.TheVariants as told
 use Rattle.frames.specs.declared.frame.Attempt.{Attempt}
 use Rattle.frames.specs.declared.frame.Frame.{Frame}
 use Rattle.frames.specs.declared.frame.Frame.TheVariants.{Task, Done, Fetch, Piece, Verdict as VerdictFrame, Want, Part, Idle, Rest}
@@ -49,10 +49,10 @@ not_both b t f = let e : true ≡ false = sym t ∙ f in cc
 
 -- a stuck coordinator is frozen
 frozen : (c : CoordinatorState) (frame : Frame) (answer : Reaction) (new : CoordinatorState) → c.stuck ≡ true → CoordinatorDelivers c frame answer new → IsFrozen c new
-frozen c (Done attempt outcome) answer new stuck (DeliversDone.strays none a now) = frozen_same c new now
-frozen c (Done attempt outcome) answer new stuck (DeliversDone.first j awaited free answered) = absurd (not_both c.stuck stuck awaited.deciding.going)
-frozen c (Done attempt outcome) answer new stuck (DeliversDone.again j x fetched a now) = frozen_same c new now
-frozen c (Done attempt outcome) answer new stuck (DeliversDone.anew j x awaited fixed other a now) = absurd (not_both c.stuck stuck awaited.deciding.going)
+frozen c (Done attempt ending) answer new stuck (DeliversDone.strays none a now) = frozen_same c new now
+frozen c (Done attempt ending) answer new stuck (DeliversDone.first j awaited free answered) = absurd (not_both c.stuck stuck awaited.deciding.going)
+frozen c (Done attempt ending) answer new stuck (DeliversDone.again j x fetched a now) = frozen_same c new now
+frozen c (Done attempt ending) answer new stuck (DeliversDone.anew j x awaited fixed other a now) = absurd (not_both c.stuck stuck awaited.deciding.going)
 frozen c (Piece attempt offset bytes) answer new stuck (DeliversPiece.strays none a now) = frozen_same c new now
 frozen c (Piece attempt offset bytes) answer new stuck (DeliversPiece.appends j x fits gathers) = absurd (not_both c.stuck stuck fits.fetched.awaited.deciding.going)
 frozen c (Idle worker incarnation) answer new stuck (DeliversIdle.strays none a now) = frozen_same c new now
@@ -100,13 +100,13 @@ leaf_unclosed c worker j is at closed =
     not_closed : (n : ℕ) → GivenTo n ≡ Closed → ⊥
     not_closed n e = cc
 
-limit_stuck : (c : CoordinatorState) (attempt : Attempt) (j : Job) (outcome : Outcome) (answer : Reaction) (new : CoordinatorState) → IsCoordinator c → c.stuck ≡ false → new.stuck ≡ true
-    → attempt.session ≡ c.session → job_at c attempt.worker ≡ Some j → outcome ≡ told.Limit → MeetsLimit c attempt.worker j answer new → Reason new (Done attempt outcome)
-limit_stuck c attempt j outcome answer new is free stuck session at end (MeetsLimit.splits v can a now) = stays_free c _ new _ free refl now stuck
-limit_stuck c attempt j outcome answer new is free stuck session at end (MeetsLimit.stops whole a now) =
+limit_stuck : (c : CoordinatorState) (attempt : Attempt) (j : Job) (ending : Ending) (answer : Reaction) (new : CoordinatorState) → IsCoordinator c → c.stuck ≡ false → new.stuck ≡ true
+    → attempt.session ≡ c.session → job_at c attempt.worker ≡ Some j → ending ≡ told.Limit → MeetsLimit c attempt.worker j answer new → Reason new (Done attempt ending)
+limit_stuck c attempt j ending answer new is free stuck session at end (MeetsLimit.splits v can a now) = stays_free c _ new _ free refl now stuck
+limit_stuck c attempt j ending answer new is free stuck session at end (MeetsLimit.stops whole a now) =
     inl (
       attempt,
-      ap (λ (o : Outcome). Done attempt o) end,
+      ap (λ (o : Ending). Done attempt o) end,
       session ∙ sym (ap (λ k. k.session) now),
       subst HasWholeLeaf (sym now) (record {
         leaf = j.leaf;
@@ -114,20 +114,20 @@ limit_stuck c attempt j outcome answer new is free stuck session at end (MeetsLi
         whole = λ v can. whole v (record { may = record { short = can.may.short; few = can.may.few }; choice = can.choice });
       }),
     )
-limit_stuck c attempt j outcome answer new is free stuck session at end (MeetsLimit.no_memory may a now) = stays_free c c new _ free refl now stuck
+limit_stuck c attempt j ending answer new is free stuck session at end (MeetsLimit.no_memory may a now) = stays_free c c new _ free refl now stuck
 
-first_stuck : (c : CoordinatorState) (attempt : Attempt) (j : Job) (outcome : Outcome) (answer : Reaction) (new : CoordinatorState) → IsCoordinator c → c.stuck ≡ false → new.stuck ≡ true
-    → attempt.session ≡ c.session → job_at c attempt.worker ≡ Some j → AnswersFirst c attempt j outcome answer new → Reason new (Done attempt outcome)
-first_stuck c attempt j outcome answer new is free stuck session at (AnswersFirst.limited end meets) = limit_stuck c attempt j outcome answer new is free stuck session at end meets
-first_stuck c attempt j outcome answer new is free stuck session at (AnswersFirst.wrong_length finding end wrong a now) = stays_free c _ new _ free refl now stuck
-first_stuck c attempt j outcome answer new is free stuck session at (AnswersFirst.fixes finding end long gathers) = gathers_stuck c _ attempt.worker j _ answer new free stuck gathers
+first_stuck : (c : CoordinatorState) (attempt : Attempt) (j : Job) (ending : Ending) (answer : Reaction) (new : CoordinatorState) → IsCoordinator c → c.stuck ≡ false → new.stuck ≡ true
+    → attempt.session ≡ c.session → job_at c attempt.worker ≡ Some j → AnswersFirst c attempt j ending answer new → Reason new (Done attempt ending)
+first_stuck c attempt j ending answer new is free stuck session at (AnswersFirst.limited end meets) = limit_stuck c attempt j ending answer new is free stuck session at end meets
+first_stuck c attempt j ending answer new is free stuck session at (AnswersFirst.wrong_length finding end wrong a now) = stays_free c _ new _ free refl now stuck
+first_stuck c attempt j ending answer new is free stuck session at (AnswersFirst.fixes finding end long gathers) = gathers_stuck c _ attempt.worker j _ answer new free stuck gathers
 
 reason : (c : CoordinatorState) (frame : Frame) (answer : Reaction) (new : CoordinatorState) → IsCoordinator c → c.stuck ≡ false → new.stuck ≡ true → CoordinatorDelivers c frame answer new → Reason new frame
-reason c (Done attempt outcome) answer new is free stuck (DeliversDone.strays none a now) = stays_free c c new _ free refl now stuck
-reason c (Done attempt outcome) answer new is free stuck (DeliversDone.first j awaited unfixed answered) =
-    first_stuck c attempt j outcome answer new is free stuck awaited.session_is awaited.job answered
-reason c (Done attempt outcome) answer new is free stuck (DeliversDone.again j x fetched a now) = stays_free c c new _ free refl now stuck
-reason c (Done attempt outcome) answer new is free stuck (DeliversDone.anew j x awaited fixed other a now) = stays_free c _ new _ free refl now stuck
+reason c (Done attempt ending) answer new is free stuck (DeliversDone.strays none a now) = stays_free c c new _ free refl now stuck
+reason c (Done attempt ending) answer new is free stuck (DeliversDone.first j awaited unfixed answered) =
+    first_stuck c attempt j ending answer new is free stuck awaited.session_is awaited.job answered
+reason c (Done attempt ending) answer new is free stuck (DeliversDone.again j x fetched a now) = stays_free c c new _ free refl now stuck
+reason c (Done attempt ending) answer new is free stuck (DeliversDone.anew j x awaited fixed other a now) = stays_free c _ new _ free refl now stuck
 reason c (Piece attempt offset bytes) answer new is free stuck (DeliversPiece.strays none a now) = stays_free c c new _ free refl now stuck
 reason c (Piece attempt offset bytes) answer new is free stuck (DeliversPiece.appends j x fits gathers) = gathers_stuck c _ attempt.worker j _ answer new free stuck gathers
 reason c (Idle worker incarnation) answer new is free stuck (DeliversIdle.strays none a now) = stays_free c c new _ free refl now stuck

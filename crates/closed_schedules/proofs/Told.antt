@@ -9,8 +9,8 @@ use Rattle.lrat_check.specs.declared.verdict.Verdict.{Verdict}
 use Rattle.lrat_check.specs.declared.verdict.Verdict.TheVariants.{Nothing}
 use Rattle.frames.specs.declared.answer.Answer.{Answer}
 use Rattle.frames.specs.declared.answer.Answer.TheVariants as answers
-use Rattle.frames.specs.declared.answer.Outcome.{Outcome}
-use Rattle.frames.specs.declared.answer.Outcome.TheVariants as told
+use Rattle.frames.specs.declared.answer.Ending.{Ending}
+use Rattle.frames.specs.declared.answer.Ending.TheVariants as told
 use Rattle.frames.specs.declared.frame.Attempt.{Attempt}
 use Rattle.frames.specs.declared.frame.Frame.{Frame}
 use Rattle.frames.specs.declared.frame.Frame.TheVariants.{Task, Done, Fetch, Piece, Verdict as VerdictFrame, Want, Part, Idle, Rest}
@@ -66,9 +66,9 @@ abbrev pub decides : ℕ → Verdict → Decision
 decides session v = record { session = session; verdict = v }
 
 -- how a frame tells of a reply
-abbrev pub outcome_of : Reply → Outcome
-outcome_of Met = told.Limit
-outcome_of (Shown answer bytes) = told.Decided (finding_of answer (length bytes))
+abbrev pub ending_of : Reply → Ending
+ending_of Met = told.Limit
+ending_of (Shown answer bytes) = told.Decided (finding_of answer (length bytes))
 
 -- the bytes are the beginning of all
 pub record IsFront (bytes all : List ℕ) : Type 0 where
@@ -78,7 +78,7 @@ pub record IsFront (bytes all : List ℕ) : Type 0 where
 -- what a frame says is true
 abbrev pub IsTold : Told → ℕ → Frame → Type 0
 IsTold T limit (Task session job bound cube) = (bound ≡ limit) × Contains T.asked (asks (record { session = session; job = job }) cube)
-IsTold T limit (Done attempt outcome) = (reply : Reply) × Contains T.answered (answers_so attempt reply) × (outcome ≡ outcome_of reply)
+IsTold T limit (Done attempt ending) = (reply : Reply) × Contains T.answered (answers_so attempt reply) × (ending ≡ ending_of reply)
 IsTold T limit (Fetch attempt offset) = (answer : Answer) × (bytes : List ℕ) × Contains T.answered (answers_so attempt (Shown answer bytes))
 IsTold T limit (Piece attempt offset bytes) = (answer : Answer) × (all : List ℕ) × Contains T.answered (answers_so attempt (Shown answer all)) × StandsIn all offset bytes
 IsTold T limit (VerdictFrame session finding) = (v : Verdict) × Contains T.decided (decides session v) × (finding ≡ finding_in v)

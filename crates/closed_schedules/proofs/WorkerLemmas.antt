@@ -171,7 +171,7 @@ delivery_fine T limit w (Task session job bound cube) answer new settled honest 
 delivery_fine T limit w (Fetch attempt offset) answer new settled honest told step = fetch_fine T w attempt offset answer new honest step
 delivery_fine T limit w (VerdictFrame session finding) answer new settled honest told step = verdict_fine T w session finding answer new settled honest told.0 told.1 told.2 step
 delivery_fine T limit w (Part session part offset bytes) answer new settled honest told step = part_fine T w session part offset bytes answer new settled honest told.0 told.1 told.3 step
-delivery_fine T limit w (Done attempt outcome) answer new settled honest told step = stays T w answer _ new honest step.0 tt step.1
+delivery_fine T limit w (Done attempt ending) answer new settled honest told step = stays T w answer _ new honest step.0 tt step.1
 delivery_fine T limit w (Piece attempt offset bytes) answer new settled honest told step = stays T w answer _ new honest step.0 tt step.1
 delivery_fine T limit w (Want session worker offset) answer new settled honest told step = stays T w answer _ new honest step.0 tt step.1
 delivery_fine T limit w (Idle worker incarnation) answer new settled honest told step = stays T w answer _ new honest step.0 tt step.1

@@ -11,8 +11,8 @@ use Rattle.frames.specs.Answers.{answer_of, length_of}
 use Rattle.frames.specs.declared.answer.Answer.{Answer}
 use Rattle.frames.specs.declared.answer.Answer.TheVariants as answers
 use Rattle.frames.specs.declared.answer.Finding.{Finding}
-use Rattle.frames.specs.declared.answer.Outcome.{Outcome}
-use Rattle.frames.specs.declared.answer.Outcome.TheVariants as told
+use Rattle.frames.specs.declared.answer.Ending.{Ending}
+use Rattle.frames.specs.declared.answer.Ending.TheVariants as told
 use Rattle.frames.specs.declared.frame.Attempt.{Attempt}
 use Rattle.frames.specs.declared.frame.Frame.{Frame}
 use Rattle.frames.specs.declared.frame.Frame.TheVariants.{Task, Done, Piece, Part, Verdict as VerdictFrame}
@@ -147,7 +147,7 @@ OneTask = Always (λ F s. (session job first second : ℕ) (p q : Cube)
 
 -- Two answers of one attempt are the same.
 abbrev pub OneAnswer : Type 0
-OneAnswer = Always (λ F s. (attempt : Attempt) (first second : Outcome)
+OneAnswer = Always (λ F s. (attempt : Attempt) (first second : Ending)
     → Contains s.frames (Done attempt first) → Contains s.frames (Done attempt second) → first ≡ second)
 
 -- the bytes stand in a text from an offset on

@@ -4,7 +4,7 @@ ghost use Rattle.std.specs.Prelude.{◌≡◌, [], ◌∷◌, true, false, Some}
 ghost use Rattle.lrat_check.specs.declared.verdict.Reaction.TheVariants as reaction;
 ghost use Rattle.lrat_check.specs.declared.verdict.Verdict.TheVariants.{Model};
 ghost use Rattle.frames.specs.declared.answer.Finding.TheVariants as findings;
-ghost use Rattle.frames.specs.declared.answer.Outcome.TheVariants as told;
+ghost use Rattle.frames.specs.declared.answer.Ending.TheVariants as told;
 ghost use Rattle.frames.specs.declared.frame.Frame.TheVariants.{Task, Done, Piece, Idle};
 ghost use Rattle.coordinator_core.specs.Coordinator.{CoordinatorState, CoordinatorDelivers, coordinator_poll};
 ghost use Rattle.closed_schedules.specs.ClosedSchedule.{ClosedState, verdict_at};

@@ -5,43 +5,19 @@ ghost use Rattle.std.specs.List.Sorted.{IsPermutation};
 ghost use Rattle.completing.specs.Completing.{Prints, PrintsCompletion, PrintsTree, above_limit_text, added_lines};
 ghost use Rattle.completing.specs.Reading.{listed};
 ghost use Rattle.completing.specs.inner.Nodes.{IsBelow, given_below, is_cut, leaf_count};
-ghost use Rattle.dimacs.specs.logic.Cnf.{greatest_in, greatest_of};
+ghost use Rattle.dimacs.specs.logic.Cnf.{greatest_in};
 ghost use Rattle.icnf.specs.Leaves.{Cube};
 
 use crate::listing::{Listing, list};
 use crate::node::{Node, count};
 use crate::reading::read;
-use dimacs::{Formula, Lit};
+use dimacs::{Formula, greatest_in};
 use icnf::{Kind, TreeBuilder};
 use reports::{Report, faulty_cubes, put_number};
 use std::alloc::{AllocError, Global};
 
 /// The most leaves of a tree.
 const LEAVES: usize = 65_536;
-
-/// The greatest variable of a clause, 0 where it has no literal.
-fn greatest_of(clause: &[Lit]) -> u32
-    ensures value { result ≡ greatest_of clause.now }
-    ensures below { result < 2 ^ 31 }
-{
-    let mut greatest = 0;
-    for l in clause {
-        greatest = l.var().number().max(greatest);
-    }
-    greatest
-}
-
-/// The greatest variable of a formula's clauses, 0 where they have no literal.
-fn greatest_in(formula: &Formula) -> u32
-    ensures value { result ≡ greatest_in formula.now.clauses }
-    ensures below { result < 2 ^ 31 }
-{
-    let mut greatest = 0;
-    for i in 0..formula.len() {
-        greatest = greatest_of(formula.clause(i)).max(greatest);
-    }
-    greatest
-}
 
 /// Appends a line for each leaf that was added.
 fn put_added(out: &mut Vec<u8>, added: &[bool]) -> Result<(), AllocError>

@@ -6,7 +6,7 @@ use Rattle.std.proofs.lemmas.Bool.Decides.{nat_tests}
 use Rattle.dimacs.specs.logic.Cnf.{Cnf, IsFormula}
 use Rattle.icnf.specs.Leaves.{Cube}
 use Rattle.lrat_text.specs.Log.{Closes}
-use Rattle.lrat_text.specs.Packed.{BeginsWithCharacter, half_text}
+use Rattle.packed_text.specs.Packed.{BeginsWithCharacter, half_text}
 use Rattle.lrat_check.specs.Judging.{AreValuesOf, value_byte}
 use Rattle.lrat_check.specs.Checking.{no_memory}
 use Rattle.lrat_check.specs.declared.checking.CheckFault.{CheckFault}
@@ -20,9 +20,10 @@ use Rattle.frames.specs.declared.answer.Answer.TheVariants as answers
 use Rattle.evidence.specs.Evidence.{IsComplete, bytes_in, with_bytes}
 use Rattle.coordinator_core.specs.inner.Calls.{IsFixed, UnlessRefused, lengthened, cut_to}
 use Rattle.coordinator_core.specs.Coordinator.{CoordinatorState, EndsFragment, EndsAssignment, Gathers, IsDeciding, coordinator_base, cube_at, job_at, with_job, reopened, closed, fixing, after_loss, lost_by}
-use Rattle.coordinator_core.specs.Invariant.{FitsFixed}
+use Rattle.coordinator_core.specs.Invariant.{FitsFixed, IsJobAt}
 use Rattle.coordinator_core.specs.declared.desks.Fixed.{Fixed}
 use Rattle.coordinator_core.specs.declared.desks.Job.{Job}
+use Rattle.coordinator_core.specs.declared.desks.LeafState.{LeafState}
 use Rattle.coordinator_core.specs.declared.desks.LeafState.TheVariants.{Open}
 use Rattle.coordinator_core.proofs.KeptLemmas.{at_desk}
 use Rattle.coordinator_core.proofs.Places.{read_within, set_read}
@@ -211,17 +212,33 @@ pub from_err : {E : Type 0} (P : Type 0) (r : Result (Unit {0}) E) → is_err r 
 from_err P (Ok u) error h = cc
 from_err P (Err f) error h = h
 
-pub grown_ok : {E : Type 0} (s t u : CoordinatorState) (w : ℕ) (job : Job) (o : Option Fixed) (r : Result (Unit {0}) E) (more : List ℕ) → t ≡ with_job s w None → u ≡ with_job t w (Some (record job { fixed = o })) → Some job ≡ job_at s w
-    → OnOk r (o ≡ lengthened job.fixed more) → OnOk r ((j : Job) → job_at s w ≡ Some j → u ≡ with_job s w (Some (record j { fixed = lengthened j.fixed more })))
-grown_ok s t u w job o (Ok unit) more took put was e = λ j at.
-    let same : job ≡ j = same_some job j (was ∙ at) in
-    refixed s t u w job o took put was j at ∙ ap (λ (p : Option Fixed). with_job s w (Some (record j { fixed = p }))) (e ∙ ap (λ (i : Job). lengthened i.fixed more) same)
-grown_ok s t u w job o (Err f) more took put was e = e
+-- a job of which what is fixed is another is put there
+pub put_again : (s t u : CoordinatorState) (w : ℕ) (job new : Job) (o : Option Fixed) → t ≡ with_job s w None → u ≡ with_job t w (Some new) → Some job ≡ job_at s w → new ≡ record job { fixed = o }
+    → (j : Job) → job_at s w ≡ Some j → u ≡ with_job s w (Some (record j { fixed = o }))
+put_again s t u w job new o took put was is = refixed s t u w job o took (put ∙ ap (λ (k : Job). with_job t w (Some k)) is) was
 
-pub grown_err : {E : Type 0} (s t u : CoordinatorState) (w : ℕ) (job : Job) (o : Option Fixed) (r : Result (Unit {0}) E) → t ≡ with_job s w None → u ≡ with_job t w (Some (record job { fixed = o })) → Some job ≡ job_at s w
-    → OnErr r (o ≡ job.fixed) → OnErr r (u ≡ s)
-grown_err s t u w job o (Ok unit) took put was e = e
-grown_err s t u w job o (Err f) took put was e = unfixed s t u w job o took put was e
+-- the job that stood there is put there
+pub put_back : (s t u : CoordinatorState) (w : ℕ) (job new : Job) → t ≡ with_job s w None → u ≡ with_job t w (Some new) → Some job ≡ job_at s w → new ≡ job → u ≡ s
+put_back s t u w job new took put was is = unfixed s t u w job job.fixed took (put ∙ ap (λ (k : Job). with_job t w (Some k)) is) was refl
+
+pub grown_ok : {E : Type 0} (s t u : CoordinatorState) (w : ℕ) (job new : Job) (r : Result (Unit {0}) E) (more : List ℕ) → t ≡ with_job s w None → u ≡ with_job t w (Some new) → Some job ≡ job_at s w
+    → OnOk r (new ≡ record job { fixed = lengthened job.fixed more }) → OnOk r ((j : Job) → job_at s w ≡ Some j → u ≡ with_job s w (Some (record j { fixed = lengthened j.fixed more })))
+grown_ok s t u w job new (Ok unit) more took put was e = λ j at.
+    let same : job ≡ j = same_some job j (was ∙ at) in
+    put_again s t u w job new (lengthened job.fixed more) took put was e j at ∙ ap (λ (i : Job). with_job s w (Some (record j { fixed = lengthened i.fixed more }))) same
+grown_ok s t u w job new (Err f) more took put was e = e
+
+pub grown_err : {E : Type 0} (s t u : CoordinatorState) (w : ℕ) (job new : Job) (r : Result (Unit {0}) E) → t ≡ with_job s w None → u ≡ with_job t w (Some new) → Some job ≡ job_at s w
+    → OnErr r (new ≡ job) → OnErr r (u ≡ s)
+grown_err s t u w job new (Ok unit) took put was e = e
+grown_err s t u w job new (Err f) took put was e = put_back s t u w job new took put was e
+
+-- the job with more bytes is one of the same leaf, and has no more than were announced
+pub grown_fair : {E : Type 0} (leaves : List LeafState) (desk : ℕ) (job new : Job) (r : Result (Unit {0}) E) (more : List ℕ) → OnOk r (new ≡ record job { fixed = lengthened job.fixed more }) → OnErr r (new ≡ job)
+    → ((x : Fixed) → job.fixed ≡ Some x → length x.evidence.bytes + length more ≤ length_of x.evidence.finding) → IsJobAt leaves desk job → IsJobAt leaves desk new
+grown_fair {E = E} leaves desk job new (Ok u) more ok err room fair =
+    subst (IsJobAt leaves desk) (sym ok) (record { given = fair.given; fits = lengthened_fits {E = E} job.fixed (lengthened job.fixed more) (Ok u) more refl tt room fair.fits })
+grown_fair leaves desk job new (Err f) more ok err room fair = subst (IsJobAt leaves desk) (sym err) fair
 
 -- the fragment of a leaf, by the names that the code has for its base and cube
 pub closes_here : (c s : CoordinatorState) (B : Cnf) (q : Cube) (leaf : ℕ) (text : List ℕ) → c ≡ s → B ≡ coordinator_base c → q ≡ cube_at c leaf → Closes B q text → Closes (coordinator_base s) (cube_at s leaf) text

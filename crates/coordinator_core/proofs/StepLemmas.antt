@@ -14,7 +14,7 @@ use Rattle.lrat_check.specs.declared.verdict.Verdict.{Verdict}
 use Rattle.lrat_check.specs.declared.verdict.Verdict.TheVariants.{Nothing, Model, Proof}
 use Rattle.frames.specs.Answers.{length_of}
 use Rattle.frames.specs.declared.answer.Answer.TheVariants as answers
-use Rattle.frames.specs.declared.answer.Outcome.{Outcome}
+use Rattle.frames.specs.declared.answer.Ending.{Ending}
 use Rattle.frames.specs.declared.frame.Attempt.{Attempt}
 use Rattle.frames.specs.declared.frame.Frame.{Frame}
 use Rattle.frames.specs.declared.frame.Frame.TheVariants.{Task, Done, Fetch, Piece, Verdict as VerdictFrame, Want, Part, Idle, Rest}
@@ -96,17 +96,17 @@ module _ (law : JoiningLaw) where
   limit_keeps c worker j answer new is at deciding (MeetsLimit.stops whole a now) = subst IsCoordinator (sym now) (is_stuck c deciding is)
   limit_keeps c worker j answer new is at deciding (MeetsLimit.no_memory may a now) = subst IsCoordinator (sym now) is
 
-  first_keeps : (c : CoordinatorState) (attempt : Attempt) (j : Job) (outcome : Outcome) (answer : Reaction) (new : CoordinatorState)
-      → IsCoordinator c → job_at c attempt.worker ≡ Some j → IsDeciding c → AnswersFirst c attempt j outcome answer new → IsCoordinator new
-  first_keeps c attempt j outcome answer new is at deciding (AnswersFirst.limited end meets) = limit_keeps c attempt.worker j answer new is at deciding meets
-  first_keeps c attempt j outcome answer new is at deciding (AnswersFirst.wrong_length finding end wrong a now) = subst IsCoordinator (sym now) (is_reopened c attempt.worker j at is)
-  first_keeps c attempt j outcome answer new is at deciding (AnswersFirst.fixes finding end right gathers) = gathers_keeps c attempt.worker j _ answer new is at deciding (omega arith) gathers
+  first_keeps : (c : CoordinatorState) (attempt : Attempt) (j : Job) (ending : Ending) (answer : Reaction) (new : CoordinatorState)
+      → IsCoordinator c → job_at c attempt.worker ≡ Some j → IsDeciding c → AnswersFirst c attempt j ending answer new → IsCoordinator new
+  first_keeps c attempt j ending answer new is at deciding (AnswersFirst.limited end meets) = limit_keeps c attempt.worker j answer new is at deciding meets
+  first_keeps c attempt j ending answer new is at deciding (AnswersFirst.wrong_length finding end wrong a now) = subst IsCoordinator (sym now) (is_reopened c attempt.worker j at is)
+  first_keeps c attempt j ending answer new is at deciding (AnswersFirst.fixes finding end right gathers) = gathers_keeps c attempt.worker j _ answer new is at deciding (omega arith) gathers
 
-  done_keeps : (c : CoordinatorState) (attempt : Attempt) (outcome : Outcome) (answer : Reaction) (new : CoordinatorState) → IsCoordinator c → DeliversDone c attempt outcome answer new → IsCoordinator new
-  done_keeps c attempt outcome answer new is (DeliversDone.strays none a now) = subst IsCoordinator (sym now) is
-  done_keeps c attempt outcome answer new is (DeliversDone.first j awaited free answers) = first_keeps c attempt j outcome answer new is awaited.job awaited.deciding answers
-  done_keeps c attempt outcome answer new is (DeliversDone.again j x fetched a now) = subst IsCoordinator (sym now) is
-  done_keeps c attempt outcome answer new is (DeliversDone.anew j x awaited fixed other a now) = subst IsCoordinator (sym now) (is_reopened c attempt.worker j awaited.job is)
+  done_keeps : (c : CoordinatorState) (attempt : Attempt) (ending : Ending) (answer : Reaction) (new : CoordinatorState) → IsCoordinator c → DeliversDone c attempt ending answer new → IsCoordinator new
+  done_keeps c attempt ending answer new is (DeliversDone.strays none a now) = subst IsCoordinator (sym now) is
+  done_keeps c attempt ending answer new is (DeliversDone.first j awaited free answers) = first_keeps c attempt j ending answer new is awaited.job awaited.deciding answers
+  done_keeps c attempt ending answer new is (DeliversDone.again j x fetched a now) = subst IsCoordinator (sym now) is
+  done_keeps c attempt ending answer new is (DeliversDone.anew j x awaited fixed other a now) = subst IsCoordinator (sym now) (is_reopened c attempt.worker j awaited.job is)
 
   piece_keeps : (c : CoordinatorState) (attempt : Attempt) (offset : ℕ) (bytes : List ℕ) (answer : Reaction) (new : CoordinatorState) → IsCoordinator c → DeliversPiece c attempt offset bytes answer new → IsCoordinator new
   piece_keeps c attempt offset bytes answer new is (DeliversPiece.strays none a now) = subst IsCoordinator (sym now) is
@@ -128,7 +128,7 @@ module _ (law : JoiningLaw) where
       same p q e = cc
 
   delivery_keeps : (c : CoordinatorState) (frame : Frame) (answer : Reaction) (new : CoordinatorState) → IsCoordinator c → CoordinatorDelivers c frame answer new → IsCoordinator new
-  delivery_keeps c (Done attempt outcome) answer new is step = done_keeps c attempt outcome answer new is step
+  delivery_keeps c (Done attempt ending) answer new is step = done_keeps c attempt ending answer new is step
   delivery_keeps c (Piece attempt offset bytes) answer new is step = piece_keeps c attempt offset bytes answer new is step
   delivery_keeps c (Idle worker incarnation) answer new is step = idle_keeps c worker incarnation answer new is step
   delivery_keeps c (Want session worker offset) answer new is step = want_keeps c session worker offset answer new is step

@@ -11,8 +11,8 @@ use Rattle.lrat_check.specs.declared.verdict.Reaction.TheVariants as reaction
 use Rattle.frames.specs.Answers.{answer_of}
 use Rattle.frames.specs.declared.answer.Answer.TheVariants as answers
 use Rattle.frames.specs.declared.answer.Finding.{Finding}
-use Rattle.frames.specs.declared.answer.Outcome.{Outcome}
-use Rattle.frames.specs.declared.answer.Outcome.TheVariants as told
+use Rattle.frames.specs.declared.answer.Ending.{Ending}
+use Rattle.frames.specs.declared.answer.Ending.TheVariants as told
 use Rattle.frames.specs.declared.frame.Attempt.{Attempt}
 use Rattle.frames.specs.declared.frame.Frame.{Frame}
 use Rattle.frames.specs.declared.frame.Frame.TheVariants.{Task, Done, Fetch, Piece, Verdict as VerdictFrame, Want, Part, Idle, Rest}
@@ -199,23 +199,23 @@ pub data MeetsLimit (c : CoordinatorState) (worker : ℕ) (j : Job) (answer : Re
   no_memory : MaySplit c j.leaf → answer ≡ reaction.NoMemory → new ≡ c → MeetsLimit c worker j answer new
 
 -- A job of which nothing is fixed is answered.
-pub data AnswersFirst (c : CoordinatorState) (attempt : Attempt) (j : Job) (outcome : Outcome) (answer : Reaction) (new : CoordinatorState) : Type 0 where
-  limited : outcome ≡ told.Limit → MeetsLimit c attempt.worker j answer new → AnswersFirst c attempt j outcome answer new
-  wrong_length : (finding : Finding) → outcome ≡ told.Decided finding → HasWrongLength c.formula finding
-      → answer ≡ reaction.Refused 2 → new ≡ reopened c attempt.worker j → AnswersFirst c attempt j outcome answer new
-  fixes : (finding : Finding) → outcome ≡ told.Decided finding → ¬ (HasWrongLength c.formula finding)
-      → Gathers c attempt.worker j (first_answer attempt.incarnation finding) answer new → AnswersFirst c attempt j outcome answer new
+pub data AnswersFirst (c : CoordinatorState) (attempt : Attempt) (j : Job) (ending : Ending) (answer : Reaction) (new : CoordinatorState) : Type 0 where
+  limited : ending ≡ told.Limit → MeetsLimit c attempt.worker j answer new → AnswersFirst c attempt j ending answer new
+  wrong_length : (finding : Finding) → ending ≡ told.Decided finding → HasWrongLength c.formula finding
+      → answer ≡ reaction.Refused 2 → new ≡ reopened c attempt.worker j → AnswersFirst c attempt j ending answer new
+  fixes : (finding : Finding) → ending ≡ told.Decided finding → ¬ (HasWrongLength c.formula finding)
+      → Gathers c attempt.worker j (first_answer attempt.incarnation finding) answer new → AnswersFirst c attempt j ending answer new
 
 -- An answer comes.
-pub data DeliversDone (c : CoordinatorState) (attempt : Attempt) (outcome : Outcome) (answer : Reaction) (new : CoordinatorState) : Type 0 where
-  strays : ((j : Job) → ¬ (IsAwaited c attempt.session attempt.job attempt.worker j)) → answer ≡ reaction.Ignored → new ≡ c → DeliversDone c attempt outcome answer new
+pub data DeliversDone (c : CoordinatorState) (attempt : Attempt) (ending : Ending) (answer : Reaction) (new : CoordinatorState) : Type 0 where
+  strays : ((j : Job) → ¬ (IsAwaited c attempt.session attempt.job attempt.worker j)) → answer ≡ reaction.Ignored → new ≡ c → DeliversDone c attempt ending answer new
   -- nothing was fixed
-  first : (j : Job) → IsAwaited c attempt.session attempt.job attempt.worker j → j.fixed ≡ None → AnswersFirst c attempt j outcome answer new → DeliversDone c attempt outcome answer new
+  first : (j : Job) → IsAwaited c attempt.session attempt.job attempt.worker j → j.fixed ≡ None → AnswersFirst c attempt j ending answer new → DeliversDone c attempt ending answer new
   -- the same incarnation answered before
-  again : (j : Job) (x : Fixed) → IsFetched c attempt j x → answer ≡ reaction.Ignored → new ≡ c → DeliversDone c attempt outcome answer new
+  again : (j : Job) (x : Fixed) → IsFetched c attempt j x → answer ≡ reaction.Ignored → new ≡ c → DeliversDone c attempt ending answer new
   -- another incarnation answered, which is no more
   anew : (j : Job) (x : Fixed) → IsAwaited c attempt.session attempt.job attempt.worker j → j.fixed ≡ Some x → attempt.incarnation ≢ x.incarnation
-      → answer ≡ reaction.Taken → new ≡ reopened c attempt.worker j → DeliversDone c attempt outcome answer new
+      → answer ≡ reaction.Taken → new ≡ reopened c attempt.worker j → DeliversDone c attempt ending answer new
 
 -- a piece is of the answer that was fixed, and comes next
 pub record IsOfJob (c : CoordinatorState) (attempt : Attempt) (offset : ℕ) (bytes : List ℕ) (j : Job) (x : Fixed) : Type 0 where
@@ -257,7 +257,7 @@ pub data DeliversWant (c : CoordinatorState) (session worker offset : ℕ) (answ
 
 -- a frame comes to a coordinator
 abbrev pub CoordinatorDelivers : CoordinatorState → Frame → Reaction → CoordinatorState → Type 0
-CoordinatorDelivers c (Done attempt outcome) answer new = DeliversDone c attempt outcome answer new
+CoordinatorDelivers c (Done attempt ending) answer new = DeliversDone c attempt ending answer new
 CoordinatorDelivers c (Piece attempt offset bytes) answer new = DeliversPiece c attempt offset bytes answer new
 CoordinatorDelivers c (Idle worker incarnation) answer new = DeliversIdle c worker incarnation answer new
 CoordinatorDelivers c (Want session worker offset) answer new = DeliversWant c session worker offset answer new

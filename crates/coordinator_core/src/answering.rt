@@ -1,7 +1,7 @@
 //! Answers of workers, and workers that have nothing to do.
 
 ghost use Rattle.std.specs.Prelude.{◌≡◌, ◌↔◌, IsTrue, None};
-ghost use Rattle.frames.specs.declared.answer.Outcome.TheVariants.{Decided};
+ghost use Rattle.frames.specs.declared.answer.Ending.TheVariants.{Decided};
 ghost use Rattle.coordinator_core.specs.inner.Calls.{Stands};
 ghost use Rattle.coordinator_core.specs.Coordinator.{AnswersFirst, DeliversDone, DeliversIdle, IsAwaited, IsStale};
 ghost use Rattle.coordinator_core.specs.declared.desks.Job.{Job};
@@ -9,7 +9,7 @@ ghost use Rattle.coordinator_core.specs.declared.desks.Job.{Job};
 use crate::coordinator::Coordinator;
 use crate::desks::Fixed;
 use evidence::{Evidence, has_wrong_length};
-use frames::{Attempt, Finding, Outcome, WorkerNumber};
+use frames::{Attempt, Ending, Finding, WorkerNumber};
 use lrat_check::Reaction;
 
 /// What an answer is to the coordinator.
@@ -46,13 +46,13 @@ impl Coordinator {
     }
 
     /// An answer comes.
-    pub(crate) fn deliver_done(&mut self, attempt: &Attempt, outcome: &Outcome) -> Reaction
-        ensures { DeliversDone self.old attempt.now outcome.now result self.new }
+    pub(crate) fn deliver_done(&mut self, attempt: &Attempt, ending: &Ending) -> Reaction
+        ensures { DeliversDone self.old attempt.now ending.now result self.new }
     {
         match self.standing(attempt) {
             Standing::Strays => Reaction::Ignored,
             Standing::Again => Reaction::Ignored,
-            Standing::First => self.answer(attempt, outcome),
+            Standing::First => self.answer(attempt, ending),
             Standing::Anew => {
                 self.lost(attempt.worker);
                 Reaction::Taken
@@ -61,13 +61,13 @@ impl Coordinator {
     }
 
     /// A job of which nothing is fixed is answered.
-    fn answer(&mut self, attempt: &Attempt, outcome: &Outcome) -> Reaction
+    fn answer(&mut self, attempt: &Attempt, ending: &Ending) -> Reaction
         requires { (j : Job) × IsAwaited self.old attempt.now.session attempt.now.job attempt.now.worker j × (j.fixed ≡ None) }
-        ensures { (j : Job) → IsAwaited self.old attempt.now.session attempt.now.job attempt.now.worker j → j.fixed ≡ None → AnswersFirst self.old attempt.now j outcome.now result self.new }
+        ensures { (j : Job) → IsAwaited self.old attempt.now.session attempt.now.job attempt.now.worker j → j.fixed ≡ None → AnswersFirst self.old attempt.now j ending.now result self.new }
     {
-        match outcome {
-            Outcome::Limit => self.meet_limit(attempt.worker),
-            Outcome::Decided(finding) => self.answer_decided(attempt, finding),
+        match ending {
+            Ending::Limit => self.meet_limit(attempt.worker),
+            Ending::Decided(finding) => self.answer_decided(attempt, finding),
         }
     }
 

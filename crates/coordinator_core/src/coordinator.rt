@@ -2,6 +2,7 @@
 
 ghost use Rattle.std.specs.Prelude.{◌≡◌, ◌-◌, ◌≤◌, ◌<◌, ◌^◌, ◌↔◌, IsTrue, length, true, replicate, All, IfOk, OnOk, OnErr, OnSome, IfSome, MatchOption, None, Some};
 ghost use Rattle.dimacs.specs.logic.Cnf.{Cnf};
+ghost use Rattle.cube_split.specs.Definitions.{base_with};
 ghost use Rattle.cube_split.specs.Pairs.{AreOf, Definitions, IsBaseWith};
 ghost use Rattle.lrat_check.specs.Verdicts.{Right};
 ghost use Rattle.lrat_check.specs.declared.verdict.Verdict.TheVariants.{Nothing};
@@ -14,7 +15,7 @@ ghost use Rattle.coordinator_core.specs.declared.desks.Job.{Job};
 
 use crate::desks::Job;
 use crate::leaves::LeafTable;
-use cube_split::{Chooser, Preamble, preamble_with};
+use cube_split::{Chooser, Opened, Preamble};
 use dimacs::{Base, Formula};
 use frames::WorkerNumber;
 use icnf::Tree;
@@ -176,8 +177,25 @@ impl Coordinator {
         requires workers { (1 ≤ workers) × (workers ≤ 64) }
         ensures { IfOk result (λ c. (d : Definitions) × AreOf formula d × (d.wanted ≡ defs) × (c ≡ record (new_coordinator formula tree limit workers session) { definitions = d })) }
     {
+        let opened = Opened::of(alloc, formula, defs)?;
+        Coordinator::of(alloc, opened, tree, limit, workers, session)
+    }
+
+    /// The same of a formula whose preamble is known.
+    pub fn of(
+        alloc: Global,
+        opened: Opened,
+        tree: Tree,
+        limit: u64,
+        workers: u32,
+        session: u64,
+    ) -> Result<Coordinator, AllocError>
+        requires inside { (B : Cnf) → IsBaseWith opened.formula opened.definitions.wanted B → All (IsInside B) tree }
+        requires workers { (1 ≤ workers) × (workers ≤ 64) }
+        ensures { IfOk result (λ c. c ≡ record (new_coordinator opened.formula tree limit workers session) { definitions = opened.definitions }) }
+    {
+        let (formula, defs, preamble) = opened.into_parts();
         let _ = formula.vars(); // with it comes that the formula is within its limits
-        let preamble = preamble_with(alloc, &formula, defs)?;
         let base = preamble.own_base(alloc, &formula)?;
         let planted = tree.copy(alloc)?;
         let leaves = LeafTable::new(alloc, tree.leaves())?;
@@ -228,15 +246,6 @@ impl Coordinator {
         Ok(())
     }
 
-    /// Whether it gave up: a leaf whose search met its limit cannot be split, or the joined proof is too long. Only a restart, or
-    /// clauses that are added, change that.
-    #[inline]
-    pub fn stuck(&self) -> bool
-        ensures { result ≡ self.now.stuck }
-    {
-        self.stuck
-    }
-
     /// Its formula.
     pub fn formula(&self) -> &Formula
         ensures { result.now ≡ self.now.formula }
@@ -260,15 +269,6 @@ impl Coordinator {
         ensures below { result ≤ 64 }
     {
         self.jobs.len() as u32
-    }
-
-    /// The verdict that it holds. It takes no memory.
-    pub fn verdict(&self) -> &Verdict
-        ensures value { result.now ≡ self.now.verdict }
-        ensures right { Right self.now.formula result.now }
-        ensures sound { IsCoordinator self.now }
-    {
-        &self.verdict
     }
 
     /// The verdict, for keeps.
@@ -299,94 +299,9 @@ impl Coordinator {
         verdict
     }
 
-    /// The link of a worker is lost: the leaf of its job is opened again, if it has one. It takes no memory.
-    pub fn lost(&mut self, worker: WorkerNumber)
-        ensures step { CoordinatorStep self.old (Lost worker) Silent self.new }
-    {
-        let Some(leaf) = self.leaf_of(worker) else {
-            return;
-        };
-        let desk = worker.number() as usize - 1;
-        self.jobs[desk] = None;
-        self.leaves.open(leaf);
-    }
-
     /// What it takes memory from.
     #[inline]
     pub(crate) fn alloc(&self) -> Global {
         self.alloc
-    }
-
-    /// The job of a worker.
-    pub(crate) fn job_of(&self, worker: WorkerNumber) -> Option<&Job>
-        ensures { MatchOption result (job_at self.now worker ≡ None) (λ j. job_at self.now worker ≡ Some j.now) }
-    {
-        let desk = worker.number() as usize - 1;
-        if desk >= self.jobs.len() {
-            return None;
-        }
-        self.jobs[desk].as_ref()
-    }
-
-    /// The leaf of a worker's job.
-    pub(crate) fn leaf_of(&self, worker: WorkerNumber) -> Option<usize>
-        ensures { MatchOption result (job_at self.now worker ≡ None) (λ leaf. (j : Job) × (job_at self.now worker ≡ Some j) × (j.leaf ≡ leaf)) }
-    {
-        match self.job_of(worker) {
-            None => None,
-            Some(job) => Some(job.leaf),
-        }
-    }
-
-    /// Takes the job of a worker from it.
-    pub(crate) fn take_job(&mut self, worker: WorkerNumber) -> Option<Job>
-        ensures job { result ≡ job_at self.old worker }
-        ensures known { OnSome result (IsWorker self.new worker) }
-        ensures fair { IfSome result (λ j. IsJobAt self.new.leaves (worker - 1) j) }
-        ensures now { self.new ≡ with_job self.old worker None }
-    {
-        let desk = worker.number() as usize - 1;
-        if desk >= self.jobs.len() {
-            return None;
-        }
-        self.jobs[desk].take()
-    }
-
-    /// Gives a worker a job whose leaf is given to it.
-    pub(crate) fn put_job(&mut self, worker: WorkerNumber, job: Job)
-        requires worker { IsWorker self.old worker }
-        requires job { IsJobAt self.old.leaves (worker - 1) job }
-        ensures { self.new ≡ with_job self.old worker (Some job) }
-    {
-        let desk = worker.number() as usize - 1;
-        self.jobs[desk] = Some(job);
-    }
-
-    /// Whether it holds no verdict and is not stuck.
-    pub(crate) fn is_deciding(&self) -> bool
-        ensures { IsTrue result ↔ IsDeciding self.now }
-    {
-        match self.verdict {
-            Verdict::Nothing => !self.stuck,
-            _ => false,
-        }
-    }
-
-    /// Gives up.
-    pub(crate) fn give_up(&mut self)
-        requires { IsDeciding self.old }
-        ensures { self.new ≡ record self.old { stuck = true } }
-    {
-        self.stuck = true;
-    }
-
-    /// Holds a right verdict.
-    pub(crate) fn decide(&mut self, verdict: Verdict)
-        requires deciding { IsDeciding self.old }
-        requires right { Right self.old.formula verdict }
-        requires short { length (bytes_in verdict) < 2 ^ 32 }
-        ensures { self.new ≡ record self.old { verdict = verdict } }
-    {
-        self.verdict = verdict;
     }
 }

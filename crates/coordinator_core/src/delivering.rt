@@ -14,7 +14,7 @@ impl Coordinator {
         ensures step { CoordinatorStep self.old (Delivered frame.now) (Reacted result) self.new }
     {
         match frame {
-            Frame::Done { attempt, outcome } => self.deliver_done(attempt, outcome),
+            Frame::Done { attempt, ending } => self.deliver_done(attempt, ending),
             Frame::Piece {
                 attempt,
                 offset,

@@ -6,7 +6,7 @@ ghost use Rattle.dimacs.specs.logic.Cnf.{IsFormula};
 ghost use Rattle.lrat_check.specs.Judging.{AreValuesOf, Judges};
 ghost use Rattle.frames.specs.declared.answer.Answer.TheVariants as answers;
 ghost use Rattle.evidence.specs.Evidence.{ComeNext, IsComplete, with_bytes};
-ghost use Rattle.coordinator_core.specs.inner.Calls.{IsFixed, HasCome, HasFixed, cut_to, lengthened};
+ghost use Rattle.coordinator_core.specs.inner.Calls.{IsFixed, HasFixed, IsWhole, cut_to, lengthened};
 ghost use Rattle.coordinator_core.specs.Coordinator.{DeliversPiece, EndsAssignment, Gathers, IsOfJob, fixing, job_at, with_job};
 ghost use Rattle.coordinator_core.specs.Invariant.{FitsFixed};
 ghost use Rattle.coordinator_core.specs.declared.desks.Fixed.{Fixed};
@@ -16,58 +16,8 @@ use crate::coordinator::Coordinator;
 use crate::desks::{Fixed, Job};
 use frames::{Answer, Attempt, Chunk, WorkerNumber};
 use lrat_check::{Judged, Reaction, judge_values};
-use lrat_text::PackedText;
+use packed_text::PackedText;
 use std::alloc::AllocError;
-
-/// How far the evidence for an answer has come.
-pub(crate) enum Gathered {
-    /// More bytes are to come.
-    Waits,
-    /// A fragment is whole.
-    Fragment,
-    /// An assignment is whole.
-    Assignment,
-}
-
-/// What is fixed of a job, with more bytes of evidence. Want of memory leaves them as they were.
-fn extended(fixed: Option<Fixed>, more: &[u8]) -> (Option<Fixed>, Result<(), AllocError>)
-    ensures ok { OnOk result.1 (result.0 ≡ lengthened fixed more.now) }
-    ensures err { OnErr result.1 (result.0 ≡ fixed) }
-{
-    match fixed {
-        None => (None, Ok(())),
-        Some(mut fixed) => {
-            let grown = fixed.evidence.extend(more);
-            (Some(fixed), grown)
-        }
-    }
-}
-
-/// What is fixed of a job, with the first `count` bytes of its evidence alone.
-fn shortened(fixed: Option<Fixed>, count: usize) -> Option<Fixed>
-    ensures { result ≡ cut_to count fixed }
-{
-    match fixed {
-        None => None,
-        Some(mut fixed) => {
-            fixed.evidence.bytes.truncate(count);
-            Some(fixed)
-        }
-    }
-}
-
-/// What is fixed of a job, with its last block of evidence held with that of a text where both are alike.
-fn shared(fixed: Option<Fixed>, like: &PackedText) -> Option<Fixed>
-    ensures { result ≡ fixed }
-{
-    match fixed {
-        None => None,
-        Some(mut fixed) => {
-            fixed.evidence.bytes.share_last(like);
-            Some(fixed)
-        }
-    }
-}
 
 impl Coordinator {
     /// What comes from a worker of this process, which has it as a text: blocks of it that are whole are held with that text, so that their
@@ -75,23 +25,10 @@ impl Coordinator {
     pub fn share(&mut self, worker: WorkerNumber, found: &PackedText)
         ensures { self.new ≡ self.old }
     {
-        let Some(job) = self.take_job(worker) else {
-            return;
-        };
-        let Job {
-            number,
-            leaf,
-            fixed,
-        } = job;
-        let fixed = shared(fixed, found);
-        self.put_job(
-            worker,
-            Job {
-                number,
-                leaf,
-                fixed,
-            },
-        );
+        if let Some(mut job) = self.take_job(worker) {
+            job.share(found);
+            self.put_job(worker, job);
+        }
     }
 
     /// Whether so many bytes from an offset on come next in the evidence of the attempt's job.
@@ -105,7 +42,7 @@ impl Coordinator {
         match self.job_of(attempt.worker) {
             None => false,
             Some(job) => {
-                job.number == attempt.job && is_next(job, attempt.incarnation, offset, count)
+                job.number == attempt.job && job.comes_next(attempt.incarnation, offset, count)
             }
         }
     }
@@ -115,16 +52,9 @@ impl Coordinator {
         requires fits { FitsFixed fixed }
         ensures { (j : Job) → job_at self.old worker ≡ Some j → self.new ≡ with_job self.old worker (Some (record j { fixed = fixed })) }
     {
-        if let Some(job) = self.take_job(worker) {
-            let Job { number, leaf, .. } = job;
-            self.put_job(
-                worker,
-                Job {
-                    number,
-                    leaf,
-                    fixed,
-                },
-            );
+        if let Some(mut job) = self.take_job(worker) {
+            job.fixed = fixed;
+            self.put_job(worker, job);
         }
     }
 
@@ -134,23 +64,11 @@ impl Coordinator {
         ensures ok { OnOk result ((j : Job) → job_at self.old worker ≡ Some j → self.new ≡ with_job self.old worker (Some (record j { fixed = lengthened j.fixed more.now }))) }
         ensures err { OnErr result (self.new ≡ self.old) }
     {
-        let Some(job) = self.take_job(worker) else {
+        let Some(mut job) = self.take_job(worker) else {
             return Ok(());
         };
-        let Job {
-            number,
-            leaf,
-            fixed,
-        } = job;
-        let (fixed, grown) = extended(fixed, more);
-        self.put_job(
-            worker,
-            Job {
-                number,
-                leaf,
-                fixed,
-            },
-        );
+        let grown = job.extend(more);
+        self.put_job(worker, job);
         grown
     }
 
@@ -158,23 +76,10 @@ impl Coordinator {
     fn shorten(&mut self, worker: WorkerNumber, count: usize)
         ensures { (j : Job) → job_at self.old worker ≡ Some j → self.new ≡ with_job self.old worker (Some (record j { fixed = cut_to count j.fixed })) }
     {
-        let Some(job) = self.take_job(worker) else {
-            return;
-        };
-        let Job {
-            number,
-            leaf,
-            fixed,
-        } = job;
-        let fixed = shortened(fixed, count);
-        self.put_job(
-            worker,
-            Job {
-                number,
-                leaf,
-                fixed,
-            },
-        );
+        if let Some(mut job) = self.take_job(worker) {
+            job.shorten(count);
+            self.put_job(worker, job);
+        }
     }
 
     /// A piece of an answer comes.
@@ -201,13 +106,13 @@ impl Coordinator {
         }
     }
 
-    /// How far the evidence of a worker's job has come.
-    fn gathered(&self, worker: WorkerNumber) -> Gathered
-        ensures { (j : Job) (x : Fixed) → IsFixed self.now worker j x → HasCome x result }
+    /// What the evidence of a worker's job is of, once it is whole.
+    fn whole(&self, worker: WorkerNumber) -> Option<Answer>
+        ensures { (j : Job) (x : Fixed) → IsFixed self.now worker j x → IsWhole x result }
     {
         match self.job_of(worker) {
-            None => Gathered::Waits,
-            Some(job) => come(job),
+            None => None,
+            Some(job) => job.whole(),
         }
     }
 
@@ -216,10 +121,10 @@ impl Coordinator {
         requires { HasFixed self.old worker }
         ensures { (j : Job) (x : Fixed) → IsFixed self.old worker j x → Gathers self.old worker j x result self.new }
     {
-        match self.gathered(worker) {
-            Gathered::Waits => Reaction::Taken,
-            Gathered::Fragment => self.end_fragment(worker),
-            Gathered::Assignment => self.end_assignment(worker),
+        match self.whole(worker) {
+            None => Reaction::Taken,
+            Some(Answer::Refuted) => self.end_fragment(worker),
+            Some(Answer::Assignment) => self.end_assignment(worker),
         }
     }
 
@@ -257,37 +162,6 @@ impl Coordinator {
                 Reaction::Refused(2)
             }
             Judged::NoMemory => Reaction::NoMemory,
-        }
-    }
-}
-
-/// Whether so many bytes from an offset on come next in what this incarnation fixed of a job.
-fn is_next(job: &Job, incarnation: u64, offset: u32, count: usize) -> bool
-    requires { count ≤ 4000 }
-    ensures { (more : List ℕ) → length more ≡ count → IsTrue result ↔ ((x : Fixed) × (job.now.fixed ≡ Some x) × (incarnation ≡ x.incarnation) × ComeNext x.evidence offset more) }
-{
-    match &job.fixed {
-        None => false,
-        Some(fixed) => {
-            fixed.incarnation == incarnation && fixed.evidence.comes_next(offset, count)
-        }
-    }
-}
-
-/// How far the evidence of a job has come.
-fn come(job: &Job) -> Gathered
-    ensures { (x : Fixed) → job.now.fixed ≡ Some x → HasCome x result }
-{
-    match &job.fixed {
-        None => Gathered::Waits,
-        Some(fixed) => {
-            if !fixed.evidence.is_complete() {
-                return Gathered::Waits;
-            }
-            match fixed.evidence.finding.answer() {
-                Answer::Refuted => Gathered::Fragment,
-                Answer::Assignment => Gathered::Assignment,
-            }
         }
     }
 }

@@ -18,7 +18,7 @@ use crate::coordinator::Coordinator;
 use cube_split::Preamble;
 use dimacs::Formula;
 use icnf::Tree;
-use lrat_text::PackedText;
+use packed_text::PackedText;
 use proof_join::{JoinFault, Joining};
 use std::alloc::Global;
 

@@ -12,7 +12,7 @@ use cube_split::grow;
 use dimacs::Var;
 use frames::WorkerNumber;
 use icnf::Tree;
-use lrat_text::PackedText;
+use packed_text::PackedText;
 use std::alloc::{AllocError, Global};
 use std::marker::Model;
 use std::mem;

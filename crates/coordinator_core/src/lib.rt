@@ -7,11 +7,13 @@
 mod answering;
 mod closing;
 mod coordinator;
+mod deciding;
 mod delivering;
 mod desks;
 mod examples;
 mod extending;
 mod gathering;
+mod jobs;
 mod joining;
 mod laws;
 mod leaves;

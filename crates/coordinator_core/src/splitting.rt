@@ -53,17 +53,9 @@ fn shift_job(job: Option<Job>, leaf: usize) -> Option<Job>
 {
     match job {
         None => None,
-        Some(job) => {
-            let Job {
-                number,
-                leaf: place,
-                fixed,
-            } = job;
-            Some(Job {
-                number,
-                leaf: shifted_place(place, leaf),
-                fixed,
-            })
+        Some(mut job) => {
+            job.leaf = shifted_place(job.leaf, leaf);
+            Some(job)
         }
     }
 }

@@ -27,7 +27,7 @@ use crate::state::State;
 use crate::uses::Uses;
 use conflict_analysis::{Analyser, Closing, Lemma, close_cube};
 use dimacs::{Base, Lit};
-use lrat_text::PackedText;
+use packed_text::PackedText;
 use std::alloc::{AllocError, Global};
 use watches::{Propagator, add_clause};
 

@@ -69,3 +69,8 @@ pub record IsBaseWith (F : Cnf) (wanted : ℕ) (B : Cnf) : Type 0 where
   pub pairs : List Pair
   pub defined : AreDefined F wanted [] pairs
   pub is : B ≡ base_with F pairs
+
+-- a formula with definitions
+pub record OpenedFormula : Type 0 where
+  pub formula : Cnf
+  pub definitions : Definitions

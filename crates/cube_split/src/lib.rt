@@ -13,6 +13,7 @@ mod greatest;
 mod laws;
 mod marks;
 mod open;
+mod opened;
 mod pair;
 mod places;
 mod pure;
@@ -24,6 +25,7 @@ mod walk;
 
 pub use chooser::Chooser;
 pub use laws::{choices_are_free, definitions_are_settled, units_are_rat, without_definitions};
+pub use opened::Opened;
 pub use pair::Pair;
 pub use pure::{preamble, preamble_with};
 pub use splitting::{grow, tree, tree_with};

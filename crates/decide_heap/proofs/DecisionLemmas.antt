@@ -4,12 +4,26 @@ use Rattle.std.proofs.lemmas.Bool.{cases_lt, lt-ltb, ltb-true, false_from_ne_tru
 use Rattle.std.proofs.lemmas.List.{set-get_or, get_or-set_same, get_or_past}
 use Rattle.decide_heap.specs.Decisions.{Decisions, IsNoWorse, IsBest}
 use Rattle.decide_heap.specs.Heap.{members_of}
-use Rattle.decide_heap.specs.inner.Heap.{IsHeap}
+use Rattle.decide_heap.specs.inner.Heap.{Tables, decisions_of, IsHeap}
 use Rattle.decide_heap.proofs.OrderLemmas.{first_is_best}
 use Rattle.decide_heap.proofs.MemberLemmas.{member_at, length_members}
 
-abbrev pub state : ℕ → List ℕ → List Bool → Decisions
-state vars scores members = record { vars = vars; scores = scores; members = members }
+abbrev decisions : ℕ → List ℕ → List Bool → Decisions
+decisions vars scores members = record { vars = vars; scores = scores; members = members }
+
+-- equal in each part
+pub same_decisions : (d e : Decisions) → d.vars ≡ e.vars → d.scores ≡ e.scores → d.members ≡ e.members → d ≡ e
+same_decisions d e v s m =
+    ap (λ n. decisions n d.scores d.members) v ∙ ap (λ xs. decisions e.vars xs d.members) s ∙ ap (λ bs. decisions e.vars e.scores bs) m
+
+-- with other members alone
+pub members_alone : (t u : Tables) (members : List Bool) → u.scores ≡ t.scores → members_of u.places u.len ≡ members → decisions_of u ≡ record (decisions_of t) { members = members }
+members_alone t u members s m = same_decisions (decisions_of u) (record (decisions_of t) { members = members }) (ap length s) s m
+
+-- with other scores alone
+pub scores_alone : (t u : Tables) (scores : List ℕ) → length scores ≡ length t.scores → u.scores ≡ scores → members_of u.places u.len ≡ members_of t.places t.len
+    → decisions_of u ≡ record (decisions_of t) { scores = scores }
+scores_alone t u scores long s m = same_decisions (decisions_of u) (record (decisions_of t) { scores = scores }) (ap length s ∙ long) s m
 
 -- a variable that is in stands at one of the first places
 pub member_stands : (places : List ℕ) (len v : ℕ) → get_or (members_of places len) v false ≡ true → (v < length places) × (get_or places v 0 < len)
@@ -33,29 +47,29 @@ pub in_already : (members : List Bool) (v : ℕ) → get_or members v false ≡ 
 in_already members v e = ap (λ b. set members v b) (sym e) ∙ set-get_or members v false
 
 -- the variable at the first place
-pub first_of_heap : (vars : ℕ) (heap places scores : List ℕ) (len v : ℕ) → IsHeap heap places scores len → vars ≡ length scores → 0 < len → v ≡ get_or heap 0 0 + 1
-    → IsBest (state vars scores (members_of places len)) v
-first_of_heap vars heap places scores len v h count some is =
-    let p = h.paired in
-    let room : 0 < length heap = omega (arith, h.size, h.count) in
+pub first_of_heap : (t : Tables) (v : ℕ) → IsHeap t → 0 < t.len → v ≡ get_or t.heap 0 0 + 1 → IsBest (decisions_of t) v
+first_of_heap t v h some is =
+    let r = h.rows in
+    let p = r.paired in
+    let room : 0 < length t.heap = omega (arith, r.size, r.count) in
     let small = p.variable 0 room in
-    let row : v - 1 ≡ get_or heap 0 0 = omega arith in
+    let row : v - 1 ≡ get_or t.heap 0 0 = omega arith in
     record {
-      within = (omega arith, omega (arith, small, h.size));
-      inside = rw row (stands_in places len (get_or heap 0 0) (omega (arith, p.long)) (omega (arith, p.place 0 room)));
+      within = (omega arith, omega (arith, small, r.size));
+      inside = rw row (stands_in t.places t.len (get_or t.heap 0 0) (omega (arith, p.long)) (omega (arith, p.place 0 room)));
       first = λ w above e. rest w above e;
     } where
-      rest : (w : ℕ) → 0 < w → get_or (members_of places len) (w - 1) false ≡ true → IsNoWorse (λ u. get_or scores (u - 1) 0) v w
+      rest : (w : ℕ) → 0 < w → get_or (members_of t.places t.len) (w - 1) false ≡ true → IsNoWorse (λ u. get_or t.scores (u - 1) 0) v w
       rest w above e =
-          let p = h.paired in
-          let s = member_stands places len (w - 1) e in
-          let i = get_or places (w - 1) 0 in
-          let at : get_or heap i 0 ≡ w - 1 = p.there (w - 1) (omega (arith, p.long, s.0)) in
-          let row : v - 1 ≡ get_or heap 0 0 = omega arith in
-          let best = first_is_best scores heap len h.ordered i s.1 in
+          let p = h.rows.paired in
+          let s = member_stands t.places t.len (w - 1) e in
+          let i = get_or t.places (w - 1) 0 in
+          let at : get_or t.heap i 0 ≡ w - 1 = p.there (w - 1) (omega (arith, p.long, s.0)) in
+          let row : v - 1 ≡ get_or t.heap 0 0 = omega arith in
+          let best = first_is_best t.scores t.heap t.len h.ordered i s.1 in
           let b = best.greater in
-          let x : get_or scores (get_or heap i 0) 0 ≡ get_or scores (w - 1) 0 = ap (λ k. get_or scores k 0) at in
-          let y : get_or scores (get_or heap 0 0) 0 ≡ get_or scores (v - 1) 0 = ap (λ k. get_or scores k 0) (sym row) in
+          let x : get_or t.scores (get_or t.heap i 0) 0 ≡ get_or t.scores (w - 1) 0 = ap (λ k. get_or t.scores k 0) at in
+          let y : get_or t.scores (get_or t.heap 0 0) 0 ≡ get_or t.scores (v - 1) 0 = ap (λ k. get_or t.scores k 0) (sym row) in
           record {
             greater = omega (arith, b, x, y);
             lower = λ tie. omega (arith, best.lower (omega (arith, x, y, tie)), at);

@@ -5,7 +5,7 @@ use Rattle.std.proofs.lemmas.List.{get_or_append_left, map-append, replicate-app
 use Rattle.std.proofs.Math.Seq.{get_or-append_seam}
 use Rattle.decide_heap.specs.Decisions.{IsNoWorse}
 use Rattle.decide_heap.specs.Heap.{members_of}
-use Rattle.decide_heap.specs.inner.Heap.{parent, ArePaired, IsHeap}
+use Rattle.decide_heap.specs.inner.Heap.{Tables, parent, ArePaired, IsHeap}
 use Rattle.decide_heap.proofs.OrderLemmas.{no_worse_at}
 
 -- the entry behind a list
@@ -55,35 +55,42 @@ paired_push heap places n p e =
           ap (λ v. get_or (heap ++ n ∷ []) v 0) (at_end places n i (omega (arith, p.long))) ∙ at_end heap n n e ∙ omega arith)
           (cases_lt i (length heap))
 
-pub heap_push : (heap places scores : List ℕ) (len n : ℕ) → IsHeap heap places scores len → n ≡ length scores → n + 1 < 2 ^ 31 → IsHeap (heap ++ n ∷ []) (places ++ n ∷ []) (scores ++ 0 ∷ []) len
-heap_push heap places scores len n h e lt =
-    let size = length-append heap (n ∷ []) in
-    let rows = length-append scores (0 ∷ []) in
+-- with a row more in each table
+abbrev pub pushed : Tables → ℕ → Tables
+pushed t n = record t { heap = t.heap ++ n ∷ []; places = t.places ++ n ∷ []; scores = t.scores ++ 0 ∷ [] }
+
+pub heap_push : (t : Tables) (n : ℕ) → IsHeap t → n ≡ length t.scores → n + 1 < 2 ^ 31 → IsHeap (pushed t n)
+heap_push t n h e lt =
+    let r = h.rows in
+    let size = length-append t.heap (n ∷ []) in
+    let rows = length-append t.scores (0 ∷ []) in
     record {
-      limit = omega (arith, rows);
-      size = omega (arith, size, rows, h.size);
-      count = omega (arith, rows, h.count);
-      paired = paired_push heap places n h.paired (e ∙ sym h.size);
+      rows = record {
+        limit = omega (arith, rows);
+        size = omega (arith, size, rows, r.size);
+        count = omega (arith, rows, r.count);
+        paired = paired_push t.heap t.places n r.paired (e ∙ sym r.size);
+      };
       ordered = record { below = below };
     } where
-      old : (i : ℕ) → i < len → get_or (heap ++ n ∷ []) i 0 ≡ get_or heap i 0
-      old i less = get_or_append_left heap (n ∷ []) 0 i (omega (arith, h.size, h.count))
+      old : (i : ℕ) → i < t.len → get_or (t.heap ++ n ∷ []) i 0 ≡ get_or t.heap i 0
+      old i less = get_or_append_left t.heap (n ∷ []) 0 i (omega (arith, h.rows.size, h.rows.count))
 
-      score : (i : ℕ) → i < len → get_or (scores ++ 0 ∷ []) (get_or heap i 0) 0 ≡ get_or scores (get_or heap i 0) 0
+      score : (i : ℕ) → i < t.len → get_or (t.scores ++ 0 ∷ []) (get_or t.heap i 0) 0 ≡ get_or t.scores (get_or t.heap i 0) 0
       score i less =
-          let li : i < length heap = omega (arith, h.size, h.count) in
-          get_or_append_left scores (0 ∷ []) 0 (get_or heap i 0) (omega (arith, h.size, h.paired.variable i li))
+          let li : i < length t.heap = omega (arith, h.rows.size, h.rows.count) in
+          get_or_append_left t.scores (0 ∷ []) 0 (get_or t.heap i 0) (omega (arith, h.rows.size, h.rows.paired.variable i li))
 
-      below : (c : ℕ) → 0 < c → c < len → 0 ≤ parent c → IsNoWorse (λ v. get_or (scores ++ 0 ∷ []) v 0) (get_or (heap ++ n ∷ []) (parent c) 0) (get_or (heap ++ n ∷ []) c 0)
+      below : (c : ℕ) → 0 < c → c < t.len → 0 ≤ parent c → IsNoWorse (λ v. get_or (t.scores ++ 0 ∷ []) v 0) (get_or (t.heap ++ n ∷ []) (parent c) 0) (get_or (t.heap ++ n ∷ []) c 0)
       below c some lc from =
-          let up : parent c < len = omega arith in
+          let up : parent c < t.len = omega arith in
           let b = h.ordered.below c some lc from in
           let x = b.greater in
           let s = score c lc in
-          let t = score (parent c) up in
-          no_worse_at (scores ++ 0 ∷ []) _ _ _ _ (old (parent c) up) (old c lc) (record {
-            greater = omega (arith, x, s, t);
-            lower = λ tie. b.lower (omega (arith, s, t, tie));
+          let u = score (parent c) up in
+          no_worse_at (t.scores ++ 0 ∷ []) _ _ _ _ (old (parent c) up) (old c lc) (record {
+            greater = omega (arith, x, s, u);
+            lower = λ tie. b.lower (omega (arith, s, u, tie));
           })
 
 pub members_push : (places : List ℕ) (len n : ℕ) → len ≤ n → members_of (places ++ n ∷ []) len ≡ members_of places len ++ false ∷ []

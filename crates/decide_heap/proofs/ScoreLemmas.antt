@@ -3,7 +3,7 @@ use Rattle.std.proofs.Common.{◌≡◌, ◌≢◌, ℕ, ◌+◌, ◌-◌, ◌<�
 use Rattle.std.proofs.lemmas.Bool.{cases_eq, cases_lt, cond_below, cond_above}
 use Rattle.std.proofs.lemmas.List.{get_or-set_same, get_or-set_other}
 use Rattle.decide_heap.specs.Decisions.{one_more}
-use Rattle.decide_heap.specs.inner.Heap.{parent, ArePaired, AreSwapped, IsOrdered, IsRising, IsHeap}
+use Rattle.decide_heap.specs.inner.Heap.{Tables, parent, ArePaired, AreSwapped, IsOrdered, IsRising, IsHeap}
 use Rattle.decide_heap.proofs.OrderLemmas.{NoWorse, no_worse_at, no_worse_through}
 
 -- a score does not fall
@@ -40,42 +40,43 @@ apart : (heap places : List ℕ) (i j : ℕ) → ArePaired heap places → i < l
 apart heap places i j p li lj n = λ e. n (sym (p.place i li) ∙ ap (λ v. get_or places v 0) e ∙ p.place j lj)
 
 -- the raised variable may be better than those above it
-pub raised_inside : (heap places scores : List ℕ) (len var more : ℕ) → IsHeap heap places scores len → var < length scores → get_or scores var 0 ≤ more → get_or places var 0 < len
-    → IsRising (set scores var more) heap len (get_or places var 0)
-raised_inside heap places scores len var more h lt up inside =
-    let at = get_or places var 0 in
-    let p = h.paired in
-    let is : get_or heap at 0 ≡ var = p.there var (omega (arith, h.size)) in
-    let away : (k : ℕ) → k < len → k ≢ at → get_or heap k 0 ≢ var = λ k lk n e. apart heap places k at p (omega (arith, h.size, h.count)) (omega (arith, h.size, h.count)) n (e ∙ sym is) in
+pub raised_inside : (t : Tables) (var more : ℕ) → IsHeap t → var < length t.scores → get_or t.scores var 0 ≤ more → get_or t.places var 0 < t.len
+    → IsRising (set t.scores var more) t.heap t.len (get_or t.places var 0)
+raised_inside t var more h lt up inside =
+    let at = get_or t.places var 0 in
+    let r = h.rows in
+    let p = r.paired in
+    let is : get_or t.heap at 0 ≡ var = p.there var (omega (arith, r.size)) in
+    let away : (k : ℕ) → k < t.len → k ≢ at → get_or t.heap k 0 ≢ var = λ k lk n e. apart t.heap t.places k at p (omega (arith, r.size, r.count)) (omega (arith, r.size, r.count)) n (e ∙ sym is) in
     record {
-      others = λ c some lc n. no_worse_raised scores var more _ _ lt up (away c lc n) (h.ordered.below c some lc (omega arith));
+      others = λ c some lc n. no_worse_raised t.scores var more _ _ lt up (away c lc n) (h.ordered.below c some lc (omega arith));
       across = λ c some lc e top.
           let n : c ≢ at = omega arith in
-          no_worse_raised scores var more _ _ lt up (away c lc n)
-          (no_worse_through scores _ _ _ (h.ordered.below at top inside (omega arith)) (no_worse_at scores _ _ _ _ (ap (λ k. get_or heap k 0) (sym e)) refl (h.ordered.below c some lc (omega arith))));
+          no_worse_raised t.scores var more _ _ lt up (away c lc n)
+          (no_worse_through t.scores _ _ _ (h.ordered.below at top inside (omega arith)) (no_worse_at t.scores _ _ _ _ (ap (λ k. get_or t.heap k 0) (sym e)) refl (h.ordered.below c some lc (omega arith))));
     }
 
 -- a variable that is out does not count
-pub raised_outside : (heap places scores : List ℕ) (len var more : ℕ) → IsHeap heap places scores len → var < length scores → get_or scores var 0 ≤ more → len ≤ get_or places var 0
-    → IsOrdered (set scores var more) heap len 0
-raised_outside heap places scores len var more h lt up out = record {
+pub raised_outside : (t : Tables) (var more : ℕ) → IsHeap t → var < length t.scores → get_or t.scores var 0 ≤ more → t.len ≤ get_or t.places var 0
+    → IsOrdered (set t.scores var more) t.heap t.len 0
+raised_outside t var more h lt up out = record {
   below = λ c some lc from.
-      no_worse_raised scores var more _ _ lt up
-      (λ e. let is : get_or places var 0 ≡ c = ap (λ v. get_or places v 0) (sym e) ∙ h.paired.place c (omega (arith, h.size, h.count)) in absurd (omega arith))
+      no_worse_raised t.scores var more _ _ lt up
+      (λ e. let is : get_or t.places var 0 ≡ c = ap (λ v. get_or t.places v 0) (sym e) ∙ h.rows.paired.place c (omega (arith, h.rows.size, h.rows.count)) in absurd (omega arith))
       (h.ordered.below c some lc from);
 }
 
 -- the new last of the first places may be better than those above it
-pub entered : (heap places scores new : List ℕ) (len at : ℕ) → IsHeap heap places scores len → AreSwapped heap new at len → len ≤ at → IsRising scores new (len + 1) len
-entered heap places scores new len at h s out = record {
+pub entered : (t : Tables) (new : List ℕ) (at : ℕ) → IsHeap t → AreSwapped t.heap new at t.len → t.len ≤ at → IsRising t.scores new (t.len + 1) t.len
+entered t new at h s out = record {
   others = λ c some lc n.
-      no_worse_at scores _ _ _ _ (s.others (parent c) (omega arith) (omega arith)) (s.others c (omega arith) n) (h.ordered.below c some (omega arith) (omega arith));
+      no_worse_at t.scores _ _ _ _ (s.others (parent c) (omega arith) (omega arith)) (s.others c (omega arith) n) (h.ordered.below c some (omega arith) (omega arith));
   across = λ c some lc e top. absurd (omega arith);
 }
 
 -- the new first place may be worse than those below it
-pub left : (heap places scores new : List ℕ) (len last : ℕ) → IsHeap heap places scores len → AreSwapped heap new 0 last → len ≡ last + 1 → IsOrdered scores new last (0 + 1)
-left heap places scores new len last h s e = record {
+pub left_first : (t : Tables) (new : List ℕ) (last : ℕ) → IsHeap t → AreSwapped t.heap new 0 last → t.len ≡ last + 1 → IsOrdered t.scores new last (0 + 1)
+left_first t new last h s e = record {
   below = λ c some lc from.
-      no_worse_at scores _ _ _ _ (s.others (parent c) (omega arith) (omega arith)) (s.others c (omega arith) (omega arith)) (h.ordered.below c some (omega arith) (omega arith));
+      no_worse_at t.scores _ _ _ _ (s.others (parent c) (omega arith) (omega arith)) (s.others c (omega arith) (omega arith)) (h.ordered.below c some (omega arith) (omega arith));
 }

@@ -3,35 +3,28 @@
 ghost use Rattle.std.specs.Prelude.{◌≡◌, ℕ, ◌+◌, ◌/◌, ◌^◌, ◌<◌, ◌≤◌, true, false, [], map, OnOk, OnErr, IfNone, IfSome};
 ghost use Rattle.decide_heap.specs.Decisions.{Decisions, IsWithin, IsBest, score_of, is_in, one_more, with_room, with_member, with_score};
 
-use crate::moves::{halve_all, put_in, raise, take_first};
-use crate::rows::{add_rows, make_room};
+use crate::rows::Rows;
 use dimacs::Var;
 use std::alloc::{AllocError, Global};
 use std::marker::Model;
 
 /// Variables, each with a score and either in or out. Only `reserve` takes memory.
-///
-/// `heap` holds each variable, and `places` says where: the variables that are in stand first, as a binary heap of
-/// `len` entries, and those that are out behind them. A variable stands there as its row, one below its number.
 #[derive(Drop)]
 pub struct DecideHeap {
-    heap: Vec<u32>,
-    places: Vec<u32>,
-    scores: Vec<u64>,
-    len: usize,
+    rows: Rows,
 }
 
 impl Model for DecideHeap {
-    ghost use Rattle.std.specs.Prelude.{vec_len};
+    ghost use Rattle.std.specs.Prelude.{length};
     ghost use Rattle.decide_heap.specs.Decisions.{Decisions};
     ghost use Rattle.decide_heap.specs.Heap.{members_of};
-    ghost use Rattle.decide_heap.specs.inner.Heap.{IsHeap};
+    ghost use Rattle.decide_heap.specs.inner.Heap.{tables_of, IsHeap};
 
     ghost Value = { Decisions };
 
-    ghost view = { λ h. record { vars = vec_len h.scores; scores = h.scores.items; members = members_of h.places.items h.len } };
+    ghost view = { λ h. record { vars = length h.rows.scores.items; scores = h.rows.scores.items; members = members_of h.rows.places.items h.rows.len } };
 
-    ghost invariant = { λ h. IsHeap h.heap.items h.places.items h.scores.items h.len };
+    ghost invariant = { λ h. IsHeap (tables_of h.rows) };
 }
 
 impl DecideHeap {
@@ -40,10 +33,7 @@ impl DecideHeap {
         ensures { result ≡ record { vars = 0; scores = []; members = [] } }
     {
         DecideHeap {
-            heap: Vec::new(alloc),
-            places: Vec::new(alloc),
-            scores: Vec::new(alloc),
-            len: 0,
+            rows: Rows::new(alloc),
         }
     }
 
@@ -54,19 +44,8 @@ impl DecideHeap {
         ensures ok { OnOk result (self.new ≡ with_room self.old vars) }
         ensures err { OnErr result (self.new ≡ self.old) }
     {
-        make_room(
-            &mut self.heap,
-            &mut self.places,
-            &mut self.scores,
-            vars as usize,
-        )?;
-        add_rows(
-            &mut self.heap,
-            &mut self.places,
-            &mut self.scores,
-            vars as usize,
-            self.len,
-        );
+        self.rows.make_room(vars as usize)?;
+        self.rows.add_rows(vars as usize);
         Ok(())
     }
 
@@ -76,14 +55,7 @@ impl DecideHeap {
         ensures member { self.new ≡ with_member self.old var true }
         ensures inside { is_in self.new var ≡ true }
     {
-        let row = var.number() as usize - 1;
-        self.len = put_in(
-            &mut self.heap,
-            &mut self.places,
-            &self.scores,
-            self.len,
-            row,
-        );
+        self.rows.put_in(var.number() as usize - 1);
     }
 
     /// Whether a variable is in.
@@ -92,7 +64,7 @@ impl DecideHeap {
         requires { IsWithin self.now var }
         ensures { result ≡ is_in self.now var }
     {
-        (self.places[var.number() as usize - 1] as usize) < self.len
+        (self.rows.places[var.number() as usize - 1] as usize) < self.rows.len
     }
 
     /// The score of a variable, which it keeps while it is out.
@@ -101,7 +73,7 @@ impl DecideHeap {
         requires { IsWithin self.now var }
         ensures { result ≡ score_of self.now var }
     {
-        self.scores[var.number() as usize - 1]
+        self.rows.scores[var.number() as usize - 1]
     }
 
     /// Adds one to the score of a variable, in or out. A score stays at 2^64 - 1.
@@ -109,21 +81,14 @@ impl DecideHeap {
         requires { IsWithin self.old var }
         ensures { self.new ≡ with_score self.old var (one_more (score_of self.old var)) }
     {
-        let row = var.number() as usize - 1;
-        raise(
-            &mut self.heap,
-            &mut self.places,
-            &mut self.scores,
-            self.len,
-            row,
-        );
+        self.rows.raise(var.number() as usize - 1);
     }
 
     /// Halves all scores, rounding down. It takes time linear in the number of variables.
     pub fn halve(&mut self)
         ensures { self.new ≡ record self.old { scores = map (λ n. n / 2) self.old.scores } }
     {
-        halve_all(&mut self.heap, &mut self.places, &mut self.scores, self.len);
+        self.rows.halve_all();
     }
 
     /// Takes out the variable with the greatest score, and of several the lowest; None where no variable is in.
@@ -133,12 +98,10 @@ impl DecideHeap {
         ensures best { IfSome result (λ v. IsBest self.old v) }
         ensures rest { IfSome result (λ v. self.new ≡ with_member self.old v false) }
     {
-        if self.len == 0 {
+        if self.rows.len == 0 {
             return None;
         }
-        let best = self.heap[0];
-        take_first(&mut self.heap, &mut self.places, &self.scores, self.len);
-        self.len -= 1;
+        let best = self.rows.take_first();
         Some(Var::new(best + 1))
     }
 }

@@ -1,55 +1,59 @@
-//! Rows for more variables.
+//! The tables, and rows for more variables.
 
-ghost use Rattle.std.specs.Prelude.{◌≡◌, ℕ, ◌+◌, ◌-◌, ◌^◌, ◌<◌, ◌≤◌, ◌++◌, false, replicate, vec_len, vec_capacity, OnOk};
-ghost use Rattle.decide_heap.specs.Heap.{members_of};
-ghost use Rattle.decide_heap.specs.inner.Heap.{IsHeap};
+ghost use Rattle.std.specs.Prelude.{◌≡◌, ◌^◌, ◌<◌, [], OnOk};
+ghost use Rattle.decide_heap.specs.Decisions.{with_room};
+ghost use Rattle.decide_heap.specs.inner.Heap.{tables_of, decisions_of, AreRows, IsHeap, HaveRoom};
 
-use std::alloc::AllocError;
+use std::alloc::{AllocError, Global};
 
-/// Takes memory for `vars` rows of each table, and changes nothing else.
-pub fn make_room(
-    heap: &mut Vec<u32>,
-    places: &mut Vec<u32>,
-    scores: &mut Vec<u64>,
-    vars: usize,
-) -> Result<(), AllocError>
-    requires heap { vec_len heap.old ≡ vec_len scores.old }
-    requires places { vec_len places.old ≡ vec_len scores.old }
-    ensures heap { heap.new.items ≡ heap.old.items }
-    ensures places { places.new.items ≡ places.old.items }
-    ensures scores { scores.new.items ≡ scores.old.items }
-    ensures heap_room { OnOk result (vars ≤ vec_capacity heap.new) }
-    ensures places_room { OnOk result (vars ≤ vec_capacity places.new) }
-    ensures scores_room { OnOk result (vars ≤ vec_capacity scores.new) }
-{
-    let more = vars.saturating_sub(scores.len());
-    heap.reserve(more)?;
-    places.reserve(more)?;
-    scores.reserve(more)?;
-    Ok(())
+/// A row for each variable, one below its number. `heap` holds each variable as its row, and `places` says where: the
+/// variables that are in stand first, as a binary heap of `len` entries, and those that are out behind them.
+#[derive(Drop)]
+pub struct Rows {
+    pub heap: Vec<u32>,
+    pub places: Vec<u32>,
+    pub scores: Vec<u64>,
+    pub len: usize,
 }
 
-/// Adds rows up to `vars`: each new variable stands behind the others in the heap, out of it, and has the score 0.
-pub fn add_rows(
-    heap: &mut Vec<u32>,
-    places: &mut Vec<u32>,
-    scores: &mut Vec<u64>,
-    vars: usize,
-    len: usize,
-)
-    requires limit { vars < 2 ^ 31 }
-    requires heap { IsHeap heap.old.items places.old.items scores.old.items len }
-    requires heap_room { vars ≤ vec_capacity heap.old }
-    requires places_room { vars ≤ vec_capacity places.old }
-    requires scores_room { vars ≤ vec_capacity scores.old }
-    ensures heap { IsHeap heap.new.items places.new.items scores.new.items len }
-    ensures members { members_of places.new.items len
-        ≡ members_of places.old.items len ++ replicate (vars - vec_len scores.old) false }
-    ensures scores { scores.new.items ≡ scores.old.items ++ replicate (vars - vec_len scores.old) 0 }
-{
-    for row in scores.len()..vars {
-        heap.push_reserved(row as u32);
-        places.push_reserved(row as u32);
-        scores.push_reserved(0);
+impl Rows {
+    /// No row.
+    pub fn new(alloc: Global) -> Rows
+        ensures { tables_of result ≡ record { heap = []; places = []; scores = []; len = 0 } }
+    {
+        Rows {
+            heap: Vec::new(alloc),
+            places: Vec::new(alloc),
+            scores: Vec::new(alloc),
+            len: 0,
+        }
+    }
+
+    /// Takes memory for `vars` rows, and changes nothing else.
+    pub fn make_room(&mut self, vars: usize) -> Result<(), AllocError>
+        requires { AreRows (tables_of self.old) }
+        ensures same { tables_of self.new ≡ tables_of self.old }
+        ensures room { OnOk result (HaveRoom self.new vars) }
+    {
+        let more = vars.saturating_sub(self.scores.len());
+        self.heap.reserve(more)?;
+        self.places.reserve(more)?;
+        self.scores.reserve(more)?;
+        Ok(())
+    }
+
+    /// Adds rows up to `vars`: each new variable stands behind the others in the heap, out of it, and has the score 0.
+    pub fn add_rows(&mut self, vars: usize)
+        requires limit { vars < 2 ^ 31 }
+        requires heap { IsHeap (tables_of self.old) }
+        requires room { HaveRoom self.old vars }
+        ensures heap { IsHeap (tables_of self.new) }
+        ensures added { decisions_of (tables_of self.new) ≡ with_room (decisions_of (tables_of self.old)) vars }
+    {
+        for row in self.scores.len()..vars {
+            self.heap.push_reserved(row as u32);
+            self.places.push_reserved(row as u32);
+            self.scores.push_reserved(0);
+        }
     }
 }

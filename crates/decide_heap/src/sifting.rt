@@ -1,172 +1,161 @@
 //! The two ways of a variable through the heap, up and down. Each variable on its way moves by one place, into a hole,
 //! and the variable itself is put down once, where it stays.
 
-ghost use Rattle.std.specs.Prelude.{◌≡◌, ℕ, ◌+◌, ◌*◌, ◌^◌, ◌<◌, ◌≤◌, length, slice_index, slice_set, MatchBool};
+ghost use Rattle.std.specs.Prelude.{◌≡◌, ℕ, ◌+◌, ◌^◌, ◌<◌, ◌≤◌, length, slice_index, MatchBool};
 ghost use Rattle.decide_heap.specs.Decisions.{IsNoWorse};
-ghost use Rattle.decide_heap.specs.inner.Heap.{ArePaired, AreSwapped, IsOrdered, IsOver, IsRising};
+ghost use Rattle.decide_heap.specs.inner.Heap.{tables_of, filled, AreRows, AreMoved, AreSwapped, IsOrderedFrom, IsOver, IsRisingAt};
 
-/// Whether a variable comes before another.
-#[inline]
-fn is_better(scores: &[u64], left: u32, right: u32) -> bool
-    requires left { left < length scores.now }
-    requires right { right < length scores.now }
-    ensures { let score = slice_index scores.now in
-        MatchBool result (IsNoWorse score left right) (IsNoWorse score right left) }
-{
-    let a = scores[left as usize];
-    let b = scores[right as usize];
-    a > b || (a == b && left < right)
-}
+use crate::rows::Rows;
 
-/// The better of the two places below a place, of which the left one is given.
-#[inline]
-fn better_child(heap: &[u32], scores: &[u64], len: usize, left: usize) -> usize
-    requires within { left < len }
-    requires size { len ≤ length heap.now }
-    requires limit { len < 2 ^ 31 }
-    requires variables { (k : ℕ) → left ≤ k → k < len → slice_index heap.now k < length scores.now }
-    ensures low { left ≤ result }
-    ensures high { result ≤ left + 1 }
-    ensures within { result < len }
-    ensures best { (k : ℕ) → left ≤ k → k ≤ left + 1 → k < len → IsOver scores.now heap.now result k }
-{
-    let right = left + 1;
-    if right < len && is_better(scores, heap[right], heap[left]) {
-        right
-    } else {
-        left
+impl Rows {
+    /// Whether a variable comes before another.
+    #[inline]
+    fn is_better(&self, left: u32, right: u32) -> bool
+        requires left { left < length self.now.scores.items }
+        requires right { right < length self.now.scores.items }
+        ensures { let score = slice_index self.now.scores.items in
+            MatchBool result (IsNoWorse score left right) (IsNoWorse score right left) }
+    {
+        let a = self.scores[left as usize];
+        let b = self.scores[right as usize];
+        a > b || (a == b && left < right)
     }
-}
 
-/// Moves the hole at `start` up until `var` may stand in it, and answers where it is then.
-fn rise(heap: &mut [u32], places: &mut [u32], scores: &[u64], var: u32, start: usize) -> usize
-    requires within { start < length heap.old }
-    requires size { length heap.old ≡ length scores.now }
-    requires limit { length heap.old < 2 ^ 31 }
-    requires variable { var < length heap.old }
-    requires paired { ArePaired (slice_set heap.old start var) (slice_set places.old var start) }
-    ensures within { result ≤ start }
-    ensures paired { ArePaired (slice_set heap.new result var) (slice_set places.new var result) }
-    ensures ordered { (len : ℕ) → start < len → IsRising scores.now (slice_set heap.old start var) len start →
-        IsOrdered scores.now (slice_set heap.new result var) len 0 }
-    ensures beyond { (k : ℕ) → start < k →
-        slice_index (slice_set heap.new result var) k ≡ slice_index (slice_set heap.old start var) k }
-{
-    let mut at = start;
-    while at > 0 {
-        let above = (at - 1) / 2;
-        let other = heap[above];
-        if is_better(scores, other, var) {
-            return at;
+    /// The better of the two places below a place, of which the left one is given.
+    #[inline]
+    fn better_child(&self, left: usize) -> usize
+        requires within { left < self.now.len }
+        requires size { self.now.len ≤ length self.now.heap.items }
+        requires limit { self.now.len < 2 ^ 31 }
+        requires variables { (k : ℕ) → left ≤ k → k < self.now.len → slice_index self.now.heap.items k < length self.now.scores.items }
+        ensures low { left ≤ result }
+        ensures high { result ≤ left + 1 }
+        ensures within { result < self.now.len }
+        ensures best { (k : ℕ) → left ≤ k → k ≤ left + 1 → k < self.now.len → IsOver self.now.scores.items self.now.heap.items result k }
+    {
+        let right = left + 1;
+        if right < self.len && self.is_better(self.heap[right], self.heap[left]) {
+            right
+        } else {
+            left
         }
-        heap[at] = other;
-        places[other as usize] = at as u32;
-        at = above;
     }
-    at
-}
 
-/// Moves the hole at `start` down until `var` may stand in it, and answers where it is then.
-fn sink(
-    heap: &mut [u32],
-    places: &mut [u32],
-    scores: &[u64],
-    len: usize,
-    var: u32,
-    start: usize,
-) -> usize
-    requires within { start < length heap.old }
-    requires len { len ≤ length heap.old }
-    requires size { length heap.old ≡ length scores.now }
-    requires limit { length heap.old < 2 ^ 31 }
-    requires variable { var < length heap.old }
-    requires paired { ArePaired (slice_set heap.old start var) (slice_set places.old var start) }
-    requires ordered { IsOrdered scores.now (slice_set heap.old start var) len (start + 1) }
-    ensures within { result < length heap.old }
-    ensures paired { ArePaired (slice_set heap.new result var) (slice_set places.new var result) }
-    ensures ordered { IsOrdered scores.now (slice_set heap.new result var) len start }
-    ensures beyond { (k : ℕ) → len ≤ k →
-        slice_index (slice_set heap.new result var) k ≡ slice_index (slice_set heap.old start var) k }
-{
-    let mut at = start;
-    while 2 * at + 1 < len {
-        let child = better_child(heap, scores, len, 2 * at + 1);
-        let other = heap[child];
-        if is_better(scores, var, other) {
-            return at;
+    /// Moves the hole at `start` up until `var` may stand in it, and answers where it is then.
+    fn rise(&mut self, var: u32, start: usize) -> usize
+        requires within { start < self.old.len }
+        requires variable { var < length self.old.heap.items }
+        requires rows { AreRows (filled (tables_of self.old) start var) }
+        ensures within { result ≤ start }
+        ensures moved { AreMoved (tables_of self.old) (tables_of self.new) }
+        ensures rows { AreRows (filled (tables_of self.new) result var) }
+        ensures ordered { IsRisingAt (filled (tables_of self.old) start var) start →
+            IsOrderedFrom (filled (tables_of self.new) result var) 0 }
+        ensures beyond { (k : ℕ) → start < k →
+            slice_index (filled (tables_of self.new) result var).heap k ≡ slice_index (filled (tables_of self.old) start var).heap k }
+    {
+        let mut at = start;
+        while at > 0 {
+            let above = (at - 1) / 2;
+            let other = self.heap[above];
+            if self.is_better(other, var) {
+                return at;
+            }
+            self.heap[at] = other;
+            self.places[other as usize] = at as u32;
+            at = above;
         }
-        heap[at] = other;
-        places[other as usize] = at as u32;
-        at = child;
+        at
     }
-    at
-}
 
-/// Lifts the variable at a place as far up as it belongs. Places behind `start` stay as they are.
-pub fn sift_up(heap: &mut [u32], places: &mut [u32], scores: &[u64], start: usize)
-    requires within { start < length heap.old }
-    requires size { length heap.old ≡ length scores.now }
-    requires limit { length heap.old < 2 ^ 31 }
-    requires paired { ArePaired heap.old places.old }
-    ensures paired { ArePaired heap.new places.new }
-    ensures ordered { (len : ℕ) → start < len → IsRising scores.now heap.old len start → IsOrdered scores.now heap.new len 0 }
-    ensures beyond { (k : ℕ) → start < k → slice_index heap.new k ≡ slice_index heap.old k }
-{
-    let var = heap[start];
-    let at = rise(heap, places, scores, var, start);
-    heap[at] = var;
-    places[var as usize] = at as u32;
-}
-
-/// Lowers the variable at a place as far down as it belongs, among the first `len` places.
-pub fn sift_down(heap: &mut [u32], places: &mut [u32], scores: &[u64], len: usize, start: usize)
-    requires within { start < length heap.old }
-    requires len { len ≤ length heap.old }
-    requires size { length heap.old ≡ length scores.now }
-    requires limit { length heap.old < 2 ^ 31 }
-    requires paired { ArePaired heap.old places.old }
-    requires ordered { IsOrdered scores.now heap.old len (start + 1) }
-    ensures paired { ArePaired heap.new places.new }
-    ensures ordered { IsOrdered scores.now heap.new len start }
-    ensures beyond { (k : ℕ) → len ≤ k → slice_index heap.new k ≡ slice_index heap.old k }
-{
-    let var = heap[start];
-    let at = sink(heap, places, scores, len, var, start);
-    heap[at] = var;
-    places[var as usize] = at as u32;
-}
-
-/// Puts the first `len` places in order, whatever order they are in: from the last place that has one below it to the
-/// first, which takes linear time.
-pub fn heapify(heap: &mut [u32], places: &mut [u32], scores: &[u64], len: usize)
-    requires len { len ≤ length heap.old }
-    requires size { length heap.old ≡ length scores.now }
-    requires limit { length heap.old < 2 ^ 31 }
-    requires paired { ArePaired heap.old places.old }
-    ensures paired { ArePaired heap.new places.new }
-    ensures ordered { IsOrdered scores.now heap.new len 0 }
-    ensures beyond { (k : ℕ) → len ≤ k → slice_index heap.new k ≡ slice_index heap.old k }
-{
-    let mut at = len / 2;
-    while at > 0 {
-        at -= 1;
-        sift_down(heap, places, scores, len, at);
+    /// Moves the hole at `start` down until `var` may stand in it, and answers where it is then.
+    fn sink(&mut self, var: u32, start: usize) -> usize
+        requires within { start < length self.old.heap.items }
+        requires variable { var < length self.old.heap.items }
+        requires rows { AreRows (filled (tables_of self.old) start var) }
+        requires ordered { IsOrderedFrom (filled (tables_of self.old) start var) (start + 1) }
+        ensures within { result < length self.new.heap.items }
+        ensures moved { AreMoved (tables_of self.old) (tables_of self.new) }
+        ensures rows { AreRows (filled (tables_of self.new) result var) }
+        ensures ordered { IsOrderedFrom (filled (tables_of self.new) result var) start }
+        ensures beyond { (k : ℕ) → self.old.len ≤ k →
+            slice_index (filled (tables_of self.new) result var).heap k ≡ slice_index (filled (tables_of self.old) start var).heap k }
+    {
+        let mut at = start;
+        while 2 * at + 1 < self.len {
+            let child = self.better_child(2 * at + 1);
+            let other = self.heap[child];
+            if self.is_better(var, other) {
+                return at;
+            }
+            self.heap[at] = other;
+            self.places[other as usize] = at as u32;
+            at = child;
+        }
+        at
     }
-}
 
-/// Exchanges what stands at two places.
-pub fn exchange(heap: &mut [u32], places: &mut [u32], i: usize, j: usize)
-    requires first { i < length heap.old }
-    requires second { j < length heap.old }
-    requires limit { length heap.old < 2 ^ 31 }
-    requires paired { ArePaired heap.old places.old }
-    ensures paired { ArePaired heap.new places.new }
-    ensures swapped { AreSwapped heap.old heap.new i j }
-{
-    let a = heap[i];
-    let b = heap[j];
-    heap[i] = b;
-    heap[j] = a;
-    places[b as usize] = i as u32;
-    places[a as usize] = j as u32;
+    /// Lifts the variable at a place as far up as it belongs. Places behind `start` stay as they are.
+    pub fn sift_up(&mut self, start: usize)
+        requires within { start < self.old.len }
+        requires rows { AreRows (tables_of self.old) }
+        ensures moved { AreMoved (tables_of self.old) (tables_of self.new) }
+        ensures rows { AreRows (tables_of self.new) }
+        ensures ordered { IsRisingAt (tables_of self.old) start → IsOrderedFrom (tables_of self.new) 0 }
+        ensures beyond { (k : ℕ) → start < k → slice_index self.new.heap.items k ≡ slice_index self.old.heap.items k }
+    {
+        let var = self.heap[start];
+        let at = self.rise(var, start);
+        self.heap[at] = var;
+        self.places[var as usize] = at as u32;
+    }
+
+    /// Lowers the variable at a place as far down as it belongs, among those that are in.
+    pub fn sift_down(&mut self, start: usize)
+        requires within { start < length self.old.heap.items }
+        requires rows { AreRows (tables_of self.old) }
+        requires ordered { IsOrderedFrom (tables_of self.old) (start + 1) }
+        ensures moved { AreMoved (tables_of self.old) (tables_of self.new) }
+        ensures rows { AreRows (tables_of self.new) }
+        ensures ordered { IsOrderedFrom (tables_of self.new) start }
+        ensures beyond { (k : ℕ) → self.old.len ≤ k → slice_index self.new.heap.items k ≡ slice_index self.old.heap.items k }
+    {
+        let var = self.heap[start];
+        let at = self.sink(var, start);
+        self.heap[at] = var;
+        self.places[var as usize] = at as u32;
+    }
+
+    /// Puts those that are in in order, whatever order they are in: from the last place that has one below it to the
+    /// first, which takes linear time.
+    pub fn heapify(&mut self)
+        requires { AreRows (tables_of self.old) }
+        ensures moved { AreMoved (tables_of self.old) (tables_of self.new) }
+        ensures rows { AreRows (tables_of self.new) }
+        ensures ordered { IsOrderedFrom (tables_of self.new) 0 }
+        ensures beyond { (k : ℕ) → self.old.len ≤ k → slice_index self.new.heap.items k ≡ slice_index self.old.heap.items k }
+    {
+        let mut at = self.len / 2;
+        while at > 0 {
+            at -= 1;
+            self.sift_down(at);
+        }
+    }
+
+    /// Exchanges what stands at two places.
+    pub fn exchange(&mut self, i: usize, j: usize)
+        requires first { i < length self.old.heap.items }
+        requires second { j < length self.old.heap.items }
+        requires rows { AreRows (tables_of self.old) }
+        ensures moved { AreMoved (tables_of self.old) (tables_of self.new) }
+        ensures rows { AreRows (tables_of self.new) }
+        ensures swapped { AreSwapped self.old.heap.items self.new.heap.items i j }
+    {
+        let a = self.heap[i];
+        let b = self.heap[j];
+        self.heap[i] = b;
+        self.heap[j] = a;
+        self.places[b as usize] = i as u32;
+        self.places[a as usize] = j as u32;
+    }
 }

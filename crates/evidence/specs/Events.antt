@@ -36,7 +36,7 @@ abbrev pub Grows : Frame → Type 0
 Grows (Task session job limit cube) = 0 < length cube
 Grows (Piece attempt offset bytes) = Unit {0}
 Grows (Part session part offset bytes) = Unit {0}
-Grows (Done attempt outcome) = ⊥
+Grows (Done attempt ending) = ⊥
 Grows (Fetch attempt offset) = ⊥
 Grows (Verdict session finding) = ⊥
 Grows (Want session worker offset) = ⊥

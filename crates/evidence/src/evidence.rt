@@ -5,7 +5,7 @@ ghost use Rattle.evidence.specs.Evidence.{ComeNext, HasWrongLength, IsComplete, 
 
 use dimacs::Formula;
 use frames::Finding;
-use lrat_text::PackedText;
+use packed_text::PackedText;
 use std::alloc::{AllocError, Global};
 
 /// Whether an assignment is announced that has not a byte for each variable.

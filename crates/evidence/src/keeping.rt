@@ -11,7 +11,7 @@ ghost use Rattle.evidence.specs.inner.Keeping.{IsHeldIfAccepted};
 
 use dimacs::{Assignment, Extension, Formula, satisfies};
 use lrat_check::{Verdict, check};
-use lrat_text::PackedText;
+use packed_text::PackedText;
 use proof_join::renumber;
 use std::alloc::{AllocError, Global};
 

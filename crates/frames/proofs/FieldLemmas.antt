@@ -5,8 +5,8 @@ use Rattle.std.proofs.lemmas.Nat.{be_bytes_4, be_bytes_8}
 use Rattle.std.proofs.lemmas.Bool.{cases_lt}
 use Rattle.std.proofs.lemmas.List.{take-append-drop, get_or-take, get_or_past}
 use Rattle.frames.specs.declared.answer.Finding.TheVariants.{Refuted, Assignment}
-use Rattle.frames.specs.declared.answer.Outcome.TheVariants.{Decided, Limit}
-use Rattle.frames.specs.Spelling.{attempt_bytes, finding_bytes, outcome_bytes, IsWorker, IsAttempt, IsFinding, IsOutcome}
+use Rattle.frames.specs.declared.answer.Ending.TheVariants.{Decided, Limit}
+use Rattle.frames.specs.Spelling.{attempt_bytes, finding_bytes, ending_bytes, IsWorker, IsAttempt, IsFinding, IsEnding}
 use Rattle.frames.specs.inner.Reading.{StandsAt, NoneStandsAt, SpellsNone}
 use Rattle.frames.proofs.SameFields.{same_32, same_64, worker_fits}
 
@@ -70,9 +70,9 @@ no_finding bytes b n e fits one two (Assignment m) right same =
     let both : b ∷ to_be_bytes w32 n ≡ 2 ∷ to_be_bytes w32 m = sym e ∙ same in
     two cc
 
-pub no_outcome : (bytes : List ℕ) (b n : ℕ) → bytes ≡ b ∷ to_be_bytes w32 n → n < 2 ^ 32 → (b ≡ 3 → n ≢ 0) → SpellsNone finding_bytes IsFinding bytes → SpellsNone outcome_bytes IsOutcome bytes
-no_outcome bytes b n e fits three none (Decided f) right same = none f right same
-no_outcome bytes b n e fits three none Limit right same =
+pub no_ending : (bytes : List ℕ) (b n : ℕ) → bytes ≡ b ∷ to_be_bytes w32 n → n < 2 ^ 32 → (b ≡ 3 → n ≢ 0) → SpellsNone finding_bytes IsFinding bytes → SpellsNone ending_bytes IsEnding bytes
+no_ending bytes b n e fits three none (Decided f) right same = none f right same
+no_ending bytes b n e fits three none Limit right same =
     let both : b ∷ to_be_bytes w32 n ≡ 3 ∷ to_be_bytes w32 0 = sym e ∙ same in
     let s = same_32 n 0 [] [] fits (omega arith) (ap (drop 1) both) in
     let is_three : b ≡ 3 = cc in

@@ -4,11 +4,11 @@ use Rattle.std.specs.Int.{w32, to_be_bytes}
 use Rattle.frames.specs.declared.frame.Frame.{Frame}
 use Rattle.frames.specs.declared.frame.Frame.TheVariants.{Done, Fetch, Piece}
 use Rattle.frames.specs.declared.frame.Kind.TheVariants as kinds
-use Rattle.frames.specs.Spelling.{attempt_bytes, outcome_bytes, IsAttempt}
+use Rattle.frames.specs.Spelling.{attempt_bytes, ending_bytes, IsAttempt}
 use Rattle.frames.specs.inner.Reading.{NoneStandsAt, Carries}
 
 pub no_done : (p : List ℕ) → NoneStandsAt attempt_bytes IsAttempt p → (f : Frame) → Carries kinds.Done p f → ⊥
-no_done p none (Done a o) c = none a (outcome_bytes o) c.right.0 (sym c.payload_is)
+no_done p none (Done a o) c = none a (ending_bytes o) c.right.0 (sym c.payload_is)
 no_done p none f c = let k = c.kind_is in cc
 
 pub no_fetch : (p : List ℕ) → NoneStandsAt attempt_bytes IsAttempt p → (f : Frame) → Carries kinds.Fetch p f → ⊥

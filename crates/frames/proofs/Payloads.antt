@@ -8,8 +8,8 @@ use Rattle.std.proofs.lemmas.Bool.{le-leb}
 use Rattle.std.proofs.lemmas.List.{take_at, drop_at, append-nil}
 use Rattle.std.proofs.lemmas.List.Elements.{recursion_from_All}
 use Rattle.dimacs.specs.logic.Literal.{IsWithin}
-use Rattle.frames.specs.declared.answer.Outcome.{Outcome}
-use Rattle.frames.specs.declared.answer.Outcome.TheVariants.{Decided, Limit}
+use Rattle.frames.specs.declared.answer.Ending.{Ending}
+use Rattle.frames.specs.declared.answer.Ending.TheVariants.{Decided, Limit}
 use Rattle.frames.specs.declared.fault.FrameFault.TheVariants.{BadLength}
 use Rattle.frames.specs.declared.frame.Frame.{Frame}
 use Rattle.frames.specs.declared.frame.Frame.TheVariants.{Task, Done, Fetch, Piece, Verdict, Want, Part, Idle, Rest}
@@ -17,9 +17,9 @@ use Rattle.frames.specs.declared.frame.Kind.{Kind}
 use Rattle.frames.specs.declared.frame.Kind.TheVariants as kinds
 use Rattle.frames.specs.declared.head.Head.TheVariants.{Wrong, Whole}
 use Rattle.frames.specs.Answers.{answer_number}
-use Rattle.frames.specs.Spelling.{kind_number, kind_at, kind_of, may_have, literal_bytes, finding_bytes, outcome_bytes, payload, FrameBytes, IsRight}
+use Rattle.frames.specs.Spelling.{kind_number, kind_at, kind_of, may_have, literal_bytes, finding_bytes, ending_bytes, payload, FrameBytes, IsRight}
 use Rattle.frames.specs.Stream.{length_from, length_of_kind, head_of}
-use Rattle.frames.proofs.SameFields.{Same, same_16, same_32, same_64, same_worker, same_attempt, same_answer, same_finding, same_outcome, same_literals}
+use Rattle.frames.proofs.SameFields.{Same, same_16, same_32, same_64, same_worker, same_attempt, same_answer, same_finding, same_ending, same_literals}
 use Rattle.frames.proofs.WritingLemmas.{length-literals}
 
 pub kind_again : (k : Kind) → kind_at (kind_number k) ≡ Some k
@@ -36,9 +36,9 @@ kind_again kinds.Rest = refl
 pub kind_same : (k l : Kind) → kind_number k ≡ kind_number l → k ≡ l
 kind_same k l e = let s : Some k ≡ Some l = sym (kind_again k) ∙ ap kind_at e ∙ kind_again l in cc
 
-pub length-outcome : (o : Outcome) → length (outcome_bytes o) ≡ 5
-length-outcome (Decided f) = refl
-length-outcome Limit = refl
+pub length-ending : (o : Ending) → length (ending_bytes o) ≡ 5
+length-ending (Decided f) = refl
+length-ending Limit = refl
 
 and_true : (a b : Bool) → a ≡ true → b ≡ true → (a && b) ≡ true
 and_true true b p q = q
@@ -50,7 +50,7 @@ task_length k le = and_true (leb 24 (24 + 4 * k)) (leb (24 + 4 * k) 280 && eqb (
 -- a right frame's payload has a length of its kind
 pub payload_may : (f : Frame) → IsRight f → may_have (kind_of f) (length (payload f)) ≡ true
 payload_may (Task session job limit cube) r = ap (may_have kinds.Task) (let n : length (payload (Task session job limit cube)) ≡ 24 + 4 * length cube = omega (arith, length-literals cube) in n) ∙ task_length (length cube) r.3.short
-payload_may (Done attempt outcome) r = ap (may_have kinds.Done) (let n : length (payload (Done attempt outcome)) ≡ 33 = omega (arith, length-outcome outcome) in n)
+payload_may (Done attempt ending) r = ap (may_have kinds.Done) (let n : length (payload (Done attempt ending)) ≡ 33 = omega (arith, length-ending ending) in n)
 payload_may (Fetch attempt offset) r = refl
 payload_may (Piece attempt offset bytes) r = let n = 32 + length bytes in ap (may_have kinds.Piece) (let e : length (payload (Piece attempt offset bytes)) ≡ 32 + length bytes = omega arith in e) ∙ and_true (leb 33 n) (leb n 4032) (le-leb 33 n (omega (arith, r.2.0))) (le-leb n 4032 (omega (arith, r.2.1)))
 payload_may (Verdict session finding) r = refl
@@ -61,7 +61,7 @@ payload_may Rest r = refl
 
 pub payload_short : (f : Frame) → IsRight f → length (payload f) < 2 ^ 16
 payload_short (Task session job limit cube) r = omega (arith, length-literals cube, r.3.short)
-payload_short (Done attempt outcome) r = omega (arith, length-outcome outcome)
+payload_short (Done attempt ending) r = omega (arith, length-ending ending)
 payload_short (Fetch attempt offset) r = omega arith
 payload_short (Piece attempt offset bytes) r = omega (arith, r.2.1)
 payload_short (Verdict session finding) r = omega arith
@@ -86,8 +86,8 @@ same_payload (Task s j l c) (Task s' j' l' c') r r' k e =
     let w = same_literals c c' (recursion_from_All (IsWithin 2000000) c r.3.within) (recursion_from_All (IsWithin 2000000) c' r'.3.within) z.rest in
     ap (λ n. Task n j l c) x.value ∙ ap (λ n. Task s' n l c) y.value ∙ ap (λ n. Task s' j' n c) z.value ∙ ap (Task s' j' l') w
 same_payload (Done a o) (Done a' o') r r' k e =
-    let x = same_attempt a a' (outcome_bytes o) (outcome_bytes o') r.0 r'.0 e in
-    let y = same_outcome o o' [] [] r.1 r'.1 (append-nil (outcome_bytes o) ∙ x.rest ∙ sym (append-nil (outcome_bytes o'))) in
+    let x = same_attempt a a' (ending_bytes o) (ending_bytes o') r.0 r'.0 e in
+    let y = same_ending o o' [] [] r.1 r'.1 (append-nil (ending_bytes o) ∙ x.rest ∙ sym (append-nil (ending_bytes o'))) in
     ap (λ n. Done n o) x.value ∙ ap (Done a') y.value
 same_payload (Fetch a n) (Fetch a' n') r r' k e =
     let x = same_attempt a a' (to_be_bytes w32 n) (to_be_bytes w32 n') r.0 r'.0 e in

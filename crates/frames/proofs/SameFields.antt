@@ -9,11 +9,11 @@ use Rattle.frames.specs.declared.answer.Answer.{Answer}
 use Rattle.frames.specs.declared.answer.Answer.TheVariants as answers
 use Rattle.frames.specs.declared.answer.Finding.{Finding}
 use Rattle.frames.specs.declared.answer.Finding.TheVariants.{Refuted, Assignment}
-use Rattle.frames.specs.declared.answer.Outcome.{Outcome}
-use Rattle.frames.specs.declared.answer.Outcome.TheVariants.{Decided, Limit}
+use Rattle.frames.specs.declared.answer.Ending.{Ending}
+use Rattle.frames.specs.declared.answer.Ending.TheVariants.{Decided, Limit}
 use Rattle.frames.specs.declared.frame.Attempt.{Attempt}
 use Rattle.frames.specs.Answers.{answer_number}
-use Rattle.frames.specs.Spelling.{literal_bytes, attempt_bytes, finding_bytes, outcome_bytes, IsWorker, IsAttempt, IsFinding, IsOutcome}
+use Rattle.frames.specs.Spelling.{literal_bytes, attempt_bytes, finding_bytes, ending_bytes, IsWorker, IsAttempt, IsFinding, IsEnding}
 
 -- equal values, and equal rests
 pub record Same {X : Type 0} (x y : X) (a b : List ℕ) : Type 0 where
@@ -66,13 +66,13 @@ same_finding (Assignment m) (Assignment n) a b hx hy e = let s = same_32 m n a b
 same_finding (Refuted m) (Assignment n) a b hx hy e = absurd cc
 same_finding (Assignment m) (Refuted n) a b hx hy e = absurd cc
 
-pub same_outcome : (x y : Outcome) (a b : List ℕ) → IsOutcome x → IsOutcome y → outcome_bytes x ++ a ≡ outcome_bytes y ++ b → Same x y a b
-same_outcome (Decided f) (Decided g) a b hx hy e = let s = same_finding f g a b hx hy e in record { value = ap Decided s.value; rest = s.rest }
-same_outcome Limit Limit a b hx hy e = record { value = refl; rest = ap (drop 5) e }
-same_outcome (Decided (Refuted m)) Limit a b hx hy e = absurd cc
-same_outcome (Decided (Assignment m)) Limit a b hx hy e = absurd cc
-same_outcome Limit (Decided (Refuted m)) a b hx hy e = absurd cc
-same_outcome Limit (Decided (Assignment m)) a b hx hy e = absurd cc
+pub same_ending : (x y : Ending) (a b : List ℕ) → IsEnding x → IsEnding y → ending_bytes x ++ a ≡ ending_bytes y ++ b → Same x y a b
+same_ending (Decided f) (Decided g) a b hx hy e = let s = same_finding f g a b hx hy e in record { value = ap Decided s.value; rest = s.rest }
+same_ending Limit Limit a b hx hy e = record { value = refl; rest = ap (drop 5) e }
+same_ending (Decided (Refuted m)) Limit a b hx hy e = absurd cc
+same_ending (Decided (Assignment m)) Limit a b hx hy e = absurd cc
+same_ending Limit (Decided (Refuted m)) a b hx hy e = absurd cc
+same_ending Limit (Decided (Assignment m)) a b hx hy e = absurd cc
 
 -- the 32 bits of a literal's number
 pub word_fits : (l : Literal) → IsWithin 2000000 l → cast_unsigned w32 (number_of l) < 2 ^ 32

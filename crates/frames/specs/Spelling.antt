@@ -5,8 +5,8 @@ use Rattle.std.specs.Int.{w16, w32, w64, to_be_bytes, cast_unsigned}
 use Rattle.dimacs.specs.logic.Literal.{Literal, number_of}
 use Rattle.frames.specs.declared.answer.Finding.{Finding}
 use Rattle.frames.specs.declared.answer.Finding.TheVariants.{Refuted, Assignment}
-use Rattle.frames.specs.declared.answer.Outcome.{Outcome}
-use Rattle.frames.specs.declared.answer.Outcome.TheVariants.{Decided, Limit}
+use Rattle.frames.specs.declared.answer.Ending.{Ending}
+use Rattle.frames.specs.declared.answer.Ending.TheVariants.{Decided, Limit}
 use Rattle.frames.specs.declared.frame.Attempt.{Attempt}
 use Rattle.frames.specs.declared.frame.Frame.{Frame}
 use Rattle.frames.specs.declared.frame.Frame.TheVariants.{Task, Done, Fetch, Piece, Verdict, Want, Part, Idle, Rest}
@@ -45,7 +45,7 @@ kind_at n =
 
 abbrev pub kind_of : Frame → Kind
 kind_of (Task session job limit cube) = kinds.Task
-kind_of (Done attempt outcome) = kinds.Done
+kind_of (Done attempt ending) = kinds.Done
 kind_of (Fetch attempt offset) = kinds.Fetch
 kind_of (Piece attempt offset bytes) = kinds.Piece
 kind_of (Verdict session finding) = kinds.Verdict
@@ -77,14 +77,14 @@ attempt_bytes a = to_be_bytes w64 a.session ++ to_be_bytes w64 a.job ++ to_be_by
 abbrev pub finding_bytes : Finding → List ℕ
 finding_bytes f = answer_number (answer_of f) ∷ to_be_bytes w32 (length_of f)
 
-abbrev pub outcome_bytes : Outcome → List ℕ
-outcome_bytes (Decided f) = finding_bytes f
-outcome_bytes Limit = 3 ∷ to_be_bytes w32 0
+abbrev pub ending_bytes : Ending → List ℕ
+ending_bytes (Decided f) = finding_bytes f
+ending_bytes Limit = 3 ∷ to_be_bytes w32 0
 
 -- the fields of a frame, in order
 abbrev pub payload : Frame → List ℕ
 payload (Task session job limit cube) = to_be_bytes w64 session ++ to_be_bytes w64 job ++ to_be_bytes w64 limit ++ flat_map literal_bytes cube
-payload (Done attempt outcome) = attempt_bytes attempt ++ outcome_bytes outcome
+payload (Done attempt ending) = attempt_bytes attempt ++ ending_bytes ending
 payload (Fetch attempt offset) = attempt_bytes attempt ++ to_be_bytes w32 offset
 payload (Piece attempt offset bytes) = attempt_bytes attempt ++ to_be_bytes w32 offset ++ bytes
 payload (Verdict session finding) = to_be_bytes w64 session ++ finding_bytes finding
@@ -111,9 +111,9 @@ abbrev pub IsFinding : Finding → Type 0
 IsFinding (Refuted length) = (1 ≤ length) × (length < 2 ^ 32)
 IsFinding (Assignment length) = length < 2 ^ 32
 
-abbrev pub IsOutcome : Outcome → Type 0
-IsOutcome (Decided f) = IsFinding f
-IsOutcome Limit = Unit {0}
+abbrev pub IsEnding : Ending → Type 0
+IsEnding (Decided f) = IsFinding f
+IsEnding Limit = Unit {0}
 
 abbrev pub IsChunk : List ℕ → Type 0
 IsChunk bytes = (1 ≤ length bytes) × (length bytes ≤ 4000)
@@ -121,7 +121,7 @@ IsChunk bytes = (1 ≤ length bytes) × (length bytes ≤ 4000)
 -- what each field may be; each value of the code's type is such a frame
 abbrev pub IsRight : Frame → Type 0
 IsRight (Task session job limit cube) = (session < 2 ^ 64) × (job < 2 ^ 64) × (limit < 2 ^ 64) × IsCube cube
-IsRight (Done attempt outcome) = IsAttempt attempt × IsOutcome outcome
+IsRight (Done attempt ending) = IsAttempt attempt × IsEnding ending
 IsRight (Fetch attempt offset) = IsAttempt attempt × (offset < 2 ^ 32)
 IsRight (Piece attempt offset bytes) = IsAttempt attempt × (offset < 2 ^ 32) × IsChunk bytes
 IsRight (Verdict session finding) = (session < 2 ^ 64) × IsFinding finding

@@ -96,7 +96,7 @@ impl Finding {
 
 /// How a search ended.
 #[derive(Clone, Copy, Debug, PartialEq, Eq)]
-pub enum Outcome {
+pub enum Ending {
     /// It decided its cube.
     Decided(Finding),
     /// It reached its limit first.

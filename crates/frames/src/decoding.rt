@@ -7,7 +7,7 @@ ghost use Rattle.frames.specs.inner.Reading.{Decodes};
 
 use crate::chunk::Chunk;
 use crate::fault::FrameFault;
-use crate::fields::{answer_at, attempt_at, cube_of, finding_of, outcome_of, worker_at};
+use crate::fields::{answer_at, attempt_at, cube_of, ending_of, finding_of, worker_at};
 use crate::frame::{Frame, Kind};
 use crate::numbers::{u32_at, u64_at};
 use std::alloc::Global;
@@ -40,10 +40,10 @@ fn done_of(payload: &[u8]) -> Result<Frame, FrameFault>
     let Some((attempt, rest)) = attempt_at(payload) else {
         return Err(FrameFault::BadField);
     };
-    let Some(outcome) = outcome_of(rest) else {
+    let Some(ending) = ending_of(rest) else {
         return Err(FrameFault::BadField);
     };
-    Ok(Frame::Done { attempt, outcome })
+    Ok(Frame::Done { attempt, ending })
 }
 
 fn fetch_of(payload: &[u8]) -> Result<Frame, FrameFault>

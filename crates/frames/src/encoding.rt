@@ -3,10 +3,10 @@
 ghost use Rattle.std.specs.Prelude.{◌≡◌, ◌+◌, ◌*◌, ◌≤◌, ◌∷◌, ◌++◌, length, drop, flat_map};
 ghost use Rattle.std.specs.Int.{w16, w32, cast_unsigned, to_be_bytes};
 ghost use Rattle.dimacs.specs.logic.Literal.{number_of};
-ghost use Rattle.frames.specs.Spelling.{FrameBytes, IsRight, kind_number, payload, literal_bytes, attempt_bytes, finding_bytes, outcome_bytes};
+ghost use Rattle.frames.specs.Spelling.{FrameBytes, IsRight, kind_number, payload, literal_bytes, attempt_bytes, finding_bytes, ending_bytes};
 ghost use Rattle.frames.specs.inner.Writing.{Puts};
 
-use crate::answer::{Answer, Finding, Outcome};
+use crate::answer::{Answer, Ending, Finding};
 use crate::chunk::Chunk;
 use crate::cube::Cube;
 use crate::frame::{Attempt, Frame, Kind};
@@ -78,13 +78,13 @@ fn put_finding(out: &mut [u8], at: usize, finding: &Finding) -> usize
     put_u32(out, at, finding.length())
 }
 
-fn put_outcome(out: &mut [u8], at: usize, outcome: &Outcome) -> usize
+fn put_ending(out: &mut [u8], at: usize, ending: &Ending) -> usize
     requires { at + 5 ≤ length out.old }
-    ensures { Puts out.old at (outcome_bytes outcome.now) out.new result }
+    ensures { Puts out.old at (ending_bytes ending.now) out.new result }
 {
-    match outcome {
-        Outcome::Decided(finding) => put_finding(out, at, finding),
-        Outcome::Limit => put(out, at, &[3, 0, 0, 0, 0]),
+    match ending {
+        Ending::Decided(finding) => put_finding(out, at, finding),
+        Ending::Limit => put(out, at, &[3, 0, 0, 0, 0]),
     }
 }
 
@@ -116,12 +116,12 @@ fn put_task(out: &mut [u8], at: usize, session: u64, job: u64, limit: u64, cube:
     put_literals(out, at, cube.as_slice())
 }
 
-fn put_done(out: &mut [u8], at: usize, attempt: &Attempt, outcome: &Outcome) -> usize
+fn put_done(out: &mut [u8], at: usize, attempt: &Attempt, ending: &Ending) -> usize
     requires { at + 33 ≤ length out.old }
-    ensures { Puts out.old at (payload (Frame.Done attempt.now outcome.now)) out.new result }
+    ensures { Puts out.old at (payload (Frame.Done attempt.now ending.now)) out.new result }
 {
     let at = put_attempt(out, at, attempt);
-    put_outcome(out, at, outcome)
+    put_ending(out, at, ending)
 }
 
 fn put_fetch(out: &mut [u8], at: usize, attempt: &Attempt, offset: u32) -> usize
@@ -194,7 +194,7 @@ fn put_payload(out: &mut [u8], at: usize, frame: &Frame) -> usize
             limit,
             cube,
         } => put_task(out, at, *session, *job, *limit, cube),
-        Frame::Done { attempt, outcome } => put_done(out, at, attempt, outcome),
+        Frame::Done { attempt, ending } => put_done(out, at, attempt, ending),
         Frame::Fetch { attempt, offset } => put_fetch(out, at, attempt, *offset),
         Frame::Piece {
             attempt,

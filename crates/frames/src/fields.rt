@@ -4,11 +4,11 @@ ghost use Rattle.std.specs.Prelude.{◌≡◌, ◌≢◌, ◌+◌, ◌*◌, ◌%
 ghost use Rattle.std.specs.Int.{w32, to_be_bytes};
 ghost use Rattle.dimacs.specs.logic.Literal.{Literal};
 ghost use Rattle.frames.specs.Cubes.{IsCube};
-ghost use Rattle.frames.specs.Spelling.{attempt_bytes, finding_bytes, outcome_bytes, literal_bytes, IsWorker, IsAttempt, IsFinding, IsOutcome};
+ghost use Rattle.frames.specs.Spelling.{attempt_bytes, finding_bytes, ending_bytes, literal_bytes, IsWorker, IsAttempt, IsFinding, IsEnding};
 ghost use Rattle.frames.specs.inner.Spelling.{answer_bytes, IsAnswer};
 ghost use Rattle.frames.specs.inner.Reading.{StandsAt, NoneStandsAt, IsSpelled, SpellsNone, IsWord, NotRead};
 
-use crate::answer::{Answer, Finding, Outcome, ProofLength};
+use crate::answer::{Answer, Ending, Finding, ProofLength};
 use crate::cube::Cube;
 use crate::fault::FrameFault;
 use crate::frame::Attempt;
@@ -81,19 +81,19 @@ pub(crate) fn finding_of(bytes: &[u8]) -> Option<Finding>
     None
 }
 
-/// The outcome that five bytes spell.
-pub(crate) fn outcome_of(bytes: &[u8]) -> Option<Outcome>
+/// The ending that five bytes spell.
+pub(crate) fn ending_of(bytes: &[u8]) -> Option<Ending>
     requires { length bytes.now ≡ 5 }
-    ensures { MatchOption result (SpellsNone outcome_bytes IsOutcome bytes.now) (λ o. IsSpelled outcome_bytes IsOutcome bytes.now o) }
+    ensures { MatchOption result (SpellsNone ending_bytes IsEnding bytes.now) (λ o. IsSpelled ending_bytes IsEnding bytes.now o) }
 {
     let number = bytes[0];
     let (length, _) = u32_at(&bytes[1..]);
     if number == 3 && length == 0 {
-        return Some(Outcome::Limit);
+        return Some(Ending::Limit);
     }
     match finding_of(bytes) {
         None => None,
-        Some(finding) => Some(Outcome::Decided(finding)),
+        Some(finding) => Some(Ending::Decided(finding)),
     }
 }
 

@@ -3,7 +3,7 @@
 ghost use Rattle.std.specs.Prelude.{◌≡◌};
 ghost use Rattle.frames.specs.Spelling.{kind_number, kind_at, kind_of, may_have};
 
-use crate::answer::{Answer, Finding, Outcome};
+use crate::answer::{Answer, Ending, Finding};
 use crate::chunk::Chunk;
 use crate::cube::Cube;
 use crate::worker::WorkerNumber;
@@ -31,7 +31,7 @@ pub enum Frame {
     /// To the coordinator: how the search ended.
     Done {
         attempt: Attempt,
-        outcome: Outcome,
+        ending: Ending,
     },
     /// To a worker: send what bears out your answer, from this byte on.
     Fetch {

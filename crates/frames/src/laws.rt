@@ -2,10 +2,10 @@
 
 ghost use Rattle.std.specs.Prelude.{◌≡◌, List, ℕ, ◌++◌, ◌<◌, ◌^◌};
 ghost use Rattle.frames.specs.declared.frame.Frame.{Frame};
-ghost use Rattle.frames.specs.Spelling.{FrameBytes, IsRight, IsAttempt, IsFinding, IsOutcome};
+ghost use Rattle.frames.specs.Spelling.{FrameBytes, IsRight, IsAttempt, IsFinding, IsEnding};
 ghost use Rattle.frames.specs.Stream.{End, Stream};
 
-use crate::answer::{Finding, Outcome};
+use crate::answer::{Ending, Finding};
 use crate::frame::{Attempt, Frame};
 
 /// No spelling begins another: each frame has one spelling, and each spelling is of one frame.
@@ -34,9 +34,9 @@ pub fn fields_are_right(frame: &Frame)
             fits_64(*limit);
             let _ = cube.as_slice(); // with it comes `IsCube`
         }
-        Frame::Done { attempt, outcome } => {
+        Frame::Done { attempt, ending } => {
             right_attempt(attempt);
-            right_outcome(outcome);
+            right_ending(ending);
         }
         Frame::Fetch { attempt, offset } => {
             right_attempt(attempt);
@@ -107,12 +107,12 @@ fn right_finding(finding: &Finding)
     }
 }
 
-fn right_outcome(outcome: &Outcome)
-    ensures { IsOutcome outcome.now }
+fn right_ending(ending: &Ending)
+    ensures { IsEnding ending.now }
 {
-    match outcome {
-        Outcome::Decided(finding) => right_finding(finding),
-        Outcome::Limit => {}
+    match ending {
+        Ending::Decided(finding) => right_finding(finding),
+        Ending::Limit => {}
     }
 }
 

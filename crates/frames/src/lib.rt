@@ -16,7 +16,7 @@ mod numbers;
 mod reader;
 mod worker;
 
-pub use answer::{Answer, Finding, Outcome, ProofLength};
+pub use answer::{Answer, Ending, Finding, ProofLength};
 pub use chunk::Chunk;
 pub use cube::Cube;
 pub use encoding::{encode, len};

@@ -1,26 +1,24 @@
 //! The links of a listener.
 
-ghost use Rattle.std.specs.Prelude.{◌≡◌, ◌<◌, ◌≤◌, length, map, replicate, set, get_or, false, true, is_some, IfOk, IfSome, IfNone, IsErr, OnOk, OnErr};
+ghost use Rattle.std.specs.Prelude.{◌≡◌, ◌<◌, ◌≤◌, length, replicate, set, get_or, false, true, IfOk, IfSome, IfNone, IsErr, OnOk, OnErr};
 ghost use Rattle.links.specs.Arrivals.{IsWithin};
 ghost use Rattle.hub.specs.Hub.{links_of};
 ghost use Rattle.hub.specs.inner.Changes.{Changes};
 ghost use Rattle.links.specs.declared.arrivals.Event.TheVariants as events;
 
 use crate::end::End;
+use crate::ends::{LISTENER, free_place, is_ready, note_all, places, put, read_between, send};
 use links::{Arrival, Event, LinkFault, Station};
 use mio::net::{TcpListener, TcpStream};
 use mio::{Events, Interest, Poll, Token};
-use std::alloc::{AllocError, Global};
+use std::alloc::Global;
 use std::io;
-use std::io::{ErrorKind, Write};
+use std::io::ErrorKind;
 use std::net::{Ipv4Addr, Net, SocketAddr};
 use std::time::{Clock, Duration};
 
 /// How many events are told at once.
 const EVENTS: usize = 64;
-
-/// The listener's token, behind those of all places.
-const LISTENER: usize = 256;
 
 /// How long it is waited for something to come, in seconds.
 const TICK: u64 = 1;
@@ -40,114 +38,6 @@ pub struct Hub<C> {
     knocks: bool,
     /// Whether one was accepted last, so that it is the others' turn.
     has_accepted: bool,
-}
-
-/// So many places without a link.
-fn places(alloc: Global, count: u8) -> Result<Vec<Option<End>>, AllocError>
-    ensures { IfOk result (λ v. map (λ e. is_some e) v.items ≡ replicate count false) }
-{
-    let mut ends = Vec::new(alloc);
-    for _ in 0..count {
-        ends.push(None)?;
-    }
-    Ok(ends)
-}
-
-/// The first place without a link.
-fn free_place(ends: &[Option<End>]) -> Option<u8>
-    ensures { IfSome result (λ place. (place < length ends.now) × (get_or (map (λ e. is_some e) ends.now) place true ≡ false)) }
-{
-    for place in 0..u8::MAX {
-        if ends.len() <= place as usize {
-            return None;
-        }
-        if ends[place as usize].is_none() {
-            return Some(place);
-        }
-    }
-    None
-}
-
-/// Puts a connection at a place, or none.
-fn put(ends: &mut [Option<End>], place: u8, end: Option<End>)
-    requires { place < length ends.old }
-    ensures { map (λ e. is_some e) ends.new ≡ set (map (λ e. is_some e) ends.old) place (is_some end) }
-{
-    ends[place as usize] = end;
-}
-
-/// Notes that bytes of a connection may be there.
-fn note(end: &mut Option<End>)
-    ensures { is_some end.new ≡ is_some end.old }
-{
-    if let Some(end) = end {
-        end.is_ready = true;
-    }
-}
-
-/// Notes of which connections bytes may be there, and answers whether a connection may wait to be accepted.
-fn note_all(ends: &mut [Option<End>], events: &Events) -> bool
-    ensures { map (λ e. is_some e) ends.new ≡ map (λ e. is_some e) ends.old }
-{
-    let mut knocks = false;
-    for event in events {
-        let place = event.token().0;
-        if place == LISTENER {
-            knocks = true;
-        } else if place < ends.len() {
-            note(&mut ends[place]);
-        }
-    }
-    knocks
-}
-
-/// Sends without waiting. What the connection has no room for is refused, and what is sent to nobody.
-fn send(end: &mut Option<End>, bytes: &[u8]) -> Result<(), LinkFault>
-    ensures links { is_some end.new ≡ is_some end.old }
-    ensures nobody { is_some end.old ≡ false → IsErr result }
-{
-    match end {
-        Some(end) => match end.stream.write_all(bytes) {
-            Ok(()) => Ok(()),
-            Err(_) => Err(LinkFault),
-        },
-        None => Err(LinkFault),
-    }
-}
-
-/// Whether bytes of a connection may be there.
-fn is_ready(ends: &[Option<End>]) -> bool {
-    ends.iter().any(|end| match end {
-        Some(end) => end.is_ready,
-        None => false,
-    })
-}
-
-/// Reads what is there of a connection, where bytes of it may be there.
-fn read_end(end: &mut Option<End>, room: &mut [u8]) -> Option<usize>
-    ensures within { IfSome result (λ count. count ≤ length room.new) }
-    ensures links { is_some end.new ≡ is_some end.old }
-{
-    match end {
-        Some(end) if end.is_ready => end.read(room),
-        _ => None,
-    }
-}
-
-/// Reads what is there of the first connection from one place up to another of which something is there, and answers its place.
-fn read_between(ends: &mut [Option<End>], from: u8, to: u8, room: &mut [u8]) -> Option<(u8, usize)>
-    ensures within { IfSome result (λ found. found.1 ≤ length room.new) }
-    ensures links { map (λ e. is_some e) ends.new ≡ map (λ e. is_some e) ends.old }
-{
-    for place in from..to {
-        if ends.len() <= place as usize {
-            return None;
-        }
-        if let Some(count) = read_end(&mut ends[place as usize], room) {
-            return Some((place, count));
-        }
-    }
-    None
 }
 
 impl<C> Hub<C> {

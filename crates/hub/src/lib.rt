@@ -5,6 +5,7 @@
 #![tactic(auto)]
 
 mod end;
+mod ends;
 mod hub;
 
 pub use hub::Hub;

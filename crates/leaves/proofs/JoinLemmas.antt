@@ -38,8 +38,8 @@ use Rattle.leaves.specs.inner.Lines.{BeginsLog, EndsLog, Takes}
 use Rattle.leaves.specs.Joining.{AreRead, Concludes, Holds, IsBegunAs, IsReadAs, LeavesAre, Proves, ReadsAnswer, ReadsLog, ReadsNothing, ReadsRefused, ReportsOpen, Stands, TellsAnswer, TellsFile, TellsLog, misses, proves}
 use Rattle.leaves.specs.declared.lines.LineFault.{LineFault}
 use Rattle.leaves.specs.declared.lines.LineFault.TheVariants as line_fault
-use Rattle.leaves.specs.declared.join.FileEnd.{FileEnd}
-use Rattle.leaves.specs.declared.join.FileEnd.TheVariants as ends
+use Rattle.leaves.specs.declared.ending.FileEnd.{FileEnd}
+use Rattle.leaves.specs.declared.ending.FileEnd.TheVariants as ends
 use Rattle.leaves.specs.declared.join.Join.{Join}
 use Rattle.leaves.specs.declared.lines.Lines.{Lines}
 use Rattle.leaves.specs.declared.join.Reading.{Reading}

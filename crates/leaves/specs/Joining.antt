@@ -13,8 +13,8 @@ use Rattle.gathering.specs.Gathering.{ClosesLeaf, Handed, IsClosedBy}
 use Rattle.icnf.specs.Leaves.{Cube}
 use Rattle.leaves.specs.Lines.{AreBetween, AreWithin}
 use Rattle.leaves.specs.Notes.{missing_text}
-use Rattle.leaves.specs.declared.join.FileEnd.{FileEnd}
-use Rattle.leaves.specs.declared.join.FileEnd.TheVariants as ended
+use Rattle.leaves.specs.declared.ending.FileEnd.{FileEnd}
+use Rattle.leaves.specs.declared.ending.FileEnd.TheVariants as ended
 use Rattle.leaves.specs.declared.join.Join.{Join}
 use Rattle.leaves.specs.declared.join.Reading.{Reading}
 use Rattle.leaves.specs.declared.join.Reading.TheVariants.{Begun, Log, Refused, Answer}

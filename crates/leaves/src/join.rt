@@ -1,19 +1,18 @@
 //! `join`: the logs of any machines become one proof.
 
 ghost use Rattle.std.specs.Prelude.{◌≡◌, ◌==◌, ◌∷◌, ◌++◌, ℕ, List, [], true, false, IfOk, OnOk};
-ghost use Rattle.answers.specs.Pieces.{HasRead};
-ghost use Rattle.answers.specs.Reading.{answer_of};
 ghost use Rattle.dimacs.specs.logic.Cnf.{Cnf, IsFormula};
 ghost use Rattle.gathering.specs.Written.{leaves_of};
 ghost use Rattle.icnf.specs.Leaves.{Cube};
-ghost use Rattle.leaves.specs.Joining.{Concludes, Holds, TellsAnswer, TellsFile, is_answer_letter};
-ghost use Rattle.leaves.specs.inner.Joins.{EndsRight, IsStopped, KeepsStanding, LeavesLog, OpensAs, StaysAs, TakesPiece, TellsOpen};
+ghost use Rattle.leaves.specs.Joining.{Concludes, Holds, TellsFile, is_answer_letter};
+ghost use Rattle.leaves.specs.inner.Joins.{IsStopped, KeepsStanding, OpensAs, StaysAs, TakesPiece, TellsOpen};
 
+use crate::ending::{FileEnd, accept, answered, leave, refuse};
 use crate::lines::{LineFault, Lines};
 use crate::notes::put_missing;
 use crate::split::Split;
-use answers::{AnswerReader, Kind};
-use dimacs::{Answer, Assignment, Formula, answer_lines};
+use answers::AnswerReader;
+use dimacs::{Answer, Formula, answer_lines};
 use gathering::{GatherFault, Gatherer};
 use lrat_check::{CheckFault, LogChecker};
 use lrat_text::{LineBuffer, PieceFault};
@@ -32,19 +31,6 @@ pub(crate) enum Reading {
     Refused(CheckFault),
     /// A solver's answer.
     Answer(AnswerReader),
-}
-
-/// What a file was.
-#[derive(Drop)]
-pub enum FileEnd {
-    /// A log that closes a leaf.
-    Closes,
-    /// A right log that closes no leaf that was open, or an answer that does not satisfy the formula.
-    ClosesNothing,
-    /// A file with a fault, of this number, in this line.
-    Refused { line: u64, number: u8 },
-    /// An answer whose assignment satisfies the formula.
-    Satisfies(Assignment),
 }
 
 /// Joins logs over a formula, which come file by file and piece by piece, into one proof of it.
@@ -160,65 +146,7 @@ impl Join {
         }
         self.read(piece)
     }
-}
 
-/// What an answer was, which was read to its end.
-fn answered(alloc: Global, formula: &Formula, reader: AnswerReader) -> Result<FileEnd, GatherFault>
-    ensures { IfOk result (λ e. (bytes : List ℕ) → HasRead reader bytes → TellsAnswer formula.now (answer_of bytes) e) }
-{
-    let vars = formula.vars();
-    let named = match reader.finish() {
-        Ok(named) => named,
-        Err(fault) if fault.kind == Kind::NoMemory => return Err(GatherFault::NoMemory),
-        Err(fault) => {
-            return Ok(FileEnd::Refused {
-                line: fault.line,
-                number: fault.number(),
-            });
-        }
-    };
-    if named.first_missed(formula).is_some() {
-        return Ok(FileEnd::ClosesNothing);
-    }
-    match named.assignment(alloc, vars) {
-        Ok(values) => Ok(FileEnd::Satisfies(values)),
-        Err(_) => Err(GatherFault::NoMemory),
-    }
-}
-
-/// Ends a log, which is right to its end.
-fn accept(lines: &mut Lines) -> Result<FileEnd, GatherFault>
-    ensures { IfOk result (EndsRight lines.old lines.new) }
-{
-    if lines.end(true)? {
-        return Ok(FileEnd::Closes);
-    }
-    Ok(FileEnd::ClosesNothing)
-}
-
-/// Ends a log of which no lemma is used.
-fn leave(lines: &mut Lines) -> Result<(), GatherFault>
-    ensures { OnOk result (LeavesLog lines.old lines.new) }
-{
-    match lines.end(false) {
-        Ok(_) => Ok(()),
-        Err(fault) => Err(fault),
-    }
-}
-
-/// Ends a log, which has a fault.
-fn refuse(lines: &mut Lines, fault: CheckFault) -> Result<FileEnd, GatherFault>
-    ensures stands { OnOk result (LeavesLog lines.old lines.new) }
-    ensures told { IfOk result (λ e. e ≡ FileEnd.Refused fault.line fault.number) }
-{
-    leave(lines)?;
-    Ok(FileEnd::Refused {
-        line: fault.line,
-        number: fault.number,
-    })
-}
-
-impl Join {
     /// The file has ended, and the next one may begin. After an error, the join is of no use.
     pub fn end(&mut self) -> Result<FileEnd, GatherFault>
         ensures holds { OnOk result ((F : Cnf) (cubes : List Cube) (files : List (List ℕ)) (bytes written : List ℕ)

@@ -5,6 +5,7 @@
 #![tactic(auto)]
 
 mod closing;
+mod ending;
 mod join;
 mod laws;
 mod leaf;
@@ -17,7 +18,8 @@ mod splitting;
 mod turns;
 
 pub use closing::LiftAll;
-pub use join::{FileEnd, Join};
+pub use ending::FileEnd;
+pub use join::Join;
 pub use laws::joins_stand;
 pub use leaf::run_leaf;
 pub use lifting::{Lift, LiftEnd, lift_report};

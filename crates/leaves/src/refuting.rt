@@ -7,7 +7,7 @@ use crate::leaf::{NO_LEAF, cube_of};
 use crate::split::Split;
 use cube_solve::{Outcome, solve};
 use dimacs::{Answer, answer_lines};
-use lrat_text::PackedText;
+use packed_text::PackedText;
 use reports::{Report, put_number};
 use std::alloc::{AllocError, Global};
 

@@ -3,7 +3,7 @@
 ghost use Rattle.std.specs.Prelude.{◌≡◌, ◌↔◌, ◌<◌, ◌≤◌, ◌++◌, ◌⊎◌, ◌∷◌, ◌^◌, [], ℕ, IsTrue, IfOk, IfSome, IfNone, length, Some, slice_index_or};
 ghost use Rattle.cube_split.specs.Choice.{Choice, IsChoice};
 ghost use Rattle.dimacs.specs.logic.Base.{pure_literals};
-ghost use Rattle.dimacs.specs.logic.Cnf.{AreWithin, greatest_in, greatest_of};
+ghost use Rattle.dimacs.specs.logic.Cnf.{AreWithin, greatest_in};
 ghost use Rattle.icnf.specs.Leaves.{IsFree};
 ghost use Rattle.leaves.specs.Leaf.{Prints};
 ghost use Rattle.leaves.specs.inner.Splitting.{IsSound};
@@ -12,7 +12,7 @@ ghost use Rattle.leaves.specs.Splitting.{PrintsBranches, PrintsSplit, SplitsOn, 
 use crate::leaf::NO_LEAF;
 use crate::split::Split;
 use cube_split::{Chooser, preamble};
-use dimacs::{Formula, Lit, Var};
+use dimacs::{Formula, Lit, Var, greatest_in};
 use icnf::Tree;
 use reports::Report;
 use std::alloc::{AllocError, Global};
@@ -21,30 +21,6 @@ use std::alloc::{AllocError, Global};
 const LEAVES: usize = 65_536;
 
 const LITERALS: usize = 64;
-
-/// The greatest variable of a clause, 0 where it has no literal.
-fn greatest_of(clause: &[Lit]) -> u32
-    ensures value { result ≡ greatest_of clause.now }
-    ensures below { result < 2 ^ 31 }
-{
-    let mut greatest = 0;
-    for l in clause {
-        greatest = l.var().number().max(greatest);
-    }
-    greatest
-}
-
-/// The greatest variable of a formula's clauses, 0 where they have no literal.
-fn greatest_in(formula: &Formula) -> u32
-    ensures value { result ≡ greatest_in formula.now.clauses }
-    ensures below { result < 2 ^ 31 }
-{
-    let mut greatest = 0;
-    for i in 0..formula.len() {
-        greatest = greatest_of(formula.clause(i)).max(greatest);
-    }
-    greatest
-}
 
 /// Whether no literal of the cube is of the variable.
 fn is_free(cube: &[Lit], variable: u32) -> bool

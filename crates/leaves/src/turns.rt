@@ -16,7 +16,7 @@ use crate::split::Split;
 use cube_solve::{Outcome, solve};
 use dimacs::{Answer, Assignment, answer_lines};
 use gathering::GatherFault;
-use lrat_text::PackedText;
+use packed_text::PackedText;
 use reports::Report;
 use std::alloc::{AllocError, Global};
 

@@ -8,13 +8,12 @@ use Rattle.std.proofs.lemmas.List.{length-replicate, get_or_past, set-append_lef
 use Rattle.std.proofs.lemmas.List.Elements.{All-head, All-tail, All-get_or, All-set, All-push}
 use Rattle.dimacs.specs.logic.Literal.{Literal}
 use Rattle.lrat_check.specs.declared.slot.Slot.{Slot}
-use Rattle.lrat_check.specs.declared.slot_tables.Far.{Far}
 use Rattle.std.proofs.Math.Dec.{eqb, ltb}
 use Rattle.std.proofs.lemmas.Bool.{ltb-true, ltb-false, eqb-true, eqb-false}
 use Rattle.std.specs.Bool.{OnTrue}
-use Rattle.lrat_check.specs.inner.Store.{clause_at, live_of, IsPlaced, ArePlaced, IsStore, IsFilledTo, AreCopied, Keeps, SameClauses}
+use Rattle.lrat_check.specs.inner.Store.{clause_at, Tables, live_of, IsPlaced, ArePlaced, IsStore, IsFilledTo, AreCopied, Keeps, SameClauses}
 use Rattle.lrat_check.specs.inner.Blocks.{free_block, places_of, one_slot, standing, joined, IsBlock, AreBlocks}
-use Rattle.lrat_check.proofs.Slots.{kept_clauses, ArePlaced-kept, no_slot, live_of-push, store-push, get-live_of, far_at, get_or-push_below, get_or-push_at}
+use Rattle.lrat_check.proofs.Slots.{with_near, kept_clauses, ArePlaced-kept, no_slot, live_of-push, store-push, get-live_of, far_at, get_or-push_below, get_or-push_at}
 
 -- ---- a block
 pub length-free_block : length free_block ≡ 1024
@@ -318,26 +317,25 @@ made_cells [] n x none e is = ap (λ k. replicate {A = Option Slot} (1024 - k) x
 made_cells (o ∷ cells) n x none e is = absurd (omega arith)
 
 -- ---- free places more
-module _ (literals : List Literal) (far : Far) where
-  live_of-none : (near : List (Option Slot)) (n : ℕ) → live_of literals (near ++ replicate n None) far ≡ live_of literals near far
-  live_of-none near zero = ap (λ xs. live_of literals xs far) (append-nil near)
-  live_of-none near (suc n) =
-      ap (λ xs. live_of literals xs far) (sym (append_assoc near (None ∷ []) (replicate n None)))
-      ∙ live_of-none (near ++ None ∷ []) n ∙ live_of-push literals near far
+live_of-none : (t : Tables) (n : ℕ) → live_of (with_near t (t.near ++ replicate n None)) ≡ live_of t
+live_of-none t zero = ap (λ xs. live_of (with_near t xs)) (append-nil t.near)
+live_of-none t (suc n) =
+    ap (λ xs. live_of (with_near t xs)) (sym (append_assoc t.near (None ∷ []) (replicate n None)))
+    ∙ live_of-none (with_near t (t.near ++ None ∷ [])) n ∙ live_of-push t
 
-  store-none : (near : List (Option Slot)) (n : ℕ) → far.slots.items ≡ [] → IsStore literals near far → IsStore literals (near ++ replicate n None) far
-  store-none near zero none store = subst (λ xs. IsStore literals xs far) (sym (append-nil near)) store
-  store-none near (suc n) none store =
-      subst (λ xs. IsStore literals xs far) (append_assoc near (None ∷ []) (replicate n None))
-      (store-none (near ++ None ∷ []) n none (store-push literals near far none store))
+store-none : (t : Tables) (n : ℕ) → t.far.slots.items ≡ [] → IsStore t → IsStore (with_near t (t.near ++ replicate n None))
+store-none t zero none store = subst (λ xs. IsStore (with_near t xs)) (sym (append-nil t.near)) store
+store-none t (suc n) none store =
+    subst (λ xs. IsStore (with_near t xs)) (append_assoc t.near (None ∷ []) (replicate n None))
+    (store-none (with_near t (t.near ++ None ∷ [])) n none (store-push t none store))
 
-pub live_of-free : (literals : List Literal) (near : List (Option Slot)) (far : Far) → live_of literals (near ++ free_block) far ≡ live_of literals near far
+pub live_of-free : (t : Tables) → live_of (with_near t (t.near ++ free_block)) ≡ live_of t
 unfolding free_block
-live_of-free literals near far = live_of-none literals far near 1024
+live_of-free t = live_of-none t 1024
 
-pub store-free : (literals : List Literal) (near : List (Option Slot)) (far : Far) → far.slots.items ≡ [] → IsStore literals near far → IsStore literals (near ++ free_block) far
+pub store-free : (t : Tables) → t.far.slots.items ≡ [] → IsStore t → IsStore (with_near t (t.near ++ free_block))
 unfolding free_block
-store-free literals near far none store = store-none literals far near 1024 none store
+store-free t none store = store-none t 1024 none store
 
 -- free places behind the others change none
 pub free_behind : (slots : List (Option Slot)) (q : ℕ) → get_or (slots ++ free_block) q None ≡ get_or slots q None
@@ -346,15 +344,15 @@ free_behind (o ∷ slots) zero = refl
 free_behind (o ∷ slots) (suc q) = free_behind slots q
 
 -- the same slots at each place
-module _ (literals : List Literal) (cells near : List (Option Slot)) (far : Far) (same : (q : ℕ) → get_or near q None ≡ get_or cells q None) where
-  pub same_placed : ArePlaced literals cells → ArePlaced literals near
+module _ (t : Tables) (cells : List (Option Slot)) (same : (q : ℕ) → get_or t.near q None ≡ get_or cells q None) where
+  pub same_placed : ArePlaced t.literals cells → ArePlaced t.literals t.near
   same_placed placed p s e = placed p s (sym (same p) ∙ e)
 
-  pub same_live : IsStore literals near far → IsStore literals cells far → live_of literals near far ≡ live_of literals cells far
-  same_live store store' = same_map nat_cmp_total nat_cmp-IsAntisymmetric (live_of literals near far) (live_of literals cells far)
-      (λ q. get-live_of literals near far q store
-      ∙ ap (λ o. option_or (option_map (clause_at literals) o) (far_at literals far q)) (same q)
-      ∙ sym (get-live_of literals cells far q store'))
+  pub same_live : IsStore t → IsStore (with_near t cells) → live_of t ≡ live_of (with_near t cells)
+  same_live store store' = same_map nat_cmp_total nat_cmp-IsAntisymmetric (live_of t) (live_of (with_near t cells))
+      (λ q. get-live_of t q store
+      ∙ ap (λ o. option_or (option_map (clause_at t.literals) o) (far_at t.literals t.far q)) (same q)
+      ∙ sym (get-live_of (with_near t cells) q store'))
 
 -- a cell at the next place
 pub put_at : (slots new : List (Option Slot)) (k : ℕ) (cell o : Option Slot) → k < length slots → cell ≡ o → new ≡ set slots k o

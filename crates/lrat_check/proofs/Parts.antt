@@ -12,8 +12,7 @@ use Rattle.std.proofs.lemmas.List.Elements.{All-take, All-drop}
 use Rattle.dimacs.specs.logic.Literal.{Literal, Clause, var_of}
 use Rattle.dimacs.specs.layout.Flat.{parts}
 use Rattle.lrat_check.specs.declared.slot.Slot.{Slot}
-use Rattle.lrat_check.specs.declared.slot_tables.Far.{Far}
-use Rattle.lrat_check.specs.inner.Store.{clause_at, entries_of, near_entries, live_of, numbered, numbered_entries, place_of, ArePlaced, IsStore}
+use Rattle.lrat_check.specs.inner.Store.{clause_at, entries_of, near_entries, Tables, live_of, numbered, numbered_entries, place_of, ArePlaced, IsStore}
 use Rattle.lrat_check.specs.inner.Table.{FitsTable, AllFit}
 use Rattle.lrat_check.proofs.Counted.{counted_none, counted_new}
 use Rattle.lrat_check.proofs.Formula.{clauses_more, find-past}
@@ -60,38 +59,38 @@ pub slots_all : (xs : List Literal) (places : List ℕ) (es : List (ℕ × Claus
 slots_all xs places es i le lt = ap (λ cs. es ++ enumerate_from (i + 1) cs) (one_place xs places i le lt) ∙ append-nil es
 
 -- the clauses of a table alone
-pub live_near : (literals : List Literal) (near : List (Option Slot)) (far : Far) (F : List Clause) → far.slots.items ≡ [] → near_entries literals near ≡ numbered_entries F → live_of literals near far ≡ numbered F
-live_near literals near far F none same =
-    ap (λ (es : List (ℕ × Clause)). from_entries {R = nat_cmp} (near_entries literals near ++ es)) (ap (entries_of literals (λ p. get_or far.numbers.items p 0) 0) none)
-    ∙ ap (λ (es : List (ℕ × Clause)). from_entries {R = nat_cmp} es) (append-nil (near_entries literals near) ∙ same)
+pub live_near : (t : Tables) (F : List Clause) → t.far.slots.items ≡ [] → near_entries t.literals t.near ≡ numbered_entries F → live_of t ≡ numbered F
+live_near t F none same =
+    ap (λ (es : List (ℕ × Clause)). from_entries {R = nat_cmp} (near_entries t.literals t.near ++ es)) (ap (entries_of t.literals (λ p. get_or t.far.numbers.items p 0) 0) none)
+    ∙ ap (λ (es : List (ℕ × Clause)). from_entries {R = nat_cmp} es) (append-nil (near_entries t.literals t.near) ∙ same)
 
-pub store_near : (literals : List Literal) (near : List (Option Slot)) (far : Far) → ArePlaced literals near → far.places.entries ≡ [] → far.numbers.items ≡ [] → far.slots.items ≡ [] → IsStore literals near far
-store_near literals near far placed places numbers slots = record {
+pub store_near : (t : Tables) → ArePlaced t.literals t.near → t.far.places.entries ≡ [] → t.far.numbers.items ≡ [] → t.far.slots.items ≡ [] → IsStore t
+store_near t placed places numbers slots = record {
   near_placed = placed;
   far_placed = λ q s is. absurd (no_slot s (sym (ap (λ xs. get_or xs q None) slots) ∙ is));
   level = ap length numbers ∙ sym (ap length slots);
-  found = λ q p f. absurd (no_place p (sym (nowhere far places q) ∙ f));
+  found = λ q p f. absurd (no_place p (sym (nowhere places q) ∙ f));
   kept = λ q s is. absurd (no_slot s (sym (ap (λ xs. get_or xs q None) slots) ∙ is));
 }
   where
-    nowhere : (far : Far) → far.places.entries ≡ [] → (q : ℕ) → place_of far q ≡ None
-    nowhere far none q = ap (lookup (is_at (nat_cmp q))) none
+    nowhere : t.far.places.entries ≡ [] → (q : ℕ) → place_of t.far q ≡ None
+    nowhere none q = ap (lookup (is_at (nat_cmp q))) none
 
 no_clause : (C : Clause) → None ≡ Some C → ⊥
 no_clause C e = cc
 
 -- a table that fits all literals fits each clause
-pub near_fits : (literals : List Literal) (near : List (Option Slot)) (far : Far) (places : ℕ) → IsStore literals near far → far.slots.items ≡ [] → FitsTable places literals → AllFit places (live_of literals near far)
-near_fits literals near far places store none fits id C is = at (place_of far id) refl
+pub near_fits : (t : Tables) (places : ℕ) → IsStore t → t.far.slots.items ≡ [] → FitsTable places t.literals → AllFit places (live_of t)
+near_fits t places store none fits id C is = at (place_of t.far id) refl
   where
-    at_slot : (o : Option Slot) → option_or (option_map (clause_at literals) o) None ≡ Some C → FitsTable places C
+    at_slot : (o : Option Slot) → option_or (option_map (clause_at t.literals) o) None ≡ Some C → FitsTable places C
     at_slot None e = absurd (no_clause C e)
     at_slot (Some s) e =
-        let same : clause_at literals s ≡ C = cc in
-        subst (λ D. FitsTable places D) same (All-take (λ l. 2 * var_of l + 1 < places) s.len (drop s.place literals) (All-drop (λ l. 2 * var_of l + 1 < places) s.place literals fits))
+        let same : clause_at t.literals s ≡ C = cc in
+        subst (λ D. FitsTable places D) same (All-take (λ l. 2 * var_of l + 1 < places) s.len (drop s.place t.literals) (All-drop (λ l. 2 * var_of l + 1 < places) s.place t.literals fits))
 
-    at : (o : Option ℕ) → place_of far id ≡ o → FitsTable places C
-    at None e = at_slot (get_or near id None) (sym (get-live_of literals near far id store ∙ ap (λ o. option_or (near_at literals near id) (placed_at literals far.slots.items o)) e) ∙ is)
+    at : (o : Option ℕ) → place_of t.far id ≡ o → FitsTable places C
+    at None e = at_slot (get_or t.near id None) (sym (get-live_of t id store ∙ ap (λ o. option_or (near_at t.literals t.near id) (placed_at t.literals t.far.slots.items o)) e) ∙ is)
     at (Some p) e = absurd (omega (arith, (store.found id p e).1, ap length none))
 
 -- the next number is not live yet

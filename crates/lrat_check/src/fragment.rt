@@ -12,7 +12,8 @@ ghost use Rattle.lrat_check.specs.Logs.{text_from};
 use crate::checking::{CheckFault, finish};
 use crate::log_checker::LogChecker;
 use dimacs::{Base, Lit, has_literal};
-use lrat_text::{PackedLines, PackedText, StepRef, take_lines};
+use lrat_text::{StepRef, take_lines};
+use packed_text::{PackedLines, PackedText};
 use std::alloc::Global;
 
 /// The fault of a text whose last step does not close the cube.

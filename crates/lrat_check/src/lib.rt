@@ -4,6 +4,7 @@
 //! formula with an accepted proof: `accepted_proofs_are_sound`. So nothing of the code here has to be believed, nor of what finds proofs.
 #![tactic(auto)]
 
+mod block;
 mod blocks;
 mod checker;
 mod checking;

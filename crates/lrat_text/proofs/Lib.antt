@@ -1,24 +1,23 @@
+mod AroundLemmas
 mod BackwardsLemmas
 pub mod DigitLemmas
 pub mod ClauseMapLemmas
 pub mod CountingLemmas
 pub mod CutLemmas
-pub mod GlyphLemmas
 pub mod GroupLemmas
 pub mod LineLemmas
 pub mod LogLemmas
 pub mod NextLemmas
 pub mod NumberLemmas
-pub mod PackedLemmas
-mod PackedLineLemmas
 pub mod PieceLemmas
 pub mod ReadStepLemmas
-mod RopeLemmas
 pub mod RunLemmas
 mod ShortLemmas
+mod SignedLemmas
 pub mod SpelledStepLemmas
 pub mod SpellingLemmas
 pub mod TakingLemmas
 pub mod TokenLemmas
+mod WordLemmas
 pub mod WritingLemmas
 pub mod WrittenLemmas

@@ -33,10 +33,10 @@ digits_ink : (ds : List ℕ) → AllByRecursion IsDigitByte ds → AllByRecursio
 digits_ink [] h = tt
 digits_ink (d ∷ ds) h = (omega (arith, h.0.0), digits_ink ds h.1)
 
-decimal_word : (n : ℕ) → IsClauseNumber n → IsWord (decimal n)
+pub decimal_word : (n : ℕ) → IsClauseNumber n → IsWord (decimal n)
 decimal_word n h = (decimal_nonempty n (omega (arith, h.1)), digits_ink (decimal n) (decimal_digits n (omega (arith, h.1))))
 
-minus_word : (n : ℕ) → IsClauseNumber n → IsWord (45 ∷ decimal n)
+pub minus_word : (n : ℕ) → IsClauseNumber n → IsWord (45 ∷ decimal n)
 minus_word n h = (omega arith, (omega arith, (decimal_word n h).1))
 
 zero_word : IsWord (codes "0")
@@ -102,7 +102,7 @@ ink_is_no : (c : ℕ) (w : List ℕ) → c < 45 → AllByRecursion IsInk w → A
 ink_is_no c [] lt h = tt
 ink_is_no c (b ∷ bs) lt h = (ne_eqb b c (λ same. omega (arith, h.0, same)), ink_is_no c bs lt h.1)
 
-joined_tokens : (w : List ℕ) (ws : List (List ℕ)) → AllByRecursion IsWord (w ∷ ws) → tokens (join_with_byte 32 (w ∷ ws)) ≡ w ∷ ws
+pub joined_tokens : (w : List ℕ) (ws : List (List ℕ)) → AllByRecursion IsWord (w ∷ ws) → tokens (join_with_byte 32 (w ∷ ws)) ≡ w ∷ ws
 joined_tokens w [] h =
     ap (filter is_some_byte) (slice_split_none is_space w (All-from_recursion (λ b. (b == 32) ≡ false) w (ink_is_no 32 w (omega arith) h.0.1)))
     ∙ front_more w [] h.0.0

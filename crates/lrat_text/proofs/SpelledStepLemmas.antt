@@ -95,8 +95,15 @@ literals_tail id (l ∷ ls) front ts h =
     ∙ literals_tail id ls (front ++ l ∷ []) ts h.1 ∙ ap (λ (xs : List Literal). literals_in id xs ts) (append_assoc front (l ∷ []) ls)
 
 -- a lemma's tokens behind its number
-abbrev rest_tokens : List ℕ → List Group → List (List ℕ)
+abbrev pub rest_tokens : List ℕ → List Group → List (List ℕ)
 rest_tokens hints groups = map decimal hints ++ flat_map group_tokens groups ++ codes "0" ∷ []
+
+pub reasons_back : (id : ℕ) (lits : List Literal) (hints : List ℕ) (groups : List Group) → AllByRecursion IsClauseNumber hints → AllByRecursion IsGroup groups
+    → hints_in id lits [] (map token_of (rest_tokens hints groups)) ≡ Ok (Add id lits hints groups)
+reasons_back id lits hints groups h g =
+    ap (hints_in id lits []) (regroup id lits hints hints groups)
+    ∙ hints_tail id lits hints [] (map token_of (flat_map group_tokens groups ++ codes "0" ∷ [])) h
+    ∙ hints_back id lits hints groups g
 
 literals_zero : (id : ℕ) (lits : List Literal) (ts : List Token) → literals_in id lits (Zero ∷ ts) ≡ hints_in id lits [] ts
 unfolding literals_in
@@ -109,9 +116,7 @@ literals_back id lits hints groups l h g =
     ∙ literals_tail id lits [] (token_of (codes "0") ∷ map token_of (rest_tokens hints groups)) l
     ∙ ap (λ (t : Token). literals_in id lits (t ∷ map token_of (rest_tokens hints groups))) token_zero
     ∙ literals_zero id lits (map token_of (rest_tokens hints groups))
-    ∙ ap (hints_in id lits []) (regroup id lits hints hints groups)
-    ∙ hints_tail id lits hints [] (map token_of (flat_map group_tokens groups ++ codes "0" ∷ [])) h
-    ∙ hints_back id lits hints groups g
+    ∙ reasons_back id lits hints groups h g
 
 body_zero : (id : ℕ) (ts : List Token) → body_in id (Zero ∷ ts) ≡ literals_in id [] (Zero ∷ ts)
 unfolding body_in

@@ -17,7 +17,7 @@ use Rattle.lrat_text.specs.Reading.{token_of, line_tokens, number_token}
 
 -- ---- spaces and tokens
 
-tokens_blank : (b : ℕ) (bs : List ℕ) → is_space b ≡ true → tokens (b ∷ bs) ≡ tokens bs
+pub tokens_blank : (b : ℕ) (bs : List ℕ) → is_space b ≡ true → tokens (b ∷ bs) ≡ tokens bs
 tokens_blank b bs h = ap (filter is_some_byte) (slice_split-cons_yes is_space b bs h)
 
 skip_by : (b : ℕ) (bs : List ℕ) (t : Bool) → is_space b ≡ t → tokens bs ≡ tokens (drop (prefix_len is_space bs) bs) → tokens (b ∷ bs) ≡ tokens (drop (cond t (1 + prefix_len is_space bs) 0) (b ∷ bs))
@@ -53,7 +53,7 @@ unfolding line_tokens
 tokens_behind bs m e h = ap (map token_of) (ap (λ n. tokens (drop (n + 1) bs)) e ∙ sym (drop_at_first bs m e h))
 
 -- the first token
-tokens_first : (bs : List ℕ) (m : ℕ) → m ≡ position_or_len is_space bs → 0 < m → m ≤ length bs → tokens bs ≡ take m bs ∷ tokens (drop m bs)
+pub tokens_first : (bs : List ℕ) (m : ℕ) → m ≡ position_or_len is_space bs → 0 < m → m ≤ length bs → tokens bs ≡ take m bs ∷ tokens (drop m bs)
 tokens_first bs m e h top =
     ⊎_elim
     (λ (lt : m < length bs).

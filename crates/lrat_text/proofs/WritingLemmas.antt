@@ -23,7 +23,7 @@ groups_more old groups i g e =
     ∙ ap (λ (gs : List Group). old ++ flat_map group_text gs) (sym (take_more groups i g lt))
 
 -- tokens behind spaces
-abbrev spaced : List (List ℕ) → List ℕ
+abbrev pub spaced : List (List ℕ) → List ℕ
 spaced tokens = flat_map (λ t. 32 ∷ t) tokens
 
 pub joined : (t : List ℕ) (ts : List (List ℕ)) → join_with_byte 32 (t ∷ ts) ≡ t ++ spaced ts

@@ -5,7 +5,6 @@ pub mod GroupLists
 pub mod Groups
 pub mod Lines
 pub mod Log
-pub mod Packed
 pub mod Pieces
 pub mod Proof
 pub mod Reading

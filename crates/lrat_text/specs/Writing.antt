@@ -1,7 +1,8 @@
 -- The line that is written for a step.
-use Rattle.std.specs.Prelude.{ℕ, List, ◌++◌, codes, bytes_eq, Option, Some, None, if◌then◌else◌}
-use Rattle.std.specs.List.{join_with_byte}
-use Rattle.lrat_text.specs.Grammar.{space, step_tokens}
+use Rattle.std.specs.Prelude.{ℕ, List, [], ◌++◌, codes, bytes_eq, Option, Some, None, if◌then◌else◌}
+use Rattle.std.specs.List.{join_with_byte, flat_map}
+use Rattle.dimacs.specs.logic.Literal.{Literal}
+use Rattle.lrat_text.specs.Grammar.{space, literal_token, step_tokens}
 use Rattle.lrat_text.specs.declared.step.Step.{Step}
 use Rattle.lrat_text.specs.declared.step.Step.TheVariants.{Add, Delete}
 
@@ -17,3 +18,13 @@ line_of top step = line_text top step ++ codes "\n"
 abbrev pub written_id : List ℕ → Step → Option ℕ
 written_id line (Add id lits hints groups) = if bytes_eq line (line_text id (Add id lits hints groups)) then Some id else None
 written_id line (Delete ids) = None
+
+-- literals, each behind a space, and the 0 behind them
+abbrev pub literals_text : List Literal → List ℕ
+literals_text lits = flat_map (λ l. codes " " ++ literal_token l) lits ++ codes " 0"
+
+-- the addition for which this line is written, without its literals, and their text
+abbrev pub written_around : List ℕ → Step → Option (Step × List ℕ)
+written_around line (Add id lits hints groups) =
+    if bytes_eq line (line_text id (Add id lits hints groups)) then Some (Add id [] hints groups, literals_text lits) else None
+written_around line (Delete ids) = None

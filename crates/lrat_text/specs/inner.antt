@@ -1,7 +1,5 @@
 -- What only private contracts, invariants and proofs name. Nothing here is to be believed.
-pub mod Glyphs
 pub mod Groups
-pub mod Packed
 pub mod Pieces
 pub mod Tokens
 pub mod Writing

@@ -1,24 +1,23 @@
 //! LRAT texts: steps of a proof, and the lines that spell them.
 #![tactic(auto)]
 
+mod around;
 mod backwards;
 mod buffer;
 mod fault;
-mod glyphs;
 mod groups;
 mod laws;
 mod line;
 mod lines;
-mod packed;
-mod packed_lines;
 mod reader;
 mod reading;
-mod rope;
+mod short;
 mod step;
 mod token;
 mod writing;
 mod written;
 
+pub use around::{put_around, read_around};
 pub use buffer::StepBuffer;
 pub use fault::TextFault;
 pub use groups::Groups;
@@ -28,8 +27,6 @@ pub use laws::{
 };
 pub use line::read_line;
 pub use lines::{LineBuffer, PieceFault, TakesLines, take_lines};
-pub use packed::PackedText;
-pub use packed_lines::PackedLines;
 pub use reader::{StepReader, read_pieces};
 pub use reading::{cut_line, next};
 pub use step::{ClauseNumbers, Literals, Step, StepRef};

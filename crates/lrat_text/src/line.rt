@@ -1,7 +1,7 @@
 //! A line, read part by part into a buffer.
 
-ghost use Rattle.std.specs.Prelude.{◌≡◌, ℕ, ◌<◌, ◌≤◌, List, [], length, IfSome, Ok, OnOk, IfOk};
-ghost use Rattle.dimacs.specs.logic.Literal.{Literal};
+ghost use Rattle.std.specs.Prelude.{◌≡◌, if◌then◌else◌, ℕ, ◌<◌, ◌≤◌, List, [], length, IfSome, Ok, OnOk, IfOk};
+ghost use Rattle.dimacs.specs.logic.Literal.{Literal, Neg, Pos};
 ghost use Rattle.lrat_text.specs.Grammar.{SpellsStep};
 ghost use Rattle.lrat_text.specs.Reading.{ended, ids_in, groups_in, hints_in, literals_in, body_in, first_in, step_in, line_tokens, is_trimmed, GivesStep, Gives};
 ghost use Rattle.lrat_text.specs.inner.Tokens.{IsCounted, tokens_from};
@@ -11,10 +11,11 @@ ghost use Rattle.lrat_text.specs.declared.step.Step.TheVariants as owned;
 use crate::buffer::StepBuffer;
 use crate::fault::TextFault;
 use crate::groups::Groups;
+use crate::short::{next_plus, next_signed};
 use crate::step::Step;
 use crate::token::{Token, next_token};
 use dimacs::{Lit, Var};
-use std::alloc::Global;
+use std::alloc::{AllocError, Global};
 
 /// The greatest variable of a proof.
 const MAX_VAR: u64 = 2_000_000;
@@ -27,6 +28,52 @@ fn read_end(text: &[u8]) -> Result<(), TextFault>
         None => Ok(()),
         Some(_) => Err(TextFault::BadToken),
     }
+}
+
+/// Takes hints as far as they are short, and answers what follows them.
+#[tactic(auto, unfolding(crate::specs::Reading::hints_in))]
+#[inline(always)]
+fn take_hints<'a>(hints: &mut Vec<u64>, text: &'a [u8]) -> Result<&'a [u8], AllocError>
+    ensures { IfOk result (λ rest. (id : ℕ) (lits : List Literal) → hints_in id lits hints.new.items (line_tokens rest.now) ≡ hints_in id lits hints.old.items (line_tokens text.now)) }
+{
+    let mut rest = text;
+    while let Some((n, after)) = next_plus(rest) {
+        hints.push(n)?;
+        rest = after;
+    }
+    Ok(rest)
+}
+
+/// The literal of a variable's number.
+#[inline(always)]
+fn literal_of(number: u64, is_negative: bool) -> Lit
+    requires { (1 ≤ number) × (number ≤ 2000000) }
+    ensures { result ≡ if is_negative then Neg number else Pos number }
+{
+    let literal = Lit::positive(Var::new(number as u32));
+    if is_negative {
+        literal.negate()
+    } else {
+        literal
+    }
+}
+
+/// Takes literals as far as they are short numbers within the limit, and answers what follows them.
+#[tactic(auto, unfolding(crate::specs::Reading::literals_in))]
+#[inline(always)]
+fn take_literals<'a>(literals: &mut Vec<Lit>, text: &'a [u8]) -> Result<&'a [u8], AllocError>
+    ensures literals { IfOk result (λ rest. (id : ℕ) → literals_in id literals.new.items (line_tokens rest.now) ≡ literals_in id literals.old.items (line_tokens text.now)) }
+    ensures shorter { IfOk result (λ rest. length rest.now ≤ length text.now) }
+{
+    let mut rest = text;
+    while let Some((n, is_negative, after)) = next_signed(rest) {
+        if n > MAX_VAR {
+            return Ok(rest);
+        }
+        literals.push(literal_of(n, is_negative))?;
+        rest = after;
+    }
+    Ok(rest)
 }
 
 /// The numbers of a deletion, up to `0`.
@@ -69,11 +116,15 @@ fn read_groups(groups: &mut Groups, text: &[u8]) -> Result<(), TextFault>
 
 /// The hints, up to `0` or the first group, and the groups.
 #[tactic(auto, unfolding(crate::specs::Reading::hints_in))]
-fn read_hints(numbers: &mut Vec<u64>, groups: &mut Groups, text: &[u8]) -> Result<(), TextFault>
+pub(crate) fn read_hints(
+    numbers: &mut Vec<u64>,
+    groups: &mut Groups,
+    text: &[u8],
+) -> Result<(), TextFault>
     requires none { groups.old ≡ [] }
     ensures { (id : ℕ) (lits : List Literal) → GivesStep (owned.Add id lits numbers.new.items groups.new) result (hints_in id lits numbers.old.items (line_tokens text.now)) }
 {
-    let mut rest = text;
+    let mut rest = take_hints(numbers, text)?;
     while let Some((token, after)) = next_token(rest) {
         match token {
             Token::Zero => return read_end(after),
@@ -122,7 +173,7 @@ fn read_literals(
             Token::LargePlus | Token::LargeMinus => return Err(TextFault::NumberTooLarge),
             Token::Letter | Token::Other => return Err(TextFault::BadToken),
         }
-        next = next_token(after);
+        next = next_token(take_literals(literals, after)?);
     }
     Err(TextFault::MissingZero)
 }

@@ -36,7 +36,7 @@ const SHORT: usize = 10;
 
 /// Only the space stands between tokens.
 #[inline(always)]
-fn is_space(byte: u8) -> bool
+pub(crate) fn is_space(byte: u8) -> bool
     ensures { result ≡ is_space byte }
 {
     byte == b' '
@@ -57,7 +57,7 @@ fn space_len(text: &[u8]) -> usize
 }
 
 /// How many bytes stand before the first space.
-fn word_len(text: &[u8]) -> usize
+pub(crate) fn word_len(text: &[u8]) -> usize
     ensures value { result ≡ position_or_len is_space text.now }
     ensures bound { result ≤ length text.now }
 {
@@ -184,7 +184,7 @@ fn short_number_within(text: &[u8], end: usize) -> Option<(u64, usize)>
 /// apart, a check takes an eighth less time. Mostly as many bytes are there, so that the loop has a fixed end: it is compiled
 /// without a loop, one test a digit, each with a history of its own by which it is foretold.
 #[inline(always)]
-fn short_number(text: &[u8]) -> Option<(u64, usize)>
+pub(crate) fn short_number(text: &[u8]) -> Option<(u64, usize)>
     ensures len { IfSome result (λ p. p.1 ≡ position_or_len is_space text.now) }
     ensures bound { IfSome result (λ p. p.1 ≤ length text.now) }
     ensures value { IfSome result (λ p. natural_of (take p.1 text.now) ≡ Some p.0) }
@@ -252,7 +252,7 @@ fn first_token(text: &[u8]) -> (Token, usize)
 /// What follows the first token, which has that many bytes, without the space that ends it: so the next token mostly stands first
 /// there.
 #[inline(always)]
-fn behind_token(text: &[u8], len: usize) -> &[u8]
+pub(crate) fn behind_token(text: &[u8], len: usize) -> &[u8]
     requires len { len ≡ position_or_len is_space text.now }
     requires inside { len ≤ length text.now }
     ensures tokens { line_tokens result.now ≡ line_tokens (drop len text.now) }

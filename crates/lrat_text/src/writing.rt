@@ -14,14 +14,14 @@ use itoa::Buffer;
 use std::alloc::AllocError;
 
 #[inline(always)]
-fn put_text(out: &mut Vec<u8>, text: &[u8]) -> Result<(), AllocError>
+pub(crate) fn put_text(out: &mut Vec<u8>, text: &[u8]) -> Result<(), AllocError>
     ensures ok { OnOk result (out.new.items ≡ out.old.items ++ text.now) }
     ensures begins { Begins out.old.items out.new.items }
 {
     out.extend_from_slice(text)
 }
 
-fn put_number(out: &mut Vec<u8>, number: u64) -> Result<(), AllocError>
+pub(crate) fn put_number(out: &mut Vec<u8>, number: u64) -> Result<(), AllocError>
     ensures ok { OnOk result (out.new.items ≡ out.old.items ++ decimal number) }
     ensures begins { Begins out.old.items out.new.items }
 {
@@ -107,7 +107,11 @@ fn put_lemma(out: &mut Vec<u8>, id: u64, lits: &[Lit]) -> Result<(), AllocError>
     put_text(out, b" 0")
 }
 
-fn put_reasons(out: &mut Vec<u8>, hints: &[u64], groups: &Groups) -> Result<(), AllocError>
+pub(crate) fn put_reasons(
+    out: &mut Vec<u8>,
+    hints: &[u64],
+    groups: &Groups,
+) -> Result<(), AllocError>
     ensures ok { OnOk result (out.new.items ≡ out.old.items ++ reasons_text hints.now groups.now) }
     ensures begins { Begins out.old.items out.new.items }
 {

@@ -25,7 +25,8 @@ use crate::subtree::{Subtree, Writer, put_fork, put_leaf};
 use cube_split::Preamble;
 use dimacs::{Formula, Lit};
 use icnf::Tree;
-use lrat_text::{PackedText, StepBuffer};
+use lrat_text::StepBuffer;
+use packed_text::PackedText;
 use std::alloc::Global;
 use std::marker::Model;
 

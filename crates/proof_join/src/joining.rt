@@ -12,7 +12,7 @@ use crate::front::Joining;
 use cube_split::Preamble;
 use dimacs::Formula;
 use icnf::Tree;
-use lrat_text::PackedText;
+use packed_text::PackedText;
 use std::alloc::{AllocError, Global};
 
 /// Joins the fragments that close the leaves of a tree into one proof: the preamble's lines, and then each subtree's, the

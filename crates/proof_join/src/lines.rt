@@ -9,11 +9,12 @@ ghost use Rattle.lrat_text.specs.declared.step.Step.{Step};
 ghost use Rattle.proof_join.specs.Numbering.{behind, renumbered};
 ghost use Rattle.lrat_text.specs.Runs.{text_of, top_of};
 ghost use Rattle.proof_join.specs.Steps.{steps_in};
-ghost use Rattle.proof_join.specs.inner.Steps.{IsLow, IsOwn, Writes, last_of};
+ghost use Rattle.proof_join.specs.inner.Steps.{IsLow, IsOwn, Writes, IsApart, IsHeld, last_of};
 
 use crate::fault::JoinFault;
-use crate::output::{Output, put_copy, put_line};
-use lrat_text::{PackedLines, PackedText, StepBuffer, StepRef, TextFault, read_line, written_id};
+use crate::output::{Output, put_addition, put_copy, put_line};
+use lrat_text::{StepBuffer, StepRef, TextFault, read_around, read_line, written_id};
+use packed_text::{PackedLines, PackedText};
 use std::alloc::{AllocError, Global};
 use std::mem::swap;
 
@@ -66,22 +67,79 @@ pub(crate) struct Scratch {
     pub(crate) numbers: Vec<u64>,
 }
 
+/// A fragment's step, lent: its literals are given as their text where they were not read.
+#[derive(Clone, Copy)]
+struct Found<'a> {
+    step: StepRef<'a>,
+    literals: Option<&'a [u8]>,
+}
+
+/// Reads a line into the buffer: where it stands as it is written, without its literals, whose text is answered.
+fn read_apart<'a>(buffer: &mut StepBuffer, line: &'a [u8]) -> Result<Option<&'a [u8]>, TextFault>
+    requires spelled { (step : Step) × SpellsStep line.now step }
+    ensures { IfOk result (λ literals. (step : Step) → SpellsStep line.now step → IsHeld literals buffer.new step) }
+{
+    match read_around(buffer, line) {
+        Ok(Some(literals)) => Ok(Some(literals)),
+        Ok(None) => match read_line(buffer, line) {
+            Ok(()) => Ok(None),
+            Err(fault) => Err(fault),
+        },
+        Err(fault) => Err(fault),
+    }
+}
+
+/// Appends the line of a step.
+fn put_found(out: &mut Output<'_>, top: u64, found: Found<'_>) -> Result<(), JoinFault>
+    requires limits { IsStep (step_of found.step) }
+    requires numbered { IsClauseNumber top }
+    ensures { (step : Step) → IsHeld found.entry.literals (step_of found.entry.step) step → Writes result out.new (out.old ++ line_of top step) }
+{
+    match found.literals {
+        Some(literals) => put_apart(out, top, literals, found.step),
+        None => put_line(out, top, found.step),
+    }
+}
+
+/// Appends the line of an addition that is held without its literals.
+fn put_apart(
+    out: &mut Output<'_>,
+    top: u64,
+    literals: &[u8],
+    held: StepRef<'_>,
+) -> Result<(), JoinFault>
+    requires limits { IsStep (step_of held) }
+    requires numbered { IsClauseNumber top }
+    ensures { (step : Step) → IsApart literals.now (step_of held.entry) step → Writes result out.new (out.old ++ line_of top step) }
+{
+    match held {
+        StepRef::Add {
+            id,
+            hints,
+            groups,
+            ..
+        } => put_addition(out, id, literals, hints, groups),
+        StepRef::Delete { .. } => put_line(out, top, held),
+    }
+}
+
 /// Appends a step of a fragment, renumbered, and tells the number of the last addition.
 fn put_renumbered(
     out: &mut Output<'_>,
     numbers: &mut Vec<u64>,
     shift: Shift,
     top: u64,
-    step: StepRef<'_>,
+    found: Found<'_>,
 ) -> Result<u64, JoinFault>
-    requires limits { IsStep (step_of step) }
-    requires low { IsLow (shift.base + (top - shift.begun)) (step_of step) }
+    requires limits { IsStep (step_of found.step) }
+    requires low { IsLow (shift.base + (top - shift.begun)) (step_of found.step) }
     requires begun { (1 ≤ shift.base) × (shift.base ≤ shift.begun) × (shift.begun ≤ top) }
     requires top { top + 1 < 2 ^ 48 }
-    ensures text { Writes result out.new (out.old ++ line_of top (renumbered (behind shift.base shift.begun) (step_of step.entry))) }
-    ensures top { IfOk result (λ n. n ≡ top_after top (renumbered (behind shift.base shift.begun) (step_of step.entry))) }
+    ensures text { (step : Step) → IsHeld found.entry.literals (step_of found.entry.step) step → Writes result out.new (out.old ++ line_of top (renumbered (behind shift.base shift.begun) step)) }
+    ensures top { (step : Step) → IsHeld found.entry.literals (step_of found.entry.step) step → IfOk result (λ n. n ≡ top_after top (renumbered (behind shift.base shift.begun) step)) }
 {
-    match step {
+    let literals = found.literals;
+    match found.step {
         StepRef::Add {
             id,
             lits,
@@ -93,13 +151,13 @@ fn put_renumbered(
                 Err(_) => return Err(JoinFault::NoMemory),
             }
             let id = shift.number(id);
-            let line = StepRef::Add {
+            let step = StepRef::Add {
                 id,
                 lits,
                 hints: numbers,
                 groups,
             };
-            match put_line(out, top, line) {
+            match put_found(out, top, Found { step, literals }) {
                 Ok(()) => Ok(id),
                 Err(fault) => Err(fault),
             }
@@ -109,7 +167,8 @@ fn put_renumbered(
                 Ok(()) => {}
                 Err(_) => return Err(JoinFault::NoMemory),
             }
-            match put_line(out, top, StepRef::Delete { ids: numbers }) {
+            let step = StepRef::Delete { ids: numbers };
+            match put_found(out, top, Found { step, literals }) {
                 Ok(()) => Ok(top),
                 Err(fault) => Err(fault),
             }
@@ -119,7 +178,8 @@ fn put_renumbered(
 
 /// Appends a fragment's line, renumbered, and tells the number of the last addition.
 ///
-/// Where every number stays, as in a run with one leaf, an addition that stands as it is written is copied and not read.
+/// Of an addition that stands as it is written the whole line is copied where every number stays, as in a run with one
+/// leaf; elsewhere its literals are, and its number and hints alone are read.
 fn put_fragment_line(
     out: &mut Output<'_>,
     scratch: &mut Scratch,
@@ -142,17 +202,15 @@ fn put_fragment_line(
             };
         }
     }
-    match read_line(&mut scratch.buffer, line) {
-        Ok(()) => {}
+    let literals = match read_apart(&mut scratch.buffer, line) {
+        Ok(literals) => literals,
         Err(_) => return Err(JoinFault::NoMemory),
-    }
-    put_renumbered(
-        out,
-        &mut scratch.numbers,
-        shift,
-        top,
-        scratch.buffer.as_ref(),
-    )
+    };
+    let found = Found {
+        step: scratch.buffer.as_ref(),
+        literals,
+    };
+    put_renumbered(out, &mut scratch.numbers, shift, top, found)
 }
 
 /// Reads the last line, if there is one: it may have been copied.

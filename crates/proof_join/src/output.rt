@@ -1,13 +1,16 @@
 //! The text that is written.
 
-ghost use Rattle.std.specs.Prelude.{◌≡◌, ◌<◌, ◌++◌, codes, length};
+ghost use Rattle.std.specs.Prelude.{◌≡◌, ℕ, ◌<◌, List, ◌++◌, codes, length};
+ghost use Rattle.dimacs.specs.logic.Literal.{Literal};
 ghost use Rattle.lrat_text.specs.Grammar.{IsStep, IsClauseNumber};
 ghost use Rattle.lrat_text.specs.Steps.{step_of};
-ghost use Rattle.lrat_text.specs.Writing.{line_of};
+ghost use Rattle.lrat_text.specs.Writing.{line_of, literals_text};
+ghost use Rattle.lrat_text.specs.declared.step.Step.TheVariants as owned;
 ghost use Rattle.proof_join.specs.inner.Steps.{Writes};
 
 use crate::fault::JoinFault;
-use lrat_text::{PackedText, StepRef, put_ref};
+use lrat_text::{Groups, StepRef, put_around, put_ref};
+use packed_text::PackedText;
 use std::alloc::Global;
 use std::marker::Model;
 
@@ -86,6 +89,23 @@ pub(crate) fn put_line(out: &mut Output<'_>, top: u64, step: StepRef<'_>) -> Res
 {
     out.line.clear();
     match put_ref(step, top, &mut out.line) {
+        Ok(()) => append(&mut out.text, out.like, &out.line),
+        Err(_) => Err(JoinFault::NoMemory),
+    }
+}
+
+/// Appends the line of an addition whose literals are given as their text, where the text stays below 2^32 bytes.
+pub(crate) fn put_addition(
+    out: &mut Output<'_>,
+    id: u64,
+    literals: &[u8],
+    hints: &[u64],
+    groups: &Groups,
+) -> Result<(), JoinFault>
+    ensures { (top : ℕ) (lits : List Literal) → literals.now ≡ literals_text lits → Writes result out.new (out.old ++ line_of top (owned.Add id lits hints.now groups.now)) }
+{
+    out.line.clear();
+    match put_around(id, literals, hints, groups, &mut out.line) {
         Ok(()) => append(&mut out.text, out.like, &out.line),
         Err(_) => Err(JoinFault::NoMemory),
     }

@@ -12,7 +12,8 @@ use crate::fault::JoinFault;
 use crate::lines::{Scratch, Shift, put_fragment};
 use crate::output::{Output, put_line};
 use dimacs::{Lit, has_literal};
-use lrat_text::{Groups, PackedText, StepBuffer, StepRef};
+use lrat_text::{Groups, StepBuffer, StepRef};
+use packed_text::PackedText;
 use std::alloc::{AllocError, Global};
 
 /// The clause that stands for a subtree, and its number.

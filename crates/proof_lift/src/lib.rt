@@ -6,6 +6,7 @@
 //! nothing but the empty lemma is wanting and no hints close it.
 #![tactic(auto)]
 
+mod additions;
 mod closing;
 mod fault;
 mod images;

@@ -1,29 +1,23 @@
 //! Lifting, step by step.
 
-ghost use Rattle.std.specs.Prelude.{◌≡◌, ◌<◌, ◌≤◌, ◌+◌, ◌*◌, ◌⊎◌, ◌++◌, [], Ok, Err, Some, OnOk, IfOk, IfErr, length, vec_len, All, true, false};
+ghost use Rattle.std.specs.Prelude.{◌≡◌, ◌<◌, ◌≤◌, ◌+◌, ◌*◌, ◌⊎◌, [], Ok, Err, Some, OnOk, IfOk, IfErr, length, vec_len, All, true, false};
 ghost use Rattle.std.specs.Bool.{MatchBool};
 ghost use Rattle.dimacs.specs.logic.Literal.{IsWithin};
-ghost use Rattle.dimacs.specs.logic.Propagation.{negations};
 ghost use Rattle.lrat_check.specs.inner.Table.{FitsTable};
-ghost use Rattle.lrat_text.specs.Grammar.{IsStep, IsClauseNumber};
+ghost use Rattle.lrat_text.specs.Grammar.{IsStep};
 ghost use Rattle.lrat_text.specs.Steps.{step_of};
-ghost use Rattle.lrat_text.specs.Writing.{line_of};
 ghost use Rattle.lrat_text.specs.declared.step.Step.TheVariants as owned;
-ghost use Rattle.proof_lift.specs.Lifting.{lift_step, lift_addition, lift_lemma, with_stand, begun, after_deletion, own_numbers, all_live};
-ghost use Rattle.proof_lift.specs.Trimming.{union};
-ghost use Rattle.proof_lift.specs.Walking.{lift_walk, Gone, Kept};
+ghost use Rattle.proof_lift.specs.Lifting.{lift_step, begun, after_deletion, own_numbers, all_live};
 ghost use Rattle.proof_lift.specs.inner.Clean.{IsClean};
 ghost use Rattle.proof_lift.specs.inner.Faults.{line_fault_number};
 ghost use Rattle.proof_lift.specs.inner.Images.{stands_of};
-ghost use Rattle.proof_lift.specs.inner.Ready.{IsReady, IsAssumed, IsSame, SameLeaf, state_of};
+ghost use Rattle.proof_lift.specs.inner.Ready.{IsReady, IsSame, SameLeaf, state_of};
 ghost use Rattle.proof_lift.specs.inner.Closing.{IsClosed, NothingCloses};
 ghost use Rattle.proof_lift.specs.inner.Writing.{WritesAs, IsFront};
 
 use crate::fault::LineFault;
 use crate::images::{Image, Images};
-use crate::lemmas::Own;
 use crate::live::LIMIT;
-use crate::marks::{assume_negations, join_cube, meets};
 use crate::reached::refuting_hints;
 use crate::scratch::Scratch;
 use dimacs::{Formula, Lit};
@@ -41,7 +35,7 @@ pub(crate) struct Lemma<'a> {
 /// What is known between two steps.
 #[derive(Drop)]
 pub(crate) struct Lifting {
-    alloc: Global,
+    pub(crate) alloc: Global,
     pub(crate) images: Images,
     pub(crate) cube: Vec<Lit>,
     /// The greatest foreign number.
@@ -89,136 +83,6 @@ impl Lifting {
             closed: false,
             scratch,
         })
-    }
-
-    /// Nothing stands for a lemma that has a literal of the cube.
-    fn pass(&mut self, id: u64) -> Result<(), LineFault>
-        requires lemma { self.old.top < id }
-        requires live { length self.old.images.live.items ≤ self.old.top + 1 }
-        ensures stands { OnOk result (stands_of self.new.images ≡ with_stand (stands_of self.old.images) id (Some Gone)) }
-        ensures counts { OnOk result ((self.new.top ≡ id) × (self.new.own ≡ self.old.own) × (self.new.closed ≡ self.old.closed)) }
-        ensures same { OnOk result (IsSame self.old self.new) }
-        ensures refused { IfErr result (λ f. f ≡ LineFault.NoMemory) }
-    {
-        self.images.put(id, None)?;
-        self.top = id;
-        Ok(())
-    }
-
-    /// Writes a lemma in the place of the foreign one of this number.
-    fn write(
-        &mut self,
-        id: u64,
-        empty: bool,
-        literals: Vec<Lit>,
-        out: &mut Vec<u8>,
-    ) -> Result<(), LineFault>
-        requires lemma { self.old.top < id }
-        requires live { length self.old.images.live.items ≤ self.old.top + 1 }
-        requires number { IsClauseNumber (self.old.own + 1) }
-        requires literals { All (IsWithin 2000000) literals.items }
-        requires hints { All IsClauseNumber self.old.scratch.numbers.items }
-        ensures stands { OnOk result (stands_of self.new.images ≡ with_stand (stands_of self.old.images) id (Some (Kept (self.old.own + 1) literals.items))) }
-        ensures counts { OnOk result ((self.new.top ≡ id) × (self.new.own ≡ self.old.own + 1) × (self.new.closed ≡ empty)) }
-        ensures text { OnOk result (out.new.items ≡ out.old.items ++ line_of (self.old.own + 1) (owned.Add (self.old.own + 1) literals.items self.old.scratch.numbers.items [])) }
-        ensures same { OnOk result (IsSame self.old self.new) }
-        ensures refused { IfErr result (λ f. f ≡ LineFault.NoMemory) }
-        ensures front { IsFront out.old.items out.new.items }
-    {
-        let number = self.own + 1;
-        let no_group = Groups::new(self.alloc);
-        let line = StepRef::Add {
-            id: number,
-            lits: &literals,
-            hints: &self.scratch.numbers,
-            groups: &no_group,
-        };
-        put_ref(line, number, out)?;
-        self.images.put(id, Some(Own { number, literals }))?;
-        self.top = id;
-        self.own = number;
-        self.closed = empty;
-        Ok(())
-    }
-
-    /// Lifts a lemma whose negations are marked, and that has no literal of the cube.
-    fn lift(
-        &mut self,
-        id: u64,
-        lemma: Lemma<'_>,
-        line: u64,
-        out: &mut Vec<u8>,
-    ) -> Result<(), LineFault>
-        requires lemma { self.old.top < id }
-        requires number { IsClauseNumber id }
-        requires literals { All (IsWithin 2000000) lemma.lits.now }
-        requires ready { IsAssumed line self.old lemma.lits.now }
-        ensures writes { OnOk result (WritesAs (lift_lemma self.old.cube.items (state_of self.old) id lemma.entry.lits.now
-            (lift_walk (stands_of self.old.images) lemma.entry.hints.now (negations (union self.old.cube.items lemma.entry.lits.now)))) (state_of self.old).own (state_of self.new) out.old.items out.new.items) }
-        ensures refused { IfErr result (λ f. (f ≡ LineFault.NoMemory) ⊎ (lift_lemma self.old.cube.items (state_of self.old) id lemma.entry.lits.now
-            (lift_walk (stands_of self.old.images) lemma.entry.hints.now (negations (union self.old.cube.items lemma.entry.lits.now))) ≡ Err (line_fault_number f))) }
-        ensures ready { OnOk result (IsReady (line + 1) self.new) }
-        ensures leaf { OnOk result (SameLeaf self.old self.new) }
-        ensures front { IsFront out.old.items out.new.items }
-    {
-        self.scratch.clause.clear();
-        self.scratch.clause.extend_from_slice(lemma.lits)?;
-        join_cube(
-            &mut self.scratch.marks,
-            line,
-            &self.cube,
-            &mut self.scratch.clause,
-        )?;
-        let literals = match self
-            .scratch
-            .derive(self.alloc, &self.images, line, lemma.hints)
-        {
-            Ok(literals) => literals,
-            Err(fault) => return Err(fault),
-        };
-        match self.write(id, lemma.lits.is_empty(), literals, out) {
-            Ok(()) => Ok(()),
-            Err(fault) => Err(fault),
-        }
-    }
-
-    /// Lifts an addition.
-    fn add(
-        &mut self,
-        id: u64,
-        lemma: Lemma<'_>,
-        line: u64,
-        out: &mut Vec<u8>,
-    ) -> Result<(), LineFault>
-        requires number { IsClauseNumber id }
-        requires literals { All (IsWithin 2000000) lemma.lits.now }
-        requires ready { IsReady line self.old }
-        ensures writes { OnOk result (WritesAs (lift_addition self.old.cube.items (state_of self.old) id lemma.entry.lits.now lemma.entry.hints.now lemma.entry.groups.now) (state_of self.old).own (state_of self.new) out.old.items out.new.items) }
-        ensures refused { IfErr result (λ f. (f ≡ LineFault.NoMemory) ⊎ (lift_addition self.old.cube.items (state_of self.old) id lemma.entry.lits.now lemma.entry.hints.now lemma.entry.groups.now ≡ Err (line_fault_number f))) }
-        ensures ready { OnOk result (IsReady (line + 1) self.new) }
-        ensures leaf { OnOk result (SameLeaf self.old self.new) }
-        ensures front { IsFront out.old.items out.new.items }
-    {
-        if id <= self.top {
-            return Err(LineFault::NumberNotRising);
-        }
-        self.scratch.make_room(lemma.lits)?;
-        if assume_negations(&mut self.scratch.marks, line, lemma.lits) {
-            return Err(LineFault::Tautology);
-        }
-        if !lemma.groups.is_empty() {
-            return Err(LineFault::NotRup);
-        }
-        if meets(&self.scratch.marks, line, &self.cube) {
-            return match self.pass(id) {
-                Ok(()) => Ok(()),
-                Err(fault) => Err(fault),
-            };
-        }
-        match self.lift(id, lemma, line, out) {
-            Ok(()) => Ok(()),
-            Err(fault) => Err(fault),
-        }
     }
 
     /// Takes the numbers out, and leaves those of the lemmas that were written.

@@ -3,8 +3,8 @@
 ghost use Rattle.std.specs.Prelude.{◌+◌, ◌<◌, ◌≤◌, length, IfOk, IfSome};
 ghost use Rattle.std.specs.Bool.{OnTrue};
 
-use lrat_text::PackedText;
 use memchr::memrchr;
+use packed_text::PackedText;
 use std::alloc::{AllocError, Global};
 use std::marker::Model;
 

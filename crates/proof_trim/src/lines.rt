@@ -3,8 +3,8 @@
 ghost use Rattle.std.specs.Prelude.{◌≡◌, ◌==◌, count_by, IfOk};
 ghost use Rattle.lrat_text.specs.Grammar.{lf};
 
-use lrat_text::PackedText;
 use memchr::memchr;
+use packed_text::PackedText;
 use std::alloc::{AllocError, Global};
 
 /// So many bytes are unpacked at once. The number is even, so that each block begins with a byte of two characters.

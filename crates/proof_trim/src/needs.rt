@@ -5,7 +5,8 @@ ghost use Rattle.lrat_text.specs.Grammar.{IsClauseNumber};
 
 use crate::backwards::LinesBack;
 use crate::lines::deletes;
-use lrat_text::{PackedText, StepBuffer, StepRef, TextFault, read_line};
+use lrat_text::{StepBuffer, StepRef, TextFault, read_line};
+use packed_text::PackedText;
 use std::alloc::{AllocError, Global};
 use std::marker::Model;
 

@@ -5,7 +5,8 @@ ghost use Rattle.lrat_text.specs.Steps.{step_of};
 
 use crate::lines::deletes;
 use crate::needs::Needs;
-use lrat_text::{Groups, PackedLines, PackedText, StepBuffer, StepRef, TextFault, read_line};
+use lrat_text::{Groups, StepBuffer, StepRef, TextFault, read_line};
+use packed_text::{PackedLines, PackedText};
 use std::alloc::{AllocError, Global};
 use std::marker::Model;
 

@@ -11,7 +11,8 @@ use crate::needs::Needs;
 use crate::rewriting::rewrite;
 use dimacs::{Base, Lit};
 use lrat_check::check_packed_fragment;
-use lrat_text::{PackedText, StepBuffer, StepRef, TextFault, read_line};
+use lrat_text::{StepBuffer, StepRef, TextFault, read_line};
+use packed_text::PackedText;
 use std::alloc::{AllocError, Global};
 
 /// A fragment with fewer lemmas than this needs nearly all of them.

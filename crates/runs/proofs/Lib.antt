@@ -1,4 +1,4 @@
 mod Machines
-mod Standings
-mod Refusals
-mod Servings
+mod Counts
+mod Closings
+mod Turns

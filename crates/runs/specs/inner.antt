@@ -1,3 +1,4 @@
 -- What only private contracts, invariants and proofs name. Nothing here is to be believed.
 pub mod Accounts
-pub mod Served
+pub mod Lines
+pub mod Seats

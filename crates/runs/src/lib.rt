@@ -10,6 +10,7 @@ mod coordinating;
 mod inbox;
 mod line;
 mod pace;
+mod peer;
 mod plan;
 mod post;
 mod rounds;

@@ -1,9 +1,8 @@
 //! Frames over links.
 
-ghost use Rattle.std.specs.Prelude.{◌≡◌, ◌≤◌, ◌+◌, [], OnOk, OnErr};
+ghost use Rattle.std.specs.Prelude.{◌≤◌};
 ghost use Rattle.links.specs.Ends.{link_of};
-ghost use Rattle.runs.specs.Accounts.{RoseBy};
-ghost use Rattle.runs.specs.inner.Accounts.{NoneRefused, OneRefused};
+ghost use Rattle.runs.specs.inner.Accounts.{RoseWithin, Refuses, one_if_none, one_if_err};
 
 use crate::broken::Broken;
 use crate::inbox::Inbox;
@@ -19,13 +18,8 @@ pub(crate) const ROUNDS: u64 = 1_000_000;
 /// Sends a frame.
 pub(crate) fn send<L: Links>(links: &mut L, from: End, frame: &Frame) -> Result<(), Broken>
     requires { link_of from ≤ 64 }
-    ensures least { RoseBy 1 (L.call_count links.old) (L.call_count links.new) }
-    ensures most { L.call_count links.new ≤ L.call_count links.old + 1 }
-    ensures rises { L.call_count links.old ≤ L.call_count links.new }
-    ensures ok { OnOk result (L.refusal_count links.new ≤ L.refusal_count links.old) }
-    ensures err { OnErr result (L.refusal_count links.new ≤ L.refusal_count links.old + 1) }
-    ensures unrefused { OnOk result (NoneRefused (L.refused_at links.old) (L.refused_at links.new)) }
-    ensures refused { OneRefused (link_of from) (L.refused_at links.old) (L.refused_at links.new) }
+    ensures calls { RoseWithin 1 1 (L.call_count links.old) (L.call_count links.new) }
+    ensures refusals { Refuses L.refusal_count L.refused_at (link_of from) (one_if_err result) 0 links.old links.new }
 {
     let mut room = [0u8; LONGEST];
     let count = len(frame);
@@ -39,13 +33,8 @@ pub(crate) fn send<L: Links>(links: &mut L, from: End, frame: &Frame) -> Result<
 /// Receives once.
 fn receive_some<L: Links>(links: &mut L, at: End, inbox: &mut Inbox) -> Result<(), Broken>
     requires { link_of at ≤ 64 }
-    ensures least { RoseBy 1 (L.call_count links.old) (L.call_count links.new) }
-    ensures most { L.call_count links.new ≤ L.call_count links.old + 1 }
-    ensures rises { L.call_count links.old ≤ L.call_count links.new }
-    ensures ok { OnOk result (L.refusal_count links.new ≤ L.refusal_count links.old) }
-    ensures err { OnErr result (L.refusal_count links.new ≤ L.refusal_count links.old + 1) }
-    ensures unrefused { OnOk result (NoneRefused (L.refused_at links.old) (L.refused_at links.new)) }
-    ensures refused { OneRefused (link_of at) (L.refused_at links.old) (L.refused_at links.new) }
+    ensures calls { RoseWithin 1 1 (L.call_count links.old) (L.call_count links.new) }
+    ensures refusals { Refuses L.refusal_count L.refused_at (link_of at) (one_if_err result) 0 links.old links.new }
 {
     let mut room = [0u8; LONGEST];
     match links.receive(at, &mut room) {
@@ -58,21 +47,14 @@ fn receive_some<L: Links>(links: &mut L, at: End, inbox: &mut Inbox) -> Result<(
 /// 4,037 of them are enough.
 pub(crate) fn receive<L: Links>(links: &mut L, at: End, inbox: &mut Inbox) -> Result<Frame, Broken>
     requires { link_of at ≤ 64 }
-    ensures least { inbox.old.waiting.items ≡ [] → RoseBy 1 (L.call_count links.old) (L.call_count links.new) }
-    ensures most { L.call_count links.new ≤ L.call_count links.old + 4037 }
-    ensures rises { L.call_count links.old ≤ L.call_count links.new }
-    ensures ok { OnOk result (L.refusal_count links.new ≤ L.refusal_count links.old) }
-    ensures err { OnErr result (L.refusal_count links.new ≤ L.refusal_count links.old + 1) }
-    ensures unrefused { OnOk result (NoneRefused (L.refused_at links.old) (L.refused_at links.new)) }
-    ensures refused { OneRefused (link_of at) (L.refused_at links.old) (L.refused_at links.new) }
+    ensures calls { RoseWithin (one_if_none inbox.old.waiting.items) 4037 (L.call_count links.old) (L.call_count links.new) }
+    ensures refusals { Refuses L.refusal_count L.refused_at (link_of at) (one_if_err result) 0 links.old links.new }
 {
     for _ in 0..LONGEST {
         if let Some(frame) = inbox.next() {
             return Ok(frame);
         }
-        if let Err(broken) = receive_some(links, at, inbox) {
-            return Err(broken);
-        }
+        receive_some(links, at, inbox)?;
     }
     match inbox.next() {
         Some(frame) => Ok(frame),

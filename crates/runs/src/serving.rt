@@ -1,7 +1,6 @@
-//! Rounds at the coordinator's end.
+//! The run of a coordinator whose workers are elsewhere.
 
-ghost use Rattle.std.specs.Prelude.{◌≡◌, ◌≤◌, ◌+◌, ◌*◌, ◌⊎◌, ℕ, length, [], All, OnOk, OnErr, IfOk, true, false, not};
-ghost use Rattle.std.specs.List.{list_all};
+ghost use Rattle.std.specs.Prelude.{◌≡◌, ◌≤◌, ◌+◌, ◌*◌, length, All, IfOk, OnOk, OnErr, true};
 ghost use Rattle.coordinator_core.specs.Coordinator.{IsWorker};
 ghost use Rattle.dimacs.specs.logic.Cnf.{Cnf};
 ghost use Rattle.cube_split.specs.Pairs.{IsBaseWith};
@@ -9,16 +8,19 @@ ghost use Rattle.evidence.specs.Jobs.{IsInside};
 ghost use Rattle.lrat_check.specs.Verdicts.{Right};
 ghost use Rattle.lrat_check.specs.declared.verdict.Verdict.TheVariants.{Nothing};
 ghost use Rattle.runs.specs.Accounts.{RoseBy, HasBegun, OnceEach};
-ghost use Rattle.runs.specs.inner.Accounts.{NoneRefused, OneRefused, Closes, ClosesBelow, EachCloses, one_if_open};
-ghost use Rattle.runs.specs.inner.Served.{HasServed, HasTurned, open_lines};
+ghost use Rattle.runs.specs.inner.Accounts.{GoesOn, RoseWithin, Refuses, one_if_none, one_if_err, one_if_open};
+ghost use Rattle.runs.specs.inner.Lines.{Closing, IsNew};
 
-use crate::broken::{Broken, ended};
-use crate::coordinating::{deliver, gave_up, lose, poll};
+use crate::broken::Broken;
+use crate::coordinating::{begin, deliver};
 use crate::inbox::Inbox;
 use crate::line::Line;
+use crate::peer::Elsewhere;
 use crate::plan::CoordinatorPlan;
-use crate::post::{ROUNDS, receive, send};
+use crate::post::receive;
+use crate::rounds::run_rounds;
 use coordinator_core::Coordinator;
+use cube_split::Opened;
 use dimacs::Formula;
 use frames::{Frame, WorkerNumber};
 use icnf::Tree;
@@ -26,24 +28,33 @@ use links::{End, Links};
 use lrat_check::Verdict;
 use std::alloc::{AllocError, Global};
 
+/// Open lines to n workers.
+fn lines(alloc: Global, workers: u32) -> Result<Vec<Line<Elsewhere>>, AllocError>
+    ensures count { IfOk result (λ l. length l.items ≡ workers) }
+    ensures new { IfOk result (λ l. All IsNew l.items) }
+{
+    let mut lines = Vec::new(alloc);
+    for _ in 0..workers {
+        lines.push(Line {
+            inbox: Inbox::new(alloc)?,
+            is_open: true,
+            peer: Elsewhere,
+        })?;
+    }
+    Ok(lines)
+}
+
 /// The first frame of a link, which has to be Idle of its worker.
-fn greet<L: Links>(
+fn hear<L: Links>(
     links: &mut L,
     coordinator: &mut Coordinator,
     worker: WorkerNumber,
     inbox: &mut Inbox,
 ) -> Result<(), Broken>
-    requires inbox { inbox.old.waiting.items ≡ [] }
-    ensures formula { coordinator.new.formula ≡ coordinator.old.formula }
-    ensures workers { length coordinator.new.jobs ≡ length coordinator.old.jobs }
+    ensures goes_on { GoesOn coordinator.old coordinator.new }
     ensures verdict { coordinator.new.verdict ≡ coordinator.old.verdict }
-    ensures one { RoseBy 1 (L.call_count links.old) (L.call_count links.new) }
-    ensures rises { L.call_count links.old ≤ L.call_count links.new }
-    ensures most { L.call_count links.new ≤ L.call_count links.old + 4037 }
-    ensures ok { OnOk result (L.refusal_count links.new ≤ L.refusal_count links.old) }
-    ensures err { OnErr result (L.refusal_count links.new ≤ L.refusal_count links.old + 1) }
-    ensures unrefused { OnOk result (NoneRefused (L.refused_at links.old) (L.refused_at links.new)) }
-    ensures refused { OneRefused worker (L.refused_at links.old) (L.refused_at links.new) }
+    ensures calls { RoseWithin (one_if_none inbox.old.waiting.items) 4037 (L.call_count links.old) (L.call_count links.new) }
+    ensures refusals { Refuses L.refusal_count L.refused_at worker (one_if_err result) 0 links.old links.new }
 {
     let frame = receive(links, End::Coordinator(worker.number()), inbox)?;
     match &frame {
@@ -54,251 +65,67 @@ fn greet<L: Links>(
     }
 }
 
-/// A new link, which is closed where it is not greeted.
-fn line<L: Links>(
-    alloc: Global,
+/// A new line is greeted by its worker, or else closed.
+fn greet<L: Links>(
     links: &mut L,
     coordinator: &mut Coordinator,
     worker: WorkerNumber,
-) -> Result<Line, AllocError>
+    line: &mut Line<Elsewhere>,
+) -> Result<(), AllocError>
     requires worker { IsWorker coordinator.old worker }
-    ensures formula { coordinator.new.formula ≡ coordinator.old.formula }
-    ensures workers { length coordinator.new.jobs ≡ length coordinator.old.jobs }
+    requires new { IsNew line.old }
+    ensures goes_on { GoesOn coordinator.old coordinator.new }
     ensures verdict { coordinator.new.verdict ≡ coordinator.old.verdict }
-    ensures one { OnOk result (RoseBy 1 (L.call_count links.old) (L.call_count links.new)) }
-    ensures rises { L.call_count links.old ≤ L.call_count links.new }
-    ensures most { L.call_count links.new ≤ L.call_count links.old + 4037 }
-    ensures refusals { IfOk result (λ l. L.refusal_count links.new + one_if_open l.is_open ≤ L.refusal_count links.old + 1) }
-    ensures refused { L.refusal_count links.new ≤ L.refusal_count links.old + 1 }
-    ensures closes { IfOk result (λ l. Closes worker true l.is_open (L.refused_at links.old) (L.refused_at links.new)) }
-    ensures lone { OneRefused worker (L.refused_at links.old) (L.refused_at links.new) }
+    ensures calls { RoseWithin 1 4037 (L.call_count links.old) (L.call_count links.new) }
+    ensures refusals { Refuses L.refusal_count L.refused_at worker (one_if_open line.old.is_open) (one_if_open line.new.is_open) links.old links.new }
 {
-    let mut inbox = match Inbox::new(alloc) {
-        Ok(inbox) => inbox,
-        Err(error) => return Err(error),
-    };
-    match greet(links, coordinator, worker, &mut inbox) {
-        Ok(()) => Ok(Line {
-            inbox,
-            is_open: true,
-        }),
-        Err(Broken::NoMemory) => Err(AllocError),
-        Err(Broken::Closed) => {
-            inbox.clear();
-            lose(coordinator, worker);
-            Ok(Line {
-                inbox,
-                is_open: false,
-            })
-        }
+    match hear(links, coordinator, worker, &mut line.inbox) {
+        Ok(()) => Ok(()),
+        Err(broken) => line.close(coordinator, worker, broken),
     }
 }
 
-/// The links of workers 1 to n.
+/// All new lines are greeted, or else closed.
 fn greet_all<L: Links>(
-    alloc: Global,
     links: &mut L,
     coordinator: &mut Coordinator,
-    workers: u32,
-) -> Result<Vec<Line>, AllocError>
-    requires above { 1 ≤ workers }
-    requires workers { workers ≡ length coordinator.old.jobs }
-    requires below { workers ≤ 64 }
-    ensures formula { coordinator.new.formula ≡ coordinator.old.formula }
-    ensures workers { length coordinator.new.jobs ≡ length coordinator.old.jobs }
-    ensures verdict { coordinator.new.verdict ≡ coordinator.old.verdict }
-    ensures count { IfOk result (λ l. length l.items ≡ workers) }
-    ensures one { OnOk result (RoseBy 1 (L.call_count links.old) (L.call_count links.new)) }
-    ensures most { L.call_count links.new ≤ L.call_count links.old + 4037 * workers }
-    ensures refusals { IfOk result (λ l. L.refusal_count links.new + open_lines l.items ≤ L.refusal_count links.old + workers) }
-    ensures refused { L.refusal_count links.new ≤ L.refusal_count links.old + workers }
-    ensures closes { IfOk result (λ l. ClosesBelow (λ x. x.is_open) (workers + 1) (L.refused_at links.old) (L.refused_at links.new) l.items) }
-    ensures each { OnceEach (L.refused_at links.old) (L.refused_at links.new) }
-{
-    let mut lines = Vec::new(alloc);
-    for i in 0..workers {
-        let line = match line(alloc, links, coordinator, WorkerNumber::new(i + 1)) {
-            Ok(line) => line,
-            Err(error) => return Err(error),
-        };
-        if let Err(_) = lines.push(line) {
-            return Err(AllocError);
-        }
-    }
-    Ok(lines)
-}
-
-/// A frame goes to the worker, and one comes back.
-fn converse<L: Links>(
-    links: &mut L,
-    coordinator: &mut Coordinator,
-    worker: WorkerNumber,
-    frame: &Frame,
-    inbox: &mut Inbox,
-) -> Result<(), Broken>
-    ensures formula { coordinator.new.formula ≡ coordinator.old.formula }
-    ensures workers { length coordinator.new.jobs ≡ length coordinator.old.jobs }
-    ensures verdict { OnErr result (coordinator.new.verdict ≡ coordinator.old.verdict) }
-    ensures one { RoseBy 1 (L.call_count links.old) (L.call_count links.new) }
-    ensures rises { L.call_count links.old ≤ L.call_count links.new }
-    ensures most { L.call_count links.new ≤ L.call_count links.old + 4038 }
-    ensures ok { OnOk result (L.refusal_count links.new ≤ L.refusal_count links.old) }
-    ensures err { OnErr result (L.refusal_count links.new ≤ L.refusal_count links.old + 1) }
-    ensures unrefused { OnOk result (NoneRefused (L.refused_at links.old) (L.refused_at links.new)) }
-    ensures refused { OneRefused worker (L.refused_at links.old) (L.refused_at links.new) }
-{
-    send(links, End::Coordinator(worker.number()), frame)?;
-    let frame = receive(links, End::Coordinator(worker.number()), inbox)?;
-    deliver(coordinator, &frame)
-}
-
-/// The turn of an open link. A link that is broken is closed, and the coordinator is told.
-fn serve_one<L: Links>(
-    links: &mut L,
-    coordinator: &mut Coordinator,
-    worker: WorkerNumber,
-    line: &mut Line,
+    lines: &mut [Line<Elsewhere>],
 ) -> Result<(), AllocError>
-    requires worker { IsWorker coordinator.old worker }
-    requires open { line.old.is_open ≡ true }
-    ensures formula { coordinator.new.formula ≡ coordinator.old.formula }
-    ensures workers { length coordinator.new.jobs ≡ length coordinator.old.jobs }
-    ensures refusals { L.refusal_count links.new + one_if_open line.new.is_open ≤ L.refusal_count links.old + 1 }
-    ensures closes { Closes worker true line.new.is_open (L.refused_at links.old) (L.refused_at links.new) }
-    ensures one { OnOk result (RoseBy 1 (L.call_count links.old) (L.call_count links.new)) }
-    ensures verdict { OnOk result ((coordinator.new.verdict ≡ coordinator.old.verdict) ⊎ (line.new.is_open ≡ true)) }
-    ensures rises { L.call_count links.old ≤ L.call_count links.new }
-    ensures most { L.call_count links.new ≤ L.call_count links.old + 4038 }
-{
-    let frame = match poll(coordinator, worker) {
-        Ok(frame) => frame,
-        Err(error) => return Err(error),
-    };
-    match converse(links, coordinator, worker, &frame, &mut line.inbox) {
-        Ok(()) => Ok(()),
-        Err(broken) => {
-            line.is_open = false;
-            line.inbox.clear();
-            lose(coordinator, worker);
-            ended(broken)
-        }
-    }
-}
-
-/// The turn of a link, if it is open.
-fn turn<L: Links>(
-    links: &mut L,
-    coordinator: &mut Coordinator,
-    worker: WorkerNumber,
-    line: &mut Line,
-) -> Result<(), AllocError>
-    requires worker { IsWorker coordinator.old worker }
-    ensures formula { coordinator.new.formula ≡ coordinator.old.formula }
-    ensures workers { length coordinator.new.jobs ≡ length coordinator.old.jobs }
-    ensures refusals { L.refusal_count links.new + one_if_open line.new.is_open ≤ L.refusal_count links.old + one_if_open line.old.is_open }
-    ensures closes { Closes worker line.old.is_open line.new.is_open (L.refused_at links.old) (L.refused_at links.new) }
-    ensures turned { OnOk result (HasTurned (L.call_count links.old) (L.call_count links.new) coordinator.old.verdict coordinator.new.verdict line.old line.new) }
-    ensures rises { L.call_count links.old ≤ L.call_count links.new }
-    ensures most { L.call_count links.new ≤ L.call_count links.old + 4038 }
-{
-    if !line.is_open {
-        return Ok(());
-    }
-    match serve_one(links, coordinator, worker, line) {
-        Ok(()) => Ok(()),
-        Err(error) => Err(error),
-    }
-}
-
-/// A turn of each open link. Answers whether the coordinator is stuck.
-fn serve_round<L: Links>(
-    links: &mut L,
-    coordinator: &mut Coordinator,
-    lines: &mut [Line],
-) -> Result<bool, AllocError>
+    requires some { 1 ≤ length lines.old }
     requires lines { length lines.old ≤ length coordinator.old.jobs }
     requires workers { length coordinator.old.jobs ≤ 64 }
-    ensures formula { coordinator.new.formula ≡ coordinator.old.formula }
-    ensures workers { length coordinator.new.jobs ≡ length coordinator.old.jobs }
-    ensures refusals { L.refusal_count links.new + open_lines lines.new ≤ L.refusal_count links.old + open_lines lines.old }
-    ensures each { EachCloses (λ l. l.is_open) (L.refused_at links.old) (L.refused_at links.new) lines.old lines.new }
-    ensures rises { L.call_count links.old ≤ L.call_count links.new }
-    ensures most { L.call_count links.new ≤ L.call_count links.old + 4038 * length lines.old }
-    ensures served { (base : ℕ) → HasServed base (L.call_count links.old) coordinator.old.verdict lines.old → OnOk result (HasServed base (L.call_count links.new) coordinator.new.verdict lines.new) }
-    ensures some { 1 ≤ open_lines lines.old → IfOk result (λ over. (over ≡ true) ⊎ RoseBy 1 (L.call_count links.old) (L.call_count links.new)) }
-    ensures stuck { IfOk result (λ over. over ≡ true → coordinator.new.verdict ≡ Nothing) }
+    requires new { All IsNew lines.old }
+    ensures goes_on { GoesOn coordinator.old coordinator.new }
+    ensures verdict { coordinator.new.verdict ≡ coordinator.old.verdict }
+    ensures calls { RoseWithin 1 (4037 * length lines.old) (L.call_count links.old) (L.call_count links.new) }
+    ensures refusals { Closing L.refusal_count L.refused_at links.old links.new lines.old lines.new }
 {
     for i in 0..lines.len() {
-        if gave_up(coordinator) {
-            return Ok(true);
-        }
         let worker = WorkerNumber::new(i as u32 + 1);
-        if let Err(error) = turn(links, coordinator, worker, &mut lines[i]) {
-            return Err(error);
-        }
-    }
-    Ok(false)
-}
-
-/// Whether every link is closed.
-fn are_closed(lines: &[Line]) -> bool
-    ensures { result ≡ list_all (λ l. not l.is_open) lines.now }
-{
-    lines.iter().all(|l| !l.is_open)
-}
-
-/// Rounds until the coordinator is stuck or every link is closed.
-fn serve_all<L: Links>(
-    links: &mut L,
-    coordinator: &mut Coordinator,
-    lines: &mut [Line],
-) -> Result<(), AllocError>
-    requires lines { length lines.old ≤ length coordinator.old.jobs }
-    requires workers { length coordinator.old.jobs ≤ 64 }
-    ensures formula { coordinator.new.formula ≡ coordinator.old.formula }
-    ensures refusals { L.refusal_count links.new + open_lines lines.new ≤ L.refusal_count links.old + open_lines lines.old }
-    ensures each { EachCloses (λ l. l.is_open) (L.refused_at links.old) (L.refused_at links.new) lines.old lines.new }
-    ensures most { L.call_count links.new ≤ L.call_count links.old + 4038000000 * length lines.old }
-    ensures begun { (base : ℕ) → HasServed base (L.call_count links.old) coordinator.old.verdict lines.old → OnOk result (HasBegun base (L.call_count links.new) coordinator.new.verdict) }
-{
-    for _ in 0..ROUNDS {
-        if are_closed(lines) {
-            return Ok(());
-        }
-        match serve_round(links, coordinator, lines) {
-            Err(error) => return Err(error),
-            Ok(true) => return Ok(()),
-            Ok(false) => {}
-        }
+        greet(links, coordinator, worker, &mut lines[i])?;
     }
     Ok(())
 }
 
-/// The run at the coordinator's end: until it is stuck or every link is closed.
+/// Greetings of new lines, and then the rounds.
 fn serve_rounds<L: Links>(
-    alloc: Global,
     links: &mut L,
     coordinator: &mut Coordinator,
-    workers: u32,
+    lines: &mut [Line<Elsewhere>],
 ) -> Result<(), AllocError>
-    requires above { 1 ≤ workers }
-    requires workers { workers ≡ length coordinator.old.jobs }
-    requires below { workers ≤ 64 }
+    requires some { 1 ≤ length lines.old }
+    requires lines { length lines.old ≤ length coordinator.old.jobs }
+    requires workers { length coordinator.old.jobs ≤ 64 }
+    requires new { All IsNew lines.old }
     requires verdict { coordinator.old.verdict ≡ Nothing }
     ensures formula { coordinator.new.formula ≡ coordinator.old.formula }
-    ensures refusals { L.refusal_count links.new ≤ L.refusal_count links.old + workers }
-    ensures each { OnceEach (L.refused_at links.old) (L.refused_at links.new) }
-    ensures most { L.call_count links.new ≤ L.call_count links.old + 4039000000 * workers }
+    ensures most { L.call_count links.new ≤ L.call_count links.old + 4039000000 * length lines.old }
     ensures begun { OnOk result (HasBegun (L.call_count links.old) (L.call_count links.new) coordinator.new.verdict) }
+    ensures refusals { L.refusal_count links.new ≤ L.refusal_count links.old + length lines.old }
+    ensures each { OnceEach (L.refused_at links.old) (L.refused_at links.new) }
 {
-    let mut lines = match greet_all(alloc, links, coordinator, workers) {
-        Ok(lines) => lines,
-        Err(error) => return Err(error),
-    };
-    match serve_all(links, coordinator, &mut lines) {
-        Ok(()) => Ok(()),
-        Err(error) => Err(error),
-    }
+    greet_all(links, coordinator, lines)?;
+    run_rounds(links, coordinator, lines)
 }
 
 /// The run of a coordinator over the links of workers 1 to n: until it is stuck, every link is closed, or 1,000,000 rounds are
@@ -320,21 +147,9 @@ pub fn serve<L: Links>(
     ensures refusals { L.refusal_count links.new ≤ L.refusal_count links.old + plan.now.workers }
     ensures each { OnceEach (L.refused_at links.old) (L.refused_at links.new) }
 {
-    let made = Coordinator::with_defs(
-        alloc,
-        formula,
-        tree,
-        plan.limit,
-        plan.workers,
-        plan.session,
-        plan.defs,
-    );
-    let mut coordinator = match made {
-        Ok(coordinator) => coordinator,
-        Err(error) => return Err(error),
-    };
-    match serve_rounds(alloc, links, &mut coordinator, plan.workers) {
-        Ok(()) => Ok(coordinator.into_verdict()),
-        Err(error) => Err(error),
-    }
+    let opened = Opened::of(alloc, formula, plan.defs)?;
+    let mut coordinator = begin(alloc, opened, tree, plan)?;
+    let mut lines = lines(alloc, plan.workers)?;
+    serve_rounds(links, &mut coordinator, &mut lines)?;
+    Ok(coordinator.into_verdict())
 }

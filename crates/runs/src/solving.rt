@@ -6,13 +6,16 @@ ghost use Rattle.cube_split.specs.Pairs.{IsBaseWith};
 ghost use Rattle.evidence.specs.Jobs.{IsInside};
 ghost use Rattle.lrat_check.specs.Verdicts.{Right};
 ghost use Rattle.runs.specs.Accounts.{HasBegun, OnceEach};
-ghost use Rattle.runs.specs.inner.Accounts.{FirstIsUntouched, IsUntouched};
+ghost use Rattle.runs.specs.inner.Lines.{IsUntouched};
+ghost use Rattle.runs.specs.inner.Seats.{fewest};
 
+use crate::coordinating::begin;
 use crate::inbox::Inbox;
+use crate::line::Line;
 use crate::plan::CoordinatorPlan;
 use crate::rounds::run_rounds;
 use crate::seat::Seat;
-use coordinator_core::Coordinator;
+use cube_split::Opened;
 use dimacs::Formula;
 use frames::WorkerNumber;
 use icnf::Tree;
@@ -24,35 +27,30 @@ use worker_core::Worker;
 /// The incarnation of each worker of this process.
 const INCARNATION: u64 = 1;
 
-/// A worker that begins, with its link open.
-fn seat(
-    alloc: Global,
-    formula: &Formula,
-    number: WorkerNumber,
-    defs: u32,
-) -> Result<Seat, AllocError>
-    requires { defs ≤ 64 }
-    ensures { IfOk result IsUntouched }
+/// An open line to a worker that begins.
+fn seat(alloc: Global, opened: &Opened, number: WorkerNumber) -> Result<Line<Seat>, AllocError>
+    ensures { IfOk result (IsUntouched fewest) }
 {
-    Ok(Seat {
-        worker: Worker::with_defs(alloc, formula.copy()?, number, INCARNATION, defs)?,
-        down: Inbox::new(alloc)?,
-        up: Inbox::new(alloc)?,
+    let peer = Seat {
+        worker: Worker::of(alloc, opened, number, INCARNATION)?,
+        inbox: Inbox::new(alloc)?,
+    };
+    Ok(Line {
+        inbox: Inbox::new(alloc)?,
         is_open: true,
+        peer,
     })
 }
 
-/// Workers 1 to n, with their links open.
-fn seats(alloc: Global, formula: &Formula, workers: u32, defs: u32) -> Result<Vec<Seat>, AllocError>
-    requires above { 1 ≤ workers }
-    requires below { workers ≤ 64 }
-    requires defs { defs ≤ 64 }
+/// Open lines to workers 1 to n.
+fn seats(alloc: Global, opened: &Opened, workers: u32) -> Result<Vec<Line<Seat>>, AllocError>
+    requires { workers ≤ 64 }
     ensures count { IfOk result (λ s. length s.items ≡ workers) }
-    ensures first { IfOk result (λ s. FirstIsUntouched s.items) }
+    ensures untouched { IfOk result (λ s. All (IsUntouched fewest) s.items) }
 {
     let mut seats = Vec::new(alloc);
     for i in 0..workers {
-        seats.push(seat(alloc, formula, WorkerNumber::new(i + 1), defs)?)?;
+        seats.push(seat(alloc, opened, WorkerNumber::new(i + 1))?)?;
     }
     Ok(seats)
 }
@@ -75,25 +73,9 @@ pub fn solve<L: Links>(
     ensures refusals { L.refusal_count links.new ≤ L.refusal_count links.old + plan.now.workers }
     ensures each { OnceEach (L.refused_at links.old) (L.refused_at links.new) }
 {
-    let mut seats = match seats(alloc, &formula, plan.workers, plan.defs) {
-        Ok(seats) => seats,
-        Err(error) => return Err(error),
-    };
-    let made = Coordinator::with_defs(
-        alloc,
-        formula,
-        tree,
-        plan.limit,
-        plan.workers,
-        plan.session,
-        plan.defs,
-    );
-    let mut coordinator = match made {
-        Ok(coordinator) => coordinator,
-        Err(error) => return Err(error),
-    };
-    match run_rounds(links, &mut coordinator, &mut seats) {
-        Ok(()) => Ok(coordinator.into_verdict()),
-        Err(error) => Err(error),
-    }
+    let opened = Opened::of(alloc, formula, plan.defs)?;
+    let mut seats = seats(alloc, &opened, plan.workers)?;
+    let mut coordinator = begin(alloc, opened, tree, plan)?;
+    run_rounds(links, &mut coordinator, &mut seats)?;
+    Ok(coordinator.into_verdict())
 }

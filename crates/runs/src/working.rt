@@ -1,83 +1,52 @@
 //! Rounds at a worker's end.
 
-ghost use Rattle.std.specs.Prelude.{◌≡◌, ◌≤◌, ◌+◌, ◌⊎◌, [], IfOk, IfErr, OnOk, OnErr, Err, false};
+ghost use Rattle.std.specs.Prelude.{◌≡◌, ◌≤◌, ◌+◌, ◌⊎◌, [], IfOk, IfErr, OnOk, false};
 ghost use Rattle.lrat_check.specs.Verdicts.{Right};
 ghost use Rattle.lrat_check.specs.declared.verdict.Verdict.TheVariants.{Nothing};
 ghost use Rattle.runs.specs.Accounts.{RoseBy, HasBegun, OnceEach};
-ghost use Rattle.runs.specs.inner.Accounts.{NoneRefused, OneRefused};
-ghost use Rattle.runs.specs.declared.broken.Broken.TheVariants.{Closed, NoMemory};
+ghost use Rattle.runs.specs.inner.Accounts.{RoseWithin, RoseUnless, Refuses, one_if_none, one_if_err};
+ghost use Rattle.runs.specs.declared.broken.Broken.TheVariants.{NoMemory};
 
-use crate::broken::{Broken, ended, noted};
+use crate::broken::{Broken, ended};
 use crate::inbox::Inbox;
 use crate::pace::Pace;
 use crate::plan::{Order, WorkerPlan};
-use crate::post::{ROUNDS, receive, send};
+use crate::post::ROUNDS;
+use crate::seat::Seat;
 use dimacs::Formula;
-use frames::{Frame, WorkerNumber};
-use links::{End, Links};
+use frames::WorkerNumber;
+use links::Links;
 use lrat_check::Verdict;
 use std::alloc::{AllocError, Global};
 use worker_core::Worker;
 
-/// Delivers a frame to it.
-fn deliver(worker: &mut Worker, frame: &Frame) -> Result<(), Broken>
-    ensures formula { worker.new.formula ≡ worker.old.formula }
-    ensures fault { IfErr result (λ b. b ≡ NoMemory) }
-{
-    noted(worker.deliver(frame))
-}
-
-/// Lets it work once.
-fn toil(worker: &mut Worker) -> Result<(), Broken>
-    ensures formula { worker.new.formula ≡ worker.old.formula }
-    ensures verdict { worker.new.verdict ≡ worker.old.verdict }
-    ensures fault { IfErr result (λ b. b ≡ NoMemory) }
-{
-    noted(worker.work())
-}
-
-/// Asks it for a frame.
-fn poll(worker: &mut Worker) -> Result<Frame, AllocError>
-    ensures formula { worker.new.formula ≡ worker.old.formula }
-    ensures verdict { worker.new.verdict ≡ worker.old.verdict }
-{
-    worker.poll()
-}
-
-/// It sends its frame over the link of this number.
+/// The worker sends a frame, which its pace notes.
 fn reply<L: Links>(
     links: &mut L,
     number: WorkerNumber,
-    worker: &mut Worker,
+    seat: &mut Seat,
     pace: &mut Pace,
 ) -> Result<(), Broken>
-    ensures formula { worker.new.formula ≡ worker.old.formula }
-    ensures verdict { worker.new.verdict ≡ worker.old.verdict }
-    ensures one { (result ≡ Err NoMemory) ⊎ RoseBy 1 (L.call_count links.old) (L.call_count links.new) }
-    ensures ok_one { OnOk result (RoseBy 1 (L.call_count links.old) (L.call_count links.new)) }
-    ensures rises { L.call_count links.old ≤ L.call_count links.new }
-    ensures most { L.call_count links.new ≤ L.call_count links.old + 1 }
-    ensures ok { OnOk result (L.refusal_count links.new ≤ L.refusal_count links.old) }
-    ensures err { OnErr result (L.refusal_count links.new ≤ L.refusal_count links.old + 1) }
-    ensures unrefused { OnOk result (NoneRefused (L.refused_at links.old) (L.refused_at links.new)) }
-    ensures refused { OneRefused number (L.refused_at links.old) (L.refused_at links.new) }
+    ensures formula { seat.new.worker.formula ≡ seat.old.worker.formula }
+    ensures verdict { seat.new.worker.verdict ≡ seat.old.worker.verdict }
+    ensures inbox { seat.new.inbox ≡ seat.old.inbox }
+    ensures calls { RoseWithin 0 1 (L.call_count links.old) (L.call_count links.new) }
+    ensures one { RoseUnless result 1 (L.call_count links.old) (L.call_count links.new) }
+    ensures refusals { Refuses L.refusal_count L.refused_at number (one_if_err result) 0 links.old links.new }
 {
-    let frame = match poll(worker) {
-        Ok(frame) => frame,
-        Err(_) => return Err(Broken::NoMemory),
-    };
+    let frame = seat.reply(links, number)?;
     pace.note(&frame);
-    send(links, End::Worker(number.number()), &frame)
+    Ok(())
 }
 
 /// The worker works if its pace has it work in this round.
-fn toil_in_time(worker: &mut Worker, pace: &Pace) -> Result<(), Broken>
-    ensures formula { worker.new.formula ≡ worker.old.formula }
-    ensures verdict { worker.new.verdict ≡ worker.old.verdict }
+fn toil_in_time(seat: &mut Seat, pace: &Pace) -> Result<(), Broken>
+    ensures formula { seat.new.worker.formula ≡ seat.old.worker.formula }
+    ensures verdict { seat.new.worker.verdict ≡ seat.old.worker.verdict }
     ensures fault { IfErr result (λ b. b ≡ NoMemory) }
 {
     if pace.is_due() {
-        return toil(worker);
+        return seat.toil();
     }
     Ok(())
 }
@@ -86,58 +55,42 @@ fn toil_in_time(worker: &mut Worker, pace: &Pace) -> Result<(), Broken>
 fn work_and_reply<L: Links>(
     links: &mut L,
     number: WorkerNumber,
-    worker: &mut Worker,
+    seat: &mut Seat,
     pace: &mut Pace,
 ) -> Result<(), Broken>
-    ensures formula { worker.new.formula ≡ worker.old.formula }
-    ensures one { (result ≡ Err NoMemory) ⊎ RoseBy 1 (L.call_count links.old) (L.call_count links.new) }
-    ensures ok_one { OnOk result (RoseBy 1 (L.call_count links.old) (L.call_count links.new)) }
-    ensures rises { L.call_count links.old ≤ L.call_count links.new }
-    ensures most { L.call_count links.new ≤ L.call_count links.old + 1 }
-    ensures ok { OnOk result (L.refusal_count links.new ≤ L.refusal_count links.old) }
-    ensures err { OnErr result (L.refusal_count links.new ≤ L.refusal_count links.old + 1) }
-    ensures unrefused { OnOk result (NoneRefused (L.refused_at links.old) (L.refused_at links.new)) }
-    ensures refused { OneRefused number (L.refused_at links.old) (L.refused_at links.new) }
+    ensures formula { seat.new.worker.formula ≡ seat.old.worker.formula }
+    ensures calls { RoseWithin 0 1 (L.call_count links.old) (L.call_count links.new) }
+    ensures one { RoseUnless result 1 (L.call_count links.old) (L.call_count links.new) }
+    ensures refusals { Refuses L.refusal_count L.refused_at number (one_if_err result) 0 links.old links.new }
 {
     match pace.order() {
-        Order::WorkThenSend => match toil(worker) {
-            Ok(()) => reply(links, number, worker, pace),
-            Err(_) => Err(Broken::NoMemory),
-        },
-        Order::SendThenWork => match reply(links, number, worker, pace) {
-            Ok(()) => toil_in_time(worker, pace),
-            Err(broken) => Err(broken),
-        },
+        Order::WorkThenSend => {
+            seat.toil()?;
+            reply(links, number, seat, pace)
+        }
+        Order::SendThenWork => {
+            reply(links, number, seat, pace)?;
+            toil_in_time(seat, pace)?;
+            Ok(())
+        }
     }
 }
 
-/// A frame comes to a worker over the link of this number, it works once, and one goes back.
-pub(crate) fn answer<L: Links>(
+/// A frame comes to the worker, it works once, and one goes back.
+fn answer<L: Links>(
     links: &mut L,
     number: WorkerNumber,
-    worker: &mut Worker,
-    inbox: &mut Inbox,
+    seat: &mut Seat,
     pace: &mut Pace,
 ) -> Result<(), Broken>
-    ensures formula { worker.new.formula ≡ worker.old.formula }
-    ensures one { OnOk result (RoseBy 1 (L.call_count links.old) (L.call_count links.new)) }
-    ensures two { OnOk result (inbox.old.waiting.items ≡ [] → RoseBy 2 (L.call_count links.old) (L.call_count links.new)) }
-    ensures first { inbox.old.waiting.items ≡ [] → (worker.new.verdict ≡ worker.old.verdict) ⊎ (result ≡ Err NoMemory) ⊎ RoseBy 2 (L.call_count links.old) (L.call_count links.new) }
-    ensures rises { L.call_count links.old ≤ L.call_count links.new }
-    ensures most { L.call_count links.new ≤ L.call_count links.old + 4038 }
-    ensures ok { OnOk result (L.refusal_count links.new ≤ L.refusal_count links.old) }
-    ensures err { OnErr result (L.refusal_count links.new ≤ L.refusal_count links.old + 1) }
-    ensures unrefused { OnOk result (NoneRefused (L.refused_at links.old) (L.refused_at links.new)) }
-    ensures refused { OneRefused number (L.refused_at links.old) (L.refused_at links.new) }
+    ensures formula { seat.new.worker.formula ≡ seat.old.worker.formula }
+    ensures calls { RoseWithin 0 4038 (L.call_count links.old) (L.call_count links.new) }
+    ensures least { OnOk result (RoseBy (1 + one_if_none seat.old.inbox.waiting.items) (L.call_count links.old) (L.call_count links.new)) }
+    ensures first { seat.old.inbox.waiting.items ≡ [] → (seat.new.worker.verdict ≡ seat.old.worker.verdict) ⊎ RoseUnless result 2 (L.call_count links.old) (L.call_count links.new) }
+    ensures refusals { Refuses L.refusal_count L.refused_at number (one_if_err result) 0 links.old links.new }
 {
-    let frame = match receive(links, End::Worker(number.number()), inbox) {
-        Ok(frame) => frame,
-        Err(broken) => return Err(broken),
-    };
-    match deliver(worker, &frame) {
-        Ok(()) => work_and_reply(links, number, worker, pace),
-        Err(_) => Err(Broken::NoMemory),
-    }
+    seat.hear(links, number)?;
+    work_and_reply(links, number, seat, pace)
 }
 
 fn holds(worker: &Worker) -> bool
@@ -153,54 +106,41 @@ fn holds(worker: &Worker) -> bool
 fn answer_all<L: Links>(
     links: &mut L,
     number: WorkerNumber,
-    worker: &mut Worker,
-    inbox: &mut Inbox,
+    seat: &mut Seat,
     pace: &mut Pace,
 ) -> Result<(), Broken>
-    requires inbox { inbox.old.waiting.items ≡ [] }
-    requires verdict { worker.old.verdict ≡ Nothing }
-    ensures formula { worker.new.formula ≡ worker.old.formula }
-    ensures two { (worker.new.verdict ≡ Nothing) ⊎ (result ≡ Err NoMemory) ⊎ RoseBy 2 (L.call_count links.old) (L.call_count links.new) }
-    ensures rises { L.call_count links.old ≤ L.call_count links.new }
-    ensures most { L.call_count links.new ≤ L.call_count links.old + 4038000000 }
-    ensures refusals { L.refusal_count links.new ≤ L.refusal_count links.old + 1 }
-    ensures refused { OneRefused number (L.refused_at links.old) (L.refused_at links.new) }
+    requires inbox { seat.old.inbox.waiting.items ≡ [] }
+    requires verdict { seat.old.worker.verdict ≡ Nothing }
+    ensures formula { seat.new.worker.formula ≡ seat.old.worker.formula }
+    ensures calls { RoseWithin 0 4038000000 (L.call_count links.old) (L.call_count links.new) }
+    ensures two { (seat.new.worker.verdict ≡ Nothing) ⊎ RoseUnless result 2 (L.call_count links.old) (L.call_count links.new) }
+    ensures refusals { Refuses L.refusal_count L.refused_at number (one_if_err result) 0 links.old links.new }
 {
     for _ in 0..ROUNDS {
-        if holds(worker) {
+        if holds(&seat.worker) {
             return Ok(());
         }
-        if let Err(broken) = answer(links, number, worker, inbox, pace) {
-            return Err(broken);
-        }
+        answer(links, number, seat, pace)?;
     }
     Ok(())
 }
 
 /// The rounds of a worker that begins: first it sends its frame.
-fn work_rounds<L: Links>(
-    alloc: Global,
-    links: &mut L,
-    worker: &mut Worker,
-    order: Order,
-) -> Result<(), AllocError>
-    requires verdict { worker.old.verdict ≡ Nothing }
-    ensures formula { worker.new.formula ≡ worker.old.formula }
+fn work_rounds<L: Links>(links: &mut L, seat: &mut Seat, order: Order) -> Result<(), AllocError>
+    requires inbox { seat.old.inbox.waiting.items ≡ [] }
+    requires verdict { seat.old.worker.verdict ≡ Nothing }
+    ensures formula { seat.new.worker.formula ≡ seat.old.worker.formula }
     ensures refusals { L.refusal_count links.new ≤ L.refusal_count links.old + 1 }
     ensures each { OnceEach (L.refused_at links.old) (L.refused_at links.new) }
     ensures most { L.call_count links.new ≤ L.call_count links.old + 4038000001 }
-    ensures begun { OnOk result (HasBegun (L.call_count links.old) (L.call_count links.new) worker.new.verdict) }
+    ensures begun { OnOk result (HasBegun (L.call_count links.old) (L.call_count links.new) seat.new.worker.verdict) }
 {
-    let mut inbox = match Inbox::new(alloc) {
-        Ok(inbox) => inbox,
-        Err(error) => return Err(error),
-    };
-    let number = worker.number();
+    let number = seat.worker.number();
     let mut pace = Pace::new(order);
-    if let Err(broken) = reply(links, number, worker, &mut pace) {
+    if let Err(broken) = reply(links, number, seat, &mut pace) {
         return ended(broken);
     }
-    match answer_all(links, number, worker, &mut inbox, &mut pace) {
+    match answer_all(links, number, seat, &mut pace) {
         Ok(()) => Ok(()),
         Err(broken) => ended(broken),
     }
@@ -221,13 +161,11 @@ pub fn work<L: Links>(
     ensures refusals { L.refusal_count links.new ≤ L.refusal_count links.old + 1 }
     ensures each { OnceEach (L.refused_at links.old) (L.refused_at links.new) }
 {
-    let made = Worker::with_defs(alloc, formula, plan.number, plan.incarnation, plan.defs);
-    let mut worker = match made {
-        Ok(worker) => worker,
-        Err(error) => return Err(error),
+    let mut seat = Seat {
+        worker: Worker::with_defs(alloc, formula, plan.number, plan.incarnation, plan.defs)?,
+        inbox: Inbox::new(alloc)?,
     };
-    match work_rounds(alloc, links, &mut worker, plan.order) {
-        Ok(()) => Ok(worker.into_verdict()),
-        Err(error) => Err(error),
-    }
+    work_rounds(links, &mut seat, plan.order)?;
+    let Seat { worker, .. } = seat;
+    Ok(worker.into_verdict())
 }

@@ -1,8 +1,8 @@
 //! Writes a proof to its file, whole or not at all wherever a file can be made beside it.
 
 use crate::files::refused;
-use lrat_text::PackedText;
 use node_main::Refusal;
+use packed_text::PackedText;
 use std::fs::{File, Metadata, OpenFile, OpenOptions};
 use std::io::{ErrorKind, Write};
 use std::os::unix::fs::MetadataExt;

@@ -2,7 +2,7 @@
 
 ghost use Rattle.std.specs.Prelude.{◌≡◌, ◌<◌, ◌++◌, [], length, IfOk, MatchOption};
 
-use lrat_text::PackedText;
+use packed_text::PackedText;
 use std::alloc::{AllocError, Global};
 use std::marker::Model;
 

@@ -4,7 +4,7 @@ ghost use Rattle.std.specs.Prelude.{◌≡◌, ◌==◌, count_by, IfOk};
 ghost use Rattle.trimming.specs.inner.Counting.{lemmas_in};
 
 use crate::blocks::Blocks;
-use lrat_text::PackedText;
+use packed_text::PackedText;
 use std::alloc::{AllocError, Global};
 
 /// How often a byte stands in a text.

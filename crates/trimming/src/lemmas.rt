@@ -1,8 +1,8 @@
 //! The lemmas of a proof by their numbers, and where their lines stand.
 
 use crate::heads::{Head, head_of};
-use lrat_text::{PackedLines, PackedText};
 use memchr::memchr;
+use packed_text::{PackedLines, PackedText};
 use std::alloc::{AllocError, Global};
 
 #[derive(Clone, Copy)]

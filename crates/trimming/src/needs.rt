@@ -2,7 +2,8 @@
 
 use crate::hints::plain_hints;
 use crate::lemmas::Lemmas;
-use lrat_text::{Groups, PackedText, StepBuffer, StepRef, TextFault, read_line};
+use lrat_text::{Groups, StepBuffer, StepRef, TextFault, read_line};
+use packed_text::PackedText;
 use std::alloc::{AllocError, Global};
 
 /// What becomes of a lemma.

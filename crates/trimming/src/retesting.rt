@@ -8,7 +8,7 @@ ghost use Rattle.lrat_check.specs.Checking.{GivesCheck, check_of};
 use crate::blocks::Blocks;
 use dimacs::Formula;
 use lrat_check::{CheckFault, StreamChecker, proof_fault_is_exact};
-use lrat_text::PackedText;
+use packed_text::PackedText;
 use std::alloc::{AllocError, Global};
 
 /// Checks a packed text, block by block.

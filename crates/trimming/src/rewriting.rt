@@ -6,7 +6,8 @@ ghost use Rattle.lrat_text.specs.Steps.{step_of};
 
 use crate::heads::{Head, head_of};
 use crate::needs::{Kept, Need};
-use lrat_text::{Groups, PackedLines, PackedText, StepBuffer, StepRef, TextFault, read_line};
+use lrat_text::{Groups, StepBuffer, StepRef, TextFault, read_line};
+use packed_text::{PackedLines, PackedText};
 use std::alloc::{AllocError, Global};
 use std::marker::Model;
 

@@ -3,7 +3,8 @@
 use crate::lemmas::Lemmas;
 use crate::needs::{Kept, needs_of};
 use crate::rewriting::rewrite;
-use lrat_text::{PackedText, StepBuffer, TextFault};
+use lrat_text::{StepBuffer, TextFault};
+use packed_text::PackedText;
 use std::alloc::{AllocError, Global};
 
 /// Finds what is needed, and writes it.

@@ -12,7 +12,7 @@ use crate::retesting::is_accepted;
 use crate::shortening::shortened;
 use dimacs::Formula;
 use lrat_check::{CheckFault, StreamChecker, proof_fault_is_exact};
-use lrat_text::PackedText;
+use packed_text::PackedText;
 use std::alloc::{AllocError, Global};
 use std::marker::Model;
 

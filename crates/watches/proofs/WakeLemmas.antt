@@ -29,7 +29,7 @@ use Rattle.watches.proofs.RelinkLemmas.{moved, put}
 use Rattle.watches.specs.inner.ReadyLaws.{pushed}
 use Rattle.watches.proofs.WalkLemmas.{holds_pushed, same_swapped, cons_of, left_behind_is, consistent_push, holds_front}
 use Rattle.watches.specs.Ready.{Watches}
-use Rattle.watches.specs.declared.watched.outcome.Outcome.TheVariants.{Moves}
+use Rattle.watches.specs.declared.watched.visit.Visit.TheVariants.{Moves}
 
 pub index_high : (n : ℕ) (x : Literal) → IsWithin n x → 0 < index_of x
 index_high n (Pos v) h = omega (arith, h.0)

@@ -35,7 +35,7 @@ use Rattle.watches.proofs.RelinkLemmas.{moved}
 use Rattle.watches.specs.inner.ReadyLaws.{pushed}
 use Rattle.watches.proofs.StateLemmas.{advance}
 use Rattle.watches.specs.Ready.{Watches}
-use Rattle.watches.specs.declared.watched.outcome.Outcome.TheVariants.{Stays, Moves}
+use Rattle.watches.specs.declared.watched.visit.Visit.TheVariants.{Stays, Moves}
 
 -- ---- a path without repeats is no longer than there are places
 or_either : (a b : Bool) → (a || b) ≡ true → (a ≡ true) ⊎ (b ≡ true)

@@ -1,4 +1,4 @@
-pub mod Finding
+pub mod Status
 pub mod Law
 pub mod Ready
 pub mod Scanning

@@ -6,17 +6,17 @@
 //! The layer above may rest on the contracts alone: the tables beside the entries do not show.
 #![tactic(auto)]
 
-mod finding;
 mod moving;
 mod propagator;
 mod scan;
+mod status;
 mod trail;
 mod truth;
 mod watched;
 
-pub use finding::{Finding, test_clause};
 pub use propagator::{Propagator, add_clause};
 pub use scan::Scan;
+pub use status::{Status, test_clause};
 pub use trail::{Assigned, Trail};
 pub use truth::Truth;
 pub use watched::Watched;

@@ -15,7 +15,7 @@ use clause_arena::{Arena, Ref};
 use dimacs::Lit;
 use std::alloc::AllocError;
 
-/// Finds the units among clauses that were attached to it, and puts them on the trail.
+/// HasStatus the units among clauses that were attached to it, and puts them on the trail.
 ///
 /// Between two calls of `propagate` clauses may be attached, detached and moved, literals cut from the trail by `undo`, and
 /// literals put at its end.

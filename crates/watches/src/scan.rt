@@ -9,9 +9,9 @@ ghost use Rattle.watches.specs.Scanning.{numbers};
 ghost use Rattle.watches.specs.inner.Scanning.{IsHere};
 ghost use Rattle.watches.specs.inner.ScanLaws.{here_pushed, here_elsewhere};
 
-use crate::finding::{Finding, test_clause};
 use crate::moving::follow_all;
 use crate::propagator::Propagator;
+use crate::status::{Status, test_clause};
 use crate::trail::{Assigned, Trail};
 use clause_arena::{Arena, Ref};
 use std::alloc::{AllocError, Global};
@@ -26,13 +26,13 @@ fn sweep(clauses: &[Ref], arena: &Arena, trail: &mut Trail) -> Option<u64>
 {
     for &at in clauses {
         match test_clause(arena.clause(at), trail) {
-            Finding::False => return Some(at.number()),
-            Finding::Unit(literal) => trail.push(Assigned {
+            Status::False => return Some(at.number()),
+            Status::Unit(literal) => trail.push(Assigned {
                 literal,
                 level: trail.level(),
                 reason: Some(at.number()),
             }),
-            Finding::Other => {}
+            Status::Other => {}
         }
     }
     None

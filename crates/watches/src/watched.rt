@@ -13,13 +13,13 @@ ghost use Rattle.watches.specs.inner.ReadyLaws.{ready_pushed, ready_elsewhere};
 mod chains;
 mod lookup;
 mod ordering;
-mod outcome;
 mod places;
 mod propagation;
 mod renewal;
 mod replacement;
 mod starts;
 mod sweeping;
+mod visit;
 mod wake;
 mod walk;
 

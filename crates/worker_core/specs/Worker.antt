@@ -18,7 +18,7 @@ use Rattle.frames.specs.Answers.{answer_number, answer_of}
 use Rattle.frames.specs.declared.answer.Answer.{Answer}
 use Rattle.frames.specs.declared.answer.Answer.TheVariants as answers
 use Rattle.frames.specs.declared.answer.Finding.{Finding}
-use Rattle.frames.specs.declared.answer.Outcome.TheVariants as told
+use Rattle.frames.specs.declared.answer.Ending.TheVariants as told
 use Rattle.frames.specs.declared.frame.Attempt.{Attempt}
 use Rattle.frames.specs.declared.frame.Frame.{Frame}
 use Rattle.frames.specs.declared.frame.Frame.TheVariants.{Task, Done, Fetch, Piece, Verdict as VerdictFrame, Want, Part, Idle, Rest}
@@ -139,7 +139,7 @@ WorkerDelivers w (Task session job limit cube) answer new = DeliversTask w (reco
 WorkerDelivers w (Fetch attempt offset) answer new = DeliversFetch w attempt offset answer new
 WorkerDelivers w (VerdictFrame session finding) answer new = DeliversVerdict w session finding answer new
 WorkerDelivers w (Part session part offset bytes) answer new = DeliversPart w session part offset bytes answer new
-WorkerDelivers w (Done attempt outcome) answer new = Ignores w answer new
+WorkerDelivers w (Done attempt ending) answer new = Ignores w answer new
 WorkerDelivers w (Piece attempt offset bytes) answer new = Ignores w answer new
 WorkerDelivers w (Want session worker offset) answer new = Ignores w answer new
 WorkerDelivers w (Idle worker incarnation) answer new = Ignores w answer new

@@ -15,7 +15,8 @@ use crate::follower::{Follower, caught_up};
 use dimacs::Formula;
 use frames::Answer;
 use lrat_check::{CheckFault, Judged, Verdict, judge_values};
-use lrat_text::{PackedText, reading_is_spelling};
+use lrat_text::reading_is_spelling;
+use packed_text::PackedText;
 use std::alloc::{AllocError, Global};
 
 /// What a candidate has become with more bytes. Beside one that is kept stands what follows it, if anything does.

@@ -7,7 +7,7 @@ ghost use Rattle.worker_core.specs.inner.Invariant.{Follows, IsBehind};
 
 use dimacs::Formula;
 use lrat_check::StreamChecker;
-use lrat_text::PackedText;
+use packed_text::PackedText;
 use std::alloc::{AllocError, Global};
 
 /// So many bytes are unpacked at once.

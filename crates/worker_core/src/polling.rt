@@ -8,8 +8,8 @@ ghost use Rattle.worker_core.specs.Worker.{WorkerStep, worker_frame, candidate_f
 
 use crate::work::Work;
 use crate::worker::Worker;
-use frames::{Answer, Chunk, Finding, Frame, Outcome, ProofLength};
-use lrat_text::PackedText;
+use frames::{Answer, Chunk, Ending, Finding, Frame, ProofLength};
+use packed_text::PackedText;
 use std::alloc::{AllocError, Global};
 
 impl Worker {
@@ -80,7 +80,7 @@ impl Worker {
             },
             Work::Limited { name } => Frame::Done {
                 attempt: name.attempt(self.number, self.incarnation),
-                outcome: Outcome::Limit,
+                ending: Ending::Limit,
             },
             Work::Found {
                 name,
@@ -92,7 +92,7 @@ impl Worker {
                 let _ = self.formula.vars();
                 Frame::Done {
                     attempt: name.attempt(self.number, self.incarnation),
-                    outcome: Outcome::Decided(finding(*answer, bytes.len() as u32)),
+                    ending: Ending::Decided(finding(*answer, bytes.len() as u32)),
                 }
             }
         }

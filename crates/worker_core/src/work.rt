@@ -5,7 +5,7 @@ ghost use Rattle.worker_core.specs.Worker.{without_note};
 
 use evidence::JobName;
 use frames::{Answer, Cube};
-use lrat_text::PackedText;
+use packed_text::PackedText;
 
 /// What a worker has to do, or has to tell.
 #[derive(Drop)]

@@ -2,6 +2,7 @@
 
 ghost use Rattle.std.specs.Prelude.{◌≡◌, ◌≤◌, ℕ, IfOk, MatchOption, Some, None};
 ghost use Rattle.dimacs.specs.logic.Cnf.{Cnf};
+ghost use Rattle.cube_split.specs.Definitions.{base_with};
 ghost use Rattle.cube_split.specs.Pairs.{IsBaseWith};
 ghost use Rattle.lrat_check.specs.Verdicts.{Right};
 ghost use Rattle.worker_core.specs.Worker.{found_bytes, new_worker, restarted_worker};
@@ -9,12 +10,12 @@ ghost use Rattle.worker_core.specs.Worker.{found_bytes, new_worker, restarted_wo
 use crate::candidate::Candidate;
 use crate::follower::Follower;
 use crate::work::Work;
-use cube_split::{preamble_with, without_definitions};
+use cube_split::{Opened, without_definitions};
 use dimacs::{Base, Formula};
 use evidence::JobName;
 use frames::WorkerNumber;
 use lrat_check::Verdict;
-use lrat_text::PackedText;
+use packed_text::PackedText;
 use std::alloc::{AllocError, Global};
 use std::marker::Model;
 
@@ -103,11 +104,29 @@ impl Worker {
         requires { defs ≤ 64 }
         ensures { IfOk result (λ w. (B : Cnf) × IsBaseWith formula defs B × (w ≡ record (new_worker formula number incarnation) { wanted = defs; base = B })) }
     {
-        let base = preamble_with(alloc, &formula, defs)?.own_base(alloc, &formula)?;
+        Worker::of(
+            alloc,
+            &Opened::of(alloc, formula, defs)?,
+            number,
+            incarnation,
+        )
+    }
+
+    /// The same of a formula whose preamble is known.
+    pub fn of(
+        alloc: Global,
+        opened: &Opened,
+        number: WorkerNumber,
+        incarnation: u64,
+    ) -> Result<Worker, AllocError>
+        ensures { IfOk result (λ w. w ≡ record (new_worker opened.now.formula number incarnation) { wanted = opened.now.definitions.wanted; base = base_with opened.now.formula opened.now.definitions.pairs }) }
+    {
+        let formula = opened.formula().copy()?;
+        let base = opened.preamble().own_base(alloc, &formula)?;
         Ok(Worker {
             alloc,
             formula,
-            defs,
+            defs: opened.defs(),
             base,
             number,
             incarnation,

@@ -16,7 +16,7 @@ use dimacs::{Base, Lit};
 use evidence::JobName;
 use frames::Answer;
 use lrat_check::Reaction;
-use lrat_text::PackedText;
+use packed_text::PackedText;
 use proof_trim::trim;
 use std::alloc::{AllocError, Global};
 

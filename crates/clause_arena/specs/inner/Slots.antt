@@ -4,8 +4,8 @@ use Rattle.std.specs.Coded.{Coded, code_by, coded_ℕ, coded×}
 use Rattle.std.specs.FinMap.{from_entries, code}
 use Rattle.std.specs.Ordering.{nat_cmp}
 use Rattle.std.specs.BTreeMap as tree
-use Rattle.std.specs.BTreeMap.{BTreeMap}
 use Rattle.clause_arena.specs.declared.slot.Slot.{Slot}
+use Rattle.clause_arena.specs.declared.slots.Tables.{Tables}
 use Rattle.clause_arena.specs.Slots.{Slots}
 
 abbrev pub slot_code : Coded Slot
@@ -21,9 +21,9 @@ near_entries n (None ∷ slots) = near_entries (n + 1) slots
 near_entries n (Some s ∷ slots) = (n, s) ∷ near_entries (n + 1) slots
 
 -- the slots at places and under keys
-abbrev pub slots_of : List (Option Slot) → BTreeMap ℕ Slot → Slots
-slots_of near far = from_entries (near_entries 0 near ++ far.entries)
+abbrev pub slots_of : Tables → Slots
+slots_of t = from_entries (near_entries 0 t.near ++ t.far.entries)
 
 -- no number that has a place in the table is a key
-pub record IsApart (near : List (Option Slot)) (far : BTreeMap ℕ Slot) : Type 0 where
-  pub free : (q : ℕ) → q < length near → tree.get nat_cmp far q ≡ None
+pub record IsApart (t : Tables) : Type 0 where
+  pub free : (q : ℕ) → q < length t.near → tree.get nat_cmp t.far q ≡ None

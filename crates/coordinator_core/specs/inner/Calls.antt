@@ -1,10 +1,10 @@
 -- What the coordinator's own calls promise each other.
-use Rattle.std.specs.Prelude.{◌≡◌, ◌≢◌, ℕ, List, take, Option, Some, None, Result, Ok, Err, ◌⊎◌}
+use Rattle.std.specs.Prelude.{◌≡◌, ◌≢◌, ℕ, Bool, true, false, List, take, Option, Some, None, Result, Ok, Err, ◌⊎◌}
 use Rattle.lrat_text.specs.Log.{Closes}
 use Rattle.lrat_check.specs.declared.verdict.Reaction.{Reaction}
 use Rattle.lrat_check.specs.declared.verdict.Reaction.TheVariants as reaction
 use Rattle.frames.specs.Answers.{answer_of}
-use Rattle.frames.specs.declared.answer.Answer.TheVariants as answers
+use Rattle.frames.specs.declared.answer.Answer.{Answer}
 use Rattle.frames.specs.declared.frame.Attempt.{Attempt}
 use Rattle.frames.specs.declared.frame.Frame.{Frame}
 use Rattle.evidence.specs.Evidence.{IsComplete, with_bytes}
@@ -12,10 +12,6 @@ use Rattle.evidence.specs.Events.{Grows}
 use Rattle.coordinator_core.specs.Coordinator.{CoordinatorState, Poll, IsDeciding, IsAwaited, IsFetched, coordinator_base, cube_at, job_at}
 use Rattle.coordinator_core.specs.declared.answering.Standing.{Standing}
 use Rattle.coordinator_core.specs.declared.answering.Standing.TheVariants.{Strays, First, Again, Anew}
-use Rattle.coordinator_core.specs.declared.gathering.Gathered.{Gathered}
-use Rattle.coordinator_core.specs.declared.gathering.Gathered.TheVariants.{Waits, Fragment, Assignment}
-use Rattle.coordinator_core.specs.declared.closing.Tested.{Tested}
-use Rattle.coordinator_core.specs.declared.closing.Tested.TheVariants as tested
 use Rattle.coordinator_core.specs.declared.desks.Fixed.{Fixed}
 use Rattle.coordinator_core.specs.declared.desks.Job.{Job}
 
@@ -36,17 +32,15 @@ pub record IsFixed (c : CoordinatorState) (worker : ℕ) (j : Job) (x : Fixed) :
 abbrev pub HasFixed : CoordinatorState → ℕ → Type 0
 HasFixed c worker = (j : Job) × (x : Fixed) × IsFixed c worker j x
 
--- how far the evidence of a job has come
-abbrev pub HasCome : Fixed → Gathered → Type 0
-HasCome x Waits = ¬ (IsComplete x.evidence)
-HasCome x Fragment = IsComplete x.evidence × (answer_of x.evidence.finding ≡ answers.Refuted)
-HasCome x Assignment = IsComplete x.evidence × (answer_of x.evidence.finding ≡ answers.Assignment)
+-- what the evidence of a job is of, once it is whole
+abbrev pub IsWhole : Fixed → Option Answer → Type 0
+IsWhole x None = ¬ (IsComplete x.evidence)
+IsWhole x (Some answer) = IsComplete x.evidence × (answer_of x.evidence.finding ≡ answer)
 
--- what a fragment was found to be
-abbrev pub IsFound : CoordinatorState → Job → Fixed → Tested → Type 0
-IsFound c j x tested.Closes = Closes (coordinator_base c) (cube_at c j.leaf) x.evidence.bytes
-IsFound c j x tested.Wrong = ¬ (Closes (coordinator_base c) (cube_at c j.leaf) x.evidence.bytes)
-IsFound c j x tested.NoMemory = Unit {0}
+-- whether a text closes a leaf
+abbrev pub MayClose : CoordinatorState → ℕ → List ℕ → Bool → Type 0
+MayClose c leaf text true = Closes (coordinator_base c) (cube_at c leaf) text
+MayClose c leaf text false = ¬ (Closes (coordinator_base c) (cube_at c leaf) text)
 
 -- what is fixed, and a job, with these bytes for evidence
 abbrev pub refilled_fixed : Option Fixed → List ℕ → Option Fixed

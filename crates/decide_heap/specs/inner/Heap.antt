@@ -1,6 +1,26 @@
 -- How the variables lie in a binary heap. A variable stands here for its row in the tables, one below its number.
-use Rattle.std.specs.Prelude.{◌≡◌, ◌≢◌, ℕ, ◌-◌, ◌/◌, ◌^◌, ◌<◌, ◌≤◌, List, length, slice_index}
-use Rattle.decide_heap.specs.Decisions.{IsNoWorse}
+use Rattle.std.specs.Prelude.{◌≡◌, ◌≢◌, ℕ, ◌-◌, ◌/◌, ◌^◌, ◌<◌, ◌≤◌, List, length, slice_index, slice_set, vec_capacity}
+use Rattle.decide_heap.specs.Decisions.{Decisions, IsNoWorse}
+use Rattle.decide_heap.specs.Heap.{members_of}
+use Rattle.decide_heap.specs.declared.rows.Rows.{Rows}
+
+-- the variables as they lie in the heap, the place of each there, its score, and how many are in
+pub record Tables : Type 0 where
+  pub heap : List ℕ
+  pub places : List ℕ
+  pub scores : List ℕ
+  pub len : ℕ
+
+abbrev pub tables_of : Rows → Tables
+tables_of r = record { heap = r.heap.items; places = r.places.items; scores = r.scores.items; len = r.len }
+
+-- the variables as callers see them
+abbrev pub decisions_of : Tables → Decisions
+decisions_of t = record { vars = length t.scores; scores = t.scores; members = members_of t.places t.len }
+
+-- with a variable at a place of the heap
+abbrev pub filled : Tables → ℕ → ℕ → Tables
+filled t at var = record t { heap = slice_set t.heap at var; places = slice_set t.places var at }
 
 -- the place above a place of the heap
 abbrev pub parent : ℕ → ℕ
@@ -28,15 +48,36 @@ IsOver scores heap i j = IsNoWorse (slice_index scores) (slice_index heap i) (sl
 pub record IsOrdered (scores heap : List ℕ) (len from : ℕ) : Type 0 where
   pub below : (c : ℕ) → 0 < c → c < len → from ≤ parent c → IsOver scores heap (parent c) c
 
+abbrev pub IsOrderedFrom : Tables → ℕ → Type 0
+IsOrderedFrom t from = IsOrdered t.scores t.heap t.len from
+
 -- in order, but that the variable at one place may be better than those above it
 pub record IsRising (scores heap : List ℕ) (len at : ℕ) : Type 0 where
   pub others : (c : ℕ) → 0 < c → c < len → c ≢ at → IsOver scores heap (parent c) c
   pub across : (c : ℕ) → 0 < c → c < len → parent c ≡ at → 0 < at → IsOver scores heap (parent at) c
 
+abbrev pub IsRisingAt : Tables → ℕ → Type 0
+IsRisingAt t at = IsRising t.scores t.heap t.len at
+
+-- each variable has a row in each table, and a place in the heap
+pub record AreRows (t : Tables) : Type 0 where
+  pub limit : length t.scores < 2 ^ 31
+  pub size : length t.heap ≡ length t.scores
+  pub count : t.len ≤ length t.scores
+  pub paired : ArePaired t.heap t.places
+
 -- all variables stand in the heap, those that are in first, and these in order
-pub record IsHeap (heap places scores : List ℕ) (len : ℕ) : Type 0 where
-  pub limit : length scores < 2 ^ 31
-  pub size : length heap ≡ length scores
-  pub count : len ≤ length scores
-  pub paired : ArePaired heap places
-  pub ordered : IsOrdered scores heap len 0
+pub record IsHeap (t : Tables) : Type 0 where
+  pub rows : AreRows t
+  pub ordered : IsOrderedFrom t 0
+
+-- as many variables stand in the heap, perhaps at other places; all else is as it was
+pub record AreMoved (old new : Tables) : Type 0 where
+  pub long : length new.heap ≡ length old.heap
+  pub rest : new ≡ record old { heap = new.heap; places = new.places }
+
+-- each table has memory for so many rows
+pub record HaveRoom (r : Rows) (rows : ℕ) : Type 0 where
+  pub heap : rows ≤ vec_capacity r.heap
+  pub places : rows ≤ vec_capacity r.places
+  pub scores : rows ≤ vec_capacity r.scores

@@ -5,8 +5,8 @@ use Rattle.gathering.specs.Closing.{Leaf, open_from}
 use Rattle.icnf.specs.Leaves.{Cube}
 use Rattle.leaves.specs.Joining.{IsReadAs, Stands}
 use Rattle.leaves.specs.Notes.{missing_text}
-use Rattle.leaves.specs.declared.join.FileEnd.{FileEnd}
-use Rattle.leaves.specs.declared.join.FileEnd.TheVariants as ended
+use Rattle.leaves.specs.declared.ending.FileEnd.{FileEnd}
+use Rattle.leaves.specs.declared.ending.FileEnd.TheVariants as ended
 use Rattle.leaves.specs.declared.join.Join.{Join}
 use Rattle.leaves.specs.declared.join.Reading.{Reading}
 use Rattle.leaves.specs.declared.join.Reading.TheVariants.{Refused}

@@ -10,6 +10,7 @@ use Rattle.dimacs.specs.logic.ClauseMap.{ClauseMap}
 use Rattle.dimacs.specs.layout.Flat.{parts}
 use Rattle.lrat_check.specs.declared.slot.Slot.{Slot}
 use Rattle.lrat_check.specs.declared.slot_tables.Far.{Far}
+use Rattle.lrat_check.specs.declared.slot_tables.SlotTables.{SlotTables}
 
 -- the literals at a slot
 abbrev pub clause_at : List Literal → Slot → Clause
@@ -33,9 +34,21 @@ far_entries literals far = entries_of literals (λ p. slice_index far.numbers.it
 abbrev pub place_of : Far → ℕ → Option ℕ
 place_of far q = tree.get nat_cmp far.places q
 
+-- literals, the slots of numbers that are their own places, and those of numbers that are far from the others
+pub record Tables : Type 0 where
+  pub literals : List Literal
+  pub near : List (Option Slot)
+  pub far : Far
+
+abbrev pub tables : List Literal → List (Option Slot) → Far → Tables
+tables literals near far = record { literals = literals; near = near; far = far }
+
+abbrev pub tables_of : SlotTables → Tables
+tables_of t = tables t.literals.items t.near t.far
+
 -- the live clauses
-abbrev pub live_of : List Literal → List (Option Slot) → Far → ClauseMap
-live_of literals near far = from_entries (near_entries literals near ++ far_entries literals far)
+abbrev pub live_of : Tables → ClauseMap
+live_of t = from_entries (near_entries t.literals t.near ++ far_entries t.literals t.far)
 
 -- what a store holds: literals, and the live clauses that stand in them
 pub record Stored : Type 0 where
@@ -74,12 +87,12 @@ pub record AreCopied (literals : List Literal) (slots : List (Option Slot)) (lit
   pub placed : ArePlaced literals' slots'
 
 -- each slot lies within the literals; the map finds the far numbers' places, which are none of those of the table by number
-pub record IsStore (literals : List Literal) (near : List (Option Slot)) (far : Far) : Type 0 where
-  pub near_placed : ArePlaced literals near
-  pub far_placed : ArePlaced literals far.slots.items
-  pub level : length far.numbers.items ≡ length far.slots.items
-  pub found : (q p : ℕ) → place_of far q ≡ Some p → (slice_index far.numbers.items p ≡ q) × (p < length far.slots.items) × (length near ≤ q)
-  pub kept : (p : ℕ) (s : Slot) → slice_index_or far.slots.items p None ≡ Some s → place_of far (slice_index far.numbers.items p) ≡ Some p
+pub record IsStore (t : Tables) : Type 0 where
+  pub near_placed : ArePlaced t.literals t.near
+  pub far_placed : ArePlaced t.literals t.far.slots.items
+  pub level : length t.far.numbers.items ≡ length t.far.slots.items
+  pub found : (q p : ℕ) → place_of t.far q ≡ Some p → (slice_index t.far.numbers.items p ≡ q) × (p < length t.far.slots.items) × (length t.near ≤ q)
+  pub kept : (p : ℕ) (s : Slot) → slice_index_or t.far.slots.items p None ≡ Some s → place_of t.far (slice_index t.far.numbers.items p) ≡ Some p
 
 -- at each place stands what stands there in a list: no slot, and then the slots of the clauses that begin at some places so far, numbered from 1
 pub record IsFilledTo (literals : List Literal) (places : List ℕ) (count : ℕ) (near : List (Option Slot)) : Type 0 where

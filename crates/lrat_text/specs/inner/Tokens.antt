@@ -19,6 +19,11 @@ IsCounted LargePlus = Unit {0}
 IsCounted LargeMinus = Unit {0}
 IsCounted Other = Unit {0}
 
+-- a number behind a minus, or without one
+abbrev pub signed_token : Bool → ℕ → Token
+signed_token true n = Minus n
+signed_token false n = Plus n
+
 -- a token and those behind it, if there is one
 abbrev pub tokens_from : Option (Token × Bor (List ℕ)) → List Token
 tokens_from None = []

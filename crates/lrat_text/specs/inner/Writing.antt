@@ -1,9 +1,9 @@
 -- The parts of a line that is written.
-use Rattle.std.specs.Prelude.{◌≡◌, ℕ, List, ◌++◌, decimal, codes}
+use Rattle.std.specs.Prelude.{◌≡◌, ℕ, suc, ◌&&◌, ◌==◌, List, [], ◌∷◌, ◌++◌, get_or, decimal, codes, if◌then◌else◌}
 use Rattle.std.specs.List.{flat_map}
 use Rattle.dimacs.specs.logic.Literal.{Literal}
 use Rattle.dimacs.specs.logic.Rat.{Group}
-use Rattle.lrat_text.specs.Grammar.{literal_token}
+use Rattle.lrat_text.specs.Grammar.{literal_token, space}
 
 -- a token behind a space
 abbrev pub number_text : ℕ → List ℕ
@@ -29,3 +29,8 @@ deletion_text top ids = decimal top ++ codes " d" ++ flat_map number_text ids ++
 -- the new bytes are the old ones and more
 abbrev pub Begins : List ℕ → List ℕ → Type 0
 Begins old new = (more : List ℕ) × (new ≡ old ++ more)
+
+-- how many bytes stand before the first space with a 0 behind it
+abbrev pub zero_at : List ℕ → ℕ
+zero_at [] = 0
+zero_at (b ∷ bs) = if (b == space) && (get_or bs 0 0 == 48) then 0 else suc (zero_at bs)

@@ -23,7 +23,7 @@ use dimacs::Formula;
 use icnf::Tree;
 use links::Arrivals;
 use lrat_check::{Verdict, accepted_proofs_are_sound};
-use lrat_text::PackedText;
+use packed_text::PackedText;
 use reports::Report;
 use std::alloc::{AllocError, Global};
 

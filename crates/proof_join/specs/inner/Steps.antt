@@ -1,9 +1,11 @@
 -- The steps of a text, one after the other, as a call that copies them meets them.
-use Rattle.std.specs.Prelude.{◌≡◌, ℕ, ◌+◌, ◌^◌, ◌<◌, ◌≤◌, List, [], ◌∷◌, ◌++◌, length, All, Result, Ok, Err}
+use Rattle.std.specs.Prelude.{◌≡◌, ℕ, ◌+◌, ◌^◌, ◌<◌, ◌≤◌, List, [], ◌∷◌, ◌++◌, length, All, Option, Some, None, Result, Ok, Err}
+use Rattle.std.specs.Borrow.{Bor}
 use Rattle.dimacs.specs.logic.Literal.{Clause}
 use Rattle.dimacs.specs.logic.Rat.{Group}
 use Rattle.lrat_text.specs.Grammar.{LineSpells}
 use Rattle.lrat_text.specs.Log.{top_after}
+use Rattle.lrat_text.specs.Writing.{literals_text}
 use Rattle.lrat_text.specs.declared.step.Step.{Step}
 use Rattle.lrat_text.specs.declared.step.Step.TheVariants.{Add, Delete}
 use Rattle.proof_join.specs.Steps.{steps_in}
@@ -53,3 +55,13 @@ pub record EndsByAddition (steps : List Step) : Type 0 where
 pub record IsFragment (b : ℕ) (text : List ℕ) : Type 0 where
   pub own : IsOwn b text
   pub ends : EndsByAddition (steps_in text)
+
+-- an addition is held without its literals, beside their text
+abbrev pub IsApart : List ℕ → Step → Step → Type 0
+IsApart text held (Add id lits hints groups) = (held ≡ Add id [] hints groups) × (text ≡ literals_text lits)
+IsApart text held (Delete ids) = ⊥
+
+-- a step is held as it is, or so, where there is such a text
+abbrev pub IsHeld : Option (Bor (List ℕ)) → Step → Step → Type 0
+IsHeld None held step = held ≡ step
+IsHeld (Some text) held step = IsApart text.now held step

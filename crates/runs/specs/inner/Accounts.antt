@@ -1,60 +1,57 @@
--- Links that are open, counted.
-use Rattle.std.specs.Prelude.{◌≡◌, ◌≢◌, ℕ, zero, suc, ◌≤◌, ◌+◌, ◌==◌, nat_lt, Bool, true, false, List, [], ◌∷◌, sum_by, if◌then◌else◌}
-use Rattle.runs.specs.declared.seat.Seat.{Seat}
+-- What a call leaves of its coordinator, and what it adds to the counts of the links.
+use Rattle.std.specs.Prelude.{◌≡◌, ◌≢◌, ℕ, ◌+◌, ◌≤◌, ◌⊎◌, Bool, true, false, List, [], ◌∷◌, length, Result, Ok, Err}
+use Rattle.dimacs.specs.logic.Cnf.{Cnf}
+use Rattle.coordinator_core.specs.Coordinator.{CoordinatorState}
+use Rattle.lrat_check.specs.declared.verdict.Verdict.TheVariants.{Nothing}
+use Rattle.runs.specs.Accounts.{RoseBy}
+use Rattle.runs.specs.declared.broken.Broken.{Broken}
+use Rattle.runs.specs.declared.broken.Broken.TheVariants.{NoMemory}
 
--- one where a link is open
+-- a coordinator that begins
+pub record Begins (F : Cnf) (n : ℕ) (c : CoordinatorState) : Type 0 where
+  pub formula : c.formula ≡ F
+  pub workers : length c.jobs ≡ n
+  pub verdict : c.verdict ≡ Nothing
+  pub stuck : c.stuck ≡ false
+
+-- a coordinator has the formula that it had, and as many workers
+pub record GoesOn (old new : CoordinatorState) : Type 0 where
+  pub formula : new.formula ≡ old.formula
+  pub workers : length new.jobs ≡ length old.jobs
+
+-- where a run ends, its coordinator is stuck or holds a verdict; a verdict that is handed out ends no run
+pub record IsOver (hands_out : Bool) (c : CoordinatorState) : Type 0 where
+  pub stuck : c.verdict ≡ Nothing → c.stuck ≡ true
+  pub held : hands_out ≡ true → c.verdict ≡ Nothing
+
+-- a counter rose by at least k and by at most n
+pub record RoseWithin (k n old new : ℕ) : Type 0 where
+  pub least : RoseBy k old new
+  pub rises : old ≤ new
+  pub most : new ≤ old + n
+
+-- a counter rose by at least k, unless memory was wanting
+abbrev pub RoseUnless : {A : Type 0} → Result A Broken → ℕ → ℕ → ℕ → Type 0
+RoseUnless (Ok x) k old new = RoseBy k old new
+RoseUnless (Err broken) k old new = (broken ≡ NoMemory) ⊎ RoseBy k old new
+
+-- where nothing waits, a receive makes a call
+abbrev pub one_if_none : {A : Type 0} → List A → ℕ
+one_if_none [] = 1
+one_if_none (x ∷ xs) = 0
+
+-- a call that answered Err may have been refused
+abbrev pub one_if_err : {A E : Type 0} → Result A E → ℕ
+one_if_err (Ok x) = 0
+one_if_err (Err e) = 1
+
+-- a link that is open may be refused yet
 abbrev pub one_if_open : Bool → ℕ
 one_if_open true = 1
 one_if_open false = 0
 
--- one at the link of this worker
-abbrev pub one_at : ℕ → ℕ → ℕ
-one_at worker other = if other == worker then 1 else 0
-
--- no link refused
-abbrev pub NoneRefused : (ℕ → ℕ) → (ℕ → ℕ) → Type 0
-NoneRefused old new = (worker : ℕ) → new worker ≤ old worker
-
--- the link of this worker alone refused, and at most once
-abbrev pub OneRefused : ℕ → (ℕ → ℕ) → (ℕ → ℕ) → Type 0
-OneRefused worker old new = (other : ℕ) → new other ≤ old other + one_at worker other
-
--- the link of this worker alone refused, and is closed if it did
-pub record Closes (worker : ℕ) (before after : Bool) (old new : ℕ → ℕ) : Type 0 where
-  pub here : new worker + one_if_open after ≤ old worker + one_if_open before
-  pub elsewhere : (other : ℕ) → other ≢ worker → new other ≤ old other
-
--- one where the link at this place is open
-abbrev pub open_in : {A : Type 0} → (A → Bool) → List A → ℕ → ℕ
-open_in is_open [] place = 0
-open_in is_open (x ∷ more) zero = one_if_open (is_open x)
-open_in is_open (x ∷ more) (suc place) = open_in is_open more place
-
--- one where the link of this worker is open; the first is that of worker 1
-abbrev pub open_at : {A : Type 0} → (A → Bool) → List A → ℕ → ℕ
-open_at is_open links zero = 0
-open_at is_open links (suc place) = open_in is_open links place
-
--- of each link refusals and whether it is open together do not rise, so that what refused is closed
-abbrev pub EachCloses : {A : Type 0} → (A → Bool) → (ℕ → ℕ) → (ℕ → ℕ) → List A → List A → Type 0
-EachCloses is_open old new before after =
-    (worker : ℕ) → new worker + open_at is_open after worker ≤ old worker + open_at is_open before worker
-
--- the same of links that begin: those of workers below this number have begun, and no other was called
-abbrev pub ClosesBelow : {A : Type 0} → (A → Bool) → ℕ → (ℕ → ℕ) → (ℕ → ℕ) → List A → Type 0
-ClosesBelow is_open end old new links =
-    (worker : ℕ) → new worker + open_at is_open links worker ≤ old worker + (if nat_lt worker end then 1 else 0)
-
--- how many links are open
-abbrev pub open_count : List Seat → ℕ
-open_count seats = sum_by (λ s. one_if_open s.is_open) seats
-
--- nothing waits at the worker's end of an open link
-pub record IsUntouched (s : Seat) : Type 0 where
-  pub is_open : s.is_open ≡ true
-  pub empty : s.down.waiting.items ≡ []
-
--- there is a first link, which is untouched
-abbrev pub FirstIsUntouched : List Seat → Type 0
-FirstIsUntouched [] = ⊥
-FirstIsUntouched (s ∷ seats) = IsUntouched s
+-- over the link of this worker alone calls were refused, of the `had` that might be, and `left` more may be
+pub record Refuses {L : Type 0} (refusals : L → ℕ) (refused : L → ℕ → ℕ) (worker had left : ℕ) (old new : L) : Type 0 where
+  pub all : refusals new + left ≤ refusals old + had
+  pub here : refused new worker + left ≤ refused old worker + had
+  pub elsewhere : (other : ℕ) → other ≢ worker → refused new other ≤ refused old other

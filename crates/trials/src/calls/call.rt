@@ -1,6 +1,6 @@
 //! A call that may find no memory, and the same call again.
 
-use lrat_text::PackedText;
+use packed_text::PackedText;
 use std::alloc::Global;
 
 /// What a call answers.

@@ -7,7 +7,7 @@ use crate::formulas::{FOUR, UNITS};
 use coordinator_core::Coordinator;
 use dimacs::{Builder, Extension, Lit, Var, read};
 use frames::{
-    Answer as Evidence, Attempt, Chunk, Finding, Frame, Outcome, ProofLength, WorkerNumber,
+    Answer as Evidence, Attempt, Chunk, Ending, Finding, Frame, ProofLength, WorkerNumber,
 };
 use icnf::Tree;
 use lrat_check::{Reaction, Verdict};
@@ -235,7 +235,7 @@ fn done(job: u64, fragment: &[u8]) -> Option<Frame> {
     let length = ProofLength::new(fragment.len() as u32);
     Some(Frame::Done {
         attempt: attempt(job),
-        outcome: Outcome::Decided(Finding::Refuted { length }),
+        ending: Ending::Decided(Finding::Refuted { length }),
     })
 }
 

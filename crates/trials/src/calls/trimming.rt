@@ -3,7 +3,7 @@
 use super::call::{Answer, Call, Tried, made, try_twice};
 use crate::formulas::FOUR;
 use dimacs::{Base, read};
-use lrat_text::PackedText;
+use packed_text::PackedText;
 use proof_trim::trim;
 use std::alloc::{AllocError, Global};
 use std::fmt::Write;

@@ -8,8 +8,8 @@ use Rattle.watches.specs.Trails.{TrailValue, holds, up_to}
 use Rattle.watches.specs.Law.{Grows, IsConflict, AreSame, live_among}
 use Rattle.watches.specs.Scanning.{numbers}
 use Rattle.watches.specs.declared.watched.places.Place.{Place}
-use Rattle.watches.specs.declared.watched.outcome.Outcome.{Outcome}
-use Rattle.watches.specs.declared.watched.outcome.Outcome.TheVariants.{Stays, Moves, False}
+use Rattle.watches.specs.declared.watched.visit.Visit.{Visit}
+use Rattle.watches.specs.declared.watched.visit.Visit.TheVariants.{Stays, Moves, False}
 use Rattle.watches.specs.Ready.{Watches}
 use Rattle.watches.specs.inner.Chains.{IsIn, last_of, literal_at, next_of, twin}
 use Rattle.watches.specs.inner.Watching.{owner, IsWatching, IsRelinked}
@@ -72,7 +72,7 @@ pub record Stops (W : Watches) (m : Clauses) (t : TrailValue) (n : ℕ) : Type 0
   pub conflict : IsConflict (live_among (numbers W.clauses) (live_of m)) t.entries n
 
 -- what a visit leaves
-abbrev pub Visits : (old new : Watches) → Clauses → TrailValue → (previous here : ℕ) → Outcome → Type 0
+abbrev pub Visits : (old new : Watches) → Clauses → TrailValue → (previous here : ℕ) → Visit → Type 0
 Visits old new m t previous here Stays = IsWalk new m t here × IsShorter old.places new.places previous here
 Visits old new m t previous here Moves = IsWalk new m t previous × IsShorter old.places new.places previous previous
 Visits old new m t previous here (False n) = Stops new m t n
@@ -93,7 +93,7 @@ pub record Wake (W : Watches) (m : Clauses) (t : TrailValue) (previous : ℕ) : 
   pub sound : IsConsistent t.entries
 
 -- what a look at a waiting place leaves
-abbrev pub Wakes : (old new : Watches) → Clauses → TrailValue → (previous here : ℕ) → Outcome → Type 0
+abbrev pub Wakes : (old new : Watches) → Clauses → TrailValue → (previous here : ℕ) → Visit → Type 0
 Wakes old new m t previous here Stays = Wake new m t here × IsShorter old.places new.places previous here
 Wakes old new m t previous here Moves = Wake new m t previous × IsShorter old.places new.places previous previous
 Wakes old new m t previous here (False n) = Stops new m t n

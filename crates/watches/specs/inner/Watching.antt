@@ -6,14 +6,14 @@ use Rattle.clause_arena.specs.Clauses.{Clauses, Stands}
 use Rattle.watches.specs.declared.trail.Assigned.{Assigned}
 use Rattle.watches.specs.Trails.{TrailValue, holds, up_to}
 use Rattle.watches.specs.inner.Scanning.{IsHere}
-use Rattle.watches.specs.declared.watched.replacement.Found.{Found}
+use Rattle.watches.specs.declared.watched.replacement.Replacement.{Replacement}
 use Rattle.watches.specs.declared.watched.places.Place.{Place}
 use Rattle.watches.specs.declared.watched.chains.Chains.{Chains}
 use Rattle.watches.specs.Ready.{Watches}
 use Rattle.watches.specs.inner.Chains.{AreChains, IsIn, literal_at, twin}
 
 -- what a search for another literal to watch finds
-abbrev pub FindsWatch : List Assigned → Clause → Option Found → Type 0
+abbrev pub FindsWatch : List Assigned → Clause → Option Replacement → Type 0
 FindsWatch entries C None = (k : ℕ) (d : Literal) → 2 ≤ k → k < length C → holds entries (negation (slice_index_or C k d)) ≡ true
 FindsWatch entries C (Some r) = (2 ≤ r.place) × (r.place < length C) × ((d : Literal) → slice_index_or C r.place d ≡ r.literal) × (holds entries (negation r.literal) ≡ false)
 

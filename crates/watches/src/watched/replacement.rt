@@ -9,9 +9,9 @@ use crate::truth::Truth;
 use crate::watched::starts::start_of;
 use dimacs::Lit;
 
-/// A literal of a clause, with its place.
+/// A literal to watch in place of another, with its place in the clause.
 #[derive(Clone, Copy, Debug, PartialEq, Eq)]
-pub(crate) struct Found {
+pub(crate) struct Replacement {
     pub(crate) place: usize,
     pub(crate) literal: Lit,
 }
@@ -19,7 +19,7 @@ pub(crate) struct Found {
 /// The place of a literal that is not false, behind the first two, with that literal. The look begins at a place, and ends with the
 /// literals before it.
 #[inline(always)]
-pub(crate) fn find_watch(literals: &[Lit], trail: &Trail, from: usize) -> Option<Found>
+pub(crate) fn find_watch(literals: &[Lit], trail: &Trail, from: usize) -> Option<Replacement>
     requires { All (IsWithin trail.now.vars) literals.now }
     ensures { FindsWatch trail.now.entries literals.now result }
 {
@@ -28,7 +28,7 @@ pub(crate) fn find_watch(literals: &[Lit], trail: &Trail, from: usize) -> Option
         let literal = literals[k];
         match trail.value(literal) {
             Truth::False => {}
-            _ => return Some(Found { place: k, literal }),
+            _ => return Some(Replacement { place: k, literal }),
         }
     }
     let end = from.min(len);
@@ -36,7 +36,7 @@ pub(crate) fn find_watch(literals: &[Lit], trail: &Trail, from: usize) -> Option
         let literal = literals[j];
         match trail.value(literal) {
             Truth::False => {}
-            _ => return Some(Found { place: j, literal }),
+            _ => return Some(Replacement { place: j, literal }),
         }
     }
     None
@@ -49,7 +49,7 @@ pub(crate) fn find_next_watch(
     trail: &Trail,
     starts: &[u32],
     owner: usize,
-) -> Option<Found>
+) -> Option<Replacement>
     requires { All (IsWithin trail.now.vars) literals.now }
     ensures { FindsWatch trail.now.entries literals.now result }
 {

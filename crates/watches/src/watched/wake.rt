@@ -7,12 +7,12 @@ ghost use Rattle.watches.specs.inner.Chains.{next_of, literal_at, twin};
 ghost use Rattle.watches.specs.inner.Watching.{watches_of, owner, AreWatching, IsRelinked};
 ghost use Rattle.watches.specs.inner.Walking.{Wake, Wakes, IsStep, Stops, Woken, IsSatisfied};
 
-use crate::finding::{Finding, test_clause};
+use crate::status::{Status, test_clause};
 use crate::trail::{Assigned, Trail};
 use crate::truth::Truth;
 use crate::watched::chains::Chains;
-use crate::watched::outcome::Outcome;
 use crate::watched::replacement::find_watch;
+use crate::watched::visit::Visit;
 use crate::watched::walk::recall;
 use clause_arena::Arena;
 
@@ -33,21 +33,15 @@ impl Chains {
                 return None;
             }
             match self.wake(arena, trail, previous, here) {
-                Outcome::Stays => previous = here,
-                Outcome::Moves => {}
-                Outcome::False(number) => return Some(number),
+                Visit::Stays => previous = here,
+                Visit::Moves => {}
+                Visit::False(number) => return Some(number),
             }
         }
     }
 
     /// Looks at a waiting place.
-    fn wake(
-        &mut self,
-        arena: &mut Arena,
-        trail: &mut Trail,
-        previous: usize,
-        here: usize,
-    ) -> Outcome
+    fn wake(&mut self, arena: &mut Arena, trail: &mut Trail, previous: usize, here: usize) -> Visit
         requires wake { Wake (watches_of self.old) arena.old trail.old previous }
         requires here_is { here ≡ next_of self.old.places.items previous }
         requires there { 0 < here }
@@ -70,7 +64,7 @@ impl Chains {
         trail: &mut Trail,
         previous: usize,
         here: usize,
-    ) -> Outcome
+    ) -> Visit
         requires wake { Wake (watches_of self.old) arena.old trail.old previous }
         requires here_is { here ≡ next_of self.old.places.items previous }
         requires there { 0 < here }
@@ -84,7 +78,7 @@ impl Chains {
             Truth::False => {}
             _ => {
                 self.relink(previous, here, own.index(), own);
-                return Outcome::Moves;
+                return Visit::Moves;
             }
         }
         let clause = self.owner_of(here);
@@ -92,13 +86,13 @@ impl Chains {
             Some(found) => {
                 arena.swap(clause, here % 2, found.place);
                 self.relink(previous, here, found.literal.index(), found.literal);
-                Outcome::Moves
+                Visit::Moves
             }
             None => {
                 let other = self.other_literal(here);
                 match trail.value(other) {
                     Truth::True => self.settle(arena, trail, previous, here),
-                    Truth::False => Outcome::False(clause.number()),
+                    Truth::False => Visit::False(clause.number()),
                     Truth::Free => {
                         trail.push(Assigned {
                             literal: other,
@@ -113,7 +107,7 @@ impl Chains {
     }
 
     /// Sends a place home whose literal is false and whose twin's is true, where that came at no greater level.
-    fn settle(&mut self, arena: &Arena, trail: &Trail, previous: usize, here: usize) -> Outcome
+    fn settle(&mut self, arena: &Arena, trail: &Trail, previous: usize, here: usize) -> Visit
         requires wake { Wake (watches_of self.old) arena.now trail.now previous }
         requires here_is { here ≡ next_of self.old.places.items previous }
         requires there { 0 < here }
@@ -131,9 +125,9 @@ impl Chains {
         let theirs = trail.entry_of(other);
         if theirs.level <= mine.level {
             self.relink(previous, here, own.index(), own);
-            Outcome::Moves
+            Visit::Moves
         } else {
-            Outcome::Stays
+            Visit::Stays
         }
     }
 
@@ -144,7 +138,7 @@ impl Chains {
         trail: &mut Trail,
         previous: usize,
         here: usize,
-    ) -> Outcome
+    ) -> Visit
         requires wake { Wake (watches_of self.old) arena.old trail.old previous }
         requires here_is { here ≡ next_of self.old.places.items previous }
         requires there { 0 < here }
@@ -155,8 +149,8 @@ impl Chains {
     {
         let clause = self.owner_of(here);
         match test_clause(arena.clause(clause), trail) {
-            Finding::False => Outcome::False(clause.number()),
-            Finding::Unit(literal) => {
+            Status::False => Visit::False(clause.number()),
+            Status::Unit(literal) => {
                 trail.push(Assigned {
                     literal,
                     level: trail.level(),
@@ -164,12 +158,12 @@ impl Chains {
                 });
                 self.retire(arena, trail, previous, here)
             }
-            Finding::Other => self.retire(arena, trail, previous, here),
+            Status::Other => self.retire(arena, trail, previous, here),
         }
     }
 
     /// Lets a place of a clause of no or one literal rest for good where its clause is true at level 0.
-    fn retire(&mut self, arena: &Arena, trail: &Trail, previous: usize, here: usize) -> Outcome
+    fn retire(&mut self, arena: &Arena, trail: &Trail, previous: usize, here: usize) -> Visit
         requires wake { Wake (watches_of self.old) arena.now trail.now previous }
         requires here_is { here ≡ next_of self.old.places.items previous }
         requires there { 0 < here }
@@ -180,10 +174,10 @@ impl Chains {
         ensures wakes { Wakes (watches_of self.old) (watches_of self.new) arena.now trail.now previous here result }
     {
         if trail.level() > 0 {
-            return Outcome::Stays;
+            return Visit::Stays;
         }
         let own = self.own_literal(here);
         self.relink(previous, here, 1, own);
-        Outcome::Moves
+        Visit::Moves
     }
 }

@@ -10,9 +10,9 @@ ghost use Rattle.watches.specs.inner.Walking.{IsWalk, IsStep, Stops, Visits};
 use crate::trail::{Assigned, Trail};
 use crate::truth::Truth;
 use crate::watched::chains::Chains;
-use crate::watched::outcome::Outcome;
 use crate::watched::replacement::find_next_watch;
 use crate::watched::starts::keep_start;
+use crate::watched::visit::Visit;
 use clause_arena::Arena;
 
 /// No two entries of a trail have one variable.
@@ -49,22 +49,16 @@ impl Chains {
                 return None;
             }
             match self.visit(arena, trail, previous, here) {
-                Outcome::Stays => previous = here,
-                Outcome::Moves => {}
-                Outcome::False(number) => return Some(number),
+                Visit::Stays => previous = here,
+                Visit::Moves => {}
+                Visit::False(number) => return Some(number),
             }
         }
     }
 
     /// Looks at the place behind `previous`, whose literal became false.
     #[inline(always)]
-    fn visit(
-        &mut self,
-        arena: &mut Arena,
-        trail: &mut Trail,
-        previous: usize,
-        here: usize,
-    ) -> Outcome
+    fn visit(&mut self, arena: &mut Arena, trail: &mut Trail, previous: usize, here: usize) -> Visit
         requires walk { IsWalk (watches_of self.old) arena.old trail.old previous }
         requires here_is { here ≡ next_of self.old.places.items previous }
         requires there { 0 < here }
@@ -76,7 +70,7 @@ impl Chains {
         let other = self.other_literal(here);
         let value = trail.value(other);
         match value {
-            Truth::True => return Outcome::Stays,
+            Truth::True => return Visit::Stays,
             _ => {}
         }
         // A literal that is not false takes over the watch, if there is one behind the first two.
@@ -87,13 +81,13 @@ impl Chains {
                 keep_start(&mut self.starts, row, found.place);
                 arena.swap(clause, here % 2, found.place);
                 self.relink(previous, here, found.literal.index(), found.literal);
-                return Outcome::Moves;
+                return Visit::Moves;
             }
             None => {}
         }
         // All others are false: so is the clause, or it implies the other watched literal.
         match value {
-            Truth::False => return Outcome::False(clause.number()),
+            Truth::False => return Visit::False(clause.number()),
             _ => {}
         }
         trail.push(Assigned {
@@ -101,6 +95,6 @@ impl Chains {
             level: trail.level(),
             reason: Some(clause.number()),
         });
-        Outcome::Stays
+        Visit::Stays
     }
 }

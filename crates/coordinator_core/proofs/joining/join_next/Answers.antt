@@ -1,4 +1,4 @@
-use Rattle.std.proofs.Common.{◌≡◌, ℕ, List, [], length, get_or, arith, sym, subst}
+use Rattle.std.proofs.Common.{◌≡◌, [], length, get_or, arith, sym, subst}
 use Rattle.icnf.specs.Leaves.{Cube}
 use Rattle.lrat_text.specs.Log.{Closes}
 use Rattle.cube_split.specs.Definitions.{base_with}

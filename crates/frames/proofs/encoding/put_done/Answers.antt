@@ -1,8 +1,8 @@
 use Rattle.std.proofs.Common.{refl}
-use Rattle.frames.specs.Spelling.{outcome_bytes}
+use Rattle.frames.specs.Spelling.{ending_bytes}
 use Rattle.frames.proofs.WritingLemmas.{Puts-then}
 use Rattle.frames.proofs.encoding.put_done.Goals as goal
 
 pub returns : goal.returns
 returns c =
-    Puts-then _ _ (outcome_bytes c.args.outcome.now) c.put_attempt-at.ensures refl c.put_outcome.ensures
+    Puts-then _ _ (ending_bytes c.args.ending.now) c.put_attempt-at.ensures refl c.put_ending.ensures

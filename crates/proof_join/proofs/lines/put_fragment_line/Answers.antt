@@ -1,12 +1,10 @@
-use Rattle.std.proofs.Common.{◌≡◌, ◌^◌, ◌<◌, ◌++◌, ◌∙◌, List, ℕ, Err, IfOk, codes, length, sym, subst}
-use Rattle.lrat_text.specs.Log.{top_after}
-use Rattle.lrat_text.specs.Steps.{step_of}
-use Rattle.lrat_text.specs.Writing.{line_of}
+use Rattle.std.proofs.Common.{◌≡◌, ◌+◌, ◌-◌, ◌^◌, ◌<◌, ◌++◌, List, ℕ, Err, codes, length, sym, subst}
+use Rattle.lrat_text.specs.Grammar.{IsStep}
 use Rattle.lrat_text.specs.declared.step.Step.{Step}
-use Rattle.proof_join.specs.Numbering.{behind, renumbered}
-use Rattle.proof_join.specs.inner.Steps.{Writes}
+use Rattle.proof_join.specs.inner.Steps.{IsHeld, IsLow, Writes}
+use Rattle.proof_join.proofs.ApartLemmas.{held_limits, held_low}
 use Rattle.proof_join.proofs.CopyLemmas.{copied}
-use Rattle.proof_join.proofs.StepLemmas.{read_same, writes_else}
+use Rattle.proof_join.proofs.StepLemmas.{writes_else}
 use Rattle.proof_join.proofs.lines.put_fragment_line.Goals as goal
 
 pub returns-in-Ok-clause-text : goal.returns-in-Ok-clause-text
@@ -24,14 +22,21 @@ returns-in-Err-clause-text c = λ step s.
     subst (λ (l : List ℕ). Writes {A = ℕ} (Err c.in-Err.fault) c.put_copy.new.out (c.args.out.now ++ l)) k.0
     (writes_else (Unit {0}) ℕ c.in-Err.fault c.put_copy.new.out (c.args.out.now ++ (c.args.line.now ++ codes "\n")) c.in-Err.ensures)
 
+pub put_renumbered-requires-clause-limits : goal.put_renumbered-requires-clause-limits
+put_renumbered-requires-clause-limits c =
+    let (step, s) = c.requires.spelled in
+    subst IsStep (sym c.as_ref.ensures) (held_limits c.in-Ok-read_apart.literals c.read_apart.new.buffer step (c.in-Ok-read_apart.ensures step s) s.limits)
+
+pub put_renumbered-requires-clause-low : goal.put_renumbered-requires-clause-low
+put_renumbered-requires-clause-low c =
+    let (step, s) = c.requires.spelled in
+    let k : ℕ = c.args.shift.base + (c.args.top - c.args.shift.begun) in
+    subst (IsLow k) (sym c.as_ref.ensures) (held_low k c.in-Ok-read_apart.literals c.read_apart.new.buffer step (c.in-Ok-read_apart.ensures step s) (c.requires.low step s))
+
 pub returns-clause-text : goal.returns-clause-text
 returns-clause-text c = λ step s.
-    let is : step_of c.as_ref.result ≡ step = c.as_ref.ensures ∙ read_same c.args.line.now c.read_line.new.buffer step c.in-Ok-read_line.ensures.found s in
-    subst
-    (λ (x : Step). Writes c.put_renumbered.result c.put_renumbered.new.out (c.args.out.now ++ line_of c.args.top (renumbered (behind c.args.shift.base c.args.shift.begun) x)))
-    is c.put_renumbered.ensures.text
+    c.put_renumbered.ensures.text step (subst (λ (x : Step). IsHeld c.in-Ok-read_apart.literals x step) (sym c.as_ref.ensures) (c.in-Ok-read_apart.ensures step s))
 
 pub returns-clause-top : goal.returns-clause-top
 returns-clause-top c = λ step s.
-    let is : step_of c.as_ref.result ≡ step = c.as_ref.ensures ∙ read_same c.args.line.now c.read_line.new.buffer step c.in-Ok-read_line.ensures.found s in
-    subst (λ (x : Step). IfOk c.put_renumbered.result (λ n. n ≡ top_after c.args.top (renumbered (behind c.args.shift.base c.args.shift.begun) x))) is c.put_renumbered.ensures.top
+    c.put_renumbered.ensures.top step (subst (λ (x : Step). IsHeld c.in-Ok-read_apart.literals x step) (sym c.as_ref.ensures) (c.in-Ok-read_apart.ensures step s))

@@ -6,8 +6,8 @@ use Rattle.proof_join.specs.inner.Steps.{IsLow}
 use Rattle.proof_join.proofs.StepLemmas.{low_addition, low_deletion}
 use Rattle.proof_join.proofs.lines.put_renumbered.Goals as goal
 
-pub put_line-requires-clause-limits : goal.put_line-requires-clause-limits
-put_line-requires-clause-limits c =
+pub put_found-requires-clause-limits : goal.put_found-requires-clause-limits
+put_found-requires-clause-limits c =
     let limits : IsStep (Add c.in-Add.id c.in-Add.lits.now c.in-Add.hints.now c.in-Add.groups.now) = rw c.in-Add.is at c.requires.limits in
     let low : IsLow (c.args.shift.base + (c.args.top - c.args.shift.begun)) (Add c.in-Add.id c.in-Add.lits.now c.in-Add.hints.now c.in-Add.groups.now) = rw c.in-Add.is at c.requires.low in
     let above = c.requires.begun in
@@ -20,8 +20,8 @@ put_line-requires-clause-limits c =
       z.3,
     )
 
-pub put_line-requires-in-Delete-clause-limits : goal.put_line-requires-in-Delete-clause-limits
-put_line-requires-in-Delete-clause-limits c =
+pub put_found-requires-in-Delete-clause-limits : goal.put_found-requires-in-Delete-clause-limits
+put_found-requires-in-Delete-clause-limits c =
     let limits : IsStep (Delete c.in-Delete.ids.now) = rw c.in-Delete.is at c.requires.limits in
     let low : IsLow (c.args.shift.base + (c.args.top - c.args.shift.begun)) (Delete c.in-Delete.ids.now) = rw c.in-Delete.is at c.requires.low in
     let above = c.requires.begun in

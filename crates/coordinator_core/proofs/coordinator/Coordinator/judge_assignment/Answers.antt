@@ -1,5 +1,5 @@
 use Rattle.std.proofs.Common.{◌≡◌, ◌∙◌, sym, ap, subst}
-use Rattle.lrat_text.specs.Packed.{BeginsWithCharacter}
+use Rattle.packed_text.specs.Packed.{BeginsWithCharacter}
 use Rattle.coordinator_core.specs.declared.desks.Fixed.{Fixed}
 use Rattle.coordinator_core.specs.declared.desks.Job.{Job}
 use Rattle.coordinator_core.proofs.GatherLemmas.{no_values, same_some}

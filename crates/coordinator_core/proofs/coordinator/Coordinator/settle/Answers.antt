@@ -3,5 +3,5 @@ use Rattle.coordinator_core.specs.Coordinator.{Gathers}
 use Rattle.coordinator_core.proofs.GatherLemmas.{same_job}
 use Rattle.coordinator_core.proofs.coordinator.Coordinator.settle.Goals as goal
 
-pub returns-in-Waits : goal.returns-in-Waits
-returns-in-Waits c = λ j x is. Gathers.waits (c.in-Waits.ensures j x is) refl (same_job c.args.self.now c.args.worker j x is)
+pub returns-in-None : goal.returns-in-None
+returns-in-None c = λ j x is. Gathers.waits (c.in-None.ensures j x is) refl (same_job c.args.self.now c.args.worker j x is)

@@ -1,0 +1,78 @@
+//! A run goes on until a verdict is held.
+
+ghost use Rattle.std.specs.Prelude.{◌≡◌, ◌≤◌, [], All, IfOk, OnOk, false};
+ghost use Rattle.dimacs.specs.logic.Cnf.{Cnf};
+ghost use Rattle.cube_split.specs.Pairs.{IsBaseWith};
+ghost use Rattle.evidence.specs.Jobs.{IsInside};
+ghost use Rattle.lrat_check.specs.Verdicts.{Right};
+ghost use Rattle.lrat_check.specs.declared.verdict.Verdict.TheVariants.{Nothing};
+ghost use Rattle.arriving.specs.Accounts.{AreBounded, EachCloses, HasBegun, OnceEach, nobody, open_of};
+ghost use Rattle.arriving.specs.Run.{formula_of, verdict_of};
+ghost use Rattle.arriving.specs.inner.Seats.{AreApart};
+
+use crate::plan::Plan;
+use crate::run::{ARRIVALS, Run};
+use dimacs::Formula;
+use icnf::Tree;
+use links::Arrivals;
+use std::alloc::{AllocError, Global};
+
+impl Run {
+    /// Goes on until a verdict is held, none will be, or nothing comes any more.
+    fn go_on<A: Arrivals>(&mut self, links: &mut A) -> Result<(), AllocError>
+        requires links { self.old.lines.items ≡ [] }
+        requires verdict { verdict_of self.old ≡ Nothing }
+        requires stuck { self.old.desk.coordinator.stuck ≡ false }
+        ensures formula { formula_of self.new ≡ formula_of self.old }
+        ensures used { OnOk result (HasBegun (A.call_count links.old) (A.call_count links.new) (verdict_of self.new)) }
+        ensures most { AreBounded (A.arrival_count links.old) (A.arrival_count links.new) (A.call_count links.old) (A.call_count links.new) }
+        ensures each { EachCloses (open_of self.old) (open_of self.new) (A.link_count links.old) (A.link_count links.new) (A.refusal_count links.old) (A.refusal_count links.new) }
+        ensures apart { AreApart self.new.lines.items }
+    {
+        for _ in 0..ARRIVALS {
+            if self.is_over() {
+                return Ok(());
+            }
+            match self.turn(links) {
+                Ok(true) => {}
+                Ok(false) => return Ok(()),
+                Err(error) => return Err(error),
+            }
+            if self.is_deserted() {
+                return Ok(());
+            }
+        }
+        Ok(())
+    }
+}
+
+/// Decides a formula over links that come and go: until a verdict is held, none will be, or nothing comes any more. It returns at the
+/// verdict, with the links as they are. An error is want of memory.
+pub fn decide<A: Arrivals>(
+    alloc: Global,
+    formula: Formula,
+    tree: Tree,
+    plan: &Plan,
+    links: &mut A,
+) -> Result<Run, AllocError>
+    requires inside { (B : Cnf) → IsBaseWith formula plan.now.defs B → All (IsInside B) tree }
+    requires workers { (1 ≤ plan.now.workers) × (plan.now.workers ≤ 64) }
+    requires defs { plan.now.defs ≤ 64 }
+    ensures right { IfOk result (λ r. Right formula (verdict_of r)) }
+    ensures used { IfOk result (λ r. HasBegun (A.call_count links.old) (A.call_count links.new) (verdict_of r)) }
+    ensures most { AreBounded (A.arrival_count links.old) (A.arrival_count links.new) (A.call_count links.old) (A.call_count links.new) }
+    ensures each { OnceEach (A.link_count links.old) (A.link_count links.new) (A.refusal_count links.old) (A.refusal_count links.new) }
+    ensures closes { IfOk result (λ r. EachCloses nobody (open_of r) (A.link_count links.old) (A.link_count links.new) (A.refusal_count links.old) (A.refusal_count links.new)) }
+{
+    let mut run = match Run::new(alloc, formula, tree, plan) {
+        Ok(run) => run,
+        Err(error) => return Err(error),
+    };
+    match run.go_on(links) {
+        Ok(()) => {
+            let _ = run.verdict(); // with it comes that it is right
+            Ok(run)
+        }
+        Err(error) => Err(error),
+    }
+}

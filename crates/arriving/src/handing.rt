@@ -1,0 +1,58 @@
+//! A verdict is handed out to those that are linked.
+
+ghost use Rattle.std.specs.Prelude.{◌≡◌};
+ghost use Rattle.arriving.specs.Accounts.{AreBounded, EachCloses, open_of};
+ghost use Rattle.arriving.specs.Run.{formula_of};
+ghost use Rattle.arriving.specs.inner.Seats.{AreApart};
+
+use crate::coordinating::is_decided;
+use crate::floor::hear_all;
+use crate::run::{ARRIVALS, Run};
+use crate::sweeping::end_unserved;
+use links::Arrivals;
+use std::alloc::AllocError;
+
+/// How many ticks a worker may be silent to whom the verdict is handed out.
+const SILENCE: u64 = 10;
+
+impl Run {
+    /// Goes on for as long as someone is served.
+    fn hand_on<A: Arrivals>(&mut self, links: &mut A) -> Result<(), AllocError>
+        ensures formula { formula_of self.new ≡ formula_of self.old }
+        ensures most { AreBounded (A.arrival_count links.old) (A.arrival_count links.new) (A.call_count links.old) (A.call_count links.new) }
+        ensures each { EachCloses (open_of self.old) (open_of self.new) (A.link_count links.old) (A.link_count links.new) (A.refusal_count links.old) (A.refusal_count links.new) }
+        ensures apart { AreApart self.old.lines.items → AreApart self.new.lines.items }
+    {
+        for _ in 0..ARRIVALS {
+            end_unserved(links, &mut self.desk, self.tick, SILENCE, &mut self.lines);
+            if !self.has_link() {
+                return Ok(());
+            }
+            match self.turn(links) {
+                Ok(true) => {}
+                Ok(false) => return Ok(()),
+                Err(error) => return Err(error),
+            }
+        }
+        Ok(())
+    }
+
+    /// Hands the verdict out to those that are linked, for as long as they ask for it. Without one nothing is done.
+    pub fn hand_out<A: Arrivals>(&mut self, links: &mut A) -> Result<(), AllocError>
+        ensures formula { formula_of self.new ≡ formula_of self.old }
+        ensures most { AreBounded (A.arrival_count links.old) (A.arrival_count links.new) (A.call_count links.old) (A.call_count links.new) }
+        ensures each { EachCloses (open_of self.old) (open_of self.new) (A.link_count links.old) (A.link_count links.new) (A.refusal_count links.old) (A.refusal_count links.new) }
+    {
+        if !is_decided(&self.desk.coordinator) || !self.has_link() {
+            return Ok(());
+        }
+        // Time has gone by since the verdict, in which nobody was listened to.
+        match self.hear_next(links) {
+            Ok(true) => {}
+            Ok(false) => return Ok(()),
+            Err(error) => return Err(error),
+        }
+        hear_all(&mut self.lines, self.tick);
+        self.hand_on(links)
+    }
+}

@@ -1,0 +1,125 @@
+//! The connections of a listener, by their places.
+
+ghost use Rattle.std.specs.Prelude.{◌≡◌, ◌<◌, ◌≤◌, length, map, replicate, set, get_or, false, true, is_some, IfOk, IfSome, IsErr};
+
+use crate::end::End;
+use links::LinkFault;
+use mio::Events;
+use std::alloc::{AllocError, Global};
+use std::io::Write;
+
+/// The listener's token, behind those of all places.
+pub(crate) const LISTENER: usize = 256;
+
+/// So many places without a link.
+pub(crate) fn places(alloc: Global, count: u8) -> Result<Vec<Option<End>>, AllocError>
+    ensures { IfOk result (λ v. map (λ e. is_some e) v.items ≡ replicate count false) }
+{
+    let mut ends = Vec::new(alloc);
+    for _ in 0..count {
+        ends.push(None)?;
+    }
+    Ok(ends)
+}
+
+/// The first place without a link.
+pub(crate) fn free_place(ends: &[Option<End>]) -> Option<u8>
+    ensures { IfSome result (λ place. (place < length ends.now) × (get_or (map (λ e. is_some e) ends.now) place true ≡ false)) }
+{
+    for place in 0..u8::MAX {
+        if ends.len() <= place as usize {
+            return None;
+        }
+        if ends[place as usize].is_none() {
+            return Some(place);
+        }
+    }
+    None
+}
+
+/// Puts a connection at a place, or none.
+pub(crate) fn put(ends: &mut [Option<End>], place: u8, end: Option<End>)
+    requires { place < length ends.old }
+    ensures { map (λ e. is_some e) ends.new ≡ set (map (λ e. is_some e) ends.old) place (is_some end) }
+{
+    ends[place as usize] = end;
+}
+
+/// Notes that bytes of a connection may be there.
+fn note(end: &mut Option<End>)
+    ensures { is_some end.new ≡ is_some end.old }
+{
+    if let Some(end) = end {
+        end.is_ready = true;
+    }
+}
+
+/// Notes of which connections bytes may be there, and answers whether a connection may wait to be accepted.
+pub(crate) fn note_all(ends: &mut [Option<End>], events: &Events) -> bool
+    ensures { map (λ e. is_some e) ends.new ≡ map (λ e. is_some e) ends.old }
+{
+    let mut knocks = false;
+    for event in events {
+        let place = event.token().0;
+        if place == LISTENER {
+            knocks = true;
+        } else if place < ends.len() {
+            note(&mut ends[place]);
+        }
+    }
+    knocks
+}
+
+/// Sends without waiting. What the connection has no room for is refused, and what is sent to nobody.
+pub(crate) fn send(end: &mut Option<End>, bytes: &[u8]) -> Result<(), LinkFault>
+    ensures links { is_some end.new ≡ is_some end.old }
+    ensures nobody { is_some end.old ≡ false → IsErr result }
+{
+    match end {
+        Some(end) => match end.stream.write_all(bytes) {
+            Ok(()) => Ok(()),
+            Err(_) => Err(LinkFault),
+        },
+        None => Err(LinkFault),
+    }
+}
+
+/// Whether bytes of a connection may be there.
+pub(crate) fn is_ready(ends: &[Option<End>]) -> bool {
+    ends.iter().any(|end| match end {
+        Some(end) => end.is_ready,
+        None => false,
+    })
+}
+
+/// Reads what is there of a connection, where bytes of it may be there.
+fn read_end(end: &mut Option<End>, room: &mut [u8]) -> Option<usize>
+    ensures within { IfSome result (λ count. count ≤ length room.new) }
+    ensures links { is_some end.new ≡ is_some end.old }
+{
+    match end {
+        Some(end) if end.is_ready => end.read(room),
+        _ => None,
+    }
+}
+
+/// Reads what is there of the first connection from one place up to another of which something is there, and answers its place.
+pub(crate) fn read_between(
+    ends: &mut [Option<End>],
+    from: u8,
+    to: u8,
+    room: &mut [u8],
+) -> Option<(u8, usize)>
+    ensures within { IfSome result (λ found. found.1 ≤ length room.new) }
+    ensures links { map (λ e. is_some e) ends.new ≡ map (λ e. is_some e) ends.old }
+{
+    for place in from..to {
+        if ends.len() <= place as usize {
+            return None;
+        }
+        if let Some(count) = read_end(&mut ends[place as usize], room) {
+            return Some((place, count));
+        }
+    }
+    None
+}

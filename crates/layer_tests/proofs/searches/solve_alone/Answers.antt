@@ -1,5 +1,0 @@
-use Rattle.watches.proofs.TrailLemmas.{distinct_nil}
-use Rattle.layer_tests.proofs.searches.solve_alone.Goals as goal
-
-pub solve-requires-clause-distinct : goal.solve-requires-clause-distinct
-solve-requires-clause-distinct c = distinct_nil

@@ -1,4 +1,0 @@
-use Rattle.layer_tests.proofs.units.play.Given as goal
-
-abbrev pub invariant-loop-turn : goal.invariant-loop-turn
-invariant-loop-turn g l = g.P.Propagator.is_ready l.propagator l.arena l.trail

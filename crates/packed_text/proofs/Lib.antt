@@ -1,0 +1,4 @@
+mod GlyphLemmas
+mod LineLemmas
+pub mod PackedLemmas
+mod RopeLemmas

@@ -1,0 +1,92 @@
+//! The lines of a packed text, one after the other.
+
+ghost use Rattle.std.specs.Prelude.{◌≡◌, ◌≤◌, ◌++◌, length, drop, IfOk, MatchBool};
+ghost use Rattle.lrat_text.specs.Lines.{IsCut, IsOpen};
+
+use crate::text::PackedText;
+use lrat_text::cut_line;
+use std::alloc::{AllocError, Global};
+use std::marker::Model;
+
+/// So many bytes are unpacked at once. The number is even, so that each block begins with a byte of two characters.
+const BLOCK: usize = 4096;
+
+/// Goes on with a line up to the first LF from a place on, and steps over that LF; where there is none, `false`, and with all that is left.
+fn take_part(block: &[u8], at: &mut usize, line: &mut Vec<u8>) -> Result<bool, AllocError>
+    requires inside { at.old ≤ length block.now }
+    requires open { IsOpen line.old.items }
+    ensures inside { at.new ≤ length block.now }
+    ensures part { IfOk result (λ ended. MatchBool ended
+        (IsCut (line.old.items ++ drop at.old block.now) line.new.items (drop at.new block.now))
+        ((line.new.items ≡ line.old.items ++ drop at.old block.now) × IsOpen line.new.items)) }
+{
+    let left = &block[*at..];
+    match cut_line(left) {
+        Some((part, _)) => {
+            line.extend_from_slice(part)?;
+            *at += part.len() + 1;
+            Ok(true)
+        }
+        None => {
+            line.extend_from_slice(left)?;
+            *at = block.len();
+            Ok(false)
+        }
+    }
+}
+
+/// What is left of a packed text, which is read line by line. It is unpacked block by block, and never stands whole.
+#[derive(Drop)]
+pub struct PackedLines<'t> {
+    alloc: Global,
+    text: &'t PackedText,
+    /// How far the text is unpacked.
+    from: usize,
+    /// What was unpacked last.
+    block: Vec<u8>,
+    /// Where the next line begins in the block.
+    at: usize,
+}
+
+impl<'t> Model for PackedLines<'t> {
+    ghost use Rattle.std.specs.Prelude.{◌≤◌, ◌++◌, List, ℕ, length, drop};
+
+    ghost Value = { List ℕ };
+
+    ghost view = { λ l. drop l.at l.block.items ++ drop l.from l.text.now };
+
+    ghost invariant = { λ l. l.at ≤ length l.block.items };
+}
+
+impl<'t> PackedLines<'t> {
+    /// All of a text. It takes no memory.
+    pub fn of(alloc: Global, text: &'t PackedText) -> PackedLines<'t>
+        ensures { result ≡ text.now }
+    {
+        PackedLines {
+            alloc,
+            text,
+            from: 0,
+            block: Vec::new(alloc),
+            at: 0,
+        }
+    }
+
+    /// Puts the next line that an LF ends, without it, in the place of what `line` had; where no LF is left, `false`, and all that is left.
+    ///
+    /// Each byte is unpacked once, and looked at once for an LF. Memory is taken for a block, and for the line.
+    pub fn next(&mut self, line: &mut Vec<u8>) -> Result<bool, AllocError>
+        ensures { IfOk result (λ some. MatchBool some (IsCut self.old line.new.items self.new) (IsOpen self.old × (line.new.items ≡ self.old))) }
+    {
+        line.clear();
+        while !take_part(&self.block, &mut self.at, line)? {
+            if self.from >= self.text.len() {
+                return Ok(false);
+            }
+            self.block = self.text.read(self.alloc, self.from, BLOCK)?;
+            self.from += self.block.len();
+            self.at = 0;
+        }
+        Ok(true)
+    }
+}

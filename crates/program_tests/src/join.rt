@@ -1,0 +1,97 @@
+//! Logs that any machines bring, gathered into one proof.
+
+use crate::check::{FOUR, VERIFIED, prints};
+use dimacs::read;
+use leaves::{FileEnd, Join, Split, SplitReader};
+use std::alloc::Global;
+use std::process::Abort;
+use std::test::Fail;
+
+/// The leaves 1 and -1 of the four clauses.
+const HALVES: &[u8] = b"p inccnf\n1 2 0\n-1 2 0\n1 -2 0\n-1 -2 0\na 1 0\na -1 0\n";
+
+/// A log that closes the leaf 1, with a lemma that nothing needs behind it.
+const LEFT: &[u8] = b"5 2 0 1 2 0\n6 -1 0 2 4 0\n";
+
+/// One that closes the leaf -1.
+const RIGHT: &[u8] = b"5 1 0 1 3 0\n";
+
+/// A log whose second line names a clause that is not unit.
+const FAULTY: &[u8] = b"5 2 0 1 2 0\n6 1 0 4 3 0\n";
+
+/// An answer that no clause but the last refutes.
+const ANSWER: &[u8] = b"s SATISFIABLE\nv 1 2 0\n";
+
+/// What was a file, in a letter, and its first fault.
+type Told = (u8, u64, u8);
+
+fn halves(rt: &impl Abort, alloc: Global) -> Result<Split, Fail> {
+    let mut reader = SplitReader::new(alloc, read(alloc, FOUR)?)?;
+    reader.feed(HALVES);
+    match reader.finish() {
+        Ok(split) => Ok(split),
+        Err(_) => panic!(rt; "no tree"),
+    }
+}
+
+fn told(end: FileEnd) -> Told {
+    match end {
+        FileEnd::Closes => (b'c', 0, 0),
+        FileEnd::ClosesNothing => (b'n', 0, 0),
+        FileEnd::Refused { line, number } => (b'r', line, number),
+        FileEnd::Satisfies(_) => (b's', 0, 0),
+    }
+}
+
+/// Reads a file, in pieces of five bytes, and tells what it was.
+fn taken(rt: &impl Abort, join: &mut Join, file: &[u8]) -> Told {
+    for piece in file.chunks(5) {
+        assert!(rt; join.feed(piece).is_ok());
+    }
+    match join.end() {
+        Ok(end) => told(end),
+        Err(_) => panic!(rt; "no memory"),
+    }
+}
+
+/// Joins files of which these things are told, and prints this of the end; the proof.
+fn gathered(
+    rt: &impl Abort,
+    alloc: Global,
+    files: &[(&'static [u8], Told)],
+    want: &[u8],
+) -> Result<Vec<u8>, Fail> {
+    let mut join = Join::of(alloc, halves(rt, alloc)?)?;
+    for (file, what) in files {
+        assert_eq!(rt; taken(rt, &mut join, *file), *what);
+    }
+    match join.finish(Vec::new(alloc)) {
+        Ok(report) => assert_eq!(rt; report.stdout.as_slice(), want),
+        Err(_) => panic!(rt; "no memory"),
+    }
+    Ok(Vec::from_slice(alloc, join.written())?)
+}
+
+#[test]
+fn logs_and_the_fork_are_one_proof(rt: HostRuntime) -> Result<(), Fail> {
+    let files = [(LEFT, (b'c', 0, 0)), (RIGHT, (b'c', 0, 0))];
+    let proof = gathered(&rt, rt.alloc(), &files, b"s UNSATISFIABLE\n")?;
+    assert_eq!(&rt;
+        proof.as_slice(),
+        b"5 2 0 1 2 0\n6 -1 0 2 4 0\n6 d 5 0\n7 1 0 1 3 0\n8 0 6 7 0\n".as_slice()
+    );
+    prints(&rt, rt.alloc(), FOUR, proof.as_slice(), VERIFIED);
+    Ok(())
+}
+
+#[test]
+fn what_closes_no_leaf_is_told(rt: HostRuntime) -> Result<(), Fail> {
+    let files = [
+        (FAULTY, (b'r', 2, 5)),
+        (LEFT, (b'c', 0, 0)),
+        (LEFT, (b'n', 0, 0)),
+        (ANSWER, (b'n', 0, 0)),
+    ];
+    gathered(&rt, rt.alloc(), &files, b"c leaf 2 missing\ns UNKNOWN\n")?;
+    Ok(())
+}

@@ -1,0 +1,43 @@
+//! The test of one clause.
+
+ghost use Rattle.std.specs.Prelude.{◌≡◌, All};
+ghost use Rattle.dimacs.specs.logic.Literal.{IsWithin};
+ghost use Rattle.watches.specs.Status.{HasStatus};
+
+use crate::trail::Trail;
+use crate::truth::Truth;
+use dimacs::Lit;
+
+/// What a clause is under a trail: false, unit with a literal, or neither.
+#[derive(Clone, Copy, Debug, PartialEq, Eq)]
+pub enum Status {
+    False,
+    Unit(Lit),
+    Other,
+}
+
+/// Tests a clause under a trail.
+pub fn test_clause(literals: &[Lit], trail: &Trail) -> Status
+    requires { All (IsWithin trail.now.vars) literals.now }
+    ensures { HasStatus trail.now.entries literals.now result }
+{
+    let mut free: Option<Lit> = None;
+    for &literal in literals {
+        match trail.value(literal) {
+            Truth::True => return Status::Other,
+            Truth::False => {}
+            Truth::Free => match free {
+                None => free = Some(literal),
+                Some(other) => {
+                    if other != literal {
+                        return Status::Other;
+                    }
+                }
+            },
+        }
+    }
+    match free {
+        None => Status::False,
+        Some(literal) => Status::Unit(literal),
+    }
+}
