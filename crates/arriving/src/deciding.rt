@@ -12,6 +12,7 @@ ghost use Rattle.arriving.specs.inner.Seats.{AreApart};
 
 use crate::plan::Plan;
 use crate::run::{ARRIVALS, Run};
+use cube_split::Opened;
 use dimacs::Formula;
 use icnf::Tree;
 use links::Arrivals;
@@ -64,7 +65,27 @@ pub fn decide<A: Arrivals>(
     ensures each { OnceEach (A.link_count links.old) (A.link_count links.new) (A.refusal_count links.old) (A.refusal_count links.new) }
     ensures closes { IfOk result (λ r. EachCloses nobody (open_of r) (A.link_count links.old) (A.link_count links.new) (A.refusal_count links.old) (A.refusal_count links.new)) }
 {
-    let mut run = match Run::new(alloc, formula, tree, plan) {
+    let opened = Opened::of(alloc, formula, plan.defs)?;
+    decide_of(alloc, opened, tree, plan, links)
+}
+
+/// The same of a formula whose preamble is known, with its definitions and not the plan's.
+pub fn decide_of<A: Arrivals>(
+    alloc: Global,
+    opened: Opened,
+    tree: Tree,
+    plan: &Plan,
+    links: &mut A,
+) -> Result<Run, AllocError>
+    requires inside { (B : Cnf) → IsBaseWith opened.formula opened.definitions.wanted B → All (IsInside B) tree }
+    requires workers { (1 ≤ plan.now.workers) × (plan.now.workers ≤ 64) }
+    ensures right { IfOk result (λ r. Right opened.formula (verdict_of r)) }
+    ensures used { IfOk result (λ r. HasBegun (A.call_count links.old) (A.call_count links.new) (verdict_of r)) }
+    ensures most { AreBounded (A.arrival_count links.old) (A.arrival_count links.new) (A.call_count links.old) (A.call_count links.new) }
+    ensures each { OnceEach (A.link_count links.old) (A.link_count links.new) (A.refusal_count links.old) (A.refusal_count links.new) }
+    ensures closes { IfOk result (λ r. EachCloses nobody (open_of r) (A.link_count links.old) (A.link_count links.new) (A.refusal_count links.old) (A.refusal_count links.new)) }
+{
+    let mut run = match Run::new(alloc, opened, tree, plan) {
         Ok(run) => run,
         Err(error) => return Err(error),
     };

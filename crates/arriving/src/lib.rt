@@ -17,6 +17,6 @@ mod seating;
 mod sweeping;
 mod telling;
 
-pub use deciding::decide;
+pub use deciding::{decide, decide_of};
 pub use plan::Plan;
 pub use run::Run;

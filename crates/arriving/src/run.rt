@@ -22,7 +22,7 @@ use crate::seating::seat_all;
 use crate::sweeping::end_all_overdue;
 use crate::telling::{At, LONGEST, Patience};
 use coordinator_core::Coordinator;
-use dimacs::Formula;
+use cube_split::Opened;
 use icnf::Tree;
 use links::{Arrivals, Event};
 use lrat_check::Verdict;
@@ -46,27 +46,18 @@ impl Run {
     /// A coordinator that begins, without a link.
     pub(crate) fn new(
         alloc: Global,
-        formula: Formula,
+        opened: Opened,
         tree: Tree,
         plan: &Plan,
     ) -> Result<Run, AllocError>
-        requires inside { (B : Cnf) → IsBaseWith formula plan.now.defs B → All (IsInside B) tree }
+        requires inside { (B : Cnf) → IsBaseWith opened.formula opened.definitions.wanted B → All (IsInside B) tree }
         requires workers { (1 ≤ plan.now.workers) × (plan.now.workers ≤ 64) }
-        requires defs { plan.now.defs ≤ 64 }
-        ensures formula { IfOk result (λ r. formula_of r ≡ formula) }
+        ensures formula { IfOk result (λ r. formula_of r ≡ opened.formula) }
         ensures verdict { IfOk result (λ r. verdict_of r ≡ Nothing) }
         ensures stuck { IfOk result (λ r. r.desk.coordinator.stuck ≡ false) }
         ensures links { IfOk result (λ r. r.lines.items ≡ []) }
     {
-        let made = Coordinator::with_defs(
-            alloc,
-            formula,
-            tree,
-            plan.limit,
-            plan.workers,
-            plan.session,
-            plan.defs,
-        );
+        let made = Coordinator::of(alloc, opened, tree, plan.limit, plan.workers, plan.session);
         let coordinator = match made {
             Ok(coordinator) => coordinator,
             Err(error) => return Err(error),
@@ -135,7 +126,8 @@ impl Run {
         hear_at(links, &mut self.desk, at, &mut self.lines, bytes)
     }
 
-    /// Takes what comes next. Answers whether anything may come yet.
+    /// Takes what comes next; where nothing has come, a leaf is joined in the time that is waited, so that no link waits for a join.
+    /// Answers whether anything may come yet.
     pub(crate) fn hear_next<A: Arrivals>(&mut self, links: &mut A) -> Result<bool, AllocError>
         ensures formula { formula_of self.new ≡ formula_of self.old }
         ensures one { RoseBy 1 (A.call_count links.old) (A.call_count links.new) }
@@ -152,7 +144,7 @@ impl Run {
         self.tick = arrival.tick;
         match arrival.event {
             Event::Over => return Ok(false),
-            Event::Quiet => {}
+            Event::Quiet => join_ahead(&mut self.desk.coordinator),
             Event::Linked { place } => self.begin(place)?,
             Event::Bytes { place, count } => self.take(links, place, &room[..count])?,
         }
@@ -214,8 +206,7 @@ impl Run {
         tell_parked(links, &mut self.desk, self.tick, &mut self.lines)
     }
 
-    /// Takes what comes next, ends what is overdue, links who waits, and tells who is parked; then joins a leaf in the time that would be
-    /// waited. Answers whether anything may come yet.
+    /// Takes what comes next, ends what is overdue, links who waits, and tells who is parked. Answers whether anything may come yet.
     pub(crate) fn turn<A: Arrivals>(&mut self, links: &mut A) -> Result<bool, AllocError>
         ensures formula { formula_of self.new ≡ formula_of self.old }
         ensures one { RoseBy 1 (A.call_count links.old) (A.call_count links.new) }
@@ -231,7 +222,6 @@ impl Run {
         let before = self.tick;
         let goes_on = self.hear_next(links)?;
         self.attend(links, before)?;
-        join_ahead(&mut self.desk.coordinator);
         Ok(goes_on)
     }
 }

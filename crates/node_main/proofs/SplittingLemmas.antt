@@ -1,17 +1,19 @@
 -- Cubes within a formula's variables, and within those of a base.
-use Rattle.std.proofs.Common.{◌≡◌, ℕ, ◌+◌, ◌≤◌, List, [], ◌∷◌, length, sym, ap, ◌∙◌, subst, arith}
+use Rattle.std.proofs.Common.{◌≡◌, ℕ, ◌+◌, ◌≤◌, List, [], length, sym, ap, ◌∙◌, subst, arith}
 use Rattle.std.specs.List.{All}
-use Rattle.std.proofs.lemmas.List.Elements.{All-cons, All-nil, All-weaker}
+use Rattle.std.proofs.lemmas.List.Elements.{All-weaker}
 use Rattle.dimacs.specs.logic.Cnf.{Cnf, IsFormula, AreWithin, greatest_in}
-use Rattle.dimacs.specs.logic.Literal.{Clause, IsWithin}
+use Rattle.dimacs.specs.logic.Base.{pure_literals}
+use Rattle.dimacs.specs.logic.Literal.{Literal, Clause, IsWithin}
 use Rattle.icnf.specs.Leaves.{Cube}
 use Rattle.icnf.specs.Spelling.{Spells}
 use Rattle.icnf.proofs.StateLemmas.{clauses_greatest}
-use Rattle.cube_split.specs.Choosing.{IsSplitBy}
-use Rattle.cube_split.specs.Pairs.{AreDefined, IsBaseWith}
+use Rattle.cube_split.specs.Choosing.{IsTreeWith}
+use Rattle.cube_split.specs.Definitions.{Opening}
+use Rattle.cube_split.specs.Pairs.{AreDefined, AreOf, Definitions, IsBaseWith}
 use Rattle.cube_split.specs.declared.pair.Pair.{Pair}
 use Rattle.evidence.specs.Jobs.{IsInside}
-use Rattle.node_main.specs.Splitting.{SplitsByRule, StaysInside}
+use Rattle.node_main.specs.Splitting.{SplitsByRule}
 use Rattle.node_main.specs.declared.splitting.Split.TheVariants.{By}
 
 within_more : (m n : ℕ) (leaves : List Cube) → m ≤ n → AreWithin m leaves → AreWithin n leaves
@@ -41,9 +43,12 @@ tree_inside settled F B defs pairs leaves defined w b =
     let e : B.vars ≡ F.vars + length pairs = base_vars F B defs b ∙ ap (λ (ps : List Pair). F.vars + length ps) (settled F defs b.pairs pairs b.defined defined) in
     subst (λ (n : ℕ). AreWithin n leaves) (sym e) w
 
--- the one leaf of a formula that is not split, where no definition is wanted
-pub unsplit : (F : Cnf) (depth defs : ℕ) (leaves : List Cube) → depth ≡ 0 → defs ≡ 0 → leaves ≡ [] ∷ [] → SplitsByRule F depth defs (By leaves)
-unsplit F depth defs leaves no_depth no_defs is = rw (no_depth, no_defs, is) ([], AreDefined.all, IsSplitBy.full)
+abbrev opening_of : List Literal → List Pair → Opening
+opening_of units pairs = record { units = units; pairs = pairs }
 
-pub unsplit_inside : (F : Cnf) (defs : ℕ) (leaves : List Cube) → leaves ≡ [] ∷ [] → StaysInside F defs (By leaves)
-unsplit_inside F defs leaves is = λ B base. rw is (All-cons (IsInside B) [] [] (All-nil (IsWithin B.vars)) (All-nil (IsInside B)))
+-- a tree by the rule over a formula's own preamble
+pub ruled : (F G : Cnf) (opening : Opening) (d : Definitions) (depth : ℕ) (leaves : List Cube)
+    → G ≡ F → opening.units ≡ pure_literals F → opening.pairs ≡ d.pairs → AreOf F d → IsTreeWith G opening depth leaves → SplitsByRule F depth d.wanted (By leaves)
+ruled F G opening d depth leaves same units pairs of tree =
+    let e : opening ≡ opening_of (pure_literals F) d.pairs = ap (λ (us : List Literal). opening_of us opening.pairs) units ∙ ap (opening_of (pure_literals F)) pairs in
+    (d.pairs, of.defined, subst (λ (o : Opening). IsTreeWith F o depth leaves) e (subst (λ (H : Cnf). IsTreeWith H opening depth leaves) same tree))

@@ -3,7 +3,7 @@
 ghost use Rattle.std.specs.Prelude.{◌≡◌, ◌≤◌, ◌↔◌, ℕ, IsTrue, IfOk, option_map};
 ghost use Rattle.node_main.specs.Splitting.{Splits, SplitsByRule, SplitsByText, StaysInside};
 
-use cube_split::{definitions_are_settled, preamble_with, tree_with};
+use cube_split::{Opened, definitions_are_settled, tree_with};
 use dimacs::Formula;
 use icnf::{IcnfFault, Kind, Tree};
 use std::alloc::{AllocError, Global};
@@ -52,44 +52,30 @@ fn read_split(alloc: Global, formula: &Formula, cubes: &[u8]) -> Result<Split, A
     }
 }
 
-/// The tree of the split rule over so many definitions, as deep as this.
-#[tactic(auto, using(crate::proofs::SplittingLemmas::unsplit, crate::proofs::SplittingLemmas::unsplit_inside))]
-fn split_by_rule(
-    alloc: Global,
-    formula: &Formula,
-    depth: u32,
-    defs: u32,
-) -> Result<Split, AllocError>
-    requires depth { depth ≤ 16 }
-    requires defs { defs ≤ 64 }
-    ensures splits { IfOk result (SplitsByRule formula.now depth defs) }
-    ensures inside { IfOk result (StaysInside formula.now defs) }
+/// The tree of the split rule over a formula's definitions, as deep as this.
+fn split_by_rule(alloc: Global, opened: &Opened, depth: u32) -> Result<Split, AllocError>
+    requires { depth ≤ 16 }
+    ensures splits { IfOk result (SplitsByRule opened.now.formula depth opened.now.definitions.wanted) }
+    ensures inside { IfOk result (StaysInside opened.now.formula opened.now.definitions.wanted) }
 {
     definitions_are_settled();
-    // Neither units nor definitions change the tree of one leaf, and to find them is a pass over all clauses.
-    if depth == 0 && defs == 0 {
-        return Ok(Split::By(Tree::leaf(alloc)?));
-    }
-    let preamble = preamble_with(alloc, formula, defs)?;
-    Ok(Split::By(tree_with(alloc, formula, &preamble, depth)?))
+    let tree = tree_with(alloc, opened.formula(), opened.preamble(), depth)?;
+    Ok(Split::By(tree))
 }
 
-/// The tree of the cubes that are handed in, and where there are none that of the split rule over so many definitions, as deep as this.
+/// The tree of the cubes that are handed in, and where there are none that of the split rule over a formula's definitions, as deep as this.
 pub(crate) fn split_of(
     alloc: Global,
-    formula: &Formula,
+    opened: &Opened,
     cubes: Option<&[u8]>,
     depth: u32,
-    defs: u32,
 ) -> Result<Split, AllocError>
-    requires depth { depth ≤ 16 }
-    requires defs { defs ≤ 64 }
-    ensures splits { IfOk result (Splits formula.now (option_map (λ t. t.now) cubes.entry) depth defs) }
-    ensures inside { IfOk result (StaysInside formula.now defs) }
+    requires { depth ≤ 16 }
+    ensures splits { IfOk result (Splits opened.now.formula (option_map (λ t. t.now) cubes.entry) depth opened.now.definitions.wanted) }
+    ensures inside { IfOk result (StaysInside opened.now.formula opened.now.definitions.wanted) }
 {
-    let _ = formula.vars(); // with it comes that the formula is within its limits
     match cubes {
-        Some(cubes) => read_split(alloc, formula, cubes),
-        None => split_by_rule(alloc, formula, depth, defs),
+        Some(cubes) => read_split(alloc, opened.formula(), cubes),
+        None => split_by_rule(alloc, opened, depth),
     }
 }

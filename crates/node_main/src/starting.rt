@@ -9,6 +9,7 @@ ghost use Rattle.node_main.specs.Starting.{IsStart, Starts};
 
 use crate::splitting::{Split, split_of};
 use command_line::Options;
+use cube_split::Opened;
 use dimacs::{DimacsFault, Formula, Kind};
 use icnf::{IcnfFault, Tree};
 use reports::{Report, faulty_cubes, faulty_input, other_formula};
@@ -17,8 +18,8 @@ use std::alloc::{AllocError, Global};
 /// What a run begins with.
 #[derive(Drop)]
 pub enum Start {
-    /// The formula of the input, split so.
-    With(Formula, Tree),
+    /// The formula of the input with its preamble, split so.
+    With(Opened, Tree),
     /// The input or the cubes are refused: what is reported of them.
     Refused(Report),
 }
@@ -74,8 +75,9 @@ pub fn begin(
         Err(fault) if fault.kind == Kind::NoMemory => return Err(AllocError),
         Err(fault) => return Ok(Start::Refused(refused_input(alloc, fault, options)?)),
     };
-    let report = match split_of(alloc, &formula, cubes, options.depth, options.defs)? {
-        Split::By(tree) => return Ok(Start::With(formula, tree)),
+    let opened = Opened::of(alloc, formula, options.defs)?;
+    let report = match split_of(alloc, &opened, cubes, options.depth)? {
+        Split::By(tree) => return Ok(Start::With(opened, tree)),
         Split::Faulty(fault) => refused_cubes(alloc, Some(fault), options)?,
         Split::OtherFormula => refused_cubes(alloc, None, options)?,
     };

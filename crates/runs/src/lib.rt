@@ -20,6 +20,6 @@ mod solving;
 mod working;
 
 pub use plan::{CoordinatorPlan, Order, WorkerPlan};
-pub use serving::serve;
-pub use solving::solve;
+pub use serving::{serve, serve_of};
+pub use solving::{solve, solve_of};
 pub use working::work;

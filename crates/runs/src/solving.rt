@@ -74,6 +74,25 @@ pub fn solve<L: Links>(
     ensures each { OnceEach (L.refused_at links.old) (L.refused_at links.new) }
 {
     let opened = Opened::of(alloc, formula, plan.defs)?;
+    solve_of(alloc, opened, tree, plan, links)
+}
+
+/// The same of a formula whose preamble is known, with its definitions and not the plan's.
+pub fn solve_of<L: Links>(
+    alloc: Global,
+    opened: Opened,
+    tree: Tree,
+    plan: &CoordinatorPlan,
+    links: &mut L,
+) -> Result<Verdict, AllocError>
+    requires inside { (B : Cnf) → IsBaseWith opened.formula opened.definitions.wanted B → All (IsInside B) tree }
+    requires workers { (1 ≤ plan.now.workers) × (plan.now.workers ≤ 64) }
+    ensures right { IfOk result (Right opened.formula) }
+    ensures used { IfOk result (HasBegun (L.call_count links.old) (L.call_count links.new)) }
+    ensures most { L.call_count links.new ≤ L.call_count links.old + 8076000000 * plan.now.workers }
+    ensures refusals { L.refusal_count links.new ≤ L.refusal_count links.old + plan.now.workers }
+    ensures each { OnceEach (L.refused_at links.old) (L.refused_at links.new) }
+{
     let mut seats = seats(alloc, &opened, plan.workers)?;
     let mut coordinator = begin(alloc, opened, tree, plan)?;
     run_rounds(links, &mut coordinator, &mut seats)?;

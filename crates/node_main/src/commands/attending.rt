@@ -19,7 +19,7 @@ use crate::reporting::reported;
 use crate::starting::{Start, begin};
 use arriving::Run;
 use command_line::Options;
-use dimacs::Formula;
+use cube_split::Opened;
 use icnf::Tree;
 use links::Arrivals;
 use lrat_check::{Verdict, accepted_proofs_are_sound};
@@ -86,20 +86,20 @@ impl Service {
 /// Decides a formula that was split, and reports what was found.
 fn attend_to<A: Arrivals>(
     alloc: Global,
-    formula: Formula,
+    opened: Opened,
     tree: Tree,
     options: &Options,
     links: &mut A,
 ) -> Result<Service, AllocError>
-    requires inside { (B : Cnf) → IsBaseWith formula options.now.defs B → All (IsInside B) tree }
+    requires inside { (B : Cnf) → IsBaseWith opened.formula opened.definitions.wanted B → All (IsInside B) tree }
     requires options { AreOptions options.now }
-    ensures decides { IfOk result (λ s. Decides formula options.now (report_of s)) }
+    ensures decides { IfOk result (λ s. Decides opened.formula options.now (report_of s)) }
     ensures used { IfOk result (λ s. WasServed (A.call_count links.old) (A.call_count links.new) (report_of s)) }
     ensures most { AreBounded (A.arrival_count links.old) (A.arrival_count links.new) (A.call_count links.old) (A.call_count links.new) }
     ensures each { OnceEach (A.link_count links.old) (A.link_count links.new) (A.refusal_count links.old) (A.refusal_count links.new) }
     ensures closes { IfOk result (λ s. EachCloses nobody (links_of s) (A.link_count links.old) (A.link_count links.new) (A.refusal_count links.old) (A.refusal_count links.new)) }
 {
-    let run = match arriving::decide(alloc, formula, tree, &service_plan(options), links) {
+    let run = match arriving::decide_of(alloc, opened, tree, &service_plan(options), links) {
         Ok(run) => run,
         Err(error) => return Err(error),
     };
@@ -152,9 +152,9 @@ pub fn attend<A: Arrivals>(
     ensures closes { IfOk result (λ s. EachCloses nobody (links_of s) (A.link_count links.old) (A.link_count links.new) (A.refusal_count links.old) (A.refusal_count links.new)) }
 {
     accepted_proofs_are_sound();
-    let (formula, tree) = match start {
-        Start::With(formula, tree) => (formula, tree),
+    let (opened, tree) = match start {
+        Start::With(opened, tree) => (opened, tree),
         Start::Refused(report) => return Ok(Service { report, run: None }),
     };
-    attend_to(alloc, formula, tree, options, links)
+    attend_to(alloc, opened, tree, options, links)
 }

@@ -57,11 +57,11 @@ pub fn run_serve_from<L: Links>(
     ensures each { OnceEach (L.refused_at links.old) (L.refused_at links.new) }
 {
     accepted_proofs_are_sound();
-    let (formula, tree) = match start {
-        Start::With(formula, tree) => (formula, tree),
+    let (opened, tree) = match start {
+        Start::With(opened, tree) => (opened, tree),
         Start::Refused(report) => return Ok(report),
     };
-    match runs::serve(alloc, formula, tree, &coordinator_plan(options), links) {
+    match runs::serve_of(alloc, opened, tree, &coordinator_plan(options), links) {
         Ok(verdict) => decided(alloc, verdict, options),
         Err(error) => Err(error),
     }

@@ -55,12 +55,12 @@ pub fn run_solve_of<L: Links>(
     ensures each { OnceEach (L.refused_at links.old) (L.refused_at links.new) }
 {
     accepted_proofs_are_sound();
-    let (formula, tree) = match begin(alloc, found, cubes, options) {
-        Ok(Start::With(formula, tree)) => (formula, tree),
+    let (opened, tree) = match begin(alloc, found, cubes, options) {
+        Ok(Start::With(opened, tree)) => (opened, tree),
         Ok(Start::Refused(report)) => return Ok(report),
         Err(error) => return Err(error),
     };
-    match runs::solve(alloc, formula, tree, &coordinator_plan(options), links) {
+    match runs::solve_of(alloc, opened, tree, &coordinator_plan(options), links) {
         Ok(verdict) => decided(alloc, verdict, options),
         Err(error) => Err(error),
     }

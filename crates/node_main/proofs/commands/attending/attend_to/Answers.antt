@@ -5,11 +5,8 @@ use Rattle.node_main.specs.Deciding.{Decides}
 use Rattle.node_main.specs.Serving.{proof_in}
 use Rattle.node_main.proofs.commands.attending.attend_to.Goals as goal
 
-pub decide-requires-clause-inside : goal.decide-requires-clause-inside
-decide-requires-clause-inside g c = rw c.service_plan.ensures.defs c.requires.inside
-
 pub returns-in-Ok-reported-clause-decides : goal.returns-in-Ok-reported-clause-decides
 returns-in-Ok-reported-clause-decides g c =
-    let right = subst (λ (v : Verdict). Right c.args.formula v) (sym c.verdict.ensures.value) c.in-Ok.ensures.right in
-    subst (λ (v : Verdict). Decides c.args.formula c.args.options.now (record c.in-Ok-reported.report { proof = proof_in v })) c.verdict.ensures.value
-    (c.in-Ok-reported.ensures.decides c.args.formula right)
+    let right = subst (λ (v : Verdict). Right c.args.opened.formula v) (sym c.verdict.ensures.value) c.in-Ok.ensures.right in
+    subst (λ (v : Verdict). Decides c.args.opened.formula c.args.options.now (record c.in-Ok-reported.report { proof = proof_in v })) c.verdict.ensures.value
+    (c.in-Ok-reported.ensures.decides c.args.opened.formula right)

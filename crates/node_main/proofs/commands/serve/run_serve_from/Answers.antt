@@ -2,16 +2,16 @@ use Rattle.node_main.proofs.StartLemmas.{started_inside, started_solves}
 use Rattle.node_main.proofs.TruthLemmas.{solves_true}
 use Rattle.node_main.proofs.commands.serve.run_serve_from.Goals as goal
 
-pub serve-requires-clause-inside : goal.serve-requires-clause-inside
-serve-requires-clause-inside g c =
+pub serve_of-requires-clause-inside : goal.serve_of-requires-clause-inside
+serve_of-requires-clause-inside g c =
     let at = c.in-With in
-    rw c.coordinator_plan.ensures.defs (started_inside c.args.options.now c.args.start at.formula at.tree at.is c.requires.start)
+    started_inside c.args.options.now c.args.start at.opened at.tree at.is c.requires.start
 
 pub returns-in-Ok-clause-report : goal.returns-in-Ok-clause-report
 returns-in-Ok-clause-report g c = λ input cubes starts.
     let at = c.in-With in
-    started_solves c.decided.result input cubes c.args.options.now c.args.start at.formula at.tree at.is starts
-    (c.decided.ensures.decides at.formula c.in-Ok.ensures.right)
+    started_solves c.decided.result input cubes c.args.options.now c.args.start at.opened at.tree at.is starts
+    (c.decided.ensures.decides at.opened.formula c.in-Ok.ensures.right)
 
 pub returns-in-Ok-clause-truth : goal.returns-in-Ok-clause-truth
 returns-in-Ok-clause-truth g c = λ input cubes starts.
