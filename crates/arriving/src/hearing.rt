@@ -49,6 +49,7 @@ fn deliver_one(
     if !is_own(line, frame) {
         return Err(Broken::Closed);
     }
+    line.receive(frame);
     match deliver(coordinator, frame) {
         Reaction::NoMemory => Err(Broken::NoMemory),
         Reaction::Refused(_) => Err(Broken::Closed),

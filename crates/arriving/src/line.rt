@@ -3,7 +3,7 @@
 ghost use Rattle.std.specs.Prelude.{◌≡◌, [], None, Ok, IfOk, OnOk};
 ghost use Rattle.arriving.specs.declared.line.Standing.TheVariants.{Ungreeted, Parked, Asked, Working};
 
-use frames::{Frame, FrameFault, Reader, WorkerNumber};
+use frames::{Ending, Frame, FrameFault, Reader, WorkerNumber};
 use std::alloc::{AllocError, Global};
 
 /// How many ticks a greeting may take, and bytes that were asked for.
@@ -55,6 +55,10 @@ pub struct Line {
     leaf: u64,
     /// How many ticks its task may take.
     patience: Option<u64>,
+    /// How many answers to what its worker was told are still to come.
+    owed: u32,
+    /// How many bytes its worker announced last.
+    announced: u32,
 }
 
 impl Line {
@@ -80,6 +84,8 @@ impl Line {
             declined: 0,
             leaf: 0,
             patience: None,
+            owed: 0,
+            announced: 0,
         })
     }
 
@@ -221,6 +227,37 @@ impl Line {
         self.standing = Standing::Working;
         self.leaf = leaf;
         self.patience = patience;
+    }
+
+    /// A frame of its worker came, who owes one answer less; what it announces is noted.
+    pub(crate) fn receive(&mut self, frame: &Frame)
+        ensures { self.new ≡ record self.old { owed = self.new.owed; announced = self.new.announced } }
+    {
+        self.owed = self.owed.saturating_sub(1);
+        if let Frame::Done {
+            ending: Ending::Decided(finding),
+            ..
+        } = frame
+        {
+            self.announced = finding.length();
+        }
+    }
+
+    /// Whether an answer is still to come.
+    pub(crate) fn owes(&self) -> bool {
+        self.owed > 0
+    }
+
+    /// Its worker was told so much that it owes this many answers.
+    pub(crate) fn owe(&mut self, answers: u32)
+        ensures { self.new ≡ record self.old { owed = answers } }
+    {
+        self.owed = answers;
+    }
+
+    /// How many bytes its worker announced last.
+    pub(crate) fn announced(&self) -> u32 {
+        self.announced
     }
 
     /// A frame was taken: it is not quiet.

@@ -1,6 +1,6 @@
 //! What workers are told.
 
-ghost use Rattle.std.specs.Prelude.{◌≡◌, ◌≢◌, ◌≤◌, ◌+◌, ℕ, None, Some, IsSome, OnOk};
+ghost use Rattle.std.specs.Prelude.{◌≡◌, ◌≢◌, ◌≤◌, ◌+◌, ℕ, None, Some, IsSome, IfSome, OnOk, length};
 ghost use Rattle.arriving.specs.inner.Deliveries.{HasNothing, IsAsked, StaysLinked};
 ghost use Rattle.arriving.specs.inner.Lines.{one_if_closed};
 ghost use Rattle.arriving.specs.inner.Seats.{parked_worker, seated_worker};
@@ -8,12 +8,15 @@ ghost use Rattle.arriving.specs.inner.Seats.{parked_worker, seated_worker};
 use crate::coordinating::poll;
 use crate::line::{Broken, Line};
 use coordinator_core::Coordinator;
-use frames::{Cube, Frame, encode, len};
+use frames::{Attempt, Chunk, Cube, Frame, encode, len};
 use links::Arrivals;
 use std::alloc::{AllocError, Global};
 
 /// The bytes of the longest frame, and the room of each receive.
 pub(crate) const LONGEST: usize = 4037;
+
+/// How many parts of an answer are asked for at most with the first one: a worker sends them in one go, and neither end waits for each.
+const FURTHER: u32 = 15;
 
 /// How often patience is doubled at most.
 const DOUBLINGS: u32 = 32;
@@ -76,8 +79,68 @@ impl Patience {
     }
 }
 
-/// Sends a frame over the link at a place.
-fn send<A: Arrivals>(links: &mut A, place: u8, frame: &Frame) -> Result<(), Broken>
+/// Writes at a place the frame that asks for a part of an answer, and answers where it ends; none where there is no room for it.
+fn write_fetch(attempt: &Attempt, offset: u32, room: &mut [u8], at: usize) -> Option<usize>
+    requires { at ≤ length room.old }
+    ensures { IfSome result (λ end. end ≤ length room.new) }
+{
+    let frame = Frame::Fetch {
+        attempt: *attempt,
+        offset,
+    };
+    if room.len() - at < len(&frame) {
+        return None;
+    }
+    Some(at + encode(&frame, &mut room[at..]))
+}
+
+/// Writes from a place on the frames that ask for so many parts of an answer, those behind the one at this offset, or for as many as there is room.
+/// Answers how many frames, and where they end.
+fn write_further(
+    attempt: &Attempt,
+    offset: u32,
+    parts: u32,
+    room: &mut [u8],
+    at: usize,
+) -> (u32, usize)
+    requires { at ≤ length room.old }
+    ensures parts { result.0 ≤ parts }
+    ensures room { result.1 ≤ length room.new }
+{
+    let mut offset = offset;
+    let mut at = at;
+    for part in 0..parts {
+        offset = offset.saturating_add(Chunk::LONGEST as u32);
+        match write_fetch(attempt, offset, room, at) {
+            Some(end) => at = end,
+            None => return (part, at),
+        }
+    }
+    (parts, at)
+}
+
+/// Writes a frame, and behind one that asks for a part of an answer of this length those that ask for the parts that follow. Answers how many
+/// frames, and where they end.
+fn write(frame: &Frame, announced: u32, room: &mut [u8]) -> (u32, usize)
+    requires { 4037 ≤ length room.old }
+    ensures { result.1 ≤ length room.new }
+{
+    let end = len(frame);
+    encode(frame, room);
+    match frame {
+        Frame::Fetch { attempt, offset } => {
+            // The answer's last byte tells how many parts follow.
+            let left = announced.saturating_sub(*offset).saturating_sub(1) / Chunk::LONGEST as u32;
+            let (further, end) = write_further(attempt, *offset, left.min(FURTHER), room, end);
+            (1 + further, end)
+        }
+        _ => (1, end),
+    }
+}
+
+/// Sends a frame over the link at a place, and with one that asks for a part those that ask for the next.
+fn send<A: Arrivals>(links: &mut A, place: u8, line: &mut Line, frame: &Frame) -> Result<(), Broken>
+    ensures line { line.new ≡ record line.old { owed = line.new.owed } }
     ensures most { A.call_count links.new ≤ A.call_count links.old + 1 }
     ensures rises { A.call_count links.old ≤ A.call_count links.new }
     ensures arrivals { A.arrival_count links.new ≡ A.arrival_count links.old }
@@ -86,9 +149,9 @@ fn send<A: Arrivals>(links: &mut A, place: u8, frame: &Frame) -> Result<(), Brok
     ensures elsewhere { (p : ℕ) → p ≢ place → A.refusal_count links.new p ≤ A.refusal_count links.old p }
 {
     let mut room = [0u8; LONGEST];
-    let count = len(frame);
-    encode(frame, &mut room);
-    match links.send_to(place, &room[..count]) {
+    let (frames, end) = write(frame, line.announced(), &mut room);
+    line.owe(frames);
+    match links.send_to(place, &room[..end]) {
         Ok(()) => Ok(()),
         Err(_) => Err(Broken::Closed),
     }
@@ -108,7 +171,8 @@ fn note(line: &mut Line, patience: &Patience, at: At, frame: &Frame)
     }
 }
 
-/// Tells the worker of a link what there is to tell. Where that is nothing it is told nothing, and parked until there is.
+/// Tells the worker of a link what there is to tell, once it has answered all that it was told before. Where there is nothing it is told
+/// nothing, and parked until there is.
 pub(crate) fn tell<A: Arrivals>(
     links: &mut A,
     coordinator: &mut Coordinator,
@@ -132,9 +196,13 @@ pub(crate) fn tell<A: Arrivals>(
         return Ok(());
     };
     match poll(coordinator, worker) {
+        Ok(Some(_)) if line.owes() => {
+            line.ask(at.tick);
+            Ok(())
+        }
         Ok(Some(frame)) => {
             note(line, patience, at, &frame);
-            send(links, at.place, &frame)
+            send(links, at.place, line, &frame)
         }
         Ok(None) => {
             line.park();

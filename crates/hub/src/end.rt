@@ -11,6 +11,8 @@ use std::io::{ErrorKind, Read};
 pub(crate) struct End {
     pub(crate) stream: TcpStream,
     pub(crate) is_ready: bool,
+    /// Whether its end, or a fault, was told.
+    pub(crate) is_ending: bool,
 }
 
 /// Reads what is there, and answers how many bytes; none where nothing is there yet. A read that a signal interrupted is tried again.
@@ -29,14 +31,16 @@ fn read_now(stream: &mut TcpStream, room: &mut [u8]) -> io::Result<Option<usize>
 }
 
 impl End {
-    /// Reads what is there, and answers how many bytes; none where nothing is there yet. No bytes are the end, or a fault. Readiness is told once,
-    /// so that there may be more until a read finds nothing.
+    /// Reads what is there, and answers how many bytes; none where nothing is there yet. No bytes are the end, or a fault.
+    ///
+    /// Readiness is told once, so that there may be more until a read finds nothing, or less than there is room for: what comes behind that
+    /// is told anew, but for an end that was told before.
     pub(crate) fn read(&mut self, room: &mut [u8]) -> Option<usize>
         ensures { IfSome result (λ count. count ≤ length room.new) }
     {
         match read_now(&mut self.stream, room) {
             Ok(Some(count)) => {
-                self.is_ready = 0 < count;
+                self.is_ready = 0 < count && (count == room.len() || self.is_ending);
                 Some(count)
             }
             Ok(None) => {

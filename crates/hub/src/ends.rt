@@ -5,6 +5,7 @@ ghost use Rattle.std.specs.Prelude.{◌≡◌, ◌<◌, ◌≤◌, length, map, 
 use crate::end::End;
 use links::LinkFault;
 use mio::Events;
+use mio::event::Event;
 use std::alloc::{AllocError, Global};
 use std::io::Write;
 
@@ -45,12 +46,18 @@ pub(crate) fn put(ends: &mut [Option<End>], place: u8, end: Option<End>)
     ends[place as usize] = end;
 }
 
-/// Notes that bytes of a connection may be there.
-fn note(end: &mut Option<End>)
+/// Whether an event tells the end of a connection, or a fault.
+fn tells_end(event: &Event) -> bool {
+    event.is_read_closed() || event.is_write_closed() || event.is_error()
+}
+
+/// Notes that bytes of a connection may be there, or its end.
+fn note(end: &mut Option<End>, event: &Event)
     ensures { is_some end.new ≡ is_some end.old }
 {
     if let Some(end) = end {
         end.is_ready = true;
+        end.is_ending = end.is_ending || tells_end(event);
     }
 }
 
@@ -64,7 +71,7 @@ pub(crate) fn note_all(ends: &mut [Option<End>], events: &Events) -> bool
         if place == LISTENER {
             knocks = true;
         } else if place < ends.len() {
-            note(&mut ends[place]);
+            note(&mut ends[place], event);
         }
     }
     knocks

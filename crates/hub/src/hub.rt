@@ -6,8 +6,9 @@ ghost use Rattle.hub.specs.Hub.{links_of};
 ghost use Rattle.hub.specs.inner.Changes.{Changes};
 ghost use Rattle.links.specs.declared.arrivals.Event.TheVariants as events;
 
+use crate::ahead::Ahead;
 use crate::end::End;
-use crate::ends::{LISTENER, free_place, is_ready, note_all, places, put, read_between, send};
+use crate::ends::{LISTENER, free_place, is_ready, note_all, places, put, send};
 use links::{Arrival, Event, LinkFault, Station};
 use mio::net::{TcpListener, TcpStream};
 use mio::{Events, Interest, Poll, Token};
@@ -23,6 +24,9 @@ const EVENTS: usize = 64;
 /// How long it is waited for something to come, in seconds.
 const TICK: u64 = 1;
 
+/// How often connections are read at most until it is looked anew what has come, so that one that floods holds up no other for long.
+const MOST_READS: u32 = 64;
+
 /// The connections of a listener, and the clock by which arrivals are dated.
 #[derive(Drop)]
 pub struct Hub<C> {
@@ -32,6 +36,11 @@ pub struct Hub<C> {
     events: Events,
     listener: TcpListener,
     ends: Vec<Option<End>>,
+    ahead: Ahead,
+    /// How often connections were read since it was looked what has come.
+    reads: u32,
+    /// Whether nothing had come when it was looked last.
+    is_quiet: bool,
     /// The place whose turn it is to be read.
     cursor: u8,
     /// Whether a connection may wait to be accepted.
@@ -61,6 +70,7 @@ impl<C> Hub<C> {
             .register(&mut listener, Token(LISTENER), Interest::READABLE)?;
         let events = Events::with_capacity(alloc, EVENTS)?;
         let ends = places(alloc, count)?;
+        let ahead = Ahead::new(alloc)?;
         Ok(Hub {
             clock,
             tick: 0,
@@ -68,6 +78,9 @@ impl<C> Hub<C> {
             events,
             listener,
             ends,
+            ahead,
+            reads: 0,
+            is_quiet: false,
             cursor: 0,
             knocks: true,
             has_accepted: false,
@@ -84,11 +97,17 @@ impl<C> Hub<C> {
         is_ready(&self.ends) || (self.knocks && free_place(&self.ends).is_some())
     }
 
-    /// Waits for something to come, where nothing is there, and notes of which connections.
+    /// Notes of which connections something has come. Where nothing is there it is waited for, but for the first time: it is told that
+    /// nothing has come before that, so that whoever asks may do in the meantime what else there is.
     fn look(&mut self) -> io::Result<()>
         ensures { links_of self.new ≡ links_of self.old }
     {
-        let seconds = if self.is_busy() { 0 } else { TICK };
+        let is_busy = self.is_busy();
+        if is_busy && self.reads < MOST_READS {
+            return Ok(());
+        }
+        self.reads = 0;
+        let seconds = if is_busy || !self.is_quiet { 0 } else { TICK };
         self.poll
             .poll(&mut self.events, Some(Duration::from_secs(seconds)))?;
         if note_all(&mut self.ends, &self.events) {
@@ -110,6 +129,7 @@ impl<C> Hub<C> {
         let end = End {
             stream,
             is_ready: true,
+            is_ending: false,
         };
         put(&mut self.ends, place, Some(end));
         Ok(())
@@ -134,20 +154,32 @@ impl<C> Hub<C> {
         }
     }
 
-    /// Reads the connection whose turn it is, and answers its place and how many bytes; no bytes are its end.
+    /// Reads ahead of the connection whose turn it is, and answers its place and how many bytes; no bytes are its end.
+    fn read_ahead(&mut self) -> Option<(u8, usize)>
+        ensures { links_of self.new ≡ links_of self.old }
+    {
+        let cursor = self.cursor;
+        let found = match self.ahead.read(&mut self.ends, cursor, u8::MAX) {
+            Some(found) => Some(found),
+            None => self.ahead.read(&mut self.ends, 0, cursor),
+        };
+        if let Some((place, _)) = found {
+            self.cursor = place.saturating_add(1);
+            self.reads = self.reads.saturating_add(1);
+        }
+        found
+    }
+
+    /// The bytes of the connection whose turn it is, with its place and how many; no bytes are its end.
     fn read(&mut self, room: &mut [u8]) -> Option<(u8, usize)>
         ensures within { IfSome result (λ found. found.1 ≤ length room.new) }
         ensures links { links_of self.new ≡ links_of self.old }
     {
-        let cursor = self.cursor;
-        let found = match read_between(&mut self.ends, cursor, u8::MAX, room) {
-            Some(found) => Some(found),
-            None => read_between(&mut self.ends, 0, cursor, room),
-        };
-        if let Some((place, _)) = found {
-            self.cursor = place.saturating_add(1);
+        match self.read_ahead() {
+            Some((place, 0)) => Some((place, 0)),
+            Some(_) => self.ahead.take(room),
+            None => None,
         }
-        found
     }
 
     /// What comes next: a new link and the bytes of the others in turn.
@@ -181,6 +213,19 @@ impl<C: Clock> Hub<C> {
             }
         }
     }
+
+    /// What comes next, once it was looked what has come.
+    fn look_for_next(&mut self, room: &mut [u8]) -> Event
+        ensures within { IsWithin result (length room.new) }
+        ensures changes { Changes result (links_of self.old) (links_of self.new) }
+    {
+        let looked = self.look();
+        self.look_at_clock();
+        match looked {
+            Ok(()) => self.take_next(room),
+            Err(_) => Event::Over,
+        }
+    }
 }
 
 impl<C: Clock> Station for Hub<C> {
@@ -188,12 +233,11 @@ impl<C: Clock> Station for Hub<C> {
         ensures within { IsWithin result.event (length room.new) }
         ensures changes { Changes result.event (links_of self.old) (links_of self.new) }
     {
-        let looked = self.look();
-        self.look_at_clock();
-        let event = match looked {
-            Ok(()) => self.take_next(room),
-            Err(_) => Event::Over,
+        let event = match self.ahead.take(room) {
+            Some((place, count)) => Event::Bytes { place, count },
+            None => self.look_for_next(room),
         };
+        self.is_quiet = matches!(event, Event::Quiet);
         Arrival {
             tick: self.tick,
             event,
@@ -216,6 +260,7 @@ impl<C: Clock> Station for Hub<C> {
     {
         if (place as usize) < self.ends.len() {
             put(&mut self.ends, place, None);
+            self.ahead.forget(place);
             self.knocks = true;
         }
     }

@@ -4,6 +4,7 @@
 //! neither for its bytes nor for room to send to it. Which connections come, and what they bring, the operating system decides.
 #![tactic(auto)]
 
+mod ahead;
 mod end;
 mod ends;
 mod hub;
