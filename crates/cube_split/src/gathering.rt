@@ -100,7 +100,7 @@ pub(crate) fn pair_keys(
     requires { length marks.now ≡ 2 * (formula.now.vars + 1) }
     ensures { IfOk result (λ keys. (test : Literal → Bool) → AreMarked marks.now test → AreKeys formula.now.vars test formula.now.clauses keys.items) }
 {
-    let _ = formula.vars();
+    let _ = formula.vars(); // with it comes that the formula is within its limits
     let mut keys = Vec::new(alloc);
     let mut found = Vec::new(alloc);
     for i in 0..formula.len() {

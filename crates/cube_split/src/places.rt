@@ -80,7 +80,7 @@ fn append_clauses(
     ensures chained { OnOk result (AreChained places.new.items latest.new) }
     ensures within { OnOk result (All (λ e. var_of e.literal < length last.old) places.new.items) }
 {
-    let _ = formula.vars();
+    let _ = formula.vars(); // with it comes that the formula is within its limits
     for i in 0..formula.len() {
         append_clause(places, latest, last, formula.clause(i), i as u32)?;
         starts.push(places.len() as u32)?;

@@ -127,7 +127,7 @@ pub fn tree(alloc: Global, formula: &Formula, depth: u32) -> Result<Tree, AllocE
     // No cube has a variable that stands in no clause.
     ensures within { IfOk result (AreWithin (greatest_in formula.now.clauses)) }
 {
-    let _ = formula.vars();
+    let _ = formula.vars(); // with it comes that the formula is within its limits
     let preamble = preamble(alloc, formula)?;
     tree_with(alloc, formula, &preamble, depth)
 }

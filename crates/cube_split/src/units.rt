@@ -66,7 +66,7 @@ impl Preamble {
         // And without definitions.
         ensures plain { self.now ≡ pure_opening formula.now → IfOk result (λ b. b ≡ base_of formula.now) }
     {
-        let _ = formula.vars();
+        let _ = formula.vars(); // with it comes that the formula is within its limits
         append_definitions(
             append_units(Base::of(alloc, formula)?, &self.units)?,
             &self.pairs,

@@ -43,7 +43,7 @@ fn closed_by_units(alloc: Global, marks: &[bool], formula: &Formula) -> Result<V
     requires { 2 * formula.now.vars + 1 < length marks.now }
     ensures { IfOk result (λ v. (test : Literal → Bool) → AreMarked marks.now test → IsClosedBy test formula.now.clauses v.items) }
 {
-    let _ = formula.vars();
+    let _ = formula.vars(); // with it comes that the formula is within its limits
     let mut closed = Vec::new(alloc);
     for i in 0..formula.len() {
         let level = if is_apart(marks, formula.clause(i)) {

@@ -76,7 +76,7 @@ pub fn write(formula: &Formula, out: &mut Vec<u8>) -> Result<(), AllocError>
     ensures spells { Spells (spelling formula.now) formula.now }
     ensures err { OnErr result (out.new.items ≡ out.old.items) }
 {
-    let _ = formula.vars();
+    let _ = formula.vars(); // with it comes that the formula is within its limits
     let len = out.len();
     let written = put_formula(out, formula);
     if written.is_err() {

@@ -89,7 +89,7 @@ impl TreeReader {
             begun,
             fault,
         } = self;
-        let _ = lines.formula.vars();
+        let _ = lines.formula.vars(); // with it comes that the formula is within its limits
         match fault {
             Some(fault) => Err(CubesFault::Faulty(fault)),
             None => lines.finish(begun.as_slice()),

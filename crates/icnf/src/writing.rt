@@ -62,8 +62,8 @@ pub fn write(formula: &Formula, tree: &Tree, out: &mut Vec<u8>) -> Result<(), Al
     ensures spells { Spells (spelling formula.now.clauses tree.now) (formula_of formula.now.clauses) tree.now }
     ensures err { OnErr result (out.new.items ≡ out.old.items) }
 {
-    let _ = formula.vars();
-    let _ = tree.leaves();
+    let _ = formula.vars(); // with it comes that the formula is within its limits
+    let _ = tree.leaves(); // with it comes that the leaves are few
     let len = out.len();
     let written = put_all(out, formula, tree);
     if written.is_err() {
