@@ -73,10 +73,7 @@ pub(crate) fn join_rest(
         → JoinedOver formula.now preamble.now.pairs tree.now fragments.now text → 2 ^ 32 ≤ length text) }
     ensures accepted { IfOk result (λ text. Accepts formula.now text) }
 {
-    match front {
-        Ok(joining) => joining.finish(formula, preamble, tree, fragments),
-        Err(fault) => Err(fault),
-    }
+    front?.finish(formula, preamble, tree, fragments)
 }
 
 /// The fragment at a place.
@@ -102,10 +99,7 @@ fn join_next(
         → IfOk result (IsFrontOfTree F pairs tree.now leaves fragments.now) }
 {
     let _ = tree.leaves(); // with it comes that the leaves are few
-    match front {
-        Ok(joining) => joining.advance(tree.cube(place), text_at(fragments, place)),
-        Err(fault) => Err(fault),
-    }
+    front?.advance(tree.cube(place), text_at(fragments, place))
 }
 
 impl Coordinator {

@@ -21,15 +21,13 @@ fn task_of(alloc: Global, payload: &[u8]) -> Result<Frame, FrameFault>
     let (session, rest) = u64_at(payload);
     let (job, rest) = u64_at(rest);
     let (limit, rest) = u64_at(rest);
-    match cube_of(alloc, rest) {
-        Err(fault) => Err(fault),
-        Ok(cube) => Ok(Frame::Task {
-            session,
-            job,
-            limit,
-            cube,
-        }),
-    }
+    let cube = cube_of(alloc, rest)?;
+    Ok(Frame::Task {
+        session,
+        job,
+        limit,
+        cube,
+    })
 }
 
 fn done_of(payload: &[u8]) -> Result<Frame, FrameFault>
@@ -67,14 +65,12 @@ fn piece_of(alloc: Global, payload: &[u8]) -> Result<Frame, FrameFault>
         return Err(FrameFault::BadField);
     };
     let (offset, rest) = u32_at(rest);
-    match Chunk::from_slice(alloc, rest) {
-        Err(_) => Err(FrameFault::NoMemory),
-        Ok(bytes) => Ok(Frame::Piece {
-            attempt,
-            offset,
-            bytes,
-        }),
-    }
+    let bytes = Chunk::from_slice(alloc, rest)?;
+    Ok(Frame::Piece {
+        attempt,
+        offset,
+        bytes,
+    })
 }
 
 fn verdict_of(payload: &[u8]) -> Result<Frame, FrameFault>
@@ -116,15 +112,13 @@ fn part_of(alloc: Global, payload: &[u8]) -> Result<Frame, FrameFault>
         return Err(FrameFault::BadField);
     };
     let (offset, rest) = u32_at(rest);
-    match Chunk::from_slice(alloc, rest) {
-        Err(_) => Err(FrameFault::NoMemory),
-        Ok(bytes) => Ok(Frame::Part {
-            session,
-            answer,
-            offset,
-            bytes,
-        }),
-    }
+    let bytes = Chunk::from_slice(alloc, rest)?;
+    Ok(Frame::Part {
+        session,
+        answer,
+        offset,
+        bytes,
+    })
 }
 
 fn idle_of(payload: &[u8]) -> Result<Frame, FrameFault>

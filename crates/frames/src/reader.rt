@@ -98,9 +98,7 @@ pub fn read_pieces(
 {
     let mut reader = Reader::new(alloc)?;
     for piece in pieces {
-        if let Err(fault) = reader.feed(alloc, piece, frames) {
-            return Err(fault);
-        }
+        reader.feed(alloc, piece, frames)?;
     }
     Ok(())
 }
@@ -121,10 +119,8 @@ fn first(alloc: Global, bytes: &[u8]) -> Result<Option<(Frame, &[u8])>, FrameFau
             }
             let (_, behind) = bytes.split_at(HEAD);
             let (payload, rest) = behind.split_at(len);
-            match frame_of(alloc, kind, payload) {
-                Err(fault) => Err(fault),
-                Ok(frame) => Ok(Some((frame, rest))),
-            }
+            let frame = frame_of(alloc, kind, payload)?;
+            Ok(Some((frame, rest)))
         }
     }
 }
@@ -199,10 +195,9 @@ fn go_on<'a>(
     ensures room { 4037 ≤ vec_capacity buffer.new }
 {
     let taken = fill(buffer, piece);
-    match first(alloc, buffer) {
-        Err(fault) => Err(fault),
-        Ok(None) => Ok(None),
-        Ok(Some((frame, _))) => {
+    match first(alloc, buffer)? {
+        None => Ok(None),
+        Some((frame, _)) => {
             let (_, rest) = piece.split_at(taken);
             Ok(Some((frame, rest)))
         }
@@ -221,10 +216,9 @@ fn read_whole<'a>(
 {
     let mut rest = piece;
     loop {
-        match first(alloc, rest) {
-            Err(fault) => return Err(fault),
-            Ok(None) => return Ok(rest),
-            Ok(Some((frame, after))) => {
+        match first(alloc, rest)? {
+            None => return Ok(rest),
+            Some((frame, after)) => {
                 frames.push(frame)?;
                 rest = after;
             }
@@ -247,14 +241,10 @@ fn read_apart(
     ensures kept { OnErr result (buffer.new.items ≡ buffer.old.items) }
     ensures room { 4037 ≤ vec_capacity buffer.new }
 {
-    match read_whole(alloc, piece, frames) {
-        Err(fault) => Err(fault),
-        Ok(rest) => {
-            buffer.clear();
-            buffer.extend_from_slice(rest).unwrap();
-            Ok(())
-        }
-    }
+    let rest = read_whole(alloc, piece, frames)?;
+    buffer.clear();
+    buffer.extend_from_slice(rest).unwrap();
+    Ok(())
 }
 
 /// Reads a piece behind the bytes of the buffer. At an `Err` the buffer has what it had at its front.
@@ -275,10 +265,9 @@ fn read(
     if buffer.is_empty() {
         return read_apart(alloc, buffer, piece, frames);
     }
-    match go_on(alloc, buffer, piece) {
-        Err(fault) => Err(fault),
-        Ok(None) => Ok(()),
-        Ok(Some((frame, rest))) => {
+    match go_on(alloc, buffer, piece)? {
+        None => Ok(()),
+        Some((frame, rest)) => {
             frames.push(frame)?;
             read_apart(alloc, buffer, rest, frames)
         }

@@ -35,10 +35,7 @@ fn fork_lines(alloc: Global, tree: &Node, top: u64) -> Result<Vec<u8>, GatherFau
         top,
         lines: Vec::new(alloc),
     };
-    match writer.put_below(tree) {
-        Ok(_) => {}
-        Err(fault) => return Err(fault),
-    }
+    writer.put_below(tree)?;
     let ForkWriter { lines, .. } = writer;
     Ok(lines)
 }
@@ -76,13 +73,8 @@ impl Gatherer {
         ensures long { IfErr result (λ f. f ≡ GatherFault.TooLong → (F : Cnf) (cubes : List Cube) (logs : List Handed) (written : List ℕ) (steps : List Step)
             → Between F cubes logs self.now written → Gathered F cubes logs steps → 2 ^ 48 ≤ top_of (length F.clauses) steps) }
     {
-        let lines = match fork_lines(self.alloc, &self.tree, self.top) {
-            Ok(lines) => lines,
-            Err(fault) => return Err(fault),
-        };
-        match out.extend_from_slice(&lines) {
-            Ok(()) => Ok(()),
-            Err(_) => Err(GatherFault::NoMemory),
-        }
+        let lines = fork_lines(self.alloc, &self.tree, self.top)?;
+        out.extend_from_slice(&lines)?;
+        Ok(())
     }
 }

@@ -59,10 +59,7 @@ impl ForkWriter {
         if self.top + 1 == LIMIT {
             return Err(GatherFault::TooLong);
         }
-        let clause = match resolve(self.alloc, &self.path, &left.clause, &right.clause) {
-            Ok(clause) => clause,
-            Err(_) => return Err(GatherFault::NoMemory),
-        };
+        let clause = resolve(self.alloc, &self.path, &left.clause, &right.clause)?;
         let id = self.top + 1;
         let groups = Groups::new(self.alloc);
         let line = StepRef::Add {
@@ -71,10 +68,7 @@ impl ForkWriter {
             hints: &[left.id, right.id],
             groups: &groups,
         };
-        match put_ref(line, id, &mut self.lines) {
-            Ok(()) => {}
-            Err(_) => return Err(GatherFault::NoMemory),
-        }
+        put_ref(line, id, &mut self.lines)?;
         self.top = id;
         Ok(Lemma { id, clause })
     }
@@ -87,14 +81,8 @@ impl ForkWriter {
         ensures long { IfErr result (λ f. f ≡ GatherFault.TooLong → 2 ^ 48 ≤ (forks (self.old.path.items ++ taken ∷ []) self.old.top (ended node.now)).top) }
         ensures open { IfErr result (λ f. f ≡ GatherFault.Open → list_all is_closed (leaves_in node.now) ≡ false) }
     {
-        match self.path.push(taken) {
-            Ok(()) => {}
-            Err(_) => return Err(GatherFault::NoMemory),
-        }
-        let lemma = match self.put_below(node) {
-            Ok(lemma) => lemma,
-            Err(fault) => return Err(fault),
-        };
+        self.path.push(taken)?;
+        let lemma = self.put_below(node)?;
         self.path.pop();
         Ok(lemma)
     }
@@ -110,10 +98,7 @@ impl ForkWriter {
     {
         match node {
             Node::Leaf { closing, .. } => match closing {
-                Some(lemma) => match copy_of(self.alloc, lemma) {
-                    Ok(lemma) => Ok(lemma),
-                    Err(_) => Err(GatherFault::NoMemory),
-                },
+                Some(lemma) => Ok(copy_of(self.alloc, lemma)?),
                 None => Err(GatherFault::Open),
             },
             Node::Fork {
@@ -122,14 +107,8 @@ impl ForkWriter {
                 right,
                 ..
             } => {
-                let first = match self.put_branch(*branch, left) {
-                    Ok(first) => first,
-                    Err(fault) => return Err(fault),
-                };
-                let second = match self.put_branch(branch.negate(), right) {
-                    Ok(second) => second,
-                    Err(fault) => return Err(fault),
-                };
+                let first = self.put_branch(*branch, left)?;
+                let second = self.put_branch(branch.negate(), right)?;
                 self.put_fork(*branch, first, second)
             }
         }

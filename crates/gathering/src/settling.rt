@@ -97,17 +97,12 @@ impl Gatherer {
             Some(id) => id,
             None => return Err(GatherFault::TooLong),
         };
-        let closed = match self.close(id, lits) {
-            Ok(closed) => closed,
-            Err(_) => return Err(GatherFault::NoMemory),
-        };
+        let closed = self.close(id, lits)?;
         if closed {
             return Ok(true);
         }
-        match self.delete(id) {
-            Ok(()) => Ok(false),
-            Err(_) => Err(GatherFault::NoMemory),
-        }
+        self.delete(id)?;
+        Ok(false)
     }
 
     /// A lemma that is live at the end of a refused log is spent. The lemmas are handed over by rising numbers, those of the log.
@@ -126,10 +121,8 @@ impl Gatherer {
             Some(moved) => moved,
             None => return Err(GatherFault::TooLong),
         };
-        match self.delete(moved) {
-            Ok(()) => Ok(()),
-            Err(_) => Err(GatherFault::NoMemory),
-        }
+        self.delete(moved)?;
+        Ok(())
     }
 
     /// The log ends: the lemmas that are spent are deleted, at most 1,000 a line. Where memory is refused, `out` and the gatherer are

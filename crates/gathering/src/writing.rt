@@ -89,10 +89,7 @@ impl Gatherer {
                 hints,
                 groups,
             } => {
-                match shift.all(hints, &mut self.numbers) {
-                    Ok(()) => {}
-                    Err(fault) => return Err(fault),
-                }
+                shift.all(hints, &mut self.numbers)?;
                 let id = match shift.number(id) {
                     Some(id) => id,
                     None => return Err(GatherFault::TooLong),
@@ -103,22 +100,14 @@ impl Gatherer {
                     hints: &self.numbers,
                     groups,
                 };
-                match put_ref(line, before, out) {
-                    Ok(()) => {}
-                    Err(_) => return Err(GatherFault::NoMemory),
-                }
+                put_ref(line, before, out)?;
                 self.top = id;
                 Ok(())
             }
             StepRef::Delete { ids } => {
-                match shift.all(ids, &mut self.numbers) {
-                    Ok(()) => {}
-                    Err(fault) => return Err(fault),
-                }
-                match put_ref(StepRef::Delete { ids: &self.numbers }, before, out) {
-                    Ok(()) => Ok(()),
-                    Err(_) => Err(GatherFault::NoMemory),
-                }
+                shift.all(ids, &mut self.numbers)?;
+                put_ref(StepRef::Delete { ids: &self.numbers }, before, out)?;
+                Ok(())
             }
         }
     }

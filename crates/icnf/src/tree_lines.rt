@@ -39,21 +39,17 @@ fn read_line(
         (λ fault. RefusesRow before line.now fault s) }
 {
     match body {
-        Some(rows) => match rows.read_line(formula, number, line) {
-            Ok(()) => Ok(()),
-            Err(fault) => Err(fault),
-        },
+        Some(rows) => {
+            rows.read_line(formula, number, line)?;
+            Ok(())
+        }
         None => {
             if is_blank(line) {
                 return Ok(());
             }
-            match read_header(number, line) {
-                Ok(()) => {
-                    *body = Some(TreeBody::new(alloc));
-                    Ok(())
-                }
-                Err(fault) => Err(fault),
-            }
+            read_header(number, line)?;
+            *body = Some(TreeBody::new(alloc));
+            Ok(())
         }
     }
 }
@@ -74,10 +70,8 @@ impl TakesLines for TreeLines {
             Some(count) => self.count = count,
             None => return Err(IcnfFault::from(AllocError)),
         }
-        match read_line(self.alloc, &self.formula, &mut self.body, self.count, line) {
-            Ok(()) => Ok(()),
-            Err(fault) => Err(fault),
-        }
+        read_line(self.alloc, &self.formula, &mut self.body, self.count, line)?;
+        Ok(())
     }
 }
 

@@ -48,10 +48,8 @@ pub(crate) fn answered(
     if named.first_missed(formula).is_some() {
         return Ok(FileEnd::ClosesNothing);
     }
-    match named.assignment(alloc, vars) {
-        Ok(values) => Ok(FileEnd::Satisfies(values)),
-        Err(_) => Err(GatherFault::NoMemory),
-    }
+    let values = named.assignment(alloc, vars)?;
+    Ok(FileEnd::Satisfies(values))
 }
 
 /// Ends a log, which is right to its end.
@@ -68,10 +66,8 @@ pub(crate) fn accept(lines: &mut Lines) -> Result<FileEnd, GatherFault>
 pub(crate) fn leave(lines: &mut Lines) -> Result<(), GatherFault>
     ensures { OnOk result (LeavesLog lines.old lines.new) }
 {
-    match lines.end(false) {
-        Ok(_) => Ok(()),
-        Err(fault) => Err(fault),
-    }
+    lines.end(false)?;
+    Ok(())
 }
 
 /// Ends a log, which has a fault.

@@ -86,10 +86,8 @@ impl Lift {
         ensures exact { IfErr result (λ fault. (F : Cnf) (q : Cube) (bytes written : List ℕ) → Lifts F q bytes written self → (fault ≡ no_memory) ⊎ IsFaultOf F q bytes fault) }
     {
         let Lift { lifter, mut out } = self;
-        match lifter.finish(&mut out) {
-            Ok(()) => Ok(out),
-            Err(fault) => Err(fault),
-        }
+        lifter.finish(&mut out)?;
+        Ok(out)
     }
 }
 

@@ -133,10 +133,8 @@ impl Lines {
         if accepted {
             return self.settle_at(number);
         }
-        match self.spend_at(number) {
-            Ok(()) => Ok(false),
-            Err(fault) => Err(fault),
-        }
+        self.spend_at(number)?;
+        Ok(false)
     }
 
     /// The log has ended, accepted or not: its live lemmas are handed over by rising numbers. Tells whether one of them closed a leaf.
@@ -146,10 +144,8 @@ impl Lines {
         gatherers_stand();
         let mut closes = false;
         for number in self.checker.base() + 1..self.checker.top() + 1 {
-            match self.hand_over(number, accepted) {
-                Ok(closed) => closes = either(closes, closed),
-                Err(fault) => return Err(fault),
-            }
+            let closed = self.hand_over(number, accepted)?;
+            closes = either(closes, closed);
         }
         Ok(closes)
     }
@@ -158,13 +154,8 @@ impl Lines {
     pub(crate) fn end(&mut self, accepted: bool) -> Result<bool, GatherFault>
         ensures { IfOk result (EndsLog accepted self.old self.new) }
     {
-        let closes = match self.settle(accepted) {
-            Ok(closes) => closes,
-            Err(fault) => return Err(fault),
-        };
-        match self.gatherer.end(&mut self.out) {
-            Ok(()) => Ok(closes),
-            Err(_) => Err(GatherFault::NoMemory),
-        }
+        let closes = self.settle(accepted)?;
+        self.gatherer.end(&mut self.out)?;
+        Ok(closes)
     }
 }

@@ -49,9 +49,7 @@ impl SplitReader {
         ensures { (F : Cnf) (bytes : List ℕ) → HasReadText F bytes self → TellsSplit F bytes result }
     {
         let SplitReader { formula, reader } = self;
-        match reader.finish() {
-            Ok(tree) => Ok(Split { formula, tree }),
-            Err(fault) => Err(fault),
-        }
+        let tree = reader.finish()?;
+        Ok(Split { formula, tree })
     }
 }

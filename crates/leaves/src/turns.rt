@@ -36,14 +36,9 @@ fn take_file(join: &mut Join, text: &[u8]) -> Result<(), GatherFault>
     ensures { OnOk result ((F : Cnf) (cubes : List Cube) (files : List (List ℕ)) (written : List ℕ)
         → Holds F cubes files [] written join.old → Holds F cubes (files ++ text.now ∷ []) [] written join.new) }
 {
-    match join.feed(text) {
-        Ok(()) => {}
-        Err(fault) => return Err(fault),
-    }
-    match join.end() {
-        Ok(_) => Ok(()),
-        Err(fault) => Err(fault),
-    }
+    join.feed(text)?;
+    join.end()?;
+    Ok(())
 }
 
 /// Takes over what was joined.
@@ -52,10 +47,7 @@ fn hand_out(join: &mut Join, log: &mut PackedText) -> Result<(), GatherFault>
         → Holds F cubes files [] log.old join.old → Holds F cubes files [] log.new join.new) }
     ensures out { OnOk result (join.new.lines.out.items ≡ []) }
 {
-    match log.extend(join.written()) {
-        Ok(()) => {}
-        Err(_) => return Err(GatherFault::NoMemory),
-    }
+    log.extend(join.written())?;
     join.forget();
     Ok(())
 }
@@ -67,10 +59,8 @@ fn tell(out: &mut Vec<u8>, leaf: u64, end: &[u8], quiet: bool) -> Result<(), Gat
     if quiet {
         return Ok(());
     }
-    match put_end(out, leaf, end) {
-        Ok(()) => Ok(()),
-        Err(_) => Err(GatherFault::NoMemory),
-    }
+    put_end(out, leaf, end)?;
+    Ok(())
 }
 
 impl Turns {
@@ -98,14 +88,8 @@ impl Turns {
         ensures notes { OnOk result (self.new.notes ≡ self.old.notes) }
         ensures closed { OnOk result (self.new.closed ≡ self.old.closed) }
     {
-        let text = match text.to_text(alloc) {
-            Ok(text) => text,
-            Err(_) => return Err(GatherFault::NoMemory),
-        };
-        match take_file(&mut self.join, &text) {
-            Ok(()) => {}
-            Err(fault) => return Err(fault),
-        }
+        let text = text.to_text(alloc)?;
+        take_file(&mut self.join, &text)?;
         hand_out(&mut self.join, &mut self.log)
     }
 
@@ -122,28 +106,18 @@ impl Turns {
         let Some(cube) = cube_of(&split.tree, leaf) else {
             return Ok(None);
         };
-        let outcome = match solve(alloc, split.formula.as_base(), cube, search.limit) {
-            Ok(outcome) => outcome,
-            Err(_) => return Err(GatherFault::NoMemory),
-        };
+        let outcome = solve(alloc, split.formula.as_base(), cube, search.limit)?;
         match outcome {
             Outcome::Model(values) => Ok(Some(values)),
             Outcome::Refuted(text) => {
-                match self.take(alloc, &text) {
-                    Ok(()) => {}
-                    Err(fault) => return Err(fault),
-                }
-                match tell(&mut self.notes, leaf, b" closed\n", search.quiet) {
-                    Ok(()) => Ok(None),
-                    Err(fault) => Err(fault),
-                }
+                self.take(alloc, &text)?;
+                tell(&mut self.notes, leaf, b" closed\n", search.quiet)?;
+                Ok(None)
             }
             Outcome::Limit(_) => {
                 self.closed = false;
-                match tell(&mut self.notes, leaf, b" limit\n", search.quiet) {
-                    Ok(()) => Ok(None),
-                    Err(fault) => Err(fault),
-                }
+                tell(&mut self.notes, leaf, b" limit\n", search.quiet)?;
+                Ok(None)
             }
         }
     }
@@ -195,10 +169,8 @@ pub fn run_refute_all(
     }
     let mut run = Turns::of(alloc, split)?;
     for leaf in first..last + 1 {
-        match run.turn(alloc, split, leaf, search) {
-            Ok(None) => {}
-            Ok(Some(values)) => return satisfied(alloc, &values, search.witness),
-            Err(fault) => return Err(fault),
+        if let Some(values) = run.turn(alloc, split, leaf, search)? {
+            return satisfied(alloc, &values, search.witness);
         }
     }
     Ok(ended(run))

@@ -92,10 +92,7 @@ impl Known {
         ensures took { OnOk result (Acts (logged self.old.log.checker.base (naming (state_of self.old) id (self.old.log.checker.top + 1)) (owned.Add (self.old.log.checker.top + 1) lits.now self.old.numbers.items [])) self.old self.new out.old.items out.new.items) }
         ensures refused { IfErr result (Stays (logged self.old.log.checker.base (naming (state_of self.old) id (self.old.log.checker.top + 1)) (owned.Add (self.old.log.checker.top + 1) lits.now self.old.numbers.items []))) }
     {
-        match self.log.add(lits, &self.numbers, out) {
-            Ok(()) => {}
-            Err(fault) => return Err(fault),
-        }
+        self.log.add(lits, &self.numbers, out)?;
         self.names.put(id, self.log.checker.top())?;
         self.last = id;
         Ok(())
@@ -163,10 +160,7 @@ impl Known {
             return Err(LineFault::UnknownClause);
         }
         negate(lits, &mut self.literals)?;
-        match self.log.add(&self.literals, &self.numbers, out) {
-            Ok(()) => {}
-            Err(fault) => return Err(fault),
-        }
+        self.log.add(&self.literals, &self.numbers, out)?;
         let number = self.log.checker.top();
         self.closings.pop();
         self.closings.push(number)?;

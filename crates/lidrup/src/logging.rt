@@ -93,10 +93,7 @@ impl CheckedLog {
             hints,
             groups: &no_group,
         };
-        match check(&mut self.checker, step, id, &mut self.made) {
-            Ok(()) => {}
-            Err(fault) => return Err(fault),
-        }
+        check(&mut self.checker, step, id, &mut self.made)?;
         out.extend_from_slice(&self.made)?;
         if lits.is_empty() {
             self.empty = id;
@@ -116,10 +113,7 @@ impl CheckedLog {
             return Err(LineFault::NoMemory);
         }
         let step = StepRef::Delete { ids };
-        match check(&mut self.checker, step, front, &mut self.made) {
-            Ok(()) => {}
-            Err(fault) => return Err(fault),
-        }
+        check(&mut self.checker, step, front, &mut self.made)?;
         out.extend_from_slice(&self.made)?;
         Ok(())
     }

@@ -143,17 +143,9 @@ impl TakesLines for LineChecker {
     ghost refuses = { Refuses };
 
     fn take_line(&mut self, line: &[u8]) -> Result<(), CheckFault> {
-        match take_line(&mut self.checker, &mut self.buffer, self.line, line) {
-            Ok(()) => {}
-            Err(fault) => return Err(fault),
-        }
-        match next_line(self.line) {
-            Ok(next) => {
-                self.line = next;
-                Ok(())
-            }
-            Err(fault) => Err(fault),
-        }
+        take_line(&mut self.checker, &mut self.buffer, self.line, line)?;
+        self.line = next_line(self.line)?;
+        Ok(())
     }
 }
 

@@ -52,10 +52,8 @@ fn end(log: &LogChecker, cube: &[Lit], rest: &[u8]) -> Result<(), CheckFault>
 fn check_lines(log: &mut LogChecker, cube: &[Lit], fragment: &[u8]) -> Result<(), CheckFault>
     ensures { GivesCheck result (text_from (fragment_end cube.now) log.old fragment.now) }
 {
-    match take_lines(log, fragment) {
-        Ok(rest) => end(log, cube, rest),
-        Err(fault) => Err(fault),
-    }
+    let rest = take_lines(log, fragment)?;
+    end(log, cube, rest)
 }
 
 /// Checks line by line, where the lines lie packed.
@@ -70,10 +68,7 @@ fn check_packed_lines(
     let mut left = PackedLines::of(alloc, fragment);
     let mut line = Vec::new(alloc);
     while left.next(&mut line)? {
-        match log.take(&line) {
-            Ok(()) => {}
-            Err(fault) => return Err(fault),
-        }
+        log.take(&line)?;
     }
     end(log, cube, &line)
 }
@@ -91,10 +86,8 @@ pub fn check_fragment(
     // the first fault, and its line
     ensures exact { GivesCheck result (fragment_of base.now cube.now fragment.now) }
 {
-    match LogChecker::over(alloc, base) {
-        Ok(mut log) => check_lines(&mut log, cube, fragment),
-        Err(_) => Err(CheckFault::no_memory()),
-    }
+    let mut log = LogChecker::over(alloc, base)?;
+    check_lines(&mut log, cube, fragment)
 }
 
 /// The same of a packed text, which never stands whole: its lines are unpacked one after the other.
@@ -110,8 +103,6 @@ pub fn check_packed_fragment(
     // the first fault, and its line
     ensures exact { GivesCheck result (fragment_of base.now cube.now fragment.now) }
 {
-    match LogChecker::over(alloc, base) {
-        Ok(mut log) => check_packed_lines(alloc, &mut log, cube, fragment),
-        Err(_) => Err(CheckFault::no_memory()),
-    }
+    let mut log = LogChecker::over(alloc, base)?;
+    check_packed_lines(alloc, &mut log, cube, fragment)
 }

@@ -185,10 +185,7 @@ impl LogClauses {
         if id <= self.top || id - self.top > 1 {
             return Err(LogFault::OfStep(StepFault::NumberNotRising));
         }
-        match test_own(&self.clauses, &mut self.marks, lemma) {
-            Ok(()) => {}
-            Err(fault) => return Err(fault),
-        }
+        test_own(&self.clauses, &mut self.marks, lemma)?;
         match self.clauses.insert(id, lemma.lits) {
             Ok(_) => {}
             Err(_) => return Err(LogFault::OfStep(StepFault::NoMemory)),

@@ -148,17 +148,10 @@ impl LogChecker {
         ensures stands { KeepsFormula self.old self.new }
     {
         self.log.cut = 0;
-        let next = match next_line(self.line) {
-            Ok(next) => next,
-            Err(fault) => return Err(fault),
-        };
-        match take_line(&mut self.log, &mut self.buffer, self.line, line) {
-            Ok(()) => {
-                self.line = next;
-                Ok(())
-            }
-            Err(fault) => Err(fault),
-        }
+        let next = next_line(self.line)?;
+        take_line(&mut self.log, &mut self.buffer, self.line, line)?;
+        self.line = next;
+        Ok(())
     }
 
     /// What is answered at the end of a log's text, where `rest` stands behind its last LF: `Ok` where that is nothing, else fault 1
@@ -237,10 +230,8 @@ impl TakesLines for LogChecker {
 fn check_lines(log: &mut LogChecker, text: &[u8]) -> Result<(), CheckFault>
     ensures { GivesCheck result (text_from log_end log.old text.now) }
 {
-    match take_lines(log, text) {
-        Ok(rest) => log.end(rest),
-        Err(fault) => Err(fault),
-    }
+    let rest = take_lines(log, text)?;
+    log.end(rest)
 }
 
 /// Whether the text is a log over the formula; else its first fault.
@@ -251,8 +242,6 @@ pub fn check_log(alloc: Global, formula: &Formula, text: &[u8]) -> Result<(), Ch
     // the first fault, and its line
     ensures exact { GivesCheck result (log_of formula.now text.now) }
 {
-    match LogChecker::over(alloc, formula.as_base()) {
-        Ok(mut log) => check_lines(&mut log, text),
-        Err(_) => Err(CheckFault::no_memory()),
-    }
+    let mut log = LogChecker::over(alloc, formula.as_base())?;
+    check_lines(&mut log, text)
 }

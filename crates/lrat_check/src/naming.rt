@@ -39,8 +39,6 @@ pub(crate) fn was_named(
     if rising {
         return Ok(false);
     }
-    match named.insert(candidate) {
-        Ok(new) => Ok(!new),
-        Err(_) => Err(AllocError),
-    }
+    let new = named.insert(candidate)?;
+    Ok(!new)
 }

@@ -130,10 +130,8 @@ fn check_all(alloc: Global, formula: &Formula, proof: &[u8]) -> Result<(), Check
     let Ok(mut stream) = StreamChecker::new(alloc, formula) else {
         return Err(CheckFault::no_memory());
     };
-    match stream.feed(proof) {
-        Ok(()) => stream.finish(),
-        Err(fault) => Err(fault),
-    }
+    stream.feed(proof)?;
+    stream.finish()
 }
 
 /// Checks a text that comes in these pieces, however it was cut.
@@ -144,9 +142,7 @@ pub fn check_pieces(alloc: Global, formula: &Formula, pieces: &[Vec<u8>]) -> Res
         return Err(CheckFault::no_memory());
     };
     for piece in pieces {
-        if let Err(fault) = stream.feed(piece) {
-            return Err(fault);
-        }
+        stream.feed(piece)?;
     }
     stream.finish()
 }

@@ -103,10 +103,8 @@ pub fn read_around<'a>(
         return Ok(None);
     };
     let (literals, rest) = cut_out(line, word_len(line), zero_at(line) + 2);
-    match buffer.read_reasons(id, rest) {
-        Ok(()) => Ok(Some(literals)),
-        Err(fault) => Err(fault),
-    }
+    buffer.read_reasons(id, rest)?;
+    Ok(Some(literals))
 }
 
 /// Appends an addition's line, or a front of it where a growth is refused.

@@ -258,8 +258,6 @@ pub(crate) fn read_step(alloc: Global, line: &[u8]) -> Result<Step, TextFault>
     ensures exact { Gives result (step_in line.now) }
 {
     let mut buffer = StepBuffer::new(alloc);
-    match read_line(&mut buffer, line) {
-        Ok(()) => Ok(buffer.into_step()),
-        Err(fault) => Err(fault),
-    }
+    read_line(&mut buffer, line)?;
+    Ok(buffer.into_step())
 }

@@ -46,10 +46,7 @@ pub fn take_lines<'a, T: TakesLines>(taker: &mut T, text: &'a [u8]) -> Result<&'
 {
     let mut rest = text;
     while let Some((line, later)) = cut_line(rest) {
-        match taker.take_line(line) {
-            Ok(()) => {}
-            Err(fault) => return Err(fault),
-        }
+        taker.take_line(line)?;
         rest = later;
     }
     Ok(rest)
@@ -67,14 +64,14 @@ fn end_line<'a>(begun: &mut Vec<u8>, piece: &'a [u8]) -> Result<Option<&'a [u8]>
     ensures front { take (length begun.old.items) begun.new.items ≡ begun.old.items }
 {
     match cut_line(piece) {
-        Some((text, later)) => match begun.extend_from_slice(text) {
-            Ok(()) => Ok(Some(later)),
-            Err(refused) => Err(refused),
-        },
-        None => match begun.extend_from_slice(piece) {
-            Ok(()) => Ok(None),
-            Err(refused) => Err(refused),
-        },
+        Some((text, later)) => {
+            begun.extend_from_slice(text)?;
+            Ok(Some(later))
+        }
+        None => {
+            begun.extend_from_slice(piece)?;
+            Ok(None)
+        }
     }
 }
 

@@ -26,14 +26,9 @@ impl TakesLines for Vec<Step> {
     ghost refuses = { AppendsNone };
 
     fn take_line(&mut self, line: &[u8]) -> Result<(), TextFault> {
-        let step = match read_step(*self.allocator(), line) {
-            Ok(step) => step,
-            Err(fault) => return Err(fault),
-        };
-        match self.push(step) {
-            Ok(()) => Ok(()),
-            Err(_) => Err(TextFault::NoMemory),
-        }
+        let step = read_step(*self.allocator(), line)?;
+        self.push(step)?;
+        Ok(())
     }
 }
 
@@ -136,9 +131,7 @@ pub fn read_pieces(
 {
     let mut reader = StepReader::new(alloc);
     for piece in pieces {
-        if let Err(fault) = reader.feed(piece, steps) {
-            return Err(fault);
-        }
+        reader.feed(piece, steps)?;
     }
     reader.finish()
 }

@@ -31,10 +31,8 @@ fn line_step(alloc: Global, bytes: &[u8], at: usize) -> Result<Option<(Step, usi
     let Some((line, _)) = cut_line(&bytes[at..]) else {
         return Err(TextFault::LineNotEnded);
     };
-    match read_step(alloc, line) {
-        Ok(step) => Ok(Some((step, at + line.len() + 1))),
-        Err(fault) => Err(fault),
-    }
+    let step = read_step(alloc, line)?;
+    Ok(Some((step, at + line.len() + 1)))
 }
 
 /// Reads the line at a place, and gives the place behind it; `None` at the end of the text and beyond.

@@ -87,17 +87,15 @@ fn settle(
     };
     let above = depth - 1;
     let branch = cube[above].negate();
-    match put_fork(
+    let fork = put_fork(
         alloc,
         &mut growing.writer,
         &cube[..above],
         branch,
         left.subtree,
         subtree,
-    ) {
-        Ok(fork) => settle(alloc, growing, cube, above, fork),
-        Err(fault) => Err(fault),
-    }
+    )?;
+    settle(alloc, growing, cube, above, fork)
 }
 
 /// What the text may be like: where it begins with the first fragment, both have their blocks once.
@@ -130,10 +128,7 @@ impl Joining {
             → JoinedOver formula.now preamble.now.pairs leaves texts text → 2 ^ 32 ≤ length text) }
     {
         let mut out = Output::behind(alloc, PackedText::new(alloc), None);
-        let base = match put_preamble(alloc, &mut out, formula, preamble) {
-            Ok(base) => base,
-            Err(fault) => return Err(fault),
-        };
+        let base = put_preamble(alloc, &mut out, formula, preamble)?;
         Ok(Joining {
             alloc,
             base,
@@ -178,14 +173,8 @@ impl Joining {
             },
             finished,
         };
-        let subtree = match put_leaf(alloc, &mut growing.writer, base, fragment) {
-            Ok(subtree) => subtree,
-            Err(fault) => return Err(fault),
-        };
-        match settle(alloc, &mut growing, cube, cube.len(), subtree) {
-            Ok(()) => {}
-            Err(fault) => return Err(fault),
-        }
+        let subtree = put_leaf(alloc, &mut growing.writer, base, fragment)?;
+        settle(alloc, &mut growing, cube, cube.len(), subtree)?;
         let Growing { writer, finished } = growing;
         let Writer { out, top, .. } = writer;
         Ok(Joining {
@@ -225,10 +214,7 @@ impl Joining {
         let _ = preamble.pairs(); // with it comes that they are at most 64
         let mut joining = self;
         for place in joining.count()..tree.leaves() {
-            match joining.advance(tree.cube(place), text_at(fragments, place)) {
-                Ok(more) => joining = more,
-                Err(fault) => return Err(fault),
-            }
+            joining = joining.advance(tree.cube(place), text_at(fragments, place))?;
         }
         Ok(joining.into_text())
     }

@@ -40,10 +40,8 @@ pub fn join_packed(
     let _ = tree.leaves(); // with it comes that the leaves are few
     let _ = formula.vars(); // with it comes that the formula is within its limits
     let _ = preamble.pairs(); // with it comes that they are at most 64
-    match Joining::begin(alloc, formula, preamble) {
-        Ok(joining) => joining.finish(formula, preamble, tree, fragments),
-        Err(fault) => Err(fault),
-    }
+    let joining = Joining::begin(alloc, formula, preamble)?;
+    joining.finish(formula, preamble, tree, fragments)
 }
 
 /// Packs each of some texts.
@@ -78,8 +76,6 @@ pub fn join(
     ensures accepted { IfOk result (λ text. Accepts formula.now text.items) }
 {
     let fragments = packed(alloc, fragments)?;
-    match join_packed(alloc, formula, preamble, tree, &fragments) {
-        Ok(text) => Ok(text.to_text(alloc)?),
-        Err(fault) => Err(fault),
-    }
+    let text = join_packed(alloc, formula, preamble, tree, &fragments)?;
+    Ok(text.to_text(alloc)?)
 }

@@ -79,13 +79,12 @@ fn read_apart<'a>(buffer: &mut StepBuffer, line: &'a [u8]) -> Result<Option<&'a 
     requires spelled { (step : Step) × SpellsStep line.now step }
     ensures { IfOk result (λ literals. (step : Step) → SpellsStep line.now step → IsHeld literals buffer.new step) }
 {
-    match read_around(buffer, line) {
-        Ok(Some(literals)) => Ok(Some(literals)),
-        Ok(None) => match read_line(buffer, line) {
-            Ok(()) => Ok(None),
-            Err(fault) => Err(fault),
-        },
-        Err(fault) => Err(fault),
+    match read_around(buffer, line)? {
+        Some(literals) => Ok(Some(literals)),
+        None => {
+            read_line(buffer, line)?;
+            Ok(None)
+        }
     }
 }
 
@@ -146,10 +145,7 @@ fn put_renumbered(
             hints,
             groups,
         } => {
-            match shift.numbers(hints, numbers) {
-                Ok(()) => {}
-                Err(_) => return Err(JoinFault::NoMemory),
-            }
+            shift.numbers(hints, numbers)?;
             let id = shift.number(id);
             let step = StepRef::Add {
                 id,
@@ -157,21 +153,14 @@ fn put_renumbered(
                 hints: numbers,
                 groups,
             };
-            match put_found(out, top, Found { step, literals }) {
-                Ok(()) => Ok(id),
-                Err(fault) => Err(fault),
-            }
+            put_found(out, top, Found { step, literals })?;
+            Ok(id)
         }
         StepRef::Delete { ids } => {
-            match shift.numbers(ids, numbers) {
-                Ok(()) => {}
-                Err(_) => return Err(JoinFault::NoMemory),
-            }
+            shift.numbers(ids, numbers)?;
             let step = StepRef::Delete { ids: numbers };
-            match put_found(out, top, Found { step, literals }) {
-                Ok(()) => Ok(top),
-                Err(fault) => Err(fault),
-            }
+            put_found(out, top, Found { step, literals })?;
+            Ok(top)
         }
     }
 }
@@ -196,10 +185,8 @@ fn put_fragment_line(
 {
     if shift.is_none() {
         if let Some(id) = written_id(line) {
-            return match put_copy(out, line) {
-                Ok(()) => Ok(id),
-                Err(fault) => Err(fault),
-            };
+            put_copy(out, line)?;
+            return Ok(id);
         }
     }
     let literals = match read_apart(&mut scratch.buffer, line) {
@@ -246,10 +233,7 @@ pub(crate) fn put_fragment(
     let mut some = false;
     let mut top = shift.begun;
     while lines.next(&mut line)? {
-        match put_fragment_line(out, scratch, shift, top, &line) {
-            Ok(number) => top = number,
-            Err(fault) => return Err(fault),
-        }
+        top = put_fragment_line(out, scratch, shift, top, &line)?;
         swap(&mut line, &mut last);
         some = true;
     }

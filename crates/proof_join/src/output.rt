@@ -40,10 +40,8 @@ fn append(text: &mut PackedText, like: Option<&PackedText>, more: &[u8]) -> Resu
         Some(other) => text.extend_like(more, other),
         None => text.extend(more),
     };
-    match grown {
-        Ok(()) => limit(text),
-        Err(_) => Err(JoinFault::NoMemory),
-    }
+    grown?;
+    limit(text)
 }
 
 /// A text stays below 2^32 bytes.
@@ -88,10 +86,8 @@ pub(crate) fn put_line(out: &mut Output<'_>, top: u64, step: StepRef<'_>) -> Res
     ensures { Writes result out.new (out.old ++ line_of top (step_of step.entry)) }
 {
     out.line.clear();
-    match put_ref(step, top, &mut out.line) {
-        Ok(()) => append(&mut out.text, out.like, &out.line),
-        Err(_) => Err(JoinFault::NoMemory),
-    }
+    put_ref(step, top, &mut out.line)?;
+    append(&mut out.text, out.like, &out.line)
 }
 
 /// Appends the line of an addition whose literals are given as their text, where the text stays below 2^32 bytes.
@@ -105,10 +101,8 @@ pub(crate) fn put_addition(
     ensures { (top : ℕ) (lits : List Literal) → literals.now ≡ literals_text lits → Writes result out.new (out.old ++ line_of top (owned.Add id lits hints.now groups.now)) }
 {
     out.line.clear();
-    match put_around(id, literals, hints, groups, &mut out.line) {
-        Ok(()) => append(&mut out.text, out.like, &out.line),
-        Err(_) => Err(JoinFault::NoMemory),
-    }
+    put_around(id, literals, hints, groups, &mut out.line)?;
+    append(&mut out.text, out.like, &out.line)
 }
 
 /// Appends a line as it stands, where the text stays below 2^32 bytes.
@@ -116,12 +110,7 @@ pub(crate) fn put_copy(out: &mut Output<'_>, line: &[u8]) -> Result<(), JoinFaul
     ensures { Writes result out.new (out.old ++ (line.now ++ codes "\n")) }
 {
     out.line.clear();
-    match out.line.extend_from_slice(line) {
-        Ok(()) => {}
-        Err(_) => return Err(JoinFault::NoMemory),
-    }
-    match out.line.push(b'\n') {
-        Ok(()) => append(&mut out.text, out.like, &out.line),
-        Err(_) => Err(JoinFault::NoMemory),
-    }
+    out.line.extend_from_slice(line)?;
+    out.line.push(b'\n')?;
+    append(&mut out.text, out.like, &out.line)
 }

@@ -34,10 +34,8 @@ fn put_units(alloc: Global, out: &mut Output<'_>, top: u64, units: &[Lit]) -> Re
             hints: &[],
             groups: &groups,
         };
-        match put_line(out, id, line) {
-            Ok(()) => last = id,
-            Err(fault) => return Err(fault),
-        }
+        put_line(out, id, line)?;
+        last = id;
     }
     Ok(last)
 }
@@ -59,30 +57,21 @@ fn put_definition(
     let defined = Lit::positive(variable);
     let none = Groups::new(alloc);
     let mut first_line = Groups::new(alloc);
-    match first_line.push(top + 1, &[]) {
-        Ok(()) => {}
-        Err(_) => return Err(JoinFault::NoMemory),
-    }
+    first_line.push(top + 1, &[])?;
     let both = StepRef::Add {
         id: top + 1,
         lits: &[defined, pair.first.negate(), pair.second.negate()],
         hints: &[],
         groups: &none,
     };
-    match put_line(out, top + 1, both) {
-        Ok(()) => {}
-        Err(fault) => return Err(fault),
-    }
+    put_line(out, top + 1, both)?;
     let one = StepRef::Add {
         id: top + 2,
         lits: &[defined.negate(), pair.first],
         hints: &[],
         groups: &first_line,
     };
-    match put_line(out, top + 2, one) {
-        Ok(()) => {}
-        Err(fault) => return Err(fault),
-    }
+    put_line(out, top + 2, one)?;
     let other = StepRef::Add {
         id: top + 3,
         lits: &[defined.negate(), pair.second],
@@ -111,10 +100,8 @@ fn put_definitions(
     let mut variable = vars;
     for &pair in pairs {
         variable += 1;
-        match put_definition(alloc, out, last, Var::new(variable), pair) {
-            Ok(()) => last += 3,
-            Err(fault) => return Err(fault),
-        }
+        put_definition(alloc, out, last, Var::new(variable), pair)?;
+        last += 3;
     }
     Ok(last)
 }
@@ -134,9 +121,6 @@ pub(crate) fn put_preamble(
     ensures few { IfOk result (λ n. n ≤ 6000000) }
 {
     let vars = formula.vars();
-    let top = match put_units(alloc, out, formula.len() as u64, preamble.units()) {
-        Ok(top) => top,
-        Err(fault) => return Err(fault),
-    };
+    let top = put_units(alloc, out, formula.len() as u64, preamble.units())?;
     put_definitions(alloc, out, top, vars, preamble.pairs())
 }

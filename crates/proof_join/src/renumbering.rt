@@ -76,10 +76,7 @@ impl Raise {
         out.clear();
         for i in 0..groups.len() {
             let (candidate, own) = groups.get(i);
-            match self.group(candidate, own, hints, out) {
-                Ok(()) => {}
-                Err(stop) => return Err(stop),
-            }
+            self.group(candidate, own, hints, out)?;
         }
         Ok(())
     }
@@ -100,10 +97,7 @@ impl Raise {
         let Some(candidate) = self.number(candidate) else {
             return Err(Stop::NoText);
         };
-        match self.numbers(own, hints) {
-            Ok(()) => {}
-            Err(stop) => return Err(stop),
-        }
+        self.numbers(own, hints)?;
         match out.push(candidate, hints) {
             Ok(()) => Ok(()),
             Err(_) => Err(Stop::NoMemory),
@@ -158,24 +152,15 @@ fn put_raised(rewriter: &mut Rewriter, raise: Raise, step: StepRef<'_>) -> Resul
             let Some(id) = raise.number(id) else {
                 return Err(Stop::NoText);
             };
-            match raise.numbers(hints, &mut rewriter.numbers) {
-                Ok(()) => {}
-                Err(stop) => return Err(stop),
-            }
-            match raise.groups(groups, &mut rewriter.hints, &mut rewriter.groups) {
-                Ok(()) => {}
-                Err(stop) => return Err(stop),
-            }
+            raise.numbers(hints, &mut rewriter.numbers)?;
+            raise.groups(groups, &mut rewriter.hints, &mut rewriter.groups)?;
             let line = StepRef::Add {
                 id,
                 lits,
                 hints: &rewriter.numbers,
                 groups: &rewriter.groups,
             };
-            match put_short(&mut rewriter.out, id, line) {
-                Ok(()) => {}
-                Err(stop) => return Err(stop),
-            }
+            put_short(&mut rewriter.out, id, line)?;
             rewriter.top = rewriter.top.max(id);
             Ok(())
         }
@@ -183,10 +168,7 @@ fn put_raised(rewriter: &mut Rewriter, raise: Raise, step: StepRef<'_>) -> Resul
             if rewriter.top >= CAP {
                 return Err(Stop::NoText);
             }
-            match raise.numbers(ids, &mut rewriter.numbers) {
-                Ok(()) => {}
-                Err(stop) => return Err(stop),
-            }
+            raise.numbers(ids, &mut rewriter.numbers)?;
             let line = StepRef::Delete {
                 ids: &rewriter.numbers,
             };
@@ -223,14 +205,8 @@ fn put_lines(
 {
     let mut rest = text;
     while let Some((line, later)) = cut_line(rest) {
-        match read(buffer, line) {
-            Ok(()) => {}
-            Err(stop) => return Err(stop),
-        }
-        match put_raised(rewriter, raise, buffer.as_ref()) {
-            Ok(()) => {}
-            Err(stop) => return Err(stop),
-        }
+        read(buffer, line)?;
+        put_raised(rewriter, raise, buffer.as_ref())?;
         rest = later;
     }
     if rest.is_empty() {

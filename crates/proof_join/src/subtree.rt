@@ -72,23 +72,18 @@ pub(crate) fn put_leaf(
     ensures small { IfOk result (λ s. (1 ≤ s.id) × (s.id ≤ writer.new.top) × All (IsWithin 2000000) s.clause.items) }
 {
     let begun = writer.top;
-    match put_fragment(
+    writer.top = put_fragment(
         alloc,
         &mut writer.out,
         &mut writer.scratch,
         Shift { base, begun },
         fragment,
-    ) {
-        Ok(top) => writer.top = top,
-        Err(fault) => return Err(fault),
-    }
-    match last_clause(alloc, &writer.scratch.buffer) {
-        Ok(clause) => Ok(Subtree {
-            id: writer.top,
-            clause,
-        }),
-        Err(_) => Err(JoinFault::NoMemory),
-    }
+    )?;
+    let clause = last_clause(alloc, &writer.scratch.buffer)?;
+    Ok(Subtree {
+        id: writer.top,
+        clause,
+    })
 }
 
 /// Appends the line of a fork behind those of its branches, where one is needed.
@@ -117,10 +112,7 @@ pub(crate) fn put_fork(
     if !has_literal(&right.clause, branch) {
         return Ok(right);
     }
-    let clause = match resolve(alloc, path, &left.clause, &right.clause) {
-        Ok(clause) => clause,
-        Err(_) => return Err(JoinFault::NoMemory),
-    };
+    let clause = resolve(alloc, path, &left.clause, &right.clause)?;
     let id = writer.top + 1;
     let groups = Groups::new(alloc);
     let line = StepRef::Add {
@@ -129,10 +121,7 @@ pub(crate) fn put_fork(
         hints: &[left.id, right.id],
         groups: &groups,
     };
-    match put_line(&mut writer.out, writer.top, line) {
-        Ok(()) => {}
-        Err(fault) => return Err(fault),
-    }
+    put_line(&mut writer.out, writer.top, line)?;
     writer.top = id;
     Ok(Subtree { id, clause })
 }

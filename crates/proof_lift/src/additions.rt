@@ -100,17 +100,11 @@ impl Lifting {
             &self.cube,
             &mut self.scratch.clause,
         )?;
-        let literals = match self
+        let literals = self
             .scratch
-            .derive(self.alloc, &self.images, line, lemma.hints)
-        {
-            Ok(literals) => literals,
-            Err(fault) => return Err(fault),
-        };
-        match self.write(id, lemma.lits.is_empty(), literals, out) {
-            Ok(()) => Ok(()),
-            Err(fault) => Err(fault),
-        }
+            .derive(self.alloc, &self.images, line, lemma.hints)?;
+        self.write(id, lemma.lits.is_empty(), literals, out)?;
+        Ok(())
     }
 
     /// Lifts an addition.
@@ -141,14 +135,10 @@ impl Lifting {
             return Err(LineFault::NotRup);
         }
         if meets(&self.scratch.marks, line, &self.cube) {
-            return match self.pass(id) {
-                Ok(()) => Ok(()),
-                Err(fault) => Err(fault),
-            };
+            self.pass(id)?;
+            return Ok(());
         }
-        match self.lift(id, lemma, line, out) {
-            Ok(()) => Ok(()),
-            Err(fault) => Err(fault),
-        }
+        self.lift(id, lemma, line, out)?;
+        Ok(())
     }
 }

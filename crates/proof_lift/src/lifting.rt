@@ -120,10 +120,7 @@ impl Lifting {
         ensures leaf { OnOk result (SameLeaf self.old self.new) }
         ensures front { IsFront out.old.items out.new.items }
     {
-        match self.remove(ids) {
-            Ok(()) => {}
-            Err(fault) => return Err(fault),
-        }
+        self.remove(ids)?;
         if self.scratch.numbers.is_empty() {
             return Ok(());
         }
@@ -155,10 +152,8 @@ impl Lifting {
             hints: &hints,
             groups: &groups,
         };
-        match self.add(id, lemma, line, out) {
-            Ok(()) => Ok(true),
-            Err(fault) => Err(fault),
-        }
+        self.add(id, lemma, line, out)?;
+        Ok(true)
     }
 
     /// Lifts a step of the line of this number.

@@ -87,10 +87,7 @@ impl Scratch {
         ensures roomier { OnOk result (Roomier self.old self.new) }
     {
         let mut chain = Vec::with_capacity(alloc, hints.len())?;
-        let conflict = match walk(images, &mut self.marks, stamp, hints, &mut chain) {
-            Ok(conflict) => conflict,
-            Err(fault) => return Err(fault),
-        };
+        let conflict = walk(images, &mut self.marks, stamp, hints, &mut chain)?;
         trim(
             images,
             &mut self.used,

@@ -18,9 +18,7 @@ fn check_packed(alloc: Global, formula: Formula, text: &PackedText) -> Result<()
     let mut stream = StreamChecker::of(alloc, formula)?;
     let mut blocks = Blocks::of(alloc, text);
     while let Some(block) = blocks.next()? {
-        if let Err(fault) = stream.feed(&block) {
-            return Err(fault);
-        }
+        stream.feed(&block)?;
     }
     stream.finish()
 }

@@ -91,10 +91,7 @@ impl Trimming {
         if self.is_cut {
             return Err(CheckFault::from(AllocError));
         }
-        match self.checker.feed(piece) {
-            Ok(()) => {}
-            Err(fault) => return Err(fault),
-        }
+        self.checker.feed(piece)?;
         match self.text.extend(piece) {
             Ok(()) => Ok(()),
             Err(error) => {
@@ -111,10 +108,7 @@ impl Trimming {
         if self.is_cut {
             return Err(CheckFault::from(AllocError));
         }
-        match self.checker.finish() {
-            Ok(()) => {}
-            Err(fault) => return Err(fault),
-        }
+        self.checker.finish()?;
         let Trimming {
             alloc,
             formula,
@@ -125,10 +119,7 @@ impl Trimming {
         // Its tables are given back before the other ones are made.
         drop(checker);
         proof_fault_is_exact();
-        match trim_accepted(alloc, formula, text) {
-            Ok(trimmed) => Ok(trimmed),
-            Err(error) => Err(CheckFault::from(error)),
-        }
+        Ok(trim_accepted(alloc, formula, text)?)
     }
 }
 
@@ -146,12 +137,7 @@ pub fn trim(alloc: Global, formula: Formula, proof: &[u8]) -> Result<Trimmed, Ch
     ensures refused { IfErr result (λ fault. (fault ≡ no_memory) ⊎ (check_of formula proof.now ≡ Err fault)) }
 {
     proof_fault_is_exact();
-    let mut trimming = match Trimming::new(alloc, formula) {
-        Ok(trimming) => trimming,
-        Err(error) => return Err(CheckFault::from(error)),
-    };
-    match trimming.feed(proof) {
-        Ok(()) => trimming.finish(),
-        Err(fault) => Err(fault),
-    }
+    let mut trimming = Trimming::new(alloc, formula)?;
+    trimming.feed(proof)?;
+    trimming.finish()
 }

@@ -224,8 +224,5 @@ fn copy_of(alloc: Global, cube: &Cube) -> Result<Cube, AllocError>
     if cube.is_empty() {
         return Ok(Cube::new(alloc));
     }
-    match cube.copy(alloc) {
-        Ok(copy) => Ok(copy),
-        Err(refused) => Err(refused),
-    }
+    cube.copy(alloc)
 }

@@ -17,13 +17,9 @@ impl Worker {
     pub fn poll(&mut self) -> Result<Frame, AllocError>
         ensures step { (worker : ℕ) → WorkerStep self.old (Polled worker) (given_by result) self.new }
     {
-        match self.frame() {
-            Ok(frame) => {
-                self.work.forget_note();
-                Ok(frame)
-            }
-            Err(refused) => Err(refused),
-        }
+        let frame = self.frame()?;
+        self.work.forget_note();
+        Ok(frame)
     }
 
     /// The frame that it sends.
@@ -37,14 +33,14 @@ impl Worker {
                 bytes,
                 noted: Some(offset),
                 ..
-            } => match piece_at(self.alloc, bytes, *offset) {
-                Ok(piece) => Ok(Frame::Piece {
+            } => {
+                let piece = piece_at(self.alloc, bytes, *offset)?;
+                Ok(Frame::Piece {
                     attempt: name.attempt(self.number, self.incarnation),
                     offset: *offset,
                     bytes: piece,
-                }),
-                Err(refused) => Err(refused),
-            },
+                })
+            }
             Work::Free | Work::Waiting { .. } | Work::Limited { .. } | Work::Found { .. } => {
                 Ok(self.candidate_frame())
             }

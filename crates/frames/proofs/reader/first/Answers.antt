@@ -1,4 +1,5 @@
 use Rattle.std.proofs.Common.{◌≡◌, Err, ◌+◌, ◌≤◌, sym, ap, ◌∙◌, subst, arith, length, take, drop}
+use Rattle.std.proofs.lemmas.Result.{err_from_is_err_and}
 use Rattle.frames.specs.declared.fault.FrameFault.TheVariants.{NoMemory}
 use Rattle.frames.specs.declared.frame.Frame.{Frame}
 use Rattle.frames.specs.declared.head.Head.TheVariants.{Whole}
@@ -15,8 +16,10 @@ frame_of-requires c =
     let head : head_of c.args.bytes.now ≡ Whole c.in-Whole.kind c.in-Whole.len = sym c.read_head.ensures ∙ c.in-Whole.is in
     ap (may_have c.in-Whole.kind) c.split_at-in-Whole.ensures.front_len ∙ (head_limit c.args.bytes.now c.in-Whole.kind c.in-Whole.len head).0
 
-pub returns-in-Err-clause-first : goal.returns-in-Err-clause-first
-returns-in-Err-clause-first c = λ other.
+pub returns-in_err-frame-in-Whole-clause-first : goal.returns-in_err-frame-in-Whole-clause-first
+returns-in_err-frame-in-Whole-clause-first c =
+    let p = err_from_is_err_and c.from_residual.result c.from_residual.ensures.1 in
+    rw (p.1, p.2) (λ other.
     let b = c.args.bytes.now in
     let k = c.in-Whole.kind in
     let n = c.in-Whole.len in
@@ -24,32 +27,33 @@ returns-in-Err-clause-first c = λ other.
     let front = c.split_at-in-Whole.ensures.front ∙ ap (take n) c.split_at.ensures.back in
     let back = c.split_at-in-Whole.ensures.back ∙ ap (drop n) c.split_at.ensures.back in
     let long : 5 + n ≤ length b = omega (arith, c.if-bytes-len.false, (head_limit b k n head).1) in
-    let d = c.in-Err.ensures.decodes other in
-    subst (λ f. Ends b (Fault f)) (sym d.0) (first_bad b k n head long (subst (λ p. (f : Frame) → Carries k p f → ⊥) front d.1))
+    let d = c.in_err-frame-in-Whole.ensures.decodes other in
+    subst (λ f. Ends b (Fault f)) (sym d.0) (first_bad b k n head long (subst (λ p. (f : Frame) → Carries k p f → ⊥) front d.1)))
 
-pub returns-in-Ok-clause-first : goal.returns-in-Ok-clause-first
-returns-in-Ok-clause-first c =
+pub returns-in_ok-frame-in-Whole-clause-first : goal.returns-in_ok-frame-in-Whole-clause-first
+returns-in_ok-frame-in-Whole-clause-first c =
     let b = c.args.bytes.now in
     let k = c.in-Whole.kind in
     let n = c.in-Whole.len in
-    let f = c.in-Ok.frame in
+    let f = c.in_ok-frame-in-Whole.frame in
     let head : head_of b ≡ Whole k n = sym c.read_head.ensures ∙ c.in-Whole.is in
     let front = c.split_at-in-Whole.ensures.front ∙ ap (take n) c.split_at.ensures.back in
     let back = c.split_at-in-Whole.ensures.back ∙ ap (drop n) c.split_at.ensures.back in
     let long : 5 + n ≤ length b = omega (arith, c.if-bytes-len.false, (head_limit b k n head).1) in
-    subst (Begins b f) (sym back) (first_whole b k n f (λ i. omega (arith, c.type_inv.bytes i)) head long (subst (λ p. Carries k p f) front c.in-Ok.ensures.decodes))
+    subst (Begins b f) (sym back) (first_whole b k n f (λ i. omega (arith, c.type_inv.bytes i)) head long (subst (λ p. Carries k p f) front c.in_ok-frame-in-Whole.ensures.decodes))
 
-pub returns-in-Err-clause-room : goal.returns-in-Err-clause-room
-returns-in-Err-clause-room c = λ refused.
+pub returns-in_err-frame-in-Whole-clause-room : goal.returns-in_err-frame-in-Whole-clause-room
+returns-in_err-frame-in-Whole-clause-room c = λ refused.
+    let p = err_from_is_err_and c.from_residual.result c.from_residual.ensures.1 in
     let b = c.args.bytes.now in
     let k = c.in-Whole.kind in
     let n = c.in-Whole.len in
     let head : head_of b ≡ Whole k n = sym c.read_head.ensures ∙ c.in-Whole.is in
-    let same : c.in-Err.fault ≡ NoMemory = cc in
+    let same : c.in_err-frame-in-Whole.field-0.0 ≡ NoMemory = cc in
     record {
       kind = k;
       len = n;
       head = head;
       whole = omega (arith, c.if-bytes-len.false, (head_limit b k n head).1);
-      takes = subst (TakesRoom k) c.split_at-in-Whole.ensures.front_len (c.in-Err.ensures.room (ap Err same));
+      takes = subst (TakesRoom k) c.split_at-in-Whole.ensures.front_len (c.in_err-frame-in-Whole.ensures.room (ap Err same));
     }

@@ -1,16 +1,19 @@
 use Rattle.std.proofs.Common.{sym, subst}
+use Rattle.std.proofs.lemmas.Result.{err_from_is_err_and}
 use Rattle.frames.specs.Stream.{Ends, Fault, Begins}
 use Rattle.frames.proofs.FillingLemmas.{filled_fault, filled_frame}
 use Rattle.frames.proofs.reader.go_on.Goals as goal
 
-pub returns-in-Err-clause-found : goal.returns-in-Err-clause-found
-returns-in-Err-clause-found c = λ other.
+pub returns-in_err-first-clause-found : goal.returns-in_err-first-clause-found
+returns-in_err-first-clause-found c =
+    let p = err_from_is_err_and c.from_residual.result c.from_residual.ensures.1 in
     let b2 = c.fill-taken.new.buffer.items in
-    filled_fault c.args.buffer.now.items c.args.piece.now b2 c.fill-taken.result c.in-Err.fault c.fill-taken.ensures.fills (subst (λ b. Ends b (Fault c.in-Err.fault)) c.deref.ensures.value (c.in-Err.ensures.first other))
+    let fault = c.in_err-first.field-0.0 in
+    rw (p.1, p.2) (λ other. filled_fault c.args.buffer.now.items c.args.piece.now b2 c.fill-taken.result fault c.fill-taken.ensures.fills (subst (λ b. Ends b (Fault fault)) c.deref.ensures.value (c.in_err-first.ensures.first other)))
 
-pub returns-in-Ok-Some-clause-found : goal.returns-in-Ok-Some-clause-found
-returns-in-Ok-Some-clause-found c =
+pub returns-in-Some-clause-found : goal.returns-in-Some-clause-found
+returns-in-Some-clause-found c =
     let b2 = c.fill-taken.new.buffer.items in
-    let found = rw c.in-Ok-Some.field-0-is at c.in-Ok-Some.ensures.first in
-    let begins : Begins b2 c.in-Ok-Some.frame c.in-Ok-Some.field-0-0-1.now = subst (λ b. Begins b c.in-Ok-Some.frame c.in-Ok-Some.field-0-0-1.now) c.deref.ensures.value found in
-    subst (Begins _ c.in-Ok-Some.frame) (sym c.split_at.ensures.back) (filled_frame c.args.buffer.now.items c.args.piece.now b2 c.fill-taken.result c.in-Ok-Some.frame c.in-Ok-Some.field-0-0-1.now c.fill-taken.ensures.fills begins)
+    let found = rw c.in-Some.is at c.in_ok-first.ensures.first in
+    let begins : Begins b2 c.in-Some.frame c.in-Some.field-0-1.now = subst (λ b. Begins b c.in-Some.frame c.in-Some.field-0-1.now) c.deref.ensures.value found in
+    subst (Begins _ c.in-Some.frame) (sym c.split_at.ensures.back) (filled_frame c.args.buffer.now.items c.args.piece.now b2 c.fill-taken.result c.in-Some.frame c.in-Some.field-0-1.now c.fill-taken.ensures.fills begins)

@@ -1,5 +1,6 @@
 use Rattle.std.proofs.Common.{List, ℕ, ap, subst, sym, ◌∙◌, Err}
 use Rattle.std.proofs.lemmas.Bool.{MatchBool-at_true, MatchBool-at_false}
+use Rattle.std.proofs.lemmas.Result.{err_from_is_err_and}
 use Rattle.lrat_text.specs.Lines.{IsCut}
 use Rattle.lrat_check.specs.Fragments.{fragment_end}
 use Rattle.lrat_check.specs.Logs.{text_from}
@@ -10,14 +11,15 @@ use Rattle.lrat_check.proofs.fragment.check_packed_lines.Goals as goal
 pub loop-line-preserved : goal.loop-line-preserved
 loop-line-preserved c =
     let cut = subst (λ (l : List ℕ). IsCut c.loop-line.left l c.next.new.self) (sym c.deref.ensures.value) (MatchBool-at_true _ _ c.if-branch.true c.in_ok-next.ensures) in
-    c.loop-line.invariant ∙ passed_line (fragment_end c.args.cube.now) c.loop-line.log c.loop-line.left c.deref.result.now c.next.new.self c.take.new.self cut c.in-Ok.ensures.took
+    c.loop-line.invariant ∙ passed_line (fragment_end c.args.cube.now) c.loop-line.log c.loop-line.left c.deref.result.now c.next.new.self c.take.new.self cut c.in_ok-take.ensures.took
 
-pub returns-in-Err : goal.returns-in-Err
-returns-in-Err c =
+pub returns-in_err-take : goal.returns-in_err-take
+returns-in_err-take c =
     let at_end = fragment_end c.args.cube.now in
     let cut = subst (λ (l : List ℕ). IsCut c.loop-line.left l c.next.new.self) (sym c.deref.ensures.value) (MatchBool-at_true _ _ c.if-branch.true c.in_ok-next.ensures) in
-    found_before (Err c.in-Err.fault) (text_from at_end c.loop-line.log c.loop-line.left) (text_from at_end c.args.log.now c.args.fragment.now) c.loop-line.invariant
-    (refused_line at_end c.loop-line.log c.loop-line.left c.deref.result.now c.next.new.self c.in-Err.fault cut c.in-Err.ensures.refused)
+    let p = err_from_is_err_and c.from_residual-in_err-take.result c.from_residual-in_err-take.ensures.1 in
+    rw (p.1, p.2) (found_before (Err c.in_err-take.field-0.0) (text_from at_end c.loop-line.log c.loop-line.left) (text_from at_end c.args.log.now c.args.fragment.now) c.loop-line.invariant
+    (refused_line at_end c.loop-line.log c.loop-line.left c.deref.result.now c.next.new.self c.in_err-take.field-0.0 cut c.in_err-take.ensures.refused))
 
 pub returns : goal.returns
 returns c =

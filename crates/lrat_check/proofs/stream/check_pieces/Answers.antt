@@ -1,20 +1,22 @@
 use Rattle.std.proofs.Common.{◌∙◌, sym, ap, subst, ◌++◌, ◌+◌, take, drop}
 use Rattle.std.proofs.lemmas.List.{take_all}
+use Rattle.std.proofs.lemmas.Result.{err_from_is_err_and}
 use Rattle.lrat_text.specs.Pieces.{joined}
 use Rattle.lrat_text.proofs.PieceLemmas.{joined_more, joined_split}
 use Rattle.lrat_check.specs.Stream.{HasTaken}
 use Rattle.lrat_check.proofs.Streams.{finished, stopped}
 use Rattle.lrat_check.proofs.stream.check_pieces.Goals as goal
 
-pub returns-in-Err : goal.returns-in-Err
-returns-in-Err c =
+pub returns-in_err-feed : goal.returns-in_err-feed
+returns-in_err-feed c =
     let i = c.loop-piece.piece-index in
     let ps = c.args.pieces.now in
     let p = c.piece-item.result in
     let done = joined (take i ps) in
     let whole = joined_split ps i p c.loop-piece-test.true c.piece-item.is ∙ ap (λ b. (done ++ b) ++ joined (drop (i + 1) ps)) (sym c.deref.ensures.value) in
-    stopped c.args.formula.now c.feed.new.self (done ++ c.deref.result.now) (joined (drop (i + 1) ps)) (joined ps) c.in-Err.fault whole
-    (c.feed.ensures.taken.history c.args.formula.now done c.loop-piece.invariant) c.in-Err.ensures.taken.answers
+    let p = err_from_is_err_and c.from_residual.result c.from_residual.ensures.1 in
+    rw (p.1, p.2) (stopped c.args.formula.now c.feed.new.self (done ++ c.deref.result.now) (joined (drop (i + 1) ps)) (joined ps) c.in_err-feed.field-0.0 whole
+    (c.feed.ensures.taken.history c.args.formula.now done c.loop-piece.invariant) c.in_err-feed.ensures.taken.answers)
 
 pub loop-piece-preserved : goal.loop-piece-preserved
 loop-piece-preserved c =

@@ -1,4 +1,5 @@
 use Rattle.std.proofs.Common.{arith}
+use Rattle.std.proofs.lemmas.Result.{err_from_is_err_and}
 use Rattle.lrat_text.proofs.AroundLemmas.{around, fails_memory, found_around, none_around}
 use Rattle.lrat_text.proofs.around.read_around.Goals as goal
 
@@ -11,13 +12,14 @@ cut_out-requires c =
     let lies = (around c.args.line.now c.in-Some.id step s (c.in-Some.ensures step s)).lies in
     (omega (arith, c.word_len.ensures.value, c.zero_at.ensures.value, lies.order), omega (arith, c.zero_at.ensures.value, lies.inside))
 
-pub returns-in-Ok-clause-found : goal.returns-in-Ok-clause-found
-returns-in-Ok-clause-found c = λ step s.
+pub returns-clause-found : goal.returns-clause-found
+returns-clause-found c = λ step s.
     found_around c.args.line.now c.in-Some.id step c.word_len.result c.zero_at.result _ _ _ (around c.args.line.now c.in-Some.id step s (c.in-Some.ensures step s))
-    c.word_len.ensures.value c.zero_at.ensures.value c.cut_out.ensures.between c.cut_out.ensures.behind c.in-Ok.ensures
+    c.word_len.ensures.value c.zero_at.ensures.value c.cut_out.ensures.between c.cut_out.ensures.behind c.in_ok-read_reasons.ensures
 
-pub returns-in-Err-clause-memory : goal.returns-in-Err-clause-memory
-returns-in-Err-clause-memory c =
+pub returns-in_err-read_reasons-clause-memory : goal.returns-in_err-read_reasons-clause-memory
+returns-in_err-read_reasons-clause-memory c =
+    let p = err_from_is_err_and c.from_residual.result c.from_residual.ensures.1 in
     let (step, s) = c.requires.spelled in
-    fails_memory c.args.line.now c.in-Some.id step c.zero_at.result _ c.in-Err.fault (around c.args.line.now c.in-Some.id step s (c.in-Some.ensures step s))
-    c.zero_at.ensures.value c.cut_out.ensures.behind c.in-Err.ensures
+    rw (p.1, p.2) (fails_memory c.args.line.now c.in-Some.id step c.zero_at.result _ c.in_err-read_reasons.field-0.0 (around c.args.line.now c.in-Some.id step s (c.in-Some.ensures step s))
+    c.zero_at.ensures.value c.cut_out.ensures.behind c.in_err-read_reasons.ensures)

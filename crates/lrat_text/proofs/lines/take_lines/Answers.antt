@@ -9,6 +9,6 @@ loop-line-preserved g c =
     let rest = c.loop-line.rest.now in
     let later = c.in-Some.later.now in
     record {
-      may = c.in-Ok.ensures.0;
-      hands = hands_on takes c.args.taker.now c.args.text.now s rest new later c.loop-line.invariant.hands (hands_line takes s rest c.in-Some.line.now later new c.in-Some.ensures c.in-Ok.ensures.1);
+      may = c.in_ok-take_line.ensures.0;
+      hands = hands_on takes c.args.taker.now c.args.text.now s rest new later c.loop-line.invariant.hands (hands_line takes s rest c.in-Some.line.now later new c.in-Some.ensures c.in_ok-take_line.ensures.1);
     }

@@ -1,6 +1,7 @@
 use Rattle.std.proofs.Common.{◌≡◌, ◌+◌, ◌-◌, ◌++◌, ◌∷◌, ◌∙◌, map, length, List, Vec, Global, MatchBool, [], ℕ, ap, sym, subst, arith}
 use Rattle.std.proofs.lemmas.Bool.{MatchBool-at_true, MatchBool-at_false}
 use Rattle.std.proofs.lemmas.List.{append-nil}
+use Rattle.std.proofs.lemmas.Result.{err_from_is_err_and}
 use Rattle.lrat_text.specs.Grammar.{SpellsStep}
 use Rattle.lrat_text.specs.Lines.{IsCut}
 use Rattle.lrat_text.specs.Log.{top_after}
@@ -25,14 +26,15 @@ put_fragment_line-requires-clause-low c = λ step s.
     let n = next_line c.loop-last.lines c.deref.result.now c.next.new.self (subst (λ (l : List ℕ). IsCut c.loop-last.lines l c.next.new.self) (sym c.deref.ensures.value) (MatchBool-at_true _ _ c.if-branch.true c.in_ok-next.ensures)) i.spelled in
     subst (IsLow k) (read_same c.deref.result.now n.step step n.spells s) (subst (AreLow k) n.steps i.low).0
 
-pub returns-in-Err-clause-text : goal.returns-in-Err-clause-text
-returns-in-Err-clause-text c =
+pub returns-in_err-top-clause-text : goal.returns-in_err-top-clause-text
+returns-in_err-top-clause-text c =
     let i = c.loop-last.invariant in
     let n = next_line c.loop-last.lines c.deref.result.now c.next.new.self (subst (λ (l : List ℕ). IsCut c.loop-last.lines l c.next.new.self) (sym c.deref.ensures.value) (MatchBool-at_true _ _ c.if-branch.true c.in_ok-next.ensures)) i.spelled in
     let r : Step → Step = renumbered (behind c.args.shift.base c.args.shift.begun) in
     let whole : List ℕ = c.args.out.now ++ text_of c.args.shift.begun (map r (steps_in c.args.fragment.now)) in
-    writes_longer ℕ c.in-Err.fault c.put_fragment_line.new.out (c.loop-last.out ++ line_of c.loop-last.top (r n.step)) whole (c.in-Err.ensures.text n.step n.spells)
-    (longer c.args.shift.base c.args.shift.begun c.loop-last.top 0 c.loop-last.out [] whole n.step (steps_in c.loop-last.lines) (steps_in c.next.new.self) n.steps i.text)
+    let p = err_from_is_err_and c.from_residual-in_err-top.result c.from_residual-in_err-top.ensures.1 in
+    rw (p.1, p.2) (writes_longer ℕ c.in_err-top.field-0.0 c.put_fragment_line.new.out (c.loop-last.out ++ line_of c.loop-last.top (r n.step)) whole (c.in_err-top.ensures.text n.step n.spells)
+    (longer c.args.shift.base c.args.shift.begun c.loop-last.top 0 c.loop-last.out [] whole n.step (steps_in c.loop-last.lines) (steps_in c.next.new.self) n.steps i.text))
 
 pub loop-last-preserved : goal.loop-last-preserved
 loop-last-preserved c =
@@ -42,14 +44,14 @@ loop-last-preserved c =
     let t : ℕ = c.args.shift.begun in
     let r : Step → Step = renumbered (behind b t) in
     let top : ℕ = c.loop-last.top in
-    let number : ℕ = c.in-Ok.number in
+    let number : ℕ = c.in_ok-top.top in
     let out : List ℕ = c.loop-last.out in
     let after : List ℕ = c.put_fragment_line.new.out in
     let rest : List Step = steps_in c.loop-last.lines in
     let later : List Step = steps_in c.next.new.self in
     let whole : List ℕ = c.args.out.now ++ text_of t (map r (steps_in c.args.fragment.now)) in
-    let is : number ≡ top_after top (r n.step) = c.in-Ok.ensures.top n.step n.spells in
-    let wrote = c.in-Ok.ensures.text n.step n.spells in
+    let is : number ≡ top_after top (r n.step) = c.in_ok-top.ensures.top n.step n.spells in
+    let wrote = c.in_ok-top.ensures.text n.step n.spells in
     let same : length after ≡ length (out ++ line_of top (r n.step)) = ap length wrote.0 in
     let below = wrote.1 in
     let some = line_some out top (r n.step) in
@@ -68,8 +70,8 @@ loop-last-preserved c =
       short = omega arith;
     }
 
-pub returns-in-Ok-read_last-clause-text : goal.returns-in-Ok-read_last-clause-text
-returns-in-Ok-read_last-clause-text c =
+pub returns-in-Ok-clause-text : goal.returns-in-Ok-clause-text
+returns-in-Ok-clause-text c =
     let i = c.loop-last.invariant in
     let e = no_line c.loop-last.lines (MatchBool-at_false _ _ c.if-branch.false c.in_ok-next.ensures).0 i.spelled in
     let r : Step → Step = renumbered (behind c.args.shift.base c.args.shift.begun) in
@@ -80,15 +82,15 @@ returns-in-Ok-read_last-clause-text c =
     let h = i.short in
     (f, omega arith)
 
-pub returns-in-Ok-read_last-clause-top : goal.returns-in-Ok-read_last-clause-top
-returns-in-Ok-read_last-clause-top c =
+pub returns-in-Ok-clause-top : goal.returns-in-Ok-clause-top
+returns-in-Ok-clause-top c =
     let i = c.loop-last.invariant in
     let e = no_line c.loop-last.lines (MatchBool-at_false _ _ c.if-branch.false c.in_ok-next.ensures).0 i.spelled in
     ap (λ (ss : List Step). top_of c.loop-last.top (map (renumbered (behind c.args.shift.base c.args.shift.begun)) ss)) (sym e) ∙ i.top
 
-pub returns-in-Ok-read_last-clause-last : goal.returns-in-Ok-read_last-clause-last
-returns-in-Ok-read_last-clause-last c =
+pub returns-in-Ok-clause-last : goal.returns-in-Ok-clause-last
+returns-in-Ok-clause-last c =
     let i = c.loop-last.invariant in
     let e = no_line c.loop-last.lines (MatchBool-at_false _ _ c.if-branch.false c.in_ok-next.ensures).0 i.spelled in
     last_read c.loop-last.some c.loop-last.last.items c.loop-last.scratch.buffer c.args.scratch.now.buffer c.read_last.new.buffer (last_of c.args.scratch.now.buffer (steps_in c.args.fragment.now))
-    (steps_in c.loop-last.lines) e (subst (λ (l : List ℕ). MatchBool c.loop-last.some (SpellsStep l c.read_last.new.buffer) (c.read_last.new.buffer ≡ c.loop-last.scratch.buffer)) c.deref-2.ensures.value c.in-Ok-read_last.ensures) i.last
+    (steps_in c.loop-last.lines) e (subst (λ (l : List ℕ). MatchBool c.loop-last.some (SpellsStep l c.read_last.new.buffer) (c.read_last.new.buffer ≡ c.loop-last.scratch.buffer)) c.deref-2.ensures.value c.in-Ok.ensures) i.last

@@ -1,4 +1,5 @@
 use Rattle.std.proofs.Common.{◌≡◌, ◌+◌, ◌-◌, ◌^◌, ◌<◌, ◌++◌, List, ℕ, Err, codes, length, sym, subst}
+use Rattle.std.proofs.lemmas.Result.{err_from_is_err_and}
 use Rattle.lrat_text.specs.Grammar.{IsStep}
 use Rattle.lrat_text.specs.declared.step.Step.{Step}
 use Rattle.proof_join.specs.inner.Steps.{IsHeld, IsLow, Writes}
@@ -7,36 +8,38 @@ use Rattle.proof_join.proofs.CopyLemmas.{copied}
 use Rattle.proof_join.proofs.StepLemmas.{writes_else}
 use Rattle.proof_join.proofs.lines.put_fragment_line.Goals as goal
 
-pub returns-in-Ok-clause-text : goal.returns-in-Ok-clause-text
-returns-in-Ok-clause-text c = λ step s.
+pub returns-in-Some-clause-text : goal.returns-in-Some-clause-text
+returns-in-Some-clause-text c = λ step s.
     let k = copied c.args.shift.base c.args.shift.begun c.args.top c.in-Some.id c.args.line.now step c.if-is_none.ensures (sym (c.in-Some.ensures step s)) in
-    subst (λ (l : List ℕ). (c.put_copy.new.out ≡ c.args.out.now ++ l) × (length (c.args.out.now ++ l) < 2 ^ 32)) k.0 c.in-Ok.ensures
+    subst (λ (l : List ℕ). (c.put_copy.new.out ≡ c.args.out.now ++ l) × (length (c.args.out.now ++ l) < 2 ^ 32)) k.0 c.in_ok-put_copy.ensures
 
-pub returns-in-Ok-clause-top : goal.returns-in-Ok-clause-top
-returns-in-Ok-clause-top c = λ step s.
+pub returns-in-Some-clause-top : goal.returns-in-Some-clause-top
+returns-in-Some-clause-top c = λ step s.
     (copied c.args.shift.base c.args.shift.begun c.args.top c.in-Some.id c.args.line.now step c.if-is_none.ensures (sym (c.in-Some.ensures step s))).1
 
-pub returns-in-Err-clause-text : goal.returns-in-Err-clause-text
-returns-in-Err-clause-text c = λ step s.
+pub returns-in_err-put_copy-clause-text : goal.returns-in_err-put_copy-clause-text
+returns-in_err-put_copy-clause-text c =
+    let p = err_from_is_err_and c.from_residual.result c.from_residual.ensures.1 in
+    rw (p.1, p.2) (λ step s.
     let k = copied c.args.shift.base c.args.shift.begun c.args.top c.in-Some.id c.args.line.now step c.if-is_none.ensures (sym (c.in-Some.ensures step s)) in
-    subst (λ (l : List ℕ). Writes {A = ℕ} (Err c.in-Err.fault) c.put_copy.new.out (c.args.out.now ++ l)) k.0
-    (writes_else (Unit {0}) ℕ c.in-Err.fault c.put_copy.new.out (c.args.out.now ++ (c.args.line.now ++ codes "\n")) c.in-Err.ensures)
+    subst (λ (l : List ℕ). Writes {A = ℕ} (Err c.in_err-put_copy.field-0.0) c.put_copy.new.out (c.args.out.now ++ l)) k.0
+    (writes_else (Unit {0}) ℕ c.in_err-put_copy.field-0.0 c.put_copy.new.out (c.args.out.now ++ (c.args.line.now ++ codes "\n")) c.in_err-put_copy.ensures))
 
 pub put_renumbered-requires-clause-limits : goal.put_renumbered-requires-clause-limits
 put_renumbered-requires-clause-limits c =
     let (step, s) = c.requires.spelled in
-    subst IsStep (sym c.as_ref.ensures) (held_limits c.in-Ok-read_apart.literals c.read_apart.new.buffer step (c.in-Ok-read_apart.ensures step s) s.limits)
+    subst IsStep (sym c.as_ref.ensures) (held_limits c.in-Ok.literals c.read_apart.new.buffer step (c.in-Ok.ensures step s) s.limits)
 
 pub put_renumbered-requires-clause-low : goal.put_renumbered-requires-clause-low
 put_renumbered-requires-clause-low c =
     let (step, s) = c.requires.spelled in
     let k : ℕ = c.args.shift.base + (c.args.top - c.args.shift.begun) in
-    subst (IsLow k) (sym c.as_ref.ensures) (held_low k c.in-Ok-read_apart.literals c.read_apart.new.buffer step (c.in-Ok-read_apart.ensures step s) (c.requires.low step s))
+    subst (IsLow k) (sym c.as_ref.ensures) (held_low k c.in-Ok.literals c.read_apart.new.buffer step (c.in-Ok.ensures step s) (c.requires.low step s))
 
 pub returns-clause-text : goal.returns-clause-text
 returns-clause-text c = λ step s.
-    c.put_renumbered.ensures.text step (subst (λ (x : Step). IsHeld c.in-Ok-read_apart.literals x step) (sym c.as_ref.ensures) (c.in-Ok-read_apart.ensures step s))
+    c.put_renumbered.ensures.text step (subst (λ (x : Step). IsHeld c.in-Ok.literals x step) (sym c.as_ref.ensures) (c.in-Ok.ensures step s))
 
 pub returns-clause-top : goal.returns-clause-top
 returns-clause-top c = λ step s.
-    c.put_renumbered.ensures.top step (subst (λ (x : Step). IsHeld c.in-Ok-read_apart.literals x step) (sym c.as_ref.ensures) (c.in-Ok-read_apart.ensures step s))
+    c.put_renumbered.ensures.top step (subst (λ (x : Step). IsHeld c.in-Ok.literals x step) (sym c.as_ref.ensures) (c.in-Ok.ensures step s))

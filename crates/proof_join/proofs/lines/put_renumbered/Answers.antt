@@ -16,7 +16,7 @@ put_found-requires-clause-limits c =
     low_addition c.args.shift.base c.args.shift.begun (c.args.shift.base + (c.args.top - c.args.shift.begun)) c.in-Add.id c.in-Add.lits.now c.in-Add.hints.now c.in-Add.groups.now above.1 (omega arith) (omega arith) limits low in (
       subst IsClauseNumber (sym c.number-id.ensures) z.0,
       z.1,
-      subst (λ (ns : List ℕ). All IsClauseNumber ns) (sym (c.deref.ensures.value ∙ c.in-Ok.ensures)) z.2,
+      subst (λ (ns : List ℕ). All IsClauseNumber ns) (sym (c.deref.ensures.value ∙ c.in_ok-numbers-in-Add.ensures)) z.2,
       z.3,
     )
 
@@ -28,4 +28,4 @@ put_found-requires-in-Delete-clause-limits c =
     let few = c.requires.top in
     let z : IsStep (Delete (map (behind c.args.shift.base c.args.shift.begun) c.in-Delete.ids.now)) =
     low_deletion c.args.shift.base c.args.shift.begun (c.args.shift.base + (c.args.top - c.args.shift.begun)) c.in-Delete.ids.now above.1 (omega arith) (omega arith) limits low in
-    subst (λ (ns : List ℕ). All IsClauseNumber ns) (sym (c.deref-in-Delete.ensures.value ∙ c.in-Ok-numbers.ensures)) z
+    subst (λ (ns : List ℕ). All IsClauseNumber ns) (sym (c.deref-in-Delete.ensures.value ∙ c.in_ok-numbers-in-Delete.ensures)) z

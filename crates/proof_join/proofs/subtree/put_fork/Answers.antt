@@ -10,8 +10,8 @@ use Rattle.proof_join.proofs.subtree.put_fork.Goals as goal
 
 pub put_line-requires-clause-limits : goal.put_line-requires-clause-limits
 put_line-requires-clause-limits c =
-    let is : c.in-Ok.clause.items ≡ resolvent c.args.path.now c.args.left.clause.items c.args.right.clause.items =
-    c.in-Ok.ensures ∙ ap (λ (C : Clause). resolvent c.args.path.now C c.deref-4.result.now) c.deref-3.ensures.value ∙ ap (λ (D : Clause). resolvent c.args.path.now c.args.left.clause.items D) c.deref-4.ensures.value in
+    let is : c.in_ok-clause.clause.items ≡ resolvent c.args.path.now c.args.left.clause.items c.args.right.clause.items =
+    c.in_ok-clause.ensures ∙ ap (λ (C : Clause). resolvent c.args.path.now C c.deref-4.result.now) c.deref-3.ensures.value ∙ ap (λ (D : Clause). resolvent c.args.path.now c.args.left.clause.items D) c.deref-4.ensures.value in
     let top = c.requires.top in
     let t0 = top.0 in
     let t1 = top.1 in
@@ -29,8 +29,8 @@ put_line-requires-clause-limits c =
 
 pub returns-clause-small : goal.returns-clause-small
 returns-clause-small c =
-    let is : c.in-Ok.clause.items ≡ resolvent c.args.path.now c.args.left.clause.items c.args.right.clause.items =
-    c.in-Ok.ensures ∙ ap (λ (C : Clause). resolvent c.args.path.now C c.deref-4.result.now) c.deref-3.ensures.value ∙ ap (λ (D : Clause). resolvent c.args.path.now c.args.left.clause.items D) c.deref-4.ensures.value in
+    let is : c.in_ok-clause.clause.items ≡ resolvent c.args.path.now c.args.left.clause.items c.args.right.clause.items =
+    c.in_ok-clause.ensures ∙ ap (λ (C : Clause). resolvent c.args.path.now C c.deref-4.result.now) c.deref-3.ensures.value ∙ ap (λ (D : Clause). resolvent c.args.path.now c.args.left.clause.items D) c.deref-4.ensures.value in
     let l = c.requires.left in
     let r = c.requires.right in
     (omega arith, omega arith, subst (All (IsWithin 2000000)) (sym is) (resolvent_small c.args.path.now c.args.left.clause.items c.args.right.clause.items l.2 r.2))

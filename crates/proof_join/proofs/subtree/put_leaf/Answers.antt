@@ -6,17 +6,17 @@ use Rattle.proof_join.specs.inner.Steps.{clause_of}
 use Rattle.proof_join.proofs.SubtreeLemmas.{ends_clause, ends_small}
 use Rattle.proof_join.proofs.subtree.put_leaf.Goals as goal
 
-pub returns-in-Ok-last_clause-clause-subtree : goal.returns-in-Ok-last_clause-clause-subtree
-returns-in-Ok-last_clause-clause-subtree c = (
-  c.in-Ok.ensures.top,
-  c.in-Ok-last_clause.ensures ∙ ap clause_of c.in-Ok.ensures.last ∙ ends_clause c.args.writer.now.scratch.buffer (steps_in c.args.fragment.now) c.requires.fragment.ends,
+pub returns-clause-subtree : goal.returns-clause-subtree
+returns-clause-subtree c = (
+  c.in_ok-writer.ensures.top,
+  c.in_ok-clause.ensures ∙ ap clause_of c.in_ok-writer.ensures.last ∙ ends_clause c.args.writer.now.scratch.buffer (steps_in c.args.fragment.now) c.requires.fragment.ends,
 )
 
-pub returns-in-Ok-last_clause-clause-small : goal.returns-in-Ok-last_clause-clause-small
-returns-in-Ok-last_clause-clause-small c =
-    let e : c.in-Ok-last_clause.clause.items ≡ last_clause [] (steps_in c.args.fragment.now) =
-    c.in-Ok-last_clause.ensures ∙ ap clause_of c.in-Ok.ensures.last ∙ ends_clause c.args.writer.now.scratch.buffer (steps_in c.args.fragment.now) c.requires.fragment.ends in
-    let up = c.in-Ok.ensures.few in
+pub returns-clause-small : goal.returns-clause-small
+returns-clause-small c =
+    let e : c.in_ok-clause.clause.items ≡ last_clause [] (steps_in c.args.fragment.now) =
+    c.in_ok-clause.ensures ∙ ap clause_of c.in_ok-writer.ensures.last ∙ ends_clause c.args.writer.now.scratch.buffer (steps_in c.args.fragment.now) c.requires.fragment.ends in
+    let up = c.in_ok-writer.ensures.few in
     let a = up.0 in
     let begun = c.requires.begun in
     let b = begun.0 in

@@ -11,8 +11,8 @@ use Rattle.gathering.proofs.writer.ForkWriter.put_fork.Goals as goal
 
 pub put_ref-requires-clause-limits : goal.put_ref-requires-clause-limits
 put_ref-requires-clause-limits c =
-    let is : c.in-Ok.clause.items ≡ resolvent c.args.self.now.path.items c.args.left.clause.items c.args.right.clause.items =
-    c.in-Ok.ensures ∙ ap (λ (p : Cube). resolvent p c.deref-4.result.now c.deref-5.result.now) c.deref-3.ensures.value
+    let is : c.in_ok-clause.clause.items ≡ resolvent c.args.self.now.path.items c.args.left.clause.items c.args.right.clause.items =
+    c.in_ok-clause.ensures ∙ ap (λ (p : Cube). resolvent p c.deref-4.result.now c.deref-5.result.now) c.deref-3.ensures.value
     ∙ ap (λ (C : Clause). resolvent c.args.self.now.path.items C c.deref-5.result.now) c.deref-4.ensures.value ∙ ap (λ (D : Clause). resolvent c.args.self.now.path.items c.args.left.clause.items D) c.deref-5.ensures.value in
     let few = c.args.self.now.limit in
     let left = c.args.left.numbered in
@@ -26,8 +26,8 @@ put_ref-requires-clause-limits c =
 
 pub invariant_of-result : goal.invariant_of-result
 invariant_of-result c =
-    let is : c.in-Ok.clause.items ≡ resolvent c.args.self.now.path.items c.args.left.clause.items c.args.right.clause.items =
-    c.in-Ok.ensures ∙ ap (λ (p : Cube). resolvent p c.deref-4.result.now c.deref-5.result.now) c.deref-3.ensures.value
+    let is : c.in_ok-clause.clause.items ≡ resolvent c.args.self.now.path.items c.args.left.clause.items c.args.right.clause.items =
+    c.in_ok-clause.ensures ∙ ap (λ (p : Cube). resolvent p c.deref-4.result.now c.deref-5.result.now) c.deref-3.ensures.value
     ∙ ap (λ (C : Clause). resolvent c.args.self.now.path.items C c.deref-5.result.now) c.deref-4.ensures.value ∙ ap (λ (D : Clause). resolvent c.args.self.now.path.items c.args.left.clause.items D) c.deref-5.ensures.value in
     let few = c.args.self.now.limit in
     let other = c.if-self-eq-LIMIT.false in

@@ -5,10 +5,10 @@ use Rattle.leaves.proofs.ClosingLemmas.{ending_leaves, told_newly}
 use Rattle.leaves.proofs.LineLemmas.{appended}
 use Rattle.leaves.proofs.lines.Lines.end.Goals as goal
 
-pub returns-in-Ok-end : goal.returns-in-Ok-end
-returns-in-Ok-end c = λ F cubes logs log written h.
-    let s = c.in-Ok.ensures F cubes logs log written h in
-    let put = c.in-Ok-end.ensures.ended in
+pub returns : goal.returns
+returns c = λ F cubes logs log written h.
+    let s = c.in_ok-closes.ensures F cubes logs log written h in
+    let put = c.in_ok-end.ensures.ended in
     let handed : Handed = record { steps = log; accepted = c.args.accepted } in
     let between : Between F cubes (logs ++ handed ∷ []) c.end.new.self (written ++ c.end.new.out.items) =
     appended (λ (w : List ℕ). Between F cubes (logs ++ handed ∷ []) c.end.new.self w) written c.settle.new.self.out.items c.end.new.out.items put.0 put.1
@@ -17,7 +17,7 @@ returns-in-Ok-end c = λ F cubes logs log written h.
       λ accepted.
           let right : Handed = record { steps = log; accepted = true } in
           let same : handed ≡ right = ap (λ (b : Bool). record { steps = log; accepted = b }) accepted in
-          told_newly F cubes logs log c.settle.new.self.gatherer c.in-Ok.closes h.within.are
+          told_newly F cubes logs log c.settle.new.self.gatherer c.in_ok-closes.closes h.within.are
           (subst (λ (x : Handed). AreLogs F (logs ++ x ∷ [])) same between.are)
           (subst (λ (x : Handed). leaves_of c.settle.new.self.gatherer ≡ (gathered F cubes (logs ++ x ∷ [])).leaves) same
           (ending_leaves F cubes logs handed s.0.low c.settle.new.self.gatherer (written ++ c.settle.new.self.out.items) s.0.ending s.0.none_left))

@@ -22,17 +22,17 @@ loop-number-init c = record {
 
 pub loop-number-preserved : goal.loop-number-preserved
 loop-number-preserved c = record {
-  checker = c.in-Ok.ensures.checker ∙ c.loop-number.invariant.checker;
-  out = c.in-Ok.ensures.out ∙ c.loop-number.invariant.out;
+  checker = c.in_ok-closed.ensures.checker ∙ c.loop-number.invariant.checker;
+  out = c.in_ok-closed.ensures.out ∙ c.loop-number.invariant.out;
   over = λ F cubes logs log written h.
-      c.in-Ok.ensures.over F cubes logs log (written ++ c.args.self.now.out.items)
+      c.in_ok-closed.ensures.over F cubes logs log (written ++ c.args.self.now.out.items)
       (subst (λ (s : LogState). s.live ≡ after_steps (map_of F) log) (sym c.loop-number.invariant.checker) h.behind.live)
       (c.loop-number.invariant.over F cubes logs log written h);
   told = λ F cubes logs log written h accepted.
       let written_now = written ++ c.args.self.now.out.items in
-      tells_more F log (gathered F cubes logs).leaves c.loop-number.self.gatherer c.hand_over.new.self.gatherer c.loop-number.closes c.in-Ok.closed c.either-closes.result c.either-closes.ensures
+      tells_more F log (gathered F cubes logs).leaves c.loop-number.self.gatherer c.hand_over.new.self.gatherer c.loop-number.closes c.in_ok-closed.closed c.either-closes.result c.either-closes.ensures
       (c.loop-number.invariant.told F cubes logs log written h accepted)
-      (c.in-Ok.ensures.told accepted F cubes logs log written_now
+      (c.in_ok-closed.ensures.told accepted F cubes logs log written_now
       (subst (λ (s : LogState). s.live ≡ after_steps (map_of F) log) (sym c.loop-number.invariant.checker) h.behind.live)
       (subst (λ (b : Bool). AreHandedOver F cubes logs (record { steps = log; accepted = b }) written_now c.loop-number.number c.loop-number.self.gatherer) accepted
       (c.loop-number.invariant.over F cubes logs log written h)));

@@ -1,4 +1,5 @@
 use Rattle.std.proofs.Common.{◌≡◌, ℕ, ◌^◌, ◌≤◌, ◌++◌, ◌∙◌, List, length, arith, ap, sym, subst}
+use Rattle.std.proofs.lemmas.Result.{err_from_is_err_and}
 use Rattle.lrat_text.specs.Runs.{text_of}
 use Rattle.proof_join.specs.Fronts.{Front, Standing, appended, settled}
 use Rattle.proof_join.specs.Joining.{leaf_part}
@@ -24,31 +25,35 @@ put_leaf-requires-clause-begun c =
     let text = ap length c.behind.ensures in
     (omega arith, c.self.invariant.up, omega arith)
 
-pub returns-in-Err-clause-long : goal.returns-in-Err-clause-long
-returns-in-Err-clause-long c = λ is.
+pub returns-in_err-subtree-clause-long : goal.returns-in_err-subtree-clause-long
+returns-in_err-subtree-clause-long c =
+    let p = err_from_is_err_and c.from_residual.result c.from_residual.ensures.1 in
+    rw (p.1, p.2) (λ is.
     let f : Front = record { base = c.self.inside.base; count = c.self.inside.count; standing = record { text = c.self.inside.text; top = c.self.inside.top; finished = branches c.self.inside.finished.items } } in
     let more : List ℕ = text_of c.self.inside.top (leaf_part c.self.inside.base c.self.inside.top (steps_in c.args.fragment.now)).steps in
-    let long = too_long Subtree c.in-Err.fault c.put_leaf.new.writer.out (c.behind.result ++ more) is c.in-Err.ensures.text in
+    let long = too_long Subtree c.in_err-subtree.field-0.0 c.put_leaf.new.writer.out (c.behind.result ++ more) is c.in_err-subtree.ensures.text in
     let text = ap (λ (o : List ℕ). length (o ++ more)) c.behind.ensures in
     subst (λ (g : Front). 2 ^ 32 ≤ length (appended g c.args.cube.now (steps_in c.args.fragment.now)).standing.text) c.self.view_is
-    (goes_long (c.self.inside.text ++ more) (appended f c.args.cube.now (steps_in c.args.fragment.now)).standing.text (2 ^ 32) (appended_more f c.args.cube.now (steps_in c.args.fragment.now)) (omega arith))
+    (goes_long (c.self.inside.text ++ more) (appended f c.args.cube.now (steps_in c.args.fragment.now)).standing.text (2 ^ 32) (appended_more f c.args.cube.now (steps_in c.args.fragment.now)) (omega arith)))
 
-pub returns-in-Err-settle-clause-long : goal.returns-in-Err-settle-clause-long
-returns-in-Err-settle-clause-long c = λ is.
+pub returns-in_err-settle-clause-long : goal.returns-in_err-settle-clause-long
+returns-in_err-settle-clause-long c =
+    let p = err_from_is_err_and c.from_residual-in_err-settle.result c.from_residual-in_err-settle.ensures.1 in
+    rw (p.1, p.2) (λ is.
     let f : Front = record { base = c.self.inside.base; count = c.self.inside.count; standing = record { text = c.self.inside.text; top = c.self.inside.top; finished = branches c.self.inside.finished.items } } in
     let more : List ℕ = text_of c.self.inside.top (leaf_part c.self.inside.base c.self.inside.top (steps_in c.args.fragment.now)).steps in
-    let whole : Standing = settled c.args.cube.now (length c.args.cube.now) c.put_leaf.new.writer.out c.put_leaf.new.writer.top c.in-Ok.subtree.id c.in-Ok.subtree.clause.items (branches c.self.inside.finished.items) in
-    let step : whole ≡ (appended f c.args.cube.now (steps_in c.args.fragment.now)).standing = leaf_step f c.args.cube.now (steps_in c.args.fragment.now) c.put_leaf.new.writer.out c.put_leaf.new.writer.top c.in-Ok.subtree.id c.in-Ok.subtree.clause.items
-    (c.in-Ok.ensures.text.0 ∙ ap (λ (o : List ℕ). o ++ more) c.behind.ensures) c.in-Ok.ensures.top c.in-Ok.ensures.subtree.0 c.in-Ok.ensures.subtree.1 in
+    let whole : Standing = settled c.args.cube.now (length c.args.cube.now) c.put_leaf.new.writer.out c.put_leaf.new.writer.top c.in_ok-subtree.subtree.id c.in_ok-subtree.subtree.clause.items (branches c.self.inside.finished.items) in
+    let step : whole ≡ (appended f c.args.cube.now (steps_in c.args.fragment.now)).standing = leaf_step f c.args.cube.now (steps_in c.args.fragment.now) c.put_leaf.new.writer.out c.put_leaf.new.writer.top c.in_ok-subtree.subtree.id c.in_ok-subtree.subtree.clause.items
+    (c.in_ok-subtree.ensures.text.0 ∙ ap (λ (o : List ℕ). o ++ more) c.behind.ensures) c.in_ok-subtree.ensures.top c.in_ok-subtree.ensures.subtree.0 c.in_ok-subtree.ensures.subtree.1 in
     subst (λ (g : Front). 2 ^ 32 ≤ length (appended g c.args.cube.now (steps_in c.args.fragment.now)).standing.text) c.self.view_is
-    (subst (λ (s : Standing). 2 ^ 32 ≤ length s.text) step (too_long (Unit {0}) c.in-Err-settle.fault c.settle.new.growing.writer.out whole.text is c.in-Err-settle.ensures.text))
+    (subst (λ (s : Standing). 2 ^ 32 ≤ length s.text) step (too_long (Unit {0}) c.in_err-settle.field-0.0 c.settle.new.growing.writer.out whole.text is c.in_err-settle.ensures.text)))
 
 pub returns-clause-appended : goal.returns-clause-appended
 returns-clause-appended c =
     let f : Front = record { base = c.self.inside.base; count = c.self.inside.count; standing = record { text = c.self.inside.text; top = c.self.inside.top; finished = branches c.self.inside.finished.items } } in
     let more : List ℕ = text_of c.self.inside.top (leaf_part c.self.inside.base c.self.inside.top (steps_in c.args.fragment.now)).steps in
-    let whole : Standing = settled c.args.cube.now (length c.args.cube.now) c.put_leaf.new.writer.out c.put_leaf.new.writer.top c.in-Ok.subtree.id c.in-Ok.subtree.clause.items (branches c.self.inside.finished.items) in
-    let step : whole ≡ (appended f c.args.cube.now (steps_in c.args.fragment.now)).standing = leaf_step f c.args.cube.now (steps_in c.args.fragment.now) c.put_leaf.new.writer.out c.put_leaf.new.writer.top c.in-Ok.subtree.id c.in-Ok.subtree.clause.items
-    (c.in-Ok.ensures.text.0 ∙ ap (λ (o : List ℕ). o ++ more) c.behind.ensures) c.in-Ok.ensures.top c.in-Ok.ensures.subtree.0 c.in-Ok.ensures.subtree.1 in
-    made_appended f c.args.cube.now (steps_in c.args.fragment.now) c.settle.new.growing.writer.out c.into_text.result c.settle.new.growing.writer.top (branches c.settle.new.growing.finished.items) c.into_text.ensures (c.in-Ok-settle.ensures.standing ∙ step)
+    let whole : Standing = settled c.args.cube.now (length c.args.cube.now) c.put_leaf.new.writer.out c.put_leaf.new.writer.top c.in_ok-subtree.subtree.id c.in_ok-subtree.subtree.clause.items (branches c.self.inside.finished.items) in
+    let step : whole ≡ (appended f c.args.cube.now (steps_in c.args.fragment.now)).standing = leaf_step f c.args.cube.now (steps_in c.args.fragment.now) c.put_leaf.new.writer.out c.put_leaf.new.writer.top c.in_ok-subtree.subtree.id c.in_ok-subtree.subtree.clause.items
+    (c.in_ok-subtree.ensures.text.0 ∙ ap (λ (o : List ℕ). o ++ more) c.behind.ensures) c.in_ok-subtree.ensures.top c.in_ok-subtree.ensures.subtree.0 c.in_ok-subtree.ensures.subtree.1 in
+    made_appended f c.args.cube.now (steps_in c.args.fragment.now) c.settle.new.growing.writer.out c.into_text.result c.settle.new.growing.writer.top (branches c.settle.new.growing.finished.items) c.into_text.ensures (c.in_ok-settle.ensures.standing ∙ step)
     ∙ ap (λ (g : Front). appended g c.args.cube.now (steps_in c.args.fragment.now)) c.self.view_is

@@ -1,4 +1,5 @@
 use Rattle.std.proofs.Common.{◌+◌, ◌≤◌, List, [], length, take, get_or, refl, arith, ap, sym, subst}
+use Rattle.std.proofs.lemmas.Result.{err_from_is_err_and}
 use Rattle.icnf.specs.Leaves.{Cube}
 use Rattle.lrat_text.specs.Log.{Closes}
 use Rattle.cube_split.specs.Definitions.{base_with}
@@ -30,13 +31,15 @@ advance-requires-clause-closes c =
 pub loop-place-preserved : goal.loop-place-preserved
 loop-place-preserved c =
     let each = close_length (base_with c.args.formula.now c.args.preamble.now.pairs) c.args.tree.now c.args.fragments.now c.requires.closed in
-    let now : IsFrontOf c.args.formula.now c.args.preamble.now.pairs (take (c.loop-place.place + 1) c.args.tree.now) (take (c.loop-place.place + 1) c.args.fragments.now) c.in-Ok.more =
-    front_next c.args.formula.now c.args.preamble.now.pairs c.args.tree.now c.args.fragments.now c.loop-place.place c.loop-place.joining c.in-Ok.more c.cube.result.now c.text_at.result.now c.loop-place.invariant.front
-    (omega arith) (omega arith) c.cube.ensures.cube c.text_at.ensures c.in-Ok.ensures.appended in
-    record { count = front_count c.args.formula.now c.args.preamble.now.pairs c.args.tree.now c.args.fragments.now (c.loop-place.place + 1) c.in-Ok.more now (omega arith); front = now }
+    let now : IsFrontOf c.args.formula.now c.args.preamble.now.pairs (take (c.loop-place.place + 1) c.args.tree.now) (take (c.loop-place.place + 1) c.args.fragments.now) c.in_ok-joining.joining =
+    front_next c.args.formula.now c.args.preamble.now.pairs c.args.tree.now c.args.fragments.now c.loop-place.place c.loop-place.joining c.in_ok-joining.joining c.cube.result.now c.text_at.result.now c.loop-place.invariant.front
+    (omega arith) (omega arith) c.cube.ensures.cube c.text_at.ensures c.in_ok-joining.ensures.appended in
+    record { count = front_count c.args.formula.now c.args.preamble.now.pairs c.args.tree.now c.args.fragments.now (c.loop-place.place + 1) c.in_ok-joining.joining now (omega arith); front = now }
 
-pub returns-in-Err-clause-long : goal.returns-in-Err-clause-long
-returns-in-Err-clause-long c = λ is text j.
+pub returns-in_err-joining-clause-long : goal.returns-in_err-joining-clause-long
+returns-in_err-joining-clause-long c =
+    let p = err_from_is_err_and c.from_residual.result c.from_residual.ensures.1 in
+    rw (p.1, p.2) (λ is text j.
     let few : length c.args.preamble.now.pairs ≤ 64 = omega (arith, c.pairs.ensures.limit, ap (λ (ps : List Pair). length ps) c.pairs.ensures.value) in
     let lead : IsPreamble c.args.formula.now (base_with c.args.formula.now c.args.preamble.now.pairs) (preamble_steps c.args.formula.now c.args.preamble.now.pairs) = definitions_lead c.args.formula.now c.args.preamble.now.pairs c.vars.ensures.valid c.requires.pairs few in
     let each = close_length (base_with c.args.formula.now c.args.preamble.now.pairs) c.args.tree.now c.args.fragments.now c.requires.closed in
@@ -44,7 +47,7 @@ returns-in-Err-clause-long c = λ is text j.
     let now : IsFrontOf c.args.formula.now c.args.preamble.now.pairs (take (c.loop-place.place + 1) c.args.tree.now) (take (c.loop-place.place + 1) c.args.fragments.now) next =
     front_next c.args.formula.now c.args.preamble.now.pairs c.args.tree.now c.args.fragments.now c.loop-place.place c.loop-place.joining next c.cube.result.now c.text_at.result.now c.loop-place.invariant.front
     (omega arith) (omega arith) c.cube.ensures.cube c.text_at.ensures refl in
-    front_long c.args.formula.now c.args.preamble.now.pairs c.args.tree.now c.args.fragments.now c.leaves.ensures.valid.leaves c.requires.closed lead (c.loop-place.place + 1) next now (c.in-Err.ensures.long is) text j
+    front_long c.args.formula.now c.args.preamble.now.pairs c.args.tree.now c.args.fragments.now c.leaves.ensures.valid.leaves c.requires.closed lead (c.loop-place.place + 1) next now (c.in_err-joining.ensures.long is) text j)
 
 pub returns-clause-joined : goal.returns-clause-joined
 returns-clause-joined c =

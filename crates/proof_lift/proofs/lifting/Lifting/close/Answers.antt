@@ -26,8 +26,8 @@ returns-in_default-clause-closed c =
     nothing_found c.args.self.now
     (subst (λ (q : Cube). GivesHints T q None) c.deref.ensures.value (subst (λ (o : Option (Vec ℕ)). GivesHints T c.deref.result.now o) c.in_default.is c.in_ok-hints.ensures))
 
-pub returns-in-Ok-clause-closed : goal.returns-in-Ok-clause-closed
-returns-in-Ok-clause-closed c =
+pub returns-clause-closed : goal.returns-clause-closed
+returns-clause-closed c =
     let old = c.args.self.now in
     let hints = c.in-Some.hints.items in
     let found : GivesHints (stands_of old.images) c.deref.result.now (Some c.in-Some.hints)
@@ -37,5 +37,5 @@ returns-in-Ok-clause-closed c =
       hints = hints;
       limits = ((omega arith, omega arith), All-nil (IsWithin 2000000), found.numbers, All-nil IsGroup);
       writes = subst (λ (gs : List Group). WritesAs (lift_addition old.cube.items (state_of old) (old.top + 1) [] hints gs) old.own (state_of c.add.new.self) c.args.out.now.items c.add.new.out.items) c.new-groups.ensures
-          (subst (λ (hs : List ℕ). WritesAs (lift_addition old.cube.items (state_of old) (old.top + 1) [] hs c.new-groups.result) old.own (state_of c.add.new.self) c.args.out.now.items c.add.new.out.items) c.deref-2.ensures.value c.in-Ok.ensures.writes);
+          (subst (λ (hs : List ℕ). WritesAs (lift_addition old.cube.items (state_of old) (old.top + 1) [] hs c.new-groups.result) old.own (state_of c.add.new.self) c.args.out.now.items c.add.new.out.items) c.deref-2.ensures.value c.in_ok-add.ensures.writes);
     }

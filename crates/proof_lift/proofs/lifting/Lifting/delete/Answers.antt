@@ -20,15 +20,15 @@ pub returns-then-is_empty-clause-ready : goal.returns-then-is_empty-clause-ready
 returns-then-is_empty-clause-ready c =
     let old = c.args.self.now in
     let able = c.requires.ready.able in
-    let same = c.in-Ok.ensures.same in
-    let top = c.in-Ok.ensures.counts.0 in
-    let own = c.in-Ok.ensures.counts.1 in
+    let same = c.in_ok-remove.ensures.same in
+    let top = c.in_ok-remove.ensures.counts.0 in
+    let own = c.in_ok-remove.ensures.counts.1 in
     let below = able.below in
     let room = able.room in
     record {
       positive = omega arith;
       able = able_moves old _ able (record {
-        stands = λ n i D e. inl (deletion_less (stands_of old.images) c.args.ids.now n i D (sym (ap (λ (T : Stands). T n) c.in-Ok.ensures.stands) ∙ e));
+        stands = λ n i D e. inl (deletion_less (stands_of old.images) c.args.ids.now n i D (sym (ap (λ (T : Stands). T n) c.in_ok-remove.ensures.stands) ∙ e));
         cube = same.leaf.cube;
         live = same.live;
         marks = omega (arith, ap vec_len same.marks);
@@ -52,7 +52,7 @@ put_ref-requires-clause-limits c =
     let m = length old.images.formula.clauses in
     let able = c.requires.ready.able in
     let all = numbers_all m old.own T ids (λ n i D e. ((able.small n i D e).0, able.last n i D e)) in
-    subst (λ (ns : List ℕ). All IsClauseNumber ns) (sym (c.deref.ensures.value ∙ c.in-Ok.ensures.numbers)) (All-from_recursion IsClauseNumber _ (first_part old.own _ all))
+    subst (λ (ns : List ℕ). All IsClauseNumber ns) (sym (c.deref.ensures.value ∙ c.in_ok-remove.ensures.numbers)) (All-from_recursion IsClauseNumber _ (first_part old.own _ all))
 
 pub put_ref-requires-clause-numbered : goal.put_ref-requires-clause-numbered
 put_ref-requires-clause-numbered c =
@@ -64,8 +64,8 @@ put_ref-requires-clause-numbered c =
     let all = numbers_all m old.own T ids (λ n i D e. ((able.small n i D e).0, able.last n i D e)) in
     let numbers = c.remove.new.self.scratch.numbers in
     let apart : length numbers.items ≢ 0 = λ z. eqb-false (vec_len numbers) 0 (sym c.is_empty.ensures ∙ c.if-is_empty.false) (omega (arith, numbers.ok, z)) in
-    let some : 1 ≤ old.own = some_own old.own numbers.items (subst (λ (ns : List ℕ). AllByRecursion (λ i. IsClauseNumber i × (i ≤ old.own)) ns) (sym c.in-Ok.ensures.numbers) all) apart in
-    let own = c.in-Ok.ensures.counts.1 in
+    let some : 1 ≤ old.own = some_own old.own numbers.items (subst (λ (ns : List ℕ). AllByRecursion (λ i. IsClauseNumber i × (i ≤ old.own)) ns) (sym c.in_ok-remove.ensures.numbers) all) apart in
+    let own = c.in_ok-remove.ensures.counts.1 in
     let below = able.below in
     let room = able.room in
     (omega arith, omega arith)
@@ -75,9 +75,9 @@ returns-clause-writes c =
     let old = c.args.self.now in
     let numbers = c.remove.new.self.scratch.numbers in
     let apart : length numbers.items ≢ 0 = λ z. eqb-false (vec_len numbers) 0 (sym c.is_empty.ensures ∙ c.if-is_empty.false) (omega (arith, numbers.ok, z)) in
-    let counts = c.in-Ok.ensures.counts in
+    let counts = c.in_ok-remove.ensures.counts in
     deletion_text old.cube.items (length old.images.formula.clauses) (state_of old) (state_of c.remove.new.self) c.args.ids.now numbers.items c.args.out.now.items c.put_ref.new.out.items
-    c.in-Ok.ensures.live c.in-Ok.ensures.numbers c.in-Ok.ensures.stands counts.0 counts.1 counts.2
+    c.in_ok-remove.ensures.live c.in_ok-remove.ensures.numbers c.in_ok-remove.ensures.stands counts.0 counts.1 counts.2
     (c.in_ok-put_ref.ensures.ok
     ∙ ap (λ (n : ℕ). c.args.out.now.items ++ line_of n (Delete c.deref.result.now)) counts.1
     ∙ ap (λ (ns : List ℕ). c.args.out.now.items ++ line_of old.own (Delete ns)) c.deref.ensures.value
@@ -88,15 +88,15 @@ pub returns-clause-ready : goal.returns-clause-ready
 returns-clause-ready c =
     let old = c.args.self.now in
     let able = c.requires.ready.able in
-    let same = c.in-Ok.ensures.same in
-    let top = c.in-Ok.ensures.counts.0 in
-    let own = c.in-Ok.ensures.counts.1 in
+    let same = c.in_ok-remove.ensures.same in
+    let top = c.in_ok-remove.ensures.counts.0 in
+    let own = c.in_ok-remove.ensures.counts.1 in
     let below = able.below in
     let room = able.room in
     record {
       positive = omega arith;
       able = able_moves old _ able (record {
-        stands = λ n i D e. inl (deletion_less (stands_of old.images) c.args.ids.now n i D (sym (ap (λ (T : Stands). T n) c.in-Ok.ensures.stands) ∙ e));
+        stands = λ n i D e. inl (deletion_less (stands_of old.images) c.args.ids.now n i D (sym (ap (λ (T : Stands). T n) c.in_ok-remove.ensures.stands) ∙ e));
         cube = same.leaf.cube;
         live = same.live;
         marks = omega (arith, ap vec_len same.marks);

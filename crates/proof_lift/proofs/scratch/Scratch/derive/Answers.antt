@@ -15,8 +15,8 @@ pub trim-requires-clause-chain : goal.trim-requires-clause-chain
 trim-requires-clause-chain c =
     let T = stands_of c.args.images.now in
     let A = marked c.deref_mut.result.now c.args.stamp in
-    let is = ap (λ (xs : List Link). from_there (passed_by T xs) (lift_walk T c.args.hints.now A)) (sym c.in_ok-chain.ensures.items) ∙ c.in-Ok.ensures.walk in
-    let fits = walk_fits (vec_len c.args.self.now.used) T c.args.hints.now A (passed_by T c.walk.new.chain.items) c.in-Ok.conflict.number c.in-Ok.conflict.clause.now c.requires.used is in
+    let is = ap (λ (xs : List Link). from_there (passed_by T xs) (lift_walk T c.args.hints.now A)) (sym c.in_ok-chain.ensures.items) ∙ c.in_ok-conflict.ensures.walk in
+    let fits = walk_fits (vec_len c.args.self.now.used) T c.args.hints.now A (passed_by T c.walk.new.chain.items) c.in_ok-conflict.conflict.number c.in_ok-conflict.conflict.clause.now c.requires.used is in
     subst (λ (n : ℕ). ChainFits n (passed_by T c.deref.result.now)) (sym c.deref_mut-2.ensures.len)
     (subst (λ (xs : List Link). ChainFits (vec_len c.args.self.now.used) (passed_by T xs)) (sym c.deref.ensures.value) fits.0)
 
@@ -24,6 +24,6 @@ pub trim-requires-clause-conflict : goal.trim-requires-clause-conflict
 trim-requires-clause-conflict c =
     let T = stands_of c.args.images.now in
     let A = marked c.deref_mut.result.now c.args.stamp in
-    let is = ap (λ (xs : List Link). from_there (passed_by T xs) (lift_walk T c.args.hints.now A)) (sym c.in_ok-chain.ensures.items) ∙ c.in-Ok.ensures.walk in
-    let fits = walk_fits (vec_len c.args.self.now.used) T c.args.hints.now A (passed_by T c.walk.new.chain.items) c.in-Ok.conflict.number c.in-Ok.conflict.clause.now c.requires.used is in
-    subst (λ (n : ℕ). FitsTable n c.in-Ok.conflict.clause.now) (sym c.deref_mut-2.ensures.len) fits.1
+    let is = ap (λ (xs : List Link). from_there (passed_by T xs) (lift_walk T c.args.hints.now A)) (sym c.in_ok-chain.ensures.items) ∙ c.in_ok-conflict.ensures.walk in
+    let fits = walk_fits (vec_len c.args.self.now.used) T c.args.hints.now A (passed_by T c.walk.new.chain.items) c.in_ok-conflict.conflict.number c.in_ok-conflict.conflict.clause.now c.requires.used is in
+    subst (λ (n : ℕ). FitsTable n c.in_ok-conflict.conflict.clause.now) (sym c.deref_mut-2.ensures.len) fits.1
