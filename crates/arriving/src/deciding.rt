@@ -34,12 +34,8 @@ impl Run {
             if self.is_over() {
                 return Ok(());
             }
-            match self.turn(links) {
-                Ok(true) => {}
-                Ok(false) => return Ok(()),
-                Err(error) => return Err(error),
-            }
-            if self.is_deserted() {
+            let goes_on = self.turn(links)?;
+            if !goes_on || self.is_deserted() {
                 return Ok(());
             }
         }
@@ -85,15 +81,8 @@ pub fn decide_of<A: Arrivals>(
     ensures each { OnceEach (A.link_count links.old) (A.link_count links.new) (A.refusal_count links.old) (A.refusal_count links.new) }
     ensures closes { IfOk result (λ r. EachCloses nobody (open_of r) (A.link_count links.old) (A.link_count links.new) (A.refusal_count links.old) (A.refusal_count links.new)) }
 {
-    let mut run = match Run::new(alloc, opened, tree, plan) {
-        Ok(run) => run,
-        Err(error) => return Err(error),
-    };
-    match run.go_on(links) {
-        Ok(()) => {
-            let _ = run.verdict(); // with it comes that it is right
-            Ok(run)
-        }
-        Err(error) => Err(error),
-    }
+    let mut run = Run::new(alloc, opened, tree, plan)?;
+    run.go_on(links)?;
+    let _ = run.verdict(); // with it comes that it is right
+    Ok(run)
 }

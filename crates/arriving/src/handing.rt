@@ -28,10 +28,9 @@ impl Run {
             if !self.has_link() {
                 return Ok(());
             }
-            match self.turn(links) {
-                Ok(true) => {}
-                Ok(false) => return Ok(()),
-                Err(error) => return Err(error),
+            let goes_on = self.turn(links)?;
+            if !goes_on {
+                return Ok(());
             }
         }
         Ok(())
@@ -47,10 +46,9 @@ impl Run {
             return Ok(());
         }
         // Time has gone by since the verdict, in which nobody was listened to.
-        match self.hear_next(links) {
-            Ok(true) => {}
-            Ok(false) => return Ok(()),
-            Err(error) => return Err(error),
+        let goes_on = self.hear_next(links)?;
+        if !goes_on {
+            return Ok(());
         }
         hear_all(&mut self.lines, self.tick);
         self.hand_on(links)

@@ -57,11 +57,14 @@ impl Run {
         ensures stuck { IfOk result (λ r. r.desk.coordinator.stuck ≡ false) }
         ensures links { IfOk result (λ r. r.lines.items ≡ []) }
     {
-        let made = Coordinator::of(alloc, opened, tree, plan.limit, plan.workers, plan.session);
-        let coordinator = match made {
-            Ok(coordinator) => coordinator,
-            Err(error) => return Err(error),
-        };
+        let coordinator = Coordinator::of(
+            alloc,
+            opened,
+            tree,
+            plan.limit,
+            plan.workers,
+            plan.session,
+        )?;
         Ok(Run {
             alloc,
             desk: Desk {
