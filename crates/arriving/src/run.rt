@@ -129,8 +129,7 @@ impl Run {
         hear_at(links, &mut self.desk, at, &mut self.lines, bytes)
     }
 
-    /// Takes what comes next; where nothing has come, a leaf is joined in the time that is waited, so that no link waits for a join.
-    /// Answers whether anything may come yet.
+    /// Takes what comes next; where nothing has come, a leaf is joined in the time that would be waited. Answers whether anything may come yet.
     pub(crate) fn hear_next<A: Arrivals>(&mut self, links: &mut A) -> Result<bool, AllocError>
         ensures formula { formula_of self.new ≡ formula_of self.old }
         ensures one { RoseBy 1 (A.call_count links.old) (A.call_count links.new) }
