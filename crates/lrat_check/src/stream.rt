@@ -37,11 +37,21 @@ fn take_piece(
 }
 
 /// What checks a proof's text that comes in pieces. It keeps no text but the line that is begun.
-#[derive(Drop)]
 pub struct StreamChecker {
     lines: LineChecker,
     begun: LineBuffer,
     fault: Option<CheckFault>,
+}
+
+// By hand, so that whoever owns a checker drops it by one call, and no proof there goes through its parts.
+impl Drop for StreamChecker {
+    fn drop(self) {
+        let StreamChecker {
+            lines: _,
+            begun: _,
+            fault: _,
+        } = self;
+    }
 }
 
 impl Model for StreamChecker {
