@@ -14,11 +14,21 @@ use std::alloc::{AllocError, Global};
 use std::marker::Model;
 
 /// A test of a solver's answer, which comes in pieces, against a formula.
-#[derive(Drop)]
 pub struct ModelCheck {
     alloc: Global,
     formula: Formula,
     reader: AnswerReader,
+}
+
+// By hand, so that whoever owns one drops it by one call, and no proof there goes through its parts.
+impl Drop for ModelCheck {
+    fn drop(self) {
+        let ModelCheck {
+            alloc: _,
+            formula: _,
+            reader: _,
+        } = self;
+    }
 }
 
 impl Model for ModelCheck {

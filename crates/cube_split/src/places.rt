@@ -20,13 +20,23 @@ pub(crate) struct Place {
 }
 
 /// The places of a formula's literals, clause behind clause.
-#[derive(Drop)]
 pub(crate) struct Places {
     pub places: Vec<Place>,
     /// By clause, its first place; and behind the last clause the number of places.
     pub starts: Vec<u32>,
     /// By literal, the place where it stands last, from 1; 0 where it stands nowhere.
     pub latest: Vec<u32>,
+}
+
+// By hand, so that whoever owns one drops it by one call, and no proof there goes through its parts.
+impl Drop for Places {
+    fn drop(self) {
+        let Places {
+            places: _,
+            starts: _,
+            latest: _,
+        } = self;
+    }
 }
 
 /// Appends the places of a clause. `last` says in which clause each variable stood last, from 1.

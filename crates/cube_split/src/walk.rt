@@ -22,7 +22,6 @@ use dimacs::{Formula, Lit, Var};
 use std::alloc::{AllocError, Global};
 
 /// The tables of a walk.
-#[derive(Drop)]
 pub(crate) struct Walk {
     pub places: Places,
     /// The variables that stand in clauses apart from the units.
@@ -36,6 +35,20 @@ pub(crate) struct Walk {
     pub counts: Vec<usize>,
     /// The level of the next literal.
     pub level: u32,
+}
+
+// By hand, so that whoever owns one drops it by one call, and no proof there goes through its parts.
+impl Drop for Walk {
+    fn drop(self) {
+        let Walk {
+            places: _,
+            variables: _,
+            marks: _,
+            closed: _,
+            counts: _,
+            level: _,
+        } = self;
+    }
 }
 
 /// By clause, whether it holds a literal that is marked: 1 or 0.

@@ -14,11 +14,21 @@ use std::marker::Model;
 /// A formula and the clauses that were added to it: units of pure literals, and definitions over new variables.
 ///
 /// It has at most 2,000,000 variables, 5,000,192 clauses and 51,000,448 literals.
-#[derive(Drop)]
 pub struct Base {
     vars: u32,
     literals: Vec<Lit>,
     places: Vec<u32>,
+}
+
+// By hand, so that whoever owns one drops it by one call, and no proof there goes through its parts.
+impl Drop for Base {
+    fn drop(self) {
+        let Base {
+            vars: _,
+            literals: _,
+            places: _,
+        } = self;
+    }
 }
 
 impl Model for Base {

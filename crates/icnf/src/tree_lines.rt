@@ -18,12 +18,23 @@ use std::alloc::{AllocError, Global};
 
 /// What is kept of the first lines of a text: how many they are, and from the header on how far the clauses agree with the formula's, and
 /// the cubes.
-#[derive(Drop)]
 pub(crate) struct TreeLines {
     pub(crate) alloc: Global,
     pub(crate) formula: Formula,
     pub(crate) count: u64,
     pub(crate) body: Option<TreeBody>,
+}
+
+// By hand, so that whoever owns one drops it by one call, and no proof there goes through its parts.
+impl Drop for TreeLines {
+    fn drop(self) {
+        let TreeLines {
+            alloc: _,
+            formula: _,
+            count: _,
+            body: _,
+        } = self;
+    }
 }
 
 /// Reads the line of this number, one behind the header or one up to it.
@@ -107,7 +118,7 @@ impl TreeLines {
             formula,
             count,
             body,
-            ..
+            alloc: _,
         } = self;
         match body {
             Some(body) => told_of(body.finish(&formula, count)),

@@ -16,10 +16,16 @@ use std::alloc::{AllocError, Global};
 /// What turns a LIDRUP text for the leaves of a tree, in their order, which comes piece by piece, into one log over the formula.
 ///
 /// The bytes of the log are handed out as they come. They are of use where `finish` answers `Ok` alone.
-#[derive(Drop)]
 pub struct LiftAll {
     pub(crate) tree: Tree,
     pub(crate) log: CubeLog,
+}
+
+// By hand, so that whoever owns one drops it by one call, and no proof there goes through its parts.
+impl Drop for LiftAll {
+    fn drop(self) {
+        let LiftAll { tree: _, log: _ } = self;
+    }
 }
 
 /// Appends the line of a leaf, by its place, from 0.

@@ -37,7 +37,6 @@ pub(crate) enum Reading {
 ///
 /// The bytes of the proof are handed out as they come. The lines of a log up to its fault are right lines: they stay, and what they
 /// leave is deleted, so that nothing is taken back.
-#[derive(Drop)]
 pub struct Join {
     alloc: Global,
     formula: Formula,
@@ -45,6 +44,19 @@ pub struct Join {
     /// The line that is begun.
     begun: LineBuffer,
     pub(crate) reading: Reading,
+}
+
+// By hand, so that whoever owns one drops it by one call, and no proof there goes through its parts.
+impl Drop for Join {
+    fn drop(self) {
+        let Join {
+            alloc: _,
+            formula: _,
+            lines: _,
+            begun: _,
+            reading: _,
+        } = self;
+    }
 }
 
 /// Whether a text that begins so is a solver's answer: no line of a log begins with these letters.

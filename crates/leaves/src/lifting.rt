@@ -21,10 +21,16 @@ use std::alloc::{AllocError, Global};
 /// What lifts a foreign proof of the formula of a leaf, which comes piece by piece, to a log over the formula that closes the leaf.
 ///
 /// The bytes of the log are handed out as they come. They are of use where `finish` answers `Ok` alone.
-#[derive(Drop)]
 pub struct Lift {
     pub(crate) lifter: Lifter,
     pub(crate) out: Vec<u8>,
+}
+
+// By hand, so that whoever owns one drops it by one call, and no proof there goes through its parts.
+impl Drop for Lift {
+    fn drop(self) {
+        let Lift { lifter: _, out: _ } = self;
+    }
 }
 
 /// No byte was taken of a proof of the formula under this cube.

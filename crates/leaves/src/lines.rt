@@ -18,11 +18,21 @@ pub(crate) enum LineFault {
 }
 
 /// What checks the lines of logs, what writes them, and the bytes that are not yet handed out.
-#[derive(Drop)]
 pub(crate) struct Lines {
     pub(crate) checker: LogChecker,
     pub(crate) gatherer: Gatherer,
     pub(crate) out: Vec<u8>,
+}
+
+// By hand, so that whoever owns one drops it by one call, and no proof there goes through its parts.
+impl Drop for Lines {
+    fn drop(self) {
+        let Lines {
+            checker: _,
+            gatherer: _,
+            out: _,
+        } = self;
+    }
 }
 
 impl TakesLines for Lines {

@@ -137,12 +137,18 @@ fn refill(tail: &mut Vec<u8>, block: &[u8], count: usize)
 
 /// A text, two characters a byte as far as it has those of lines: half the room of a text. Any bytes are held, and where another one comes
 /// those from its block on lie as they are.
-#[derive(Drop)]
 pub struct PackedText {
     /// Two characters each.
     pairs: Rope,
     /// What stands behind them.
     tail: Vec<u8>,
+}
+
+// By hand, so that whoever owns one drops it by one call, and no proof there goes through its parts.
+impl Drop for PackedText {
+    fn drop(self) {
+        let PackedText { pairs: _, tail: _ } = self;
+    }
 }
 
 impl Model for PackedText {

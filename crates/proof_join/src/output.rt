@@ -16,12 +16,22 @@ use std::marker::Model;
 
 /// The text so far, packed. It lies in the blocks of another one as far as it is the same: the joined text of a tree with one leaf is
 /// mostly the leaf's fragment.
-#[derive(Drop)]
 pub(crate) struct Output<'t> {
     text: PackedText,
     like: Option<&'t PackedText>,
     /// The line that is put, so that its room is taken once.
     line: Vec<u8>,
+}
+
+// By hand, so that whoever owns one drops it by one call, and no proof there goes through its parts.
+impl Drop for Output<'_> {
+    fn drop(self) {
+        let Output {
+            text: _,
+            like: _,
+            line: _,
+        } = self;
+    }
 }
 
 impl<'t> Model for Output<'t> {
@@ -74,7 +84,11 @@ impl<'t> Output<'t> {
     pub(crate) fn into_text(self) -> PackedText
         ensures { result ≡ self.entry }
     {
-        let Output { text, .. } = self;
+        let Output {
+            text,
+            like: _,
+            line: _,
+        } = self;
         text
     }
 }

@@ -25,7 +25,6 @@ struct Live<'a> {
 }
 
 /// What is true by now, and how many literals of each clause are not false.
-#[derive(Drop)]
 struct Propagation {
     /// How many literals of each clause are not false, repeats aside.
     free: Vec<usize>,
@@ -38,6 +37,21 @@ struct Propagation {
     trail: Vec<Lit>,
     /// The numbers of the clauses that were unit, and of one that is false.
     order: Vec<u64>,
+}
+
+// By hand, so that whoever owns one drops it by one call, and no proof there goes through its parts.
+impl Drop for Propagation {
+    fn drop(self) {
+        let Propagation {
+            free: _,
+            occurrences: _,
+            first: _,
+            seen: _,
+            truth: _,
+            trail: _,
+            order: _,
+        } = self;
+    }
 }
 
 /// The literals that stand for the clause of a number.
@@ -211,6 +225,20 @@ impl Propagation {
         }
         Ok(false)
     }
+
+    /// The numbers of the clauses that were unit, and of one that is false, in turn.
+    fn into_order(self) -> Vec<u64> {
+        let Propagation {
+            order,
+            free: _,
+            occurrences: _,
+            first: _,
+            seen: _,
+            truth: _,
+            trail: _,
+        } = self;
+        order
+    }
 }
 
 /// The numbers of clauses that unit propagation under the cube meets in turn, each unit by then, up to one that is false, if one is.
@@ -226,6 +254,5 @@ pub(crate) fn propagation_order(
     let mut propagation = Propagation::new(alloc, places)?;
     propagation.note_all(live)?;
     let _ = propagation.run(live, cube)?;
-    let Propagation { order, .. } = propagation;
-    Ok(order)
+    Ok(propagation.into_order())
 }

@@ -22,12 +22,22 @@ pub(crate) enum Image<'a> {
 }
 
 /// What stands for the live clauses. The formula's are held once and never copied.
-#[derive(Drop)]
 pub(crate) struct Images {
     pub(crate) formula: Formula,
     /// Which clauses of the leaf's formula are live, by their numbers.
     pub(crate) live: Vec<bool>,
     pub(crate) lemmas: Lemmas,
+}
+
+// By hand, so that whoever owns one drops it by one call, and no proof there goes through its parts.
+impl Drop for Images {
+    fn drop(self) {
+        let Images {
+            formula: _,
+            live: _,
+            lemmas: _,
+        } = self;
+    }
 }
 
 /// So many clauses are live, numbered from 1.

@@ -33,7 +33,6 @@ pub(crate) struct Lemma<'a> {
 }
 
 /// What is known between two steps.
-#[derive(Drop)]
 pub(crate) struct Lifting {
     pub(crate) alloc: Global,
     pub(crate) images: Images,
@@ -45,6 +44,21 @@ pub(crate) struct Lifting {
     /// Whether the empty lemma was lifted.
     pub(crate) closed: bool,
     pub(crate) scratch: Scratch,
+}
+
+// By hand, so that whoever owns one drops it by one call, and no proof there goes through its parts.
+impl Drop for Lifting {
+    fn drop(self) {
+        let Lifting {
+            alloc: _,
+            images: _,
+            cube: _,
+            top: _,
+            own: _,
+            closed: _,
+            scratch: _,
+        } = self;
+    }
 }
 
 /// Tables with a place for each literal of the formula and the cube.

@@ -1,5 +1,6 @@
 //! The lines that stay, under the numbers that they get.
 
+ghost use Rattle.std.specs.Prelude.{◌≡◌};
 ghost use Rattle.lrat_text.specs.Grammar.{IsStep};
 ghost use Rattle.lrat_text.specs.Steps.{step_of};
 
@@ -11,7 +12,6 @@ use std::alloc::{AllocError, Global};
 use std::marker::Model;
 
 /// The text so far.
-#[derive(Drop)]
 struct Rewriter {
     out: PackedText,
     /// What a line is written in before it is packed.
@@ -21,6 +21,19 @@ struct Rewriter {
     /// What a line's numbers are changed in.
     numbers: Vec<u64>,
     groups: Groups,
+}
+
+// By hand, so that whoever owns one drops it by one call, and no proof there goes through its parts.
+impl Drop for Rewriter {
+    fn drop(self) {
+        let Rewriter {
+            out: _,
+            written: _,
+            top: _,
+            numbers: _,
+            groups: _,
+        } = self;
+    }
 }
 
 impl Model for Rewriter {
@@ -35,6 +48,20 @@ impl Model for Rewriter {
 }
 
 impl Rewriter {
+    /// The text.
+    fn into_text(self) -> PackedText
+        ensures { result ≡ self }
+    {
+        let Rewriter {
+            out,
+            written: _,
+            top: _,
+            numbers: _,
+            groups: _,
+        } = self;
+        out
+    }
+
     /// Appends a step's line, if it stays.
     fn put(&mut self, needs: &Needs, step: StepRef<'_>) -> Result<(), AllocError>
         requires { IsStep (step_of step) }
@@ -110,6 +137,5 @@ pub(crate) fn rewrite(
             place = place.saturating_add(1);
         }
     }
-    let Rewriter { out, .. } = rewriter;
-    Ok(out)
+    Ok(rewriter.into_text())
 }

@@ -1,6 +1,6 @@
 //! The lines that stay, as the text of a proof.
 
-ghost use Rattle.std.specs.Prelude.{All, OnOk};
+ghost use Rattle.std.specs.Prelude.{◌≡◌, All, OnOk};
 ghost use Rattle.lrat_text.specs.Grammar.{IsStep, IsClauseNumber, IsGroup};
 ghost use Rattle.lrat_text.specs.Steps.{step_of};
 
@@ -49,7 +49,6 @@ fn keep_groups(kept: Kept<'_>, groups: &Groups, out: &mut Groups) -> Result<(), 
 }
 
 /// The text so far.
-#[derive(Drop)]
 struct Rewriter {
     out: PackedText,
     /// What a line is written in before it is packed.
@@ -59,6 +58,19 @@ struct Rewriter {
     /// What parts of a line are chosen in.
     numbers: Vec<u64>,
     groups: Groups,
+}
+
+// By hand, so that whoever owns one drops it by one call, and no proof there goes through its parts.
+impl Drop for Rewriter {
+    fn drop(self) {
+        let Rewriter {
+            out: _,
+            written: _,
+            top: _,
+            numbers: _,
+            groups: _,
+        } = self;
+    }
 }
 
 impl Model for Rewriter {
@@ -73,6 +85,20 @@ impl Model for Rewriter {
 }
 
 impl Rewriter {
+    /// The text.
+    fn into_text(self) -> PackedText
+        ensures { result ≡ self }
+    {
+        let Rewriter {
+            out,
+            written: _,
+            top: _,
+            numbers: _,
+            groups: _,
+        } = self;
+        out
+    }
+
     /// Appends a step's line, without what goes.
     fn put(&mut self, kept: Kept<'_>, step: StepRef<'_>) -> Result<(), AllocError>
         requires { IsStep (step_of step) }
@@ -159,6 +185,5 @@ pub(crate) fn rewrite(
             }
         }
     }
-    let Rewriter { out, .. } = rewriter;
-    Ok(out)
+    Ok(rewriter.into_text())
 }

@@ -46,7 +46,6 @@ fn trim_accepted(alloc: Global, formula: Formula, proof: PackedText) -> Result<T
 }
 
 /// What trims a proof that comes in pieces. It checks each piece as it comes, and holds the text packed, in half its room.
-#[derive(Drop)]
 pub struct Trimming {
     alloc: Global,
     formula: Formula,
@@ -54,6 +53,19 @@ pub struct Trimming {
     text: PackedText,
     /// Whether there was no memory for a piece.
     is_cut: bool,
+}
+
+// By hand, so that whoever owns one drops it by one call, and no proof there goes through its parts.
+impl Drop for Trimming {
+    fn drop(self) {
+        let Trimming {
+            alloc: _,
+            formula: _,
+            checker: _,
+            text: _,
+            is_cut: _,
+        } = self;
+    }
 }
 
 impl Model for Trimming {
@@ -114,7 +126,7 @@ impl Trimming {
             formula,
             checker,
             text,
-            ..
+            is_cut: _,
         } = self;
         // Its tables are given back before the other ones are made.
         drop(checker);

@@ -11,7 +11,6 @@ use dimacs::Lit;
 /// The store of places, and the clauses that own them, two places each behind the first `base`, which are the heads of the chains.
 /// `starts` has for each clause the place at which the next look for another literal to watch begins, and `head` is how many
 /// literals of the trail were worked through. Where the chains are `stale`, they are those of clauses that are no longer all there.
-#[derive(Drop)]
 pub(crate) struct Chains {
     pub(crate) places: Vec<Place>,
     pub(crate) clauses: Vec<Ref>,
@@ -19,6 +18,20 @@ pub(crate) struct Chains {
     pub(crate) base: usize,
     pub(crate) head: usize,
     pub(crate) stale: bool,
+}
+
+// By hand, so that whoever owns one drops it by one call, and no proof there goes through its parts.
+impl Drop for Chains {
+    fn drop(self) {
+        let Chains {
+            places: _,
+            clauses: _,
+            starts: _,
+            base: _,
+            head: _,
+            stale: _,
+        } = self;
+    }
 }
 
 impl Chains {
