@@ -1,10 +1,11 @@
 -- The items of the v lines that are left.
-use Rattle.std.proofs.Common.{◌≡◌, ℕ, ◌+◌, ◌<◌, ◌≤◌, Bool, true, false, List, [], ◌∷◌, ◌++◌, length, drop, drop-cons, refl, add-one, codes}
+use Rattle.std.proofs.Common.{◌≡◌, ℕ, ◌+◌, ◌<◌, ◌≤◌, Bool, true, false, List, [], ◌∷◌, ◌++◌, length, drop, drop-cons, refl, ap, ◌∙◌, add-one, append_assoc, codes}
 use Rattle.std.specs.Prelude.{if◌then◌else◌, slice_index_or, map}
 use Rattle.std.proofs.lemmas.List.{drop_all}
 use Rattle.std.specs.Fmt.{signed_decimal}
 use Rattle.dimacs.specs.logic.Literal.{Pos, Neg, number_of}
 use Rattle.dimacs.specs.text.Answer.{true_literals}
+use Rattle.dimacs.specs.text.Spelling.{Begins}
 
 -- the items of the values from variable v on
 abbrev pub items_from : ℕ → List Bool → List (List ℕ)
@@ -25,3 +26,7 @@ items_step values i d h =
 -- behind the last value
 pub items_end : (values : List Bool) (i : ℕ) → length values ≤ i → items_from (i + 1) (drop i values) ≡ codes "0" ∷ []
 items_end values i h = rw (drop_all i values h) refl
+
+-- what begins with bytes that begin with others begins with those
+pub begins_on : (old between new : List ℕ) → Begins old between → Begins between new → Begins old new
+begins_on old between new (first, first_is) (more, is) = (first ++ more, is ∙ ap (λ xs. xs ++ more) first_is ∙ append_assoc old first more)

@@ -1,11 +1,11 @@
 -- What is written is spelled so.
-use Rattle.std.proofs.Common.{◌≡◌, ℕ, zero, suc, ◌+◌, ◌-◌, ◌*◌, ◌/◌, ◌%◌, ◌^◌, ◌<◌, ◌≤◌, true, false, eqb, List, [], ◌∷◌, ◌++◌, map, ℤ, pos, negsuc, nat_abs, Some, length, get_or, refl, sym, ap, ◌∙◌, arith, subst, append_assoc, codes, decimal}
+use Rattle.std.proofs.Common.{◌≡◌, ℕ, zero, suc, ◌+◌, ◌-◌, ◌*◌, ◌/◌, ◌%◌, ◌^◌, ◌<◌, ◌≤◌, true, false, eqb, List, [], ◌∷◌, ◌++◌, map, take, ℤ, pos, negsuc, nat_abs, Some, length, get_or, refl, sym, ap, ◌∙◌, arith, subst, append_assoc, append-nil, codes, decimal}
 use Rattle.std.specs.Fmt.{signed_decimal}
 use Rattle.std.specs.Char.{is_ascii_digit}
 use Rattle.std.specs.List.{flat_map, AllByRecursion, slice_split, filter}
 use Rattle.std.proofs.lemmas.Bool.{ne_eqb}
 use Rattle.std.proofs.lemmas.Bool.Decides.{nat_tests}
-use Rattle.std.proofs.lemmas.List.{map-append}
+use Rattle.std.proofs.lemmas.List.{map-append, take_all, take_more, flat_map_more}
 use Rattle.std.proofs.lemmas.List.Elements.{All-from_recursion}
 use Rattle.std.proofs.lemmas.List.Splits.{slice_split_at, slice_split_none}
 use Rattle.std.proofs.lemmas.Fmt.{decimal_by_steps, first_decimal, decimal_nonempty, decimal_digit}
@@ -15,7 +15,7 @@ use Rattle.dimacs.specs.text.Numbers.{number, natural, digits_from}
 use Rattle.dimacs.proofs.WithinLemmas.{EachWithin, each_within}
 use Rattle.dimacs.specs.text.Words.{words, words_of, lines, is_white, is_some_byte, is_comment}
 use Rattle.dimacs.specs.text.Rows.{AreRows}
-use Rattle.dimacs.specs.text.Spelling.{ended, AreClauses, IsHeader, Spells, clause_text, clause_line, header_text, spelling}
+use Rattle.dimacs.specs.text.Spelling.{ended, AreClauses, IsHeader, Spells, literal_text, clause_text, clause_line, header_text, spelling, Begins}
 use Rattle.dimacs.proofs.LiteralLemmas.{number_size}
 use Rattle.dimacs.proofs.NumberLemmas.{digits_append}
 
@@ -224,3 +224,33 @@ writing_spells f is =
     ap (map number) (clauses_words f.vars f.clauses is.vars within) ∙ numbers_back (flat_map ended f.clauses) (clauses_small f.vars f.clauses is.vars within) in
     let rows : AreRows (λ header. IsHeader header f) (λ tokens. AreClauses tokens f) (header_text f ∷ lines (flat_map clause_line f.clauses)) = rw (header_of f v c) (head, body) in
     (is, rw l rows)
+
+-- ---- what is written
+
+-- the next item is written behind those before it
+pub item_more : {X : Type 0} (f : X → List ℕ) (old items : List ℕ) (xs : List X) (i : ℕ) (x d : X) → i < length xs → x ≡ get_or xs i d → items ≡ old ++ flat_map f (take i xs) → items ++ f x ≡ old ++ flat_map f (take (i + 1) xs)
+item_more f old items xs i x d below is e =
+    ap (λ ys. ys ++ f x) e ∙ flat_map_more f old (take i xs) x ∙ ap (λ ys. old ++ flat_map f ys) (ap (λ y. take i xs ++ y ∷ []) is ∙ sym (take_more xs i d below))
+
+-- a clause's line, once all its literals are written
+pub line_end : (old items : List ℕ) (clause : Clause) (i : ℕ) → length clause ≤ i → items ≡ old ++ flat_map literal_text (take i clause) → items ++ codes "0\n" ≡ old ++ clause_line clause
+line_end old items clause i all e =
+    ap (λ xs. xs ++ codes "0\n") (e ∙ ap (λ ls. old ++ flat_map literal_text ls) (take_all i clause all))
+    ∙ append_assoc old (flat_map literal_text clause) (codes "0\n") ∙ ap (λ xs. old ++ xs) (sym (append_assoc (flat_map literal_text clause) (codes "0") (codes "\n")))
+
+-- the header's line, of the numbers that stand in it
+pub header_line_is : (old : List ℕ) (f : Cnf) (v c : ℕ) → v ≡ f.vars → c ≡ length f.clauses → old ++ (codes "p cnf " ++ decimal v ++ codes " " ++ decimal c ++ codes "\n") ≡ (old ++ (header_text f ++ codes "\n")) ++ []
+header_line_is old f v c e g = rw (e, g) (sym (append-nil (old ++ (header_text f ++ codes "\n"))))
+
+-- a formula's text, once all its clauses are written
+pub clauses_end : (old : List ℕ) (f : Cnf) (i : ℕ) → length f.clauses ≤ i → (old ++ (header_text f ++ codes "\n")) ++ flat_map clause_line (take i f.clauses) ≡ old ++ spelling f
+clauses_end old f i all = ap (λ cs. (old ++ (header_text f ++ codes "\n")) ++ flat_map clause_line cs) (take_all i f.clauses all) ∙ append_assoc old (header_text f ++ codes "\n") (flat_map clause_line f.clauses)
+
+-- what begins with what was written begins with the old bytes
+pub begins_behind : (old front rest items new : List ℕ) → items ≡ (old ++ front) ++ rest → Begins items new → Begins old new
+begins_behind old front rest items new e (more, is) =
+    (front ++ (rest ++ more), is ∙ ap (λ xs. xs ++ more) e ∙ append_assoc (old ++ front) rest more ∙ append_assoc old front (rest ++ more))
+
+-- five parts that are written one after the other
+pub five_parts : (old a b c d e v w x y z : List ℕ) → v ≡ old ++ a → w ≡ v ++ b → x ≡ w ++ c → y ≡ x ++ d → z ≡ y ++ e → z ≡ old ++ (a ++ b ++ c ++ d ++ e)
+five_parts old a b c d e v w x y z v_is w_is x_is y_is z_is = rw (z_is, y_is, x_is, w_is, v_is) (simp append_assoc)
