@@ -1,3 +1,4 @@
+pub mod NameLemmas
 pub mod RefusalLemmas
 pub mod RequestLemmas
 pub mod WordLemmas

@@ -1,6 +1,6 @@
 -- Why words give no request.
-use Rattle.std.proofs.Common.{◌≡◌, ◌⊎◌, inl, inr, List, [], ◌∷◌, refl, subst}
-use Rattle.clap.specs.Words.{App, IsAmong, Kinds, Text, fault_of}
+use Rattle.std.proofs.Common.{◌≡◌, ◌∙◌, ◌⊎◌, inl, inr, true, List, [], ◌∷◌, ap, refl, subst, sym}
+use Rattle.clap.specs.Words.{App, IsAmong, Kinds, Text, fault_of, is_simple_and_free}
 use Rattle.clap.specs.declared.error.kind.ErrorKind.{ErrorKind}
 use Rattle.clap.specs.declared.error.kind.ErrorKind.TheVariants as kind
 use Rattle.word_rules.specs.Parsing.{IsRefusalOf}
@@ -21,6 +21,11 @@ refusal_is app words k (Help text) (inr among) stands = subst (λ (x : ErrorKind
 refusal_is app words k Refused (inl memory) stands = absurd (stands.1 memory)
 refusal_is app words k Refused (inr among) stands = λ asks. stands.0 (no_help k (fault_of app words) asks among)
 refusal_is app words k NoMemory has stands = tt
+
+-- a parser that is what the rules say finds no fault where they find none
+pub finds_no_fault : (made app : App) (words : List Text) → made ≡ app → is_simple_and_free app ≡ true
+    → (is_simple_and_free made ≡ true → fault_of made words ≡ []) → fault_of app words ≡ []
+finds_no_fault made app words same simple none = sym (ap (λ (a : App). fault_of a words) same) ∙ none (ap is_simple_and_free same ∙ simple)
 
 -- words that are parsed ask for no help
 pub asks_no_help : (kinds : Kinds) → kinds ≡ [] → kinds ≡ kind.DisplayHelp ∷ [] → ⊥

@@ -1,6 +1,7 @@
 use Rattle.std.proofs.Common.{◌∙◌, map}
 use Rattle.command_line.proofs.RefusalLemmas.{asks_no_help, no_memory_is, refusal_is}
-use Rattle.command_line.proofs.WordLemmas.{some_is}
+use Rattle.command_line.proofs.RequestLemmas.{asks_of}
+use Rattle.command_line.proofs.WordLemmas.{none_is, some_is}
 use Rattle.std.proofs.Common.{subst, sym}
 use Rattle.command_line.specs.CommandLine.{IsRefusal}
 use Rattle.command_line.specs.declared.request.UsageFault.{UsageFault}
@@ -26,3 +27,8 @@ returns-in-Some-clause-asks c = record {
 -- words that were parsed ask for no help
 pub returns-clause-refused : goal.returns-clause-refused
 returns-clause-refused c = asks_no_help (map (λ w. w.now) c.args.words.now) c.in-Ok.ensures.taken
+
+-- where the name's rows make no request, the words ask for none
+pub returns-clause-complete : goal.returns-clause-complete
+returns-clause-complete c request taken asks =
+    absurd (none_is _ _ c.in-None.is c.in_ok-request.ensures.none request (asks_of (map (λ w. w.now) c.args.words.now) c.in-Ok.given.name c.in-Ok.given.rows request c.in-Ok.ensures.met asks))

@@ -43,3 +43,35 @@ returns-clause-found c =
       quiet_is = printing.quiet_is;
       witness_is = printing.witness_is;
     }
+
+pub returns-in_err-workers-clause-none : goal.returns-in_err-workers-clause-none
+returns-in_err-workers-clause-none c =
+    if_none c.from_residual.result _ (λ options names. c.in_err-workers.ensures.none options.workers names.workers_is)
+
+pub returns-in_err-limit-clause-none : goal.returns-in_err-limit-clause-none
+returns-in_err-limit-clause-none c =
+    if_none c.from_residual-in_err-limit.result _ (λ options names. c.in_err-limit.ensures.none options.limit names.limit_is)
+
+pub returns-in_err-session-clause-none : goal.returns-in_err-session-clause-none
+returns-in_err-session-clause-none c =
+    if_none c.from_residual-in_err-session.result _ (λ options names. c.in_err-session.ensures.none options.session names.session_is)
+
+pub returns-in_err-number-clause-none : goal.returns-in_err-number-clause-none
+returns-in_err-number-clause-none c =
+    if_none c.from_residual-in_err-number.result _ (λ options names. c.in_err-number.ensures.none options.number names.number_is)
+
+pub returns-clause-range : goal.returns-clause-range
+returns-clause-range c =
+    let workers = c.in_ok-workers.ensures.range in
+    let limit = c.in_ok-limit.ensures.range in
+    let number = c.in_ok-number.ensures.range in
+    record {
+      some_worker = workers.0;
+      few_workers = workers.1;
+      depth = c.in_ok-depth.ensures.range.1;
+      least = limit.0;
+      most = limit.1;
+      first_number = number.0;
+      last_number = number.1;
+      few_definitions = c.in_ok-defs.ensures.range.1;
+    }

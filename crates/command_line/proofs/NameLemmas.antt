@@ -1,0 +1,38 @@
+-- Which names make a request.
+use Rattle.std.proofs.Common.{◌≡◌, ◌∙◌, List, codes}
+use Rattle.clap.specs.Words.{Row, Text}
+use Rattle.command_line.specs.CommandLine.{Makes}
+use Rattle.command_line.specs.declared.request.Request.{Request}
+use Rattle.command_line.specs.declared.request.Request.TheVariants.{Check, Complete, Cubes, Drill, Join, Leaf, Lift, Model, Refute, Serve, Solve, Split, Trim, Work}
+
+-- the name is that of no command
+pub record IsNoCommand (name : Text) : Type 0 where
+  pub no_solve : name ≡ codes "solve" → ⊥
+  pub no_check : name ≡ codes "check" → ⊥
+  pub no_cubes : name ≡ codes "cubes" → ⊥
+  pub no_serve : name ≡ codes "serve" → ⊥
+  pub no_work : name ≡ codes "work" → ⊥
+  pub no_drill : name ≡ codes "drill" → ⊥
+  pub no_leaf : name ≡ codes "leaf" → ⊥
+  pub no_refute : name ≡ codes "refute" → ⊥
+  pub no_join : name ≡ codes "join" → ⊥
+  pub no_lift : name ≡ codes "lift" → ⊥
+  pub no_model : name ≡ codes "model" → ⊥
+  pub no_trim : name ≡ codes "trim" → ⊥
+
+-- such a name makes no request
+pub makes_none : (read name : Text) (rows : List Row) → read ≡ name → IsNoCommand read → (request : Request) → Makes name rows request → ⊥
+makes_none read name rows is none (Solve input cubes proof options) makes = none.no_solve (is ∙ makes.0)
+makes_none read name rows is none (Check input proof) makes = none.no_check (is ∙ makes.0)
+makes_none read name rows is none (Cubes input depth) makes = none.no_cubes (is ∙ makes.0)
+makes_none read name rows is none (Split input cubes leaf on) makes = none.no_cubes (is ∙ makes.0)
+makes_none read name rows is none (Complete input list) makes = none.no_cubes (is ∙ makes.0)
+makes_none read name rows is none (Serve port input cubes proof options) makes = none.no_serve (is ∙ makes.0)
+makes_none read name rows is none (Work port input proof options) makes = none.no_work (is ∙ makes.0)
+makes_none read name rows is none (Drill input seed turns) makes = none.no_drill (is ∙ makes.0)
+makes_none read name rows is none (Leaf input cubes leaf) makes = none.no_leaf (is ∙ makes.0)
+makes_none read name rows is none (Refute input cubes leaf to limit fragment printing) makes = none.no_refute (is ∙ makes.0)
+makes_none read name rows is none (Join input cubes proof fragments printing) makes = none.no_join (is ∙ makes.0)
+makes_none read name rows is none (Lift input cubes leaf lidrup proof fragment) makes = none.no_lift (is ∙ makes.0)
+makes_none read name rows is none (Model input output) makes = none.no_model (is ∙ makes.0)
+makes_none read name rows is none (Trim input proof out) makes = none.no_trim (is ∙ makes.0)
