@@ -1,9 +1,10 @@
 -- Heads: what is settled stays, and what a whole head says of the bytes.
-use Rattle.std.proofs.Common.{◌≡◌, ◌≢◌, ℕ, zero, suc, ◌<◌, ◌≤◌, Bool, true, false, cond, eqb, leb, ◌%◌, List, [], ◌∷◌, ◌++◌, length, drop, Option, Some, None, refl, sym, ap, subst, ◌∙◌, arith}
+use Rattle.std.proofs.Common.{◌≡◌, ◌≢◌, ℕ, zero, suc, ◌<◌, ◌≤◌, Bool, true, false, cond, eqb, leb, ◌%◌, List, [], ◌∷◌, ◌++◌, length, get_or, take, drop, ◌-◌, Option, Some, None, refl, sym, ap, subst, ◌∙◌, arith}
 use Rattle.std.specs.Int.{w16, to_be_bytes, from_be_bytes}
 use Rattle.std.proofs.lemmas.Nat.{be_bytes_2}
 use Rattle.std.specs.Prelude.{◌&&◌}
-use Rattle.std.proofs.lemmas.Bool.{eqb-true, leb-true}
+use Rattle.std.proofs.lemmas.Bool.{eq-eqb, eqb-true, leb-true}
+use Rattle.std.proofs.lemmas.List.{take_all}
 use Rattle.frames.specs.declared.fault.FrameFault.TheVariants.{BadMark, BadLength}
 use Rattle.frames.specs.declared.frame.Kind.{Kind}
 use Rattle.frames.specs.declared.frame.Kind.TheVariants as kinds
@@ -181,3 +182,23 @@ limit_of kinds.Want n e = omega (arith, eqb-true n 16 e)
 limit_of kinds.Part n e = omega (arith, leb-true n 4013 (both (leb 14 n) (leb n 4013) e).1)
 limit_of kinds.Idle n e = omega (arith, eqb-true n 12 e)
 limit_of kinds.Rest n e = omega (arith, eqb-true n 0 e)
+
+-- ---- the first byte, and what is read behind it
+
+behind_first : (b : ℕ) (bs : List ℕ) → bs ≡ take (length (b ∷ bs) - 1) bs
+behind_first b bs = sym (take_all (length (b ∷ bs) - 1) bs (omega arith))
+
+-- behind a mark the second one is read
+pub first_is_mark : (bytes : List ℕ) → 1 ≤ length bytes → get_or bytes 0 0 ≡ 67 → head_of bytes ≡ from_second_mark (take (length bytes - 1) (drop 1 bytes))
+first_is_mark [] some is = absurd (omega arith)
+first_is_mark (b ∷ bs) some is = ap (λ t. cond t (from_second_mark bs) (Wrong BadMark)) (eq-eqb b 67 is) ∙ ap from_second_mark (behind_first b bs)
+
+-- and behind that the kind
+pub second_is_mark : (bytes : List ℕ) → 1 ≤ length bytes → get_or bytes 0 0 ≡ 67 → from_second_mark bytes ≡ from_kind (take (length bytes - 1) (drop 1 bytes))
+second_is_mark [] some is = absurd (omega arith)
+second_is_mark (b ∷ bs) some is = ap (λ t. cond t (from_kind bs) (Wrong BadMark)) (eq-eqb b 67 is) ∙ ap from_kind (behind_first b bs)
+
+-- and behind that the length
+pub kind_read : (bytes : List ℕ) (kind : Option Kind) → 1 ≤ length bytes → kind ≡ kind_at (get_or bytes 0 0) → length_of_kind kind (take (length bytes - 1) (drop 1 bytes)) ≡ from_kind bytes
+kind_read [] kind some is = absurd (omega arith)
+kind_read (b ∷ bs) kind some is = ap (length_of_kind kind) (sym (behind_first b bs)) ∙ ap (λ (k : Option Kind). length_of_kind k bs) is

@@ -35,6 +35,10 @@ joined_split ps i p lt e =
 abbrev pub failing : FrameFault → Result (Unit {0}) FrameFault
 failing fault = Err fault
 
+-- an answer without a fault is not want of memory
+pub well_answered : (u : Unit {0}) → (let well : Result (Unit {0}) FrameFault = Ok u in well) ≢ failing NoMemory
+well_answered u = λ e. cc
+
 -- where a fault stops the reading, it is the stream's
 pub record Stops (fault : FrameFault) (all : List ℕ) (before after : List Frame) : Type 0 where
   pub new : List Frame
@@ -68,7 +72,7 @@ stops fault old new done piece rest all before mid after given frames taken whol
 
 -- ---- want of memory
 
-open_stream : (old : Progress) (bytes : List ℕ) (frames : List Frame) → answer_in old ≡ Ok tt → HasTaken old bytes frames → Stream bytes frames Open
+pub open_stream : (old : Progress) (bytes : List ℕ) (frames : List Frame) → answer_in old ≡ Ok tt → HasTaken old bytes frames → Stream bytes frames Open
 open_stream (Within rest) bytes frames well taken = (rest, taken.0, taken.1)
 open_stream (Failed g) bytes frames well taken = absurd cc
 

@@ -49,6 +49,16 @@ pub struct Hub<C> {
     has_accepted: bool,
 }
 
+/// Listens at a port of 127.0.0.1, and asks to be told when a connection waits there.
+fn listen<R: Net>(net: &R, port: u16) -> io::Result<(Poll, TcpListener)> {
+    let at = SocketAddr::from((Ipv4Addr::LOCALHOST, port));
+    let mut listener = TcpListener::bind(net, at)?;
+    let poll = Poll::new(net)?;
+    poll.registry()
+        .register(&mut listener, Token(LISTENER), Interest::READABLE)?;
+    Ok((poll, listener))
+}
+
 impl<C> Hub<C> {
     /// Listens at a port of 127.0.0.1, or at a free one where that is 0, with places for so many links. Whether it can, the operating system
     /// decides; an error is that of the listener, or want of memory.
@@ -63,11 +73,7 @@ impl<C> Hub<C> {
         C: Drop,
         ensures { IfOk result (λ h. links_of h ≡ replicate count false) }
     {
-        let at = SocketAddr::from((Ipv4Addr::LOCALHOST, port));
-        let mut listener = TcpListener::bind(net, at)?;
-        let poll = Poll::new(net)?;
-        poll.registry()
-            .register(&mut listener, Token(LISTENER), Interest::READABLE)?;
+        let (poll, listener) = listen(net, port)?;
         let events = Events::with_capacity(alloc, EVENTS)?;
         let ends = places(alloc, count)?;
         let ahead = Ahead::new(alloc)?;

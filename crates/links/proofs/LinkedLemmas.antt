@@ -1,6 +1,6 @@
 -- Workers that are linked, and one that is missing.
-use Rattle.std.proofs.Common.{◌≡◌, ℕ, zero, suc, ◌+◌, ◌-◌, ◌<◌, ◌≤◌, ◌⊎◌, inl, inr, Bool, true, false, not, List, length, map, get_or, set, Option, Some, is_some, refl, sym, ap, ◌∙◌, add-one, arith}
-use Rattle.std.proofs.lemmas.List.{get_or-map, get_or_past, length-map, map-set}
+use Rattle.std.proofs.Common.{◌≡◌, ℕ, zero, suc, ◌+◌, ◌-◌, ◌<◌, ◌≤◌, ◌⊎◌, inl, inr, Bool, true, false, not, List, [], ◌∷◌, ◌++◌, length, map, get_or, set, replicate, Option, Some, None, is_some, refl, sym, ap, ◌∙◌, add-one, arith}
+use Rattle.std.proofs.lemmas.List.{get_or-map, get_or_past, length-map, map-append, map-set, replicate-append-replicate}
 use Rattle.links.specs.Linked.{is_missing}
 
 twice : (b : Bool) → not (not b) ≡ b
@@ -24,3 +24,8 @@ none_missing es (suc place) count whole (inr beyond) =
 
 pub linked_at : {T : Type 0} (es : List (Option T)) (x : T) (worker place : ℕ) → worker ≡ place + 1 → map (λ e. is_some e) (set es place (Some x)) ≡ set (map (λ e. is_some e) es) (worker - 1) true
 linked_at es x worker place e = map-set (λ e. is_some e) es place (Some x) ∙ ap (λ n. set (map (λ e. is_some e) es) n true) (omega (arith, e))
+
+-- one more worker, who is not linked either
+pub none_linked : {T : Type 0} (es fs : List (Option T)) (n : ℕ) → map (λ e. is_some e) es ≡ replicate n false → fs ≡ es ++ None ∷ [] → map (λ e. is_some e) fs ≡ replicate (n + 1) false
+none_linked es fs n before more =
+    ap (map (λ e. is_some e)) more ∙ map-append (λ e. is_some e) es (None ∷ []) ∙ ap (λ l. l ++ false ∷ []) before ∙ replicate-append-replicate n 1 false

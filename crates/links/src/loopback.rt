@@ -27,7 +27,27 @@ pub struct Loopback<S> {
 /// How many connections are accepted until the worker's own one comes.
 const TRIES: u32 = 128;
 
-/// Connects a worker to the listener. What another process connects meanwhile is dropped. No small packet waits for the next.
+/// Accepts a connection, and keeps it if it comes from there. No small packet waits for the next.
+fn accept_own<R: Net>(listener: &R::Listener, own: SocketAddr) -> io::Result<Option<R::Stream>> {
+    let (stream, from) = listener.accept()?;
+    if from != own {
+        return Ok(None);
+    }
+    stream.set_nodelay(true)?;
+    Ok(Some(stream))
+}
+
+/// Accepts the worker's own connection. What another process connects meanwhile is dropped.
+fn await_own<R: Net>(listener: &R::Listener, own: SocketAddr) -> io::Result<R::Stream> {
+    for _ in 0..TRIES {
+        if let Some(stream) = accept_own::<R>(listener, own)? {
+            return Ok(stream);
+        }
+    }
+    Err(io::Error::from(io::ErrorKind::ConnectionRefused))
+}
+
+/// Connects a worker to the listener.
 fn connect_pair<R: Net>(
     net: &R,
     listener: &R::Listener,
@@ -35,17 +55,11 @@ fn connect_pair<R: Net>(
 ) -> io::Result<Pair<R::Stream>> {
     let worker = connect(net, at)?;
     let own = worker.local_addr()?;
-    for _ in 0..TRIES {
-        let (coordinator, from) = listener.accept()?;
-        if from == own {
-            coordinator.set_nodelay(true)?;
-            return Ok(Pair {
-                coordinator,
-                worker,
-            });
-        }
-    }
-    Err(io::Error::from(io::ErrorKind::ConnectionRefused))
+    let coordinator = await_own::<R>(listener, own)?;
+    Ok(Pair {
+        coordinator,
+        worker,
+    })
 }
 
 impl<S> Loopback<S> {

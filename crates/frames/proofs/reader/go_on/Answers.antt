@@ -1,7 +1,7 @@
 use Rattle.std.proofs.Common.{sym, subst}
 use Rattle.std.proofs.lemmas.Result.{err_from_is_err_and}
-use Rattle.frames.specs.Stream.{Ends, Fault, Begins}
-use Rattle.frames.proofs.FillingLemmas.{filled_fault, filled_frame}
+use Rattle.frames.specs.Stream.{Ends, Fault, Open, Begins}
+use Rattle.frames.proofs.FillingLemmas.{filled_fault, filled_frame, filled_front, filled_open}
 use Rattle.frames.proofs.reader.go_on.Goals as goal
 
 pub returns-in_err-first-clause-found : goal.returns-in_err-first-clause-found
@@ -17,3 +17,19 @@ returns-in-Some-clause-found c =
     let found = rw c.in-Some.is at c.in_ok-first.ensures.first in
     let begins : Begins b2 c.in-Some.frame c.in-Some.field-0-1.now = subst (λ b. Begins b c.in-Some.frame c.in-Some.field-0-1.now) c.deref.ensures.value found in
     subst (Begins _ c.in-Some.frame) (sym c.split_at.ensures.back) (filled_frame c.args.buffer.now.items c.args.piece.now b2 c.fill-taken.result c.in-Some.frame c.in-Some.field-0-1.now c.fill-taken.ensures.fills begins)
+
+pub returns-in_err-first-clause-front : goal.returns-in_err-first-clause-front
+returns-in_err-first-clause-front c = filled_front c.args.buffer.now.items c.args.piece.now c.fill-taken.new.buffer.items c.fill-taken.result c.fill-taken.ensures.fills
+
+pub returns-in-None-clause-found : goal.returns-in-None-clause-found
+returns-in-None-clause-found c =
+    let b2 = c.fill-taken.new.buffer.items in
+    let found = rw c.in-None.is at c.in_ok-first.ensures.first in
+    let still = subst (λ b. Ends b Open) c.deref.ensures.value found in
+    (filled_open c.args.buffer.now.items c.args.piece.now b2 c.fill-taken.result c.fill-taken.ensures.fills still, still)
+
+pub returns-in-None-clause-front : goal.returns-in-None-clause-front
+returns-in-None-clause-front c = filled_front c.args.buffer.now.items c.args.piece.now c.fill-taken.new.buffer.items c.fill-taken.result c.fill-taken.ensures.fills
+
+pub returns-in-Some-clause-front : goal.returns-in-Some-clause-front
+returns-in-Some-clause-front c = filled_front c.args.buffer.now.items c.args.piece.now c.fill-taken.new.buffer.items c.fill-taken.result c.fill-taken.ensures.fills

@@ -1,8 +1,9 @@
-use Rattle.std.proofs.Common.{rules, ◌∙◌, [], sym, ap, ◌++◌, ◌+◌, take, drop}
-use Rattle.std.proofs.lemmas.List.{append-nil}
+use Rattle.std.proofs.Common.{rules, ◌∙◌, [], append_assoc, refl, sym, subst, ap, ◌++◌, ◌+◌, take, drop}
+use Rattle.std.proofs.lemmas.List.{append-nil, take_all}
 use Rattle.std.proofs.lemmas.Result.{err_from_is_err_and}
-use Rattle.frames.specs.Stream.{joined}
-use Rattle.frames.proofs.ReaderLemmas.{joined_split, stops, stops_before}
+use Rattle.frames.specs.Stream.{HasTaken, Progress, answer_in, joined}
+use Rattle.frames.proofs.ReaderLemmas.{joined_more, joined_split, open_stream, stops, stops_at_once, stops_before, well_answered}
+use Rattle.frames.proofs.Streams.{splits_none}
 use Rattle.frames.proofs.reader.read_pieces.Goals as goal
 
 pub returns-in_err-feed-clause-stream : goal.returns-in_err-feed-clause-stream
@@ -26,3 +27,37 @@ returns-in_err-feed-clause-memory c none =
 -- where there is no room for a reader nothing was read
 pub returns-in_err-reader-clause-stream : goal.returns-in_err-reader-clause-stream
 returns-in_err-reader-clause-stream c = ([], sym (append-nil c.args.frames.now.items), search rules)
+
+pub returns-in_err-reader-clause-memory : goal.returns-in_err-reader-clause-memory
+returns-in_err-reader-clause-memory c none = stops_at_once c.args.pieces.now c.args.frames.now.items
+
+pub loop-piece-init : goal.loop-piece-init
+loop-piece-init c = record {
+  new = [];
+  frames = sym (append-nil c.args.frames.now.items);
+  taken = subst (λ (s : Progress). HasTaken s [] []) (sym c.in_ok-reader.ensures) (splits_none [], refl);
+  well = ap answer_in c.in_ok-reader.ensures;
+}
+
+pub loop-piece-preserved : goal.loop-piece-preserved
+loop-piece-preserved c =
+    let i = c.loop-piece.piece-index in
+    let ps = c.args.pieces.now in
+    let so_far = c.loop-piece.invariant in
+    let whole = joined_more ps i c.piece-item.result c.loop-piece-test.true c.piece-item.is ∙ ap (λ b. joined (take i ps) ++ b) (sym c.deref.ensures.value) in
+    let takes = c.in_ok-feed.ensures.taken (well_answered c.in_ok-feed.field-0) in
+    record {
+      new = so_far.new ++ takes.appended;
+      frames = takes.frames ∙ ap (λ fs. fs ++ takes.appended) so_far.frames ∙ append_assoc c.args.frames.now.items so_far.new takes.appended;
+      taken = subst (λ b. HasTaken c.feed.new.self b (so_far.new ++ takes.appended)) (sym whole) (takes.history (joined (take i ps)) so_far.new so_far.taken);
+      well = sym takes.answers;
+    }
+
+pub returns-clause-stream : goal.returns-clause-stream
+returns-clause-stream c =
+    let so_far = c.loop-piece.invariant in
+    let whole = ap joined (take_all c.loop-piece.piece-index c.args.pieces.now c.loop-piece-test.false) in
+    (so_far.new, so_far.frames, open_stream c.loop-piece.reader (joined c.args.pieces.now) so_far.new so_far.well (subst (λ b. HasTaken c.loop-piece.reader b so_far.new) whole so_far.taken))
+
+pub returns-clause-memory : goal.returns-clause-memory
+returns-clause-memory c = λ none. absurd (well_answered tt none)
