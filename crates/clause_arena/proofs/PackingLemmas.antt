@@ -1,22 +1,58 @@
 -- Where the clauses of a list of entries come to stand, one after the other, and what is found there.
-use Rattle.std.proofs.Common.{◌≡◌, ℕ, zero, suc, ◌+◌, ◌<◌, ◌≤◌, Bool, true, false, List, [], ◌∷◌, ◌++◌, Option, Some, None, cond, refl, sym, ◌∙◌, ap, subst, length, map, take, drop, arith, append_assoc, length-append, get_or, add-one, drop-cons}
+use Rattle.std.proofs.Common.{◌≡◌, ℕ, zero, suc, ◌+◌, ◌<◌, ◌≤◌, Bool, true, false, List, [], ◌∷◌, ◌++◌, Option, Some, None, cond, refl, sym, ◌∙◌, ap, subst, length, map, take, drop, arith, append_assoc, length-append, length-take, get_or, add-one, drop-cons}
 use Rattle.std.specs.Prelude.{T, nat_eq}
 use Rattle.std.specs.Option.{option_or, IsSome}
 use Rattle.std.specs.FinMap.{get, insert, find, is_sorted, get-insert}
 use Rattle.std.specs.Ordering.{nat_cmp, eq_by_cmp}
 use Rattle.std.specs.Cmp.{nat_cmp_total}
 use Rattle.std.proofs.lemmas.Bool.{eqb-true}
-use Rattle.std.proofs.lemmas.List.{drop_at, take_at}
+use Rattle.std.proofs.lemmas.List.{drop_at, take_at, take-append-le}
 use Rattle.dimacs.specs.logic.Literal.{Literal}
 use Rattle.clause_arena.specs.declared.reference.Ref.{Ref}
 use Rattle.clause_arena.specs.declared.slot.Slot.{Slot}
 use Rattle.clause_arena.specs.Slots.{Slots}
 use Rattle.clause_arena.specs.Contents.{clause_at}
 use Rattle.clause_arena.specs.inner.Contents.{slot_of, IsPlaced}
-use Rattle.clause_arena.specs.inner.Packing.{ref_of, gathered, moves_from, moved_by}
+use Rattle.clause_arena.specs.inner.Packing.{ref_of, gathered, move_of, moves_from, moved_by}
 use Rattle.clause_arena.proofs.SlotLemmas.{same_number, same_test, apart_test}
 use Rattle.clause_arena.proofs.SortedLemmas.{first_of_both, second_of_both, found_above, none_after}
 use Rattle.clause_arena.proofs.ContentLemmas.{length-clause_at}
+
+-- ---- one clause after the other
+module _ (refs : List Ref) (i : ℕ) (d : Ref) (lt : i < length refs) where
+  next_ref : drop i refs ≡ get_or refs i d ∷ drop (i + 1) refs
+  next_ref = drop-cons refs i d lt ∙ ap (λ k. get_or refs i d ∷ drop k refs) (sym (add-one i))
+
+  -- the literals of one clause more are gathered
+  pub literals_step : (literals old new all : List Literal) → new ≡ old ++ clause_at literals (slot_of (get_or refs i d)) → old ++ gathered literals (drop i refs) ≡ all
+      → new ++ gathered literals (drop (i + 1) refs) ≡ all
+  literals_step literals old new all e so_far =
+      ap (λ (xs : List Literal). xs ++ gathered literals (drop (i + 1) refs)) e
+      ∙ append_assoc old (clause_at literals (slot_of (get_or refs i d))) (gathered literals (drop (i + 1) refs))
+      ∙ ap (λ rs. old ++ gathered literals rs) (sym next_ref) ∙ so_far
+
+  -- the place of the next clause
+  pub place_step : (literals old new : List Literal) (place next : ℕ) → IsPlaced literals (slot_of (get_or refs i d)) → place ≡ length old → next ≡ length new
+      → new ≡ old ++ clause_at literals (slot_of (get_or refs i d)) → next ≡ place + (get_or refs i d).len
+  place_step literals old new place next placed e f g =
+      let long = length-clause_at literals (slot_of (get_or refs i d)) placed in
+      let both : length new ≡ length old + length (clause_at literals (slot_of (get_or refs i d))) = ap length g ∙ length-append old (clause_at literals (slot_of (get_or refs i d))) in
+      omega (arith, e, f, long, both)
+
+  -- one move more is told
+  pub moves_step : (old new all : List (Ref × Ref)) (place next : ℕ) → new ≡ old ++ move_of place (get_or refs i d) → next ≡ place + (get_or refs i d).len → old ++ moves_from place (drop i refs) ≡ all
+      → new ++ moves_from next (drop (i + 1) refs) ≡ all
+  moves_step old new all place next e rises so_far =
+      ap (λ (xs : List (Ref × Ref)). xs ++ moves_from next (drop (i + 1) refs)) e
+      ∙ append_assoc old (move_of place (get_or refs i d)) (moves_from next (drop (i + 1) refs))
+      ∙ ap (λ p. old ++ (move_of place (get_or refs i d) ++ moves_from p (drop (i + 1) refs))) rises
+      ∙ ap (λ rs. old ++ moves_from place rs) (sym next_ref) ∙ so_far
+
+-- what stands at the front stays there
+pub front_step : {X : Type 0} (n : ℕ) (first old new more : List X) → n ≡ length first → new ≡ old ++ more → take n old ≡ first → take n new ≡ first
+front_step n first old new more long e so_far =
+    let few : n ≤ length old = omega (arith, long, ap length so_far, length-take n old) in
+    ap (take n) e ∙ take-append-le n old more few ∙ so_far
 
 -- the slots from a place on
 abbrev pub slot_from : ℕ → Slot → Slot

@@ -15,7 +15,7 @@ unfolding line_tokens
 first_is bs m t is e some top = ap (map token_of) (tokens_first bs m e some top) ∙ ap (λ (x : Token). x ∷ line_tokens (drop m bs)) (sym is)
 
 -- a number has a digit
-has_digit : (len n : ℕ) (text : List ℕ) → natural (take len text) ≡ Some n → 0 < len
+pub has_digit : (len n : ℕ) (text : List ℕ) → natural (take len text) ≡ Some n → 0 < len
 has_digit zero n text h = absurd (cc)
 has_digit (suc len) n text h = omega arith
 

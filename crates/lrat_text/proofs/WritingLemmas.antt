@@ -11,7 +11,15 @@ use Rattle.lrat_text.specs.declared.step.Step.TheVariants.{Add, Delete}
 use Rattle.lrat_text.specs.Grammar.{literal_token, group_tokens}
 use Rattle.lrat_text.specs.Writing.{line_of}
 use Rattle.lrat_text.proofs.NumberLemmas.{negative_token}
-use Rattle.lrat_text.specs.inner.Writing.{group_text, lemma_text, reasons_text, deletion_text}
+use Rattle.lrat_text.specs.inner.Writing.{group_text, lemma_text, reasons_text, deletion_text, Begins}
+
+-- a piece more behind what was appended
+pub piece_more : (old front items new piece : List ℕ) → items ≡ old ++ front → new ≡ items ++ piece → new ≡ old ++ (front ++ piece)
+piece_more old front items new piece e g = g ∙ ap (λ (xs : List ℕ). xs ++ piece) e ∙ append_assoc old front piece
+
+-- what begins with what was appended begins with the old bytes
+pub begins_more : (old items new : List ℕ) → Begins old items → Begins items new → Begins old new
+begins_more old items new (front, e) (more, g) = (front ++ more, piece_more old front items new more e g)
 
 -- one group more
 pub groups_more : (old : List ℕ) (groups : List Group) (i : ℕ) (g : Group) → slice_get groups i ≡ Some g

@@ -1,7 +1,16 @@
-use Rattle.std.proofs.Common.{◌∙◌, ap, ◌++◌, ℕ, List}
+use Rattle.std.proofs.Common.{◌∙◌, ap, ◌++◌, ℕ, List, take, arith}
+use Rattle.std.specs.List.{flat_map}
+use Rattle.std.proofs.lemmas.List.{take_all}
+use Rattle.dimacs.specs.logic.Rat.{Group}
 use Rattle.lrat_text.specs.inner.Writing.{group_text}
 use Rattle.lrat_text.proofs.WritingLemmas.{groups_more}
 use Rattle.lrat_text.proofs.writing.put_groups.Goals as goal
+
+pub returns-clause-ok : goal.returns-clause-ok
+returns-clause-ok c = c.loop-i.invariant ∙ ap (λ (gs : List Group). c.args.out.now.items ++ flat_map group_text gs) (take_all c.loop-i.i c.args.groups.now (omega (arith, c.len-i-end.ensures.value, c.loop-i-test.false)))
+
+pub returns-clause-begins : goal.returns-clause-begins
+returns-clause-begins c = (flat_map group_text (take c.loop-i.i c.args.groups.now), c.loop-i.invariant)
 
 pub loop-i-preserved : goal.loop-i-preserved
 loop-i-preserved c =

@@ -1,8 +1,36 @@
-use Rattle.std.proofs.Common.{◌<◌, ◌≤◌, ◌^◌, ◌%◌, ◌∙◌, ℕ, ap, sym, subst, arith, None, map, length, get_or, set, length-set}
+use Rattle.std.proofs.Common.{◌-◌, ◌*◌, ◌<◌, ◌≤◌, ◌^◌, ◌%◌, ◌++◌, ◌∙◌, ℕ, refl, ap, sym, subst, arith, None, map, length, get_or, set, length-set}
 use Rattle.std.proofs.lemmas.List.{length-map}
+use Rattle.clause_arena.specs.inner.Packing.{ref_of}
+use Rattle.clause_arena.specs.inner.Slots.{near_entries}
 use Rattle.clause_arena.specs.inner.Blocks.{slots_from, IsBlocks}
 use Rattle.clause_arena.proofs.BlocksLemmas.{cell_at, block_short, held_kept, held_blocks, same_slots_from, next_listed, all_listed}
 use Rattle.clause_arena.proofs.blocks.Blocks.list.Goals as goal
+
+pub loop-block-init : goal.loop-block-init
+loop-block-init c =
+    let old = map (λ b. b.items) c.self.inside.blocks.items in
+    record {
+      listed =
+          ap (λ n. c.args.refs.now.items ++ map ref_of (near_entries n (slots_from old 0 (64 * (length old - 0))))) {y = c.args.first} (omega arith)
+          ∙ ap (λ n. c.args.refs.now.items ++ map ref_of (near_entries c.args.first (slots_from old 0 n))) {y = 64 * length old} (omega arith);
+      same = λ q. refl;
+      len = refl;
+      blocks = refl;
+      is = c.self.invariant;
+    }
+
+pub index_mut-requires : goal.index_mut-requires
+index_mut-requires c = omega (arith, c.loop-block.invariant.blocks)
+
+pub overflow_mul-block : goal.overflow_mul-block
+overflow_mul-block c =
+    let vs = c.loop-block.self-inside.blocks.items in
+    omega (arith, c.loop-block.invariant.is.few, length-map vs (λ b. b.items))
+
+pub overflow_add-first : goal.overflow_add-first
+overflow_add-first c =
+    let vs = c.loop-block.self-inside.blocks.items in
+    omega (arith, c.requires, c.loop-block.invariant.is.few, length-map vs (λ b. b.items))
 
 pub list_block-requires : goal.list_block-requires
 list_block-requires c =
@@ -57,6 +85,16 @@ loop-block-preserved c =
       is = held_blocks (λ b. b.items) vs was.block (omega arith) d c.list_block.new.block c.self.inside.len
           (omega (arith, c.list_block.ensures.short, ap (λ b. length b.items) is, short)) (λ q _ _. same q) was.invariant.is;
     }
+
+pub invariant_of-self : goal.invariant_of-self
+invariant_of-self c = subst (λ n. IsBlocks n (map (λ b. b.items) c.loop-block.self-inside.blocks.items)) (sym c.loop-block.invariant.len) c.loop-block.invariant.is
+
+pub returns-clause-same : goal.returns-clause-same
+returns-clause-same c =
+    let new = map (λ b. b.items) c.loop-block.self-inside.blocks.items in
+    ap (λ n. slots_from new 0 n) c.loop-block.invariant.len
+    ∙ same_slots_from (map (λ b. b.items) c.self.inside.blocks.items) new c.self.inside.len c.loop-block.invariant.same
+    ∙ c.self.view_is
 
 pub returns-clause-listed : goal.returns-clause-listed
 returns-clause-listed c =
