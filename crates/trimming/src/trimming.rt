@@ -4,7 +4,7 @@ ghost use Rattle.std.specs.Prelude.{◌≡◌, ◌⊎◌, ◌++◌, [], ℕ, Lis
 ghost use Rattle.dimacs.specs.logic.Cnf.{Cnf};
 ghost use Rattle.lrat_text.specs.Proof.{Accepts};
 ghost use Rattle.lrat_check.specs.Checking.{check_of, no_memory};
-ghost use Rattle.lrat_check.specs.Stream.{answer_in};
+ghost use Rattle.lrat_check.specs.Stream.{answer_in, check_more};
 ghost use Rattle.trimming.specs.Trimming.{HasTaken, IsTrimmed, Trims};
 
 use crate::counting::count_lemmas;
@@ -101,14 +101,24 @@ impl Trimming {
         }
     }
 
-    /// The proof without what its empty clause does not need, where no further byte comes; or the first fault of a proof that is not accepted.
-    pub fn finish(self) -> Result<Trimmed, CheckFault>
-        ensures { (F : Cnf) (proof : List ℕ) → HasTaken F self proof → Trims F proof result }
+    /// What checking answers where no further byte comes.
+    fn checked(&self) -> Result<(), CheckFault>
+        ensures { result ≡ check_more self.now.progress [] }
     {
         if self.is_cut {
             return Err(CheckFault::from(AllocError));
         }
-        self.checker.finish()?;
+        self.checker.finish()
+    }
+
+    /// The proof without what its empty clause does not need, where no further byte comes; or the first fault of a proof that is not accepted.
+    pub fn finish(self) -> Result<Trimmed, CheckFault>
+        ensures { (F : Cnf) (proof : List ℕ) → HasTaken F self proof → Trims F proof result }
+    {
+        if let Err(fault) = self.checked() {
+            drop(self);
+            return Err(fault);
+        }
         let Trimming {
             alloc,
             formula,
@@ -138,6 +148,9 @@ pub fn trim(alloc: Global, formula: Formula, proof: &[u8]) -> Result<Trimmed, Ch
 {
     proof_fault_is_exact();
     let mut trimming = Trimming::new(alloc, formula)?;
-    trimming.feed(proof)?;
+    if let Err(fault) = trimming.feed(proof) {
+        drop(trimming);
+        return Err(fault);
+    }
     trimming.finish()
 }
