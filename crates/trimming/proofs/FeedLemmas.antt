@@ -1,9 +1,10 @@
 -- A piece more of a proof.
-use Rattle.std.proofs.Common.{◌≡◌, ◌⊎◌, ℕ, Bool, IfOk, OnOk, IfErr, true, false, List, [], ◌++◌, Result, Ok, Err, inl, inr, sym, ◌∙◌, ap, subst}
+use Rattle.std.proofs.Common.{◌≡◌, ◌⊎◌, ℕ, Bool, IfOk, OnOk, IfErr, true, false, List, [], ◌∷◌, ◌++◌, Result, Ok, Err, inl, inr, refl, sym, ◌∙◌, ap, subst}
 use Rattle.std.proofs.lemmas.List.{append-nil}
 use Rattle.dimacs.specs.logic.Cnf.{Cnf}
 use Rattle.lrat_text.specs.Proof.{Accepts}
-use Rattle.lrat_check.specs.Checking.{no_memory, check_of}
+use Rattle.lrat_check.specs.Checking.{no_memory, check_of, GivesCheck}
+use Rattle.lrat_check.specs.Stream
 use Rattle.lrat_check.specs.Stream.{Progress, Within, Failed, answer_in, check_more, TakesPiece}
 use Rattle.lrat_check.specs.declared.checking.CheckFault.{CheckFault}
 use Rattle.lrat_check.proofs.Streams.{finished, stopped}
@@ -49,18 +50,22 @@ held_all p text proof e (inl (fault, failed_by)) = absurd (let other : Ok tt ≡
 held_all p text proof e (inr same) = same
 
 -- a proof that is accepted is trimmed
-pub trims : (held : Taken) (t : Trimmed) → Ok tt ≡ check_more held.progress [] → ((F : Cnf) (proof : List ℕ) → check_of F proof ≡ Ok tt → Accepts F proof)
-    → (Accepts held.formula held.text → IsTrimmed held.formula held.text t) → (F : Cnf) (proof : List ℕ) → HasTaken F held proof → Accepts F proof × IsTrimmed F proof t
-trims held t e exact trimmed F proof h =
-    let checked : check_of F proof ≡ Ok tt = finished F held.progress proof (Ok tt) h.checked e in
+pub trims : (f : Cnf) (text : List ℕ) (cut : Bool) (p : Progress) (t : Trimmed) → cut ≡ false → Ok tt ≡ check_more p []
+    → ((F : Cnf) (proof : List ℕ) → check_of F proof ≡ Ok tt → Accepts F proof) → (Accepts f text → IsTrimmed f text t)
+    → (F : Cnf) (proof : List ℕ) → HasTaken F (record { formula = f; text = text; progress = progress_of cut p }) proof → Accepts F proof × IsTrimmed F proof t
+trims f text true p t runs e exact trimmed F proof h = absurd cc
+trims f text false p t runs e exact trimmed F proof h =
+    let checked : check_of F proof ≡ Ok tt = finished F p proof (Ok tt) h.checked e in
     let accepted : Accepts F proof = exact F proof checked in
-    let same : held.text ≡ proof = held_all held.progress held.text proof e h.held in
-    let own : Accepts held.formula held.text = subst (λ (G : Cnf). Accepts G held.text) (sym h.formula) (subst (Accepts F) (sym same) accepted) in
-    (accepted, subst (λ (G : Cnf). IsTrimmed G proof t) h.formula (subst (λ (x : List ℕ). IsTrimmed held.formula x t) same (trimmed own)))
+    let same : text ≡ proof = held_all p text proof e h.held in
+    let own : Accepts f text = subst (λ (G : Cnf). Accepts G text) (sym h.formula) (subst (Accepts F) (sym same) accepted) in
+    (accepted, subst (λ (G : Cnf). IsTrimmed G proof t) h.formula (subst (λ (x : List ℕ). IsTrimmed f x t) same (trimmed own)))
 
 -- any other proof has the fault that is answered
-pub refuses : (held : Taken) (fault : CheckFault) → Err fault ≡ check_more held.progress [] → (F : Cnf) (proof : List ℕ) → HasTaken F held proof → (fault ≡ no_memory) ⊎ (check_of F proof ≡ Err fault)
-refuses held fault e F proof h = finished F held.progress proof (Err fault) h.checked e
+pub refuses : (f : Cnf) (text : List ℕ) (cut : Bool) (p : Progress) (fault : CheckFault) → cut ≡ false → Err fault ≡ check_more p []
+    → (F : Cnf) (proof : List ℕ) → HasTaken F (record { formula = f; text = text; progress = progress_of cut p }) proof → (fault ≡ no_memory) ⊎ (check_of F proof ≡ Err fault)
+refuses f text true p fault runs e F proof h = absurd cc
+refuses f text false p fault runs e F proof h = finished F p proof (Err fault) h.checked e
 
 -- ---- what trimming answers
 

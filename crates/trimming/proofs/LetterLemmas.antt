@@ -1,5 +1,5 @@
 -- A line has the letter d if and only if it deletes, so that lemmas are counted by two bytes.
-use Rattle.std.proofs.Common.{◌≡◌, ℕ, ◌+◌, ◌<◌, Bool, true, false, ◌==◌, cond, List, [], ◌∷◌, ◌++◌, map, length, codes, decimal, Contains, refl, sym, ◌∙◌, ap, subst, arith}
+use Rattle.std.proofs.Common.{◌≡◌, ℕ, ◌+◌, ◌-◌, ◌<◌, ◌≤◌, Bool, true, false, ◌==◌, cond, List, [], ◌∷◌, ◌++◌, map, length, codes, decimal, Contains, refl, sym, ◌∙◌, ap, subst, arith}
 use Rattle.std.specs.List.{AllByRecursion, count_by, slice_split, onto_first, filter, flat_map}
 use Rattle.std.proofs.lemmas.Bool.{ne_eqb, eqb-true}
 use Rattle.std.proofs.lemmas.List.Elements.{recursion_from_All}
@@ -8,8 +8,8 @@ use Rattle.std.proofs.lemmas.List.Sums.{sum_by-append, sum_by-cons}
 use Rattle.dimacs.specs.logic.Literal.{Literal, Pos, Neg, IsWithin}
 use Rattle.dimacs.specs.logic.Rat.{Group}
 use Rattle.dimacs.specs.text.Words.{is_some_byte}
-use Rattle.dimacs.proofs.Members.{Contains-cons}
-use Rattle.lrat_text.specs.Grammar.{IsClauseNumber, IsGroup, IsStep, literal_token, group_tokens, step_tokens, SpellsStep, LineSpells}
+use Rattle.dimacs.proofs.Members.{Contains-head, Contains-cons}
+use Rattle.lrat_text.specs.Grammar.{tokens, IsClauseNumber, IsGroup, IsStep, literal_token, group_tokens, step_tokens, SpellsStep, LineSpells}
 use Rattle.lrat_text.specs.Log.{additions}
 use Rattle.lrat_text.specs.inner.Tokens.{is_space}
 use Rattle.lrat_text.specs.declared.step.Step.{Step}

@@ -1,6 +1,6 @@
 //! The lines that stay, as the text of a proof.
 
-ghost use Rattle.std.specs.Prelude.{All, OnOk};
+ghost use Rattle.std.specs.Prelude.{◌≡◌, All, OnOk};
 ghost use Rattle.lrat_text.specs.Grammar.{IsStep, IsClauseNumber, IsGroup};
 ghost use Rattle.lrat_text.specs.Steps.{step_of};
 
@@ -49,7 +49,6 @@ fn keep_groups(kept: Kept<'_>, groups: &Groups, out: &mut Groups) -> Result<(), 
 }
 
 /// The text so far.
-#[derive(Drop)]
 struct Rewriter {
     out: PackedText,
     /// What a line is written in before it is packed.
@@ -59,6 +58,19 @@ struct Rewriter {
     /// What parts of a line are chosen in.
     numbers: Vec<u64>,
     groups: Groups,
+}
+
+// By hand, so that whoever owns one drops it by one call, and no proof there goes through its parts.
+impl Drop for Rewriter {
+    fn drop(self) {
+        let Rewriter {
+            out: _,
+            written: _,
+            top: _,
+            numbers: _,
+            groups: _,
+        } = self;
+    }
 }
 
 impl Model for Rewriter {
@@ -73,17 +85,18 @@ impl Model for Rewriter {
 }
 
 impl Rewriter {
-    /// No text, whose deletions begin with this number.
-    fn new(alloc: Global, top: u64) -> Rewriter
-        requires { IsClauseNumber top }
+    /// The text.
+    fn into_text(self) -> PackedText
+        ensures { result ≡ self }
     {
-        Rewriter {
-            out: PackedText::new(alloc),
-            written: Vec::new(alloc),
-            top,
-            numbers: Vec::new(alloc),
-            groups: Groups::new(alloc),
-        }
+        let Rewriter {
+            out,
+            written: _,
+            top: _,
+            numbers: _,
+            groups: _,
+        } = self;
+        out
     }
 
     /// Appends a step's line, without what goes.
@@ -140,61 +153,6 @@ impl Rewriter {
         self.top = clause_number(id, self.top);
         Ok(())
     }
-
-    /// Appends what stays of a lemma's line.
-    fn put_lemma(
-        &mut self,
-        kept: Kept<'_>,
-        buffer: &mut StepBuffer,
-        lemma: (usize, u64),
-        line: &[u8],
-    ) -> Result<(), TextFault> {
-        let (rank, id) = lemma;
-        match kept.need(rank) {
-            Need::Nothing => Ok(()),
-            Need::Line => Ok(self.put_line(id, line)?),
-            Need::Groups => self.put_part(kept, buffer, line),
-        }
-    }
-
-    /// Appends what stays of a line, where so many lemmas came before it, and tells whether it was a lemma's.
-    fn put_next(
-        &mut self,
-        kept: Kept<'_>,
-        buffer: &mut StepBuffer,
-        rank: usize,
-        line: &[u8],
-    ) -> Result<bool, TextFault> {
-        match head_of(line) {
-            Head::Deletion => {
-                self.put_part(kept, buffer, line)?;
-                Ok(false)
-            }
-            Head::Lemma { id, .. } => {
-                self.put_lemma(kept, buffer, (rank, id), line)?;
-                Ok(true)
-            }
-        }
-    }
-
-    /// Appends what stays of the lines of a proof, up to its last lemma.
-    fn put_lines(
-        &mut self,
-        kept: Kept<'_>,
-        buffer: &mut StepBuffer,
-        alloc: Global,
-        text: &PackedText,
-    ) -> Result<(), TextFault> {
-        let mut lines = PackedLines::of(alloc, text);
-        let mut line = Vec::new(alloc);
-        let mut rank = 0usize;
-        while rank < kept.lemmas.len() && lines.next(&mut line)? {
-            if self.put_next(kept, buffer, rank, &line)? {
-                rank = rank.saturating_add(1);
-            }
-        }
-        Ok(())
-    }
 }
 
 /// The proof without what goes, up to its empty clause.
@@ -204,8 +162,28 @@ pub(crate) fn rewrite(
     buffer: &mut StepBuffer,
     kept: Kept<'_>,
 ) -> Result<PackedText, TextFault> {
-    let mut rewriter = Rewriter::new(alloc, clause_number(kept.lemmas.base(), 1));
-    rewriter.put_lines(kept, buffer, alloc, text)?;
-    let Rewriter { out, .. } = rewriter;
-    Ok(out)
+    let mut rewriter = Rewriter {
+        out: PackedText::new(alloc),
+        written: Vec::new(alloc),
+        top: clause_number(kept.lemmas.base(), 1),
+        numbers: Vec::new(alloc),
+        groups: Groups::new(alloc),
+    };
+    let mut lines = PackedLines::of(alloc, text);
+    let mut line = Vec::new(alloc);
+    let mut rank = 0usize;
+    while rank < kept.lemmas.len() && lines.next(&mut line)? {
+        match head_of(&line) {
+            Head::Deletion => rewriter.put_part(kept, buffer, &line)?,
+            Head::Lemma { id, .. } => {
+                match kept.need(rank) {
+                    Need::Nothing => {}
+                    Need::Line => rewriter.put_line(id, &line)?,
+                    Need::Groups => rewriter.put_part(kept, buffer, &line)?,
+                }
+                rank = rank.saturating_add(1);
+            }
+        }
+    }
+    Ok(rewriter.into_text())
 }

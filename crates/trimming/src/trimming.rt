@@ -4,7 +4,7 @@ ghost use Rattle.std.specs.Prelude.{◌≡◌, ◌⊎◌, ◌++◌, [], ℕ, Lis
 ghost use Rattle.dimacs.specs.logic.Cnf.{Cnf};
 ghost use Rattle.lrat_text.specs.Proof.{Accepts};
 ghost use Rattle.lrat_check.specs.Checking.{check_of, no_memory};
-ghost use Rattle.lrat_check.specs.Stream.{answer_in, check_more};
+ghost use Rattle.lrat_check.specs.Stream.{answer_in};
 ghost use Rattle.trimming.specs.Trimming.{HasTaken, IsTrimmed, Trims};
 
 use crate::counting::count_lemmas;
@@ -46,7 +46,6 @@ fn trim_accepted(alloc: Global, formula: Formula, proof: PackedText) -> Result<T
 }
 
 /// What trims a proof that comes in pieces. It checks each piece as it comes, and holds the text packed, in half its room.
-#[derive(Drop)]
 pub struct Trimming {
     alloc: Global,
     formula: Formula,
@@ -54,6 +53,19 @@ pub struct Trimming {
     text: PackedText,
     /// Whether there was no memory for a piece.
     is_cut: bool,
+}
+
+// By hand, so that whoever owns one drops it by one call, and no proof there goes through its parts.
+impl Drop for Trimming {
+    fn drop(self) {
+        let Trimming {
+            alloc: _,
+            formula: _,
+            checker: _,
+            text: _,
+            is_cut: _,
+        } = self;
+    }
 }
 
 impl Model for Trimming {
@@ -101,30 +113,20 @@ impl Trimming {
         }
     }
 
-    /// What checking answers where no further byte comes.
-    fn checked(&self) -> Result<(), CheckFault>
-        ensures { result ≡ check_more self.now.progress [] }
-    {
-        if self.is_cut {
-            return Err(CheckFault::from(AllocError));
-        }
-        self.checker.finish()
-    }
-
     /// The proof without what its empty clause does not need, where no further byte comes; or the first fault of a proof that is not accepted.
     pub fn finish(self) -> Result<Trimmed, CheckFault>
         ensures { (F : Cnf) (proof : List ℕ) → HasTaken F self proof → Trims F proof result }
     {
-        if let Err(fault) = self.checked() {
-            drop(self);
-            return Err(fault);
+        if self.is_cut {
+            return Err(CheckFault::from(AllocError));
         }
+        self.checker.finish()?;
         let Trimming {
             alloc,
             formula,
             checker,
             text,
-            ..
+            is_cut: _,
         } = self;
         // Its tables are given back before the other ones are made.
         drop(checker);
@@ -148,9 +150,6 @@ pub fn trim(alloc: Global, formula: Formula, proof: &[u8]) -> Result<Trimmed, Ch
 {
     proof_fault_is_exact();
     let mut trimming = Trimming::new(alloc, formula)?;
-    if let Err(fault) = trimming.feed(proof) {
-        drop(trimming);
-        return Err(fault);
-    }
+    trimming.feed(proof)?;
     trimming.finish()
 }

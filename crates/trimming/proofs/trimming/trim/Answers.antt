@@ -1,4 +1,6 @@
 use Rattle.std.proofs.Common.{[]}
+use Rattle.std.proofs.lemmas.Result.{err_from_is_err_and}
+use Rattle.trimming.specs.Trimming.{HasTaken, Trims}
 use Rattle.trimming.proofs.FeedLemmas.{trims_ok, trims_accepted, trims_complete, trims_err, piece_fault, no_fault}
 use Rattle.trimming.proofs.trimming.trim.Goals as goal
 
@@ -26,13 +28,18 @@ returns-clause-refused c =
     let proof = c.args.proof.now in
     trims_err F proof c.finish.result (c.finish.ensures F proof (c.feed.ensures.taken F [] c.in_ok-trimming.ensures))
 
-pub returns-in-Err-clause-complete : goal.returns-in-Err-clause-complete
-returns-in-Err-clause-complete c = λ accepts.
+pub returns-in_err-feed-clause-complete : goal.returns-in_err-feed-clause-complete
+returns-in_err-feed-clause-complete c =
+    let p = err_from_is_err_and c.from_residual-in_err-feed.result c.from_residual-in_err-feed.ensures.1 in
+    rw (p.1, p.2) (λ accepts.
     let F = c.args.formula in
     let proof = c.args.proof.now in
-    no_fault F proof c.in-Err.fault (c.proof_fault_is_exact.ensures.none F proof) accepts
-    (piece_fault F proof c.feed.new.self c.in-Err.fault (c.feed.ensures.taken F [] c.in_ok-trimming.ensures) c.in-Err.ensures.answers)
+    no_fault F proof c.in_err-feed.field-0.0 (c.proof_fault_is_exact.ensures.none F proof) accepts
+    (piece_fault F proof c.feed.new.self c.in_err-feed.field-0.0 (c.feed.ensures.taken F [] c.in_ok-trimming.ensures) c.in_err-feed.ensures.answers))
 
-pub returns-in-Err-clause-refused : goal.returns-in-Err-clause-refused
-returns-in-Err-clause-refused c =
-    piece_fault c.args.formula c.args.proof.now c.feed.new.self c.in-Err.fault (c.feed.ensures.taken c.args.formula [] c.in_ok-trimming.ensures) c.in-Err.ensures.answers
+pub returns-in_err-feed-clause-refused : goal.returns-in_err-feed-clause-refused
+returns-in_err-feed-clause-refused c =
+    let F = c.args.formula in
+    let proof = c.args.proof.now in
+    let p = err_from_is_err_and c.from_residual-in_err-feed.result c.from_residual-in_err-feed.ensures.1 in
+    rw (p.1, p.2) (piece_fault F proof c.feed.new.self c.in_err-feed.field-0.0 (c.feed.ensures.taken F [] c.in_ok-trimming.ensures) c.in_err-feed.ensures.answers)

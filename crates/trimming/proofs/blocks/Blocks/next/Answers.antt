@@ -1,4 +1,4 @@
-use Rattle.std.proofs.Common.{◌≡◌, ◌+◌, ◌<◌, ◌++◌, ◌∙◌, List, ℕ, length, drop, lit<, subst, arith}
+use Rattle.std.proofs.Common.{◌≡◌, ◌+◌, ◌<◌, ◌++◌, ◌∙◌, List, ℕ, length, drop, lit<, subst, sym, refl, arith}
 use Rattle.trimming.proofs.BlockLemmas.{block_rest, block_fits, block_less}
 use Rattle.trimming.proofs.blocks.Blocks.next.Goals as goal
 

@@ -1,4 +1,5 @@
-use Rattle.std.proofs.Common.{subst, sym}
+use Rattle.std.proofs.Common.{◌≡◌, List, ℕ, ◌++◌, subst, sym}
+use Rattle.dimacs.specs.logic.Cnf.{Cnf}
 use Rattle.trimming.specs.Trimming.{Taken, HasTaken}
 use Rattle.trimming.proofs.FeedLemmas.{refused, fed}
 use Rattle.trimming.proofs.trimming.Trimming.feed.Goals as goal

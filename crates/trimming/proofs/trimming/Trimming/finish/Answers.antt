@@ -1,13 +1,11 @@
-use Rattle.std.proofs.Common.{sym, ◌∙◌, subst}
-use Rattle.lrat_text.specs.Proof.{Accepts}
-use Rattle.trimming.specs.Trimming.{Taken, IsTrimmed}
-use Rattle.trimming.proofs.FeedLemmas.{trims, refuses}
+use Rattle.std.proofs.Common.{List, ℕ, subst, sym}
+use Rattle.dimacs.specs.logic.Cnf.{Cnf}
+use Rattle.trimming.specs.Trimming.{Taken, HasTaken}
+use Rattle.trimming.proofs.FeedLemmas.{trims}
 use Rattle.trimming.proofs.trimming.Trimming.finish.Goals as goal
 
 pub returns : goal.returns
-returns c =
-    let trimmed = subst (λ (held : Taken). Accepts held.formula held.text → IsTrimmed held.formula held.text c.in_ok-trim_accepted.field-0) c.self.view_is c.in_ok-trim_accepted.ensures in
-    trims c.args.self c.in_ok-trim_accepted.field-0 (sym c.in_default.is ∙ c.checked.ensures) c.proof_fault_is_exact.ensures.accepted trimmed
-
-pub returns-in-Err : goal.returns-in-Err
-returns-in-Err c = refuses c.args.self c.in-Err.fault c.in-Err.ensures
+returns c = λ F proof h.
+    let P : Taken → Type 0 = λ t. HasTaken F t proof in
+    trims c.self.inside.formula c.self.inside.text c.self.inside.is_cut c.self.inside.checker c.in_ok-trim_accepted.field-0 c.if-self.false c.in_ok-finish.ensures c.proof_fault_is_exact.ensures.accepted
+    c.in_ok-trim_accepted.ensures F proof (subst P (sym c.self.view_is) h)

@@ -1,5 +1,5 @@
 use Rattle.std.proofs.Common.{length}
-use Rattle.trimming.proofs.rewriting.Rewriter.put_lines.Given as goal
+use Rattle.trimming.proofs.rewriting.rewrite.Given as goal
 
 abbrev pub decreases-loop-rank : goal.decreases-loop-rank
 decreases-loop-rank l = length l.lines
