@@ -38,7 +38,6 @@ pub(crate) enum Standing {
 }
 
 /// What came over a link, whose it is, and where it stands.
-#[derive(Drop)]
 pub struct Line {
     alloc: Global,
     reader: Reader,
@@ -59,6 +58,26 @@ pub struct Line {
     owed: u32,
     /// How many bytes its worker announced last.
     announced: u32,
+}
+
+// By hand, so that whoever owns one drops it by one call, and no proof there goes through its parts.
+impl Drop for Line {
+    fn drop(self) {
+        let Line {
+            alloc: _,
+            reader: _,
+            waiting: _,
+            standing: _,
+            worker: _,
+            incarnation: _,
+            since: _,
+            declined: _,
+            leaf: _,
+            patience: _,
+            owed: _,
+            announced: _,
+        } = self;
+    }
 }
 
 impl Line {

@@ -32,7 +32,6 @@ use std::alloc::{AllocError, Global};
 pub(crate) const ARRIVALS: u64 = 1 << 63;
 
 /// A coordinator and its links.
-#[derive(Drop)]
 pub struct Run {
     pub(crate) alloc: Global,
     pub(crate) desk: Desk,
@@ -40,6 +39,19 @@ pub struct Run {
     pub(crate) tick: u64,
     /// The last tick at which a link was open, or the first.
     pub(crate) linked: Option<u64>,
+}
+
+// By hand, so that whoever owns one drops it by one call, and no proof there goes through its parts.
+impl Drop for Run {
+    fn drop(self) {
+        let Run {
+            alloc: _,
+            desk: _,
+            lines: _,
+            tick: _,
+            linked: _,
+        } = self;
+    }
 }
 
 impl Run {

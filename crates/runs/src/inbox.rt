@@ -7,11 +7,21 @@ use frames::{Frame, FrameFault, Reader};
 use std::alloc::{AllocError, Global};
 
 /// The reader of an end, and the frames that came and are not delivered yet.
-#[derive(Drop)]
 pub struct Inbox {
     alloc: Global,
     reader: Reader,
     waiting: Vec<Frame>,
+}
+
+// By hand, so that whoever owns one drops it by one call, and no proof there goes through its parts.
+impl Drop for Inbox {
+    fn drop(self) {
+        let Inbox {
+            alloc: _,
+            reader: _,
+            waiting: _,
+        } = self;
+    }
 }
 
 impl Inbox {

@@ -22,7 +22,6 @@ const DRAWS: u64 = 100_000;
 
 /// Workers and their links. Whoever is drawn links, works, sends some of its bytes. While disorder lasts links end, break and are full, frames come
 /// twice, and workers fall silent, or begin anew beside their old link.
-#[derive(Drop)]
 pub(crate) struct Floor<'a> {
     alloc: Global,
     formula: &'a Formula,
@@ -40,6 +39,25 @@ pub(crate) struct Floor<'a> {
     refused: u64,
     /// How many links were hung up.
     hung_up: u64,
+}
+
+// By hand, so that whoever owns one drops it by one call, and no proof there goes through its parts.
+impl Drop for Floor<'_> {
+    fn drop(self) {
+        let Floor {
+            alloc: _,
+            formula: _,
+            words: _,
+            peers: _,
+            tick: _,
+            drawn: _,
+            disorder: _,
+            incarnation: _,
+            is_orderly: _,
+            refused: _,
+            hung_up: _,
+        } = self;
+    }
 }
 
 impl<'a> Floor<'a> {
