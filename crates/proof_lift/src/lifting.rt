@@ -84,6 +84,8 @@ impl Lifting {
         ensures formula { IfOk result (λ x. x.images.formula ≡ formula) }
         ensures cube { IfOk result (λ x. x.cube.items ≡ cube.items) }
     {
+        // It is within the limits; there is nothing else to learn of its variables.
+        formula.vars();
         let own = formula.len();
         let top = own + cube.len();
         let scratch = begin_scratch(alloc, &formula, &cube)?;

@@ -1,6 +1,6 @@
 use Rattle.std.proofs.Common.{◌≡◌, ℕ, ◌-◌, [], Some, sym, ap, subst, ◌∙◌, lit<, length, vec_len, arith}
 use Rattle.std.specs.Prelude.{All}
-use Rattle.dimacs.specs.logic.Cnf.{Cnf, IsFormula}
+use Rattle.dimacs.specs.logic.Cnf.{IsFormula}
 use Rattle.dimacs.specs.logic.Literal.{Clause, IsWithin}
 use Rattle.lrat_check.specs.inner.Table.{FitsTable}
 use Rattle.proof_lift.specs.Walking.{Kept, Stands}
@@ -13,7 +13,7 @@ pub returns-clause-ready : goal.returns-clause-ready
 returns-clause-ready c =
     let F = c.args.formula in
     let q = c.args.cube.items in
-    let form : IsFormula F = subst (λ (f : Cnf). IsFormula f) c.formula.view_is c.formula.invariant in
+    let form : IsFormula F = c.vars.ensures.valid in
     let units : length q ≡ c.len-2.result = omega (arith, c.len-2.ensures, c.args.cube.ok) in
     let is : stands_of c.in_ok-images.images ≡ leaf_stands q F = c.in_ok-images.ensures.stands q units in
     let at = λ (n i : ℕ) (D : Clause) (e : stands_of c.in_ok-images.images n ≡ Some (Kept i D)). leaf_kept q F n i D (sym (ap (λ (T : Stands). T n) is) ∙ e) in
