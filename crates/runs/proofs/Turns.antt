@@ -1,11 +1,10 @@
 -- What the rounds over lines have done.
-use Rattle.std.proofs.Common.{◌≡◌, ◌≤◌, ◌<◌, ℕ, ◌+◌, ◌⊎◌, ◌∙◌, inl, inr, List, [], ◌∷◌, length, Bool, true, false, not, refl, ap, subst, sym, All, drop, set, get_or, arith}
+use Rattle.std.proofs.Common.{◌≡◌, ◌≤◌, ◌<◌, ℕ, ◌+◌, ◌⊎◌, ◌∙◌, inl, inr, List, [], ◌∷◌, length, Bool, true, false, not, refl, ap, subst, All, drop, set, get_or, arith}
 use Rattle.std.specs.List.{list_all}
-use Rattle.std.proofs.lemmas.List.{drop-set-lt, drop_more}
+use Rattle.std.proofs.lemmas.List.{drop-set-lt, drop_all, drop_more}
 use Rattle.std.proofs.lemmas.List.Elements.{All-get_or}
 use Rattle.coordinator_core.specs.Coordinator.{CoordinatorState}
 use Rattle.lrat_check.specs.declared.verdict.Verdict.{Verdict}
-use Rattle.lrat_check.specs.declared.verdict.Verdict.TheVariants.{Nothing}
 use Rattle.runs.specs.Accounts.{HasBegun, RoseBy}
 use Rattle.runs.specs.inner.Accounts.{IsOver, one_if_open}
 use Rattle.runs.specs.inner.Lines.{HasServed, HasTurned, IsFresh, IsUnderWay, IsUntouched, open_count}
@@ -42,6 +41,10 @@ some_open {P} (l ∷ lines) closed = with_first l.is_open refl closed (λ rest. 
         let some : 1 ≤ open_count lines = rest (cc) in
         let whole = split l lines in
         omega (arith, some, whole)
+
+-- behind the last line none is open
+pub none_behind : {P : Type 0} (lines : List (Line P)) (i : ℕ) → length lines ≤ i → open_count (drop i lines) ≡ 0
+none_behind {P} lines i past = ap (λ (ls : List (Line P)). open_count ls) (drop_all i lines past)
 
 untouched_open : {P : Type 0} (least : P → ℕ) (lines : List (Line P)) → 1 ≤ length lines → All (IsUntouched least) lines → 1 ≤ open_count lines
 untouched_open least [] some untouched = absurd (omega (arith, some))
