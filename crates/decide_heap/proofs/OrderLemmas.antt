@@ -28,6 +28,16 @@ no_worse_through scores u v w a b =
 pub no_worse_at : (scores : List ℕ) (u v w x : ℕ) → w ≡ u → x ≡ v → NoWorse scores u v → NoWorse scores w x
 no_worse_at scores u v w x e f h = rw (e, f) h
 
+-- over both of two places beside one another
+pub over_both : (scores heap : List ℕ) (len left at : ℕ) → IsOver scores heap at left → (left + 1 < len → IsOver scores heap at (left + 1))
+    → (k : ℕ) → left ≤ k → k ≤ left + 1 → k < len → IsOver scores heap at k
+over_both scores heap len left at first second k low high lt = ⊎_elim
+    (λ (e : k ≡ left). no_worse_at scores _ _ _ _ refl (ap (λ i. get_or heap i 0) e) first)
+    (λ (n : k ≢ left).
+    let e : k ≡ left + 1 = omega arith in
+    no_worse_at scores _ _ _ _ refl (ap (λ i. get_or heap i 0) e) (second (omega arith)))
+    (cases_eq k left)
+
 -- one place up
 pub rising_step : (scores old new : List ℕ) (len at above : ℕ) → above ≡ parent at → 0 < at → at < len → AreSwapped old new at above
     → NoWorse scores (get_or old at 0) (get_or old above 0) → IsRising scores old len at → IsRising scores new len above

@@ -10,6 +10,10 @@ use Rattle.dimacs.specs.logic.Rat.{Group}
 use Rattle.lrat_text.specs.Groups.{groups_from}
 use Rattle.lrat_text.specs.inner.Groups.{AreHeads, start_at}
 use Rattle.lrat_text.specs.GroupLists.{with_hint}
+use Rattle.dimacs.specs.logic.Literal.{Literal}
+use Rattle.lrat_text.specs.Reading.{groups_in}
+use Rattle.lrat_text.specs.declared.token.Token.{Token}
+use Rattle.lrat_text.specs.declared.token.Token.TheVariants.{Plus, Minus}
 
 -- there are as many groups as heads
 pub length_groups : (start : ℕ) (heads : List Head) (hints : List ℕ) → length (groups_from start heads hints) ≡ length heads
@@ -124,3 +128,13 @@ pub length_with_hint : (n : ℕ) (groups : List Group) → length (with_hint n g
 length_with_hint n [] = refl
 length_with_hint n (g ∷ []) = refl
 length_with_hint n (g ∷ h ∷ groups) = omega (arith, length_with_hint n (h ∷ groups))
+
+-- a group more, and a hint more in the last one, as they are read
+module _ (id n : ℕ) (lits : List Literal) (hints : List ℕ) (groups new : List Group) (t : Token) (tokens rest : List Token) (first : tokens ≡ t ∷ rest) where
+  pub group_read : t ≡ Minus n → new ≡ groups ++ (n, []) ∷ [] → groups_in id lits hints new rest ≡ groups_in id lits hints groups tokens
+  unfolding groups_in
+  group_read e g = rw (first, e, g) refl
+
+  pub hint_read : t ≡ Plus n → new ≡ with_hint n groups → groups_in id lits hints new rest ≡ groups_in id lits hints groups tokens
+  unfolding groups_in
+  hint_read e g = rw (first, e, g) refl

@@ -28,19 +28,17 @@ loop-at-preserved c =
     let new = c.carry.new.fresh in
     let carried = c.in_ok-carry.ensures in
     let told = c.args.moved.now.items ++ moves_from 0 refs in
-    let long : vec_len c.args.moved.now ≡ length c.args.moved.now.items = omega (arith, c.args.moved.now.ok) in
-    (
+    let long : vec_len c.args.moved.now ≡ length c.args.moved.now.items = omega (arith, c.args.moved.now.ok) in (
       literals_step refs i _ c.loop-at-test.true literals old.items new.items (gathered literals refs) carried.literals c.loop-at.invariant.0,
       moves_step refs i _ c.loop-at-test.true c.loop-at.moved.items c.carry.new.moved.items told (vec_len old) (vec_len new) carried.moves
-      (place_step refs i _ c.loop-at-test.true literals old.items new.items (vec_len old) (vec_len new) (c.requires i _ c.loop-at-test.true) (omega (arith, old.ok)) (omega (arith, new.ok)) carried.literals) c.loop-at.invariant.1,
+          (place_step refs i _ c.loop-at-test.true literals old.items new.items (vec_len old) (vec_len new) (c.requires i _ c.loop-at-test.true) (omega (arith, old.ok)) (omega (arith, new.ok)) carried.literals) c.loop-at.invariant.1,
       front_step (vec_len c.args.moved.now) c.args.moved.now.items c.loop-at.moved.items c.carry.new.moved.items _ long carried.moves c.loop-at.invariant.2,
     )
 
 pub loop-at-init : goal.loop-at-init
 loop-at-init c =
     let moved = c.args.moved.now in
-    let refs = c.args.refs.now in
-    (
+    let refs = c.args.refs.now in (
       ap (λ (xs : List Literal). xs ++ gathered c.args.literals.now refs) c.in_ok-fresh.ensures.items,
       ap (λ n. moved.items ++ moves_from n refs) {y = 0} (omega (arith, c.in_ok-fresh.ensures.len)),
       take_all (vec_len moved) moved.items (omega (arith, moved.ok)),

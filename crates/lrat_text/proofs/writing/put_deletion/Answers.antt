@@ -22,3 +22,12 @@ returns-clause-begins c =
     let letter = c.put_text.new.out.items in
     let ids = c.put_numbers.new.out.items in
     begins_more old ids c.put_text-2.new.out.items (begins_more old letter ids (begins_more old number letter c.put_number.ensures.begins c.put_text.ensures.begins) c.put_numbers.ensures.begins) c.put_text-2.ensures.begins
+
+pub returns-in_err-put_text-clause-begins : goal.returns-in_err-put_text-clause-begins
+returns-in_err-put_text-clause-begins c = begins_more c.args.out.now.items c.put_number.new.out.items c.put_text.new.out.items c.put_number.ensures.begins c.put_text.ensures.begins
+
+pub returns-in_err-put_numbers-clause-begins : goal.returns-in_err-put_numbers-clause-begins
+returns-in_err-put_numbers-clause-begins c =
+    let old = c.args.out.now.items in
+    let letter = c.put_text.new.out.items in
+    begins_more old letter c.put_numbers.new.out.items (begins_more old c.put_number.new.out.items letter c.put_number.ensures.begins c.put_text.ensures.begins) c.put_numbers.ensures.begins

@@ -19,3 +19,6 @@ returns-clause-begins c =
     let number = c.put_number.new.out.items in
     let literals = c.put_literals.new.out.items in
     begins_more old literals c.put_text.new.out.items (begins_more old number literals c.put_number.ensures.begins c.put_literals.ensures.begins) c.put_text.ensures.begins
+
+pub returns-in_err-put_literals-clause-begins : goal.returns-in_err-put_literals-clause-begins
+returns-in_err-put_literals-clause-begins c = begins_more c.args.out.now.items c.put_number.new.out.items c.put_literals.new.out.items c.put_number.ensures.begins c.put_literals.ensures.begins
