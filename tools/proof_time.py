@@ -2,17 +2,25 @@
 """Runs a command that proves crates, and prints where the time went.
 
     tools/proof_time.py [--functions N] [--log FILE] COMMAND..
+    tools/proof_time.py --kept CRATE [--functions N]
 
     tools/proof_time.py rt ci                       the gate: proofs, tests and edits of each crate
     tools/proof_time.py rt all check --jobs 4       the proofs alone
+    tools/proof_time.py --kept dimacs               the parts of a crate that its last check was longest at
 
 Twice a second it looks in /proc at the checker's processes: processor seconds and peak memory by crate, and by what was checked
 (the crate, its tests, or an edit that must fail). A process that begins and ends between two looks is missed; none of the
 checker's does. The checker prints a line when it has checked a function: with --functions the N longest waits for such a line are
 listed, which is the time of that function where one job is at work. The command's own output goes to --log, else nowhere.
+
+A check with one job writes a file into out/incremental for each part of a function when it is done with that part. So --kept needs no
+run: it prints the N longest waits from one file to the next (40 where N is not given), and the sum for each kind of part. `Proof` is what
+the tactics looked for, `Answers` what was written by hand, `Lts` what the code of the function means, `Tie` and `Kinds` how it is tied to
+its types. A part that an earlier check has kept is not done again, so it counts as nothing.
 """
 import argparse
 import collections
+import glob
 import os
 import re
 import subprocess
@@ -105,12 +113,35 @@ def table_of(seen):
     return rows
 
 
+def tell_kept(crate, number):
+    """Prints what the last check of a crate was longest at."""
+    top = os.path.dirname(os.path.dirname(os.path.abspath(__file__)))
+    files = glob.glob(f"{top}/crates/{crate}/out/incremental/*/*.oantt")
+    done = sorted((os.stat(it).st_mtime, re.sub(r"(\.decls)?\.oantt$", "", os.path.basename(it))) for it in files)
+    if not done:
+        print(f"no check of {crate} has kept anything here")
+        return 1
+    waits = collections.Counter()
+    for (before, _), (after, name) in zip(done, done[1:]):
+        waits[name.removeprefix(f"Rattle-{crate}-")] += after - before
+    kinds = collections.Counter()
+    for name, seconds in waits.items():
+        kinds[name.rpartition(".")[2]] += seconds
+    for seconds, name in sorted(((it, name) for name, it in waits.items()), reverse=True)[:number]:
+        print(f"{seconds:8.1f} s  {name}")
+    print("\nby kind: " + ", ".join(f"{name} {seconds:.0f}" for name, seconds in kinds.most_common(6)))
+    return 0
+
+
 def main():
     parser = argparse.ArgumentParser(usage=__doc__.split("\n\n")[1].strip())
+    parser.add_argument("--kept", metavar="CRATE")
     parser.add_argument("--functions", type=int, default=0)
     parser.add_argument("--log", default=os.devnull)
     parser.add_argument("command", nargs=argparse.REMAINDER)
     asked = parser.parse_args()
+    if asked.kept:
+        return tell_kept(asked.kept, asked.functions or 40)
     if not asked.command:
         parser.error("a command is missing")
     seen, waits, begun = {}, [], time.time()
