@@ -1,0 +1,24 @@
+use Rattle.std.proofs.Common.{◌∙◌, ap, arith, subst, sym}
+use Rattle.std.proofs.lemmas.List.{with_items_is}
+use Rattle.arriving.specs.Accounts.{open_at}
+use Rattle.arriving.specs.inner.Seats.{AreApart}
+use Rattle.arriving.proofs.run.Run.take.Goals as goal
+
+pub returns-clause-each : goal.returns-clause-each
+returns-clause-each g c p =
+    let heard = with_items_is c.args.self.now.lines c.hear_at.new.lines (omega (arith, c.hear_at.auto.lines, c.deref_mut.ensures.len)) in
+    let left = ap (λ lines. open_at lines p) heard in
+    let began = ap (λ lines. open_at lines p) c.deref_mut.ensures.value in
+    let each = c.hear_at.ensures.each p in
+    omega (arith, left, began, each)
+
+pub returns-clause-first : goal.returns-clause-first
+returns-clause-first g c none =
+    let heard = with_items_is c.args.self.now.lines c.hear_at.new.lines (omega (arith, c.hear_at.auto.lines, c.deref_mut.ensures.len)) in
+    let first = c.hear_at.ensures.first (c.deref_mut.ensures.value ∙ none) in
+    (first.0, heard ∙ first.1)
+
+pub returns-clause-apart : goal.returns-clause-apart
+returns-clause-apart g c apart =
+    let heard = with_items_is c.args.self.now.lines c.hear_at.new.lines (omega (arith, c.hear_at.auto.lines, c.deref_mut.ensures.len)) in
+    subst AreApart (sym heard) (c.hear_at.ensures.apart (subst AreApart (sym c.deref_mut.ensures.value) apart))
