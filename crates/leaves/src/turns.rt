@@ -169,8 +169,16 @@ pub fn run_refute_all(
     }
     let mut run = Turns::of(alloc, split)?;
     for leaf in first..last + 1 {
-        if let Some(values) = run.turn(alloc, split, leaf, search)? {
-            return satisfied(alloc, &values, search.witness);
+        match run.turn(alloc, split, leaf, search) {
+            Ok(None) => {}
+            Ok(Some(values)) => {
+                drop(run);
+                return satisfied(alloc, &values, search.witness);
+            }
+            Err(fault) => {
+                drop(run);
+                return Err(fault);
+            }
         }
     }
     Ok(ended(run))

@@ -1,4 +1,4 @@
-use Rattle.std.proofs.Common.{◌≡◌, ◌+◌, ◌<◌, ◌≤◌, List, Bool, Option, inl, inr, None, length, subst, arith}
+use Rattle.std.proofs.Common.{◌≡◌, ◌+◌, ◌<◌, ◌≤◌, List, Bool, Option, inl, inr, length, subst, arith}
 use Rattle.leaves.specs.inner.Turns.{TakesTurn}
 use Rattle.leaves.proofs.LineLemmas.{if_if}
 use Rattle.leaves.proofs.TurnLemmas.{all_done, finds_model, none_done, one_done}
@@ -16,10 +16,10 @@ loop-leaf-preserved c =
     let low : 0 < n = omega arith in
     let up : n ≤ length c.args.split.now.tree = omega arith in
     one_done c.args.split.now.formula c.args.split.now.tree c.args.first n c.args.search.now c.loop-leaf.run c.turn.new.self c.loop-leaf.invariant low up
-    (subst (λ (found : Option (List Bool)). TakesTurn c.args.split.now.formula c.args.split.now.tree n c.args.search.now c.loop-leaf.run c.turn.new.self found) c.in_default.is c.in_ok-values.ensures)
+    (subst (λ (found : Option (List Bool)). TakesTurn c.args.split.now.formula c.args.split.now.tree n c.args.search.now c.loop-leaf.run c.turn.new.self found) c.in-Ok-None.field-0-is c.in-Ok-None.ensures)
 
-pub returns-in-Some : goal.returns-in-Some
-returns-in-Some c =
+pub returns-in-Ok-Some : goal.returns-in-Ok-Some
+returns-in-Ok-Some c =
     let n = c.loop-leaf.leaf in
     let v = c.leaves.ensures.value in
     let a = c.loop-leaf.auto.leaf in
@@ -28,8 +28,8 @@ returns-in-Some c =
     let before : n ≤ c.args.last = omega arith in
     if_if c.satisfied.result _ _ (λ r h. record {
       inside = λ x y z. inl (finds_model c.args.split.now.formula c.args.split.now.tree c.args.first n c.args.search.now c.loop-leaf.run c.turn.new.self c.loop-leaf.invariant low up
-          c.in-Some.values c.args.last before
-          (subst (λ (found : Option (List Bool)). TakesTurn c.args.split.now.formula c.args.split.now.tree n c.args.search.now c.loop-leaf.run c.turn.new.self found) c.in-Some.is c.in_ok-values.ensures) r h);
+          c.in-Ok-Some.values c.args.last before
+          (subst (λ (found : Option (List Bool)). TakesTurn c.args.split.now.formula c.args.split.now.tree n c.args.search.now c.loop-leaf.run c.turn.new.self found) c.in-Ok-Some.field-0-is c.in-Ok-Some.ensures) r h);
       zero = λ e. absurd (c.if-first-eq0.false e);
       none = λ e. absurd (omega arith);
       above = λ e. absurd (omega arith);

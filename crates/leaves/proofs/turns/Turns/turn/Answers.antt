@@ -1,4 +1,4 @@
-use Rattle.std.proofs.Common.{◌≡◌, ◌∙◌, ◌++◌, List, ℕ, refl, ap, subst}
+use Rattle.std.proofs.Common.{◌≡◌, ◌∙◌, ◌++◌, ℕ, refl, ap, subst}
 use Rattle.std.specs.Global.{Vec}
 use Rattle.cube_solve.specs.Outcome.{IsRightOutcome}
 use Rattle.cube_solve.specs.declared.outcome.Outcome.{Outcome}
