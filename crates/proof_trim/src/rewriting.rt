@@ -1,6 +1,6 @@
 //! The lines that stay, under the numbers that they get.
 
-ghost use Rattle.lrat_text.specs.Grammar.{IsStep};
+ghost use Rattle.lrat_text.specs.Grammar.{IsClauseNumber, IsStep};
 ghost use Rattle.lrat_text.specs.Steps.{step_of};
 
 use crate::lines::deletes;
@@ -35,6 +35,19 @@ impl Model for Rewriter {
 }
 
 impl Rewriter {
+    /// No text, whose deletions begin with this number.
+    fn new(alloc: Global, top: u64) -> Rewriter
+        requires { IsClauseNumber top }
+    {
+        Rewriter {
+            out: PackedText::new(alloc),
+            written: Vec::new(alloc),
+            top,
+            numbers: Vec::new(alloc),
+            groups: Groups::new(alloc),
+        }
+    }
+
     /// Appends a step's line, if it stays.
     fn put(&mut self, needs: &Needs, step: StepRef<'_>) -> Result<(), AllocError>
         requires { IsStep (step_of step) }
@@ -82,6 +95,29 @@ impl Rewriter {
         self.put(needs, buffer.as_ref())?;
         Ok(())
     }
+
+    /// Appends those of the lines that stay.
+    fn put_lines(
+        &mut self,
+        needs: &Needs,
+        buffer: &mut StepBuffer,
+        alloc: Global,
+        text: &PackedText,
+    ) -> Result<(), TextFault> {
+        let mut lines = PackedLines::of(alloc, text);
+        let mut line = Vec::new(alloc);
+        let mut place = 0usize;
+        while lines.next(&mut line)? {
+            let adds = !deletes(&line);
+            if !adds || needs.has(place) {
+                self.put_line(needs, buffer, &line)?;
+            }
+            if adds {
+                place = place.saturating_add(1);
+            }
+        }
+        Ok(())
+    }
 }
 
 /// A fragment with those lemmas alone that are needed.
@@ -91,25 +127,8 @@ pub(crate) fn rewrite(
     buffer: &mut StepBuffer,
     text: &PackedText,
 ) -> Result<PackedText, TextFault> {
-    let mut rewriter = Rewriter {
-        out: PackedText::new(alloc),
-        written: Vec::new(alloc),
-        top: needs.base().max(1),
-        numbers: Vec::new(alloc),
-        groups: Groups::new(alloc),
-    };
-    let mut lines = PackedLines::of(alloc, text);
-    let mut line = Vec::new(alloc);
-    let mut place = 0usize;
-    while lines.next(&mut line)? {
-        let adds = !deletes(&line);
-        if !adds || needs.has(place) {
-            rewriter.put_line(needs, buffer, &line)?;
-        }
-        if adds {
-            place = place.saturating_add(1);
-        }
-    }
+    let mut rewriter = Rewriter::new(alloc, needs.base().max(1));
+    rewriter.put_lines(needs, buffer, alloc, text)?;
     let Rewriter { out, .. } = rewriter;
     Ok(out)
 }

@@ -42,23 +42,37 @@ fn count_lemmas(
 }
 
 /// The fragment without the lemmas that its last one does not need, where it has many, and at least a quarter of them go.
-fn shorter(alloc: Global, base: u64, text: &PackedText) -> Result<Option<PackedText>, TextFault>
+fn shorter_by(
+    alloc: Global,
+    base: u64,
+    buffer: &mut StepBuffer,
+    text: &PackedText,
+) -> Result<Option<PackedText>, TextFault>
     requires { base < 2 ^ 40 }
 {
-    let mut buffer = StepBuffer::new(alloc);
-    let Some(count) = count_lemmas(alloc, base, &mut buffer, text)? else {
+    let Some(count) = count_lemmas(alloc, base, buffer, text)? else {
         return Ok(None);
     };
     if count < MANY {
         return Ok(None);
     }
-    let Some(mut needs) = Needs::of(alloc, base, count, &mut buffer, text)? else {
+    let Some(mut needs) = Needs::of(alloc, base, count, buffer, text)? else {
         return Ok(None);
     };
     if needs.rank() > count / 4 * 3 {
         return Ok(None);
     }
-    Ok(Some(rewrite(alloc, &needs, &mut buffer, text)?))
+    Ok(Some(rewrite(alloc, &needs, buffer, text)?))
+}
+
+/// The same, with a buffer of its own.
+fn shorter(alloc: Global, base: u64, text: &PackedText) -> Result<Option<PackedText>, TextFault>
+    requires { base < 2 ^ 40 }
+{
+    let mut buffer = StepBuffer::new(alloc);
+    let found = shorter_by(alloc, base, &mut buffer, text);
+    drop(buffer);
+    found
 }
 
 /// Whether a text is a fragment that closes the cube, of at most `most` lines.

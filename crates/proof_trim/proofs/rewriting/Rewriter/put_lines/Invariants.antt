@@ -1,5 +1,5 @@
 use Rattle.std.proofs.Common.{length}
-use Rattle.proof_trim.proofs.rewriting.rewrite.Given as goal
+use Rattle.proof_trim.proofs.rewriting.Rewriter.put_lines.Given as goal
 
 abbrev pub decreases-loop-line : goal.decreases-loop-line
 decreases-loop-line l = length l.lines
