@@ -30,14 +30,25 @@ impl Lemmas {
             list: Vec::new(alloc),
             end: 0,
         };
+        match lemmas.note_all(alloc, text) {
+            Ok(()) => Ok(lemmas),
+            Err(error) => {
+                drop(lemmas);
+                Err(error)
+            }
+        }
+    }
+
+    /// Notes the lines of a text, up to the first empty lemma.
+    fn note_all(&mut self, alloc: Global, text: &PackedText) -> Result<(), AllocError> {
         let mut lines = PackedLines::of(alloc, text);
         let mut line = Vec::new(alloc);
         while lines.next(&mut line)? {
-            if lemmas.note(&line)? {
+            if self.note(&line)? {
                 break;
             }
         }
-        Ok(lemmas)
+        Ok(())
     }
 
     /// Notes a line, and tells whether it adds the empty clause.

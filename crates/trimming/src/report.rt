@@ -21,6 +21,15 @@ fn put_lemmas(out: &mut Vec<u8>, kept: u64, all: u64) -> Result<(), AllocError>
     out.extend_from_slice(b" lemmas\n")
 }
 
+/// What is printed of a proof that was trimmed.
+fn verified(alloc: Global, kept: u64, all: u64) -> Result<Vec<u8>, AllocError>
+    ensures { IfOk result (λ out. out.items ≡ codes "s VERIFIED\n" ++ lemmas_text kept all) }
+{
+    let mut out = Vec::from_slice(alloc, b"s VERIFIED\n")?;
+    put_lemmas(&mut out, kept, all)?;
+    Ok(out)
+}
+
 /// The report of what trimming answered. The error stands for the report `c no memory`, status 1.
 pub fn trim_report(alloc: Global, found: Result<Trimmed, CheckFault>) -> Result<Report, AllocError>
     ensures text { IfOk result (λ r. r.stdout.items ≡ trim_text found) }
@@ -30,12 +39,17 @@ pub fn trim_report(alloc: Global, found: Result<Trimmed, CheckFault>) -> Result<
     ensures memory { OnOk result (found ≢ Err no_memory) }
 {
     match found {
-        Ok(Trimmed { text, kept, all }) => {
-            let mut report = Report::of(alloc, b"s VERIFIED\n", 0)?;
-            put_lemmas(&mut report.stdout, kept, all)?;
-            report.proof = Some(text);
-            Ok(report)
-        }
+        Ok(Trimmed { text, kept, all }) => match verified(alloc, kept, all) {
+            Ok(stdout) => Ok(Report {
+                stdout,
+                status: 0,
+                proof: Some(text),
+            }),
+            Err(error) => {
+                drop(text);
+                Err(error)
+            }
+        },
         Err(fault) if fault.is_no_memory() => Err(AllocError),
         Err(fault) => {
             let mut report = Report::of(alloc, b"s NOT VERIFIED\nc ", 1)?;

@@ -108,15 +108,20 @@ impl Rewriter {
                 self.top = id;
                 Ok(())
             }
-            StepRef::Delete { ids } => {
-                keep_numbers(kept, ids, &mut self.numbers)?;
-                if self.numbers.is_empty() {
-                    return Ok(());
-                }
-                let line = StepRef::Delete { ids: &self.numbers };
-                self.out.put(line, self.top, &mut self.written)
-            }
+            StepRef::Delete { ids } => self.put_deletion(kept, ids),
         }
+    }
+
+    /// Appends the line of a deletion, if any of these clauses stays.
+    fn put_deletion(&mut self, kept: Kept<'_>, ids: &[u64]) -> Result<(), AllocError>
+        requires { All IsClauseNumber ids.now }
+    {
+        keep_numbers(kept, ids, &mut self.numbers)?;
+        if self.numbers.is_empty() {
+            return Ok(());
+        }
+        let line = StepRef::Delete { ids: &self.numbers };
+        self.out.put(line, self.top, &mut self.written)
     }
 
     /// Reads a line, and appends what stays of it.

@@ -1,5 +1,5 @@
 use Rattle.std.proofs.Common.{length}
-use Rattle.trimming.proofs.lemmas.Lemmas.of.Given as goal
+use Rattle.trimming.proofs.lemmas.Lemmas.note_all.Given as goal
 
 abbrev pub decreases-loop-line : goal.decreases-loop-line
 decreases-loop-line l = length l.lines
