@@ -13,6 +13,7 @@ pub mod Meeting
 pub mod Noting
 pub mod OneMore
 pub mod OnePast
+pub mod Passing
 pub mod Settling
 pub mod Stamps
 pub mod Tallying

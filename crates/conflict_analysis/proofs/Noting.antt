@@ -1,14 +1,16 @@
 -- How often variables are met, one literal after the other.
-use Rattle.std.proofs.Common.{◌≡◌, ℕ, zero, suc, ◌+◌, Bool, true, false, cond, eqb, ltb, ◌||◌, zero-add, ◌++◌, refl, ap, sym, ◌∙◌, subst, arith}
+use Rattle.std.proofs.Common.{◌≡◌, ℕ, zero, suc, ◌+◌, Bool, true, false, cond, eqb, ltb, ◌||◌, ◌<◌, zero-add, List, [], ◌∷◌, ◌++◌, length, set, refl, ap, sym, ◌∙◌, subst, arith}
 use Rattle.std.specs.List.{count_by}
-use Rattle.std.proofs.lemmas.Bool.{lt-ltb}
-use Rattle.std.proofs.lemmas.List.Sums.{sum_by-append}
+use Rattle.std.proofs.lemmas.Bool.{lt-ltb, eqb-true}
+use Rattle.std.proofs.lemmas.List.{get_or-set_same}
+use Rattle.std.proofs.lemmas.List.Sums.{sum_by-append, sum_by-cons}
 use Rattle.dimacs.specs.logic.Literal.{Literal, Clause, var_of}
 use Rattle.conflict_analysis.specs.Lemmas.{times}
 use Rattle.conflict_analysis.specs.declared.walk.Walk.{Walk}
 use Rattle.conflict_analysis.specs.inner.Seen.{met}
 use Rattle.conflict_analysis.specs.inner.Tallies.{HasNoted, again_of}
 use Rattle.conflict_analysis.proofs.Entries.{one_if}
+use Rattle.conflict_analysis.proofs.Meeting.{met_set}
 
 pub times_append : (v : ℕ) (C D : Clause) → times v (C ++ D) ≡ times v C + times v D
 times_append v C D = sum_by-append (λ (k : Literal). one_if (eqb v (var_of k))) C D
@@ -39,3 +41,34 @@ noted_further a b c C D h k = record {
       subst (λ n. count_by (eqb v) c.again.items ≡ count_by (eqb v) a.again.items + cond a.notes (again_of (met a.seen v) n) 0) (sym (times_append v C D))
       (again_further_if a.notes (met a.seen v) (times v C) (times v D) _ _ _ (h.again v) second);
 }
+
+-- ---- a literal whose variable was not met before
+times_one : (v : ℕ) (k : Literal) → times v (k ∷ []) ≡ one_if (eqb v (var_of k))
+times_one v k = let e = sum_by-cons (λ (l : Literal). one_if (eqb v (var_of l))) k [] in omega (arith, e)
+
+seen_one : (t : Bool) → t ≡ ltb 0 (one_if t)
+seen_one true = refl
+seen_one false = refl
+
+again_none : (notes before t : Bool) (x : ℕ) → (t ≡ true → before ≡ false) → x ≡ x + cond notes (again_of before (one_if t)) 0
+again_none false before t x h = omega arith
+again_none true true true x h = absurd (let e = h refl in cc)
+again_none true false true x h = omega arith
+again_none true true false x h = omega arith
+again_none true false false x h = omega arith
+
+pub noted_new : (old new : Walk) (k : Literal) → var_of k < length old.seen → met old.seen (var_of k) ≡ false → new.notes ≡ old.notes → new.seen ≡ set old.seen (var_of k) true
+    → new.again.items ≡ old.again.items → HasNoted old new (k ∷ [])
+noted_new old new k below unmet same seen again = record {
+  notes = same;
+  seen = λ v.
+      ap (λ (s : List Bool). met s v) seen ∙ met_set old.seen (var_of k) v below
+      ∙ ap (λ b. met old.seen v || b) (seen_one (eqb v (var_of k)) ∙ ap (ltb 0) (sym (times_one v k)));
+  again = λ v.
+      ap (λ (xs : List ℕ). count_by (eqb v) xs) again
+      ∙ subst (λ n. count_by (eqb v) old.again.items ≡ count_by (eqb v) old.again.items + cond old.notes (again_of (met old.seen v) n) 0) (sym (times_one v k))
+      (again_none old.notes (met old.seen v) (eqb v (var_of k)) _ (λ t. ap (met old.seen) (eqb-true v (var_of k) t) ∙ unmet));
+}
+
+pub met_here : (old new : List Bool) (v : ℕ) → v < length old → new ≡ set old v true → met new v ≡ true
+met_here old new v below is = ap (λ (s : List Bool). met s v) is ∙ get_or-set_same old v true false below

@@ -9,7 +9,8 @@ use Rattle.clause_arena.specs.Clauses.{live_of}
 use Rattle.conflict_analysis.specs.inner.Tallies.{IsTallied}
 use Rattle.conflict_analysis.specs.inner.Walks.{AreKnown, HasMet, IsWalk}
 use Rattle.conflict_analysis.proofs.OnePast.{past_unmet, reason_can_be_met, reason_lives, past_resolved, past_kept}
-use Rattle.conflict_analysis.proofs.Tallying.{tally_resolves}
+use Rattle.conflict_analysis.proofs.HasMet.{met_none}
+use Rattle.conflict_analysis.proofs.Tallying.{tally_passes, tally_resolves}
 use Rattle.conflict_analysis.proofs.Walking.{ok_both}
 use Rattle.conflict_analysis.proofs.walk.Walk.look.Goals as goal
 use Rattle.conflict_analysis.proofs.walk.Walk.look.Goals.{After-index-entries-i}
@@ -81,3 +82,25 @@ returns-in_ok-push-in-Some-clause-tally c = λ number h.
     (tally_resolves live c.args.trail.now number c.args.i c.args.self.now c.pass.new.self c.args.lemma.now.hints.items h c.pass.ensures.seen c.pass.ensures.again
     (c.pass.ensures.walk).valid c.index-entries-i.result c.requires.within c.in-Some.number x.0 x.1 (ap (λ (y : Assigned). y.reason) (sym (is b)) ∙ c.in-Some.ensures.choice.0)
     c.meet_number.new.self (OnTrue_at c.if-not-pass.false (c.pass.ensures.notes c.index-entries-i.result)) x.2)
+
+pub returns-then-not-pass-clause-seen : goal.returns-then-not-pass-clause-seen
+returns-then-not-pass-clause-seen c = subst (HasMet (take c.args.i c.args.trail.now.entries) c.args.self.now.seen) (sym c.pass.ensures.seen) (met_none _ c.args.self.now.seen)
+
+pub returns-in_ok-push-in-Some-clause-seen : goal.returns-in_ok-push-in-Some-clause-seen
+returns-in_ok-push-in-Some-clause-seen c =
+    subst (λ s. HasMet (take c.args.i c.args.trail.now.entries) s c.meet_number.new.self.seen) c.pass.ensures.seen
+    (subst (λ xs. HasMet (take c.args.i xs) c.pass.new.self.seen c.meet_number.new.self.seen) c.entries-entries.ensures.entries c.in_ok-meet_number-in-Some.ensures.seen)
+
+pub returns-in-None-clause-seen : goal.returns-in-None-clause-seen
+returns-in-None-clause-seen c = on_ok_weaker c.keep.result
+    (λ kept. subst (HasMet (take c.args.i c.args.trail.now.entries) c.args.self.now.seen) (sym c.pass.ensures.seen) (met_none _ c.args.self.now.seen)) c.keep.ensures.lits
+
+pub returns-then-not-pass-clause-tally : goal.returns-then-not-pass-clause-tally
+returns-then-not-pass-clause-tally c = λ number h.
+    tally_passes (live_of c.args.arena.now) c.args.trail.now number c.args.i c.args.self.now c.pass.new.self c.args.lemma.now.hints.items h c.pass.ensures.seen c.pass.ensures.again
+
+pub returns-in-None-clause-tally : goal.returns-in-None-clause-tally
+returns-in-None-clause-tally c = on_ok_weaker c.keep.result (λ kept number h.
+    let live = live_of c.args.arena.now in
+    subst (IsTallied live c.args.trail.now number c.args.i c.pass.new.self) (sym c.keep.ensures.hints)
+    (tally_passes live c.args.trail.now number c.args.i c.args.self.now c.pass.new.self c.args.lemma.now.hints.items h c.pass.ensures.seen c.pass.ensures.again)) c.keep.ensures.lits

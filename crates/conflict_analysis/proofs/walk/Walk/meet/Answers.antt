@@ -1,9 +1,10 @@
-use Rattle.std.proofs.Common.{◌≡◌, [], ◌∷◌, ◌++◌, true, false, refl, sym, ◌∙◌, ap, set, get_or, subst}
+use Rattle.std.proofs.Common.{◌≡◌, ◌<◌, length, arith, [], ◌∷◌, ◌++◌, true, false, refl, sym, ◌∙◌, ap, set, get_or, subst}
 use Rattle.std.proofs.lemmas.Result.{on_ok_weaker}
 use Rattle.dimacs.specs.logic.Literal.{negation, var_of}
 use Rattle.watches.specs.Trails.{holds}
 use Rattle.watches.specs.declared.trail.Assigned.{Assigned}
 use Rattle.conflict_analysis.specs.inner.Seen.{met}
+use Rattle.conflict_analysis.proofs.Noting.{noted_new, met_here}
 use Rattle.conflict_analysis.proofs.OneMore.{meets_here, meets_below, meets_only, unmet_false}
 use Rattle.conflict_analysis.proofs.walk.Walk.meet.Goals as goal
 use Rattle.conflict_analysis.proofs.walk.Walk.meet.Goals.{In_ok-push}
@@ -55,3 +56,30 @@ returns-else-entry-self-clause-seen c =
     meets_only c.args.trail.now c.args.front.now c.args.self.now c.args.literal c.entry_of-entry.result c.requires.walk c.requires.within c.requires.known (new b) c.entry_of-entry.ensures.member (is b)
     c.place_of-place.result c.place_of-place.ensures.within (stands b)
     _ (c.insert.ensures ∙ ap (λ v. set c.args.self.now.seen v true) c.var-var.ensures)
+
+-- there is room for the variable
+room : (c : In_ok-push) → var_of c.args.literal < length c.args.self.now.seen
+room c = let r = (c.requires.walk).room in let w = c.requires.within in omega arith
+
+marked : (c : In_ok-push) → set c.args.self.now.seen c.var-var.result true ≡ set c.args.self.now.seen (var_of c.args.literal) true
+marked c = ap (λ v. set c.args.self.now.seen v true) c.var-var.ensures
+
+pub returns-then-entry-self-clause-noted : goal.returns-then-entry-self-clause-noted
+returns-then-entry-self-clause-noted c =
+    let b = (goal.at.returns-then-entry-self-clause-noted c).In_ok-push in
+    noted_new c.args.self.now _ c.args.literal (room b) (new b) refl (c.insert.ensures ∙ marked b) refl
+
+pub returns-else-entry-self-clause-noted : goal.returns-else-entry-self-clause-noted
+returns-else-entry-self-clause-noted c =
+    let b = (goal.at.returns-else-entry-self-clause-noted c).In_ok-push in
+    noted_new c.args.self.now _ c.args.literal (room b) (new b) refl (c.insert.ensures ∙ marked b) refl
+
+pub returns-then-entry-self-clause-here : goal.returns-then-entry-self-clause-here
+returns-then-entry-self-clause-here c =
+    let b = (goal.at.returns-then-entry-self-clause-here c).In_ok-push in
+    met_here c.args.self.now.seen _ (var_of c.args.literal) (room b) (c.insert.ensures ∙ marked b)
+
+pub returns-else-entry-self-clause-here : goal.returns-else-entry-self-clause-here
+returns-else-entry-self-clause-here c =
+    let b = (goal.at.returns-else-entry-self-clause-here c).In_ok-push in
+    met_here c.args.self.now.seen _ (var_of c.args.literal) (room b) (c.insert.ensures ∙ marked b)
