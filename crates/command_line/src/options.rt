@@ -1,7 +1,7 @@
 //! How a formula is decided.
 
 /// How a formula is decided, and what is printed of it. A command that has no word for a field takes what is said here.
-#[derive(Clone, Copy, Debug, PartialEq, Eq)]
+#[derive(Clone, Copy, PartialEq, Eq)]
 pub struct Options {
     /// How many workers there are, from 1 to 64; else 2.
     pub workers: u32,

@@ -9,7 +9,7 @@ use std::alloc::AllocError;
 use thiserror::Error;
 
 /// What is to be done, and with which files.
-#[derive(Debug, Drop, PartialEq, Eq)]
+#[derive(Drop, PartialEq, Eq)]
 pub enum Request<'a> {
     /// Decide a formula, split by the cubes of a file where one is named, and write the proof to a file where one is named.
     Solve {
