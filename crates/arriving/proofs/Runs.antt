@@ -76,6 +76,9 @@ at_end turns base calls lines stuck v stage some = elim stage [
   | inr begun ↦ begun
 ]
 
+pub at_least : (a more : ℕ) → a ≤ a + more
+at_least a more = omega arith
+
 -- one call, and what follows it
 pub rose_one : (old mid new : ℕ) → mid ≡ one_more old → mid ≤ new → RoseBy 1 old new
 rose_one old mid new call rises = elim (cases_lt old (2 ^ 64 - 1)) [
