@@ -1,15 +1,18 @@
 -- What a poll gives, and frames that are handed out one by one.
 use Rattle.std.proofs.Common.{◌≡◌, ℕ, Bool, true, false, List, [], ◌∷◌, Option, Some, None, Result, Ok, Err, refl, subst, sym, ◌∙◌, IfOk, OnOk, OnErr, ◌^◌}
-use Rattle.std.specs.Prelude.{nat_lt, position}
+use Rattle.std.specs.Prelude.{nat_lt, position, IsSome}
 use Rattle.lrat_check.specs.declared.verdict.Reaction.TheVariants as reaction
 use Rattle.lrat_check.specs.declared.verdict.Verdict.{Verdict}
 use Rattle.lrat_check.specs.declared.verdict.Verdict.TheVariants.{Nothing, Model, Proof}
+use Rattle.frames.specs.Stream.{Progress, TakesPiece}
 use Rattle.frames.specs.declared.frame.Frame.{Frame}
 use Rattle.frames.specs.declared.frame.Frame.TheVariants.{Idle, Rest}
 use Rattle.evidence.specs.Events.{Sent, Reacted, given_by}
 use Rattle.coordinator_core.specs.declared.desks.Fixed.{Fixed}
 use Rattle.coordinator_core.specs.declared.desks.Job.{Job}
-use Rattle.arriving.specs.inner.Deliveries.{AreDelivered, HasNothing, IsAsked, IsHeard, IsNextDelivered}
+use Rattle.arriving.specs.declared.line.Line.{Line}
+use Rattle.arriving.specs.inner.Seats.{seated_worker}
+use Rattle.arriving.specs.inner.Deliveries.{AreDelivered, AreHeard, HasNothing, IsAsked, IsHeard, IsNextDelivered}
 use Rattle.coordinator_core.specs.Coordinator.{CoordinatorState, CoordinatorPolls, coordinator_poll, poll_by, stuck_poll, job_poll, fixed_poll, leaf_poll, verdict_poll, want_at, job_at, is_open}
 
 polled : (c : CoordinatorState) (worker : ℕ) (frame : Frame) (new : CoordinatorState) → CoordinatorPolls c worker (Sent frame) new
@@ -109,3 +112,16 @@ delivered_first (Ok x) queued seat asked worker own incarnation waiting left old
     let behind = subst (λ (frames : List Frame). AreDelivered (Some worker) frames told new) all (subst (λ (k : Option ℕ). AreDelivered k left told new) (same ∙ is_seat) rest) in
     let first = subst (λ (i : ℕ). IsNextDelivered (Some worker) (Idle worker i) old told) is_own (subst (λ (k : Option ℕ). IsNextDelivered k (Idle worker own) old told) is_seat next) in
     subst (λ (v : ℕ). AreDelivered (Some v) (Idle v incarnation ∷ waiting) old new) who (first waiting new behind)
+
+-- bytes of who is linked were taken, and their frames delivered
+pub heard_by : {E : Type 0} (turn : Result (Unit {0}) E) (bytes : List ℕ) (old mid new : Line) (before after : CoordinatorState)
+    → TakesPiece old.reader bytes old.waiting.items mid.waiting.items (Ok tt) mid.reader → new.reader ≡ mid.reader → seated_worker mid ≡ seated_worker old
+    → OnOk turn (new.waiting.items ≡ []) → OnOk turn (AreDelivered (seated_worker mid) mid.waiting.items before after)
+    → OnOk turn (IsSome (seated_worker old) → AreHeard bytes old new before after)
+heard_by (Err fault) bytes old mid new before after came same seat none given = tt
+heard_by (Ok x) bytes old mid new before after came same seat none given = λ some. record {
+  frames = mid.waiting.items;
+  came = subst (λ (r : Progress). TakesPiece old.reader bytes old.waiting.items mid.waiting.items (Ok tt) r) (sym same) came;
+  delivered = subst (λ (k : Option ℕ). AreDelivered k mid.waiting.items before after) seat given;
+  none_waits = none;
+}

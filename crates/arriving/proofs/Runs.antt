@@ -92,6 +92,12 @@ most_one old mid new call most = elim (cases_lt old (2 ^ 64 - 1)) [
   | inr top ↦ let e : mid ≡ old = grind (arith, nat_tests) in omega (arith, e, most)
 ]
 
+pub one_at_most : (old new : ℕ) → new ≡ one_more old → new ≤ old + 1
+one_at_most old new call = elim (cases_lt old (2 ^ 64 - 1)) [
+  | inl below ↦ let e : new ≡ old + 1 = grind (arith, nat_tests) in omega (arith, e)
+  | inr top ↦ let e : new ≡ old = grind (arith, nat_tests) in omega (arith, e)
+]
+
 pub few_one : (old mid : ℕ) → mid ≡ one_more old → mid ≤ old + 4038
 few_one old mid call = most_one old mid mid call (omega arith)
 
