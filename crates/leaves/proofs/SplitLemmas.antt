@@ -81,3 +81,8 @@ no_split F leaves zero on r never printed = printed
 no_split F leaves (suc place) on r never printed =
     let past : length leaves ≤ place = elim never [ | inl zero_is ↦ absurd (omega (arith, zero_is)) | inr above ↦ omega (arith, above) ] in
     subst (λ (q : Option Cube). PrintsSplitOf F leaves place q on r) (sym (slice_get_past leaves place past)) printed
+
+pub prints_of : {E : Type 0} (r : Result Report E) (status : ℕ) (text : List ℕ) → IfOk r (λ x. x.stdout.items ≡ text) → IfOk r (λ x. x.status ≡ status)
+    → IfOk r (λ x. x.proof ≡ None) → IfOk r (Prints status text)
+prints_of (Ok x) status text text_is status_is no_proof = record { status_is = status_is; text_is = text_is; no_proof = no_proof }
+prints_of (Err fault) status text text_is status_is no_proof = tt
