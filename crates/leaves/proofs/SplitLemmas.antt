@@ -79,7 +79,7 @@ split_at F leaves (suc place) on r some most printed =
 pub no_split : (F : Cnf) (leaves : List Cube) (leaf : ℕ) (on : Option ℕ) (r : Report) → (leaf ≡ 0) ⊎ (length leaves < leaf) → Prints 1 no_leaf_text r → PrintsSplit F leaves leaf on r
 no_split F leaves zero on r never printed = printed
 no_split F leaves (suc place) on r never printed =
-    let past : length leaves ≤ place = elim never [ | inl zero_is ↦ absurd (omega (arith, zero_is)) | inr above ↦ omega (arith, above) ] in
+    let past : length leaves ≤ place = elim never [ inl zero_is ↦ absurd (omega (arith, zero_is)) | inr above ↦ omega (arith, above) ] in
     subst (λ (q : Option Cube). PrintsSplitOf F leaves place q on r) (sym (slice_get_past leaves place past)) printed
 
 pub prints_of : {E : Type 0} (r : Result Report E) (status : ℕ) (text : List ℕ) → IfOk r (λ x. x.stdout.items ≡ text) → IfOk r (λ x. x.status ≡ status)

@@ -1,4 +1,4 @@
-use Rattle.std.proofs.Common.{◌≡◌, ◌∙◌, ap, arith}
+use Rattle.std.proofs.Common.{◌∙◌, ap, arith}
 use Rattle.arriving.specs.declared.line.Line.{Line}
 use Rattle.arriving.specs.inner.Seats.{seated_worker}
 use Rattle.arriving.proofs.Places.{all_places}

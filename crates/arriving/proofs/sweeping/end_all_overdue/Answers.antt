@@ -1,4 +1,4 @@
-use Rattle.std.proofs.Common.{◌∙◌, ◌<◌, ◌≤◌, length, arith, le_refl, refl}
+use Rattle.std.proofs.Common.{◌∙◌, ◌<◌, length, arith, le_refl, refl}
 use Rattle.std.proofs.lemmas.Result.{err_from_is_err_and}
 use Rattle.arriving.proofs.Places.{turned, fresh_at, set_fresh}
 use Rattle.arriving.proofs.Runs.{at_least}

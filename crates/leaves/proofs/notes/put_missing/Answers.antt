@@ -9,7 +9,7 @@ loop-place-preserved c = record {
   out = λ all.
       c.in_ok-put_leaf.ensures (all c.loop-place.place-index 0 c.loop-place-test.true)
       ∙ item_more missing_line c.args.out.now.items c.loop-place.out.items c.args.places.now c.loop-place.place-index (get_or c.args.places.now c.loop-place.place-index 0) 0 c.loop-place-test.true refl
-          (c.loop-place.invariant.out all);
+      (c.loop-place.invariant.out all);
 }
 
 pub returns : goal.returns

@@ -1,7 +1,5 @@
-use Rattle.std.proofs.Common.{◌≡◌, ◌∙◌, arith, subst, sym}
-use Rattle.std.specs.Vec.{with_items}
+use Rattle.std.proofs.Common.{◌∙◌, arith, subst, sym}
 use Rattle.std.proofs.lemmas.List.{with_items_is}
-use Rattle.std.proofs.lemmas.Result.{err_from_is_err_and}
 use Rattle.arriving.specs.inner.Seats.{AreApart}
 use Rattle.arriving.proofs.Places.{each_lent}
 use Rattle.arriving.proofs.Runs.{closes_on, closes_then}
@@ -52,8 +50,7 @@ pub loop-preserved : goal.loop-preserved
 loop-preserved g c =
     let one = c.in_ok-goes_on.ensures.arrived c.if-not-goes_on.false in
     let swept = with_items_is c.loop.self.lines c.end_unserved.new.lines (omega (arith, c.end_unserved.auto.lines, c.deref_mut.ensures.len)) in
-    let each = closes_then _ _ _ _ _ _ _ _ _ c.loop.invariant.2 c.end_unserved.ensures.begun (each_lent _ _ _ _ _ _ c.deref_mut.ensures.value swept c.end_unserved.ensures.each) in
-    (
+    let each = closes_then _ _ _ _ _ _ _ _ _ c.loop.invariant.2 c.end_unserved.ensures.begun (each_lent _ _ _ _ _ _ c.deref_mut.ensures.value swept c.end_unserved.ensures.each) in (
       c.in_ok-goes_on.ensures.formula ∙ (c.end_unserved.ensures.formula ∙ c.loop.invariant.0),
       omega (arith, one, c.in_ok-goes_on.ensures.most, c.end_unserved.ensures.most, c.end_unserved.ensures.arrivals, c.loop.invariant.1),
       closes_on _ _ _ _ _ _ _ _ _ each c.in_ok-goes_on.ensures.each,

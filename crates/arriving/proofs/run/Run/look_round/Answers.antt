@@ -1,5 +1,4 @@
-use Rattle.std.proofs.Common.{◌≡◌, ◌∙◌, ap, arith, subst, sym}
-use Rattle.std.specs.Vec.{with_items}
+use Rattle.std.proofs.Common.{◌∙◌, ap, arith, subst, sym}
 use Rattle.std.proofs.lemmas.List.{with_items_is}
 use Rattle.arriving.specs.Run.{formula_of, verdict_of}
 use Rattle.arriving.specs.declared.run.Run.{Run}
