@@ -241,3 +241,6 @@ nobody_parked line worker none parks = go line.standing none parks
     go Parked nobody is = cc
     go Asked nobody is = cc
     go Working nobody is = cc
+
+pub not_both : (b : Bool) → b ≡ true → b ≡ false → ⊥
+not_both b holds fails = cc
