@@ -93,3 +93,31 @@ pushed (x ∷ lines) (suc p) = pushed lines p
 pub pushed_fresh : (lines : List (Option Line)) → AreFresh lines → AreFresh (lines ++ None ∷ [])
 pushed_fresh [] fresh = (tt, tt)
 pushed_fresh (x ∷ lines) fresh = (fresh.0, pushed_fresh lines fresh.1)
+
+-- lines that were lent as `lent`, and came back as `left`
+pub each_lent : (old new : ℕ → ℕ) (before lent left after : List (Option Line)) → lent ≡ before → after ≡ left
+    → ((p : ℕ) → new p + open_at left p ≤ old p + open_at lent p) → (p : ℕ) → new p + open_at after p ≤ old p + open_at before p
+each_lent old new before lent left after began came each p =
+    subst (λ (lines : List (Option Line)). new p + open_at lines p ≤ old p + open_at before p) (sym came)
+    (subst (λ (lines : List (Option Line)). new p + open_at left p ≤ old p + open_at lines p) began (each p))
+
+-- one turn behind another
+pub each_then : (old mid new : ℕ → ℕ) (before between after : List (Option Line)) → ((p : ℕ) → mid p + open_at between p ≤ old p + open_at before p)
+    → ((p : ℕ) → new p + open_at after p ≤ mid p + open_at between p) → (p : ℕ) → new p + open_at after p ≤ old p + open_at before p
+each_then old mid new before between after first second p =
+    let x = first p in
+    let y = second p in
+    omega (arith, x, y)
+
+-- what holds at one place and at all others
+pub all_places : (old mid new : ℕ → ℕ) (i : ℕ) → new i ≤ mid i + 0 → ((p : ℕ) → p ≢ i → new p ≤ mid p) → ((p : ℕ) → mid p ≤ old p) → (p : ℕ) → new p ≤ old p
+all_places old mid new i here elsewhere so_far p = elim (eqb_tells p i) [
+  | inl same ↦
+      let turn = subst (λ q. new q ≤ mid q + 0) (sym same.1) here in
+      let far = so_far p in
+      omega (arith, turn, far)
+  | inr differs ↦
+      let turn = elsewhere p differs.1 in
+      let far = so_far p in
+      omega (arith, turn, far)
+]

@@ -1,15 +1,18 @@
 -- What a poll gives, and frames that are handed out one by one.
-use Rattle.std.proofs.Common.{◌≡◌, ◌<◌, ℕ, Bool, true, false, List, [], ◌∷◌, length, get_or, Option, Some, None, Result, Ok, Err, refl, subst, sym, IfOk, OnOk, OnErr, arith, ◌^◌}
-use Rattle.std.specs.Prelude.{nat_lt, position, remove}
+use Rattle.std.proofs.Common.{◌≡◌, ℕ, Bool, true, false, List, [], ◌∷◌, Option, Some, None, Result, Ok, Err, refl, subst, sym, ◌∙◌, IfOk, OnOk, OnErr, ◌^◌}
+use Rattle.std.specs.Prelude.{nat_lt, position, IsSome}
 use Rattle.lrat_check.specs.declared.verdict.Reaction.TheVariants as reaction
 use Rattle.lrat_check.specs.declared.verdict.Verdict.{Verdict}
 use Rattle.lrat_check.specs.declared.verdict.Verdict.TheVariants.{Nothing, Model, Proof}
+use Rattle.frames.specs.Stream.{Progress, TakesPiece}
 use Rattle.frames.specs.declared.frame.Frame.{Frame}
-use Rattle.frames.specs.declared.frame.Frame.TheVariants.{Rest}
+use Rattle.frames.specs.declared.frame.Frame.TheVariants.{Idle, Rest}
 use Rattle.evidence.specs.Events.{Sent, Reacted, given_by}
 use Rattle.coordinator_core.specs.declared.desks.Fixed.{Fixed}
 use Rattle.coordinator_core.specs.declared.desks.Job.{Job}
-use Rattle.arriving.specs.inner.Deliveries.{AreDelivered, IsAsked, IsHeard}
+use Rattle.arriving.specs.declared.line.Line.{Line}
+use Rattle.arriving.specs.inner.Seats.{seated_worker}
+use Rattle.arriving.specs.inner.Deliveries.{AreDelivered, AreHeard, HasNothing, IsAsked, IsHeard, IsNextDelivered}
 use Rattle.coordinator_core.specs.Coordinator.{CoordinatorState, CoordinatorPolls, coordinator_poll, poll_by, stuck_poll, job_poll, fixed_poll, leaf_poll, verdict_poll, want_at, job_at, is_open}
 
 polled : (c : CoordinatorState) (worker : ℕ) (frame : Frame) (new : CoordinatorState) → CoordinatorPolls c worker (Sent frame) new
@@ -60,18 +63,65 @@ rest_by c worker Nothing rest = rest_stuck c worker c.stuck rest
 rest_by c worker (Model values) rest = rest_verdict c worker (want_at c worker) rest
 rest_by c worker (Proof text) rest = rest_verdict c worker (want_at c worker) rest
 
-pub rest_same : (c : CoordinatorState) (worker : ℕ) → (coordinator_poll c worker).frame ≡ Rest → (coordinator_poll c worker).after ≡ c
+rest_same : (c : CoordinatorState) (worker : ℕ) → (coordinator_poll c worker).frame ≡ Rest → (coordinator_poll c worker).after ≡ c
 rest_same c worker rest = rest_by c worker c.verdict rest
 
--- the first frame is taken out
-pub first_out : (frames rest : List Frame) (frame : Frame) → 0 < length frames → frame ≡ get_or frames 0 frame → rest ≡ remove frames 0 → frames ≡ frame ∷ rest
-first_out [] rest frame some first others = absurd (omega (arith, some))
-first_out (x ∷ frames) rest frame some first others = cc
+-- who is linked was asked for
+pub asked_on : {E : Type 0} (turn : Result (Unit {0}) E) (seat : Option ℕ) (worker : ℕ) (c d : CoordinatorState) → seat ≡ Some worker
+    → d ≡ (coordinator_poll c worker).after → OnOk turn (IsAsked seat c d)
+asked_on (Ok x) seat worker c d is_seat after = subst (λ (k : Option ℕ). IsAsked k c d) (sym is_seat) after
+asked_on (Err fault) seat worker c d is_seat after = tt
 
--- one more frame was delivered
-pub delivered_on : (seat asked : Option ℕ) (frame : Frame) (waiting left after : List Frame) (old heard told new : CoordinatorState)
-    → waiting ≡ frame ∷ left → after ≡ left → asked ≡ seat → IsHeard frame old heard → IsAsked asked heard told
-    → AreDelivered seat after told new → AreDelivered seat waiting old new
-delivered_on seat asked frame waiting left after old heard told new first same is_seat is_heard is_asked rest =
+pub nobody_parks : {E : Type 0} (turn : Result (Unit {0}) E) (parked : Option ℕ) (c : CoordinatorState) → parked ≡ None
+    → OnOk turn ((worker : ℕ) → parked ≡ Some worker → HasNothing c worker)
+nobody_parks (Ok x) parked c none = λ worker is. absurd (cc)
+nobody_parks (Err fault) parked c none = tt
+
+-- there was nothing to do for who is parked now
+pub has_nothing : (c d : CoordinatorState) (worker : ℕ) (parked : Option ℕ) → (coordinator_poll c worker).frame ≡ Rest → d ≡ (coordinator_poll c worker).after
+    → parked ≡ Some worker → (w : ℕ) → parked ≡ Some w → HasNothing d w
+has_nothing c d worker parked rest after is_parked w is =
+    let who : worker ≡ w = cc in
+    subst (λ (v : ℕ). HasNothing d v) who (subst (λ (k : CoordinatorState). HasNothing k worker) (sym (after ∙ rest_same c worker rest)) rest)
+
+-- a frame was heard, and the coordinator asked behind it
+pub next_delivered : {E : Type 0} (turn : Result (Unit {0}) E) (seat asked : Option ℕ) (frame : Frame) (old heard told : CoordinatorState) → asked ≡ seat
+    → IsHeard frame old heard → OnOk turn (IsAsked asked heard told) → OnOk turn (IsNextDelivered seat frame old told)
+next_delivered (Ok x) seat asked frame old heard told is_seat is_heard is_asked = λ frames after rest.
+    (heard, told, is_heard, subst (λ (worker : Option ℕ). IsAsked worker heard told) is_seat is_asked, rest)
+next_delivered (Err fault) seat asked frame old heard told is_seat is_heard is_asked = tt
+
+-- one more of the frames that wait was delivered
+pub delivered_on : (seat asked : Option ℕ) (frame : Frame) (waiting left after : List Frame) (old told new : CoordinatorState) → waiting ≡ frame ∷ left → after ≡ left
+    → asked ≡ seat → IsNextDelivered asked frame old told → AreDelivered seat after told new → AreDelivered seat waiting old new
+delivered_on seat asked frame waiting left after old told new first same is_seat next rest =
     subst (λ (frames : List Frame). AreDelivered seat frames old new) (sym first)
-    (heard, told, is_heard, subst (λ (worker : Option ℕ). IsAsked worker heard told) is_seat is_asked, subst (λ (frames : List Frame). AreDelivered seat frames told new) same rest)
+    (subst (λ (worker : Option ℕ). IsNextDelivered worker frame old told) is_seat next left new (subst (λ (frames : List Frame). AreDelivered seat frames told new) same rest))
+
+pub none_left : (seat : Option ℕ) (frames : List Frame) (c : CoordinatorState) → frames ≡ [] → AreDelivered seat frames c c
+none_left seat frames c none = subst (λ (waiting : List Frame). AreDelivered seat waiting c c) (sym none) refl
+
+-- the frame with which a worker greeted was delivered, and then those that wait
+pub delivered_first : {E : Type 0} (turn : Result (Unit {0}) E) (queued seat asked : Option ℕ) (worker own incarnation : ℕ) (waiting left : List Frame)
+    (old told new : CoordinatorState) → queued ≡ Some worker → seat ≡ Some worker → asked ≡ seat → own ≡ incarnation → left ≡ waiting
+    → IsNextDelivered seat (Idle worker own) old told → OnOk turn (AreDelivered asked left told new)
+    → OnOk turn ((w : ℕ) → queued ≡ Some w → AreDelivered (Some w) (Idle w incarnation ∷ waiting) old new)
+delivered_first (Err fault) queued seat asked worker own incarnation waiting left old told new is_queued is_seat same is_own all next rest = tt
+delivered_first (Ok x) queued seat asked worker own incarnation waiting left old told new is_queued is_seat same is_own all next rest = λ w is.
+    let who : worker ≡ w = cc in
+    let behind = subst (λ (frames : List Frame). AreDelivered (Some worker) frames told new) all (subst (λ (k : Option ℕ). AreDelivered k left told new) (same ∙ is_seat) rest) in
+    let first = subst (λ (i : ℕ). IsNextDelivered (Some worker) (Idle worker i) old told) is_own (subst (λ (k : Option ℕ). IsNextDelivered k (Idle worker own) old told) is_seat next) in
+    subst (λ (v : ℕ). AreDelivered (Some v) (Idle v incarnation ∷ waiting) old new) who (first waiting new behind)
+
+-- bytes of who is linked were taken, and their frames delivered
+pub heard_by : {E : Type 0} (turn : Result (Unit {0}) E) (bytes : List ℕ) (old mid new : Line) (before after : CoordinatorState)
+    → TakesPiece old.reader bytes old.waiting.items mid.waiting.items (Ok tt) mid.reader → new.reader ≡ mid.reader → seated_worker mid ≡ seated_worker old
+    → OnOk turn (new.waiting.items ≡ []) → OnOk turn (AreDelivered (seated_worker mid) mid.waiting.items before after)
+    → OnOk turn (IsSome (seated_worker old) → AreHeard bytes old new before after)
+heard_by (Err fault) bytes old mid new before after came same seat none given = tt
+heard_by (Ok x) bytes old mid new before after came same seat none given = λ some. record {
+  frames = mid.waiting.items;
+  came = subst (λ (r : Progress). TakesPiece old.reader bytes old.waiting.items mid.waiting.items (Ok tt) r) (sym same) came;
+  delivered = subst (λ (k : Option ℕ). AreDelivered k mid.waiting.items before after) seat given;
+  none_waits = none;
+}

@@ -1,7 +1,10 @@
 -- How runs of turns add up.
-use Rattle.std.proofs.Common.{◌≡◌, ◌≤◌, ℕ, ◌+◌, ◌⊎◌, ◌∙◌, inl, inr, List, [], Option, Bool, true, false, subst, arith}
+use Rattle.std.proofs.Common.{◌≡◌, ◌≤◌, ℕ, ◌+◌, ◌-◌, ◌^◌, ◌⊎◌, ◌∙◌, inl, inr, List, [], Option, Bool, true, false, subst, arith}
+use Rattle.std.proofs.lemmas.Bool.{cases_lt}
+use Rattle.std.proofs.lemmas.Bool.Decides.{nat_tests}
 use Rattle.lrat_check.specs.declared.verdict.Verdict.{Verdict}
 use Rattle.lrat_check.specs.declared.verdict.Verdict.TheVariants.{Nothing}
+use Rattle.links.specs.Counts.{one_more}
 use Rattle.arriving.specs.declared.line.Line.{Line}
 use Rattle.arriving.specs.Accounts.{EachCloses, HasBegun, RoseBy}
 
@@ -71,4 +74,35 @@ pub at_end : (turns base calls : ℕ) (lines : List (Option Line)) (stuck : Bool
 at_end turns base calls lines stuck v stage some = elim stage [
   | inl at_first ↦ let none = at_first.0 in absurd (omega (arith, none, some))
   | inr begun ↦ begun
+]
+
+pub at_least : (a more : ℕ) → a ≤ a + more
+at_least a more = omega arith
+
+-- one call, and what follows it
+pub rose_one : (old mid new : ℕ) → mid ≡ one_more old → mid ≤ new → RoseBy 1 old new
+rose_one old mid new call rises = elim (cases_lt old (2 ^ 64 - 1)) [
+  | inl below ↦ let e : mid ≡ old + 1 = grind (arith, nat_tests) in inl (omega (arith, e, rises))
+  | inr top ↦ let e : mid ≡ old = grind (arith, nat_tests) in inr (omega (arith, e, top, rises))
+]
+
+pub most_one : (old mid new : ℕ) → mid ≡ one_more old → new ≤ mid + 4037 → new ≤ old + 4038
+most_one old mid new call most = elim (cases_lt old (2 ^ 64 - 1)) [
+  | inl below ↦ let e : mid ≡ old + 1 = grind (arith, nat_tests) in omega (arith, e, most)
+  | inr top ↦ let e : mid ≡ old = grind (arith, nat_tests) in omega (arith, e, most)
+]
+
+pub one_at_most : (old new : ℕ) → new ≡ one_more old → new ≤ old + 1
+one_at_most old new call = elim (cases_lt old (2 ^ 64 - 1)) [
+  | inl below ↦ let e : new ≡ old + 1 = grind (arith, nat_tests) in omega (arith, e)
+  | inr top ↦ let e : new ≡ old = grind (arith, nat_tests) in omega (arith, e)
+]
+
+pub few_one : (old mid : ℕ) → mid ≡ one_more old → mid ≤ old + 4038
+few_one old mid call = most_one old mid mid call (omega arith)
+
+pub rises_one : (old mid new : ℕ) → mid ≡ one_more old → mid ≤ new → old ≤ new
+rises_one old mid new call rises = elim (cases_lt old (2 ^ 64 - 1)) [
+  | inl below ↦ let e : mid ≡ old + 1 = grind (arith, nat_tests) in omega (arith, e, rises)
+  | inr top ↦ let e : mid ≡ old = grind (arith, nat_tests) in omega (arith, e, rises)
 ]

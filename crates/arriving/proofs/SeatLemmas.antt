@@ -1,6 +1,6 @@
 -- Who is linked where.
 use Rattle.std.proofs.Common.{◌≡◌, ◌≢◌, ◌≤◌, ◌<◌, ◌+◌, ℕ, zero, suc, Bool, true, false, List, [], ◌∷◌, ◌++◌, length, get_or, set, Option, Some, None, Result, Ok, Err, OnOk, refl, inl, inr, ◌⊎◌, ap, subst, sym, arith, ◌∙◌, eq-eqb, get_or-set_same, get_or-set_other}
-use Rattle.std.specs.Prelude.{nat_eq, not, ◌||◌, IsSomeAnd, MatchBool}
+use Rattle.std.specs.Prelude.{nat_eq, not, ◌||◌, IsSome, IsSomeAnd, MatchBool}
 use Rattle.std.specs.List.{list_any}
 use Rattle.std.proofs.lemmas.Bool.Decides.{eqb_tells}
 use Rattle.std.proofs.lemmas.Bool.{cases_lt}
@@ -12,7 +12,7 @@ use Rattle.arriving.specs.declared.line.Standing.{Standing}
 use Rattle.arriving.specs.declared.line.Standing.TheVariants.{Ungreeted, Queued, Parked, Asked, Working}
 use Rattle.arriving.specs.inner.Deliveries.{AreServed, HasNothing, NobodyRests}
 use Rattle.arriving.specs.inner.Lines.{one_if_closed}
-use Rattle.arriving.specs.inner.Seats.{AreApart, is_worker, line_at, may_sit, may_sit_by, parked_by, parked_in, parked_worker, queued_by, queued_in, seated_by, seated_in, seats}
+use Rattle.arriving.specs.inner.Seats.{AreApart, is_worker, line_at, may_sit, may_sit_by, parked_by, parked_in, parked_worker, queued_by, queued_in, queued_worker, seated_by, seated_in, seated_worker, seats}
 
 pub seated_is : (standing : Standing) (worker : Option ℕ) (w : ℕ) → seated_by standing worker ≡ Some w → worker ≡ Some w
 seated_is Ungreeted worker w seated = cc
@@ -202,3 +202,45 @@ pub rests_here : (lines : List (Option Line)) (i : ℕ) (line : Option Line) (c 
     → AreServed (set lines i line) c
 rests_here lines i line c at rests =
     AreServed.one i (subst (λ (x : Option Line). IsSomeAnd (parked_in x) (HasNothing c)) (sym (line_here lines i line at)) rests)
+
+-- who waits has greeted
+pub greeted : (line : Line) (worker : ℕ) → queued_worker line ≡ Some worker → line.worker ≡ Some worker
+greeted line worker waits = go line.standing waits
+  where
+    go : (standing : Standing) → queued_by standing line.worker ≡ Some worker → line.worker ≡ Some worker
+    go Ungreeted is = absurd (cc)
+    go Queued is = is
+    go Parked is = absurd (cc)
+    go Asked is = absurd (cc)
+    go Working is = absurd (cc)
+
+pub nobody_waits : (queued : Option ℕ) (worker : ℕ) → queued ≡ None → queued ≡ Some worker → ⊥
+nobody_waits queued worker none some = cc
+
+pub none_is_some : (queued : Option ℕ) → queued ≡ None → IsSome queued → ⊥
+none_is_some None none some = absurd (cc)
+none_is_some (Some worker) none some = absurd (cc)
+
+-- who is linked, or parked, has greeted
+pub sits_as : (line : Line) (worker : ℕ) → seated_worker line ≡ Some worker → line.worker ≡ Some worker
+sits_as line worker sits = go line.standing sits
+  where
+    go : (standing : Standing) → seated_by standing line.worker ≡ Some worker → line.worker ≡ Some worker
+    go Ungreeted is = absurd (cc)
+    go Queued is = absurd (cc)
+    go Parked is = is
+    go Asked is = is
+    go Working is = is
+
+pub nobody_parked : (line : Line) (worker : ℕ) → seated_worker line ≡ None → parked_worker line ≡ Some worker → ⊥
+nobody_parked line worker none parks = go line.standing none parks
+  where
+    go : (standing : Standing) → seated_by standing line.worker ≡ None → parked_by standing line.worker ≡ Some worker → ⊥
+    go Ungreeted nobody is = cc
+    go Queued nobody is = cc
+    go Parked nobody is = cc
+    go Asked nobody is = cc
+    go Working nobody is = cc
+
+pub not_both : (b : Bool) → b ≡ true → b ≡ false → ⊥
+not_both b holds fails = cc

@@ -3,7 +3,7 @@
 ghost use Rattle.std.specs.Prelude.{◌≡◌, ◌≢◌, ◌≤◌, ◌+◌, ◌⊎◌, ◌∷◌, ℕ, [], Ok, None, Some, IsSome, OnOk};
 ghost use Rattle.frames.specs.declared.frame.Frame.TheVariants.{Idle};
 ghost use Rattle.arriving.specs.declared.line.Standing.TheVariants.{Ungreeted};
-ghost use Rattle.arriving.specs.inner.Deliveries.{AreDelivered, IsHeard, StaysLinked};
+ghost use Rattle.arriving.specs.inner.Deliveries.{AreDelivered, IsHeard, IsNextDelivered, StaysLinked};
 ghost use Rattle.arriving.specs.inner.Greetings.{IsGreeted};
 ghost use Rattle.arriving.specs.inner.Lines.{one_if_closed};
 ghost use Rattle.arriving.specs.inner.Seats.{queued_worker, seated_worker};
@@ -61,6 +61,31 @@ fn deliver_one(
     }
 }
 
+/// Delivers a frame of a link, and tells its worker what there is to tell behind it.
+fn hear_frame<A: Arrivals>(
+    links: &mut A,
+    coordinator: &mut Coordinator,
+    patience: &Patience,
+    at: At,
+    line: &mut Line,
+    frame: &Frame,
+) -> Result<(), Broken>
+    ensures formula { coordinator.new.formula ≡ coordinator.old.formula }
+    ensures most { A.call_count links.new ≤ A.call_count links.old + 1 }
+    ensures rises { A.call_count links.old ≤ A.call_count links.new }
+    ensures arrivals { A.arrival_count links.new ≡ A.arrival_count links.old }
+    ensures begun { (p : ℕ) → A.link_count links.new p ≡ A.link_count links.old p }
+    ensures here { A.refusal_count links.new at.place ≤ A.refusal_count links.old at.place + one_if_closed result }
+    ensures elsewhere { (p : ℕ) → p ≢ at.place → A.refusal_count links.new p ≤ A.refusal_count links.old p }
+    ensures link { StaysLinked line.old line.new }
+    ensures delivered { OnOk result (IsNextDelivered (seated_worker line.old) frame.now coordinator.old coordinator.new) }
+{
+    if let Err(broken) = deliver_one(coordinator, at.tick, line, frame) {
+        return Err(broken);
+    }
+    tell(links, coordinator, patience, at, line)
+}
+
 /// Delivers the frames of a link one by one, and tells its worker what there is to tell behind each.
 pub(crate) fn converse<A: Arrivals>(
     links: &mut A,
@@ -85,10 +110,7 @@ pub(crate) fn converse<A: Arrivals>(
         let Some(frame) = line.next() else {
             return Ok(());
         };
-        if let Err(broken) = deliver_one(coordinator, at.tick, line, &frame) {
-            return Err(broken);
-        }
-        if let Err(broken) = tell(links, coordinator, patience, at, line) {
+        if let Err(broken) = hear_frame(links, coordinator, patience, at, line, &frame) {
             return Err(broken);
         }
     }
@@ -140,10 +162,7 @@ pub(crate) fn seat<A: Arrivals>(
         worker,
         incarnation: line.incarnation(),
     };
-    if let Err(broken) = deliver_one(coordinator, at.tick, line, &frame) {
-        return Err(broken);
-    }
-    if let Err(broken) = tell(links, coordinator, patience, at, line) {
+    if let Err(broken) = hear_frame(links, coordinator, patience, at, line, &frame) {
         return Err(broken);
     }
     converse(links, coordinator, patience, at, line)

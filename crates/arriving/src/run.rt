@@ -180,6 +180,15 @@ impl Run {
         }
     }
 
+    /// Notes this tick, if a link is open or none was yet.
+    fn note_link(&mut self)
+        ensures { self.new ≡ record self.old { linked = self.new.linked } }
+    {
+        if self.linked.is_none() || self.has_link() {
+            self.linked = Some(self.tick);
+        }
+    }
+
     /// What is to be done at another tick than this: ends what is overdue, notes whether a link is open, and shows how far the run has come.
     fn look_round<A: Arrivals>(&mut self, links: &mut A, before: u64) -> Result<(), AllocError>
         ensures formula { formula_of self.new ≡ formula_of self.old }
@@ -196,9 +205,7 @@ impl Run {
             return Ok(());
         }
         end_all_overdue(links, &mut self.desk, self.tick, &mut self.lines)?;
-        if self.linked.is_none() || self.has_link() {
-            self.linked = Some(self.tick);
-        }
+        self.note_link();
         links.show(&progress_of(&self.desk.coordinator));
         Ok(())
     }

@@ -171,6 +171,31 @@ fn note(line: &mut Line, patience: &Patience, at: At, frame: &Frame)
     }
 }
 
+/// Tells the worker of a link this, once it has answered all that it was told before.
+fn tell_frame<A: Arrivals>(
+    links: &mut A,
+    patience: &Patience,
+    at: At,
+    line: &mut Line,
+    frame: &Frame,
+) -> Result<(), Broken>
+    ensures most { A.call_count links.new ≤ A.call_count links.old + 1 }
+    ensures rises { A.call_count links.old ≤ A.call_count links.new }
+    ensures arrivals { A.arrival_count links.new ≡ A.arrival_count links.old }
+    ensures begun { (p : ℕ) → A.link_count links.new p ≡ A.link_count links.old p }
+    ensures here { A.refusal_count links.new at.place ≤ A.refusal_count links.old at.place + one_if_closed result }
+    ensures elsewhere { (p : ℕ) → p ≢ at.place → A.refusal_count links.new p ≤ A.refusal_count links.old p }
+    ensures link { IsSome (seated_worker line.old) → StaysLinked line.old line.new }
+    ensures parked { parked_worker line.new ≡ None }
+{
+    if line.owes() {
+        line.ask(at.tick);
+        return Ok(());
+    }
+    note(line, patience, at, frame);
+    send(links, at.place, line, frame)
+}
+
 /// Tells the worker of a link what there is to tell, once it has answered all that it was told before. Where there is nothing it is told
 /// nothing, and parked until there is.
 pub(crate) fn tell<A: Arrivals>(
@@ -196,14 +221,7 @@ pub(crate) fn tell<A: Arrivals>(
         return Ok(());
     };
     match poll(coordinator, worker) {
-        Ok(Some(_)) if line.owes() => {
-            line.ask(at.tick);
-            Ok(())
-        }
-        Ok(Some(frame)) => {
-            note(line, patience, at, &frame);
-            send(links, at.place, line, &frame)
-        }
+        Ok(Some(frame)) => tell_frame(links, patience, at, line, &frame),
         Ok(None) => {
             line.park();
             Ok(())

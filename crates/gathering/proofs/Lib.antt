@@ -14,6 +14,7 @@ pub mod BitLemmas
 pub mod IndexLemmas
 pub mod CoverLemmas
 pub mod ForkLemmas
+pub mod ResolveLemmas
 pub mod WrittenLemmas
 pub mod SettlingLemmas
 pub mod EndLemmas

@@ -1,6 +1,7 @@
 -- A join of logs, while files are read.
 use Rattle.std.proofs.Common.{◌≡◌, ◌≢◌, inl, inr, ℕ, ◌+◌, ◌<◌, ◌^◌, Bool, true, false, cond, arith, length, get_or, List, [], ◌∷◌, ◌++◌, refl, sym, ap, subst, ◌∙◌, append_assoc, Result, Ok, Err, OnOk}
-use Rattle.std.specs.Prelude.{MatchBool, codes}
+use Rattle.std.specs.Prelude.{MatchBool, codes, ◌==◌}
+use Rattle.std.proofs.lemmas.Bool.Decides.{nat_tests}
 use Rattle.std.proofs.lemmas.List.{append-nil, length-map}
 use Rattle.reports.specs.declared.report.Report.{Report}
 use Rattle.std.specs.Global.{Vec}
@@ -33,7 +34,7 @@ use Rattle.lrat_check.proofs.LogTexts.{log_checked}
 use Rattle.lrat_check.proofs.LogLines.{hands_log, hands_more, hands_piece, log_ends, log_stops}
 use Rattle.leaves.specs.inner.Lines as lines
 use Rattle.leaves.specs.Lines.{AreBetween, AreWithin}
-use Rattle.leaves.specs.inner.Joins.{EndsRight, IsStopped, LeavesLog, OpensAs, StaysAs, TakesPiece, TellsOpen}
+use Rattle.leaves.specs.inner.Joins.{EndsRight, IsStopped, KeepsStanding, LeavesLog, OpensAs, StaysAs, TakesPiece, TellsOpen}
 use Rattle.leaves.specs.inner.Lines.{BeginsLog, EndsLog, Takes}
 use Rattle.leaves.specs.Joining.{AreRead, Concludes, Holds, IsBegunAs, IsReadAs, LeavesAre, Proves, ReadsAnswer, ReadsLog, ReadsNothing, ReadsRefused, ReportsOpen, Stands, TellsAnswer, TellsFile, TellsLog, misses, proves}
 use Rattle.leaves.specs.declared.lines.LineFault.{LineFault}
@@ -346,6 +347,22 @@ pub not_nothing : (bytes piece : List ℕ) → 0 < length piece → bytes ++ pie
 not_nothing [] [] some e = absurd (omega arith)
 not_nothing [] (b ∷ piece) some e = let no : ⊥ = cc in no
 not_nothing (b ∷ bytes) piece some e = let no : ⊥ = cc in no
+
+pub no_length : (piece : List ℕ) → true ≡ (length piece == 0) → length piece ≡ 0
+no_length piece is = grind (arith, nat_tests)
+
+pub some_length : (piece : List ℕ) → false ≡ (length piece == 0) → 0 < length piece
+some_length piece is = grind (arith, nat_tests)
+
+-- a piece of a log was read
+pub holds_read : {E : Type 0} (r : Result (Unit {0}) E) (piece : List ℕ) (first : ℕ) (old mid new : Join) → 0 < length piece → first ≡ get_or piece 0 0
+    → KeepsStanding old mid → OpensAs first old.reading mid.reading → OnOk r (TakesPiece piece mid new) → OnOk r (StaysAs mid.reading new.reading)
+    → OnOk r ((F : Cnf) (cubes : List Cube) (files : List (List ℕ)) (bytes written : List ℕ) → Holds F cubes files bytes written old → Holds F cubes files (bytes ++ piece) written new)
+holds_read (Err fault) piece first old mid new some is stands opens takes stays = tt
+holds_read (Ok x) piece first old mid new some is stands opens takes stays = λ F cubes files bytes written h. record {
+  stands = takes F cubes files bytes written (stands F cubes files bytes written h.stands);
+  read_as = stays (bytes ++ piece) (opened_as piece bytes first old.reading mid.reading some is opens h.read_as);
+}
 
 -- ---- a file is ended
 -- behind the call the join reads nothing

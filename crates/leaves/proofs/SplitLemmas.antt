@@ -1,6 +1,8 @@
 -- Branches stay within the variables of the clauses.
-use Rattle.std.proofs.Common.{◌≡◌, ◌≢◌, ℕ, zero, suc, ◌<◌, ◌≤◌, List, [], ◌∷◌, ◌++◌, Option, Some, None, IfSome, IfOk, Result, Ok, Err, sym, subst, append-nil}
+use Rattle.std.proofs.Common.{◌≡◌, ◌≢◌, ◌⊎◌, ℕ, zero, suc, ◌-◌, ◌<◌, ◌≤◌, List, [], ◌∷◌, ◌++◌, length, Option, Some, None, IfSome, IfOk, Result, Ok, Err, inl, inr, sym, subst, append-nil, arith}
+use Rattle.std.specs.Prelude.{slice_index_or}
 use Rattle.std.specs.List.{All}
+use Rattle.std.proofs.lemmas.Option.{slice_get-get_or, slice_get_past}
 use Rattle.std.proofs.lemmas.List.Elements.{All-cons, All-nil, All-head, All-tail, All-append}
 use Rattle.dimacs.specs.logic.Base.{pure_literals}
 use Rattle.dimacs.specs.logic.Cnf.{Cnf, AreWithin, greatest_in}
@@ -9,8 +11,10 @@ use Rattle.icnf.specs.Leaves.{Cube, IsFree, branched}
 use Rattle.cube_split.specs.Choice.{Choice}
 use Rattle.cube_split.specs.Splitting.{IsSplit}
 use Rattle.cube_split.proofs.SplitLemmas.{split_within}
-use Rattle.leaves.specs.Splitting.{SplitsOn}
+use Rattle.leaves.specs.Leaf.{Prints, no_leaf_text}
+use Rattle.leaves.specs.Splitting.{PrintsBranches, PrintsSplit, PrintsSplitOf, SplitsOn}
 use Rattle.leaves.specs.inner.Splitting.{IsSound}
+use Rattle.reports.specs.declared.report.Report.{Report}
 
 one_more : (n : ℕ) (q : Cube) (l : Literal) → All (IsWithin n) q → IsWithin n l → All (IsWithin n) (q ++ l ∷ [])
 one_more n q l h here = All-append (IsWithin n) q (l ∷ []) h (All-cons (IsWithin n) l [] here (All-nil (IsWithin n)))
@@ -61,3 +65,24 @@ sound_chosen E F q (Err e) within h = tt
 -- the tree that is cut is within the greatest variable of the clauses, where it was
 pub cut_within : (F : Cnf) (leaves : List Cube) (place v : ℕ) (q : Cube) → AreWithin (greatest_in F.clauses) leaves → IsSound F q v → AreWithin (greatest_in F.clauses) (branched place v leaves)
 cut_within F leaves place v q w is = branched_within (greatest_in F.clauses) leaves place v w is.some is.most
+
+-- the number of a leaf is one more than its place
+pub split_at : (F : Cnf) (leaves : List Cube) (leaf : ℕ) (on : Option ℕ) (r : Report) → 0 < leaf → leaf ≤ length leaves
+    → PrintsBranches F leaves (leaf - 1) (slice_index_or leaves (leaf - 1) []) on r → PrintsSplit F leaves leaf on r
+split_at F leaves zero on r some most printed = absurd (omega (arith, some))
+split_at F leaves (suc place) on r some most printed =
+    let same : suc place - 1 ≡ place = omega arith in
+    subst (λ (q : Option Cube). PrintsSplitOf F leaves place q on r) (sym (slice_get-get_or leaves place [] (omega (arith, most))))
+    (subst (λ (i : ℕ). PrintsBranches F leaves i (slice_index_or leaves i []) on r) same printed)
+
+-- there is no such leaf
+pub no_split : (F : Cnf) (leaves : List Cube) (leaf : ℕ) (on : Option ℕ) (r : Report) → (leaf ≡ 0) ⊎ (length leaves < leaf) → Prints 1 no_leaf_text r → PrintsSplit F leaves leaf on r
+no_split F leaves zero on r never printed = printed
+no_split F leaves (suc place) on r never printed =
+    let past : length leaves ≤ place = elim never [ inl zero_is ↦ absurd (omega (arith, zero_is)) | inr above ↦ omega (arith, above) ] in
+    subst (λ (q : Option Cube). PrintsSplitOf F leaves place q on r) (sym (slice_get_past leaves place past)) printed
+
+pub prints_of : {E : Type 0} (r : Result Report E) (status : ℕ) (text : List ℕ) → IfOk r (λ x. x.stdout.items ≡ text) → IfOk r (λ x. x.status ≡ status)
+    → IfOk r (λ x. x.proof ≡ None) → IfOk r (Prints status text)
+prints_of (Ok x) status text text_is status_is no_proof = record { status_is = status_is; text_is = text_is; no_proof = no_proof }
+prints_of (Err fault) status text text_is status_is no_proof = tt

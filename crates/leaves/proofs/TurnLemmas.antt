@@ -1,18 +1,18 @@
 -- Searches under leaves in turn, whose logs become one.
-use Rattle.std.proofs.Common.{◌≡◌, ℕ, zero, suc, ◌+◌, ◌-◌, ◌<◌, ◌≤◌, inl, inr, Bool, true, false, ◌&&◌, ◌||◌, List, [], ◌∷◌, ◌++◌, length, map, get_or, Option, Some, None, Result, Ok, Err, OnOk, refl, sym, ◌∙◌, ap, subst, arith, append_assoc, length-append}
+use Rattle.std.proofs.Common.{◌≡◌, ℕ, zero, suc, ◌+◌, ◌<◌, ◌≤◌, inl, inr, Bool, true, false, ◌&&◌, ◌||◌, List, [], ◌∷◌, ◌++◌, length, get_or, Option, Some, None, Result, Ok, Err, OnOk, refl, sym, ◌∙◌, ap, subst, arith, append_assoc, length-append}
 use Rattle.std.proofs.lemmas.List.{append-nil}
 use Rattle.std.proofs.lemmas.List.Elements.{Contains-append_left, Contains-append_right}
 use Rattle.std.proofs.lemmas.List.Folds.{list_all-append, list_any-append}
 use Rattle.std.proofs.lemmas.Option.{get_or_from_slice_get, slice_get-get_or, slice_get_cases}
 use Rattle.std.specs.Prelude.{if◌then◌else◌}
-use Rattle.std.specs.List.{Contains, list_all, list_any}
+use Rattle.std.specs.List.{Contains, list_all}
 use Rattle.std.specs.FinMap.{get}
 use Rattle.cube_solve.specs.Outcome.{IsRightOutcome}
 use Rattle.cube_solve.specs.declared.outcome.Outcome.{Outcome}
 use Rattle.cube_solve.specs.declared.outcome.Outcome.TheVariants.{Model, Refuted, Limit}
 use Rattle.dimacs.specs.logic.ClauseMap.{ClauseMap, map_of}
 use Rattle.dimacs.specs.logic.Cnf.{Cnf}
-use Rattle.dimacs.specs.logic.Literal.{Clause, Literal, has, negation}
+use Rattle.dimacs.specs.logic.Literal.{Clause, Literal, negation}
 use Rattle.dimacs.proofs.Members.{Contains-cons, Contains-has, Contains-head}
 use Rattle.dimacs.specs.text.Answer.{satisfied_lines}
 use Rattle.icnf.specs.Leaves.{Cube}
@@ -28,11 +28,11 @@ use Rattle.gathering.specs.Written.{Between, leaves_of}
 use Rattle.gathering.proofs.GatherLemmas.{lines_close}
 use Rattle.gathering.proofs.SettleLemmas.{from_map}
 use Rattle.reports.specs.declared.report.Report.{Report}
-use Rattle.leaves.specs.Joining.{AreRead, ClosesAsLog, Holds, IsClosedByFile, IsReadAs, LeavesAre, ReadsNothing}
+use Rattle.leaves.specs.Joining.{AreRead, ClosesAsLog, IsClosedByFile, IsReadAs, LeavesAre}
 use Rattle.leaves.specs.Leaf.{leaf_at}
-use Rattle.leaves.specs.Refuting.{Hands, shown}
-use Rattle.leaves.specs.Turns.{AreSearched, ClosesAll, ClosesTold, FindsModel, IsClosedAt, IsSearched, SearchesAll, all_told, is_model, is_refuted, told}
-use Rattle.leaves.specs.inner.Turns.{AreClosedOf, AreDone, ClosedOne, EndsTurn, IsClosedOf, IsReady, TakesText, TakesTurn, Turned}
+use Rattle.leaves.specs.Refuting.{Hands}
+use Rattle.leaves.specs.Turns.{AreSearched, ClosesAll, ClosesTold, FindsModel, IsSearched, SearchesAll, all_told, is_model, is_refuted, told}
+use Rattle.leaves.specs.inner.Turns.{AreClosedOf, AreDone, ClosedOne, IsReady, TakesTurn, Turned}
 use Rattle.leaves.specs.declared.join.Join.{Join}
 use Rattle.leaves.specs.declared.join.Reading.{Reading}
 use Rattle.leaves.specs.declared.join.Reading.TheVariants.{Begun, Log, Refused as RefusedBy, Answer}

@@ -3,8 +3,8 @@
 ghost use Rattle.std.specs.Prelude.{◌≡◌, ◌≤◌, ◌⊎◌, ℕ, List, [], ◌++◌, IfOk, IfErr, vec_len};
 ghost use Rattle.dimacs.specs.logic.Cnf.{Cnf};
 ghost use Rattle.icnf.specs.Leaves.{Cube};
-ghost use Rattle.leaves.specs.Leaf.{leaf_of};
-ghost use Rattle.leaves.specs.Lifting.{BeginsAt, EndsAs, KeepsLift, Lifts, PrintsLift};
+ghost use Rattle.leaves.specs.Leaf.{Prints, leaf_of};
+ghost use Rattle.leaves.specs.Lifting.{BeginsAt, EndsAs, KeepsLift, Lifts, PrintsLift, lifted_text, proof_fault_text};
 ghost use Rattle.lrat_check.specs.Checking.{no_memory};
 ghost use Rattle.lrat_text.specs.Log.{Closes};
 ghost use Rattle.proof_lift.specs.Leaves.{IsCube, IsRefutation};
@@ -108,6 +108,25 @@ pub enum LiftEnd {
     Refused { line: u64, number: u8 },
 }
 
+/// The report of a leaf that is lifted.
+fn lifted(alloc: Global, leaf: u64) -> Result<Report, AllocError>
+    ensures { IfOk result (Prints 0 (lifted_text leaf)) }
+{
+    let mut report = Report::of(alloc, b"c leaf ", 0)?;
+    put_number(&mut report.stdout, leaf)?;
+    report.stdout.extend_from_slice(b" lifted\n")?;
+    Ok(report)
+}
+
+/// The report of a proof with a fault.
+fn refused(alloc: Global, line: u64, number: u8) -> Result<Report, AllocError>
+    ensures { IfOk result (Prints 1 (proof_fault_text line number)) }
+{
+    let mut report = Report::of(alloc, b"c proof ", 1)?;
+    put_fault(&mut report.stdout, line, number)?;
+    Ok(report)
+}
+
 /// The report of the leaf of this number, whose lifting ended so: status 0 where it is lifted, else 1. The error stands for the report
 /// `c no memory`, status 1.
 pub fn lift_report(alloc: Global, leaf: u64, end: LiftEnd) -> Result<Report, AllocError>
@@ -115,16 +134,7 @@ pub fn lift_report(alloc: Global, leaf: u64, end: LiftEnd) -> Result<Report, All
 {
     match end {
         LiftEnd::NoLeaf => Report::of(alloc, NO_LEAF, 1),
-        LiftEnd::Lifted => {
-            let mut report = Report::of(alloc, b"c leaf ", 0)?;
-            put_number(&mut report.stdout, leaf)?;
-            report.stdout.extend_from_slice(b" lifted\n")?;
-            Ok(report)
-        }
-        LiftEnd::Refused { line, number } => {
-            let mut report = Report::of(alloc, b"c proof ", 1)?;
-            put_fault(&mut report.stdout, line, number)?;
-            Ok(report)
-        }
+        LiftEnd::Lifted => lifted(alloc, leaf),
+        LiftEnd::Refused { line, number } => refused(alloc, line, number),
     }
 }

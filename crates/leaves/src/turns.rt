@@ -7,7 +7,7 @@ ghost use Rattle.icnf.specs.Leaves.{Cube};
 ghost use Rattle.leaves.specs.Joining.{Holds};
 ghost use Rattle.leaves.specs.Refuting.{Hands, shown};
 ghost use Rattle.leaves.specs.Turns.{RefutesLeaves};
-ghost use Rattle.leaves.specs.inner.Turns.{IsReady, TakesText, TakesTurn};
+ghost use Rattle.leaves.specs.inner.Turns.{IsReady, TakesText, TakesTurn, Turned};
 
 use crate::join::Join;
 use crate::leaf::{NO_LEAF, cube_of};
@@ -104,6 +104,31 @@ impl Turns {
         hand_out(&mut self.join, &mut self.log)
     }
 
+    /// Notes how the search under a leaf has ended: an assignment, if there is one.
+    fn note(
+        &mut self,
+        alloc: Global,
+        leaf: u64,
+        outcome: Outcome,
+        search: &Search,
+    ) -> Result<Option<Assignment>, GatherFault>
+        ensures { IfOk result (Turned leaf search.now outcome self.old self.new) }
+    {
+        match outcome {
+            Outcome::Model(values) => Ok(Some(values)),
+            Outcome::Refuted(text) => {
+                self.take(alloc, &text)?;
+                tell(&mut self.notes, leaf, b" closed\n", search.quiet)?;
+                Ok(None)
+            }
+            Outcome::Limit(_) => {
+                self.closed = false;
+                tell(&mut self.notes, leaf, b" limit\n", search.quiet)?;
+                Ok(None)
+            }
+        }
+    }
+
     /// Searches under the leaf of a number: an assignment, if there is one.
     fn turn(
         &mut self,
@@ -118,19 +143,7 @@ impl Turns {
             return Ok(None);
         };
         let outcome = solve(alloc, split.formula.as_base(), cube, search.limit)?;
-        match outcome {
-            Outcome::Model(values) => Ok(Some(values)),
-            Outcome::Refuted(text) => {
-                self.take(alloc, &text)?;
-                tell(&mut self.notes, leaf, b" closed\n", search.quiet)?;
-                Ok(None)
-            }
-            Outcome::Limit(_) => {
-                self.closed = false;
-                tell(&mut self.notes, leaf, b" limit\n", search.quiet)?;
-                Ok(None)
-            }
-        }
+        self.note(alloc, leaf, outcome, search)
     }
 
     /// The report of leaves that were all searched.

@@ -28,6 +28,11 @@ AreDelivered worker [] old new = new ≡ old
 AreDelivered worker (frame ∷ frames) old new =
     (heard : CoordinatorState) × (told : CoordinatorState) × IsHeard frame old heard × IsAsked worker heard told × AreDelivered worker frames told new
 
+-- this frame was delivered, and behind it the coordinator was asked: whatever frames are delivered from then on, it is the first
+abbrev pub IsNextDelivered : Option ℕ → Frame → CoordinatorState → CoordinatorState → Type 0
+IsNextDelivered worker frame old new =
+    (frames : List Frame) → (after : CoordinatorState) → AreDelivered worker frames new after → AreDelivered worker (frame ∷ frames) old after
+
 -- who is linked, what waits and what has come in part stay
 pub record StaysLinked (old new : Line) : Type 0 where
   pub seat : seated_worker new ≡ seated_worker old

@@ -1,4 +1,4 @@
-use Rattle.std.proofs.Common.{◌≡◌, ◌+◌, ◌<◌, ◌≤◌, List, Bool, Option, inl, inr, None, length, subst, arith}
+use Rattle.std.proofs.Common.{◌≡◌, ◌+◌, ◌<◌, ◌≤◌, List, Bool, Option, inl, inr, length, subst, arith}
 use Rattle.leaves.specs.inner.Turns.{TakesTurn}
 use Rattle.leaves.proofs.LineLemmas.{if_if}
 use Rattle.leaves.proofs.TurnLemmas.{all_done, finds_model, none_done, one_done}
