@@ -26,12 +26,21 @@ pub(crate) struct LiftFiles<'a> {
 }
 
 /// What is made of a proof.
-#[derive(Drop)]
 enum Task {
     /// A log that closes the leaf of this number.
     Leaf(Lift, u64),
     /// A log that closes each leaf, if it can.
     All(LiftAll),
+}
+
+// By hand, so that whoever owns one drops it by one call, and no proof there goes through its parts.
+impl Drop for Task {
+    fn drop(self) {
+        match self {
+            Task::Leaf(_, _) => {}
+            Task::All(_) => {}
+        }
+    }
 }
 
 impl Task {
@@ -53,6 +62,17 @@ impl Task {
         match self {
             Task::Leaf(lift, _) => lift.forget(),
             Task::All(lift) => lift.forget(),
+        }
+    }
+
+    /// The report of a proof that was read to its end.
+    fn finish<F: Write>(self, alloc: Global, part: &mut Part<F>) -> Result<Report, Refusal> {
+        match self {
+            Task::Leaf(lift, leaf) => {
+                let end = ended(lift, part)?;
+                lift_report(alloc, leaf, end).map_err(no_memory)
+            }
+            Task::All(lift) => all_ended(alloc, &lift),
         }
     }
 }
@@ -113,13 +133,28 @@ fn lifted<R: Runtime + AllocGlobal>(
     part: &mut Part<R::File>,
 ) -> Result<Report, Refusal> {
     feed(&mut pieces, &mut task, part)?;
-    match task {
-        Task::Leaf(lift, leaf) => {
-            let end = ended(lift, part)?;
-            lift_report(rt.alloc(), leaf, end).map_err(no_memory)
-        }
-        Task::All(lift) => all_ended(rt.alloc(), &lift),
+    task.finish(rt.alloc(), part)
+}
+
+/// Lets the part take its place where the report is of a proof that was lifted; else it is gone.
+fn settle<R: Runtime>(
+    rt: &R,
+    part: Part<R::File>,
+    place: &Place,
+    found: Result<Report, Refusal>,
+) -> Result<Report, Refusal> {
+    let is_lifted = match &found {
+        Ok(report) => report.status != 1,
+        Err(_) => false,
+    };
+    if !is_lifted {
+        remove(rt, part);
+        return found;
     }
+    if keep(rt, part, place).map_err(not_written)? {
+        return found;
+    }
+    Err(Refusal::Writing)
 }
 
 /// Lifts a proof to a part, which takes its place where the proof has no fault, and is gone where it has one.
@@ -133,18 +168,7 @@ fn written<R: Runtime + AllocGlobal>(
         return Err(Refusal::Writing);
     };
     let found = lifted(rt, pieces, task, &mut part);
-    let is_lifted = match &found {
-        Ok(report) => report.status != 1,
-        Err(_) => false,
-    };
-    if !is_lifted {
-        remove(rt, part);
-        return found;
-    }
-    if keep(rt, part, place).map_err(not_written)? {
-        return found;
-    }
-    Err(Refusal::Writing)
+    settle(rt, part, place, found)
 }
 
 /// The leaf whose proof is lifted, or none where a text for all leaves is; the words name one of both.
@@ -167,8 +191,33 @@ fn task_of(alloc: Global, split: Split, leaf: Option<u64>) -> Result<Option<Task
     }
 }
 
+/// Where the log goes: to none of the files that are read.
+fn log_place<R: Runtime + AllocGlobal>(rt: &R, files: &LiftFiles<'_>) -> Result<Place, Refusal> {
+    if is_same_file(rt, files.fragment, files.input)
+        || is_same_file(rt, files.fragment, files.cubes)
+        || is_same_file(rt, files.fragment, files.proof)
+    {
+        return Err(Refusal::Writing);
+    }
+    match place_of(rt, files.fragment).map_err(not_written)? {
+        Some(place) => Ok(place),
+        None => Err(Refusal::Writing),
+    }
+}
+
+/// Reads the proof of a task, which is opened before a file is made beside the place of the log.
+fn lift_proof<R: Runtime + AllocGlobal>(
+    rt: &R,
+    files: &LiftFiles<'_>,
+    task: Task,
+) -> Result<Report, Refusal> {
+    let pieces = open(rt, files.proof, Refusal::Proof)?;
+    let place = log_place(rt, files)?;
+    written(rt, pieces, task, &place)
+}
+
 /// A proof of the formula of a leaf, or what was written for all leaves, becomes a log over the formula, which is written to a file:
-/// whole or not at all, and to none of the files that are read. The proof is opened before the file is made beside its place.
+/// whole or not at all, and to none of the files that are read.
 pub(crate) fn lift<R: Runtime + AllocGlobal>(
     rt: &R,
     files: &LiftFiles<'_>,
@@ -180,18 +229,8 @@ pub(crate) fn lift<R: Runtime + AllocGlobal>(
         Start::With(split) => split,
         Start::Refused(report) => return Ok(report),
     };
-    let Some(task) = task_of(rt.alloc(), split, leaf)? else {
-        return lift_report(rt.alloc(), 0, LiftEnd::NoLeaf).map_err(no_memory);
-    };
-    let pieces = open(rt, files.proof, Refusal::Proof)?;
-    if is_same_file(rt, files.fragment, files.input)
-        || is_same_file(rt, files.fragment, files.cubes)
-        || is_same_file(rt, files.fragment, files.proof)
-    {
-        return Err(Refusal::Writing);
-    }
-    match place_of(rt, files.fragment).map_err(not_written)? {
-        Some(place) => written(rt, pieces, task, &place),
-        None => Err(Refusal::Writing),
+    match task_of(rt.alloc(), split, leaf)? {
+        Some(task) => lift_proof(rt, files, task),
+        None => lift_report(rt.alloc(), 0, LiftEnd::NoLeaf).map_err(no_memory),
     }
 }

@@ -1,15 +1,18 @@
 //! `solve`, `serve` and `work`: opens the links, runs over them, and writes the proof.
 
+ghost use Rattle.std.specs.Prelude.{IfOk};
 ghost use Rattle.command_line.specs.Options.{AreOptions};
+ghost use Rattle.node_main.specs.Starting.{IsStart};
 
 use crate::accepting::accept_workers;
 use crate::files::{no_memory, read_cubes, read_formula, refused};
 use crate::proof_file::write_proof;
 use crate::showing::{Showing, Shown};
+use dimacs::{DimacsFault, Formula};
 use hub::Hub;
-use links::{Counted, Joined, Loopback, Observed};
+use links::{Carrier, Counted, Joined, Loopback, Observed, Station};
 use node_main::{
-    Options, Refusal, Report, Start, attend, begin, run_serve_from, run_solve_of, run_work_of,
+    Options, Refusal, Report, Service, Start, attend, begin, run_serve_from, run_solve_of, run_work_of,
 };
 use std::alloc::Global;
 use std::io;
@@ -59,6 +62,21 @@ fn asked(options: &Options, showing: Showing) -> Showing {
     }
 }
 
+/// Decides a formula over these links.
+fn decided<R: Runtime + AllocGlobal, C: Carrier>(
+    rt: &R,
+    found: Result<Formula, DimacsFault>,
+    cubes: Option<&[u8]>,
+    options: &Options,
+    links: &mut Counted<Shown<R, C>>,
+) -> Result<Report, Refusal>
+    requires { AreOptions options.now }
+{
+    let run = run_solve_of(rt.alloc(), found, cubes, options, links);
+    links.carrier().end();
+    run.map_err(no_memory)
+}
+
 /// Decides a formula in this process, over connections of its own.
 pub(crate) fn solve<R: Runtime + AllocGlobal + Net>(
     rt: &R,
@@ -72,9 +90,8 @@ pub(crate) fn solve<R: Runtime + AllocGlobal + Net>(
     let cubes = read_cubes(rt, files.cubes)?;
     let carrier = Loopback::open(rt, rt.alloc(), options.workers).map_err(not_linked)?;
     let mut links = Counted::new(Shown::new(rt, carrier, asked(options, showing)));
-    let run = run_solve_of(rt.alloc(), found, lent(&cubes), options, &mut links);
-    links.carrier().end();
-    kept(rt, run.map_err(no_memory)?, files)
+    let report = decided(rt, found, lent(&cubes), options, &mut links)?;
+    kept(rt, report, files)
 }
 
 /// How many links there may be beside those of the workers.
@@ -91,8 +108,72 @@ fn open_hub<R: Runtime + Net>(
     Hub::open(rt, alloc, rt, port, places as u8)
 }
 
-/// Decides a formula by workers that connect to a port, come and go. What is wrong with a file is told before one is linked. At the
-/// verdict the proof is written and the answer printed; then the workers get it.
+/// What a run begins with: the formula, and the tree by which it is split.
+fn begun<R: Runtime + AllocGlobal>(
+    rt: &R,
+    files: &Files,
+    options: &Options,
+) -> Result<Start, Refusal>
+    requires { AreOptions options.now }
+    ensures { IfOk result (IsStart options.now) }
+{
+    let found = read_formula(rt, files.input)?;
+    let cubes = read_cubes(rt, files.cubes)?;
+    begin(rt.alloc(), found, lent(&cubes), options).map_err(no_memory)
+}
+
+/// Decides what a run begins with over these links.
+fn attended<R: Runtime + AllocGlobal, S: Station>(
+    rt: &R,
+    start: Start,
+    options: &Options,
+    links: &mut Observed<Shown<R, S>>,
+) -> Result<Service, Refusal>
+    requires options { AreOptions options.now }
+    requires start { IsStart options.now start }
+{
+    let run = attend(rt.alloc(), start, options, links);
+    links.station().end();
+    run.map_err(no_memory)
+}
+
+/// Writes the proof, prints the answer, and tells the status.
+fn answered<R: Runtime + AllocGlobal>(
+    rt: &R,
+    service: &Service,
+    files: &Files,
+) -> Result<u8, Refusal> {
+    if let (Some(path), Some(proof)) = (files.proof, service.proof()) {
+        write_proof(rt, path, proof, files.input, files.cubes)?;
+    }
+    match print(rt, service.text()) {
+        Ok(()) => Ok(service.status()),
+        Err(_) => Ok(1),
+    }
+}
+
+/// Serves over these links. At the verdict the proof is written and the answer printed; then the workers get it.
+fn serve_over<R: Runtime + AllocGlobal, S: Station>(
+    rt: &R,
+    start: Start,
+    files: &Files,
+    options: &Options,
+    links: &mut Observed<Shown<R, S>>,
+) -> Result<Report, Refusal>
+    requires options { AreOptions options.now }
+    requires start { IsStart options.now start }
+{
+    let mut service = attended(rt, start, options, links)?;
+    let status = answered(rt, &service, files)?;
+    let _ = service.hand_out(links);
+    Ok(Report {
+        stdout: Vec::new(rt.alloc()),
+        status,
+        proof: None,
+    })
+}
+
+/// Decides a formula by workers that connect to a port, come and go. What is wrong with a file is told before one is linked.
 fn serve_by_arrivals<R: Runtime + AllocGlobal + Net>(
     rt: &R,
     port: u16,
@@ -103,26 +184,28 @@ fn serve_by_arrivals<R: Runtime + AllocGlobal + Net>(
     requires { AreOptions options.now }
 {
     let hub = open_hub(rt, rt.alloc(), port, options.workers).map_err(not_linked)?;
-    let found = read_formula(rt, files.input)?;
-    let cubes = read_cubes(rt, files.cubes)?;
-    let start = begin(rt.alloc(), found, lent(&cubes), options).map_err(no_memory)?;
+    let start = begun(rt, files, options)?;
     let mut links = Observed::new(Shown::new(rt, hub, asked(options, showing)));
-    let run = attend(rt.alloc(), start, options, &mut links);
-    links.station().end();
-    let mut service = run.map_err(no_memory)?;
-    if let (Some(path), Some(proof)) = (files.proof, service.proof()) {
-        write_proof(rt, path, proof, files.input, files.cubes)?;
-    }
-    let status = match print(rt, service.text()) {
-        Ok(()) => service.status(),
-        Err(_) => 1,
-    };
-    let _ = service.hand_out(&mut links);
-    Ok(Report {
-        stdout: Vec::new(rt.alloc()),
-        status,
-        proof: None,
-    })
+    serve_over(rt, start, files, options, &mut links)
+}
+
+/// Accepts the workers, and serves them in rounds.
+fn serve_accepted<R: Runtime + AllocGlobal + Net>(
+    rt: &R,
+    start: Start,
+    listener: &R::Listener,
+    files: &Files,
+    options: &Options,
+    showing: Showing,
+) -> Result<Report, Refusal>
+    requires options { AreOptions options.now }
+    requires start { IsStart options.now start }
+{
+    let carrier = accept_workers::<R>(rt.alloc(), listener, options.workers)?;
+    let mut links = Counted::new(Shown::new(rt, carrier, asked(options, showing)));
+    let run = run_serve_from(rt.alloc(), start, options, &mut links);
+    links.carrier().end();
+    kept(rt, run.map_err(no_memory)?, files)
 }
 
 /// The same in rounds: it begins when all workers are there, takes them in turns, and takes none again that is lost. The listener is
@@ -138,18 +221,11 @@ fn serve_in_rounds<R: Runtime + AllocGlobal + Net>(
 {
     let at = SocketAddr::from((Ipv4Addr::LOCALHOST, port));
     let listener = TcpListener::bind(rt, at).map_err(not_linked)?;
-    let found = read_formula(rt, files.input)?;
-    let cubes = read_cubes(rt, files.cubes)?;
-    let start = match begin(rt.alloc(), found, lent(&cubes), options) {
-        Ok(Start::Refused(report)) => return Ok(report),
-        Ok(start) => start,
-        Err(error) => return Err(no_memory(error)),
+    let start = match begun(rt, files, options)? {
+        Start::Refused(report) => return Ok(report),
+        start => start,
     };
-    let carrier = accept_workers::<R>(rt.alloc(), &listener, options.workers)?;
-    let mut links = Counted::new(Shown::new(rt, carrier, asked(options, showing)));
-    let run = run_serve_from(rt.alloc(), start, options, &mut links);
-    links.carrier().end();
-    kept(rt, run.map_err(no_memory)?, files)
+    serve_accepted(rt, start, &listener, files, options, showing)
 }
 
 /// Decides a formula by workers that connect to a port, as the words ask.

@@ -16,18 +16,29 @@ const PIECE: usize = 65_536;
 const NAMES: u32 = 100;
 
 /// Where a proof goes: the file to which its path leads, through symbolic links, or where none is there yet.
-#[derive(Drop)]
 pub(crate) struct Place {
     path: String,
     /// What stands there, whose permissions the new file gets.
     old: Option<Metadata>,
 }
 
+// By hand, so that whoever owns one drops it by one call, and no proof there goes through its parts.
+impl Drop for Place {
+    fn drop(self) {
+        let Place { path: _, old: _ } = self;
+    }
+}
+
 /// A proof in the making, in a file beside its place.
-#[derive(Drop)]
 pub(crate) struct Part<F> {
     file: F,
     name: String,
+}
+
+impl<F: Drop> Drop for Part<F> {
+    fn drop(self) {
+        let Part { file: _, name: _ } = self;
+    }
 }
 
 /// Whether two paths lead to one file, or are the same where there is none.
@@ -38,27 +49,33 @@ pub(crate) fn is_same_file<R: Runtime>(rt: &R, path: &str, other: &str) -> bool 
     }
 }
 
+/// The path of the file to which a path leads, which may be written.
+fn target_of<R: Runtime + AllocGlobal>(rt: &R, path: &str) -> io::Result<String> {
+    let _ = OpenOptions::new().write(true).open(rt, path)?;
+    let target = fs::canonicalize(rt, path)?;
+    Ok(format!(in rt.alloc(); "{}", target.as_str())?)
+}
+
+/// The place of a file that is not there yet; none where a link stands that leads nowhere.
+fn vacant_place<R: Runtime + AllocGlobal>(rt: &R, path: &str) -> io::Result<Option<Place>> {
+    if fs::symlink_metadata(rt, path).is_ok() {
+        return Ok(None);
+    }
+    Ok(Some(Place {
+        path: format!(in rt.alloc(); "{path}")?,
+        old: None,
+    }))
+}
+
 /// Where the path leads; none where something else than a file stands, or a link that leads nowhere. A file that may not be written is
 /// refused, though another could take its place.
 pub(crate) fn place_of<R: Runtime + AllocGlobal>(rt: &R, path: &str) -> io::Result<Option<Place>> {
     match fs::metadata(rt, path) {
-        Ok(old) if old.is_file() => {
-            let _ = OpenOptions::new().write(true).open(rt, path)?;
-            let target = fs::canonicalize(rt, path)?;
-            Ok(Some(Place {
-                path: format!(in rt.alloc(); "{}", target.as_str())?,
-                old: Some(old),
-            }))
-        }
-        Err(error) if error.kind() == ErrorKind::NotFound => {
-            if fs::symlink_metadata(rt, path).is_ok() {
-                return Ok(None);
-            }
-            Ok(Some(Place {
-                path: format!(in rt.alloc(); "{path}")?,
-                old: None,
-            }))
-        }
+        Ok(old) if old.is_file() => Ok(Some(Place {
+            path: target_of(rt, path)?,
+            old: Some(old),
+        })),
+        Err(error) if error.kind() == ErrorKind::NotFound => vacant_place(rt, path),
         _ => Ok(None),
     }
 }
