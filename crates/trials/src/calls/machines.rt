@@ -31,21 +31,51 @@ const RAISED_JOINED: &[u8] =
     b"6 -1 0 2 4 0\n7 2 0 1 2 0\n8 1 2 0 1 0\n8 d 8 0\n9 1 0 7 3 0\n10 0 6 9 0\n";
 
 /// A worker that has all parts of a proof but the last.
-#[derive(Drop)]
 struct AtWorker {
     worker: Worker,
     last: Frame,
 }
 
+// By hand, so that whoever owns one drops it by one call, and no proof there goes through its parts.
+impl Drop for AtWorker {
+    fn drop(self) {
+        let AtWorker { worker: _, last: _ } = self;
+    }
+}
+
+impl AtWorker {
+    fn into_worker(self) -> Worker {
+        let AtWorker { worker, last: _ } = self;
+        worker
+    }
+}
+
 /// A coordinator whose leaves are closed but for one.
-#[derive(Drop)]
 struct AtCoordinator {
     coordinator: Coordinator,
     last: Frame,
 }
 
+impl Drop for AtCoordinator {
+    fn drop(self) {
+        let AtCoordinator {
+            coordinator: _,
+            last: _,
+        } = self;
+    }
+}
+
+impl AtCoordinator {
+    fn into_coordinator(self) -> Coordinator {
+        let AtCoordinator {
+            coordinator,
+            last: _,
+        } = self;
+        coordinator
+    }
+}
+
 /// A worker to which a clause is added, the verdict that it holds before, and the one that it is to hold then.
-#[derive(Drop)]
 struct ExtendedWorker {
     worker: Worker,
     extension: Extension,
@@ -53,13 +83,34 @@ struct ExtendedWorker {
     new: Held,
 }
 
+impl Drop for ExtendedWorker {
+    fn drop(self) {
+        let ExtendedWorker {
+            worker: _,
+            extension: _,
+            old: _,
+            new: _,
+        } = self;
+    }
+}
+
 /// The same of a coordinator.
-#[derive(Drop)]
 struct ExtendedCoordinator {
     coordinator: Coordinator,
     extension: Extension,
     old: Held,
     new: Held,
+}
+
+impl Drop for ExtendedCoordinator {
+    fn drop(self) {
+        let ExtendedCoordinator {
+            coordinator: _,
+            extension: _,
+            old: _,
+            new: _,
+        } = self;
+    }
 }
 
 /// A verdict that is held.
@@ -141,18 +192,28 @@ fn part(alloc: Global, offset: u32, bytes: &[u8]) -> Option<Frame> {
     })
 }
 
-/// A worker that lacks the last part of the proof, and that part.
-fn before_the_last_part(alloc: Global) -> Option<AtWorker> {
-    let formula = read(alloc, FOUR).ok()?;
-    let mut worker = Worker::new(alloc, formula, WorkerNumber::new(1), 1).ok()?;
+/// Worker 1 of a formula.
+fn worker_of(alloc: Global, text: &[u8]) -> Option<Worker> {
+    let formula = read(alloc, text).ok()?;
+    Worker::new(alloc, formula, WorkerNumber::new(1), 1).ok()
+}
+
+/// Whether a worker takes that a proof is announced, and the first part of it.
+fn takes_first(worker: &mut Worker, first: &Frame) -> bool {
     let length = ProofLength::new(24);
     let announced = Frame::Verdict {
         session: 1,
         finding: Finding::Refuted { length },
     };
+    worker.deliver(&announced) == Reaction::Taken && worker.deliver(first) == Reaction::Taken
+}
+
+/// A worker that lacks the last part of the proof, and that part.
+fn before_the_last_part(alloc: Global) -> Option<AtWorker> {
+    let mut worker = worker_of(alloc, FOUR)?;
     let first = part(alloc, 0, FIRST)?;
     let last = part(alloc, FIRST.len() as u32, LAST)?;
-    if worker.deliver(&announced) != Reaction::Taken || worker.deliver(&first) != Reaction::Taken {
+    if !takes_first(&mut worker, &first) {
         return None;
     }
     Some(AtWorker { worker, last })
@@ -179,23 +240,21 @@ fn clause_not_three(alloc: Global) -> Result<Extension, AllocError> {
 }
 
 pub(crate) fn extended_proof(alloc: Global) -> Option<Tried> {
-    let AtWorker { mut worker, last } = before_the_last_part(alloc)?;
+    let mut at = before_the_last_part(alloc)?;
     let extension = clause_three(alloc).ok()?;
-    if worker.deliver(&last) != Reaction::Verdict {
+    if at.worker.deliver(&at.last) != Reaction::Verdict {
         return None;
     }
     Some(try_twice(&mut ExtendedWorker {
-        worker,
+        worker: at.into_worker(),
         extension,
         old: Held::Text(PROOF),
         new: Held::Text(RAISED_PROOF),
     }))
 }
 
-pub(crate) fn extended_assignment(alloc: Global) -> Option<Tried> {
-    let formula = read(alloc, UNITS).ok()?;
-    let mut worker = Worker::new(alloc, formula, WorkerNumber::new(1), 1).ok()?;
-    let extension = clause_not_three(alloc).ok()?;
+/// Whether a worker takes that an assignment is announced, and all of it. None where memory was wanting.
+fn takes_assignment(alloc: Global, worker: &mut Worker) -> Option<bool> {
     let announced = Frame::Verdict {
         session: 1,
         finding: Finding::Assignment { length: 2 },
@@ -206,7 +265,13 @@ pub(crate) fn extended_assignment(alloc: Global) -> Option<Tried> {
         offset: 0,
         bytes: Chunk::from_slice(alloc, b"\x01\x00").ok()?,
     };
-    if worker.deliver(&announced) != Reaction::Taken || worker.deliver(&all) != Reaction::Verdict {
+    Some(worker.deliver(&announced) == Reaction::Taken && worker.deliver(&all) == Reaction::Verdict)
+}
+
+pub(crate) fn extended_assignment(alloc: Global) -> Option<Tried> {
+    let mut worker = worker_of(alloc, UNITS)?;
+    let extension = clause_not_three(alloc).ok()?;
+    if !takes_assignment(alloc, &mut worker)? {
         return None;
     }
     Some(try_twice(&mut ExtendedWorker {
@@ -279,15 +344,21 @@ fn of_two_leaves(alloc: Global) -> Option<Coordinator> {
     }
 }
 
+/// Closes the first leaf. None where memory was wanting.
+fn close_left(coordinator: &mut Coordinator, left: &Frame) -> Option<()> {
+    announce(coordinator, 1, LEFT)?;
+    match coordinator.deliver(left) {
+        Reaction::Taken => Some(()),
+        _ => None,
+    }
+}
+
 /// A coordinator whose leaves are closed but for one, and the piece that closes it.
 fn before_the_last_piece(alloc: Global) -> Option<AtCoordinator> {
     let mut coordinator = of_two_leaves(alloc)?;
     let left = piece(alloc, 1, LEFT)?;
     let last = piece(alloc, 2, RIGHT_WITH_DELETION)?;
-    announce(&mut coordinator, 1, LEFT)?;
-    if coordinator.deliver(&left) != Reaction::Taken {
-        return None;
-    }
+    close_left(&mut coordinator, &left)?;
     announce(&mut coordinator, 2, RIGHT_WITH_DELETION)?;
     Some(AtCoordinator { coordinator, last })
 }
@@ -297,16 +368,13 @@ pub(crate) fn last_piece(alloc: Global) -> Option<Tried> {
 }
 
 pub(crate) fn extended_join(alloc: Global) -> Option<Tried> {
-    let AtCoordinator {
-        mut coordinator,
-        last,
-    } = before_the_last_piece(alloc)?;
+    let mut at = before_the_last_piece(alloc)?;
     let extension = clause_three(alloc).ok()?;
-    if coordinator.deliver(&last) != Reaction::Verdict {
+    if at.coordinator.deliver(&at.last) != Reaction::Verdict {
         return None;
     }
     Some(try_twice(&mut ExtendedCoordinator {
-        coordinator,
+        coordinator: at.into_coordinator(),
         extension,
         old: Held::Text(JOINED),
         new: Held::Text(RAISED_JOINED),
