@@ -198,25 +198,45 @@ fn worker_of(alloc: Global, text: &[u8]) -> Option<Worker> {
     Worker::new(alloc, formula, WorkerNumber::new(1), 1).ok()
 }
 
-/// Whether a worker takes that a proof is announced, and the first part of it.
-fn takes_first(worker: &mut Worker, first: &Frame) -> bool {
-    let length = ProofLength::new(24);
+/// Gives a worker a frame. None where it answers otherwise than this.
+fn give(worker: &mut Worker, frame: &Frame, wanted: Reaction) -> Option<()> {
+    if worker.deliver(frame) == wanted {
+        Some(())
+    } else {
+        None
+    }
+}
+
+/// Announces a verdict to a worker. None where memory was wanting.
+fn announce_verdict(worker: &mut Worker, finding: Finding) -> Option<()> {
     let announced = Frame::Verdict {
         session: 1,
-        finding: Finding::Refuted { length },
+        finding,
     };
-    worker.deliver(&announced) == Reaction::Taken && worker.deliver(first) == Reaction::Taken
+    give(worker, &announced, Reaction::Taken)
+}
+
+/// Announces the proof to a worker, and gives it the first part. None where memory was wanting.
+fn begin_proof(alloc: Global, worker: &mut Worker) -> Option<()> {
+    let length = ProofLength::new(24);
+    announce_verdict(worker, Finding::Refuted { length })?;
+    let first = part(alloc, 0, FIRST)?;
+    give(worker, &first, Reaction::Taken)
 }
 
 /// A worker that lacks the last part of the proof, and that part.
 fn before_the_last_part(alloc: Global) -> Option<AtWorker> {
     let mut worker = worker_of(alloc, FOUR)?;
-    let first = part(alloc, 0, FIRST)?;
+    begin_proof(alloc, &mut worker)?;
     let last = part(alloc, FIRST.len() as u32, LAST)?;
-    if !takes_first(&mut worker, &first) {
-        return None;
-    }
     Some(AtWorker { worker, last })
+}
+
+/// A worker that holds the proof. None where memory was wanting.
+fn with_proof(alloc: Global) -> Option<Worker> {
+    let mut at = before_the_last_part(alloc)?;
+    give(&mut at.worker, &at.last, Reaction::Verdict)?;
+    Some(at.into_worker())
 }
 
 pub(crate) fn last_part(alloc: Global) -> Option<Tried> {
@@ -240,40 +260,33 @@ fn clause_not_three(alloc: Global) -> Result<Extension, AllocError> {
 }
 
 pub(crate) fn extended_proof(alloc: Global) -> Option<Tried> {
-    let mut at = before_the_last_part(alloc)?;
+    let worker = with_proof(alloc)?;
     let extension = clause_three(alloc).ok()?;
-    if at.worker.deliver(&at.last) != Reaction::Verdict {
-        return None;
-    }
     Some(try_twice(&mut ExtendedWorker {
-        worker: at.into_worker(),
+        worker,
         extension,
         old: Held::Text(PROOF),
         new: Held::Text(RAISED_PROOF),
     }))
 }
 
-/// Whether a worker takes that an assignment is announced, and all of it. None where memory was wanting.
-fn takes_assignment(alloc: Global, worker: &mut Worker) -> Option<bool> {
-    let announced = Frame::Verdict {
-        session: 1,
-        finding: Finding::Assignment { length: 2 },
-    };
+/// A worker that holds an assignment. None where memory was wanting.
+fn with_assignment(alloc: Global) -> Option<Worker> {
+    let mut worker = worker_of(alloc, UNITS)?;
+    announce_verdict(&mut worker, Finding::Assignment { length: 2 })?;
     let all = Frame::Part {
         session: 1,
         answer: Evidence::Assignment,
         offset: 0,
         bytes: Chunk::from_slice(alloc, b"\x01\x00").ok()?,
     };
-    Some(worker.deliver(&announced) == Reaction::Taken && worker.deliver(&all) == Reaction::Verdict)
+    give(&mut worker, &all, Reaction::Verdict)?;
+    Some(worker)
 }
 
 pub(crate) fn extended_assignment(alloc: Global) -> Option<Tried> {
-    let mut worker = worker_of(alloc, UNITS)?;
+    let worker = with_assignment(alloc)?;
     let extension = clause_not_three(alloc).ok()?;
-    if !takes_assignment(alloc, &mut worker)? {
-        return None;
-    }
     Some(try_twice(&mut ExtendedWorker {
         worker,
         extension,
@@ -316,17 +329,35 @@ fn piece(alloc: Global, job: u64, fragment: &[u8]) -> Option<Frame> {
     })
 }
 
-/// Gives worker 1 its next job, and takes the announcement of its fragment. None where memory was wanting.
-fn announce(coordinator: &mut Coordinator, job: u64, fragment: &[u8]) -> Option<()> {
-    let done = done(job, fragment)?;
+/// Gives worker 1 its next job. None where memory was wanting.
+fn hand_out(coordinator: &mut Coordinator) -> Option<()> {
     if coordinator.workers() < 1 {
         return None;
     }
     let _ = coordinator.poll(WorkerNumber::new(1)).ok()?;
-    match coordinator.deliver(&done) {
+    Some(())
+}
+
+/// Lets a coordinator take a frame. None where memory was wanting.
+fn take(coordinator: &mut Coordinator, frame: &Frame) -> Option<()> {
+    match coordinator.deliver(frame) {
         Reaction::Taken => Some(()),
         _ => None,
     }
+}
+
+/// Gives worker 1 its next job, and takes the announcement of its fragment. None where memory was wanting.
+fn announce(coordinator: &mut Coordinator, job: u64, fragment: &[u8]) -> Option<()> {
+    hand_out(coordinator)?;
+    let done = done(job, fragment)?;
+    take(coordinator, &done)
+}
+
+/// Closes the leaf of a job. None where memory was wanting.
+fn close(alloc: Global, coordinator: &mut Coordinator, job: u64, fragment: &[u8]) -> Option<()> {
+    announce(coordinator, job, fragment)?;
+    let piece = piece(alloc, job, fragment)?;
+    take(coordinator, &piece)
 }
 
 /// A coordinator of one worker, and of the leaves 1 and -1.
@@ -344,23 +375,22 @@ fn of_two_leaves(alloc: Global) -> Option<Coordinator> {
     }
 }
 
-/// Closes the first leaf. None where memory was wanting.
-fn close_left(coordinator: &mut Coordinator, left: &Frame) -> Option<()> {
-    announce(coordinator, 1, LEFT)?;
-    match coordinator.deliver(left) {
-        Reaction::Taken => Some(()),
-        _ => None,
-    }
-}
-
 /// A coordinator whose leaves are closed but for one, and the piece that closes it.
 fn before_the_last_piece(alloc: Global) -> Option<AtCoordinator> {
     let mut coordinator = of_two_leaves(alloc)?;
-    let left = piece(alloc, 1, LEFT)?;
-    let last = piece(alloc, 2, RIGHT_WITH_DELETION)?;
-    close_left(&mut coordinator, &left)?;
+    close(alloc, &mut coordinator, 1, LEFT)?;
     announce(&mut coordinator, 2, RIGHT_WITH_DELETION)?;
+    let last = piece(alloc, 2, RIGHT_WITH_DELETION)?;
     Some(AtCoordinator { coordinator, last })
+}
+
+/// A coordinator that holds the joined proof. None where memory was wanting.
+fn with_join(alloc: Global) -> Option<Coordinator> {
+    let mut at = before_the_last_piece(alloc)?;
+    if at.coordinator.deliver(&at.last) != Reaction::Verdict {
+        return None;
+    }
+    Some(at.into_coordinator())
 }
 
 pub(crate) fn last_piece(alloc: Global) -> Option<Tried> {
@@ -368,13 +398,10 @@ pub(crate) fn last_piece(alloc: Global) -> Option<Tried> {
 }
 
 pub(crate) fn extended_join(alloc: Global) -> Option<Tried> {
-    let mut at = before_the_last_piece(alloc)?;
+    let coordinator = with_join(alloc)?;
     let extension = clause_three(alloc).ok()?;
-    if at.coordinator.deliver(&at.last) != Reaction::Verdict {
-        return None;
-    }
     Some(try_twice(&mut ExtendedCoordinator {
-        coordinator: at.into_coordinator(),
+        coordinator,
         extension,
         old: Held::Text(JOINED),
         new: Held::Text(RAISED_JOINED),
