@@ -24,23 +24,23 @@ fn idle_of(frames: &[Frame]) -> Option<u32> {
 
 /// Reads the first frame of a connection into `early`, and answers the number of the worker whose Idle it is. There is none if the
 /// connection ends or fails, at a fault of its bytes, at another frame, or behind 17 bytes without a frame.
-fn greeted<S: Read>(
+fn greeting<S: Read>(
     alloc: Global,
     stream: &mut S,
-    reader: &mut Reader,
-    frames: &mut Vec<Frame>,
     early: &mut Vec<u8>,
 ) -> Result<Option<u32>, AllocError> {
     let mut room = [0u8; IDLE];
+    let mut reader = Reader::new(alloc)?;
+    let mut frames = Vec::new(alloc);
     for _ in 0..u64::MAX {
         let left = IDLE.saturating_sub(early.len());
         match stream.read(&mut room[..left]) {
             Ok(0) => return Ok(None),
             Ok(count) => {
                 early.extend_from_slice(&room[..count])?;
-                match reader.feed(alloc, &room[..count], frames) {
+                match reader.feed(alloc, &room[..count], &mut frames) {
                     Ok(()) if frames.is_empty() => {}
-                    Ok(()) => return Ok(idle_of(frames)),
+                    Ok(()) => return Ok(idle_of(&frames)),
                     Err(FrameFault::NoMemory) => return Err(AllocError),
                     Err(_) => return Ok(None),
                 }
@@ -50,17 +50,6 @@ fn greeted<S: Read>(
         }
     }
     Ok(None)
-}
-
-/// The same, of a connection of which nothing was read.
-fn greeting<S: Read>(
-    alloc: Global,
-    stream: &mut S,
-    early: &mut Vec<u8>,
-) -> Result<Option<u32>, AllocError> {
-    let mut reader = Reader::new(alloc)?;
-    let mut frames = Vec::new(alloc);
-    greeted(alloc, stream, &mut reader, &mut frames, early)
 }
 
 /// Links a connection by its first frame, which has to be Idle of a worker that is not linked yet; else it is closed.
@@ -78,19 +67,6 @@ fn link<S: Read + OpenStream + Drop>(
     Ok(())
 }
 
-/// Accepts a connection, unless it was closed before.
-fn accept_one<N: Net>(
-    alloc: Global,
-    listener: &N::Listener,
-    served: &mut Served<N::Stream>,
-) -> Result<(), Refusal> {
-    match listener.accept() {
-        Ok((stream, _)) => link(alloc, stream, served).map_err(no_memory),
-        Err(error) if error.kind() == ErrorKind::ConnectionAborted => Ok(()),
-        Err(error) => Err(refused(error, Refusal::Links)),
-    }
-}
-
 /// Accepts connections until workers 1 to `workers` are linked, and no more than 128.
 pub(crate) fn accept_workers<N: Net>(
     alloc: Global,
@@ -102,7 +78,12 @@ pub(crate) fn accept_workers<N: Net>(
         if served.is_complete() {
             break;
         }
-        accept_one::<N>(alloc, listener, &mut served)?;
+        match listener.accept() {
+            Ok((stream, _)) => link(alloc, stream, &mut served).map_err(no_memory)?,
+            // It was closed before it was accepted.
+            Err(error) if error.kind() == ErrorKind::ConnectionAborted => {}
+            Err(error) => return Err(refused(error, Refusal::Links)),
+        }
     }
     Ok(served)
 }

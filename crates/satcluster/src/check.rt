@@ -1,17 +1,17 @@
 //! `check`: an input is read, and a proof checked, while their files are read.
 
-use crate::files::{Pieces, no_memory, open, read_formula};
+use crate::files::{no_memory, open, read_formula};
 use node_main::{ProofCheck, Refusal, Report};
-use std::fs::OpenFile;
-use std::io::Read;
 use std::rt::Runtime;
 
 /// Reads a proof to its end, also behind a fault, and feeds it piece by piece. What has no size is read up to the first fault, or up to want
 /// of memory.
-fn feed<F: Read + OpenFile>(
-    pieces: &mut Pieces<F>,
+fn feed<R: Runtime + AllocGlobal>(
+    rt: &R,
+    path: &str,
     check: &mut ProofCheck,
 ) -> Result<(), Refusal> {
+    let mut pieces = open(rt, path, Refusal::Proof)?;
     let has_size = pieces.has_size();
     for _ in 0..u64::MAX {
         if check.is_settled() && !has_size {
@@ -26,16 +26,6 @@ fn feed<F: Read + OpenFile>(
     Err(Refusal::Proof)
 }
 
-/// Reads the file of a proof.
-fn read<R: Runtime + AllocGlobal>(
-    rt: &R,
-    path: &str,
-    check: &mut ProofCheck,
-) -> Result<(), Refusal> {
-    let mut pieces = open(rt, path, Refusal::Proof)?;
-    feed(&mut pieces, check)
-}
-
 /// Checks the proof in a file, of the formula in another.
 pub(crate) fn check<R: Runtime + AllocGlobal>(
     rt: &R,
@@ -44,6 +34,6 @@ pub(crate) fn check<R: Runtime + AllocGlobal>(
 ) -> Result<Report, Refusal> {
     let found = read_formula(rt, input)?;
     let mut check = ProofCheck::of(rt.alloc(), found);
-    read(rt, proof, &mut check)?;
+    feed(rt, proof, &mut check)?;
     check.finish().map_err(no_memory)
 }

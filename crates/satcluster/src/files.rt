@@ -55,18 +55,6 @@ impl<F: Read> Pieces<F> {
         }
         Err(self.refusal)
     }
-
-    /// Puts the bytes that are left behind those that are there.
-    fn read_to_end(&mut self, bytes: &mut Vec<u8>) -> Result<(), Refusal> {
-        for _ in 0..u64::MAX {
-            let piece = self.next()?;
-            if piece.is_empty() {
-                return Ok(());
-            }
-            bytes.extend_from_slice(piece).map_err(no_memory)?;
-        }
-        Err(self.refusal)
-    }
 }
 
 impl<F: OpenFile> Pieces<F> {
@@ -109,8 +97,14 @@ pub(crate) fn read<R: Runtime + AllocGlobal>(
         Err(_) => 0,
     };
     let mut bytes = Vec::with_capacity(rt.alloc(), len as usize).map_err(no_memory)?;
-    pieces.read_to_end(&mut bytes)?;
-    Ok(bytes)
+    for _ in 0..u64::MAX {
+        let piece = pieces.next()?;
+        if piece.is_empty() {
+            return Ok(bytes);
+        }
+        bytes.extend_from_slice(piece).map_err(no_memory)?;
+    }
+    Err(refusal)
 }
 
 /// Reads a formula to its end. What has no size is read up to the first fault, or up to want of memory.

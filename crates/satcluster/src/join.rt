@@ -10,7 +10,6 @@ use dimacs::{Answer, Assignment, answer_lines};
 use gathering::GatherFault;
 use leaves::{FileEnd, Join, Note, Split, put_note};
 use node_main::{Refusal, Report};
-use std::alloc::Global;
 use std::io::{BufRead, Read, Write};
 use std::rt::Runtime;
 use std::str::from_utf8;
@@ -110,16 +109,6 @@ fn satisfied(
     Ok(report)
 }
 
-/// What is noted of a file that was read to its end; `-q` leaves out that it closes nothing.
-fn note_of(ended: &FileEnd, quiet: bool) -> Option<Note> {
-    match *ended {
-        FileEnd::Closes | FileEnd::Satisfies(_) => None,
-        FileEnd::ClosesNothing if quiet => None,
-        FileEnd::ClosesNothing => Some(Note::ClosesNothing),
-        FileEnd::Refused { line, number } => Some(Note::Fault { line, number }),
-    }
-}
-
 /// Ends a file that was read to its end: the report, where it satisfies the formula.
 fn end<R: Runtime + AllocGlobal>(
     rt: &R,
@@ -128,30 +117,23 @@ fn end<R: Runtime + AllocGlobal>(
 ) -> Result<Option<Report>, Refusal> {
     let ended = run.join.end().map_err(stopped)?;
     write(run)?;
-    if let FileEnd::Satisfies(values) = &ended {
-        let report = Report::of(rt.alloc(), b"", 10).map_err(no_memory)?;
-        return Ok(Some(satisfied(&run.notes, values, run.printing.witness, report)?));
+    match ended {
+        FileEnd::Closes => Ok(None),
+        FileEnd::ClosesNothing => {
+            if !run.printing.quiet {
+                note(run, Note::ClosesNothing, name)?;
+            }
+            Ok(None)
+        }
+        FileEnd::Refused { line, number } => {
+            note(run, Note::Fault { line, number }, name)?;
+            Ok(None)
+        }
+        FileEnd::Satisfies(values) => {
+            let report = Report::of(rt.alloc(), b"", 10).map_err(no_memory)?;
+            Ok(Some(satisfied(&run.notes, &values, run.printing.witness, report)?))
+        }
     }
-    if let Some(found) = note_of(&ended, run.printing.quiet) {
-        note(run, found, name)?;
-    }
-    Ok(None)
-}
-
-/// Reads a file that was opened: the report, where it is an answer that satisfies the formula.
-fn take_file<R: Runtime + AllocGlobal>(
-    rt: &R,
-    run: &mut Run<R::File>,
-    pieces: &mut Pieces<R::File>,
-    name: &[u8],
-) -> Result<Option<Report>, Refusal> {
-    if feed(run, pieces)? {
-        return end(rt, run, name);
-    }
-    run.join.abandon().map_err(stopped)?;
-    write(run)?;
-    note(run, Note::Unread, name)?;
-    Ok(None)
 }
 
 /// Reads the file of a name: the report, where it is an answer that satisfies the formula.
@@ -165,14 +147,21 @@ fn take<R: Runtime + AllocGlobal>(
     if leads_to(rt, place, name) || is_part(rt, &run.part, name) {
         return Err(Refusal::Writing);
     }
-    match open(rt, name, Refusal::Proof) {
-        Ok(mut pieces) => take_file(rt, run, &mut pieces, name.as_bytes()),
-        Err(Refusal::NoMemory) => Err(Refusal::NoMemory),
+    let mut pieces = match open(rt, name, Refusal::Proof) {
+        Ok(pieces) => pieces,
+        Err(Refusal::NoMemory) => return Err(Refusal::NoMemory),
         Err(_) => {
             note(run, Note::Unread, name.as_bytes())?;
-            Ok(None)
+            return Ok(None);
         }
+    };
+    if feed(run, &mut pieces)? {
+        return end(rt, run, name.as_bytes());
     }
+    run.join.abandon().map_err(stopped)?;
+    write(run)?;
+    note(run, Note::Unread, name.as_bytes())?;
+    Ok(None)
 }
 
 /// Reads the files of these names.
@@ -190,36 +179,6 @@ fn take_all<R: Runtime + AllocGlobal>(
     Ok(None)
 }
 
-/// Reads the next name into the line; tells whether there is one.
-fn next_name<B: BufRead>(reader: &mut B, line: &mut Vec<u8>) -> Result<bool, Refusal> {
-    line.clear();
-    let read = reader.read_until(b'\n', line);
-    if read.map_err(|error| refused(error, Refusal::Proof))? == 0 {
-        return Ok(false);
-    }
-    if line.last() == Some(&b'\n') {
-        line.pop();
-    }
-    Ok(true)
-}
-
-/// Reads the file of a name that standard input lists; one that is no text is of no file.
-fn take_line<R: Runtime + AllocGlobal>(
-    rt: &R,
-    run: &mut Run<R::File>,
-    place: &Place,
-    line: &[u8],
-) -> Result<Option<Report>, Refusal> {
-    match from_utf8(line) {
-        Ok(name) => take(rt, run, place, name),
-        Err(_) => {
-            run.count = run.count.saturating_add(1);
-            note(run, Note::Unread, line)?;
-            Ok(None)
-        }
-    }
-}
-
 /// Reads the files whose names standard input lists, one a line, as the names come.
 fn take_listed<R: Runtime + AllocGlobal>(
     rt: &R,
@@ -229,22 +188,27 @@ fn take_listed<R: Runtime + AllocGlobal>(
     let mut reader = rt.reader();
     let mut line = Vec::new(rt.alloc());
     for _ in 0..u64::MAX {
-        if !next_name(&mut reader, &mut line)? {
+        line.clear();
+        let read = reader.read_until(b'\n', &mut line);
+        if read.map_err(|error| refused(error, Refusal::Proof))? == 0 {
             return Ok(None);
         }
-        if let Some(report) = take_line(rt, run, place, &line)? {
-            return Ok(Some(report));
+        if line.last() == Some(&b'\n') {
+            line.pop();
+        }
+        match from_utf8(&line) {
+            Ok(name) => {
+                if let Some(report) = take(rt, run, place, name)? {
+                    return Ok(Some(report));
+                }
+            }
+            Err(_) => {
+                run.count = run.count.saturating_add(1);
+                note(run, Note::Unread, &line)?;
+            }
         }
     }
     Ok(None)
-}
-
-/// Ends the proof, behind which all files were read.
-fn finished<F: Write>(alloc: Global, run: &mut Run<F>) -> Result<Report, Refusal> {
-    let notes = Vec::from_slice(alloc, &run.notes).map_err(no_memory)?;
-    let report = run.join.finish(notes).map_err(stopped)?;
-    write(run)?;
-    Ok(report)
 }
 
 /// Reads all files, and ends the proof.
@@ -259,10 +223,13 @@ fn joined<R: Runtime + AllocGlobal>(
     } else {
         take_all(rt, run, place, names)?
     };
-    match found {
-        Some(report) => Ok(report),
-        None => finished(rt.alloc(), run),
+    if let Some(report) = found {
+        return Ok(report);
     }
+    let notes = Vec::from_slice(rt.alloc(), &run.notes).map_err(no_memory)?;
+    let report = run.join.finish(notes).map_err(stopped)?;
+    write(run)?;
+    Ok(report)
 }
 
 /// Lets the part take its place where the report has a proof; else it is gone.

@@ -1,15 +1,14 @@
 //! `leaf`, `refute` and `cubes --split`: a formula and a tree of cubes are read, and a leaf is worked on.
 
-use crate::files::{Pieces, no_memory, open, read_formula};
+use crate::files::{no_memory, open, read_formula};
 use crate::join::stopped;
 use crate::proof_file::write_proof;
-use dimacs::{DimacsFault, Formula, Kind};
+use dimacs::{DimacsFault, Kind};
 use icnf::{CubesFault, Kind as CubesKind};
 use leaves::{Search, Split, SplitReader, run_leaf, run_refute, run_refute_all, run_split};
 use node_main::{Refusal, Report};
 use reports::{faulty_cubes, faulty_input, other_formula};
 use std::alloc::Global;
-use std::io::Read;
 use std::rt::Runtime;
 
 /// What a command over leaves begins with.
@@ -21,11 +20,13 @@ pub(crate) enum Start {
     Refused(Report),
 }
 
-/// Reads cubes to their end, and feeds them to the reader of the formula's tree, where there is a formula.
-fn feed<F: Read>(
-    pieces: &mut Pieces<F>,
+/// Reads a file of cubes to its end, and feeds it to the reader of the formula's tree, where there is a formula.
+fn feed<R: Runtime + AllocGlobal>(
+    rt: &R,
+    path: &str,
     reader: &mut Result<SplitReader, DimacsFault>,
 ) -> Result<(), Refusal> {
+    let mut pieces = open(rt, path, Refusal::Cubes)?;
     for _ in 0..u64::MAX {
         let piece = pieces.next()?;
         if piece.is_empty() {
@@ -36,16 +37,6 @@ fn feed<F: Read>(
         }
     }
     Err(Refusal::Cubes)
-}
-
-/// Reads a file of cubes.
-fn read<R: Runtime + AllocGlobal>(
-    rt: &R,
-    path: &str,
-    reader: &mut Result<SplitReader, DimacsFault>,
-) -> Result<(), Refusal> {
-    let mut pieces = open(rt, path, Refusal::Cubes)?;
-    feed(&mut pieces, reader)
 }
 
 /// The report of cubes that are refused.
@@ -68,41 +59,24 @@ pub(crate) fn refused_input<R: AllocGlobal>(rt: &R, fault: DimacsFault) -> Resul
     faulty_input(rt.alloc(), fault).map_err(no_memory)
 }
 
-/// What reads the tree of a formula, where there is one.
-fn reader_of(
-    alloc: Global,
-    found: Result<Formula, DimacsFault>,
-) -> Result<Result<SplitReader, DimacsFault>, Refusal> {
-    match found {
-        Ok(formula) => Ok(Ok(SplitReader::new(alloc, formula).map_err(no_memory)?)),
-        Err(fault) => Ok(Err(fault)),
-    }
-}
-
-/// What a command begins with, whose cubes were read to their end.
-fn begun<R: AllocGlobal>(
-    rt: &R,
-    reader: Result<SplitReader, DimacsFault>,
-) -> Result<Start, Refusal> {
-    let found = match reader {
-        Ok(reader) => reader.finish(),
-        Err(fault) => return Ok(Start::Refused(refused_input(rt, fault)?)),
-    };
-    match found {
-        Ok(split) => Ok(Start::With(split)),
-        Err(fault) => Ok(Start::Refused(refused_cubes(rt, fault)?)),
-    }
-}
-
 /// Reads a formula, and the tree of its cubes. A file that cannot be read is told before a fault of the other one.
 pub(crate) fn begin<R: Runtime + AllocGlobal>(
     rt: &R,
     input: &str,
     cubes: &str,
 ) -> Result<Start, Refusal> {
-    let mut reader = reader_of(rt.alloc(), read_formula(rt, input)?)?;
-    read(rt, cubes, &mut reader)?;
-    begun(rt, reader)
+    let mut reader = match read_formula(rt, input)? {
+        Ok(formula) => Ok(SplitReader::new(rt.alloc(), formula).map_err(no_memory)?),
+        Err(fault) => Err(fault),
+    };
+    feed(rt, cubes, &mut reader)?;
+    match reader {
+        Ok(reader) => match reader.finish() {
+            Ok(split) => Ok(Start::With(split)),
+            Err(fault) => Ok(Start::Refused(refused_cubes(rt, fault)?)),
+        },
+        Err(fault) => Ok(Start::Refused(refused_input(rt, fault)?)),
+    }
 }
 
 /// The report without its text, where `-q` leaves it out.
@@ -175,10 +149,11 @@ pub(crate) fn refute<R: Runtime + AllocGlobal>(
     leaves: LeafRange,
     search: &Search,
 ) -> Result<Report, Refusal> {
-    let report = match begin(rt, files.input, files.cubes)? {
-        Start::With(split) => searched(rt.alloc(), &split, leaves, search)?,
+    let split = match begin(rt, files.input, files.cubes)? {
+        Start::With(split) => split,
         Start::Refused(report) => return Ok(hushed(report, search.quiet)),
     };
+    let report = searched(rt.alloc(), &split, leaves, search)?;
     match (files.fragment, &report.proof) {
         (Some(path), Some(log)) => write_proof(rt, path, log, files.input, Some(files.cubes))?,
         _ => {}

@@ -26,21 +26,12 @@ pub(crate) struct LiftFiles<'a> {
 }
 
 /// What is made of a proof.
+#[derive(Drop)]
 enum Task {
     /// A log that closes the leaf of this number.
     Leaf(Lift, u64),
     /// A log that closes each leaf, if it can.
     All(LiftAll),
-}
-
-// By hand, so that whoever owns one drops it by one call, and no proof there goes through its parts.
-impl Drop for Task {
-    fn drop(self) {
-        match self {
-            Task::Leaf(_, _) => {}
-            Task::All(_) => {}
-        }
-    }
 }
 
 impl Task {
@@ -62,17 +53,6 @@ impl Task {
         match self {
             Task::Leaf(lift, _) => lift.forget(),
             Task::All(lift) => lift.forget(),
-        }
-    }
-
-    /// The report of a proof that was read to its end.
-    fn finish<F: Write>(self, alloc: Global, part: &mut Part<F>) -> Result<Report, Refusal> {
-        match self {
-            Task::Leaf(lift, leaf) => {
-                let end = ended(lift, part)?;
-                lift_report(alloc, leaf, end).map_err(no_memory)
-            }
-            Task::All(lift) => all_ended(alloc, &lift),
         }
     }
 }
@@ -133,28 +113,13 @@ fn lifted<R: Runtime + AllocGlobal>(
     part: &mut Part<R::File>,
 ) -> Result<Report, Refusal> {
     feed(&mut pieces, &mut task, part)?;
-    task.finish(rt.alloc(), part)
-}
-
-/// Lets the part take its place where the report is of a proof that was lifted; else it is gone.
-fn settle<R: Runtime>(
-    rt: &R,
-    part: Part<R::File>,
-    place: &Place,
-    found: Result<Report, Refusal>,
-) -> Result<Report, Refusal> {
-    let is_lifted = match &found {
-        Ok(report) => report.status != 1,
-        Err(_) => false,
-    };
-    if !is_lifted {
-        remove(rt, part);
-        return found;
+    match task {
+        Task::Leaf(lift, leaf) => {
+            let end = ended(lift, part)?;
+            lift_report(rt.alloc(), leaf, end).map_err(no_memory)
+        }
+        Task::All(lift) => all_ended(rt.alloc(), &lift),
     }
-    if keep(rt, part, place).map_err(not_written)? {
-        return found;
-    }
-    Err(Refusal::Writing)
 }
 
 /// Lifts a proof to a part, which takes its place where the proof has no fault, and is gone where it has one.
@@ -168,7 +133,18 @@ fn written<R: Runtime + AllocGlobal>(
         return Err(Refusal::Writing);
     };
     let found = lifted(rt, pieces, task, &mut part);
-    settle(rt, part, place, found)
+    let is_lifted = match &found {
+        Ok(report) => report.status != 1,
+        Err(_) => false,
+    };
+    if !is_lifted {
+        remove(rt, part);
+        return found;
+    }
+    if keep(rt, part, place).map_err(not_written)? {
+        return found;
+    }
+    Err(Refusal::Writing)
 }
 
 /// The leaf whose proof is lifted, or none where a text for all leaves is; the words name one of both.

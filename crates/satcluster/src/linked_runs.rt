@@ -8,11 +8,10 @@ use crate::accepting::accept_workers;
 use crate::files::{no_memory, read_cubes, read_formula, refused};
 use crate::proof_file::write_proof;
 use crate::showing::{Showing, Shown};
-use dimacs::{DimacsFault, Formula};
 use hub::Hub;
-use links::{Carrier, Counted, Joined, Loopback, Observed, Station};
+use links::{Counted, Joined, Loopback, Observed, Station};
 use node_main::{
-    Options, Refusal, Report, Service, Start, attend, begin, run_serve_from, run_solve_of, run_work_of,
+    Options, Refusal, Report, Start, attend, begin, run_serve_from, run_solve_of, run_work_of,
 };
 use std::alloc::Global;
 use std::io;
@@ -62,21 +61,6 @@ fn asked(options: &Options, showing: Showing) -> Showing {
     }
 }
 
-/// Decides a formula over these links.
-fn decided<R: Runtime + AllocGlobal, C: Carrier>(
-    rt: &R,
-    found: Result<Formula, DimacsFault>,
-    cubes: Option<&[u8]>,
-    options: &Options,
-    links: &mut Counted<Shown<R, C>>,
-) -> Result<Report, Refusal>
-    requires { AreOptions options.now }
-{
-    let run = run_solve_of(rt.alloc(), found, cubes, options, links);
-    links.carrier().end();
-    run.map_err(no_memory)
-}
-
 /// Decides a formula in this process, over connections of its own.
 pub(crate) fn solve<R: Runtime + AllocGlobal + Net>(
     rt: &R,
@@ -90,8 +74,9 @@ pub(crate) fn solve<R: Runtime + AllocGlobal + Net>(
     let cubes = read_cubes(rt, files.cubes)?;
     let carrier = Loopback::open(rt, rt.alloc(), options.workers).map_err(not_linked)?;
     let mut links = Counted::new(Shown::new(rt, carrier, asked(options, showing)));
-    let report = decided(rt, found, lent(&cubes), options, &mut links)?;
-    kept(rt, report, files)
+    let run = run_solve_of(rt.alloc(), found, lent(&cubes), options, &mut links);
+    links.carrier().end();
+    kept(rt, run.map_err(no_memory)?, files)
 }
 
 /// How many links there may be beside those of the workers.
@@ -122,36 +107,6 @@ fn begun<R: Runtime + AllocGlobal>(
     begin(rt.alloc(), found, lent(&cubes), options).map_err(no_memory)
 }
 
-/// Decides what a run begins with over these links.
-fn attended<R: Runtime + AllocGlobal, S: Station>(
-    rt: &R,
-    start: Start,
-    options: &Options,
-    links: &mut Observed<Shown<R, S>>,
-) -> Result<Service, Refusal>
-    requires options { AreOptions options.now }
-    requires start { IsStart options.now start }
-{
-    let run = attend(rt.alloc(), start, options, links);
-    links.station().end();
-    run.map_err(no_memory)
-}
-
-/// Writes the proof, prints the answer, and tells the status.
-fn answered<R: Runtime + AllocGlobal>(
-    rt: &R,
-    service: &Service,
-    files: &Files,
-) -> Result<u8, Refusal> {
-    if let (Some(path), Some(proof)) = (files.proof, service.proof()) {
-        write_proof(rt, path, proof, files.input, files.cubes)?;
-    }
-    match print(rt, service.text()) {
-        Ok(()) => Ok(service.status()),
-        Err(_) => Ok(1),
-    }
-}
-
 /// Serves over these links. At the verdict the proof is written and the answer printed; then the workers get it.
 fn serve_over<R: Runtime + AllocGlobal, S: Station>(
     rt: &R,
@@ -163,8 +118,16 @@ fn serve_over<R: Runtime + AllocGlobal, S: Station>(
     requires options { AreOptions options.now }
     requires start { IsStart options.now start }
 {
-    let mut service = attended(rt, start, options, links)?;
-    let status = answered(rt, &service, files)?;
+    let run = attend(rt.alloc(), start, options, links);
+    links.station().end();
+    let mut service = run.map_err(no_memory)?;
+    if let (Some(path), Some(proof)) = (files.proof, service.proof()) {
+        write_proof(rt, path, proof, files.input, files.cubes)?;
+    }
+    let status = match print(rt, service.text()) {
+        Ok(()) => service.status(),
+        Err(_) => 1,
+    };
     let _ = service.hand_out(links);
     Ok(Report {
         stdout: Vec::new(rt.alloc()),
@@ -189,25 +152,6 @@ fn serve_by_arrivals<R: Runtime + AllocGlobal + Net>(
     serve_over(rt, start, files, options, &mut links)
 }
 
-/// Accepts the workers, and serves them in rounds.
-fn serve_accepted<R: Runtime + AllocGlobal + Net>(
-    rt: &R,
-    start: Start,
-    listener: &R::Listener,
-    files: &Files,
-    options: &Options,
-    showing: Showing,
-) -> Result<Report, Refusal>
-    requires options { AreOptions options.now }
-    requires start { IsStart options.now start }
-{
-    let carrier = accept_workers::<R>(rt.alloc(), listener, options.workers)?;
-    let mut links = Counted::new(Shown::new(rt, carrier, asked(options, showing)));
-    let run = run_serve_from(rt.alloc(), start, options, &mut links);
-    links.carrier().end();
-    kept(rt, run.map_err(no_memory)?, files)
-}
-
 /// The same in rounds: it begins when all workers are there, takes them in turns, and takes none again that is lost. The listener is
 /// kept to the end, so that a worker that comes late waits for it, and is not refused.
 fn serve_in_rounds<R: Runtime + AllocGlobal + Net>(
@@ -225,7 +169,11 @@ fn serve_in_rounds<R: Runtime + AllocGlobal + Net>(
         Start::Refused(report) => return Ok(report),
         start => start,
     };
-    serve_accepted(rt, start, &listener, files, options, showing)
+    let carrier = accept_workers::<R>(rt.alloc(), &listener, options.workers)?;
+    let mut links = Counted::new(Shown::new(rt, carrier, asked(options, showing)));
+    let run = run_serve_from(rt.alloc(), start, options, &mut links);
+    links.carrier().end();
+    kept(rt, run.map_err(no_memory)?, files)
 }
 
 /// Decides a formula by workers that connect to a port, as the words ask.

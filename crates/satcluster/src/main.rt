@@ -28,7 +28,7 @@ use linked_runs::{Files, print, serve, solve, work};
 use model::model;
 use node_main::{Refusal, Report, Request, UsageFault, command, run_cubes};
 use showing::Showing;
-use std::alloc::{AllocError, Global};
+use std::alloc::AllocError;
 use std::env;
 use std::io::IsTerminal;
 use std::net::Net;
@@ -56,12 +56,12 @@ fn drill<R: Runtime + AllocGlobal>(
 /// The report of a request, or why it has none. How far a run has come is told so, where the words ask for it.
 fn answer<R: Runtime + AllocGlobal + Net>(
     rt: &R,
-    request: &Request,
+    request: Request,
     showing: Showing,
 ) -> Result<Report, Refusal>
-    requires { IsInRange request.now }
+    requires { IsInRange request }
 {
-    match *request {
+    match request {
         Request::Solve {
             input,
             cubes,
@@ -146,7 +146,7 @@ fn answer<R: Runtime + AllocGlobal + Net>(
             input,
             cubes,
             proof,
-            ref fragments,
+            fragments,
             printing,
         } => {
             let files = JoinFiles {
@@ -154,7 +154,7 @@ fn answer<R: Runtime + AllocGlobal + Net>(
                 cubes,
                 proof,
             };
-            join(rt, &files, fragments, printing)
+            join(rt, &files, &fragments, printing)
         }
         Request::Lift {
             input,
@@ -188,23 +188,6 @@ fn is_quiet(request: &Request) -> bool {
     }
 }
 
-/// The report of a request, or the line of a run without one.
-fn answer_or_line<R: Runtime + AllocGlobal + Net>(
-    rt: &R,
-    request: &Request,
-    showing: Showing,
-) -> Result<Report, &'static str>
-    requires { IsInRange request.now }
-{
-    answer(rt, request, showing).map_err(|refusal| refusal.line(is_quiet(request)))
-}
-
-/// The report of a help that was asked for.
-fn help(alloc: Global, text: &str) -> Result<Report, &'static str> {
-    let report = Report::of(alloc, text.as_bytes(), 0);
-    report.map_err(|_| Refusal::NoMemory.line(false))
-}
-
 /// The report of the words, or the line of a run without one.
 fn respond<R: Runtime + AllocGlobal + Net>(
     rt: &R,
@@ -212,8 +195,14 @@ fn respond<R: Runtime + AllocGlobal + Net>(
     showing: Showing,
 ) -> Result<Report, &'static str> {
     match command(rt.alloc(), words) {
-        Ok(request) => answer_or_line(rt, &request, showing),
-        Err(UsageFault::Help(text)) => help(rt.alloc(), text.as_str()),
+        Ok(request) => {
+            let quiet = is_quiet(&request);
+            answer(rt, request, showing).map_err(|refusal| refusal.line(quiet))
+        }
+        Err(UsageFault::Help(text)) => {
+            let report = Report::of(rt.alloc(), text.as_str().as_bytes(), 0);
+            report.map_err(|_| Refusal::NoMemory.line(false))
+        }
         Err(UsageFault::Usage) => Err(Refusal::Usage.line(false)),
         Err(UsageFault::NoMemory) => Err(Refusal::NoMemory.line(false)),
     }
@@ -225,21 +214,12 @@ fn words<R: Runtime + AllocGlobal>(rt: &R) -> Result<Vec<String>, Refusal> {
     words.collect(rt.alloc()).map_err(no_memory)
 }
 
-/// The report of words, which are lent.
-fn respond_to<R: Runtime + AllocGlobal + Net>(
-    rt: &R,
-    words: &[String],
-    showing: Showing,
-) -> Result<Report, &'static str> {
-    let lent: Result<Vec<&str>, AllocError> = words.iter().map(|w| w.as_str()).collect(rt.alloc());
-    let lent = lent.map_err(|_| Refusal::NoMemory.line(false))?;
-    respond(rt, lent.as_slice(), showing)
-}
-
 /// The report of the program's words. Where they cannot be copied it is not known whether they have `-q`.
 fn run<R: Runtime + AllocGlobal + Net>(rt: &R, showing: Showing) -> Result<Report, &'static str> {
     let owned = words(rt).map_err(|refusal| refusal.line(false))?;
-    respond_to(rt, &owned, showing)
+    let lent: Result<Vec<&str>, AllocError> = owned.iter().map(|w| w.as_str()).collect(rt.alloc());
+    let lent = lent.map_err(|_| Refusal::NoMemory.line(false))?;
+    respond(rt, lent.as_slice(), showing)
 }
 
 fn main(rt: HostRuntime) -> ExitCode {

@@ -49,33 +49,27 @@ pub(crate) fn is_same_file<R: Runtime>(rt: &R, path: &str, other: &str) -> bool 
     }
 }
 
-/// The path of the file to which a path leads, which may be written.
-fn target_of<R: Runtime + AllocGlobal>(rt: &R, path: &str) -> io::Result<String> {
-    let _ = OpenOptions::new().write(true).open(rt, path)?;
-    let target = fs::canonicalize(rt, path)?;
-    Ok(format!(in rt.alloc(); "{}", target.as_str())?)
-}
-
-/// The place of a file that is not there yet; none where a link stands that leads nowhere.
-fn vacant_place<R: Runtime + AllocGlobal>(rt: &R, path: &str) -> io::Result<Option<Place>> {
-    if fs::symlink_metadata(rt, path).is_ok() {
-        return Ok(None);
-    }
-    Ok(Some(Place {
-        path: format!(in rt.alloc(); "{path}")?,
-        old: None,
-    }))
-}
-
 /// Where the path leads; none where something else than a file stands, or a link that leads nowhere. A file that may not be written is
 /// refused, though another could take its place.
 pub(crate) fn place_of<R: Runtime + AllocGlobal>(rt: &R, path: &str) -> io::Result<Option<Place>> {
     match fs::metadata(rt, path) {
-        Ok(old) if old.is_file() => Ok(Some(Place {
-            path: target_of(rt, path)?,
-            old: Some(old),
-        })),
-        Err(error) if error.kind() == ErrorKind::NotFound => vacant_place(rt, path),
+        Ok(old) if old.is_file() => {
+            let _ = OpenOptions::new().write(true).open(rt, path)?;
+            let target = fs::canonicalize(rt, path)?;
+            Ok(Some(Place {
+                path: format!(in rt.alloc(); "{}", target.as_str())?,
+                old: Some(old),
+            }))
+        }
+        Err(error) if error.kind() == ErrorKind::NotFound => {
+            if fs::symlink_metadata(rt, path).is_ok() {
+                return Ok(None);
+            }
+            Ok(Some(Place {
+                path: format!(in rt.alloc(); "{path}")?,
+                old: None,
+            }))
+        }
         _ => Ok(None),
     }
 }

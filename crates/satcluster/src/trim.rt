@@ -1,21 +1,20 @@
 //! `trim`: a formula is read, a proof of it checked while its file is read, and what stays of it is written.
 
-use crate::files::{Pieces, no_memory, open, read_formula};
+use crate::files::{no_memory, open, read_formula};
 use crate::leaf_runs::refused_input;
 use crate::proof_file::{is_same_file, write_proof};
-use dimacs::Formula;
 use node_main::{Refusal, Report};
-use std::fs::OpenFile;
-use std::io::Read;
 use std::rt::Runtime;
 use trimming::{Trimming, trim_report};
 
 /// Reads a proof to its end, also behind a fault, and feeds it piece by piece. What has no size is read up to the first fault, or up to want
 /// of memory.
-fn feed<F: Read + OpenFile>(
-    pieces: &mut Pieces<F>,
+fn feed<R: Runtime + AllocGlobal>(
+    rt: &R,
+    path: &str,
     trimming: &mut Trimming,
 ) -> Result<(), Refusal> {
+    let mut pieces = open(rt, path, Refusal::Proof)?;
     let has_size = pieces.has_size();
     for _ in 0..u64::MAX {
         let piece = pieces.next()?;
@@ -28,27 +27,6 @@ fn feed<F: Read + OpenFile>(
         }
     }
     Err(Refusal::Proof)
-}
-
-/// Reads the file of a proof.
-fn read<R: Runtime + AllocGlobal>(
-    rt: &R,
-    path: &str,
-    trimming: &mut Trimming,
-) -> Result<(), Refusal> {
-    let mut pieces = open(rt, path, Refusal::Proof)?;
-    feed(&mut pieces, trimming)
-}
-
-/// Checks a proof of a formula while its file is read, and drops what it does not need.
-fn trimmed<R: Runtime + AllocGlobal>(
-    rt: &R,
-    formula: Formula,
-    proof: &str,
-) -> Result<Report, Refusal> {
-    let mut trimming = Trimming::new(rt.alloc(), formula).map_err(no_memory)?;
-    read(rt, proof, &mut trimming)?;
-    trim_report(rt.alloc(), trimming.finish()).map_err(no_memory)
 }
 
 /// Writes what stays of the proof in a file, of the formula in another, to a third one: whole or not at all, and to none of the files that are
@@ -66,7 +44,9 @@ pub(crate) fn trim<R: Runtime + AllocGlobal>(
     if is_same_file(rt, out, proof) || is_same_file(rt, out, input) {
         return Err(Refusal::Writing);
     }
-    let report = trimmed(rt, formula, proof)?;
+    let mut trimming = Trimming::new(rt.alloc(), formula).map_err(no_memory)?;
+    feed(rt, proof, &mut trimming)?;
+    let report = trim_report(rt.alloc(), trimming.finish()).map_err(no_memory)?;
     if let Some(text) = &report.proof {
         write_proof(rt, out, text, input, Some(proof))?;
     }
