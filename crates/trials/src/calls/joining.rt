@@ -95,18 +95,12 @@ fn halves(alloc: Global) -> Option<Tree> {
     Some(tree)
 }
 
-/// The fragment of the leaf 1, and this one of the leaf -1.
-fn texts_of(alloc: Global, right: &[u8]) -> Option<Vec<Vec<u8>>> {
-    let mut texts = Vec::new(alloc);
-    texts.push(Vec::from_slice(alloc, LEFT).ok()?).ok()?;
-    texts.push(Vec::from_slice(alloc, right).ok()?).ok()?;
-    Some(texts)
-}
-
 fn joined_of(alloc: Global, right: &[u8]) -> Option<Tried> {
     let formula = read(alloc, FOUR).ok()?;
     let tree = halves(alloc)?;
-    let texts = texts_of(alloc, right)?;
+    let mut texts = Vec::new(alloc);
+    texts.push(Vec::from_slice(alloc, LEFT).ok()?).ok()?;
+    texts.push(Vec::from_slice(alloc, right).ok()?).ok()?;
     let mut fragments = Fragments {
         alloc,
         formula,
