@@ -56,12 +56,12 @@ fn drill<R: Runtime + AllocGlobal>(
 /// The report of a request, or why it has none. How far a run has come is told so, where the words ask for it.
 fn answer<R: Runtime + AllocGlobal + Net>(
     rt: &R,
-    request: Request,
+    request: &Request,
     showing: Showing,
 ) -> Result<Report, Refusal>
-    requires { IsInRange request }
+    requires { IsInRange request.now }
 {
-    match request {
+    match *request {
         Request::Solve {
             input,
             cubes,
@@ -146,7 +146,7 @@ fn answer<R: Runtime + AllocGlobal + Net>(
             input,
             cubes,
             proof,
-            fragments,
+            ref fragments,
             printing,
         } => {
             let files = JoinFiles {
@@ -154,7 +154,7 @@ fn answer<R: Runtime + AllocGlobal + Net>(
                 cubes,
                 proof,
             };
-            join(rt, &files, &fragments, printing)
+            join(rt, &files, fragments, printing)
         }
         Request::Lift {
             input,
@@ -196,8 +196,7 @@ fn respond<R: Runtime + AllocGlobal + Net>(
 ) -> Result<Report, &'static str> {
     match command(rt.alloc(), words) {
         Ok(request) => {
-            let quiet = is_quiet(&request);
-            answer(rt, request, showing).map_err(|refusal| refusal.line(quiet))
+            answer(rt, &request, showing).map_err(|refusal| refusal.line(is_quiet(&request)))
         }
         Err(UsageFault::Help(text)) => {
             let report = Report::of(rt.alloc(), text.as_str().as_bytes(), 0);
