@@ -25,12 +25,22 @@ pub(crate) fn refused(error: io::Error, refusal: Refusal) -> Refusal {
 const PIECE: usize = 16_384;
 
 /// A file that is read piece by piece.
-#[derive(Drop)]
 pub(crate) struct Pieces<F> {
     file: F,
     room: Vec<u8>,
     /// What a file that cannot be read is told as.
     refusal: Refusal,
+}
+
+// By hand, so that whoever owns one drops it by one call, and no proof there goes through its parts.
+impl<F: Drop> Drop for Pieces<F> {
+    fn drop(self) {
+        let Pieces {
+            file: _,
+            room: _,
+            refusal: _,
+        } = self;
+    }
 }
 
 impl<F: Read> Pieces<F> {
@@ -97,26 +107,34 @@ pub(crate) fn read<R: Runtime + AllocGlobal>(
     Err(refusal)
 }
 
-/// The formula of a file, or the first fault of its text. It is read while the file is, so that its text takes no memory. What has no size is
-/// read up to the first fault, or up to want of memory.
+/// Reads a formula to its end. What has no size is read up to the first fault, or up to want of memory.
+fn feed<F: Read + OpenFile>(
+    pieces: &mut Pieces<F>,
+    reader: &mut FormulaReader,
+) -> Result<(), Refusal> {
+    let has_size = pieces.has_size();
+    for _ in 0..u64::MAX {
+        let piece = pieces.next()?;
+        if piece.is_empty() {
+            return Ok(());
+        }
+        reader.feed(piece);
+        if reader.is_settled() && !has_size {
+            return Ok(());
+        }
+    }
+    Err(Refusal::Input)
+}
+
+/// The formula of a file, or the first fault of its text. It is read while the file is, so that its text takes no memory.
 pub(crate) fn read_formula<R: Runtime + AllocGlobal>(
     rt: &R,
     path: &str,
 ) -> Result<Result<Formula, DimacsFault>, Refusal> {
     let mut pieces = open(rt, path, Refusal::Input)?;
     let mut reader = FormulaReader::new(rt.alloc());
-    let has_size = pieces.has_size();
-    for _ in 0..u64::MAX {
-        let piece = pieces.next()?;
-        if piece.is_empty() {
-            return Ok(reader.finish());
-        }
-        reader.feed(piece);
-        if reader.is_settled() && !has_size {
-            return Ok(reader.finish());
-        }
-    }
-    Err(Refusal::Input)
+    feed(&mut pieces, &mut reader)?;
+    Ok(reader.finish())
 }
 
 /// The bytes of the file of cubes, where one is named.

@@ -23,7 +23,6 @@ pub(crate) struct JoinFiles<'a> {
 }
 
 /// A join, and what was printed and written of it so far.
-#[derive(Drop)]
 struct Run<F> {
     join: Join,
     part: Part<F>,
@@ -32,6 +31,33 @@ struct Run<F> {
     /// How many names were read.
     count: u64,
     printing: Printing,
+}
+
+// By hand, so that whoever owns one drops it by one call, and no proof there goes through its parts.
+impl<F: Drop> Drop for Run<F> {
+    fn drop(self) {
+        let Run {
+            join: _,
+            part: _,
+            notes: _,
+            count: _,
+            printing: _,
+        } = self;
+    }
+}
+
+impl<F> Run<F> {
+    /// What it wrote to.
+    fn into_part(self) -> Part<F> {
+        let Run {
+            join: _,
+            part,
+            notes: _,
+            count: _,
+            printing: _,
+        } = self;
+        part
+    }
 }
 
 /// Why a join cannot go on.
@@ -264,8 +290,7 @@ fn gathered<R: Runtime + AllocGlobal>(
         printing,
     };
     let report = joined(rt, &mut run, &place, names);
-    let Run { part, .. } = run;
-    settle(rt, part, &place, report)
+    settle(rt, run.into_part(), &place, report)
 }
 
 /// Joins the files of these names, or of those that standard input lists, where `-` is the only one.

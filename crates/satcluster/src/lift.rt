@@ -167,8 +167,33 @@ fn task_of(alloc: Global, split: Split, leaf: Option<u64>) -> Result<Option<Task
     }
 }
 
+/// Where the log goes: to none of the files that are read.
+fn log_place<R: Runtime + AllocGlobal>(rt: &R, files: &LiftFiles<'_>) -> Result<Place, Refusal> {
+    if is_same_file(rt, files.fragment, files.input)
+        || is_same_file(rt, files.fragment, files.cubes)
+        || is_same_file(rt, files.fragment, files.proof)
+    {
+        return Err(Refusal::Writing);
+    }
+    match place_of(rt, files.fragment).map_err(not_written)? {
+        Some(place) => Ok(place),
+        None => Err(Refusal::Writing),
+    }
+}
+
+/// Reads the proof of a task, which is opened before a file is made beside the place of the log.
+fn lift_proof<R: Runtime + AllocGlobal>(
+    rt: &R,
+    files: &LiftFiles<'_>,
+    task: Task,
+) -> Result<Report, Refusal> {
+    let pieces = open(rt, files.proof, Refusal::Proof)?;
+    let place = log_place(rt, files)?;
+    written(rt, pieces, task, &place)
+}
+
 /// A proof of the formula of a leaf, or what was written for all leaves, becomes a log over the formula, which is written to a file:
-/// whole or not at all, and to none of the files that are read. The proof is opened before the file is made beside its place.
+/// whole or not at all, and to none of the files that are read.
 pub(crate) fn lift<R: Runtime + AllocGlobal>(
     rt: &R,
     files: &LiftFiles<'_>,
@@ -180,18 +205,8 @@ pub(crate) fn lift<R: Runtime + AllocGlobal>(
         Start::With(split) => split,
         Start::Refused(report) => return Ok(report),
     };
-    let Some(task) = task_of(rt.alloc(), split, leaf)? else {
-        return lift_report(rt.alloc(), 0, LiftEnd::NoLeaf).map_err(no_memory);
-    };
-    let pieces = open(rt, files.proof, Refusal::Proof)?;
-    if is_same_file(rt, files.fragment, files.input)
-        || is_same_file(rt, files.fragment, files.cubes)
-        || is_same_file(rt, files.fragment, files.proof)
-    {
-        return Err(Refusal::Writing);
-    }
-    match place_of(rt, files.fragment).map_err(not_written)? {
-        Some(place) => written(rt, pieces, task, &place),
-        None => Err(Refusal::Writing),
+    match task_of(rt.alloc(), split, leaf)? {
+        Some(task) => lift_proof(rt, files, task),
+        None => lift_report(rt.alloc(), 0, LiftEnd::NoLeaf).map_err(no_memory),
     }
 }

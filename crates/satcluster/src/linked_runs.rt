@@ -1,13 +1,15 @@
 //! `solve`, `serve` and `work`: opens the links, runs over them, and writes the proof.
 
+ghost use Rattle.std.specs.Prelude.{IfOk};
 ghost use Rattle.command_line.specs.Options.{AreOptions};
+ghost use Rattle.node_main.specs.Starting.{IsStart};
 
 use crate::accepting::accept_workers;
 use crate::files::{no_memory, read_cubes, read_formula, refused};
 use crate::proof_file::write_proof;
 use crate::showing::{Showing, Shown};
 use hub::Hub;
-use links::{Counted, Joined, Loopback, Observed};
+use links::{Counted, Joined, Loopback, Observed, Station};
 use node_main::{
     Options, Refusal, Report, Start, attend, begin, run_serve_from, run_solve_of, run_work_of,
 };
@@ -91,8 +93,50 @@ fn open_hub<R: Runtime + Net>(
     Hub::open(rt, alloc, rt, port, places as u8)
 }
 
-/// Decides a formula by workers that connect to a port, come and go. What is wrong with a file is told before one is linked. At the
-/// verdict the proof is written and the answer printed; then the workers get it.
+/// What a run begins with: the formula, and the tree by which it is split.
+fn begun<R: Runtime + AllocGlobal>(
+    rt: &R,
+    files: &Files,
+    options: &Options,
+) -> Result<Start, Refusal>
+    requires { AreOptions options.now }
+    ensures { IfOk result (IsStart options.now) }
+{
+    let found = read_formula(rt, files.input)?;
+    let cubes = read_cubes(rt, files.cubes)?;
+    begin(rt.alloc(), found, lent(&cubes), options).map_err(no_memory)
+}
+
+/// Serves over these links. At the verdict the proof is written and the answer printed; then the workers get it.
+fn serve_over<R: Runtime + AllocGlobal, S: Station>(
+    rt: &R,
+    start: Start,
+    files: &Files,
+    options: &Options,
+    links: &mut Observed<Shown<R, S>>,
+) -> Result<Report, Refusal>
+    requires options { AreOptions options.now }
+    requires start { IsStart options.now start }
+{
+    let run = attend(rt.alloc(), start, options, links);
+    links.station().end();
+    let mut service = run.map_err(no_memory)?;
+    if let (Some(path), Some(proof)) = (files.proof, service.proof()) {
+        write_proof(rt, path, proof, files.input, files.cubes)?;
+    }
+    let status = match print(rt, service.text()) {
+        Ok(()) => service.status(),
+        Err(_) => 1,
+    };
+    let _ = service.hand_out(links);
+    Ok(Report {
+        stdout: Vec::new(rt.alloc()),
+        status,
+        proof: None,
+    })
+}
+
+/// Decides a formula by workers that connect to a port, come and go. What is wrong with a file is told before one is linked.
 fn serve_by_arrivals<R: Runtime + AllocGlobal + Net>(
     rt: &R,
     port: u16,
@@ -103,26 +147,9 @@ fn serve_by_arrivals<R: Runtime + AllocGlobal + Net>(
     requires { AreOptions options.now }
 {
     let hub = open_hub(rt, rt.alloc(), port, options.workers).map_err(not_linked)?;
-    let found = read_formula(rt, files.input)?;
-    let cubes = read_cubes(rt, files.cubes)?;
-    let start = begin(rt.alloc(), found, lent(&cubes), options).map_err(no_memory)?;
+    let start = begun(rt, files, options)?;
     let mut links = Observed::new(Shown::new(rt, hub, asked(options, showing)));
-    let run = attend(rt.alloc(), start, options, &mut links);
-    links.station().end();
-    let mut service = run.map_err(no_memory)?;
-    if let (Some(path), Some(proof)) = (files.proof, service.proof()) {
-        write_proof(rt, path, proof, files.input, files.cubes)?;
-    }
-    let status = match print(rt, service.text()) {
-        Ok(()) => service.status(),
-        Err(_) => 1,
-    };
-    let _ = service.hand_out(&mut links);
-    Ok(Report {
-        stdout: Vec::new(rt.alloc()),
-        status,
-        proof: None,
-    })
+    serve_over(rt, start, files, options, &mut links)
 }
 
 /// The same in rounds: it begins when all workers are there, takes them in turns, and takes none again that is lost. The listener is
@@ -138,12 +165,9 @@ fn serve_in_rounds<R: Runtime + AllocGlobal + Net>(
 {
     let at = SocketAddr::from((Ipv4Addr::LOCALHOST, port));
     let listener = TcpListener::bind(rt, at).map_err(not_linked)?;
-    let found = read_formula(rt, files.input)?;
-    let cubes = read_cubes(rt, files.cubes)?;
-    let start = match begin(rt.alloc(), found, lent(&cubes), options) {
-        Ok(Start::Refused(report)) => return Ok(report),
-        Ok(start) => start,
-        Err(error) => return Err(no_memory(error)),
+    let start = match begun(rt, files, options)? {
+        Start::Refused(report) => return Ok(report),
+        start => start,
     };
     let carrier = accept_workers::<R>(rt.alloc(), &listener, options.workers)?;
     let mut links = Counted::new(Shown::new(rt, carrier, asked(options, showing)));

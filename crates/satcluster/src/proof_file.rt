@@ -16,18 +16,29 @@ const PIECE: usize = 65_536;
 const NAMES: u32 = 100;
 
 /// Where a proof goes: the file to which its path leads, through symbolic links, or where none is there yet.
-#[derive(Drop)]
 pub(crate) struct Place {
     path: String,
     /// What stands there, whose permissions the new file gets.
     old: Option<Metadata>,
 }
 
+// By hand, so that whoever owns one drops it by one call, and no proof there goes through its parts.
+impl Drop for Place {
+    fn drop(self) {
+        let Place { path: _, old: _ } = self;
+    }
+}
+
 /// A proof in the making, in a file beside its place.
-#[derive(Drop)]
 pub(crate) struct Part<F> {
     file: F,
     name: String,
+}
+
+impl<F: Drop> Drop for Part<F> {
+    fn drop(self) {
+        let Part { file: _, name: _ } = self;
+    }
 }
 
 /// Whether two paths lead to one file, or are the same where there is none.

@@ -66,6 +66,18 @@ const OPTIONS: Options = Options {
     ..USUAL
 };
 
+/// Plays a run over these links. Answers its status, and how many links were hung up before the verdict was handed out.
+fn attended(
+    alloc: Global,
+    text: &[u8],
+    links: &mut Observed<Floor>,
+) -> Result<(u8, u64), AllocError> {
+    let mut service = run_attend(alloc, text, None, &OPTIONS, links)?;
+    let hung_up = links.station().hung_up();
+    service.hand_out(links)?;
+    Ok((service.status(), hung_up))
+}
+
 /// Plays the run of a seed. Every fourth is in order.
 fn play(alloc: Global, known: &Known, seed: u64, tally: &mut Tally) -> Result<(), AllocError> {
     let Ok(formula) = read(alloc, known.text) else {
@@ -74,14 +86,12 @@ fn play(alloc: Global, known: &Known, seed: u64, tally: &mut Tally) -> Result<()
     let disorder = seed % 4 * 500;
     let floor = Floor::new(alloc, &formula, seed, disorder)?;
     let mut links = Observed::new(floor);
-    let mut service = run_attend(alloc, known.text, None, &OPTIONS, &mut links)?;
-    let hung_up = links.station().hung_up();
-    service.hand_out(&mut links)?;
+    let (status, hung_up) = attended(alloc, known.text, &mut links)?;
     let refused = links.station().refused().saturating_add(hung_up);
     tally.refused = tally.refused.saturating_add(refused);
-    if service.status() == known.status {
+    if status == known.status {
         tally.decided = tally.decided.saturating_add(1);
-    } else if service.status() != 0 {
+    } else if status != 0 {
         tally.wrong = tally.wrong.saturating_add(1);
     }
     Ok(())

@@ -31,21 +31,51 @@ const RAISED_JOINED: &[u8] =
     b"6 -1 0 2 4 0\n7 2 0 1 2 0\n8 1 2 0 1 0\n8 d 8 0\n9 1 0 7 3 0\n10 0 6 9 0\n";
 
 /// A worker that has all parts of a proof but the last.
-#[derive(Drop)]
 struct AtWorker {
     worker: Worker,
     last: Frame,
 }
 
+// By hand, so that whoever owns one drops it by one call, and no proof there goes through its parts.
+impl Drop for AtWorker {
+    fn drop(self) {
+        let AtWorker { worker: _, last: _ } = self;
+    }
+}
+
+impl AtWorker {
+    fn into_worker(self) -> Worker {
+        let AtWorker { worker, last: _ } = self;
+        worker
+    }
+}
+
 /// A coordinator whose leaves are closed but for one.
-#[derive(Drop)]
 struct AtCoordinator {
     coordinator: Coordinator,
     last: Frame,
 }
 
+impl Drop for AtCoordinator {
+    fn drop(self) {
+        let AtCoordinator {
+            coordinator: _,
+            last: _,
+        } = self;
+    }
+}
+
+impl AtCoordinator {
+    fn into_coordinator(self) -> Coordinator {
+        let AtCoordinator {
+            coordinator,
+            last: _,
+        } = self;
+        coordinator
+    }
+}
+
 /// A worker to which a clause is added, the verdict that it holds before, and the one that it is to hold then.
-#[derive(Drop)]
 struct ExtendedWorker {
     worker: Worker,
     extension: Extension,
@@ -53,13 +83,34 @@ struct ExtendedWorker {
     new: Held,
 }
 
+impl Drop for ExtendedWorker {
+    fn drop(self) {
+        let ExtendedWorker {
+            worker: _,
+            extension: _,
+            old: _,
+            new: _,
+        } = self;
+    }
+}
+
 /// The same of a coordinator.
-#[derive(Drop)]
 struct ExtendedCoordinator {
     coordinator: Coordinator,
     extension: Extension,
     old: Held,
     new: Held,
+}
+
+impl Drop for ExtendedCoordinator {
+    fn drop(self) {
+        let ExtendedCoordinator {
+            coordinator: _,
+            extension: _,
+            old: _,
+            new: _,
+        } = self;
+    }
 }
 
 /// A verdict that is held.
@@ -141,21 +192,51 @@ fn part(alloc: Global, offset: u32, bytes: &[u8]) -> Option<Frame> {
     })
 }
 
-/// A worker that lacks the last part of the proof, and that part.
-fn before_the_last_part(alloc: Global) -> Option<AtWorker> {
-    let formula = read(alloc, FOUR).ok()?;
-    let mut worker = Worker::new(alloc, formula, WorkerNumber::new(1), 1).ok()?;
-    let length = ProofLength::new(24);
+/// Worker 1 of a formula.
+fn worker_of(alloc: Global, text: &[u8]) -> Option<Worker> {
+    let formula = read(alloc, text).ok()?;
+    Worker::new(alloc, formula, WorkerNumber::new(1), 1).ok()
+}
+
+/// Gives a worker a frame. None where it answers otherwise than this.
+fn give(worker: &mut Worker, frame: &Frame, wanted: Reaction) -> Option<()> {
+    if worker.deliver(frame) == wanted {
+        Some(())
+    } else {
+        None
+    }
+}
+
+/// Announces a verdict to a worker. None where memory was wanting.
+fn announce_verdict(worker: &mut Worker, finding: Finding) -> Option<()> {
     let announced = Frame::Verdict {
         session: 1,
-        finding: Finding::Refuted { length },
+        finding,
     };
+    give(worker, &announced, Reaction::Taken)
+}
+
+/// Announces the proof to a worker, and gives it the first part. None where memory was wanting.
+fn begin_proof(alloc: Global, worker: &mut Worker) -> Option<()> {
+    let length = ProofLength::new(24);
+    announce_verdict(worker, Finding::Refuted { length })?;
     let first = part(alloc, 0, FIRST)?;
+    give(worker, &first, Reaction::Taken)
+}
+
+/// A worker that lacks the last part of the proof, and that part.
+fn before_the_last_part(alloc: Global) -> Option<AtWorker> {
+    let mut worker = worker_of(alloc, FOUR)?;
+    begin_proof(alloc, &mut worker)?;
     let last = part(alloc, FIRST.len() as u32, LAST)?;
-    if worker.deliver(&announced) != Reaction::Taken || worker.deliver(&first) != Reaction::Taken {
-        return None;
-    }
     Some(AtWorker { worker, last })
+}
+
+/// A worker that holds the proof. None where memory was wanting.
+fn with_proof(alloc: Global) -> Option<Worker> {
+    let mut at = before_the_last_part(alloc)?;
+    give(&mut at.worker, &at.last, Reaction::Verdict)?;
+    Some(at.into_worker())
 }
 
 pub(crate) fn last_part(alloc: Global) -> Option<Tried> {
@@ -179,11 +260,8 @@ fn clause_not_three(alloc: Global) -> Result<Extension, AllocError> {
 }
 
 pub(crate) fn extended_proof(alloc: Global) -> Option<Tried> {
-    let AtWorker { mut worker, last } = before_the_last_part(alloc)?;
+    let worker = with_proof(alloc)?;
     let extension = clause_three(alloc).ok()?;
-    if worker.deliver(&last) != Reaction::Verdict {
-        return None;
-    }
     Some(try_twice(&mut ExtendedWorker {
         worker,
         extension,
@@ -192,23 +270,23 @@ pub(crate) fn extended_proof(alloc: Global) -> Option<Tried> {
     }))
 }
 
-pub(crate) fn extended_assignment(alloc: Global) -> Option<Tried> {
-    let formula = read(alloc, UNITS).ok()?;
-    let mut worker = Worker::new(alloc, formula, WorkerNumber::new(1), 1).ok()?;
-    let extension = clause_not_three(alloc).ok()?;
-    let announced = Frame::Verdict {
-        session: 1,
-        finding: Finding::Assignment { length: 2 },
-    };
+/// A worker that holds an assignment. None where memory was wanting.
+fn with_assignment(alloc: Global) -> Option<Worker> {
+    let mut worker = worker_of(alloc, UNITS)?;
+    announce_verdict(&mut worker, Finding::Assignment { length: 2 })?;
     let all = Frame::Part {
         session: 1,
         answer: Evidence::Assignment,
         offset: 0,
         bytes: Chunk::from_slice(alloc, b"\x01\x00").ok()?,
     };
-    if worker.deliver(&announced) != Reaction::Taken || worker.deliver(&all) != Reaction::Verdict {
-        return None;
-    }
+    give(&mut worker, &all, Reaction::Verdict)?;
+    Some(worker)
+}
+
+pub(crate) fn extended_assignment(alloc: Global) -> Option<Tried> {
+    let worker = with_assignment(alloc)?;
+    let extension = clause_not_three(alloc).ok()?;
     Some(try_twice(&mut ExtendedWorker {
         worker,
         extension,
@@ -251,17 +329,35 @@ fn piece(alloc: Global, job: u64, fragment: &[u8]) -> Option<Frame> {
     })
 }
 
-/// Gives worker 1 its next job, and takes the announcement of its fragment. None where memory was wanting.
-fn announce(coordinator: &mut Coordinator, job: u64, fragment: &[u8]) -> Option<()> {
-    let done = done(job, fragment)?;
+/// Gives worker 1 its next job. None where memory was wanting.
+fn hand_out(coordinator: &mut Coordinator) -> Option<()> {
     if coordinator.workers() < 1 {
         return None;
     }
     let _ = coordinator.poll(WorkerNumber::new(1)).ok()?;
-    match coordinator.deliver(&done) {
+    Some(())
+}
+
+/// Lets a coordinator take a frame. None where memory was wanting.
+fn take(coordinator: &mut Coordinator, frame: &Frame) -> Option<()> {
+    match coordinator.deliver(frame) {
         Reaction::Taken => Some(()),
         _ => None,
     }
+}
+
+/// Gives worker 1 its next job, and takes the announcement of its fragment. None where memory was wanting.
+fn announce(coordinator: &mut Coordinator, job: u64, fragment: &[u8]) -> Option<()> {
+    hand_out(coordinator)?;
+    let done = done(job, fragment)?;
+    take(coordinator, &done)
+}
+
+/// Closes the leaf of a job. None where memory was wanting.
+fn close(alloc: Global, coordinator: &mut Coordinator, job: u64, fragment: &[u8]) -> Option<()> {
+    announce(coordinator, job, fragment)?;
+    let piece = piece(alloc, job, fragment)?;
+    take(coordinator, &piece)
 }
 
 /// A coordinator of one worker, and of the leaves 1 and -1.
@@ -282,14 +378,19 @@ fn of_two_leaves(alloc: Global) -> Option<Coordinator> {
 /// A coordinator whose leaves are closed but for one, and the piece that closes it.
 fn before_the_last_piece(alloc: Global) -> Option<AtCoordinator> {
     let mut coordinator = of_two_leaves(alloc)?;
-    let left = piece(alloc, 1, LEFT)?;
+    close(alloc, &mut coordinator, 1, LEFT)?;
+    announce(&mut coordinator, 2, RIGHT_WITH_DELETION)?;
     let last = piece(alloc, 2, RIGHT_WITH_DELETION)?;
-    announce(&mut coordinator, 1, LEFT)?;
-    if coordinator.deliver(&left) != Reaction::Taken {
+    Some(AtCoordinator { coordinator, last })
+}
+
+/// A coordinator that holds the joined proof. None where memory was wanting.
+fn with_join(alloc: Global) -> Option<Coordinator> {
+    let mut at = before_the_last_piece(alloc)?;
+    if at.coordinator.deliver(&at.last) != Reaction::Verdict {
         return None;
     }
-    announce(&mut coordinator, 2, RIGHT_WITH_DELETION)?;
-    Some(AtCoordinator { coordinator, last })
+    Some(at.into_coordinator())
 }
 
 pub(crate) fn last_piece(alloc: Global) -> Option<Tried> {
@@ -297,14 +398,8 @@ pub(crate) fn last_piece(alloc: Global) -> Option<Tried> {
 }
 
 pub(crate) fn extended_join(alloc: Global) -> Option<Tried> {
-    let AtCoordinator {
-        mut coordinator,
-        last,
-    } = before_the_last_piece(alloc)?;
+    let coordinator = with_join(alloc)?;
     let extension = clause_three(alloc).ok()?;
-    if coordinator.deliver(&last) != Reaction::Verdict {
-        return None;
-    }
     Some(try_twice(&mut ExtendedCoordinator {
         coordinator,
         extension,

@@ -119,6 +119,14 @@ impl<'a> Floor<'a> {
         })
     }
 
+    /// The worker at a place.
+    fn peer_at(&mut self, place: u8) -> Option<&mut Peer> {
+        match self.peers.get_mut(place as usize) {
+            Some(Some(peer)) => Some(peer),
+            _ => None,
+        }
+    }
+
     /// A drawn worker links at a drawn place, where that is free. In order only one of each number does.
     fn link(&mut self) -> Result<Option<Event>, AllocError>
         ensures { IfOk result (λ found. IfSome found (λ event. (most : ℕ) → IsWithin event most)) }
@@ -156,7 +164,7 @@ impl<'a> Floor<'a> {
     {
         let most = 1 + self.below(room.len() as u64 + 1) as usize;
         let is_orderly = self.disorder == 0;
-        let Some(Some(peer)) = self.peers.get_mut(place as usize) else {
+        let Some(peer) = self.peer_at(place) else {
             return None;
         };
         if peer.has_sent() && !peer.is_silent {
@@ -173,7 +181,7 @@ impl<'a> Floor<'a> {
     fn work(&mut self, place: u8) -> Result<Option<Event>, AllocError>
         ensures { IfOk result (λ found. IfSome found (λ event. (most : ℕ) → IsWithin event most)) }
     {
-        if let Some(Some(peer)) = self.peers.get_mut(place as usize) {
+        if let Some(peer) = self.peer_at(place) {
             peer.turn()?;
         }
         Ok(None)
@@ -187,7 +195,7 @@ impl<'a> Floor<'a> {
             return Ok(None);
         }
         let what = self.below(8);
-        let Some(Some(peer)) = self.peers.get_mut(place as usize) else {
+        let Some(peer) = self.peer_at(place) else {
             return Ok(None);
         };
         match what {
@@ -254,7 +262,7 @@ impl Station for Floor<'_> {
         if self.disorder != 0 && self.below(64) == 0 {
             return Err(LinkFault);
         }
-        let Some(Some(peer)) = self.peers.get_mut(place as usize) else {
+        let Some(peer) = self.peer_at(place) else {
             return Err(LinkFault);
         };
         if peer.take(bytes) {
