@@ -1,12 +1,12 @@
 //! Proofs that come in pieces: however they are cut, the answers are those of the whole.
 
-use crate::check::FOUR;
+use crate::check::{FOUR, Row};
 use dimacs::{Formula, read};
 use lrat_check::{CheckFault, Checker, StreamChecker, check, check_pieces};
 use lrat_text::{LineBuffer, Step, StepReader, TextFault, read_pieces, take_lines};
 use node_main::ProofCheck;
 use std::alloc::{AllocError, Global};
-use std::test::Fail;
+use std::process::Abort;
 
 /// A fault's number, line and text; 0 where a proof is accepted.
 type Told = (u8, u64, u8);
@@ -44,83 +44,120 @@ fn bytes_of(alloc: Global, text: &[u8]) -> Result<Vec<Vec<u8>>, AllocError> {
     Ok(pieces)
 }
 
-#[test]
-fn each_cutting_tells_the_same(rt: HostRuntime) -> Result<(), Fail> {
-    let rows: [(&'static [u8], Told); 9] = [
-        (b"5 2 0 1 2 0\n6 d 1 2 0\n6 0 5 3 4 0\n", (0, 0, 0)),
-        (b"5 2 0 1 2 0\n", (13, 2, 0)),
-        (b"5 2 0 1 2 0\n6 0 5 3 4 0", (1, 2, 2)),
-        (b"5 2 0 1 2 0\n6 0 5 3 4 0\nx", (1, 3, 2)),
-        (b"5 2 0 1 2 3 0\n5 2 0 1 2 0\n", (7, 1, 0)),
-        (b"5 d 1 0\n5 2 0 1 2 0\n", (3, 2, 0)),
-        (b"5 2 0 1 2 0\n5000000000000000 d 1 0\n", (1, 2, 4)),
-        (b"5 2 0 1 2 0\n6 0 5 3 4 0\n7 0 1 0\n\n", (1, 4, 1)),
-        (b"", (13, 1, 0)),
-    ];
-    let alloc = rt.alloc();
-    let formula = read(alloc, FOUR)?;
-    for (text, want) in &rows {
-        let text: &[u8] = *text;
-        let pieces = bytes_of(alloc, text)?;
-        assert_eq!(&rt; told(check(alloc, &formula, text)), *want);
-        assert_eq!(&rt;
-            told(check_pieces(alloc, &formula, pieces.as_slice())),
-            *want
-        );
-        assert_eq!(&rt; in_two(alloc, &formula, text, b"")?, *want);
-        for at in 0..text.len() {
-            assert_eq!(&rt; in_two(alloc, &formula, &text[..at], &text[at..])?, *want);
-        }
+/// A text is told so whole, byte by byte, and cut in two at each place.
+fn is_told_in_pieces(rt: &impl Abort, alloc: Global, formula: &Formula, text: &[u8], want: Told) {
+    let pieces = bytes_of(alloc, text).expect(rt, "memory");
+    assert_eq!(rt; told(check(alloc, formula, text)), want);
+    assert_eq!(rt; told(check_pieces(alloc, formula, &pieces)), want);
+    for at in 0..text.len() + 1 {
+        let found = in_two(alloc, formula, &text[..at], &text[at..]);
+        assert_eq!(rt; found.expect(rt, "memory"), want);
     }
-    Ok(())
+}
+
+const CUT: &[(&'static [u8], Told)] = &[
+    (b"5 2 0 1 2 0\n6 d 1 2 0\n6 0 5 3 4 0\n", (0, 0, 0)),
+    (b"5 2 0 1 2 0\n", (13, 2, 0)),
+    (b"5 2 0 1 2 0\n6 0 5 3 4 0", (1, 2, 2)),
+    (b"5 2 0 1 2 0\n6 0 5 3 4 0\nx", (1, 3, 2)),
+    (b"5 2 0 1 2 3 0\n5 2 0 1 2 0\n", (7, 1, 0)),
+    (b"5 d 1 0\n5 2 0 1 2 0\n", (3, 2, 0)),
+    (b"5 2 0 1 2 0\n5000000000000000 d 1 0\n", (1, 2, 4)),
+    (b"5 2 0 1 2 0\n6 0 5 3 4 0\n7 0 1 0\n\n", (1, 4, 1)),
+    (b"", (13, 1, 0)),
+];
+
+#[test]
+fn each_cutting_tells_the_same(rt: HostRuntime) {
+    let formula = read(rt.alloc(), FOUR).expect(&rt, "a formula");
+    for (text, want) in CUT {
+        is_told_in_pieces(&rt, rt.alloc(), &formula, *text, *want);
+    }
+}
+
+fn steps_of(rt: &impl Abort, alloc: Global, text: &[u8]) -> Vec<Step> {
+    let mut steps = Vec::new(alloc);
+    let read = StepReader::new(alloc).feed(text, &mut steps);
+    assert!(rt; read.is_ok());
+    steps
+}
+
+/// How many clauses are live behind each step over the four clauses.
+fn live_behind(rt: &impl Abort, alloc: Global, steps: &[Step]) -> Vec<u64> {
+    let formula = read(alloc, FOUR).expect(rt, "a formula");
+    let mut checker = Checker::new(alloc, &formula).expect(rt, "memory");
+    let mut live = Vec::new(alloc);
+    for step in steps {
+        assert!(rt; checker.step(step).is_ok());
+        live.push(checker.live()).expect(rt, "memory");
+    }
+    live
 }
 
 #[test]
-fn live_clauses_are_counted(rt: HostRuntime) -> Result<(), Fail> {
-    let alloc = rt.alloc();
-    let formula = read(alloc, FOUR)?;
-    let mut steps: Vec<Step> = Vec::new(alloc);
-    StepReader::new(alloc).feed(b"5 2 0 1 2 0\n6 d 1 2 0\n6 0 5 3 4 0\n", &mut steps)?;
-    let mut checker = Checker::new(alloc, &formula)?;
-    let mut live: Vec<u64> = Vec::new(alloc);
-    for step in &steps {
-        checker.step(step)?;
-        live.push(checker.live())?;
-    }
+fn live_clauses_are_counted(rt: HostRuntime) {
+    let text = b"5 2 0 1 2 0\n6 d 1 2 0\n6 0 5 3 4 0\n";
+    let steps = steps_of(&rt, rt.alloc(), text);
+    let live = live_behind(&rt, rt.alloc(), &steps);
     assert_eq!(&rt; live.as_slice(), [5, 3, 4].as_slice());
-    Ok(())
+}
+
+/// The steps of a text that comes byte by byte.
+fn steps_bytewise(rt: &impl Abort, alloc: Global, text: &[u8]) -> Vec<Step> {
+    let pieces = bytes_of(alloc, text).expect(rt, "memory");
+    let mut steps = Vec::new(alloc);
+    let read = read_pieces(alloc, &pieces, &mut steps);
+    assert!(rt; read.is_ok());
+    steps
+}
+
+/// What a reader says at the end of a text without a fault.
+fn end_of(
+    rt: &impl Abort,
+    alloc: Global,
+    text: &[u8],
+    steps: &mut Vec<Step>,
+) -> Result<(), TextFault> {
+    let mut reader = StepReader::new(alloc);
+    assert!(rt; reader.feed(text, steps).is_ok());
+    reader.finish()
 }
 
 #[test]
-fn a_reader_takes_bytes(rt: HostRuntime) -> Result<(), Fail> {
-    let alloc = rt.alloc();
-    let text: &[u8] = b"5 2 0 1 2 0\n6 0 5 3 4 0\n";
-    let mut steps: Vec<Step> = Vec::new(alloc);
-    read_pieces(alloc, bytes_of(alloc, text)?.as_slice(), &mut steps)?;
+fn a_reader_takes_bytes(rt: HostRuntime) {
+    let text = b"5 2 0 1 2 0\n6 0 5 3 4 0\n";
+    let mut steps = steps_bytewise(&rt, rt.alloc(), text);
     assert_eq!(&rt; steps.len(), 2);
-    let mut begun = StepReader::new(alloc);
-    begun.feed(b"5 2", &mut steps)?;
-    assert_eq!(&rt; begun.finish(), Err(TextFault::LineNotEnded));
+    let end = end_of(&rt, rt.alloc(), b"5 2", &mut steps);
+    assert_eq!(&rt; end, Err(TextFault::LineNotEnded));
     assert_eq!(&rt; steps.len(), 2);
-    Ok(())
+}
+
+/// A piece comes, without a fault or with one, and this is kept of a line.
+fn keeps(
+    rt: &impl Abort,
+    buffer: &mut LineBuffer,
+    steps: &mut Vec<Step>,
+    piece: &[u8],
+    is_well: bool,
+    want: &[u8],
+) {
+    let fed = buffer.feed(piece, steps);
+    assert_eq!(rt; fed.is_ok(), is_well);
+    assert_eq!(rt; buffer.as_slice(), want);
 }
 
 #[test]
-fn lines_are_handed_on(rt: HostRuntime) -> Result<(), Fail> {
-    let alloc = rt.alloc();
-    let mut steps: Vec<Step> = Vec::new(alloc);
-    let rest = take_lines(&mut steps, b"5 2 0 1 2 0\n6 0 5 3 4 0\n7 0")?;
+fn lines_are_handed_on(rt: HostRuntime) {
+    let mut steps: Vec<Step> = Vec::new(rt.alloc());
+    let rest = take_lines(&mut steps, b"5 2 0 1 2 0\n6 0 5 3 4 0\n7 0");
+    assert!(&rt; rest == Ok(b"7 0".as_slice()));
     assert_eq!(&rt; steps.len(), 2);
-    assert_eq!(&rt; rest, b"7 0".as_slice());
-    let mut begun = LineBuffer::new(alloc);
-    assert!(&rt; begun.feed(b"5 2 0", &mut steps).is_ok());
-    assert_eq!(&rt; begun.as_slice(), b"5 2 0".as_slice());
-    assert!(&rt; begun.feed(b" 1 2 0\n6", &mut steps).is_ok());
-    assert_eq!(&rt; begun.as_slice(), b"6".as_slice());
-    assert!(&rt; begun.feed(b" x\n", &mut steps).is_err());
-    assert_eq!(&rt; begun.as_slice(), b"6".as_slice());
+    let mut begun = LineBuffer::new(rt.alloc());
+    keeps(&rt, &mut begun, &mut steps, b"5 2 0", true, b"5 2 0");
+    keeps(&rt, &mut begun, &mut steps, b" 1 2 0\n6", true, b"6");
+    keeps(&rt, &mut begun, &mut steps, b" x\n", false, b"6");
     assert_eq!(&rt; steps.len(), 3);
-    Ok(())
 }
 
 /// What is printed of a proof in two pieces.
@@ -131,33 +168,36 @@ fn printed(alloc: Global, input: &[u8], front: &[u8], back: &[u8]) -> Result<Vec
     Ok(check.finish()?.stdout)
 }
 
-#[test]
-fn faults_are_kept_to_the_end(rt: HostRuntime) -> Result<(), Fail> {
-    let rows: [(&'static [u8], &'static [u8], &'static [u8]); 4] = [
-        (FOUR, b"5 2 0 1 2 0\n6 0 5 3 4 0\n", b"s VERIFIED\n"),
-        (
-            FOUR,
-            b"4 2 0 1 2 0\n\n",
-            b"s NOT VERIFIED\nc line 1 fault 2\n",
-        ),
-        (
-            FOUR,
-            b"5 2 0 1 2 0\n6 0 5",
-            b"s NOT VERIFIED\nc line 2 fault 1\n",
-        ),
-        (
-            b"p cnf 1 1\n2 0\n",
-            b"5 0 1 0\n",
-            b"c input line 2 fault 4\n",
-        ),
-    ];
-    for (input, proof, want) in &rows {
-        let input: &[u8] = *input;
-        let proof: &[u8] = *proof;
-        for at in 0..proof.len() {
-            let found = printed(rt.alloc(), input, &proof[..at], &proof[at..])?;
-            assert_eq!(&rt; found.as_slice(), *want);
-        }
+const FAULTS: &[Row] = &[
+    (FOUR, b"5 2 0 1 2 0\n6 0 5 3 4 0\n", b"s VERIFIED\n"),
+    (
+        FOUR,
+        b"4 2 0 1 2 0\n\n",
+        b"s NOT VERIFIED\nc line 1 fault 2\n",
+    ),
+    (
+        FOUR,
+        b"5 2 0 1 2 0\n6 0 5",
+        b"s NOT VERIFIED\nc line 2 fault 1\n",
+    ),
+    (
+        b"p cnf 1 1\n2 0\n",
+        b"5 0 1 0\n",
+        b"c input line 2 fault 4\n",
+    ),
+];
+
+/// The same is printed wherever a proof is cut in two.
+fn is_printed(rt: &impl Abort, alloc: Global, input: &[u8], proof: &[u8], want: &[u8]) {
+    for at in 0..proof.len() {
+        let found = printed(alloc, input, &proof[..at], &proof[at..]);
+        assert_eq!(rt; found.expect(rt, "memory").as_slice(), want);
     }
-    Ok(())
+}
+
+#[test]
+fn faults_are_kept_to_the_end(rt: HostRuntime) {
+    for (input, proof, want) in FAULTS {
+        is_printed(&rt, rt.alloc(), *input, *proof, *want);
+    }
 }

@@ -11,33 +11,47 @@ const PRINTED: Printing = Printing {
 };
 
 /// The words of a line, of which the first is the program's name.
-fn asks(rt: &impl Abort, alloc: Global, line: &str, want: Request) {
-    let words: Vec<&str> = line.split(' ').collect(alloc).expect(rt, "memory");
-    let request = command(alloc, words.as_slice()).ok();
-    assert!(rt; request == Some(want));
+fn words_of<'a>(rt: &impl Abort, alloc: Global, line: &'a str) -> Vec<&'a str> {
+    line.split(' ').collect(alloc).expect(rt, "memory")
+}
+
+fn is_asked(request: &Request<'_>, want: &Request<'_>) -> bool {
+    request == want
+}
+
+fn asks(rt: &impl Abort, alloc: Global, line: &str, want: Request<'_>) {
+    match command(alloc, &words_of(rt, alloc, line)) {
+        Ok(request) => assert!(rt; is_asked(&request, &want)),
+        Err(_) => panic!(rt; "the words are refused"),
+    }
 }
 
 fn refuses(rt: &impl Abort, alloc: Global, line: &str) {
-    let words: Vec<&str> = line.split(' ').collect(alloc).expect(rt, "memory");
-    let is_refused = match command(alloc, words.as_slice()) {
-        Err(UsageFault::Usage) => true,
-        _ => false,
-    };
+    let is_refused = matches!(
+        command(alloc, &words_of(rt, alloc, line)),
+        Err(UsageFault::Usage)
+    );
     assert!(rt; is_refused);
+}
+
+/// No line begins as an answer does, and none ends with a blank.
+fn is_no_answer(text: &str) -> bool {
+    for line in text.lines() {
+        if line.starts_with("s ") || line.ends_with(" ") {
+            return false;
+        }
+    }
+    true
 }
 
 /// Words that ask for help: it has this text, no line that begins as an answer does, and no blank at a line's end.
 fn helps(rt: &impl Abort, alloc: Global, line: &str, part: &str) {
-    let words: Vec<&str> = line.split(' ').collect(alloc).expect(rt, "memory");
-    match command(alloc, words.as_slice()).err() {
-        Some(UsageFault::Help(text)) => {
-            assert!(rt; text.as_str().contains(part));
-            for line in text.as_str().lines() {
-                assert!(rt; !line.starts_with("s "));
-                assert!(rt; !line.ends_with(" "));
-            }
+    match command(alloc, &words_of(rt, alloc, line)) {
+        Err(UsageFault::Help(text)) => {
+            let text = text.as_str();
+            assert!(rt; text.contains(part) && is_no_answer(text));
         }
-        _ => assert!(rt; false),
+        _ => panic!(rt; "no help"),
     }
 }
 
@@ -432,27 +446,28 @@ fn words_that_are_refused(rt: HostRuntime) {
     }
 }
 
+/// A line that asks for help, and what the help has.
+const HELPS: &[(&'static str, &'static str)] = &[
+    ("satcluster --help", "<COMMAND>"),
+    ("satcluster help solve", "[PROOF]"),
+    ("satcluster solve --help", "<INPUT>"),
+    ("satcluster check -h", "<PROOF>"),
+    ("satcluster cubes -h", "from 0 to 16"),
+    ("satcluster cubes -h", "--split <split>"),
+    ("satcluster cubes -h", "--complete <complete>"),
+    ("satcluster serve -h", "--port <port>"),
+    ("satcluster work -h", "--ahead"),
+    ("satcluster drill -h", "from 0 to 100000"),
+    ("satcluster leaf -h", "--cubes <cubes>"),
+    ("satcluster refute -h", "[default: 140737488355328]"),
+    ("satcluster join -h", "<NAME>..."),
+    ("satcluster lift -h", "<FRAGMENT>"),
+    ("satcluster model -h", "<FILE>"),
+];
+
 #[test]
 fn a_help_is_no_answer(rt: HostRuntime) {
-    let alloc = rt.alloc();
-    helps(&rt, alloc, "satcluster --help", "<COMMAND>");
-    helps(&rt, alloc, "satcluster help solve", "[PROOF]");
-    helps(&rt, alloc, "satcluster solve --help", "<INPUT>");
-    helps(&rt, alloc, "satcluster check -h", "<PROOF>");
-    helps(&rt, alloc, "satcluster cubes -h", "from 0 to 16");
-    helps(&rt, alloc, "satcluster cubes -h", "--split <split>");
-    helps(&rt, alloc, "satcluster cubes -h", "--complete <complete>");
-    helps(&rt, alloc, "satcluster serve -h", "--port <port>");
-    helps(&rt, alloc, "satcluster work -h", "--ahead");
-    helps(&rt, alloc, "satcluster drill -h", "from 0 to 100000");
-    helps(&rt, alloc, "satcluster leaf -h", "--cubes <cubes>");
-    helps(
-        &rt,
-        alloc,
-        "satcluster refute -h",
-        "[default: 140737488355328]",
-    );
-    helps(&rt, alloc, "satcluster join -h", "<NAME>...");
-    helps(&rt, alloc, "satcluster lift -h", "<FRAGMENT>");
-    helps(&rt, alloc, "satcluster model -h", "<FILE>");
+    for (line, part) in HELPS {
+        helps(&rt, rt.alloc(), *line, *part);
+    }
 }

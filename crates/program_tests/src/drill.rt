@@ -10,7 +10,7 @@ use dimacs::{Formula, read};
 use frames::{encode, len};
 use node_main::{draw, drill, run_drill};
 use std::alloc::{AllocError, Global};
-use std::test::Fail;
+use std::process::Abort;
 
 const FOUR: &[u8] = b"p cnf 2 4\n1 2 0\n-1 2 0\n1 -2 0\n-1 -2 0\n";
 
@@ -84,47 +84,50 @@ fn play(cluster: &mut ClosedCluster, turns: &[[u64; 3]]) {
 }
 
 /// All frames of a cluster, spelled one after the other.
-fn frames_of(alloc: Global, cluster: &ClosedCluster) -> Result<Vec<u8>, Fail> {
+fn frames_of(rt: &impl Abort, alloc: Global, cluster: &ClosedCluster) -> Vec<u8> {
     let mut text = Vec::new(alloc);
     for frame in cluster.frames() {
-        let mut bytes = vec![in alloc; 0; len(frame)]?;
+        let mut bytes = vec![in alloc; 0; len(frame)].expect(rt, "memory");
         encode(frame, &mut bytes);
-        text.extend_from_slice(&bytes)?;
+        text.extend_from_slice(&bytes).expect(rt, "memory");
     }
-    Ok(text)
+    text
+}
+
+/// A drill of seed 7 and a thousand turns prints this, with this status.
+fn is_reported(rt: &impl Abort, alloc: Global, input: &[u8], want: &[u8], status: u8) {
+    let report = drill(alloc, input, 7, 1000).expect(rt, "memory");
+    assert_eq!(rt; report.stdout.as_slice(), want);
+    assert_eq!(rt; report.status, status);
 }
 
 #[test]
-fn a_drill_prints_how_many_turns_it_took(rt: HostRuntime) -> Result<(), Fail> {
-    let report = drill(rt.alloc(), FOUR, 7, 1000)?;
-    assert_eq!(rt; report.stdout.as_slice(), QUIET);
-    assert_eq!(rt; report.status, 0);
-    let faulty = drill(rt.alloc(), b"p cnf 1000001 0\n", 7, 1000)?;
-    assert_eq!(rt;
-        faulty.stdout.as_slice(),
-        b"c input line 1 fault 8\n".as_slice()
-    );
-    assert_eq!(rt; faulty.status, 1);
-    let words = draw(rt.alloc(), 0, 3)?;
-    assert_eq!(rt; words.as_slice(), WORDS.as_slice());
-    Ok(())
+fn a_drill_prints_how_many_turns_it_took(rt: HostRuntime) {
+    is_reported(&rt, rt.alloc(), FOUR, QUIET, 0);
+    let faulty = b"p cnf 1000001 0\n";
+    is_reported(&rt, rt.alloc(), faulty, b"c input line 1 fault 8\n", 1);
+    let words = draw(rt.alloc(), 0, 3).expect(&rt, "memory");
+    assert!(rt; words.as_slice() == WORDS.as_slice());
+}
+
+/// A drill of a formula by these words ends as the turns do that are played one by one.
+fn plays_its_turns(rt: &impl Abort, alloc: Global, formula: &Formula, words: &[[u64; 3]]) {
+    let mut drilled = cluster_of(alloc, formula).expect(rt, "memory");
+    let report = run_drill(alloc, &mut drilled, words).expect(rt, "memory");
+    assert!(rt; report.stdout.as_slice() == QUIET && report.status == 0);
+    let mut played = cluster_of(alloc, formula).expect(rt, "memory");
+    play(&mut played, words);
+    let frames = frames_of(rt, alloc, &played);
+    assert!(rt; frames_of(rt, alloc, &drilled) == frames);
 }
 
 #[test]
-fn a_drill_plays_the_turns_that_its_words_name(rt: HostRuntime) -> Result<(), Fail> {
+fn a_drill_plays_the_turns_that_its_words_name(rt: HostRuntime) {
     for input in [FOUR, EIGHT, RING, UNITS] {
-        let formula = read(rt.alloc(), input).ok().ok_or("a formula")?;
+        let formula = read(rt.alloc(), input).expect(&rt, "a formula");
         for seed in 1..21 {
-            let words = draw(rt.alloc(), seed, 1000)?;
-            let mut drilled = cluster_of(rt.alloc(), &formula)?;
-            let report = run_drill(rt.alloc(), &mut drilled, &words)?;
-            assert_eq!(rt; report.stdout.as_slice(), QUIET);
-            assert_eq!(rt; report.status, 0);
-            let mut played = cluster_of(rt.alloc(), &formula)?;
-            play(&mut played, &words);
-            let frames = frames_of(rt.alloc(), &played)?;
-            assert!(rt; frames_of(rt.alloc(), &drilled)? == frames);
+            let words = draw(rt.alloc(), seed, 1000).expect(&rt, "memory");
+            plays_its_turns(&rt, rt.alloc(), &formula, &words);
         }
     }
-    Ok(())
 }

@@ -1,29 +1,39 @@
 //! Inputs that come in pieces, and lines under `-q`.
 
-use crate::check::FOUR;
+use crate::check::{FOUR, VERIFIED};
 use dimacs::FormulaReader;
 use node_main::{ProofCheck, Refusal};
-use std::test::Fail;
+use std::alloc::Global;
 
-#[test]
-fn an_input_in_pieces_is_checked(rt: HostRuntime) -> Result<(), Fail> {
-    let mut reader = FormulaReader::new(rt.alloc());
-    for byte in FOUR {
+/// The check of proofs of an input that comes byte by byte.
+fn check_of(alloc: Global, input: &[u8]) -> ProofCheck {
+    let mut reader = FormulaReader::new(alloc);
+    for byte in input {
         reader.feed(&[*byte]);
     }
-    let mut check = ProofCheck::of(rt.alloc(), reader.finish());
-    check.feed(b"5 2 0 1 2 0\n6 0 5 3 4 0\n");
-    let report = check.finish()?;
-    assert_eq!(rt; report.stdout.as_slice(), b"s VERIFIED\n".as_slice());
-    assert_eq!(rt; report.status, 0);
-    Ok(())
+    ProofCheck::of(alloc, reader.finish())
 }
 
 #[test]
-fn only_refused_words_are_told_under_quiet(rt: HostRuntime) -> Result<(), Fail> {
-    assert_eq!(rt; Refusal::Usage.line(true), "c usage\n");
-    assert_eq!(rt; Refusal::Usage.line(false), "c usage\n");
-    assert_eq!(rt; Refusal::Writing.line(true), "");
-    assert_eq!(rt; Refusal::Writing.line(false), "c cannot write proof\n");
-    Ok(())
+fn an_input_in_pieces_is_checked(rt: HostRuntime) {
+    let mut check = check_of(rt.alloc(), FOUR);
+    check.feed(b"5 2 0 1 2 0\n6 0 5 3 4 0\n");
+    let report = check.finish().expect(&rt, "memory");
+    assert_eq!(rt; report.stdout.as_slice(), VERIFIED);
+    assert_eq!(rt; report.status, 0);
+}
+
+/// What is refused, whether `-q` was said, and the line.
+const LINES: [(Refusal, bool, &'static str); 4] = [
+    (Refusal::Usage, true, "c usage\n"),
+    (Refusal::Usage, false, "c usage\n"),
+    (Refusal::Writing, true, ""),
+    (Refusal::Writing, false, "c cannot write proof\n"),
+];
+
+#[test]
+fn only_refused_words_are_told_under_quiet(rt: HostRuntime) {
+    for (refusal, quiet, want) in &LINES {
+        assert_eq!(&rt; refusal.line(*quiet), *want);
+    }
 }

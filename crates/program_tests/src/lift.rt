@@ -5,7 +5,6 @@ use dimacs::read;
 use leaves::{FileEnd, Join, Lift, Search, Split, SplitReader, run_refute};
 use std::alloc::Global;
 use std::process::Abort;
-use std::test::Fail;
 
 /// Four pigeons, and three holes.
 const PIGEONS: &[u8] =
@@ -61,39 +60,46 @@ const QUARTERS: &[u8] = b"a 5 0\na -5 0\n";
 type Fault = (u64, u8);
 
 /// A split of a formula whose header has twelve bytes.
-fn split(rt: &impl Abort, alloc: Global, input: &[u8], cubes: &[u8]) -> Result<Split, Fail> {
-    let mut reader = SplitReader::new(alloc, read(alloc, input)?)?;
+fn split(rt: &impl Abort, alloc: Global, input: &[u8], cubes: &[u8]) -> Split {
+    let formula = read(alloc, input).expect(rt, "a formula");
+    let mut reader = SplitReader::new(alloc, formula).expect(rt, "memory");
     reader.feed(b"p inccnf\n");
     reader.feed(input.get(12..).unwrap_or(b""));
     reader.feed(cubes);
     match reader.finish() {
-        Ok(split) => Ok(split),
+        Ok(split) => split,
         Err(_) => panic!(rt; "no tree"),
     }
 }
 
+/// The pigeons, split into the leaves 1 and -1.
+fn pigeons(rt: &impl Abort, alloc: Global) -> Split {
+    split(rt, alloc, PIGEONS, HALVES)
+}
+
+/// A lift of the formula of a leaf of the pigeons.
+fn lift_of(rt: &impl Abort, alloc: Global, leaf: u64) -> Lift {
+    match Lift::of(alloc, pigeons(rt, alloc), leaf).expect(rt, "memory") {
+        Some(lift) => lift,
+        None => panic!(rt; "no leaf"),
+    }
+}
+
 /// Lifts a proof of the formula of a leaf of the pigeons, in pieces of seven bytes.
-fn lifted(
-    rt: &impl Abort,
-    alloc: Global,
-    leaf: u64,
-    proof: &[u8],
-) -> Result<Result<Vec<u8>, Fault>, Fail> {
-    let Some(mut lift) = Lift::of(alloc, split(rt, alloc, PIGEONS, HALVES)?, leaf)? else {
-        panic!(rt; "no leaf");
-    };
+fn lifted(rt: &impl Abort, alloc: Global, leaf: u64, proof: &[u8]) -> Result<Vec<u8>, Fault> {
+    let mut lift = lift_of(rt, alloc, leaf);
     let mut log = Vec::new(alloc);
     for piece in proof.chunks(7) {
         lift.feed(piece);
-        log.extend_from_slice(lift.written())?;
+        log.extend_from_slice(lift.written()).expect(rt, "memory");
         lift.forget();
     }
     match lift.finish() {
         Ok(rest) => {
-            log.extend_from_slice(&rest)?;
-            Ok(Ok(log))
+            log.extend_from_slice(&rest).expect(rt, "memory");
+            Ok(log)
         }
-        Err(fault) => Ok(Err((fault.line, fault.number))),
+        Err(fault) => Err((fault.line, fault.number)),
     }
 }
 
@@ -104,85 +110,112 @@ fn take(rt: &impl Abort, join: &mut Join, log: &[u8]) {
 }
 
 /// The proof that the logs of all leaves are joined to.
-fn proof_of(rt: &impl Abort, alloc: Global, join: &mut Join) -> Result<Vec<u8>, Fail> {
+fn proof_of(rt: &impl Abort, alloc: Global, join: &mut Join) -> Vec<u8> {
     match join.finish(Vec::new(alloc)) {
-        Ok(report) => assert_eq!(rt; report.status, 20),
+        Ok(report) => assert!(rt; report.status == 20),
         Err(_) => panic!(rt; "no memory"),
     }
-    Ok(Vec::from_slice(alloc, join.written())?)
+    Vec::from_slice(alloc, join.written()).expect(rt, "memory")
+}
+
+/// Takes the log that a proof of the formula of a leaf is lifted to.
+fn take_lifted(rt: &impl Abort, alloc: Global, join: &mut Join, leaf: u64, proof: &[u8]) {
+    match lifted(rt, alloc, leaf, proof) {
+        Ok(log) => take(rt, join, &log),
+        Err(_) => panic!(rt; "a fault"),
+    }
 }
 
 /// Proofs of both leaves are lifted, and joined to a proof.
-fn are_joined(rt: &impl Abort, alloc: Global, left: &[u8], right: &[u8]) -> Result<(), Fail> {
-    let mut join = Join::of(alloc, split(rt, alloc, PIGEONS, HALVES)?)?;
-    for (leaf, proof) in [(1, left), (2, right)] {
-        match lifted(rt, alloc, leaf, proof)? {
-            Ok(log) => take(rt, &mut join, &log),
-            Err(_) => panic!(rt; "a fault"),
-        }
-    }
-    let proof = proof_of(rt, alloc, &mut join)?;
+fn are_joined(rt: &impl Abort, alloc: Global, left: &[u8], right: &[u8]) {
+    let mut join = Join::of(alloc, pigeons(rt, alloc)).expect(rt, "memory");
+    take_lifted(rt, alloc, &mut join, 1, left);
+    take_lifted(rt, alloc, &mut join, 2, right);
+    let proof = proof_of(rt, alloc, &mut join);
     prints(rt, alloc, PIGEONS, &proof, VERIFIED);
-    Ok(())
 }
 
-#[test]
-fn proofs_of_solvers_are_joined(rt: HostRuntime) -> Result<(), Fail> {
-    are_joined(&rt, rt.alloc(), CADICAL_LEFT, CADICAL_RIGHT)?;
-    are_joined(&rt, rt.alloc(), KISSAT_LEFT, KISSAT_RIGHT)?;
-    are_joined(&rt, rt.alloc(), SOLVE_LEFT, SOLVE_RIGHT)
-}
+/// Proofs for both leaves, of each solver.
+const SOLVERS: &[(&'static [u8], &'static [u8])] = &[
+    (CADICAL_LEFT, CADICAL_RIGHT),
+    (KISSAT_LEFT, KISSAT_RIGHT),
+    (SOLVE_LEFT, SOLVE_RIGHT),
+];
 
 #[test]
-fn the_first_fault_of_a_proof_is_told(rt: HostRuntime) -> Result<(), Fail> {
-    let rows: [(&'static [u8], Fault); 8] = [
-        // what CaDiCaL writes without --no-binary
-        (b"a0\x09\x00.\n\x00a2\x0b\x00.\x0c\x00", (1, 1)),
-        // the proof of the other leaf
-        (CADICAL_RIGHT, (1, 6)),
-        // cut in mid-line
-        (b"24 -4 0 23 5 0\n25 -7 0 2", (2, 1)),
-        // a number twice, a hint above the lemma, a group
-        (b"24 -4 0 23 5 0\n24 -7 0 23 6 0\n", (2, 2)),
-        (b"24 -4 0 25 5 0\n25 -7 0 23 6 0\n", (1, 3)),
-        (b"24 -4 0 -5 23 0\n", (1, 15)),
-        // no empty lemma, and propagation finds no conflict
-        (b"24 -4 0 23 5 0\n", (2, 13)),
-        (b"", (1, 13)),
-    ];
-    for (proof, fault) in rows {
-        match lifted(&rt, rt.alloc(), 1, proof)? {
+fn proofs_of_solvers_are_joined(rt: HostRuntime) {
+    for (left, right) in SOLVERS {
+        are_joined(&rt, rt.alloc(), *left, *right);
+    }
+}
+
+/// Proofs for the leaf 1, and their first faults.
+const FAULTS: &[(&'static [u8], Fault)] = &[
+    // what CaDiCaL writes without --no-binary
+    (b"a0\x09\x00.\n\x00a2\x0b\x00.\x0c\x00", (1, 1)),
+    // the proof of the other leaf
+    (CADICAL_RIGHT, (1, 6)),
+    // cut in mid-line
+    (b"24 -4 0 23 5 0\n25 -7 0 2", (2, 1)),
+    // a number twice, a hint above the lemma, a group
+    (b"24 -4 0 23 5 0\n24 -7 0 23 6 0\n", (2, 2)),
+    (b"24 -4 0 25 5 0\n25 -7 0 23 6 0\n", (1, 3)),
+    (b"24 -4 0 -5 23 0\n", (1, 15)),
+    // no empty lemma, and propagation finds no conflict
+    (b"24 -4 0 23 5 0\n", (2, 13)),
+    (b"", (1, 13)),
+];
+
+#[test]
+fn the_first_fault_of_a_proof_is_told(rt: HostRuntime) {
+    for (proof, fault) in FAULTS {
+        match lifted(&rt, rt.alloc(), 1, *proof) {
             Ok(_) => panic!(&rt; "no fault"),
-            Err(told) => assert_eq!(&rt; told, fault),
+            Err(told) => assert_eq!(&rt; told, *fault),
         }
     }
-    Ok(())
 }
 
 #[test]
-fn a_proof_without_the_empty_lemma_is_lifted(rt: HostRuntime) -> Result<(), Fail> {
-    are_joined(&rt, rt.alloc(), &CADICAL_LEFT[..192], CADICAL_RIGHT)
+fn a_proof_without_the_empty_lemma_is_lifted(rt: HostRuntime) {
+    are_joined(&rt, rt.alloc(), &CADICAL_LEFT[..192], CADICAL_RIGHT);
 }
 
-#[test]
-fn a_run_over_the_formula_of_a_leaf_is_a_leaf_of_another(rt: HostRuntime) -> Result<(), Fail> {
-    let mut leaf = Vec::from_slice(rt.alloc(), b"p cnf 12 23\n")?;
-    leaf.extend_from_slice(&PIGEONS[12..])?;
-    leaf.extend_from_slice(b"1 0\n")?;
-    let quarters = split(&rt, rt.alloc(), &leaf, QUARTERS)?;
+/// The formula of the leaf 1.
+fn formula_of_leaf(rt: &impl Abort, alloc: Global) -> Vec<u8> {
+    let mut text = Vec::from_slice(alloc, b"p cnf 12 23\n").expect(rt, "memory");
+    text.extend_from_slice(&PIGEONS[12..]).expect(rt, "memory");
+    text.extend_from_slice(b"1 0\n").expect(rt, "memory");
+    text
+}
+
+/// The log of a search under a leaf.
+fn refuted(rt: &impl Abort, alloc: Global, split: &Split, leaf: u64) -> Vec<u8> {
     let search = Search {
         limit: 100,
         quiet: true,
         witness: false,
     };
-    let mut join = Join::of(rt.alloc(), split(&rt, rt.alloc(), &leaf, QUARTERS)?)?;
-    for number in 1..3 {
-        let report = run_refute(rt.alloc(), &quarters, number, &search)?;
-        match &report.proof {
-            Some(log) => take(&rt, &mut join, &log.to_text(rt.alloc())?),
-            None => panic!(&rt; "no log"),
-        }
+    let report = run_refute(alloc, split, leaf, &search).expect(rt, "memory");
+    match &report.proof {
+        Some(log) => log.to_text(alloc).expect(rt, "memory"),
+        None => panic!(rt; "no log"),
     }
-    let proof = proof_of(&rt, rt.alloc(), &mut join)?;
-    are_joined(&rt, rt.alloc(), &proof, CADICAL_RIGHT)
+}
+
+/// The proof of a formula whose quarters are refuted.
+fn proof_by_quarters(rt: &impl Abort, alloc: Global, input: &[u8]) -> Vec<u8> {
+    let quarters = split(rt, alloc, input, QUARTERS);
+    let again = split(rt, alloc, input, QUARTERS);
+    let mut join = Join::of(alloc, again).expect(rt, "memory");
+    take(rt, &mut join, &refuted(rt, alloc, &quarters, 1));
+    take(rt, &mut join, &refuted(rt, alloc, &quarters, 2));
+    proof_of(rt, alloc, &mut join)
+}
+
+#[test]
+fn a_run_over_the_formula_of_a_leaf_is_a_leaf_of_another(rt: HostRuntime) {
+    let input = formula_of_leaf(&rt, rt.alloc());
+    let proof = proof_by_quarters(&rt, rt.alloc(), &input);
+    are_joined(&rt, rt.alloc(), &proof, CADICAL_RIGHT);
 }

@@ -1,14 +1,11 @@
 //! A text that CaDiCaL wrote while it refuted four cubes in one process, as one log over the formula.
 
-ghost use Rattle.std.specs.Prelude.{◌≤◌, ◌<◌, ◌^◌};
-
 use dimacs::{Lit, Var, read};
 use leaves::{LiftAll, Split, SplitReader};
 use lidrup::CubeLog;
 use lrat_check::{CheckFault, check_log};
 use std::alloc::Global;
 use std::process::Abort;
-use std::test::Fail;
 
 /// Four pigeons, and three holes.
 const PIGEONS: &[u8] =
@@ -45,117 +42,167 @@ const OTHER: &[u8] = b"p cnf 3 3\n1 2 3 0\n-1 2 0\n-2 3 0\n";
 /// The lines up to the lemmas under the third cube, and no clause that closes it.
 const OPEN: usize = 536;
 
-fn positive(variable: u32) -> Lit
-    requires above { 1 ≤ variable }
-    requires below { variable < 2 ^ 31 }
-{
-    Lit::positive(Var::new(variable))
+/// Literals, by their numbers.
+fn cube_of(rt: &impl Abort, alloc: Global, numbers: &[i32]) -> Vec<Lit> {
+    let mut cube = Vec::new(alloc);
+    for number in numbers {
+        let variable = number.unsigned_abs();
+        assert!(rt; variable >= 1 && variable < 100);
+        let positive = Lit::positive(Var::new(variable));
+        let literal = if *number < 0 {
+            positive.negate()
+        } else {
+            positive
+        };
+        cube.push(literal).expect(rt, "memory");
+    }
+    cube
+}
+
+/// A cube's number among those that were asked, its literals, and whether it is closed.
+type Closing = (usize, &'static [i32], bool);
+
+fn all_are_told(rt: &impl Abort, alloc: Global, log: &CubeLog, rows: &[Closing]) {
+    for (number, cube, want) in rows {
+        let cube = cube_of(rt, alloc, *cube);
+        assert_eq!(rt; log.closes(*number, &cube), *want);
+    }
 }
 
 /// Turns a text into a log over a formula, in pieces of eleven bytes, which is put behind `out`.
-fn turned(alloc: Global, formula: &[u8], text: &[u8], out: &mut Vec<u8>) -> Result<CubeLog, Fail> {
-    let mut log = CubeLog::of(alloc, read(alloc, formula)?)?;
+fn turned(
+    rt: &impl Abort,
+    alloc: Global,
+    formula: &[u8],
+    text: &[u8],
+    out: &mut Vec<u8>,
+) -> CubeLog {
+    let formula = read(alloc, formula).expect(rt, "a formula");
+    let mut log = CubeLog::of(alloc, formula).expect(rt, "memory");
     for piece in text.chunks(11) {
         log.feed(piece);
-        out.extend_from_slice(log.written())?;
+        out.extend_from_slice(log.written()).expect(rt, "memory");
         log.forget();
     }
-    Ok(log)
+    log
 }
 
-/// The number and the line of the first fault of a text over the pigeons, if it has one.
-fn fault_of(alloc: Global, text: &[u8]) -> Result<Option<(u8, u64)>, Fail> {
+/// The number and the line of the first fault of a text over the pigeons, 0 if it has none.
+fn fault_of(rt: &impl Abort, alloc: Global, text: &[u8]) -> (u8, u64) {
     let mut out = Vec::new(alloc);
-    match turned(alloc, PIGEONS, text, &mut out)?.finish() {
-        Ok(()) => Ok(None),
-        Err(CheckFault { number, line, .. }) => Ok(Some((number, line))),
+    match turned(rt, alloc, PIGEONS, text, &mut out).finish() {
+        Ok(()) => (0, 0),
+        Err(CheckFault { number, line, .. }) => (number, line),
     }
 }
 
+fn is_log(rt: &impl Abort, alloc: Global, text: &[u8]) {
+    let formula = read(alloc, PIGEONS).expect(rt, "a formula");
+    let checked = check_log(alloc, &formula, text);
+    assert!(rt; checked.is_ok());
+}
+
+/// The text up to a byte.
+fn front(count: usize) -> &'static [u8] {
+    PROOF.get(..count).unwrap_or(PROOF)
+}
+
+/// Of the text up to a byte this is told, and what is written is a log over the pigeons.
+fn closes(rt: &impl Abort, alloc: Global, count: usize, rows: &[Closing]) {
+    let mut text = Vec::new(alloc);
+    let log = turned(rt, alloc, PIGEONS, front(count), &mut text);
+    assert!(rt; log.finish().is_ok());
+    is_log(rt, alloc, &text);
+    all_are_told(rt, alloc, &log, rows);
+}
+
+const EACH: &[Closing] = &[
+    (0, &[1, 4], true),
+    (1, &[1, -4], true),
+    (2, &[-1, 2], true),
+    (3, &[-1, -2], true),
+];
+
 #[test]
-fn every_cube_is_closed(rt: HostRuntime) -> Result<(), Fail> {
-    let mut text = Vec::new(rt.alloc());
-    let log = turned(rt.alloc(), PIGEONS, PROOF, &mut text)?;
-    assert!(&rt; log.finish().is_ok());
-    assert!(&rt; check_log(rt.alloc(), &read(rt.alloc(), PIGEONS)?, &text).is_ok());
-    let (one, two, four) = (positive(1), positive(2), positive(4));
-    assert!(&rt; log.closes(0, &[one, four]));
-    assert!(&rt; log.closes(1, &[one, four.negate()]));
-    assert!(&rt; log.closes(2, &[one.negate(), two]));
-    assert!(&rt; log.closes(3, &[one.negate(), two.negate()]));
-    Ok(())
+fn every_cube_is_closed(rt: HostRuntime) {
+    closes(&rt, rt.alloc(), PROOF.len(), EACH);
+}
+
+const TWO: &[Closing] = &[
+    (0, &[1, 4], true),
+    (0, &[-1, 2], false),
+    (1, &[1, -4], true),
+    (2, &[-1, 2], false),
+    (3, &[-1, -2], false),
+];
+
+#[test]
+fn a_cube_without_its_closing_stays_open(rt: HostRuntime) {
+    closes(&rt, rt.alloc(), OPEN, TWO);
+}
+
+/// Texts over the pigeons, and their first faults.
+const FAULTS: &[(&'static [u8], (u8, u64))] = &[
+    (b"i 1 1 2 3 0\nl 2 1 2 0 -1 0\n", (1, 2)),
+    (b"i 2 1 2 3 0\ni 1 4 5 6 0\n", (2, 2)),
+    (b"i 1 1 2 3 0\nq 1 0\nu 1 0 2 0\n", (3, 3)),
+    (b"i 1 1 2 3 0\nu 1 0 1 0\n", (3, 2)),
+    (b"i 1 1 2 3 0\nl 2 1 0 1 0\n", (6, 2)),
+];
+
+/// The text is one of another formula.
+fn is_refused(rt: &impl Abort, alloc: Global) {
+    let mut out = Vec::new(alloc);
+    let log = turned(rt, alloc, OTHER, front(PROOF.len()), &mut out);
+    assert!(rt; log.finish().is_err());
+    all_are_told(rt, alloc, &log, &[(0, &[1, 4], false)]);
 }
 
 #[test]
-fn a_cube_without_its_closing_stays_open(rt: HostRuntime) -> Result<(), Fail> {
-    let mut text = Vec::new(rt.alloc());
-    let log = turned(rt.alloc(), PIGEONS, &PROOF[..OPEN], &mut text)?;
-    assert!(&rt; log.finish().is_ok());
-    let (one, two, four) = (positive(1), positive(2), positive(4));
-    assert!(&rt; log.closes(0, &[one, four]));
-    assert!(&rt; !log.closes(0, &[one.negate(), two]));
-    assert!(&rt; log.closes(1, &[one, four.negate()]));
-    assert!(&rt; !log.closes(2, &[one.negate(), two]));
-    assert!(&rt; !log.closes(3, &[one.negate(), two.negate()]));
-    Ok(())
-}
-
-#[test]
-fn a_text_that_is_cut_or_of_another_formula_is_refused(rt: HostRuntime) -> Result<(), Fail> {
-    assert!(&rt; fault_of(rt.alloc(), &PROOF[..OPEN - 1])? == Some((1, 35)));
-    assert!(&rt; fault_of(rt.alloc(), b"i 1 1 2 3 0\nl 2 1 2 0 -1 0\n")? == Some((1, 2)));
-    assert!(&rt; fault_of(rt.alloc(), b"i 2 1 2 3 0\ni 1 4 5 6 0\n")? == Some((2, 2)));
-    assert!(&rt; fault_of(rt.alloc(), b"i 1 1 2 3 0\nq 1 0\nu 1 0 2 0\n")? == Some((3, 3)));
-    assert!(&rt; fault_of(rt.alloc(), b"i 1 1 2 3 0\nu 1 0 1 0\n")? == Some((3, 2)));
-    assert!(&rt; fault_of(rt.alloc(), b"i 1 1 2 3 0\nl 2 1 0 1 0\n")? == Some((6, 2)));
-    let mut out = Vec::new(rt.alloc());
-    let log = turned(rt.alloc(), OTHER, PROOF, &mut out)?;
-    assert!(&rt; log.finish().is_err());
-    assert!(&rt; !log.closes(0, &[positive(1), positive(4)]));
-    Ok(())
+fn a_text_that_is_cut_or_of_another_formula_is_refused(rt: HostRuntime) {
+    assert_eq!(&rt; fault_of(&rt, rt.alloc(), front(OPEN - 1)), (1, 35));
+    for (text, want) in FAULTS {
+        assert_eq!(&rt; fault_of(&rt, rt.alloc(), *text), *want);
+    }
+    is_refused(&rt, rt.alloc());
 }
 
 /// The pigeons, split into the leaves.
-fn split(rt: &impl Abort, alloc: Global) -> Result<Split, Fail> {
-    let mut reader = SplitReader::new(alloc, read(alloc, PIGEONS)?)?;
+fn split(rt: &impl Abort, alloc: Global) -> Split {
+    let formula = read(alloc, PIGEONS).expect(rt, "a formula");
+    let mut reader = SplitReader::new(alloc, formula).expect(rt, "memory");
     reader.feed(b"p inccnf\n");
     reader.feed(PIGEONS.get(12..).unwrap_or(b""));
     reader.feed(LEAVES);
     match reader.finish() {
-        Ok(split) => Ok(split),
+        Ok(split) => split,
         Err(_) => panic!(rt; "no tree"),
     }
 }
 
-/// A text tells this of the leaves, with this status, and its log is one over the pigeons.
-fn tells(
-    rt: &impl Abort,
-    alloc: Global,
-    text: &[u8],
-    stdout: &[u8],
-    status: u8,
-) -> Result<(), Fail> {
+/// A lift ends, and tells this with this status.
+fn is_told(rt: &impl Abort, alloc: Global, lift: &LiftAll, stdout: &[u8], status: u8) {
+    assert!(rt; lift.finish().is_ok());
+    let report = lift.report(alloc).expect(rt, "memory");
+    assert_eq!(rt; report.stdout.as_slice(), stdout);
+    assert_eq!(rt; report.status, status);
+}
+
+/// The text up to a byte tells this of the leaves, with this status, and its log is one over the pigeons.
+fn tells(rt: &impl Abort, alloc: Global, count: usize, stdout: &[u8], status: u8) {
     let mut log = Vec::new(alloc);
-    let mut lift = LiftAll::of(alloc, split(rt, alloc)?)?;
-    for piece in text.chunks(13) {
+    let mut lift = LiftAll::of(alloc, split(rt, alloc)).expect(rt, "memory");
+    for piece in front(count).chunks(13) {
         lift.feed(piece);
-        log.extend_from_slice(lift.written())?;
+        log.extend_from_slice(lift.written()).expect(rt, "memory");
         lift.forget();
     }
-    match lift.finish() {
-        Ok(()) => {
-            let report = lift.report(alloc)?;
-            assert!(rt; report.stdout.as_slice() == stdout);
-            assert_eq!(rt; report.status, status);
-        }
-        Err(_) => panic!(rt; "a fault"),
-    }
-    assert!(rt; check_log(alloc, &read(alloc, PIGEONS)?, &log).is_ok());
-    Ok(())
+    is_told(rt, alloc, &lift, stdout, status);
+    is_log(rt, alloc, &log);
 }
 
 #[test]
-fn it_is_told_which_leaves_are_closed(rt: HostRuntime) -> Result<(), Fail> {
-    tells(&rt, rt.alloc(), PROOF, CLOSED, 20)?;
-    tells(&rt, rt.alloc(), &PROOF[..OPEN], HALF, 0)
+fn it_is_told_which_leaves_are_closed(rt: HostRuntime) {
+    tells(&rt, rt.alloc(), PROOF.len(), CLOSED, 20);
+    tells(&rt, rt.alloc(), OPEN, HALF, 0);
 }
