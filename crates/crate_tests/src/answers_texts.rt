@@ -1,7 +1,7 @@
 //! Answers of solvers: which are believed, and which satisfy a formula.
 
 use answers::{AnswerReader, Kind, ModelCheck};
-use dimacs::{Answer, answer_lines, read, satisfies};
+use dimacs::{Answer, Assignment, Formula, answer_lines, read, satisfies};
 use std::alloc::Global;
 use std::process::Abort;
 use std::test::Fail;
@@ -35,9 +35,9 @@ fn outcome(
 
 fn all_are_judged(rt: &impl Abort, alloc: Global, rows: &[Row]) {
     for (text, want) in rows {
-        assert_eq!(rt; outcome(rt, alloc, *text, 1), *want);
-        assert_eq!(rt; outcome(rt, alloc, *text, 3), *want);
-        assert_eq!(rt; outcome(rt, alloc, *text, 100), *want);
+        for size in [1, 3, 100] {
+            assert_eq!(rt; outcome(rt, alloc, *text, size), *want);
+        }
     }
 }
 
@@ -85,16 +85,20 @@ fn each_clause_has_a_literal_that_is_named_or_the_first_fault_is_told(rt: HostRu
     all_are_judged(&rt, rt.alloc(), FAULTS);
 }
 
+/// The assignment of the formula that an answer names.
+fn assignment_of(rt: &impl Abort, alloc: Global, formula: &Formula, text: &[u8]) -> Assignment {
+    let mut reader = AnswerReader::new(alloc);
+    reader.feed(text);
+    let named = reader.finish().expect(rt, "an answer");
+    named.assignment(alloc, formula.vars()).expect(rt, "memory")
+}
+
 #[test]
 fn what_is_named_is_an_assignment(rt: HostRuntime) {
     let alloc = rt.alloc();
     let formula = read(alloc, THREE).expect(&rt, "a formula");
-    let mut reader = AnswerReader::new(alloc);
-    reader.feed(b"v 2 -3 -1 0\n");
-    let named = reader.finish().expect(&rt, "an answer");
-    let assignment = named
-        .assignment(alloc, formula.vars())
-        .expect(&rt, "memory");
+    let assignment = assignment_of(&rt, alloc, &formula, b"v 2 -3 -1 0\n");
+    assert!(&rt; assignment.len() == formula.vars() as usize);
     assert!(&rt; satisfies(&assignment, &formula));
     let mut text = Vec::new(alloc);
     answer_lines(Answer::Satisfiable(&assignment), true, &mut text).expect(&rt, "memory");
@@ -111,15 +115,18 @@ const REPORTS: &[Printed] = &[
     (b"", b"s NOT VERIFIED\nc line 1 fault 5\n", 1),
 ];
 
+fn is_reported(rt: &impl Abort, alloc: Global, text: &[u8], want: &[u8], status: u8) {
+    let formula = read(alloc, THREE).expect(rt, "a formula");
+    let mut check = ModelCheck::of(alloc, formula);
+    check.feed(text);
+    let report = check.finish().expect(rt, "memory");
+    assert_eq!(rt; report.text.as_slice(), want);
+    assert_eq!(rt; report.status, status);
+}
+
 #[test]
 fn a_report_tells_the_clause_or_the_fault(rt: HostRuntime) {
-    let alloc = rt.alloc();
     for (text, want, status) in REPORTS {
-        let formula = read(alloc, THREE).expect(&rt, "a formula");
-        let mut check = ModelCheck::of(alloc, formula);
-        check.feed(*text);
-        let report = check.finish().expect(&rt, "memory");
-        assert_eq!(&rt; report.text.as_slice(), *want);
-        assert_eq!(&rt; report.status, *status);
+        is_reported(&rt, rt.alloc(), *text, *want, *status);
     }
 }

@@ -10,7 +10,6 @@ use clause_arena::{Arena, Ref};
 use dimacs::{Lit, Var};
 use std::alloc::{AllocError, Global};
 use std::process::Abort;
-use std::test::Fail;
 
 /// The greatest number that a proof can name.
 const FAR: u64 = 0xffff_ffff_ffff;
@@ -86,25 +85,23 @@ enum Turn {
     Lacks(u64),
 }
 
-fn play_turn(rt: &impl Abort, arena: &mut Arena, turn: Turn) -> Result<(), AllocError> {
+fn play_turn(rt: &impl Abort, arena: &mut Arena, turn: Turn) {
     match turn {
         Turn::Adds(number, first) => {
             assert!(rt; first >= 1 && first < 10000);
-            add(rt, arena, number, &three(first))?;
+            add(rt, arena, number, &three(first)).expect(rt, "memory");
         }
         Turn::Removes(number) => remove(rt, arena, number),
         Turn::Swaps(number, i, j) => swap(rt, arena, number, i, j),
         Turn::Is(number, literals) => expect(rt, arena, number, literals),
         Turn::Lacks(number) => assert!(rt; arena.find(number).is_none()),
     }
-    Ok(())
 }
 
-fn play(rt: &impl Abort, arena: &mut Arena, turns: &[Turn]) -> Result<(), AllocError> {
+fn play(rt: &impl Abort, arena: &mut Arena, turns: &[Turn]) {
     for turn in turns {
-        play_turn(rt, arena, *turn)?;
+        play_turn(rt, arena, *turn);
     }
-    Ok(())
 }
 
 const GREAT_NUMBERS: &[Turn] = &[
@@ -136,31 +133,26 @@ const SWAPPED: &[Turn] = &[
 ];
 
 #[test]
-fn clauses_have_great_numbers_and_their_literals_change_places(
-    rt: HostRuntime,
-) -> Result<(), Fail> {
+fn clauses_have_great_numbers_and_their_literals_change_places(rt: HostRuntime) {
     for turns in [GREAT_NUMBERS, SWAPPED] {
-        play(&rt, &mut Arena::new(rt.alloc()), turns)?;
+        play(&rt, &mut Arena::new(rt.alloc()), turns);
     }
-    Ok(())
+}
+
+/// The clause of a number has moved.
+fn has_moved(arena: &Arena, number: u64, from: Ref, to: Ref) -> bool {
+    from.number() == number && from != to && arena.find(number) == Some(to)
 }
 
 /// The gaps are closed, and the clauses of these numbers move.
-fn expect_moves(
-    rt: &impl Abort,
-    alloc: Global,
-    arena: &mut Arena,
-    numbers: &[u64],
-) -> Result<(), AllocError> {
+fn expect_moves(rt: &impl Abort, alloc: Global, arena: &mut Arena, numbers: &[u64]) {
     let mut moved = Vec::new(alloc);
-    arena.compact(&mut moved)?;
+    arena.compact(&mut moved).expect(rt, "memory");
     assert_eq!(rt; moved.len(), numbers.len());
     for i in 0..moved.len() {
         let (from, to) = moved[i];
-        assert!(rt; i < numbers.len() && from.number() == numbers[i] && from != to);
-        assert!(rt; arena.find(numbers[i]) == Some(to));
+        assert!(rt; i < numbers.len() && has_moved(arena, numbers[i], from, to));
     }
-    Ok(())
 }
 
 const WITH_GAPS: &[Turn] = &[
@@ -185,12 +177,11 @@ const CLOSED: &[Turn] = &[
 ];
 
 #[test]
-fn closing_gaps_tells_each_clause_that_moved(rt: HostRuntime) -> Result<(), Fail> {
+fn closing_gaps_tells_each_clause_that_moved(rt: HostRuntime) {
     let mut arena = Arena::new(rt.alloc());
-    play(&rt, &mut arena, WITH_GAPS)?;
-    expect_moves(&rt, rt.alloc(), &mut arena, &[1, 3, 5, 6, FAR])?;
-    play(&rt, &mut arena, CLOSED)?;
-    Ok(())
+    play(&rt, &mut arena, WITH_GAPS);
+    expect_moves(&rt, rt.alloc(), &mut arena, &[1, 3, 5, 6, FAR]);
+    play(&rt, &mut arena, CLOSED);
 }
 
 /// A third of the clauses goes.
@@ -203,14 +194,14 @@ fn thin(rt: &impl Abort, arena: &mut Arena) {
 }
 
 #[test]
-fn many_clauses_come_and_go(rt: HostRuntime) -> Result<(), Fail> {
+fn many_clauses_come_and_go(rt: HostRuntime) {
     let mut arena = Arena::new(rt.alloc());
     let mut moved = Vec::new(rt.alloc());
     for number in 1..2000 {
-        play_turn(&rt, &mut arena, Turn::Adds(number, number as u32))?;
+        play_turn(&rt, &mut arena, Turn::Adds(number, number as u32));
     }
     thin(&rt, &mut arena);
-    arena.compact(&mut moved)?;
+    arena.compact(&mut moved).expect(&rt, "memory");
     assert_eq!(rt; moved.len(), 1331);
     for number in 1..2000 {
         let first = number as i32;
@@ -219,7 +210,6 @@ fn many_clauses_come_and_go(rt: HostRuntime) -> Result<(), Fail> {
         } else {
             Turn::Is(number, [first, -(first + 1), first + 2])
         };
-        play_turn(&rt, &mut arena, turn)?;
+        play_turn(&rt, &mut arena, turn);
     }
-    Ok(())
 }

@@ -9,13 +9,12 @@ use icnf::Tree;
 use lrat_check::{Reaction, Verdict};
 use std::alloc::Global;
 use std::process::Abort;
-use std::test::Fail;
 
 /// The clauses `1` and `-2`, one leaf and one worker.
-fn small_cluster(alloc: Global) -> Result<ClosedCluster, Fail> {
-    let formula = formula_of(alloc, UNITS)?;
-    let tree = Tree::leaf(alloc)?;
-    Ok(ClosedCluster::new(alloc, &formula, tree, 100_000, 1)?)
+fn small_cluster(rt: &impl Abort, alloc: Global) -> ClosedCluster {
+    let formula = formula_of(rt, alloc, UNITS);
+    let tree = Tree::leaf(alloc).expect(rt, "memory");
+    ClosedCluster::new(alloc, &formula, tree, 100_000, 1).expect(rt, "memory")
 }
 
 /// A run that comes to an assignment, and what each event is answered.
@@ -42,34 +41,49 @@ const TURNS: [(ClosedEvent, Reaction); 11] = [
     ),
 ];
 
+fn is_first_task(frame: &Frame) -> bool {
+    matches!(
+        frame,
+        Frame::Task {
+            job: 1,
+            limit: 100_000,
+            ..
+        }
+    )
+}
+
+fn is_done(frame: &Frame) -> bool {
+    matches!(frame, Frame::Done { .. })
+}
+
+fn is_first_fetch(frame: &Frame) -> bool {
+    matches!(frame, Frame::Fetch { offset: 0, .. })
+}
+
+fn is_first_piece(frame: &Frame) -> bool {
+    matches!(frame, Frame::Piece { offset: 0, .. })
+}
+
 /// The coordinator holds an assignment, behind these four frames.
 fn expect_model(rt: &impl Abort, cluster: &ClosedCluster) {
     assert!(rt; matches!(cluster.verdict(0), Some(Verdict::Model(_))));
-    let are_told = matches!(
-        cluster.frames(),
-        [
-            Frame::Task {
-                job: 1,
-                limit: 100_000,
-                ..
-            },
-            Frame::Done { .. },
-            Frame::Fetch { offset: 0, .. },
-            Frame::Piece { offset: 0, .. }
-        ]
-    );
-    assert!(rt; are_told);
+    match cluster.frames() {
+        [task, done, fetch, piece] => {
+            assert!(rt; is_first_task(task) && is_done(done));
+            assert!(rt; is_first_fetch(fetch) && is_first_piece(piece));
+        }
+        _ => panic!(rt; "no four frames"),
+    }
 }
 
 #[test]
-fn a_small_run_comes_to_an_assignment(rt: HostRuntime) -> Result<(), Fail> {
-    let mut cluster = small_cluster(rt.alloc())?;
+fn a_small_run_comes_to_an_assignment(rt: HostRuntime) {
+    let mut cluster = small_cluster(&rt, rt.alloc());
     for (event, answer) in &TURNS {
         assert_eq!(&rt; cluster.step(event), *answer);
     }
     expect_model(&rt, &cluster);
     assert!(rt; matches!(cluster.verdict(1), Some(Verdict::Nothing)));
-    Ok(())
 }
 
 const EVENTS: &[ClosedEvent] = &[
@@ -85,9 +99,8 @@ const EVENTS: &[ClosedEvent] = &[
 ];
 
 #[test]
-fn a_run_of_a_closed_cluster_is_its_events_in_turn(rt: HostRuntime) -> Result<(), Fail> {
-    let mut cluster = small_cluster(rt.alloc())?;
+fn a_run_of_a_closed_cluster_is_its_events_in_turn(rt: HostRuntime) {
+    let mut cluster = small_cluster(&rt, rt.alloc());
     cluster.run(EVENTS);
     expect_model(&rt, &cluster);
-    Ok(())
 }

@@ -2,7 +2,7 @@
 
 use crate::cluster_open::{cluster_of, offer};
 use crate::inputs::{FOUR, UNITS, literal_of};
-use crate::told::{Found, Told, are_alike, formula_of, frame_of, polled};
+use crate::told::{Found, Told, formula_of, hears, polled, says};
 use cluster::{OpenCluster, OpenEvent};
 use coordinator_core::Coordinator;
 use dimacs::{Builder, Extension};
@@ -11,7 +11,6 @@ use icnf::Tree;
 use lrat_check::{Reaction, Verdict};
 use std::alloc::Global;
 use std::process::Abort;
-use std::test::Fail;
 
 /// A proof of the four clauses, which defines a variable by RAT lemmas.
 const WITH_GROUPS: &[u8] =
@@ -68,39 +67,19 @@ fn extend(rt: &impl Abort, alloc: Global, cluster: &mut OpenCluster, clause: &[i
 }
 
 /// A worker holds a proof of the four clauses; this is left of it behind a clause more.
-fn keeps(
-    rt: &impl Abort,
-    alloc: Global,
-    proof: &[u8],
-    clause: &[i32],
-    kept: Held<'_>,
-) -> Result<(), Fail> {
-    let mut cluster = cluster_of(alloc, FOUR)?;
+fn keeps(rt: &impl Abort, alloc: Global, proof: &[u8], clause: &[i32], kept: Held<'_>) {
+    let mut cluster = cluster_of(rt, alloc, FOUR);
     offer(rt, alloc, &mut cluster, Answer::Refuted, proof);
     assert!(rt; holds(&cluster, 1, Held::Text(proof)));
     extend(rt, alloc, &mut cluster, clause);
     assert!(rt; holds(&cluster, 1, kept));
-    Ok(())
 }
 
 #[test]
-fn a_proof_that_is_wrong_for_more_clauses_is_dropped(rt: HostRuntime) -> Result<(), Fail> {
+fn a_proof_that_is_wrong_for_more_clauses_is_dropped(rt: HostRuntime) {
     let kept = b"6 3 -1 -2 0 0\n7 -3 1 0 -6 0\n8 -3 2 0 -6 0\n9 2 0 1 2 0\n10 0 9 3 4 0\n";
-    keeps(&rt, rt.alloc(), WITH_GROUPS, &[3], Held::Nothing)?;
-    keeps(&rt, rt.alloc(), WITH_GROUPS, &[1], Held::Text(kept))
-}
-
-/// A frame comes to a coordinator of session 1.
-fn deliver(
-    rt: &impl Abort,
-    alloc: Global,
-    coordinator: &mut Coordinator,
-    told: Told,
-    wanted: Reaction,
-) -> Result<(), Fail> {
-    let frame = frame_of(rt, alloc, 1, told)?;
-    assert_eq!(rt; coordinator.deliver(&frame), wanted);
-    Ok(())
+    keeps(&rt, rt.alloc(), WITH_GROUPS, &[3], Held::Nothing);
+    keeps(&rt, rt.alloc(), WITH_GROUPS, &[1], Held::Text(kept));
 }
 
 /// A clause more comes to a coordinator, which goes on in a session, and then holds this.
@@ -116,28 +95,31 @@ fn extend_coordinator(
     assert!(rt; is_held(coordinator.verdict(), kept));
 }
 
-/// A coordinator of the units that holds their assignment.
-fn with_assignment(rt: &impl Abort, alloc: Global) -> Result<Coordinator, Fail> {
-    let formula = formula_of(alloc, UNITS)?;
-    let mut coordinator = Coordinator::new(alloc, formula, Tree::leaf(alloc)?, 1000, 1, 1)?;
-    polled(rt, &mut coordinator, 1)?;
+/// A coordinator of the units, one worker and one leaf.
+fn coordinator_of(rt: &impl Abort, alloc: Global) -> Coordinator {
+    let formula = formula_of(rt, alloc, UNITS);
+    let tree = Tree::leaf(alloc).expect(rt, "memory");
+    Coordinator::new(alloc, formula, tree, 1000, 1, 1).expect(rt, "memory")
+}
+
+/// A worker tells it their assignment.
+fn tell_assignment(rt: &impl Abort, alloc: Global, coordinator: &mut Coordinator) {
+    polled(rt, coordinator, 1);
     let done = Told::Done(1, 1, Found::Values(2));
-    deliver(rt, alloc, &mut coordinator, done, Reaction::Taken)?;
+    hears(rt, alloc, coordinator, 1, done, Reaction::Taken);
     let piece = Told::Piece(1, 1, 0, &[1, 0]);
-    deliver(rt, alloc, &mut coordinator, piece, Reaction::Verdict)?;
-    Ok(coordinator)
+    hears(rt, alloc, coordinator, 1, piece, Reaction::Verdict);
 }
 
 #[test]
-fn a_coordinator_begins_again_with_one_leaf(rt: HostRuntime) -> Result<(), Fail> {
+fn a_coordinator_begins_again_with_one_leaf(rt: HostRuntime) {
     let a = rt.alloc();
-    let mut coordinator = with_assignment(&rt, a)?;
+    let mut coordinator = coordinator_of(&rt, a);
+    tell_assignment(&rt, a, &mut coordinator);
     let longer = clause_of(&rt, a, &[-3, 1]);
     let values = Held::Values(&[true, false, false]);
     extend_coordinator(&rt, &mut coordinator, &longer, 2, values);
     let wrong = clause_of(&rt, a, &[2]);
     extend_coordinator(&rt, &mut coordinator, &wrong, 3, Held::Nothing);
-    let first = frame_of(&rt, a, 3, Told::Task(1, &[]))?;
-    assert!(rt; are_alike(&polled(&rt, &mut coordinator, 1)?, &first));
-    Ok(())
+    says(&rt, a, &mut coordinator, 3, 1, Told::Task(1, &[]));
 }

@@ -9,26 +9,29 @@ use icnf::Tree;
 use lrat_check::{Reaction, Verdict};
 use std::alloc::Global;
 use std::process::Abort;
-use std::test::Fail;
 use worker_core::Worker;
 
-fn coordinator_of(alloc: Global, input: &[u8]) -> Result<Node, Fail> {
-    let formula = formula_of(alloc, input)?;
-    let coordinator = Coordinator::new(alloc, formula, Tree::leaf(alloc)?, 1000, 1, 1)?;
-    Ok(Node::Coordinator(coordinator))
+fn coordinator_of(rt: &impl Abort, alloc: Global, input: &[u8]) -> Node {
+    let formula = formula_of(rt, alloc, input);
+    let tree = Tree::leaf(alloc).expect(rt, "memory");
+    let coordinator = Coordinator::new(alloc, formula, tree, 1000, 1, 1).expect(rt, "memory");
+    Node::Coordinator(coordinator)
 }
 
-fn worker_of(alloc: Global, input: &[u8]) -> Result<Node, Fail> {
-    let worker = Worker::new(alloc, formula_of(alloc, input)?, WorkerNumber::new(1), 1)?;
-    Ok(Node::Worker(worker))
+fn worker_of(rt: &impl Abort, alloc: Global, input: &[u8]) -> Node {
+    let formula = formula_of(rt, alloc, input);
+    let worker = Worker::new(alloc, formula, WorkerNumber::new(1), 1).expect(rt, "memory");
+    Node::Worker(worker)
 }
 
 /// Node 0 is a coordinator of one worker and one leaf, node 1 its worker.
-pub(crate) fn cluster_of(alloc: Global, input: &[u8]) -> Result<OpenCluster, Fail> {
+pub(crate) fn cluster_of(rt: &impl Abort, alloc: Global, input: &[u8]) -> OpenCluster {
     let mut nodes = Vec::new(alloc);
-    nodes.push(coordinator_of(alloc, input)?)?;
-    nodes.push(worker_of(alloc, input)?)?;
-    Ok(OpenCluster::new(alloc, nodes))
+    nodes
+        .push(coordinator_of(rt, alloc, input))
+        .expect(rt, "memory");
+    nodes.push(worker_of(rt, alloc, input)).expect(rt, "memory");
+    OpenCluster::new(alloc, nodes)
 }
 
 fn spelled(rt: &impl Abort, alloc: Global, frame: &Frame) -> Vec<u8> {
@@ -114,8 +117,8 @@ fn joined(rt: &impl Abort, alloc: Global, front: &[u8], back: &[u8]) -> Vec<u8> 
 }
 
 #[test]
-fn bytes_without_a_whole_frame_are_ignored(rt: HostRuntime) -> Result<(), Fail> {
-    let mut cluster = cluster_of(rt.alloc(), UNITS)?;
+fn bytes_without_a_whole_frame_are_ignored(rt: HostRuntime) {
+    let mut cluster = cluster_of(&rt, rt.alloc(), UNITS);
     for (node, front, back, wanted) in &ROWS {
         let bytes = joined(&rt, rt.alloc(), *front, *back);
         assert_eq!(&rt;
@@ -123,7 +126,6 @@ fn bytes_without_a_whole_frame_are_ignored(rt: HostRuntime) -> Result<(), Fail> 
             *wanted
         );
     }
-    Ok(())
 }
 
 /// Bytes that come to the worker.
@@ -148,12 +150,11 @@ fn events_of(rt: &impl Abort, alloc: Global, frame: &Frame) -> Vec<OpenEvent> {
 }
 
 #[test]
-fn a_run_is_its_events_in_turn(rt: HostRuntime) -> Result<(), Fail> {
+fn a_run_is_its_events_in_turn(rt: HostRuntime) {
     let a = rt.alloc();
     let part = part_of(&rt, a, Answer::Assignment, &[1, 0]);
     let events = events_of(&rt, a, &part);
-    let mut cluster = cluster_of(a, UNITS)?;
+    let mut cluster = cluster_of(&rt, a, UNITS);
     cluster.run(&events);
     assert!(rt; matches!(cluster.verdict(1), Some(Verdict::Model(_))));
-    Ok(())
 }

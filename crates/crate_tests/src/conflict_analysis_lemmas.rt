@@ -6,11 +6,10 @@ ghost use Rattle.dimacs.specs.logic.Literal.{Pos, Neg};
 ghost use Rattle.conflict_analysis.specs.Built.{AreInside};
 
 use clause_arena::Arena;
-use conflict_analysis::{Analyser, Closing, analyse, close_cube};
+use conflict_analysis::{Analyser, Closing, Lemma, analyse, close_cube};
 use dimacs::{Lit, Var};
 use std::alloc::{AllocError, Global};
 use std::process::Abort;
-use std::test::Fail;
 use watches::{Assigned, Trail};
 
 fn pos(number: u32) -> Lit
@@ -60,40 +59,61 @@ fn small_trail(alloc: Global) -> Result<Trail, AllocError>
     Ok(trail)
 }
 
-#[test]
-fn a_decision_that_implies_a_conflict_is_refused(rt: HostRuntime) -> Result<(), Fail> {
-    let arena = two_clauses(rt.alloc())?;
-    let trail = small_trail(rt.alloc())?;
-    let lemma = analyse(rt.alloc(), &arena, &trail, 2)?;
-    assert_eq!(rt; lemma.lits.as_slice(), [neg(1)].as_slice());
-    assert_eq!(rt; lemma.hints.as_slice(), [1, 2].as_slice());
+/// What the second clause teaches, which is false.
+fn analysed(alloc: Global) -> Result<Lemma, AllocError> {
+    let arena = two_clauses(alloc)?;
+    let trail = small_trail(alloc)?;
+    analyse(alloc, &arena, &trail, 2)
+}
+
+fn is_learnt(rt: &impl Abort, lemma: &Lemma, lits: &[Lit], hints: &[u64]) {
+    assert_eq!(rt; lemma.lits.as_slice(), lits);
+    assert_eq!(rt; lemma.hints.as_slice(), hints);
     assert_eq!(rt; lemma.level, 0);
-    Ok(())
+}
+
+#[test]
+fn a_decision_that_implies_a_conflict_is_refused(rt: HostRuntime) {
+    let lemma = analysed(rt.alloc()).expect(&rt, "memory");
+    is_learnt(&rt, &lemma, &[neg(1)], &[1, 2]);
+}
+
+/// An analyser behind the same.
+fn analyser_behind(alloc: Global) -> Result<Analyser, AllocError> {
+    let arena = two_clauses(alloc)?;
+    let trail = small_trail(alloc)?;
+    let mut analyser = Analyser::new(alloc);
+    let _lemma = analyser.analyse(&arena, &trail, 2)?;
+    Ok(analyser)
 }
 
 /// The false clause has both variables, and so has the reason that is resolved.
 #[test]
-fn variables_of_two_clauses_are_met_again(rt: HostRuntime) -> Result<(), Fail> {
-    let arena = two_clauses(rt.alloc())?;
-    let trail = small_trail(rt.alloc())?;
-    let mut analyser = Analyser::new(rt.alloc());
-    let _lemma = analyser.analyse(&arena, &trail, 2)?;
+fn variables_of_two_clauses_are_met_again(rt: HostRuntime) {
+    let analyser = analyser_behind(rt.alloc()).expect(&rt, "memory");
     let both = [Var::new(1), Var::new(2)];
     assert_eq!(rt; analyser.met(), both.as_slice());
     assert_eq!(rt; analyser.met_again(), both.as_slice());
-    Ok(())
+}
+
+/// The clause that closes a cube by the false clause.
+fn closed_by_clause(alloc: Global) -> Result<Lemma, AllocError> {
+    let arena = two_clauses(alloc)?;
+    let trail = small_trail(alloc)?;
+    close_cube(alloc, &arena, &trail, Closing::Clause(2))
+}
+
+/// The same by the assumption that 2 is false.
+fn closed_by_assumption(alloc: Global) -> Result<Lemma, AllocError> {
+    let arena = two_clauses(alloc)?;
+    let trail = small_trail(alloc)?;
+    close_cube(alloc, &arena, &trail, Closing::Assumption(neg(2)))
 }
 
 #[test]
-fn a_cube_is_closed_by_its_decisions_or_a_false_assumption(rt: HostRuntime) -> Result<(), Fail> {
-    let arena = two_clauses(rt.alloc())?;
-    let trail = small_trail(rt.alloc())?;
-    let lemma = close_cube(rt.alloc(), &arena, &trail, Closing::Clause(2))?;
-    assert_eq!(rt; lemma.lits.as_slice(), [neg(1)].as_slice());
-    assert_eq!(rt; lemma.hints.as_slice(), [1, 2].as_slice());
-    assert_eq!(rt; lemma.level, 0);
-    let lemma = close_cube(rt.alloc(), &arena, &trail, Closing::Assumption(neg(2)))?;
-    assert_eq!(rt; lemma.lits.as_slice(), [pos(2), neg(1)].as_slice());
-    assert_eq!(rt; lemma.hints.as_slice(), [1].as_slice());
-    Ok(())
+fn a_cube_is_closed_by_its_decisions_or_a_false_assumption(rt: HostRuntime) {
+    let lemma = closed_by_clause(rt.alloc()).expect(&rt, "memory");
+    is_learnt(&rt, &lemma, &[neg(1)], &[1, 2]);
+    let lemma = closed_by_assumption(rt.alloc()).expect(&rt, "memory");
+    is_learnt(&rt, &lemma, &[pos(2), neg(1)], &[1]);
 }

@@ -1,7 +1,7 @@
 //! A coordinator, frame by frame.
 
 use crate::inputs::{FOUR, UNITS};
-use crate::told::{Found, Told, are_alike, formula_of, frame_of, polled, worker_of};
+use crate::told::{Found, Told, formula_of, hears, says, worker_of};
 use coordinator_core::Coordinator;
 use dimacs::Var;
 use frames::Answer;
@@ -9,7 +9,6 @@ use icnf::Tree;
 use lrat_check::{Reaction, Verdict, check};
 use std::alloc::Global;
 use std::process::Abort;
-use std::test::Fail;
 
 /// A fragment that closes the leaf of the literal 1.
 const LEFT: &[u8] = b"5 -1 0 2 4 0\n";
@@ -53,6 +52,14 @@ fn text_of(coordinator: &Coordinator) -> &[u8] {
     }
 }
 
+fn advance(rt: &impl Abort, coordinator: &mut Coordinator, wanted: bool) {
+    assert_eq!(rt; coordinator.advance(), wanted);
+}
+
+fn holds(rt: &impl Abort, coordinator: &Coordinator, text: &[u8]) {
+    assert_eq!(rt; text_of(coordinator), text);
+}
+
 /// Plays a turn. Answers the session behind it.
 fn play_turn(
     rt: &impl Abort,
@@ -60,71 +67,51 @@ fn play_turn(
     coordinator: &mut Coordinator,
     session: u64,
     turn: Turn,
-) -> Result<u64, Fail> {
+) -> u64 {
     match turn {
-        Turn::Comes(told, wanted) => {
-            let frame = frame_of(rt, alloc, session, told)?;
-            assert_eq!(rt; coordinator.deliver(&frame), wanted);
-        }
-        Turn::Says(worker, told) => {
-            let frame = frame_of(rt, alloc, session, told)?;
-            assert!(rt; are_alike(&polled(rt, coordinator, worker)?, &frame));
-        }
+        Turn::Comes(told, wanted) => hears(rt, alloc, coordinator, session, told, wanted),
+        Turn::Says(worker, told) => says(rt, alloc, coordinator, session, worker, told),
         Turn::Lost(worker) => coordinator.lost(worker_of(rt, worker)),
-        Turn::Joins(wanted) => {
-            let joins = coordinator.advance();
-            assert_eq!(rt; joins, wanted);
-        }
+        Turn::Joins(wanted) => advance(rt, coordinator, wanted),
         Turn::Restarts(number) => {
-            coordinator.restart(number)?;
-            return Ok(number);
+            coordinator.restart(number).expect(rt, "memory");
+            return number;
         }
-        Turn::Holds(text) => assert_eq!(rt; text_of(coordinator), text),
+        Turn::Holds(text) => holds(rt, coordinator, text),
     }
-    Ok(session)
+    session
 }
 
 /// Plays one turn after the other, from session 1 on.
-fn play(
-    rt: &impl Abort,
-    alloc: Global,
-    coordinator: &mut Coordinator,
-    turns: &[Turn],
-) -> Result<(), Fail> {
+fn play(rt: &impl Abort, alloc: Global, coordinator: &mut Coordinator, turns: &[Turn]) {
     let mut session = 1;
     for turn in turns {
-        session = play_turn(rt, alloc, coordinator, session, *turn)?;
+        session = play_turn(rt, alloc, coordinator, session, *turn);
     }
-    Ok(())
 }
 
 /// Plays turns to a coordinator of one worker, and one leaf of no literal.
-fn of_one_leaf(
-    rt: &impl Abort,
-    alloc: Global,
-    input: &[u8],
-    turns: &[Turn],
-) -> Result<Coordinator, Fail> {
-    let formula = formula_of(alloc, input)?;
-    let tree = Tree::leaf(alloc)?;
-    let mut coordinator = Coordinator::new(alloc, formula, tree, 1000, 1, 1)?;
-    play(rt, alloc, &mut coordinator, turns)?;
-    Ok(coordinator)
+fn of_one_leaf(rt: &impl Abort, alloc: Global, input: &[u8], turns: &[Turn]) -> Coordinator {
+    let formula = formula_of(rt, alloc, input);
+    let tree = Tree::leaf(alloc).expect(rt, "memory");
+    let mut coordinator = Coordinator::new(alloc, formula, tree, 1000, 1, 1).expect(rt, "memory");
+    play(rt, alloc, &mut coordinator, turns);
+    coordinator
 }
 
 /// Two workers, and the leaves 1 and -1 of the four clauses.
-fn two_leaves(rt: &impl Abort, alloc: Global) -> Result<Coordinator, Fail> {
-    let formula = formula_of(alloc, FOUR)?;
-    let mut tree = Tree::leaf(alloc)?;
-    tree.split(0, Var::new(1))?;
+fn two_leaves(rt: &impl Abort, alloc: Global) -> Coordinator {
+    let formula = formula_of(rt, alloc, FOUR);
+    let mut tree = Tree::leaf(alloc).expect(rt, "memory");
+    tree.split(0, Var::new(1)).expect(rt, "memory");
     assert!(rt; formula.vars() >= 1);
-    Ok(Coordinator::new(alloc, formula, tree, 1000, 2, 1)?)
+    Coordinator::new(alloc, formula, tree, 1000, 2, 1).expect(rt, "memory")
 }
 
-fn of_two_leaves(rt: &impl Abort, alloc: Global, turns: &[Turn]) -> Result<Coordinator, Fail> {
-    let mut coordinator = two_leaves(rt, alloc)?;
-    play(rt, alloc, &mut coordinator, turns)?;
-    Ok(coordinator)
+fn of_two_leaves(rt: &impl Abort, alloc: Global, turns: &[Turn]) -> Coordinator {
+    let mut coordinator = two_leaves(rt, alloc);
+    play(rt, alloc, &mut coordinator, turns);
+    coordinator
 }
 
 const AN_ASSIGNMENT: &[Turn] = &[
@@ -145,10 +132,9 @@ const AN_ASSIGNMENT: &[Turn] = &[
 ];
 
 #[test]
-fn an_assignment_is_fetched_and_held(rt: HostRuntime) -> Result<(), Fail> {
-    let coordinator = of_one_leaf(&rt, rt.alloc(), UNITS, AN_ASSIGNMENT)?;
+fn an_assignment_is_fetched_and_held(rt: HostRuntime) {
+    let coordinator = of_one_leaf(&rt, rt.alloc(), UNITS, AN_ASSIGNMENT);
     assert!(rt; matches!(coordinator.verdict(), Verdict::Model(_)));
-    Ok(())
 }
 
 const LIMITS: &[Turn] = &[
@@ -163,10 +149,9 @@ const LIMITS: &[Turn] = &[
 ];
 
 #[test]
-fn a_leaf_whose_search_met_its_limit_is_split(rt: HostRuntime) -> Result<(), Fail> {
-    let coordinator = of_one_leaf(&rt, rt.alloc(), FOUR, LIMITS)?;
+fn a_leaf_whose_search_met_its_limit_is_split(rt: HostRuntime) {
+    let coordinator = of_one_leaf(&rt, rt.alloc(), FOUR, LIMITS);
     assert!(rt; coordinator.stuck());
-    Ok(())
 }
 
 /// The leaf 1 is split while the leaf -1 is closed, and each leaf is joined as soon as those in front of it are.
@@ -211,13 +196,12 @@ const UNJOINED: &[Turn] = &[
 ];
 
 #[test]
-fn leaves_are_split_and_joined_while_others_are_open(rt: HostRuntime) -> Result<(), Fail> {
-    let formula = formula_of(rt.alloc(), FOUR)?;
+fn leaves_are_split_and_joined_while_others_are_open(rt: HostRuntime) {
+    let formula = formula_of(&rt, rt.alloc(), FOUR);
     for turns in [OPEN_LEAVES, UNJOINED] {
-        let coordinator = of_two_leaves(&rt, rt.alloc(), turns)?;
+        let coordinator = of_two_leaves(&rt, rt.alloc(), turns);
         assert!(rt; check(rt.alloc(), &formula, text_of(&coordinator)).is_ok());
     }
-    Ok(())
 }
 
 /// One leaf is closed and joined, then both, and nothing is left of either.
@@ -248,9 +232,8 @@ const RESTARTS: &[Turn] = &[
 ];
 
 #[test]
-fn a_restart_drops_the_verdict_and_what_was_joined(rt: HostRuntime) -> Result<(), Fail> {
-    of_two_leaves(&rt, rt.alloc(), RESTARTS)?;
-    Ok(())
+fn a_restart_drops_the_verdict_and_what_was_joined(rt: HostRuntime) {
+    of_two_leaves(&rt, rt.alloc(), RESTARTS);
 }
 
 const HANDED_OUT: &[Turn] = &[
@@ -273,11 +256,10 @@ const HANDED_OUT: &[Turn] = &[
 
 /// A frame of another session is ignored.
 #[test]
-fn fragments_are_joined_and_handed_out(rt: HostRuntime) -> Result<(), Fail> {
-    let mut coordinator = of_two_leaves(&rt, rt.alloc(), HANDED_OUT)?;
+fn fragments_are_joined_and_handed_out(rt: HostRuntime) {
+    let mut coordinator = of_two_leaves(&rt, rt.alloc(), HANDED_OUT);
     let want = Turn::Comes(Told::Want(1, 0), Reaction::Ignored);
-    play_turn(&rt, rt.alloc(), &mut coordinator, 2, want)?;
-    Ok(())
+    play_turn(&rt, rt.alloc(), &mut coordinator, 2, want);
 }
 
 const LOST_LINKS: &[Turn] = &[
@@ -294,7 +276,6 @@ const LOST_LINKS: &[Turn] = &[
 ];
 
 #[test]
-fn a_lost_link_opens_the_leaf(rt: HostRuntime) -> Result<(), Fail> {
-    of_two_leaves(&rt, rt.alloc(), LOST_LINKS)?;
-    Ok(())
+fn a_lost_link_opens_the_leaf(rt: HostRuntime) {
+    of_two_leaves(&rt, rt.alloc(), LOST_LINKS);
 }

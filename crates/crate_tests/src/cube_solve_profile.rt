@@ -1,6 +1,6 @@
 //! What a search chooses where its contract leaves it free, told by its log.
 
-use crate::cube_solve_searches::{base_of, log_of, solve_alone};
+use crate::cube_solve_searches::{base_of, log_at};
 use dimacs::Base;
 use lrat_text::{StepBuffer, StepRef, cut_line, read_line};
 use std::alloc::{AllocError, Global};
@@ -90,8 +90,32 @@ impl Told {
     }
 }
 
+/// Takes a line of a log, of which a deletion is that of the half of its lemmas that was used least. Whether it is a deletion.
+fn take_line(
+    rt: &impl Abort,
+    alloc: Global,
+    told: &mut Told,
+    step: &mut StepBuffer,
+    line: &[u8],
+) -> bool {
+    assert!(rt; read_line(step, line).is_ok());
+    match step.as_ref() {
+        StepRef::Add { lits, hints, .. } => {
+            told.use_all(hints);
+            told.learn(lits.len()).expect(rt, "memory");
+            false
+        }
+        StepRef::Delete { ids } => {
+            let least = told.least_used(alloc).expect(rt, "memory");
+            assert_eq!(rt; least.as_slice(), ids);
+            told.delete(ids);
+            true
+        }
+    }
+}
+
 /// Each deletion of a log is that of the half of its lemmas that was used least: how many deletions there are.
-fn deletions_of(rt: &impl Abort, alloc: Global, log: &[u8]) -> Result<u32, Fail> {
+fn deletions_of(rt: &impl Abort, alloc: Global, log: &[u8]) -> u32 {
     let mut told = Told {
         uses: Vec::new(alloc),
         may_go: Vec::new(alloc),
@@ -103,30 +127,23 @@ fn deletions_of(rt: &impl Abort, alloc: Global, log: &[u8]) -> Result<u32, Fail>
         let Some((line, later)) = cut_line(rest) else {
             break;
         };
-        read_line(&mut step, line)?;
-        match step.as_ref() {
-            StepRef::Add { lits, hints, .. } => {
-                told.use_all(hints);
-                told.learn(lits.len())?;
-            }
-            StepRef::Delete { ids } => {
-                assert_eq!(rt; told.least_used(alloc)?.as_slice(), ids);
-                told.delete(ids);
-                deletions = deletions.saturating_add(1);
-            }
+        if take_line(rt, alloc, &mut told, &mut step, line) {
+            deletions = deletions.saturating_add(1);
         }
         rest = later;
     }
-    Ok(deletions)
+    deletions
+}
+
+fn pigeons_base(alloc: Global) -> Result<Base, Fail> {
+    base_of(alloc, pigeons(alloc)?.as_str().as_bytes())
 }
 
 #[test]
 fn the_half_that_is_used_least_is_forgotten(rt: HostRuntime) -> Result<(), Fail> {
-    let a = rt.alloc();
-    let base = base_of(a, pigeons(a)?.as_str().as_bytes())?;
-    let log = log_of(a, solve_alone(a, &base, 2400)?)?;
-    let deletions = deletions_of(&rt, a, &log)?;
-    assert_eq!(rt; deletions, 1);
+    let base = pigeons_base(rt.alloc())?;
+    let log = log_at(&rt, rt.alloc(), &base, 2400);
+    assert_eq!(rt; deletions_of(&rt, rt.alloc(), &log), 1);
     Ok(())
 }
 
@@ -140,31 +157,25 @@ fn digest_of(text: &[u8]) -> u64 {
 }
 
 /// The digest of a search's log at a limit.
-fn course(alloc: Global, base: &Base, limit: u64) -> Result<u64, Fail> {
-    let log = log_of(alloc, solve_alone(alloc, base, limit)?)?;
-    Ok(digest_of(&log))
+fn course(rt: &impl Abort, alloc: Global, base: &Base, limit: u64) -> u64 {
+    digest_of(&log_at(rt, alloc, base, limit))
 }
 
-/// One search up to its first restart, behind it, behind the halving of scores, and behind the first deletion. The digests change where a search bumps,
-/// saves values, minimises, restarts, halves or forgets in another way.
+/// Limits of one search, and the digests there: up to its first restart, behind it, behind the halving of scores, and behind the first
+/// deletion.
+const COURSE: [(u64, u64); 4] = [
+    (100, 12731132725673882632),
+    (200, 177985762162999382),
+    (300, 4211408503376531513),
+    (2500, 14247880585096759520),
+];
+
+/// The digests change where a search bumps, saves values, minimises, restarts, halves or forgets in another way.
 #[test]
 fn a_search_takes_its_course(rt: HostRuntime) -> Result<(), Fail> {
-    let a = rt.alloc();
-    let base = base_of(a, pigeons(a)?.as_str().as_bytes())?;
-    let digests = [
-        course(a, &base, 100)?,
-        course(a, &base, 200)?,
-        course(a, &base, 300)?,
-        course(a, &base, 2500)?,
-    ];
-    assert_eq!(rt;
-        digests,
-        [
-            12731132725673882632,
-            177985762162999382,
-            4211408503376531513,
-            14247880585096759520
-        ]
-    );
+    let base = pigeons_base(rt.alloc())?;
+    for (limit, digest) in &COURSE {
+        assert_eq!(&rt; course(&rt, rt.alloc(), &base, *limit), *digest);
+    }
     Ok(())
 }

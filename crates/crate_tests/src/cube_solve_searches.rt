@@ -30,7 +30,7 @@ pub(crate) fn base_of(alloc: Global, text: &[u8]) -> Result<Base, Fail> {
     Ok(base)
 }
 
-pub(crate) fn solve_alone(alloc: Global, base: &Base, limit: u64) -> Result<Outcome, AllocError> {
+fn solve_alone(alloc: Global, base: &Base, limit: u64) -> Result<Outcome, AllocError> {
     solve(alloc, base, &[], limit)
 }
 
@@ -148,23 +148,33 @@ fn a_limit_of_0_ends_at_the_first_conflict(rt: HostRuntime) -> Result<(), Fail> 
 }
 
 /// The log of a search at its limit.
-pub(crate) fn log_of(alloc: Global, outcome: Outcome) -> Result<Vec<u8>, Fail> {
+fn log_of(rt: &impl Abort, alloc: Global, outcome: Outcome) -> Vec<u8> {
     match outcome {
-        Outcome::Model(_) => Err(Fail::from("no log")),
-        Outcome::Refuted(text) => Ok(text.to_text(alloc)?),
-        Outcome::Limit(text) => Ok(text.to_text(alloc)?),
+        Outcome::Model(_) => panic!(rt; "no log"),
+        Outcome::Refuted(text) => text.to_text(alloc).expect(rt, "memory"),
+        Outcome::Limit(text) => text.to_text(alloc).expect(rt, "memory"),
     }
+}
+
+/// The log of a search over a base, up to a limit.
+pub(crate) fn log_at(rt: &impl Abort, alloc: Global, base: &Base, limit: u64) -> Vec<u8> {
+    let outcome = solve_alone(alloc, base, limit).expect(rt, "memory");
+    log_of(rt, alloc, outcome)
+}
+
+/// A log has so many lines, and another one goes on behind it.
+fn begins(rt: &impl Abort, log: &[u8], lines: u64, longer: &[u8]) {
+    assert_eq!(rt; log.iter().filter(|b| **b == b'\n').count() as u64, lines);
+    assert!(rt; longer.starts_with(log) && log.len() < longer.len());
 }
 
 #[test]
 fn a_log_has_as_many_lemmas_as_the_limit(rt: HostRuntime) -> Result<(), Fail> {
     let base = base_of(rt.alloc(), EIGHT)?;
-    let all = log_of(rt.alloc(), solve_alone(rt.alloc(), &base, 19)?)?;
+    let all = log_at(&rt, rt.alloc(), &base, 19);
     for limit in 1..3u64 {
-        let log = log_of(rt.alloc(), solve_alone(rt.alloc(), &base, limit)?)?;
-        assert_eq!(rt; log.iter().filter(|b| **b == b'\n').count() as u64, limit);
-        assert!(rt; all.starts_with(&log));
-        assert!(rt; log.len() < all.len());
+        let log = log_at(&rt, rt.alloc(), &base, limit);
+        begins(&rt, &log, limit, &all);
     }
     Ok(())
 }

@@ -4,7 +4,7 @@ ghost use Rattle.std.specs.Prelude.{◌≤◌};
 
 use crate::inputs::{FOUR, literal_of};
 use cube_split::{Chooser, preamble_with};
-use dimacs::{Formula, Lit, Var, read};
+use dimacs::{Base, Formula, Lit, read};
 use std::alloc::Global;
 use std::process::Abort;
 
@@ -51,18 +51,29 @@ fn ties_go_to_the_lower_variables_and_the_positive_literals(rt: HostRuntime) {
     }
 }
 
+/// The clauses of a base from a place on, with a 0 behind each.
+fn clauses_from(rt: &impl Abort, alloc: Global, base: &Base, place: usize) -> Vec<i32> {
+    let mut numbers = Vec::new(alloc);
+    for i in place..base.len() {
+        for literal in base.clause(i) {
+            numbers.push(literal.number()).expect(rt, "memory");
+        }
+        numbers.push(0).expect(rt, "memory");
+    }
+    numbers
+}
+
 #[test]
 fn a_base_has_three_clauses_for_a_definition(rt: HostRuntime) {
     let formula = read(rt.alloc(), FOUR).expect(&rt, "a formula");
     let made = preamble_with(rt.alloc(), &formula, 1).expect(&rt, "memory");
     let base = made.base(rt.alloc(), &formula).expect(&rt, "memory");
-    let one = Lit::positive(Var::new(1));
-    let two = Lit::positive(Var::new(2));
-    let defined = Lit::positive(Var::new(3));
-    assert_eq!(rt; (base.vars(), base.len()), (3, 7));
-    assert!(rt; base.clause(4) == [defined, one.negate(), two.negate()].as_slice());
-    assert!(rt; base.clause(5) == [defined.negate(), one].as_slice());
-    assert!(rt; base.clause(6) == [defined.negate(), two].as_slice());
+    assert_eq!(rt; base.vars(), 3);
+    let clauses = clauses_from(&rt, rt.alloc(), &base, 4);
+    assert_eq!(rt;
+        clauses.as_slice(),
+        [3, -1, -2, 0, -3, 1, 0, -3, 2, 0].as_slice()
+    );
 }
 
 /// The variable that is chosen for a cube over definitions, 0 where there is none.
@@ -78,22 +89,30 @@ fn chosen(rt: &impl Abort, alloc: Global, formula: &Formula, defs: u32, cube: &[
     }
 }
 
-/// How many pairs are defined, a literal that holds, and the variable that is chosen.
-const CHOICES: [(u32, i32, u32); 3] = [
+/// How many pairs are defined, literals that hold, and the variable that is chosen.
+const CHOICES: [(u32, &'static [i32], u32); 5] = [
+    (1, &[], 3),
+    (0, &[], 1),
     // With the defined variable both of its literals hold, and no clause is open.
-    (1, 3, 0),
-    (1, -3, 1),
-    (1, 1, 2),
+    (1, &[3], 0),
+    (1, &[-3], 1),
+    (1, &[1], 2),
 ];
+
+fn literals_of(rt: &impl Abort, alloc: Global, numbers: &[i32]) -> Vec<Lit> {
+    let mut literals = Vec::new(alloc);
+    for number in numbers {
+        literals.push(literal_of(rt, *number)).expect(rt, "memory");
+    }
+    literals
+}
 
 #[test]
 fn a_defined_variable_is_chosen_first_while_nothing_is_known_of_it(rt: HostRuntime) {
     let formula = read(rt.alloc(), FOUR).expect(&rt, "a formula");
-    assert_eq!(rt; chosen(&rt, rt.alloc(), &formula, 1, &[]), 3);
-    assert_eq!(rt; chosen(&rt, rt.alloc(), &formula, 0, &[]), 1);
-    for (defs, number, want) in &CHOICES {
+    for (defs, numbers, want) in &CHOICES {
         assert!(&rt; *defs <= 64);
-        let literal = literal_of(&rt, *number);
-        assert_eq!(&rt; chosen(&rt, rt.alloc(), &formula, *defs, &[literal]), *want);
+        let cube = literals_of(&rt, rt.alloc(), *numbers);
+        assert_eq!(&rt; chosen(&rt, rt.alloc(), &formula, *defs, &cube), *want);
     }
 }

@@ -6,7 +6,6 @@ use frames::{
 };
 use std::alloc::Global;
 use std::process::Abort;
-use std::test::Fail;
 
 const TASK: [u8; 37] = [
     0x43, 0x43, 0x01, 0x00, 0x20, 0, 0, 0, 0, 0, 0, 0, 1, 0, 0, 0, 0, 0, 0, 0, 2, 0, 0, 0, 0, 0, 0,
@@ -49,7 +48,58 @@ fn are_spelled(frames: &[Frame], bytes: &[u8]) -> bool {
     rest.is_empty()
 }
 
-/// Reads a stream whose fault, if it has one, comes with its last byte: cut in two at each place, and byte by byte.
+/// Bytes come to a reader, which is to answer so.
+fn feed(
+    rt: &impl Abort,
+    alloc: Global,
+    reader: &mut Reader,
+    bytes: &[u8],
+    frames: &mut Vec<Frame>,
+    wanted: Result<(), FrameFault>,
+) {
+    assert_eq!(rt; reader.feed(alloc, bytes, frames), wanted);
+}
+
+/// Reads a stream whose fault, if it has one, comes with its last byte, cut in two at a place.
+fn read_in_two(
+    rt: &impl Abort,
+    alloc: Global,
+    front: &[u8],
+    back: &[u8],
+    whole: &[u8],
+    wanted: Result<(), FrameFault>,
+) {
+    let mut reader = Reader::new(alloc).expect(rt, "memory");
+    let mut frames = Vec::new(alloc);
+    let early = if back.is_empty() { wanted } else { Ok(()) };
+    feed(rt, alloc, &mut reader, front, &mut frames, early);
+    feed(rt, alloc, &mut reader, back, &mut frames, wanted);
+    if wanted.is_err() {
+        feed(rt, alloc, &mut reader, &REST, &mut frames, wanted);
+    }
+    assert!(rt; are_spelled(&frames, whole), "cut at {}", front.len());
+}
+
+/// The same byte by byte.
+fn read_bytewise(
+    rt: &impl Abort,
+    alloc: Global,
+    stream: &[u8],
+    whole: &[u8],
+    wanted: Result<(), FrameFault>,
+) {
+    let mut reader = Reader::new(alloc).expect(rt, "memory");
+    let mut frames = Vec::new(alloc);
+    let mut last = Ok(());
+    for byte in stream {
+        assert!(rt; last.is_ok());
+        last = reader.feed(alloc, &[*byte], &mut frames);
+    }
+    assert_eq!(rt; last, wanted);
+    assert!(rt; are_spelled(&frames, whole));
+}
+
+/// Reads it cut in two at each place, and byte by byte.
 fn read_in_all_cuttings(
     rt: &impl Abort,
     alloc: Global,
@@ -58,26 +108,9 @@ fn read_in_all_cuttings(
     wanted: Result<(), FrameFault>,
 ) {
     for cut in 0..stream.len() + 1 {
-        let mut reader = Reader::new(alloc).expect(rt, "memory");
-        let mut frames = Vec::new(alloc);
-        let early = reader.feed(alloc, &stream[..cut], &mut frames);
-        assert_eq!(rt; early, if cut < stream.len() { Ok(()) } else { wanted });
-        assert_eq!(rt; reader.feed(alloc, &stream[cut..], &mut frames), wanted);
-        if wanted.is_err() {
-            assert_eq!(rt; reader.feed(alloc, &REST, &mut frames), wanted);
-        }
-        assert!(rt; are_spelled(&frames, whole), "cut at {cut}");
+        read_in_two(rt, alloc, &stream[..cut], &stream[cut..], whole, wanted);
     }
-
-    let mut reader = Reader::new(alloc).expect(rt, "memory");
-    let mut frames = Vec::new(alloc);
-    let mut last = Ok(());
-    for byte in stream {
-        assert_eq!(rt; last, Ok(()));
-        last = reader.feed(alloc, &[*byte], &mut frames);
-    }
-    assert_eq!(rt; last, wanted);
-    assert!(rt; are_spelled(&frames, whole));
+    read_bytewise(rt, alloc, stream, whole, wanted);
 }
 
 fn joined(rt: &impl Abort, alloc: Global, spellings: &[&[u8]]) -> Vec<u8> {
@@ -145,21 +178,21 @@ fn faults_come_with_their_byte(rt: HostRuntime) {
     }
 }
 
-#[test]
-fn fields_are_written_in_their_places(rt: HostRuntime) -> Result<(), Fail> {
-    let alloc = rt.alloc();
+fn task(rt: &impl Abort, alloc: Global) -> Frame {
     let mut cube = Cube::new(alloc);
     for literal in [Lit::positive(Var::new(1)), Lit::negative(Var::new(2))] {
         assert!(rt; cube.takes(literal));
-        cube.push(literal)?;
+        cube.push(literal).expect(rt, "memory");
     }
-    let task = Frame::Task {
+    Frame::Task {
         session: 1,
         job: 2,
         limit: 3,
         cube,
-    };
-    assert!(rt; is_spelled(&task, &TASK));
+    }
+}
+
+fn done() -> Frame {
     let attempt = Attempt {
         session: 1,
         job: 1,
@@ -167,20 +200,31 @@ fn fields_are_written_in_their_places(rt: HostRuntime) -> Result<(), Fail> {
         incarnation: 1,
     };
     let ending = Ending::Decided(Finding::Assignment { length: 2 });
-    assert!(rt; is_spelled(&Frame::Done { attempt, ending }, &DONE));
-    let want = Frame::Want {
+    Frame::Done { attempt, ending }
+}
+
+fn want() -> Frame {
+    Frame::Want {
         session: 1,
         worker: WorkerNumber::new(2),
         offset: 4000,
-    };
-    assert!(rt; is_spelled(&want, &WANT));
-    let idle = Frame::Idle {
+    }
+}
+
+fn idle() -> Frame {
+    Frame::Idle {
         worker: WorkerNumber::new(64),
         incarnation: 7,
-    };
-    assert!(rt; is_spelled(&idle, &IDLE));
+    }
+}
+
+#[test]
+fn fields_are_written_in_their_places(rt: HostRuntime) {
+    assert!(rt; is_spelled(&task(&rt, rt.alloc()), &TASK));
+    assert!(rt; is_spelled(&done(), &DONE));
+    assert!(rt; is_spelled(&want(), &WANT));
+    assert!(rt; is_spelled(&idle(), &IDLE));
     assert!(rt; is_spelled(&Frame::Rest, &REST));
-    Ok(())
 }
 
 #[test]

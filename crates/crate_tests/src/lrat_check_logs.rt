@@ -1,9 +1,11 @@
 //! Logs over a formula, line by line and one after the other.
 
 use crate::inputs::FOUR;
-use dimacs::{Lit, read};
+use dimacs::read;
 use lrat_check::{CheckFault, LogChecker, check_log};
 use lrat_text::{StepRef, take_lines};
+use std::alloc::Global;
+use std::process::Abort;
 use std::test::Fail;
 
 /// A text, and its fault's number and line: 0 where it is a log.
@@ -48,6 +50,12 @@ fn taken(checker: &mut LogChecker, text: &[u8]) -> Result<(), CheckFault> {
     }
 }
 
+/// A checker has the four clauses alone, and stands at the first line.
+fn is_begun(rt: &impl Abort, checker: &LogChecker) {
+    assert_eq!(rt; (checker.base(), checker.top(), checker.line()), (4, 4, 1));
+    assert!(rt; checker.clause(5).is_none() && checker.clause(4).is_some());
+}
+
 #[test]
 fn logs_are_checked_one_after_the_other(rt: HostRuntime) -> Result<(), Fail> {
     let formula = read(rt.alloc(), FOUR)?;
@@ -56,26 +64,43 @@ fn logs_are_checked_one_after_the_other(rt: HostRuntime) -> Result<(), Fail> {
     for (text, want) in &ROWS {
         assert_eq!(&rt; told(taken(&mut checker, *text)), *want);
         checker.begin();
-        assert_eq!(rt; (checker.base(), checker.top(), checker.line()), (4, 4, 1));
-        assert_eq!(rt; checker.clause(5).is_some(), false);
-        assert_eq!(rt; checker.clause(4).is_some(), true);
+        is_begun(&rt, &checker);
     }
     Ok(())
 }
 
-#[test]
-fn what_was_taken_is_lent(rt: HostRuntime) -> Result<(), Fail> {
-    let formula = read(rt.alloc(), FOUR)?;
-    let mut checker = LogChecker::of(rt.alloc(), formula)?;
-    checker.take(b"5 -1 0 2 4 0")?;
-    match checker.step() {
-        StepRef::Add { id, lits, .. } => {
-            assert_eq!(&rt; id, 5);
-            assert_eq!(&rt; lits.first().map(|l: &Lit| l.number()), Some(-1));
-        }
-        StepRef::Delete { .. } => return Err(Fail::from("a deletion")),
+/// The number of an addition, and that of its first literal.
+fn told_of(step: StepRef<'_>) -> Option<(u64, i32)> {
+    match step {
+        StepRef::Add {
+            id,
+            lits: [first, ..],
+            ..
+        } => Some((id, first.number())),
+        _ => None,
     }
+}
+
+/// How many literals a clause has, if there is one of this number.
+fn length_of(checker: &LogChecker, number: u64) -> Option<usize> {
+    match checker.clause(number) {
+        Some(literals) => Some(literals.len()),
+        None => None,
+    }
+}
+
+/// A checker of the four clauses behind one line.
+fn behind(rt: &impl Abort, alloc: Global, line: &[u8]) -> LogChecker {
+    let formula = read(alloc, FOUR).expect(rt, "a formula");
+    let mut checker = LogChecker::of(alloc, formula).expect(rt, "memory");
+    checker.take(line).expect(rt, "a step");
+    checker
+}
+
+#[test]
+fn what_was_taken_is_lent(rt: HostRuntime) {
+    let checker = behind(&rt, rt.alloc(), b"5 -1 0 2 4 0");
+    assert_eq!(&rt; told_of(checker.step()), Some((5, -1)));
     assert_eq!(&rt; (checker.top(), checker.line()), (5, 2));
-    assert_eq!(&rt; checker.clause(5).map(|lits: &[Lit]| lits.len()), Some(1));
-    Ok(())
+    assert_eq!(&rt; length_of(&checker, 5), Some(1));
 }

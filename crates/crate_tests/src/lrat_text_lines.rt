@@ -3,7 +3,6 @@
 use lrat_text::{StepBuffer, next, put, read_line, written_id};
 use std::alloc::Global;
 use std::process::Abort;
-use std::test::Fail;
 
 /// A line, and the number of its text fault: 0 where it spells a step.
 type Row = (&'static [u8], u8);
@@ -91,15 +90,23 @@ const LINES: [&'static [u8]; 4] = [
     b"6 0 5 3 4 0\n",
 ];
 
+/// What is put under the number 6 for the step of a text that is one line.
+fn put_again(rt: &impl Abort, alloc: Global, line: &[u8]) -> Vec<u8> {
+    let mut out = Vec::new(alloc);
+    match next(alloc, line, 0) {
+        Ok(Some((step, end))) => {
+            assert!(rt; end == line.len());
+            put(&step, 6, &mut out).expect(rt, "memory");
+        }
+        _ => panic!(rt; "no step"),
+    }
+    out
+}
+
 #[test]
 fn what_was_put_is_read_back(rt: HostRuntime) {
     for line in &LINES {
-        let read = next(rt.alloc(), *line, 0).expect(&rt, "a step");
-        let (step, end) = read.expect(&rt, "a line");
-        assert_eq!(&rt; end, line.len());
-        let mut out = Vec::new(rt.alloc());
-        put(&step, 6, &mut out).expect(&rt, "memory");
-        assert_eq!(&rt; out.as_slice(), *line);
+        assert_eq!(&rt; put_again(&rt, rt.alloc(), *line).as_slice(), *line);
     }
 }
 
@@ -130,10 +137,14 @@ fn an_addition_stands_as_it_is_written(rt: HostRuntime) {
     }
 }
 
+/// Whether a text has neither a line nor a fault at a place.
+fn is_end(alloc: Global, text: &[u8], place: usize) -> bool {
+    matches!(next(alloc, text, place), Ok(None))
+}
+
 #[test]
-fn at_the_end_is_no_line(rt: HostRuntime) -> Result<(), Fail> {
+fn at_the_end_is_no_line(rt: HostRuntime) {
     let text = b"5 2 0 0\n";
-    assert!(rt; next(rt.alloc(), text, 8).ok().ok_or("no fault")?.is_none());
-    assert!(rt; next(rt.alloc(), text, 9).ok().ok_or("no fault")?.is_none());
-    Ok(())
+    assert!(rt; is_end(rt.alloc(), text, 8));
+    assert!(rt; is_end(rt.alloc(), text, 9));
 }

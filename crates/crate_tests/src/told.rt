@@ -6,9 +6,10 @@ use dimacs::{Formula, read};
 use frames::{
     Answer, Attempt, Chunk, Cube, Ending, Finding, Frame, ProofLength, WorkerNumber, encode, len,
 };
+use lrat_check::Reaction;
 use std::alloc::Global;
 use std::process::Abort;
-use std::test::Fail;
+use worker_core::Worker;
 
 /// What was found, with the length of what bears it out.
 #[derive(Clone, Copy)]
@@ -39,8 +40,8 @@ pub(crate) enum Told {
     Rest,
 }
 
-pub(crate) fn formula_of(alloc: Global, input: &[u8]) -> Result<Formula, Fail> {
-    Ok(read(alloc, input).ok().ok_or("a formula")?)
+pub(crate) fn formula_of(rt: &impl Abort, alloc: Global, input: &[u8]) -> Formula {
+    read(alloc, input).expect(rt, "a formula")
 }
 
 pub(crate) fn worker_of(rt: &impl Abort, number: u32) -> WorkerNumber {
@@ -48,14 +49,14 @@ pub(crate) fn worker_of(rt: &impl Abort, number: u32) -> WorkerNumber {
     WorkerNumber::new(number)
 }
 
-fn cube_of(rt: &impl Abort, alloc: Global, numbers: &[i32]) -> Result<Cube, Fail> {
+fn cube_of(rt: &impl Abort, alloc: Global, numbers: &[i32]) -> Cube {
     let mut cube = Cube::new(alloc);
     for number in numbers {
         let literal = literal_of(rt, *number);
         assert!(rt; cube.takes(literal));
-        cube.push(literal)?;
+        cube.push(literal).expect(rt, "memory");
     }
-    Ok(cube)
+    cube
 }
 
 fn attempt_of(rt: &impl Abort, session: u64, worker: u32, incarnation: u64, job: u64) -> Attempt {
@@ -86,23 +87,25 @@ fn ending_of(rt: &impl Abort, found: Found) -> Ending {
     }
 }
 
-fn chunk_of(rt: &impl Abort, alloc: Global, bytes: &[u8]) -> Result<Chunk, Fail> {
+fn chunk_of(rt: &impl Abort, alloc: Global, bytes: &[u8]) -> Chunk {
     assert!(rt; !bytes.is_empty() && bytes.len() <= 4000);
-    Ok(Chunk::from_slice(alloc, bytes)?)
+    Chunk::from_slice(alloc, bytes).expect(rt, "memory")
 }
 
-pub(crate) fn frame_of(
-    rt: &impl Abort,
-    alloc: Global,
-    session: u64,
-    told: Told,
-) -> Result<Frame, Fail> {
-    Ok(match told {
+fn verdict_of(rt: &impl Abort, session: u64, found: Found) -> Frame {
+    match finding_of(rt, found) {
+        Some(finding) => Frame::Verdict { session, finding },
+        None => panic!(rt; "no finding"),
+    }
+}
+
+pub(crate) fn frame_of(rt: &impl Abort, alloc: Global, session: u64, told: Told) -> Frame {
+    match told {
         Told::Task(job, cube) => Frame::Task {
             session,
             job,
             limit: 1000,
-            cube: cube_of(rt, alloc, cube)?,
+            cube: cube_of(rt, alloc, cube),
         },
         Told::Done(worker, job, found) => Frame::Done {
             attempt: attempt_of(rt, session, worker, 1, job),
@@ -115,12 +118,9 @@ pub(crate) fn frame_of(
         Told::Piece(worker, job, offset, bytes) => Frame::Piece {
             attempt: attempt_of(rt, session, worker, 1, job),
             offset,
-            bytes: chunk_of(rt, alloc, bytes)?,
+            bytes: chunk_of(rt, alloc, bytes),
         },
-        Told::Verdict(found) => Frame::Verdict {
-            session,
-            finding: finding_of(rt, found).ok_or("a finding")?,
-        },
+        Told::Verdict(found) => verdict_of(rt, session, found),
         Told::Want(worker, offset) => Frame::Want {
             session,
             worker: worker_of(rt, worker),
@@ -130,18 +130,18 @@ pub(crate) fn frame_of(
             session,
             answer,
             offset,
-            bytes: chunk_of(rt, alloc, bytes)?,
+            bytes: chunk_of(rt, alloc, bytes),
         },
         Told::Idle(worker, incarnation) => Frame::Idle {
             worker: worker_of(rt, worker),
             incarnation,
         },
         Told::Rest => Frame::Rest,
-    })
+    }
 }
 
 /// Whether two frames are spelled alike.
-pub(crate) fn are_alike(left: &Frame, right: &Frame) -> bool {
+fn are_alike(left: &Frame, right: &Frame) -> bool {
     let mut one = [0; 4037];
     let mut other = [0; 4037];
     let size = len(left);
@@ -151,11 +151,48 @@ pub(crate) fn are_alike(left: &Frame, right: &Frame) -> bool {
 }
 
 /// What a coordinator tells a worker.
-pub(crate) fn polled(
-    rt: &impl Abort,
-    coordinator: &mut Coordinator,
-    worker: u32,
-) -> Result<Frame, Fail> {
+pub(crate) fn polled(rt: &impl Abort, coordinator: &mut Coordinator, worker: u32) -> Frame {
     assert!(rt; worker >= 1 && worker <= coordinator.workers());
-    Ok(coordinator.poll(WorkerNumber::new(worker))?)
+    coordinator
+        .poll(WorkerNumber::new(worker))
+        .expect(rt, "memory")
+}
+
+/// A coordinator is polled for a worker, and is to say this.
+pub(crate) fn says(
+    rt: &impl Abort,
+    alloc: Global,
+    coordinator: &mut Coordinator,
+    session: u64,
+    worker: u32,
+    told: Told,
+) {
+    let frame = frame_of(rt, alloc, session, told);
+    assert!(rt; are_alike(&polled(rt, coordinator, worker), &frame));
+}
+
+/// A frame comes to a coordinator, which is to answer so.
+pub(crate) fn hears(
+    rt: &impl Abort,
+    alloc: Global,
+    coordinator: &mut Coordinator,
+    session: u64,
+    told: Told,
+    wanted: Reaction,
+) {
+    let frame = frame_of(rt, alloc, session, told);
+    assert_eq!(rt; coordinator.deliver(&frame), wanted);
+}
+
+/// A frame comes to a worker, which is to answer so.
+pub(crate) fn takes(
+    rt: &impl Abort,
+    alloc: Global,
+    worker: &mut Worker,
+    session: u64,
+    told: Told,
+    wanted: Reaction,
+) {
+    let frame = frame_of(rt, alloc, session, told);
+    assert_eq!(rt; worker.deliver(&frame), wanted);
 }

@@ -8,7 +8,6 @@ use clause_arena::Arena;
 use dimacs::Lit;
 use std::alloc::{AllocError, Global};
 use std::process::Abort;
-use std::test::Fail;
 use watches::{Assigned, Propagator, Scan, Trail, Truth, Watched, add_clause};
 
 /// What happens to a propagator, or is to be seen of it.
@@ -169,6 +168,28 @@ fn is_last(trail: &Trail, literal: Lit, reason: u64) -> bool {
     trail.entries().last() == Some(&wanted)
 }
 
+fn propagate<P: Propagator>(
+    rt: &impl Abort,
+    propagator: &mut P,
+    arena: &mut Arena,
+    trail: &mut Trail,
+    conflict: bool,
+)
+    requires { P.is_ready propagator.old arena.old trail.old }
+    ensures { P.is_ready propagator.new arena.new trail.new }
+{
+    let found = propagator.propagate(arena, trail);
+    assert_eq!(rt; found.is_some(), conflict);
+}
+
+fn has(rt: &impl Abort, trail: &Trail, count: usize, level: u32) {
+    assert_eq!(rt; (trail.len(), trail.level()), (count, level));
+}
+
+fn is(rt: &impl Abort, trail: &Trail, literal: Lit, truth: Truth) {
+    assert_eq!(rt; truth_of(rt, trail, literal), truth);
+}
+
 fn play_turn<P: Propagator>(
     rt: &impl Abort,
     propagator: &mut P,
@@ -181,16 +202,10 @@ fn play_turn<P: Propagator>(
 {
     match turn {
         Turn::Decides(number) => decide(rt, propagator, arena, trail, literal_of(rt, number)),
-        Turn::Propagates(conflict) => {
-            let found = propagator.propagate(arena, trail);
-            assert_eq!(rt; found.is_some(), conflict);
-        }
+        Turn::Propagates(conflict) => propagate(rt, propagator, arena, trail, conflict),
         Turn::Undoes(level) => propagator.undo(trail, level),
-        Turn::Has(count, level) => assert_eq!(rt; (trail.len(), trail.level()), (count, level)),
-        Turn::Is(number, truth) => assert_eq!(rt;
-            truth_of(rt, trail, literal_of(rt, number)),
-            truth
-        ),
+        Turn::Has(count, level) => has(rt, trail, count, level),
+        Turn::Is(number, truth) => is(rt, trail, literal_of(rt, number), truth),
         Turn::Ends(number, reason) => assert!(rt; is_last(trail, literal_of(rt, number), reason)),
     }
 }
@@ -217,15 +232,14 @@ fn follow<P: Propagator>(
     propagator: &mut P,
     clauses: &[[i32; 2]],
     turns: &[Turn],
-) -> Result<(), Fail>
+)
     requires { P.attached propagator.old ≡ [] }
 {
-    let mut trail = Trail::new(alloc, 4)?;
+    let mut trail = Trail::new(alloc, 4).expect(rt, "memory");
     let mut arena = Arena::new(alloc);
-    propagator.reserve(4)?;
-    load(rt, propagator, &mut arena, &trail, clauses)?;
+    propagator.reserve(4).expect(rt, "memory");
+    load(rt, propagator, &mut arena, &trail, clauses).expect(rt, "memory");
     play(rt, propagator, &mut arena, &mut trail, turns);
-    Ok(())
 }
 
 /// The same once the first clause was forgotten, before and behind the closing of its gap.
@@ -235,22 +249,19 @@ fn follow_without_first<P: Propagator>(
     propagator: &mut P,
     clauses: &[[i32; 2]],
     turns: &[Turn],
-) -> Result<(), Fail>
+)
     requires { P.attached propagator.old ≡ [] }
 {
     assert!(rt; clauses.len() >= 1);
-    let mut trail = Trail::new(alloc, 4)?;
+    let mut trail = Trail::new(alloc, 4).expect(rt, "memory");
     let mut arena = Arena::new(alloc);
-    propagator.reserve(4)?;
-    load(rt, propagator, &mut arena, &trail, clauses)?;
+    propagator.reserve(4).expect(rt, "memory");
+    load(rt, propagator, &mut arena, &trail, clauses).expect(rt, "memory");
     forget(rt, propagator, &mut arena, &trail, 1);
     play(rt, propagator, &mut arena, &mut trail, turns);
-    assert_eq!(rt;
-        close_gaps(alloc, propagator, &mut arena, &trail)?,
-        clauses.len() - 1
-    );
+    let moves = close_gaps(alloc, propagator, &mut arena, &trail).expect(rt, "memory");
+    assert_eq!(rt; moves, clauses.len() - 1);
     play(rt, propagator, &mut arena, &mut trail, turns);
-    Ok(())
 }
 
 const CHAIN: [[i32; 2]; 3] = [[-3, 4], [-2, 3], [-1, 2]];
@@ -266,10 +277,10 @@ const FOLLOWED: &[Turn] = &[
 ];
 
 #[test]
-fn a_chain_of_units_is_followed_backwards(rt: HostRuntime) -> Result<(), Fail> {
+fn a_chain_of_units_is_followed_backwards(rt: HostRuntime) {
     let a = rt.alloc();
-    follow(&rt, a, &mut Scan::new(a), &CHAIN, FOLLOWED)?;
-    follow(&rt, a, &mut Watched::new(a), &CHAIN, FOLLOWED)
+    follow(&rt, a, &mut Scan::new(a), &CHAIN, FOLLOWED);
+    follow(&rt, a, &mut Watched::new(a), &CHAIN, FOLLOWED);
 }
 
 const CONFLICT: [[i32; 2]; 3] = [[-1, 2], [-1, -2], [3, 4]];
@@ -289,10 +300,10 @@ const NAMED: &[Turn] = &[
 ];
 
 #[test]
-fn a_false_clause_is_named(rt: HostRuntime) -> Result<(), Fail> {
+fn a_false_clause_is_named(rt: HostRuntime) {
     let a = rt.alloc();
-    follow(&rt, a, &mut Scan::new(a), &CONFLICT, NAMED)?;
-    follow(&rt, a, &mut Watched::new(a), &CONFLICT, NAMED)
+    follow(&rt, a, &mut Scan::new(a), &CONFLICT, NAMED);
+    follow(&rt, a, &mut Watched::new(a), &CONFLICT, NAMED);
 }
 
 const IMPLIED: [[i32; 2]; 3] = [[-2, 4], [-1, 2], [-1, 3]];
@@ -309,10 +320,8 @@ const FOUND: &[Turn] = &[
 ];
 
 #[test]
-fn a_detached_clause_implies_nothing_and_one_that_moved_is_found(
-    rt: HostRuntime,
-) -> Result<(), Fail> {
+fn a_detached_clause_implies_nothing_and_one_that_moved_is_found(rt: HostRuntime) {
     let a = rt.alloc();
-    follow_without_first(&rt, a, &mut Scan::new(a), &IMPLIED, FOUND)?;
-    follow_without_first(&rt, a, &mut Watched::new(a), &IMPLIED, FOUND)
+    follow_without_first(&rt, a, &mut Scan::new(a), &IMPLIED, FOUND);
+    follow_without_first(&rt, a, &mut Watched::new(a), &IMPLIED, FOUND);
 }

@@ -53,36 +53,41 @@ fn entry_of(rt: &impl Abort, trail: &Trail, literal: Lit) -> Assigned {
     }
 }
 
+/// A literal that is true has this level and reason.
+fn stands(rt: &impl Abort, trail: &Trail, literal: Lit, level: u32, reason: Option<u64>) {
+    let wanted = Assigned {
+        literal,
+        level,
+        reason,
+    };
+    assert_eq!(rt; entry_of(rt, trail, literal), wanted);
+}
+
+/// So many literals are on the trail, up to this level.
+fn has(rt: &impl Abort, trail: &Trail, count: usize, level: u32) {
+    assert_eq!(rt; (trail.len(), trail.level()), (count, level));
+}
+
+fn is(rt: &impl Abort, trail: &Trail, literal: Lit, truth: Truth) {
+    assert_eq!(rt; value_of(rt, trail, literal), truth);
+}
+
 fn play_turn(rt: &impl Abort, trail: &mut Trail, turn: Turn) {
     match turn {
         Turn::Pushes(number, level, reason) => {
             let literal = literal_of(rt, number);
-            push(
-                rt,
-                trail,
-                Assigned {
-                    literal,
-                    level,
-                    reason,
-                },
-            );
+            let entry = Assigned {
+                literal,
+                level,
+                reason,
+            };
+            push(rt, trail, entry);
         }
         Turn::Cuts(level) => trail.cut(level),
-        Turn::Has(count, level) => assert_eq!(rt; (trail.len(), trail.level()), (count, level)),
-        Turn::Is(number, truth) => assert_eq!(rt;
-            value_of(rt, trail, literal_of(rt, number)),
-            truth
-        ),
+        Turn::Has(count, level) => has(rt, trail, count, level),
+        Turn::Is(number, truth) => is(rt, trail, literal_of(rt, number), truth),
         Turn::Stands(number, level, reason) => {
-            let literal = literal_of(rt, number);
-            assert_eq!(rt;
-                entry_of(rt, trail, literal),
-                Assigned {
-                    literal,
-                    level,
-                    reason
-                }
-            );
+            stands(rt, trail, literal_of(rt, number), level, reason);
         }
     }
 }
@@ -133,6 +138,24 @@ fn literals_come_are_found_and_are_cut_above_a_level(rt: HostRuntime) -> Result<
     Ok(())
 }
 
+const DECIDED: &[Turn] = &[Turn::Pushes(-1, 1, None), Turn::Pushes(2, 2, None)];
+
+/// What a clause is under a trail, with the literal of a unit.
+#[derive(Clone, Copy)]
+enum Told {
+    False,
+    Unit(i32),
+    Other,
+}
+
+fn status_of(rt: &impl Abort, told: Told) -> Status {
+    match told {
+        Told::False => Status::False,
+        Told::Unit(number) => Status::Unit(literal_of(rt, number)),
+        Told::Other => Status::Other,
+    }
+}
+
 /// Three literals under a trail; two of them may be one.
 fn found(rt: &impl Abort, trail: &Trail, clause: [i32; 3]) -> Status {
     let [first, second, third] = clause;
@@ -145,19 +168,21 @@ fn found(rt: &impl Abort, trail: &Trail, clause: [i32; 3]) -> Status {
     test_clause(&[first, second, third], trail)
 }
 
+/// Three literals, and what is told of them.
+const CLAUSES: &[([i32; 3], Told)] = &[
+    ([1, -2, 1], Told::False),
+    ([1, 3, 1], Told::Unit(3)),
+    ([3, 1, 3], Told::Unit(3)),
+    ([1, 2, 1], Told::Other),
+    ([3, -4, 1], Told::Other),
+];
+
 #[test]
-fn a_clause_is_false_unit_or_neither(rt: HostRuntime) -> Result<(), Fail> {
-    let mut trail = Trail::new(rt.alloc(), 4)?;
-    play(
-        &rt,
-        &mut trail,
-        &[Turn::Pushes(-1, 1, None), Turn::Pushes(2, 2, None)],
-    );
-    let unit = Status::Unit(literal_of(&rt, 3));
-    assert!(rt; found(&rt, &trail, [1, -2, 1]) == Status::False);
-    assert!(rt; found(&rt, &trail, [1, 3, 1]) == unit);
-    assert!(rt; found(&rt, &trail, [3, 1, 3]) == unit);
-    assert!(rt; found(&rt, &trail, [1, 2, 1]) == Status::Other);
-    assert!(rt; found(&rt, &trail, [3, -4, 1]) == Status::Other);
-    Ok(())
+fn a_clause_is_false_unit_or_neither(rt: HostRuntime) {
+    let mut trail = Trail::new(rt.alloc(), 4).expect(&rt, "memory");
+    play(&rt, &mut trail, DECIDED);
+    for (clause, want) in CLAUSES {
+        let status = status_of(&rt, *want);
+        assert!(&rt; found(&rt, &trail, *clause) == status);
+    }
 }

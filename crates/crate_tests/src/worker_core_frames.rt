@@ -1,12 +1,11 @@
 //! A worker, frame by frame.
 
 use crate::inputs::{FOUR, UNITS};
-use crate::told::{Found, Told, formula_of, frame_of};
+use crate::told::{Found, Told, formula_of, takes};
 use frames::{Answer, WorkerNumber, encode, len};
 use lrat_check::{Reaction, Verdict};
 use std::alloc::Global;
 use std::process::Abort;
-use std::test::Fail;
 use worker_core::Worker;
 
 /// A proof that no assignment satisfies the four clauses.
@@ -39,45 +38,54 @@ enum Turn {
 }
 
 /// Worker 1 of this formula, of incarnation 1.
-fn worker_of(alloc: Global, input: &[u8]) -> Result<Worker, Fail> {
-    let formula = formula_of(alloc, input)?;
-    Ok(Worker::new(alloc, formula, WorkerNumber::new(1), 1)?)
+fn worker_of(rt: &impl Abort, alloc: Global, input: &[u8]) -> Worker {
+    let formula = formula_of(rt, alloc, input);
+    Worker::new(alloc, formula, WorkerNumber::new(1), 1).expect(rt, "memory")
 }
 
-/// Whether the next frame that it sends is spelled so.
-fn sends(worker: &mut Worker, bytes: &[u8]) -> Result<bool, Fail> {
-    let frame = worker.poll()?;
+/// The next frame that it sends is spelled so.
+fn sends(rt: &impl Abort, worker: &mut Worker, bytes: &[u8]) {
+    let frame = worker.poll().expect(rt, "memory");
     let mut out = [0; 4037];
     let size = len(&frame);
     let written = encode(&frame, &mut out);
-    Ok(written == size && bytes == &out[..written])
+    assert!(rt; written == size && bytes == &out[..written]);
 }
 
-fn play_turn(rt: &impl Abort, alloc: Global, worker: &mut Worker, turn: Turn) -> Result<(), Fail> {
+fn works(rt: &impl Abort, worker: &mut Worker, wanted: Reaction) {
+    assert_eq!(rt; worker.work(), wanted);
+}
+
+fn restart(rt: &impl Abort, worker: &mut Worker, number: u64) {
+    worker.restart(number);
+    assert_eq!(rt; worker.incarnation(), number);
+}
+
+fn holds_nothing(worker: &Worker) -> bool {
+    matches!(worker.verdict(), Verdict::Nothing)
+}
+
+fn holds_assignment(worker: &Worker) -> bool {
+    matches!(worker.verdict(), Verdict::Model(_))
+}
+
+fn play_turn(rt: &impl Abort, alloc: Global, worker: &mut Worker, turn: Turn) {
     match turn {
-        Turn::Comes(session, told, wanted) => {
-            let frame = frame_of(rt, alloc, session, told)?;
-            assert_eq!(rt; worker.deliver(&frame), wanted);
-        }
-        Turn::Works(wanted) => assert_eq!(rt; worker.work(), wanted),
-        Turn::Sends(bytes) => assert!(rt; sends(worker, bytes)?),
-        Turn::Restarts(number) => {
-            worker.restart(number);
-            assert_eq!(rt; worker.incarnation(), number);
-        }
-        Turn::HoldsNothing => assert!(rt; matches!(worker.verdict(), Verdict::Nothing)),
-        Turn::HoldsAssignment => assert!(rt; matches!(worker.verdict(), Verdict::Model(_))),
+        Turn::Comes(session, told, wanted) => takes(rt, alloc, worker, session, told, wanted),
+        Turn::Works(wanted) => works(rt, worker, wanted),
+        Turn::Sends(bytes) => sends(rt, worker, bytes),
+        Turn::Restarts(number) => restart(rt, worker, number),
+        Turn::HoldsNothing => assert!(rt; holds_nothing(worker)),
+        Turn::HoldsAssignment => assert!(rt; holds_assignment(worker)),
     }
-    Ok(())
 }
 
 /// Plays one turn after the other to a worker of a formula.
-fn play(rt: &impl Abort, alloc: Global, input: &[u8], turns: &[Turn]) -> Result<(), Fail> {
-    let mut worker = worker_of(alloc, input)?;
+fn play(rt: &impl Abort, alloc: Global, input: &[u8], turns: &[Turn]) {
+    let mut worker = worker_of(rt, alloc, input);
     for turn in turns {
-        play_turn(rt, alloc, &mut worker, *turn)?;
+        play_turn(rt, alloc, &mut worker, *turn);
     }
-    Ok(())
 }
 
 const ASSIGNMENTS: &[Turn] = &[
@@ -119,10 +127,10 @@ const HOLDS: &[Turn] = &[Turn::Comes(1, Told::Verdict(Found::Values(0)), Reactio
 const IS_WRONG: &[Turn] = &[Turn::Comes(1, Told::Verdict(Found::Values(0)), Reaction::Refused(2))];
 
 #[test]
-fn an_assignment_is_held_once_it_satisfies(rt: HostRuntime) -> Result<(), Fail> {
-    play(&rt, rt.alloc(), UNITS, ASSIGNMENTS)?;
-    play(&rt, rt.alloc(), b"p cnf 0 0\n", HOLDS)?;
-    play(&rt, rt.alloc(), b"p cnf 0 1\n0\n", IS_WRONG)
+fn an_assignment_is_held_once_it_satisfies(rt: HostRuntime) {
+    play(&rt, rt.alloc(), UNITS, ASSIGNMENTS);
+    play(&rt, rt.alloc(), b"p cnf 0 0\n", HOLDS);
+    play(&rt, rt.alloc(), b"p cnf 0 1\n0\n", IS_WRONG);
 }
 
 /// Delivers a proof byte by byte, each but the last being taken, which is to be answered so. Now and then the worker works between two
@@ -133,15 +141,10 @@ fn play_bytes(
     worker: &mut Worker,
     proof: &'static [u8],
     wanted: Reaction,
-) -> Result<(), Fail> {
+) {
     assert!(rt; !proof.is_empty() && proof.len() < 1000);
     let announced = Told::Verdict(Found::Proof(proof.len() as u32));
-    play_turn(
-        rt,
-        alloc,
-        worker,
-        Turn::Comes(1, announced, Reaction::Taken),
-    )?;
+    takes(rt, alloc, worker, 1, announced, Reaction::Taken);
     for i in 0..proof.len() {
         let answer = if i + 1 == proof.len() {
             wanted
@@ -149,28 +152,26 @@ fn play_bytes(
             Reaction::Taken
         };
         let byte = Told::Part(Answer::Refuted, i as u32, &proof[i..i + 1]);
-        play_turn(rt, alloc, worker, Turn::Comes(1, byte, answer))?;
+        takes(rt, alloc, worker, 1, byte, answer);
         if i % 3 == 1 {
-            play_turn(rt, alloc, worker, Turn::Works(Reaction::Ignored))?;
+            works(rt, worker, Reaction::Ignored);
         }
     }
-    Ok(())
 }
 
 /// The fault of a line is told with the last byte.
 #[test]
-fn a_proof_is_judged_once_its_last_byte_is_there(rt: HostRuntime) -> Result<(), Fail> {
+fn a_proof_is_judged_once_its_last_byte_is_there(rt: HostRuntime) {
     let wrong = b"4 2 0 1 2 0\n6 0 5 3 4 0\n";
-    let mut worker = worker_of(rt.alloc(), FOUR)?;
-    play_bytes(&rt, rt.alloc(), &mut worker, wrong, Reaction::Refused(1))?;
-    play_turn(&rt, rt.alloc(), &mut worker, Turn::HoldsNothing)?;
-    let mut worker = worker_of(rt.alloc(), FOUR)?;
-    play_bytes(&rt, rt.alloc(), &mut worker, PROOF, Reaction::Verdict)?;
-    let Verdict::Proof(text) = worker.into_verdict() else {
-        return Err(Fail::from("a proof"));
-    };
-    assert_eq!(rt; text.as_plain(), Some(PROOF));
-    Ok(())
+    let mut worker = worker_of(&rt, rt.alloc(), FOUR);
+    play_bytes(&rt, rt.alloc(), &mut worker, wrong, Reaction::Refused(1));
+    assert!(rt; holds_nothing(&worker));
+    let mut worker = worker_of(&rt, rt.alloc(), FOUR);
+    play_bytes(&rt, rt.alloc(), &mut worker, PROOF, Reaction::Verdict);
+    match worker.into_verdict() {
+        Verdict::Proof(text) => assert!(rt; text.as_plain() == Some(PROOF)),
+        _ => panic!(&rt; "no proof"),
+    }
 }
 
 const FETCHED: &[Turn] = &[
@@ -208,11 +209,11 @@ const RESTARTS: &[Turn] = &[
 ];
 
 #[test]
-fn an_answer_is_told_and_its_bytes_fetched(rt: HostRuntime) -> Result<(), Fail> {
-    play(&rt, rt.alloc(), UNITS, FETCHED)
+fn an_answer_is_told_and_its_bytes_fetched(rt: HostRuntime) {
+    play(&rt, rt.alloc(), UNITS, FETCHED);
 }
 
 #[test]
-fn a_restart_drops_what_was_held(rt: HostRuntime) -> Result<(), Fail> {
-    play(&rt, rt.alloc(), UNITS, RESTARTS)
+fn a_restart_drops_what_was_held(rt: HostRuntime) {
+    play(&rt, rt.alloc(), UNITS, RESTARTS);
 }

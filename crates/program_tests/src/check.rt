@@ -12,10 +12,20 @@ pub(crate) const VERIFIED: &[u8] = b"s VERIFIED\n";
 /// An input, a proof, and what is printed of it.
 pub(crate) type Row = (&'static [u8], &'static [u8], &'static [u8]);
 
+/// What is printed, with the status, is what is wanted.
+pub(crate) fn same(rt: &impl Abort, printed: (&[u8], u8), wanted: (&[u8], u8)) {
+    assert_eq!(rt; printed, wanted);
+}
+
+/// This is printed, and the status is 0 where a proof is verified.
+fn tells(rt: &impl Abort, text: &[u8], status: u8, want: &[u8]) {
+    assert_eq!(rt; text, want);
+    assert!(rt; (status == 0) == (want == VERIFIED));
+}
+
 pub(crate) fn prints(rt: &impl Abort, alloc: Global, input: &[u8], proof: &[u8], want: &[u8]) {
     let report = run_check(alloc, input, proof).expect(rt, "memory");
-    assert_eq!(rt; report.stdout.as_slice(), want);
-    assert_eq!(rt; report.status == 0, want == VERIFIED);
+    tells(rt, report.stdout.as_slice(), report.status, want);
 }
 
 pub(crate) fn all_print(rt: &impl Abort, alloc: Global, rows: &[Row]) {

@@ -13,6 +13,11 @@ const KEPT: u64 = 5;
 /// How far numbers lie apart that fill no table.
 const FAR: u64 = 4_000_000_000;
 
+/// A lemma that nothing needs, and its deletion.
+fn put_idle(rt: &impl Abort, text: &mut String, number: u64) {
+    write!(text, "{number} 2 1 0 1 0\n{number} d {number} 0\n").expect(rt, "memory");
+}
+
 /// Lemmas, each with its deletion, and an end; their numbers lie so far apart.
 fn churn(rt: &impl Abort, alloc: Global, apart: u64, end: &str) -> String
     requires { apart < 2 ^ 32 }
@@ -20,8 +25,7 @@ fn churn(rt: &impl Abort, alloc: Global, apart: u64, end: &str) -> String
     let mut text = String::new(alloc);
     write!(text, "{KEPT} 2 0 1 2 0\n").expect(rt, "memory");
     for turn in 1u64..3000 {
-        let number = 10 + turn * apart;
-        write!(text, "{number} 2 1 0 1 0\n{number} d {number} 0\n").expect(rt, "memory");
+        put_idle(rt, &mut text, 10 + turn * apart);
     }
     text.push_str(end).expect(rt, "memory");
     text

@@ -2,6 +2,7 @@
 
 ghost use Rattle.std.specs.Prelude.{◌≤◌};
 
+use crate::check::same;
 use cube_split::{Chooser, grow, preamble, tree};
 use dimacs::{Formula, Lit, Var, read};
 use icnf::Tree;
@@ -44,8 +45,11 @@ fn is_printed(rt: &impl Abort, alloc: Global, input: &[u8], depth: u32, want: &[
     requires { depth ≤ 16 }
 {
     let report = run_cubes(alloc, input, depth).expect(rt, "memory");
-    assert_eq!(rt; report.stdout.as_slice(), want);
-    assert_eq!(rt; report.status, status);
+    same(
+        rt,
+        (report.stdout.as_slice(), report.status),
+        (want, status),
+    );
 }
 
 #[test]

@@ -3,6 +3,7 @@
 ghost use Rattle.std.specs.Prelude.{IfOk};
 ghost use Rattle.node_main.specs.Drilling.{IsNew};
 
+use crate::check::same;
 use closed_schedules::ClosedEvent;
 use cluster::ClosedCluster;
 use cube_split::tree;
@@ -97,8 +98,11 @@ fn frames_of(rt: &impl Abort, alloc: Global, cluster: &ClosedCluster) -> Vec<u8>
 /// A drill of seed 7 and a thousand turns prints this, with this status.
 fn is_reported(rt: &impl Abort, alloc: Global, input: &[u8], want: &[u8], status: u8) {
     let report = drill(alloc, input, 7, 1000).expect(rt, "memory");
-    assert_eq!(rt; report.stdout.as_slice(), want);
-    assert_eq!(rt; report.status, status);
+    same(
+        rt,
+        (report.stdout.as_slice(), report.status),
+        (want, status),
+    );
 }
 
 #[test]

@@ -1,6 +1,6 @@
 //! Inputs that come in pieces, and lines under `-q`.
 
-use crate::check::{FOUR, VERIFIED};
+use crate::check::{FOUR, VERIFIED, same};
 use dimacs::FormulaReader;
 use node_main::{ProofCheck, Refusal};
 use std::alloc::Global;
@@ -19,8 +19,11 @@ fn an_input_in_pieces_is_checked(rt: HostRuntime) {
     let mut check = check_of(rt.alloc(), FOUR);
     check.feed(b"5 2 0 1 2 0\n6 0 5 3 4 0\n");
     let report = check.finish().expect(&rt, "memory");
-    assert_eq!(rt; report.stdout.as_slice(), VERIFIED);
-    assert_eq!(rt; report.status, 0);
+    same(
+        &rt,
+        (report.stdout.as_slice(), report.status),
+        (VERIFIED, 0),
+    );
 }
 
 /// What is refused, whether `-q` was said, and the line.

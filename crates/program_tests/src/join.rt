@@ -64,14 +64,19 @@ fn take_all(rt: &impl Abort, join: &mut Join, files: Files) {
     }
 }
 
-/// Joins files, and prints this of the end; the proof.
-fn gathered(rt: &impl Abort, alloc: Global, files: Files, want: &[u8]) -> Vec<u8> {
-    let mut join = Join::of(alloc, halves(rt, alloc)).expect(rt, "memory");
-    take_all(rt, &mut join, files);
+/// The end of a join prints this.
+fn ends(rt: &impl Abort, alloc: Global, join: &mut Join, want: &[u8]) {
     match join.finish(Vec::new(alloc)) {
         Ok(report) => assert_eq!(rt; report.stdout.as_slice(), want),
         Err(_) => panic!(rt; "no memory"),
     }
+}
+
+/// Joins files, and prints this of the end; the proof.
+fn gathered(rt: &impl Abort, alloc: Global, files: Files, want: &[u8]) -> Vec<u8> {
+    let mut join = Join::of(alloc, halves(rt, alloc)).expect(rt, "memory");
+    take_all(rt, &mut join, files);
+    ends(rt, alloc, &mut join, want);
     Vec::from_slice(alloc, join.written()).expect(rt, "memory")
 }
 

@@ -1,5 +1,6 @@
 //! A text that CaDiCaL wrote while it refuted four cubes in one process, as one log over the formula.
 
+use crate::check::same;
 use dimacs::{Lit, Var, read};
 use leaves::{LiftAll, Split, SplitReader};
 use lidrup::CubeLog;
@@ -184,8 +185,11 @@ fn split(rt: &impl Abort, alloc: Global) -> Split {
 fn is_told(rt: &impl Abort, alloc: Global, lift: &LiftAll, stdout: &[u8], status: u8) {
     assert!(rt; lift.finish().is_ok());
     let report = lift.report(alloc).expect(rt, "memory");
-    assert_eq!(rt; report.stdout.as_slice(), stdout);
-    assert_eq!(rt; report.status, status);
+    same(
+        rt,
+        (report.stdout.as_slice(), report.status),
+        (stdout, status),
+    );
 }
 
 /// The text up to a byte tells this of the leaves, with this status, and its log is one over the pigeons.

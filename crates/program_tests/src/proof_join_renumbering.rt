@@ -2,6 +2,9 @@
 
 use crate::check::{FOUR, VERIFIED, prints};
 use proof_join::renumber;
+use std::alloc::Global;
+use std::process::Abort;
+
 /// The four clauses, and the clause `3`.
 const WITH_THREE: &[u8] = b"p cnf 3 5\n1 2 0\n-1 2 0\n1 -2 0\n-1 -2 0\n3 0\n";
 
@@ -36,17 +39,21 @@ const ROWS: [Row; 3] = [
     ),
 ];
 
+/// What a proof of the four clauses becomes.
+fn raised(rt: &impl Abort, alloc: Global, proof: &[u8]) -> Vec<u8> {
+    match renumber(alloc, proof, 4, 1).expect(rt, "memory") {
+        Some(text) => text,
+        None => panic!(rt; "no text"),
+    }
+}
+
 #[test]
 fn a_proof_goes_on_behind_a_new_clause(rt: HostRuntime) {
     for (proof, want, input, told) in &ROWS {
         prints(&rt, rt.alloc(), FOUR, *proof, VERIFIED);
-        match renumber(rt.alloc(), *proof, 4, 1).expect(&rt, "memory") {
-            Some(text) => {
-                assert_eq!(&rt; text.as_slice(), *want);
-                prints(&rt, rt.alloc(), *input, text.as_slice(), *told);
-            }
-            None => panic!(&rt; "no text"),
-        }
+        let text = raised(&rt, rt.alloc(), *proof);
+        assert_eq!(&rt; text.as_slice(), *want);
+        prints(&rt, rt.alloc(), *input, text.as_slice(), *told);
     }
 }
 

@@ -3,7 +3,7 @@
 ghost use Rattle.std.specs.Prelude.{◌≤◌};
 ghost use Rattle.command_line.specs.Options.{AreOptions};
 
-use crate::check::{FOUR, VERIFIED, prints};
+use crate::check::{FOUR, VERIFIED, prints, same};
 use dimacs::FormulaReader;
 use links::{
     Bytewise, Carrier, Counted, End, LinkFault, Links, Memory, RefusesAll, RefusesAt, Script,
@@ -156,9 +156,12 @@ fn status_of(text: &[u8]) -> u8 {
 }
 
 pub(crate) fn says(rt: &impl Abort, report: &Report, text: &[u8]) {
-    assert_eq!(rt; report.stdout.as_slice(), text);
-    assert_eq!(rt; report.status, status_of(text));
-    assert_eq!(rt; report.proof.is_some(), report.status == 20);
+    same(
+        rt,
+        (report.stdout.as_slice(), report.status),
+        (text, status_of(text)),
+    );
+    assert!(rt; report.proof.is_some() == (report.status == 20));
 }
 
 /// The report refutes an input, with a proof that is verified: that proof.
@@ -195,6 +198,14 @@ fn units_take_four_frames_in_eight_calls(rt: HostRuntime) {
     assert_eq!(rt; links.carrier().sent.as_slice(), frames.as_slice());
 }
 
+/// A run whose first call is refused makes no other.
+fn refuses_first(rt: &impl Abort, alloc: Global) {
+    let mut links = Counted::new(RefusesAll);
+    let report = run_solve(alloc, UNITS, None, &ALONE, &mut links).expect(rt, "memory");
+    says(rt, &report, UNKNOWN);
+    assert_eq!(rt; (links.calls(), links.refusals()), (1, 1));
+}
+
 #[test]
 fn without_the_only_link_nothing_is_known(rt: HostRuntime) {
     for number in 1..=9 {
@@ -202,10 +213,7 @@ fn without_the_only_link_nothing_is_known(rt: HostRuntime) {
         let text = if number <= 8 { UNKNOWN } else { UNITS_HOLD };
         says(&rt, &report, text);
     }
-    let mut links = Counted::new(RefusesAll);
-    let report = run_solve(rt.alloc(), UNITS, None, &ALONE, &mut links).expect(&rt, "memory");
-    says(&rt, &report, UNKNOWN);
-    assert_eq!(rt; (links.calls(), links.refusals()), (1, 1));
+    refuses_first(&rt, rt.alloc());
 }
 
 #[test]

@@ -1,9 +1,31 @@
 //! How the search goes: the values that it tries again, the literals that its lemmas do without, and the lemmas that it forgets.
 
+ghost use Rattle.std.specs.Prelude.{◌<◌};
+
 use crate::run_reports::{ALONE, refutes, says, solved};
 use std::alloc::Global;
 use std::fmt::Write;
 use std::process::Abort;
+
+/// A pigeon sits in one of the holes behind this variable.
+fn put_holes(rt: &impl Abort, text: &mut String, first: u32)
+    requires { first < 100 }
+{
+    for hole in 1..8u32 {
+        write!(text, "{} ", first + hole).expect(rt, "memory");
+    }
+    text.push_str("0\n").expect(rt, "memory");
+}
+
+/// Two pigeons do not sit in one hole.
+fn put_apart(rt: &impl Abort, text: &mut String, first: u32, other: u32)
+    requires one { first < 100 }
+    requires two { other < 100 }
+{
+    for hole in 1..8u32 {
+        write!(text, "-{} -{} 0\n", first + hole, other + hole).expect(rt, "memory");
+    }
+}
 
 /// Eight pigeons sit in seven holes, and no two of them in one: the variable of a pigeon and a hole is seven times the
 /// pigeon's number, and the hole's, from 1.
@@ -11,15 +33,9 @@ fn pigeons(rt: &impl Abort, alloc: Global) -> String {
     let mut text = String::new(alloc);
     write!(text, "p cnf 56 204\n").expect(rt, "memory");
     for pigeon in 0..8u32 {
-        let holes = 7 * pigeon;
-        for hole in 1..8u32 {
-            write!(text, "{} ", holes + hole).expect(rt, "memory");
-        }
-        write!(text, "0\n").expect(rt, "memory");
+        put_holes(rt, &mut text, 7 * pigeon);
         for other in 0..pigeon {
-            for hole in 1..8u32 {
-                write!(text, "-{} -{} 0\n", holes + hole, 7 * other + hole).expect(rt, "memory");
-            }
+            put_apart(rt, &mut text, 7 * pigeon, 7 * other);
         }
     }
     text
