@@ -32,7 +32,7 @@ fn pigeons(alloc: Global) -> Result<String, AllocError> {
 /// What a log tells of its lemmas, in the order in which they were learnt.
 #[derive(Drop)]
 struct Told {
-    /// How much each was used: 1024 for each line whose hints name it and for its own, at most 65535, halved behind each 256th lemma.
+    /// How much each was used: 1024 for each line whose hints name it and for its own, at most 65535, halved after each 256th lemma.
     uses: Vec<u64>,
     /// Whether it has three or more literals, and was not deleted.
     may_go: Vec<bool>,
@@ -63,8 +63,8 @@ impl Told {
         Ok(())
     }
 
-    /// The numbers of the half that was used least, of as many uses the older, rising.
-    fn least_used(&self, alloc: Global) -> Result<Vec<u64>, AllocError> {
+    /// The ranks of the lemmas that may go, lowest first: those of few uses come first, and of as many uses the older.
+    fn ranks(&self, alloc: Global) -> Result<Vec<u64>, AllocError> {
         let mut ranks = Vec::new(alloc);
         for i in 0..self.uses.len().min(self.may_go.len()) {
             if self.may_go[i] {
@@ -72,13 +72,23 @@ impl Told {
             }
         }
         ranks.sort_unstable();
-        let half = ranks.len() / 2;
-        ranks.truncate(half);
-        for rank in ranks.iter_mut() {
-            *rank = *rank % (1 << 20) + FIRST;
-        }
-        ranks.sort_unstable();
         Ok(ranks)
+    }
+
+    /// Whether lemmas are among the half that was used least. A lemma of few levels stays, which a log does not tell, so the
+    /// half may want some.
+    fn are_least_used(&self, alloc: Global, ids: &[u64]) -> Result<bool, AllocError> {
+        let ranks = self.ranks(alloc)?;
+        let mut least = 0usize;
+        for rank in &ranks[..ranks.len() / 2] {
+            if ids
+                .binary_search(&(*rank % (1 << 20)).saturating_add(FIRST))
+                .is_ok()
+            {
+                least = least.saturating_add(1);
+            }
+        }
+        Ok(least == ids.len() && least > ranks.len() / 3)
     }
 
     fn delete(&mut self, ids: &[u64]) {
@@ -90,7 +100,7 @@ impl Told {
     }
 }
 
-/// Takes a line of a log, of which a deletion is that of the half of its lemmas that was used least. Whether it is a deletion.
+/// Takes a line of a log, of which a deletion is one of lemmas that were used least. Whether it is a deletion.
 fn take_line(
     rt: &impl Abort,
     alloc: Global,
@@ -106,15 +116,14 @@ fn take_line(
             false
         }
         StepRef::Delete { ids } => {
-            let least = told.least_used(alloc).expect(rt, "memory");
-            assert_eq!(rt; least.as_slice(), ids);
+            assert!(rt; told.are_least_used(alloc, ids).expect(rt, "memory"));
             told.delete(ids);
             true
         }
     }
 }
 
-/// Each deletion of a log is that of the half of its lemmas that was used least: how many deletions there are.
+/// Each deletion of a log is one of lemmas that were used least: how many deletions there are.
 fn deletions_of(rt: &impl Abort, alloc: Global, log: &[u8]) -> u32 {
     let mut told = Told {
         uses: Vec::new(alloc),
@@ -161,21 +170,27 @@ fn course(rt: &impl Abort, alloc: Global, base: &Base, limit: u64) -> u64 {
     digest_of(&log_at(rt, alloc, base, limit))
 }
 
-/// Limits of one search, and the digests there: up to its first restart, behind it, behind the halving of scores, and behind the first
-/// deletion.
-const COURSE: [(u64, u64); 4] = [
-    (100, 12731132725673882632),
-    (200, 177985762162999382),
-    (300, 4211408503376531513),
-    (2500, 14247880585096759520),
-];
+/// Limits of one search, and the digests there: in its first focused phase, in its first stable one, after the first deletion, and
+/// after a rephasing.
+const LIMITS: (u64, u64, u64, u64) = (200, 1200, 2500, 6000);
 
-/// The digests change where a search bumps, saves values, minimises, restarts, halves or forgets in another way.
+const DIGESTS: (u64, u64, u64, u64) = (
+    10866217410755790172,
+    14893062956026013742,
+    11508993254657979480,
+    6288443770448324569,
+);
+
+/// The digests change if a search bumps, saves values, minimises, restarts, changes its phase or forgets in another way.
 #[test]
 fn a_search_takes_its_course(rt: HostRuntime) -> Result<(), Fail> {
     let base = pigeons_base(rt.alloc())?;
-    for (limit, digest) in &COURSE {
-        assert_eq!(&rt; course(&rt, rt.alloc(), &base, *limit), *digest);
-    }
+    let digests = (
+        course(&rt, rt.alloc(), &base, LIMITS.0),
+        course(&rt, rt.alloc(), &base, LIMITS.1),
+        course(&rt, rt.alloc(), &base, LIMITS.2),
+        course(&rt, rt.alloc(), &base, LIMITS.3),
+    );
+    assert_eq!(&rt; digests, DIGESTS);
     Ok(())
 }

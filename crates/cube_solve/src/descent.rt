@@ -62,7 +62,11 @@ impl<P: Propagator> State<'_, P> {
         ensures conflict { IfSome result (IsConflict (live_of self.new.arena) self.new.trail.entries) }
         ensures quiet { IfNone result (IsQuiet (live_of self.new.arena) self.new.trail.entries) }
     {
-        self.propagator.propagate(&mut self.arena, &mut self.trail)
+        let before = self.trail.len() as u64;
+        let found = self.propagator.propagate(&mut self.arena, &mut self.trail);
+        let after = self.trail.len() as u64;
+        self.ticks = self.ticks.saturating_add(after.saturating_sub(before));
+        found
     }
 
     /// Propagates and decides until a clause or an assumption is false, or each variable has a value.

@@ -11,18 +11,17 @@ ghost use Rattle.watches.specs.Trails.{present};
 ghost use Rattle.conflict_analysis.specs.Lemmas.{IsClosing, NegatesAssumptions};
 ghost use Rattle.cube_solve.specs.inner.Forgetting.{AreRising, AreLemmas, MayForget};
 ghost use Rattle.cube_solve.specs.inner.Learning.{AreBelow, IsWritten, Learns};
-ghost use Rattle.cube_solve.specs.inner.Order.{AreWaiting};
 ghost use Rattle.cube_solve.specs.Outcome.{IsRightOutcome};
 ghost use Rattle.cube_solve.specs.inner.State.{IsAssuming};
 ghost use Rattle.cube_solve.specs.inner.Steady.{IsSteady, IsSearching};
 
 use crate::descent::Found;
 use crate::gaps::Gaps;
+use crate::levels::Levels;
 use crate::log::Log;
 use crate::model::read_model;
-use crate::order::Order;
 use crate::outcome::Outcome;
-use crate::pace::Pace;
+use crate::phases::Phases;
 use crate::state::State;
 use crate::uses::Uses;
 use conflict_analysis::{Analyser, Closing, Lemma, close_cube};
@@ -43,7 +42,8 @@ pub(crate) struct Search<'a, P> {
     analyser: Analyser,
     /// The lemma of the last conflict, whose room the next one takes.
     lemma: Lemma,
-    pace: Pace,
+    levels: Levels,
+    phases: Phases,
 }
 
 impl<P> Drop for Search<'_, P> {
@@ -57,18 +57,9 @@ impl<P> Drop for Search<'_, P> {
             gaps: _,
             analyser: _,
             lemma: _,
-            pace: _,
+            levels: _,
+            phases: _,
         } = self;
-    }
-}
-
-/// Halves the scores and the lemmas' uses when it is time.
-fn halve_in_time(pace: &Pace, order: &mut Order, uses: &mut Uses, lemmas: &[u64])
-    ensures { AreWaiting order.old order.new }
-{
-    if pace.halves() {
-        order.halve();
-        uses.halve(lemmas);
     }
 }
 
@@ -94,7 +85,8 @@ impl<'a, P: Propagator> Search<'a, P> {
             gaps: Gaps::new(base),
             analyser: Analyser::new(alloc),
             lemma: Lemma::new(alloc),
-            pace: Pace::new(),
+            levels: Levels::new(alloc, base.vars())?,
+            phases: Phases::new(),
         })
     }
 
@@ -111,7 +103,8 @@ impl<'a, P: Propagator> Search<'a, P> {
             gaps: _,
             analyser: _,
             lemma: _,
-            pace: _,
+            levels: _,
+            phases: _,
         } = self;
         log
     }
@@ -156,8 +149,19 @@ impl<'a, P: Propagator> Search<'a, P> {
             .analyse_into(&state.arena, &state.trail, conflict, &mut self.lemma)?;
         self.log.write(id, &self.lemma)?;
         self.uses.count(&self.lemma.hints);
-        state.order.bump(self.analyser.met());
-        state.order.bump(self.analyser.met_again());
+        self.uses.count_levels(
+            &mut self.levels,
+            &state.arena,
+            &state.trail,
+            &self.lemma.hints,
+        );
+        let levels = self.levels.count(&state.trail, &self.lemma.lits, u8::MAX);
+        let levels = levels.saturating_sub(1); // but the present one
+        self.phases.learn(levels);
+        state
+            .order
+            .bump(self.analyser.met(), self.analyser.met_again())?;
+        state.order.note(&state.trail);
         state.go_back(self.lemma.level);
         add_clause(
             state.propagator,
@@ -167,11 +171,11 @@ impl<'a, P: Propagator> Search<'a, P> {
             &self.lemma.lits,
         )?;
         self.lemmas.push(id)?;
-        self.uses.learn()?;
+        self.uses.learn(levels)?;
         Ok(())
     }
 
-    /// Counts a conflict; halves the scores and the uses, restarts and forgets lemmas when it is time.
+    /// Halves the uses, restarts and forgets lemmas when it is time.
     fn keep_pace(&mut self, top: u64) -> Result<(), AllocError>
         requires steady { IsSteady P.is_ready P.attached self.old.state }
         requires rising { AreRising self.old.lemmas.items }
@@ -183,20 +187,13 @@ impl<'a, P: Propagator> Search<'a, P> {
         ensures lemmas { OnOk result ((first : ℕ) → AreLemmas first (live_of self.old.state.arena) self.old.lemmas.items → AreLemmas first (live_of self.new.state.arena) self.new.lemmas.items) }
         ensures kept { OnOk result ((first : ℕ) → AreLemmas first (live_of self.old.state.arena) self.old.lemmas.items → MayForget first (live_of self.old.state.arena) (live_of self.new.state.arena) self.old.log self.new.log) }
     {
-        self.pace.count();
-        halve_in_time(
-            &self.pace,
-            &mut self.state.order,
-            &mut self.uses,
-            &self.lemmas,
-        );
-        if !self.pace.restarts() {
+        self.uses.halve_if(self.phases.halves(), &self.lemmas);
+        let beat = self.phases.beat(self.state.ticks);
+        self.state.follow(beat);
+        if self.lemmas.len() <= self.uses.most() {
             return Ok(());
         }
         self.state.go_back(0);
-        if self.lemmas.len() <= 2000 {
-            return Ok(());
-        }
         self.forget(top)?;
         Ok(())
     }

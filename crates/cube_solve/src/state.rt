@@ -11,6 +11,7 @@ ghost use Rattle.cube_solve.specs.inner.Steady.{IsSteady};
 
 use crate::loading::load;
 use crate::order::Order;
+use crate::phases::Beat;
 use clause_arena::Arena;
 use dimacs::Base;
 use std::alloc::{AllocError, Global};
@@ -24,6 +25,8 @@ pub(crate) struct State<'a, P> {
     pub(crate) order: Order,
     /// How many levels, from the first on, are those of assumptions.
     pub(crate) assumed: u32,
+    /// How many literals were propagated.
+    pub(crate) ticks: u64,
 }
 
 impl<P> Drop for State<'_, P> {
@@ -34,6 +37,7 @@ impl<P> Drop for State<'_, P> {
             trail: _,
             order: _,
             assumed: _,
+            ticks: _,
         } = self;
     }
 }
@@ -62,6 +66,7 @@ impl<'a, P: Propagator> State<'a, P> {
             trail,
             order,
             assumed: 0,
+            ticks: 0,
         })
     }
 
@@ -78,5 +83,27 @@ impl<'a, P: Propagator> State<'a, P> {
     {
         self.order.put_back(&self.trail, level);
         self.propagator.undo(&mut self.trail, level);
+    }
+
+    /// Does what a conflict is followed by: a restart leaves the levels of assumptions.
+    pub(crate) fn follow(&mut self, beat: Beat)
+        requires { IsSteady P.is_ready P.attached self.old }
+        ensures steady { IsSteady P.is_ready P.attached self.new }
+        ensures arena { self.new.arena ≡ self.old.arena }
+        ensures vars { self.new.trail.vars ≡ self.old.trail.vars }
+        ensures assuming { (q : Cube) → IsAssuming q self.old.trail.entries self.old.assumed → IsAssuming q self.new.trail.entries self.new.assumed }
+    {
+        match beat {
+            Beat::Go => {}
+            Beat::Restart => self.go_back(self.assumed),
+            Beat::Change => {
+                self.go_back(0);
+                self.order.change();
+            }
+            Beat::Rephase(kind) => {
+                self.go_back(0);
+                self.order.rephase(kind);
+            }
+        }
     }
 }

@@ -1,22 +1,41 @@
-//! How much lemmas are used, by which it is told which are forgotten.
+//! How much lemmas are used, and how many levels they have, by which it is told which are forgotten.
 //!
 //! The counts are hints: whatever they are, what is chosen by them may go.
 
-ghost use Rattle.std.specs.Prelude.{◌≡◌, ◌<◌, [], ◌∷◌, ◌++◌, ◌⊎◌, length, All, Contains, IfOk, IfSome, OnOk};
+ghost use Rattle.std.specs.Prelude.{◌≡◌, ◌<◌, ◌≤◌, [], ◌∷◌, ◌++◌, ◌⊎◌, length, All, Contains, IfOk, IfSome, OnOk};
+ghost use Rattle.clause_arena.specs.Clauses.{live_of};
+ghost use Rattle.conflict_analysis.specs.Built.{AreInside};
 ghost use Rattle.cube_solve.specs.inner.Forgetting.{AreRising};
 
+use crate::levels::Levels;
+use clause_arena::Arena;
 use std::alloc::{AllocError, Global};
+use watches::Trail;
 
 /// What a use counts: it is lost at the eleventh halving, and from 64 uses on more count as many.
 const USE: u16 = 1024;
 
-/// How much the lemmas were used of late: each counts the analyses that met it, its own among them, and is halved when the scores are.
+/// A lemma of at most so many levels is not forgotten.
+const FEW_LEVELS: u8 = 2;
+
+/// How many lemmas may be live beside those that stay at the first reduction, and how many more at each later one.
+const MOST_LEMMAS: usize = 2000;
+
+const MORE_LEMMAS: usize = 20;
+
+/// How much the lemmas were used of late: each counts the analyses that met it, its own among them, and is halved from time to
+/// time. Beside it stand the fewest levels that its literals had in one of them.
 #[derive(Drop)]
 pub(crate) struct Uses {
     /// The number of the first lemma.
     first: u64,
     /// A count for each lemma, by its number, live or not.
     counts: Vec<u16>,
+    /// The levels of each lemma, but the one on which it was learnt.
+    levels: Vec<u8>,
+    reductions: usize,
+    /// How many lemmas are live at the next reduction.
+    most: usize,
 }
 
 /// Puts a number behind others, where it is to be kept.
@@ -29,19 +48,94 @@ fn keep_if(kept: bool, number: u64, numbers: &mut Vec<u64>) -> Result<(), AllocE
     Ok(())
 }
 
+/// How many levels the clause of a number has, and at most `most`.
+fn count_of(levels: &mut Levels, arena: &Arena, trail: &Trail, number: u64, most: u8) -> u8
+    requires { AreInside (live_of arena.now) trail.now.vars }
+{
+    match arena.find(number) {
+        Some(at) => levels.count(trail, arena.clause(at), most),
+        None => most,
+    }
+}
+
 impl Uses {
     /// No lemma yet: the first one will have this number.
     pub(crate) fn new(alloc: Global, first: u64) -> Uses {
         Uses {
             first,
             counts: Vec::new(alloc),
+            levels: Vec::new(alloc),
+            reductions: 0,
+            most: MOST_LEMMAS,
         }
     }
 
     /// The next lemma was learnt.
-    pub(crate) fn learn(&mut self) -> Result<(), AllocError> {
+    pub(crate) fn learn(&mut self, levels: u8) -> Result<(), AllocError> {
         self.counts.push(USE)?;
+        self.levels.push(levels)?;
         Ok(())
+    }
+
+    /// The levels of a clause; 0 for one that is no lemma.
+    fn levels_of(&self, number: u64) -> u8 {
+        match number.checked_sub(self.first) {
+            Some(place) => match self.levels.get(place as usize) {
+                Some(&levels) => levels,
+                None => 0,
+            },
+            None => 0,
+        }
+    }
+
+    /// Whether a lemma may be forgotten.
+    pub(crate) fn may_go(&self, number: u64) -> bool {
+        self.levels_of(number) > FEW_LEVELS
+    }
+
+    /// An analysis met the clauses of these numbers: of those that may be forgotten the levels are counted again, and the
+    /// lesser number stays.
+    pub(crate) fn count_levels(
+        &mut self,
+        levels: &mut Levels,
+        arena: &Arena,
+        trail: &Trail,
+        met: &[u64],
+    )
+        requires { AreInside (live_of arena.now) trail.now.vars }
+    {
+        for &number in met {
+            let most = self.levels_of(number);
+            if most > FEW_LEVELS {
+                self.lower(number, count_of(levels, arena, trail, number, most));
+            }
+        }
+    }
+
+    /// A lemma has so many levels now.
+    fn lower(&mut self, number: u64, levels: u8) {
+        if let Some(place) = number.checked_sub(self.first) {
+            if let Some(kept) = self.levels.get_mut(place as usize) {
+                *kept = levels;
+            }
+        }
+    }
+
+    /// How many lemmas may be live before some are forgotten.
+    pub(crate) fn most(&self) -> usize
+        ensures { 2000 ≤ result }
+    {
+        self.most.max(MOST_LEMMAS)
+    }
+
+    /// So many of the live lemmas are forgotten: what no candidate was stays, and the others may double again.
+    pub(crate) fn reduce(&mut self, live: usize, gone: usize) {
+        self.reductions = self.reductions.saturating_add(1);
+        let more = self.reductions.saturating_mul(MORE_LEMMAS);
+        self.most = live
+            .saturating_sub(gone.saturating_mul(2))
+            .saturating_add(MOST_LEMMAS)
+            .saturating_add(more);
     }
 
     /// Where the count of a clause stands, where it is a lemma.
@@ -65,8 +159,11 @@ impl Uses {
         }
     }
 
-    /// Halves the counts of these lemmas.
-    pub(crate) fn halve(&mut self, lemmas: &[u64]) {
+    /// Halves the counts of these lemmas, if it is time.
+    pub(crate) fn halve_if(&mut self, is_due: bool, lemmas: &[u64]) {
+        if !is_due {
+            return;
+        }
         for &number in lemmas {
             if let Some(place) = self.place_of(number) {
                 self.counts[place] /= 2;

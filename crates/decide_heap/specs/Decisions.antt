@@ -1,5 +1,5 @@
 -- The variables that wait to be decided, and in which order.
-use Rattle.std.specs.Prelude.{◌≡◌, ℕ, ◌+◌, ◌-◌, ◌^◌, ◌<◌, ◌≤◌, max, Bool, true, false, List, ◌++◌, replicate, slice_index, slice_index_or, slice_set, nat_lt, if◌then◌else◌}
+use Rattle.std.specs.Prelude.{◌≡◌, ℕ, ◌+◌, ◌-◌, ◌^◌, ◌<◌, ◌≤◌, max, min, Bool, true, false, List, ◌++◌, replicate, slice_index, slice_index_or, slice_set, nat_lt, if◌then◌else◌}
 
 -- how many variables there are, the score of each, that of variable 1 first, and whether each is in
 pub record Decisions : Type 0 where
@@ -33,6 +33,10 @@ pub record IsBest (d : Decisions) (v : ℕ) : Type 0 where
 -- one more, up to the greatest number of 64 bits
 abbrev pub one_more : ℕ → ℕ
 one_more n = if nat_lt n (2 ^ 64 - 1) then n + 1 else n
+
+-- so much more, up to the greatest number of 64 bits
+abbrev pub so_much_more : ℕ → ℕ → ℕ
+so_much_more n amount = min (n + amount) (2 ^ 64 - 1)
 
 -- with room for the variables from 1 to vars: new ones have the score 0, and are not in
 abbrev pub with_room : Decisions → ℕ → Decisions

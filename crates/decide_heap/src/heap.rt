@@ -1,7 +1,7 @@
 //! The heap as its callers see it.
 
 ghost use Rattle.std.specs.Prelude.{◌≡◌, ℕ, ◌+◌, ◌/◌, ◌^◌, ◌<◌, ◌≤◌, true, false, [], map, OnOk, OnErr, IfNone, IfSome};
-ghost use Rattle.decide_heap.specs.Decisions.{Decisions, IsWithin, IsBest, score_of, is_in, one_more, with_room, with_member, with_score};
+ghost use Rattle.decide_heap.specs.Decisions.{Decisions, IsWithin, IsBest, score_of, is_in, one_more, so_much_more, with_room, with_member, with_score};
 
 use crate::rows::Rows;
 use dimacs::Var;
@@ -84,11 +84,27 @@ impl DecideHeap {
         self.rows.raise(var.number() as usize - 1);
     }
 
+    /// Adds to the score of a variable, in or out. A score is 2^64 - 1 at the most.
+    pub fn add(&mut self, var: Var, amount: u64)
+        requires { IsWithin self.old var }
+        ensures { self.new ≡ with_score self.old var (so_much_more (score_of self.old var) amount) }
+    {
+        self.rows.raise_by(var.number() as usize - 1, amount);
+    }
+
     /// Halves all scores, rounding down. It takes time linear in the number of variables.
     pub fn halve(&mut self)
         ensures { self.new ≡ record self.old { scores = map (λ n. n / 2) self.old.scores } }
     {
-        self.rows.halve_all();
+        self.rows.divide_all(2);
+    }
+
+    /// Divides all scores, rounding down. It takes time linear in the number of variables.
+    pub fn divide(&mut self, by: u64)
+        requires { 0 < by }
+        ensures { self.new ≡ record self.old { scores = map (λ n. n / by) self.old.scores } }
+    {
+        self.rows.divide_all(by);
     }
 
     /// Takes out the variable with the greatest score, and of several the lowest; None where no variable is in.

@@ -1,7 +1,7 @@
 //! What the calls do to the tables: the heap, the place of each variable in it, and the scores.
 
-ghost use Rattle.std.specs.Prelude.{◌≡◌, ◌/◌, ◌<◌, true, false, length, map, slice_index, slice_index_or, slice_set};
-ghost use Rattle.decide_heap.specs.Decisions.{one_more};
+ghost use Rattle.std.specs.Prelude.{◌≡◌, ◌/◌, ◌<◌, ◌≤◌, true, false, length, map, slice_index, slice_index_or, slice_set};
+ghost use Rattle.decide_heap.specs.Decisions.{one_more, so_much_more};
 ghost use Rattle.decide_heap.specs.inner.Heap.{tables_of, decisions_of, IsHeap};
 
 use crate::rows::Rows;
@@ -14,12 +14,13 @@ fn next_score(score: u64) -> u64
     if score < u64::MAX { score + 1 } else { score }
 }
 
-/// Halves each number, rounding down.
-fn halve_each(scores: &mut [u64])
-    ensures { scores.new ≡ map (λ n. n / 2) scores.old }
+/// Divides each number, rounding down.
+fn divide_each(scores: &mut [u64], by: u64)
+    requires { 0 < by }
+    ensures { scores.new ≡ map (λ n. n / by) scores.old }
 {
     for score in scores.iter_mut() {
-        *score /= 2;
+        *score /= by;
     }
 }
 
@@ -60,7 +61,23 @@ impl Rows {
         first
     }
 
-    /// Adds one to a variable's score, and lifts the variable where it is in.
+    /// Gives a variable a score that is no lower than its own, and lifts the variable if it is in.
+    fn put_score(&mut self, row: usize, score: u64)
+        requires heap { IsHeap (tables_of self.old) }
+        requires within { row < length self.old.scores.items }
+        requires risen { slice_index self.old.scores.items row ≤ score }
+        ensures heap { IsHeap (tables_of self.new) }
+        ensures score { let old = decisions_of (tables_of self.old) in
+            decisions_of (tables_of self.new) ≡ record old { scores = slice_set old.scores row score } }
+    {
+        self.scores[row] = score;
+        let at = self.places[row] as usize;
+        if at < self.len {
+            self.sift_up(at);
+        }
+    }
+
+    /// Adds one to a variable's score, and lifts the variable if it is in.
     pub fn raise(&mut self, row: usize)
         requires heap { IsHeap (tables_of self.old) }
         requires within { row < length self.old.scores.items }
@@ -68,22 +85,32 @@ impl Rows {
         ensures score { let old = decisions_of (tables_of self.old) in
             decisions_of (tables_of self.new) ≡ record old { scores = slice_set old.scores row (one_more (slice_index old.scores row)) } }
     {
-        self.scores[row] = next_score(self.scores[row]);
-        let at = self.places[row] as usize;
-        if at < self.len {
-            self.sift_up(at);
-        }
+        let score = next_score(self.scores[row]);
+        self.put_score(row, score);
     }
 
-    /// Halves all scores. Two that were different may be the same then, so that the lower variable has to come first: the
+    /// Adds to a variable's score, and lifts the variable if it is in.
+    pub fn raise_by(&mut self, row: usize, amount: u64)
+        requires heap { IsHeap (tables_of self.old) }
+        requires within { row < length self.old.scores.items }
+        ensures heap { IsHeap (tables_of self.new) }
+        ensures score { let old = decisions_of (tables_of self.old) in
+            decisions_of (tables_of self.new) ≡ record old { scores = slice_set old.scores row (so_much_more (slice_index old.scores row) amount) } }
+    {
+        let score = self.scores[row].saturating_add(amount);
+        self.put_score(row, score);
+    }
+
+    /// Divides all scores. Two that were different may be the same then, so that the lower variable has to come first: the
     /// heap is put in order anew.
-    pub fn halve_all(&mut self)
-        requires { IsHeap (tables_of self.old) }
+    pub fn divide_all(&mut self, by: u64)
+        requires divisor { 0 < by }
+        requires heap { IsHeap (tables_of self.old) }
         ensures heap { IsHeap (tables_of self.new) }
         ensures scores { let old = decisions_of (tables_of self.old) in
-            decisions_of (tables_of self.new) ≡ record old { scores = map (λ n. n / 2) old.scores } }
+            decisions_of (tables_of self.new) ≡ record old { scores = map (λ n. n / by) old.scores } }
     {
-        halve_each(&mut self.scores);
+        divide_each(&mut self.scores, by);
         self.heapify();
     }
 }

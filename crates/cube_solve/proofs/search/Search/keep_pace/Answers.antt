@@ -1,31 +1,24 @@
-use Rattle.std.proofs.Common.{◌+◌, inl, [], refl, sym, subst}
+use Rattle.std.proofs.Common.{◌+◌, inl, [], refl, sym, subst, ◌∙◌}
 use Rattle.clause_arena.specs.Clauses.{Clauses, live_of}
 use Rattle.cube_solve.specs.inner.Forgetting.{AreLemmas, AreLess}
 use Rattle.cube_solve.specs.inner.Learning.{AreBelow}
 use Rattle.cube_solve.proofs.ForgettingLemmas.{less_none}
-use Rattle.cube_solve.proofs.OrderLemmas.{order_same}
 use Rattle.cube_solve.proofs.search.Search.keep_pace.Goals as goal
 
 pub go_back-requires : goal.go_back-requires
-go_back-requires g c =
-    let s = c.args.self.now.state in
-    record {
-      ready = (c.requires.steady).ready;
-      state = (c.requires.steady).state;
-      order = order_same s.trail s.order c.halve_in_time.new.order c.halve_in_time.ensures (c.requires.steady).order;
-    }
+go_back-requires g c = c.follow.ensures.steady
 
-pub returns-then-len-le2000-clause-kept : goal.returns-then-len-le2000-clause-kept
-returns-then-len-le2000-clause-kept g c = λ first h.
+pub returns-then-len-most-clause-kept : goal.returns-then-len-most-clause-kept
+returns-then-len-most-clause-kept g c = λ first h.
     let old = live_of c.args.self.now.state.arena in
-    inl (subst (λ (m : Clauses). AreLess old [] (live_of m)) (sym c.go_back.ensures.arena) (less_none old), refl)
+    inl (subst (λ (m : Clauses). AreLess old [] (live_of m)) (sym c.follow.ensures.arena) (less_none old), refl)
 
 pub forget-requires-clause-numbers : goal.forget-requires-clause-numbers
-forget-requires-clause-numbers g c = subst (λ (m : Clauses). AreBelow (c.args.top + 1) (live_of m)) (sym c.go_back.ensures.arena) c.requires.numbers
+forget-requires-clause-numbers g c = subst (λ (m : Clauses). AreBelow (c.args.top + 1) (live_of m)) (sym (c.go_back.ensures.arena ∙ c.follow.ensures.arena)) c.requires.numbers
 
 pub returns-clause-assuming : goal.returns-clause-assuming
-returns-clause-assuming g c = λ q h. c.in_ok-forget.ensures.assuming q (c.go_back.ensures.assuming q h)
+returns-clause-assuming g c = λ q h. c.in_ok-forget.ensures.assuming q (c.go_back.ensures.assuming q (c.follow.ensures.assuming q h))
 
 pub returns-clause-lemmas : goal.returns-clause-lemmas
 returns-clause-lemmas g c = λ first h.
-    c.in_ok-forget.ensures.lemmas first (subst (λ (m : Clauses). AreLemmas first (live_of m) c.args.self.now.lemmas.items) (sym c.go_back.ensures.arena) h)
+    c.in_ok-forget.ensures.lemmas first (subst (λ (m : Clauses). AreLemmas first (live_of m) c.args.self.now.lemmas.items) (sym (c.go_back.ensures.arena ∙ c.follow.ensures.arena)) h)

@@ -1,4 +1,4 @@
-use Rattle.std.proofs.Common.{◌≡◌, ℕ, ◌-◌, List, [], ◌∷◌, ◌++◌, None, ◌∙◌, ap, subst, arith}
+use Rattle.std.proofs.Common.{◌≡◌, ℕ, ◌-◌, List, [], ◌∷◌, ◌++◌, None, ◌∙◌, ap, sym, subst, arith}
 use Rattle.std.specs.List.{Contains}
 use Rattle.std.specs.FinMap.{get, insert}
 use Rattle.dimacs.specs.logic.Literal.{Clause}
@@ -7,6 +7,7 @@ use Rattle.watches.specs.Law.{AreSame}
 use Rattle.watches.specs.Trails.{present}
 use Rattle.cube_solve.specs.inner.Learning.{AreBelow}
 use Rattle.cube_solve.specs.inner.Levels.{IsAdded}
+use Rattle.cube_solve.specs.inner.Order.{IsOrder}
 use Rattle.cube_solve.proofs.BuiltLemmas.{sound}
 use Rattle.cube_solve.proofs.ClauseLemmas.{is_added}
 use Rattle.cube_solve.proofs.LevelLemmas.{is_fresh}
@@ -40,15 +41,18 @@ write-requires g c =
     lemma_limits (live_of c.args.self.now.state.arena) c.args.self.now.state.trail.vars c.args.id c.analyse_into.new.lemma.lits.items c.analyse_into.new.lemma.hints.items
     c.requires.id c.requires.numbers c.requires.limit c.in_ok-analyse_into.ensures.lemma.within c.in_ok-analyse_into.ensures.lemma.rup
 
-pub bump-requires : goal.bump-requires
-bump-requires g c = rw (c.met.ensures, ((c.requires.steady).order).vars) (c.in_ok-analyse_into.ensures.met).within
+pub count_levels-requires : goal.count_levels-requires
+count_levels-requires g c = ((c.requires.steady).state).inside
+
+pub bump-requires-clause-met : goal.bump-requires-clause-met
+bump-requires-clause-met g c = rw (c.met.ensures, ((c.requires.steady).order).vars) (c.in_ok-analyse_into.ensures.met).within
 
 pub go_back-requires : goal.go_back-requires
 go_back-requires g c = record {
   ready = (c.requires.steady).ready;
   state = (c.requires.steady).state;
   order = let t = c.args.self.now.state.trail in
-      order_same t c.bump.new.self c.bump-2.new.self c.bump-2.ensures (order_same t c.args.self.now.state.order c.bump.new.self c.bump.ensures (c.requires.steady).order);
+      subst (IsOrder t) (sym c.note.ensures) (order_same t c.args.self.now.state.order c.bump.new.self c.bump.ensures (c.requires.steady).order);
 }
 
 pub add_clause-requires-clause-fresh : goal.add_clause-requires-clause-fresh
@@ -70,7 +74,7 @@ returns-clause-steady g c =
     record {
       ready = c.in_ok-add_clause.ensures.ready;
       state = state_learned s.arena c.add_clause.new.arena c.args.id lits
-          (joined s.arena b.new.self.arena c.add_clause.new.arena c.args.id lits c.deref-2.result.now c.requires.numbers b.ensures.arena c.deref-2.ensures.value c.in_ok-add_clause.ensures.clauses)
+          (joined s.arena b.new.self.arena c.add_clause.new.arena c.args.id lits c.deref-4.result.now c.requires.numbers b.ensures.arena c.deref-4.ensures.value c.in_ok-add_clause.ensures.clauses)
           _ _ s.trail b.new.self.trail c.analyse_into.new.lemma.level (c.in_ok-add_clause.ensures.ok ∙ ap (λ (xs : List ℕ). xs ++ c.args.id ∷ []) b.ensures.attached)
           (c.requires.steady).state e.asserting e.within b.ensures.vars b.ensures.front b.ensures.kept;
       order = (b.ensures.steady).order;
@@ -94,5 +98,5 @@ returns-clause-learns g c =
         text = c.in_ok-write.ensures;
       };
       is_new = is_fresh (live_of m) es lits c.analyse_into.new.lemma.level (sound (live_of m) es s.built) s.quiet e.asserting;
-      added = joined m c.go_back.new.self.arena c.add_clause.new.arena c.args.id lits c.deref-2.result.now c.requires.numbers c.go_back.ensures.arena c.deref-2.ensures.value c.in_ok-add_clause.ensures.clauses;
+      added = joined m c.go_back.new.self.arena c.add_clause.new.arena c.args.id lits c.deref-4.result.now c.requires.numbers c.go_back.ensures.arena c.deref-4.ensures.value c.in_ok-add_clause.ensures.clauses;
     }

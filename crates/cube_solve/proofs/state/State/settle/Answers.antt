@@ -15,21 +15,21 @@ use Rattle.cube_solve.proofs.state.State.settle.Goals as goal
 pub returns-clause-steady : goal.returns-clause-steady
 returns-clause-steady g c =
     let s = c.args.self.now in
-    let e = c.propagate.ensures in
+    let e = c.propagate-found.ensures in
     record {
       ready = e.ready;
-      state = state_after _ _ s.arena c.propagate.new.arena s.trail c.propagate.new.trail e.attached c.requires.state e.clauses e.trail;
-      order = order_grows s.trail c.propagate.new.trail s.order (e.trail).more (e.trail).vars (e.trail).entries c.requires.order;
+      state = state_after _ _ s.arena c.propagate-found.new.arena s.trail c.propagate-found.new.trail e.attached c.requires.state e.clauses e.trail;
+      order = order_grows s.trail c.propagate-found.new.trail s.order (e.trail).more (e.trail).vars (e.trail).entries c.requires.order;
     }
 
 pub returns-clause-longer : goal.returns-clause-longer
-returns-clause-longer g c = omega (arith, length-append c.args.self.now.trail.entries c.propagate.ensures.trail.more, ap (length {A = Assigned}) c.propagate.ensures.trail.entries)
+returns-clause-longer g c = omega (arith, length-append c.args.self.now.trail.entries c.propagate-found.ensures.trail.more, ap (length {A = Assigned}) c.propagate-found.ensures.trail.entries)
 
 pub returns-clause-assuming : goal.returns-clause-assuming
-returns-clause-assuming g c = λ q h. assuming_grows _ c.args.self.now.arena c.args.self.now.trail c.propagate.new.trail q c.args.self.now.assumed c.propagate.ensures.trail h
+returns-clause-assuming g c = λ q h. assuming_grows _ c.args.self.now.arena c.args.self.now.trail c.propagate-found.new.trail q c.args.self.now.assumed c.propagate-found.ensures.trail h
 
 pub returns-clause-conflict : goal.returns-clause-conflict
-returns-clause-conflict g c = IfSome_then c.propagate.result c.propagate.ensures.conflict (λ n h. (h.0, h.1.1, h.2))
+returns-clause-conflict g c = IfSome_then c.propagate-found.result c.propagate-found.ensures.conflict (λ n h. (h.0, h.1.1, h.2))
 
 -- the attached clauses are the live ones
 quiet_all : (o : Option ℕ) (att : List ℕ) (live : Live) (es : List Assigned) → ((n : ℕ) (C : Clause) → live n C → Contains att n) → IfNone o (IsQuiet (live_among att live) es) → IfNone o (IsQuiet live es)
@@ -39,5 +39,5 @@ quiet_all (Some n) att live es all q = tt
 pub returns-clause-quiet : goal.returns-clause-quiet
 returns-clause-quiet g c =
     let t = c.args.self.now.trail in
-    let s = state_after _ _ c.args.self.now.arena c.propagate.new.arena t c.propagate.new.trail c.propagate.ensures.attached c.requires.state c.propagate.ensures.clauses c.propagate.ensures.trail in
-    quiet_all c.propagate.result _ (live_of c.propagate.new.arena) c.propagate.new.trail.entries (λ n C h. subst (λ (xs : List ℕ). Contains xs n) c.propagate.ensures.attached (s.all_attached n C h)) c.propagate.ensures.quiet
+    let s = state_after _ _ c.args.self.now.arena c.propagate-found.new.arena t c.propagate-found.new.trail c.propagate-found.ensures.attached c.requires.state c.propagate-found.ensures.clauses c.propagate-found.ensures.trail in
+    quiet_all c.propagate-found.result _ (live_of c.propagate-found.new.arena) c.propagate-found.new.trail.entries (λ n C h. subst (λ (xs : List ℕ). Contains xs n) c.propagate-found.ensures.attached (s.all_attached n C h)) c.propagate-found.ensures.quiet
