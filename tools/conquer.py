@@ -15,25 +15,27 @@ same command goes on with what is there. COMMAND is a command line with {cnf} an
 with {drat} between them and &&. docs/ENGINES.md tells more.
 """
 import argparse
+import dataclasses
 import json
 import os
 import shlex
 import shutil
 import signal
-import subprocess
 import sys
-import types
 
 sys.dont_write_bytecode = True
 
-from conquering import report
+from conquering import places, report
 from conquering.engines import ENGINES, work
 from conquering.files import Fault, Folder, last_line, publish
-from conquering.processes import Bell
+from conquering.leaf import Plan
+from conquering.processes import Bell, status_of
 from conquering.run import Run
-from conquering.screen import Screen
+from conquering.screen import Screen, plain
+from telling.words import Named, explain, unwritable
 
-HERE = os.path.dirname(os.path.abspath(__file__))
+DEPTH = 6  # if none is asked for
+FOREIGN = "c cubes of another formula"
 SOLVERS = {
     "cadical": "cadical -q --lrat --no-binary {cnf} {lrat}",
     "kissat": "kissat -q --no-factor --no-binary {cnf} {drat}"
@@ -43,14 +45,13 @@ SOLVERS = {
 
 class Words(argparse.ArgumentParser):
     def error(self, message):
-        print("c usage")
-        sys.exit(1)
+        raise Fault("c usage", message)
 
 
 def number(least, most):
     def read(word):
         if not (word.isascii() and word.isdigit() and least <= int(word) <= most):
-            raise argparse.ArgumentTypeError("out of range")
+            raise argparse.ArgumentTypeError("%s is no number from %d to %d" % (word, least, most))
         return int(word)
 
     return read
@@ -63,7 +64,7 @@ def words():
     option("--solver", metavar="NAME", default="satcluster", help="who searches under a leaf")
     option("--engine", default="local", choices=sorted(ENGINES), help="who starts the jobs")
     option("--jobs", metavar="N", type=number(1, most), help="how many at a time; as many as cores")
-    option("--depth", metavar="D", type=number(0, 16), default=6, help="how deep to split; 6")
+    option("--depth", metavar="D", type=number(0, 16), help="how deep to split; %d" % DEPTH)
     option("--cubes-from", metavar="FILE", help="complete the cubes that this file lists")
     option("--limit", metavar="L", type=number(1, most), help="lemmas before a leaf is cut in two")
     option("--seconds", metavar="S", type=number(1, most), help="the same in seconds of a search")
@@ -76,50 +77,97 @@ def words():
 
 
 def found(word):
-    path = shutil.which(word)
+    path = places.found(word)
     if path is None:
-        more = ": build it, or name it with --program" if word == "satcluster" else ""
-        raise Fault("c cannot run " + word + more)
-    return os.path.abspath(path)
+        is_ours = word == "satcluster"
+        raise Fault("c cannot run " + word + (": build it, or name it with --program" * is_ours),
+                    "There is no program %s%s." % (word, "" if "/" in word else " on the path"))
+    return path
+
+
+def solver_of(asked):
+    """The commands of another solver; None for our own search."""
+    if asked.solver == "satcluster":
+        return None
+    line = SOLVERS.get(asked.solver, asked.solver)
+    commands = [shlex.split(command) for command in line.split("&&")]
+    why = wrong_solver(asked, line, commands)
+    if why:
+        raise Fault("c usage", why)
+    return [[found(command[0])] + command[1:] for command in commands]
+
+
+def wrong_solver(asked, line, commands):
+    missing = [mark for mark in ("{cnf}", "{lrat}") if mark not in line]
+    if len(missing) == 2 and len(line.split()) == 1:
+        return ("--solver %s is none of satcluster, %s; a command line of another solver has {cnf} "
+                "for the formula and {lrat} for the proof" % (line, ", ".join(sorted(SOLVERS))))
+    if missing:
+        return "the command line of --solver has no %s" % " and no ".join(missing)
+    if not all(commands):
+        return "the command line of --solver has nothing beside &&"
+    if asked.limit:
+        return "--limit counts the lemmas of our own search: with another solver use --seconds"
+    return None
 
 
 def plan_of(asked):
-    """What every job has to know; it is kept as a file for those that run elsewhere."""
-    built = os.path.join(HERE, "..", "crates", "satcluster", "out", "satcluster")
-    program = found(asked.program or (built if os.path.exists(built) else "satcluster"))
-    solver = None
-    if asked.solver != "satcluster":
-        line = SOLVERS.get(asked.solver, asked.solver)
-        commands = [shlex.split(command) for command in line.split("&&")]
-        if "{cnf}" not in line or "{lrat}" not in line or not all(commands) or asked.limit:
-            raise Fault("c usage")
-        solver = [[found(command[0])] + command[1:] for command in commands]
-    return types.SimpleNamespace(program=program, solver=solver, limit=asked.limit,
-                                 seconds=asked.seconds, input=os.path.abspath(asked.INPUT))
+    program = found(places.word_of_program(asked.program))
+    return Plan(program, os.path.abspath(asked.INPUT), solver_of(asked), asked.limit, asked.seconds)
 
 
 def test_places(proof, formula):
     """Tells at once, and not after hours, what cannot be read or written."""
     if not os.path.isfile(formula) or not os.access(formula, os.R_OK):
-        raise Fault("c cannot read input")
+        is_other = os.path.exists(formula) and not os.path.isdir(formula)
+        raise Fault("c cannot read input", *["It is no regular file."] * is_other)
     if proof is None:
         return
     right = os.access(os.path.dirname(os.path.realpath(proof)), os.W_OK)
     if os.path.lexists(proof):
         right = right and os.path.isfile(proof) and not os.path.samefile(proof, formula)
     if not right:
-        raise Fault("c cannot write proof")
+        raise Fault("c cannot write proof", unwritable(proof, formula) or "It is no regular file.")
+
+
+def words_of_split(asked):
+    if asked.cubes_from:
+        return ["--complete", asked.cubes_from]
+    return ["--depth", str(DEPTH if asked.depth is None else asked.depth)]
 
 
 def plant(folder, plan, asked):
-    """Makes the first tree. Where there is a tree it stands, so that logs keep their leaves."""
+    """Makes the first tree."""
     part = folder.at("scratch", "tree")
-    how = ["--complete", asked.cubes_from] if asked.cubes_from else ["--depth", str(asked.depth)]
-    with open(part, "wb") as tree:
-        status = subprocess.call([plan.program, "cubes", *how, plan.input], stdout=tree)
-    if status != 0:
+    how = words_of_split(asked)
+    if status_of([plan.program, "cubes", *how, plan.input], part) != 0:
         raise Fault(last_line(part))
     publish(part, folder.at("trees", "1.icnf"))
+    plan.split = " ".join(how)
+
+
+def take_over(folder, plan, asked, screen):
+    """Where there is a tree it stands, so that logs keep their leaves. Tells if words ask for
+    another one."""
+    plan.split = plan_before(folder).get("split", "")
+    is_asked = asked.depth is not None or asked.cubes_from
+    if is_asked and plan.split != " ".join(words_of_split(asked)):
+        word = "--cubes-from" if asked.cubes_from else "--depth"
+        screen.say("c %s is not used: a tree stands in the folder; %s" % (word, anew(folder)))
+
+
+def anew(folder):
+    return "to begin anew: rm -r " + shlex.quote(folder.path)
+
+
+def plan_before(folder):
+    """The plan of an earlier start, as far as it can be read."""
+    try:
+        with open(folder.at("plan.json")) as file:
+            plan = json.load(file)
+    except (OSError, ValueError):
+        return {}
+    return plan if isinstance(plan, dict) else {}
 
 
 def put_proof(folder, proof):
@@ -128,13 +176,22 @@ def put_proof(folder, proof):
     target = os.path.realpath(proof) if proof else folder.at("proof.lrat")
     try:
         if os.stat(os.path.dirname(target)).st_dev != os.stat(made).st_dev:
-            shutil.copyfile(made, target + ".part")
-            made = target + ".part"
+            made = copied(made, target + ".part")
         if os.path.exists(target):
             shutil.copymode(target, made)
         publish(made, target)
-    except OSError:
-        raise Fault("c cannot write proof")
+    except OSError as why:
+        raise Fault("c cannot write proof", "%s: %s." % (target, why.strerror))
+
+
+def copied(made, part):
+    """Copies it to another disk; a copy that is broken off, by a signal too, is taken away."""
+    try:
+        return shutil.copyfile(made, part)
+    except BaseException:
+        if os.path.exists(part):
+            os.remove(part)
+        raise
 
 
 def answer_of(run, engine):
@@ -160,19 +217,23 @@ def conquer(asked, screen):
     test_places(asked.PROOF, plan.input)
     folder = Folder(asked.folder or asked.INPUT + ".conquer")
     folder.lock()
-    if not folder.newest_tree():
+    before = plan_before(folder)
+    if folder.newest_tree():
+        take_over(folder, plan, asked, screen)
+    else:
         plant(folder, plan, asked)
     jobs = asked.jobs or (None if asked.engine == "slurm" else cores())
     run = Run(folder, plan, screen, Bell(), jobs)
     try:
         engine.settle(run)
         folder.clean()
-        folder.write("plan.json", json.dumps(vars(plan)))
+        folder.write("plan.json", json.dumps(dataclasses.asdict(plan)))
         status, lines = answer_of(run, engine)
     finally:
         run.end_join()
     if status not in (0, 10, 20):
-        raise Fault(lines[-1] if lines else "c join ends with %d" % status)
+        line = lines[-1] if lines else "c join ends with %d" % status
+        raise Fault(line, *foreign(folder, before) if line == FOREIGN else [])
     if status == 20:
         put_proof(folder, asked.PROOF)
     for line in lines:
@@ -184,6 +245,14 @@ def conquer(asked, screen):
     return status
 
 
+def foreign(folder, before):
+    """What is told of a folder whose tree is one of another formula, and keeps its plan."""
+    folder.write("plan.json", json.dumps(before))
+    other = ", of " + before["input"] if "input" in before else ""
+    return ["The folder %s holds a run of another formula%s." % (folder.path, other),
+            "Name another folder with --folder, or " + anew(folder)]
+
+
 def draw(run, status):
     """The report is a picture of the run: that there is none changes no answer."""
     try:
@@ -192,24 +261,42 @@ def draw(run, status):
         run.screen.say("c no report: %r" % why)
 
 
+def tell(lines):
+    """Sentences are for whoever looks on: they go to standard error, and change no answer."""
+    try:
+        for line in lines:
+            print("c " + plain(line), file=sys.stderr, flush=True)
+    except OSError:
+        pass
+
+
+def reasons_of(fault, asked):
+    """Why there is no answer: what is known here, or else what the program's line means."""
+    if fault.reasons or asked is None:
+        return fault.reasons
+    return explain(str(fault), Named(asked.INPUT, asked.PROOF, asked.cubes_from))
+
+
 def main():
     if sys.argv[1:2] == ["--work"] and len(sys.argv) == 5:
         return work(*sys.argv[2:])
-    asked = words()
-    screen = Screen(asked.quiet)
+    asked, screen = None, Screen(True)
     for ending in (signal.SIGINT, signal.SIGTERM, signal.SIGHUP):
         signal.signal(ending, lambda *_: sys.exit(1))  # which ends the jobs on its way out
     try:
+        asked = words()
+        screen = Screen(asked.quiet)
         return conquer(asked, screen)
     except Fault as fault:
-        line = str(fault)
+        line, reasons = str(fault), reasons_of(fault, asked)
     except OSError as why:
-        line = "c %s" % why
+        line, reasons = "c %s" % why, []
     try:
         screen.quiet = screen.quiet and line != "c usage"
         screen.say(line)
     except OSError:  # nobody reads what is printed
         os.dup2(os.open(os.devnull, os.O_WRONLY), sys.stdout.fileno())
+    tell(reasons)
     return 1
 
 

@@ -70,7 +70,7 @@ class Bench:
                                 stderr=subprocess.PIPE)
 
     def run(self, *words):
-        """Status and lines of a run, which writes nothing to standard error."""
+        """Status and lines of a run. To standard error it writes why there is no answer, if so."""
         return self.end(self.start(*words), words)
 
     def end(self, process, what):
@@ -79,11 +79,18 @@ class Bench:
         except subprocess.TimeoutExpired:
             process.kill()
             differs(what, "an end", "none after %d seconds" % SECONDS)
-        same("%s: standard error" % (what,), "", err.decode())
+        self.told = err.decode().split("\n")[:-1]
+        is_told = process.returncode == 1 and all(line.startswith("c ") for line in self.told)
+        same("%s: standard error" % (what,), [], [] if is_told else self.told)
         return process.returncode, out.decode().split("\n")[:-1]
 
     def ends(self, what, status, lines, *words):
         same(what, (status, lines), self.run(*words))
+
+    def tells(self, what, *parts):
+        """What the last run has written to standard error has these parts."""
+        told = "\n".join(self.told)
+        same(what + ": " + told, [], [part for part in parts if part not in told])
 
     def verifies(self, formula, proof):
         words = [self.program, "check", formula, proof]
@@ -151,18 +158,49 @@ def answers(bench):
 def faults(bench):
     bench.write("bad.cnf", "p cnf 1 1\n2 0\n")
     bench.ends("a fault", 1, ["c input line 2 fault 4"], "bad.cnf")
+    bench.tells("a fault", "bad.cnf, line 2: A variable is above", "The line is: 2 0", "header")
     bench.ends("no input", 1, ["c cannot read input"], "none.cnf")
-    name, words = "four_clauses.cnf", ["--solver", "no-solver {cnf} {lrat}", "four_clauses.cnf"]
-    for proof in (name, "none/f.lrat", "/dev/null", "."):
+    bench.tells("no input", "no file none.cnf")
+    bench.ends("a folder", 1, ["c cannot read input"], ".")
+    bench.tells("a folder", ". is a folder")
+    name = "four_clauses.cnf"
+    for proof, why in ((name, "the formula itself"), ("none/f.lrat", "mkdir -p"),
+                       ("/dev/null", "no regular file"), (".", "is a folder")):
         bench.ends("the proof " + proof, 1, ["c cannot write proof"], name, proof)
-    bench.ends("an odd word", 1, ["c usage"], "--odd", name)
-    bench.ends("a depth above", 1, ["c usage"], "-q", "--depth", "17", name)
-    bench.ends("a solver without files", 1, ["c usage"], "--solver", "true", name)
-    bench.ends("no such solver", 1, ["c cannot run no-solver"], *words)
+        bench.tells("the proof " + proof, why)
+    usage(bench, name)
     words = ["-q", "--folder", "four_clauses.cnf.conquer", "schur_3_14.cnf"]
-    bench.ends("another formula's folder, quietly", 1, [], *words)
+    for _ in range(2):
+        bench.ends("another formula's folder, quietly", 1, [], *words)
+        bench.tells("another formula's folder", "/four_clauses.cnf.", "rm -r ", "--folder")
     same("another formula's folder", (1, "c cubes of another formula"), last(bench.run(*words[1:])))
-    ok("faults of words, input, proof and folder")
+    ok("faults of words, input, proof and folder, and what is told of them")
+
+
+def usage(bench, name):
+    """Which word is wrong."""
+    for told, *words in (("--odd", "--odd", name), ("INPUT",),
+                         ("17 is no number from 0 to 16", "-q", "--depth", "17", name),
+                         ("none of satcluster, cadical, kissat", "--solver", "nosuch", name),
+                         ("no {cnf} and no {lrat}", "--solver", "true 1", name),
+                         ("no {lrat}", "--solver", "true {cnf}", name),
+                         ("--seconds", "--limit", "9", "--solver", "true {cnf} {lrat}", name)):
+        bench.ends("usage", 1, ["c usage"], *words)
+        bench.tells("usage", told)
+    words = ["--solver", "no-solver {cnf} {lrat}", name]
+    bench.ends("no such solver", 1, ["c cannot run no-solver"], *words)
+    bench.tells("no such solver", "no program no-solver on the path")
+
+
+def begun(bench):
+    """A word that is not used since a tree stands is told, and an equal one is not."""
+    name, unused = "four_clauses.cnf", "c --depth is not used"
+    bench.forget(name)
+    for words, is_told in ((["--depth", "1"], False), (["--depth", "1"], False), ([], False),
+                           (["--depth", "2"], True)):
+        status, lines = bench.run(*words, name)
+        same("a tree that stands", (20, is_told), (status, any(unused in line for line in lines)))
+    ok("a depth that is not used is told")
 
 
 def listed(bench):
@@ -229,8 +267,30 @@ def liars(bench):
         status, lines = bench.run(*words)
         same(what, (0, True, True), (status, "s UNKNOWN" in lines, "c leaf 1 missing" in lines))
         same(what + ", quietly", (0, ["s UNKNOWN"]), bench.run("-q", *words))
+        told = [line for line in lines if " failed: " in line]
+        same(what + ", told once", ["leaf", "jobs"][:len(told)], kinds(told))
     bench.ends("the same with our own search", 20, ["s UNSATISFIABLE"], "-q", name)
     ok("solvers that lie and fail")
+
+
+def kinds(told):
+    return ["leaf" if line.startswith("c leaf ") else line.split()[2] for line in told]
+
+
+def formats(bench):
+    """A solver that writes another kind of proof: what it has written is told."""
+    name = "four_clauses.cnf"
+    for what, octal in (("binary LRAT", "a\\012\\005\\000\\006\\010\\000"),
+                        ("binary DRAT", "a\\005\\000a\\000"), ("DRAT as text", "2 0\\n0\\n"),
+                        ("CR LF", "5 2 0 1 2 0\\r\\n"), ("gzip", "\\037\\213")):
+        bench.write("odd", "#!/bin/sh\nprintf '%s' > $2; exit 20\n" % octal)
+        os.chmod(bench.at("odd"), 0o755)
+        bench.forget(name)
+        words = ["--depth", "0", "--solver", bench.at("odd") + " {cnf} {lrat}", name]
+        status, lines = bench.run(*words)
+        same(what, (0, True), (status, any(what in line for line in lines)))
+    bench.forget(name)
+    ok("proofs of other kinds are told as what they are")
 
 
 def late(bench):
@@ -345,7 +405,7 @@ def main():
         for name in ("four_clauses", "schur_3_14", "urquhart_24", "random_100_sat", "schur_3_13"):
             shutil.copy(os.path.join(EXAMPLES, name + ".cnf"), folder)
         bench.write("pigeons.cnf", pigeons(6))
-        for test in (answers, faults, listed, spoiled, liars, late, locked):
+        for test in (answers, faults, begun, listed, spoiled, liars, formats, late, locked):
             test(bench)
         killed(bench, "local", kills, draw)
         for name, tool in (("make", "make"), ("parallel", "parallel"), ("slurm", "sbatch")):

@@ -12,10 +12,9 @@ import shutil
 import subprocess
 import sys
 import time
-import types
 
 from conquering.files import Fault, Folder, log_of
-from conquering.leaf import CLOSED, FAILED, Job, Leaf, conquer_leaf, read_records
+from conquering.leaf import CLOSED, FAILED, Job, Leaf, Plan, conquer_leaf, read_records
 from conquering.processes import Bell, Command, die_with, kill, output_of, start
 
 COMMAND = os.path.join(os.path.dirname(os.path.dirname(os.path.abspath(__file__))), "conquer.py")
@@ -191,7 +190,7 @@ def work(path, mark, task):
     die_with(os.getppid())
     folder, bell = Folder(path), Bell()
     with open(folder.at("plan.json")) as file:
-        plan = types.SimpleNamespace(**json.load(file))
+        plan = Plan(**json.load(file))
     with open(folder.at("rounds", mark)) as file:
         told = json.load(file)
     if not told["outlives"] and not folder.is_locked():  # the script ended before this job began

@@ -16,7 +16,11 @@ import time
 
 
 class Fault(Exception):
-    """A line that ends the run with status 1."""
+    """A line that ends the run with status 1, and sentences that tell why."""
+
+    def __init__(self, line, *reasons):
+        super().__init__(line)
+        self.reasons = reasons
 
 
 def publish(part, path):

@@ -9,15 +9,30 @@ import os
 import shutil
 import socket
 import time
+from dataclasses import dataclass
+from typing import List, Optional
 
 from conquering.files import answer_of, last_line, log_of, name_of, publish
 from conquering.processes import Command, kill, start
+from telling.words import of_foreign_proof
 
 CLOSED, MODEL, LIMIT, FAILED = "closed", "model", "limit", "failed"  # how a job ends
 LATE = "late"  # the status of a command that was ended since its time was up
 
 # A leaf: its cube, and where it stands in which tree; whether it may be left at the limit.
 Leaf = collections.namedtuple("Leaf", "cube tree place limited")
+
+
+@dataclass
+class Plan:
+    """What every job has to know; it is kept as `plan.json` for those that run elsewhere."""
+
+    program: str
+    input: str
+    solver: Optional[List[List[str]]] = None  # the commands of another solver
+    limit: Optional[int] = None
+    seconds: Optional[int] = None
+    split: str = ""  # by which words the first tree was made
 
 
 # What a job tells of itself: when it ran and where, and how many bytes its log has.
@@ -100,7 +115,9 @@ def by_solver(plan, words, at, limited):
     command = [plan.program, "lift", *words, plan.input, at("lrat"), at("log")]
     status = yield Command(command, at("out"))
     if status != 0:
-        raise Failed("lift ends with %s: %s" % (status, last_line(at("out"))))
+        line = last_line(at("out"))
+        why = " ".join(of_foreign_proof(line, at("lrat")))
+        raise Failed("lift ends with %s: %s" % (status, line) + (". " + why if why else ""))
     return CLOSED
 
 

@@ -34,6 +34,14 @@ def start(command, **more):
                                 preexec_fn=lambda: die_with(parent), **more)
 
 
+def status_of(words, output):
+    """Runs a short command, which ends with this process, and writes what it prints to a file."""
+    parent = os.getpid()
+    with open(output, "wb") as file:
+        return subprocess.call(words, stdin=subprocess.DEVNULL, stdout=file,
+                               preexec_fn=lambda: die_with(parent))
+
+
 def kill(process):
     try:
         os.killpg(process.pid, signal.SIGKILL)

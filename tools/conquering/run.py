@@ -6,7 +6,7 @@ import time
 
 from conquering.files import answer_of, closed_by, log_of, publish, read_cubes
 from conquering.leaf import CLOSED, LIMIT, MODEL, Leaf
-from conquering.processes import Command, kill, output_of, start
+from conquering.processes import Command, kill, output_of, start, status_of
 from conquering.screen import clock
 
 TRIES = 3  # how often a leaf is run in one start before it is given up
@@ -65,6 +65,7 @@ class Run:
         self.tries, self.running = collections.Counter(), {}
         self.unlimited, self.alone = set(), set()  # to be run without a limit, and in any case
         self.failures, self.closed, self.splits = 0, 0, 0
+        self.reasons = collections.Counter()  # why jobs have failed, and how often
         self.began, self.join, self.can_split = time.monotonic(), None, None
         self.take_tree(folder.newest_tree())
 
@@ -141,11 +142,20 @@ class Run:
     def fail(self, cube, note):
         self.tries[cube] += 1
         self.failures += 1
-        self.screen.say("c leaf %d failed: %s" % (self.place[cube], note))
+        self.reasons[note] += 1
+        if self.reasons[note] == 1:
+            self.screen.say("c leaf %d failed: %s" % (self.place[cube], note))
         if self.hopeless():
             self.queue.clear()
         elif self.tries[cube] < TRIES:
             self.queue.append(cube)
+
+    def tell_failures(self):
+        """What has failed for one reason again and again is told once, and in the end how often."""
+        for note, times in self.reasons.items():
+            if times > 1:
+                self.screen.say("c %d jobs failed: %s" % (times, note))
+        self.reasons.clear()
 
     def hopeless(self):
         """A solver that fails again and again, and never closes a leaf, is not the one to run."""
@@ -160,9 +170,8 @@ class Run:
         part, before = self.folder.at("scratch", "tree"), set(self.cubes)
         words = [self.plan.program, "cubes", "--cubes", self.folder.at(self.tree)]
         words += ["--split", str(self.place[cube]), self.plan.input]
-        with open(part, "wb") as tree:
-            if subprocess.call(words, stdout=tree) != 0:
-                return False
+        if status_of(words, part) != 0:
+            return False
         publish(part, self.folder.at("trees", "%d.icnf" % (self.number + 1)))
         self.take_tree(self.number + 1)
         self.queue.extend(new for new in self.cubes if new not in before)
@@ -192,6 +201,7 @@ class Run:
 
     def answer(self):
         """What the program says of what is there. A right assignment decides, and so goes alone."""
+        self.tell_failures()
         if self.model:
             self.end_join()
         if self.join is None:

@@ -57,6 +57,17 @@ def of_fault(kind: str, line: int, number: int, named: Named) -> List[str]:
     return told + ([part for look in found for part in (look.sentence, look.remedy)] or [row.remedy])
 
 
+def of_foreign_proof(line: str, path: str) -> List[str]:
+    """What a solver has written instead of a proof that can be lifted."""
+    match = re.fullmatch(r"c proof line ([0-9]+) fault ([0-9]+)", line)
+    if not match:
+        return []
+    row = faults.PROOF.row(int(match.group(2)))
+    looks_so = looks.look("proof", "{lrat}", looks.head_of(path))
+    told = [part for look in looks_so for part in (look.sentence, look.remedy)]
+    return told if told and early(int(match.group(1)), row.number) else [row.sentence, row.remedy]
+
+
 def early(line: int, number: int) -> bool:
     """Whether the bytes at the front may be why. A fault of memory or of limits is none of these."""
     return number in (1, 2, 3) or line <= 2
