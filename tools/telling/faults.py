@@ -35,7 +35,7 @@ class Line:
     remedy: str
 
 
-SAME = "Make the proof anew, from this very file, and with the same solver."
+SAME = "Run the solver again, on this very file."
 RAT = "Ask the solver for a proof without such steps (Kissat: `--no-factor`)."
 MEMORY = "Give the process more memory (`ulimit -v`, the limit of the job or of the container)."
 CUT = "The file was cut: make it anew."
@@ -67,7 +67,8 @@ INPUT = Table(
 PROOF = Table(
     "proof",
     "An LRAT proof, printed as `c line L fault N` by `check` and `trim`, as `c proof line L fault "
-    "N` by `lift`, and as `c file K line L fault N NAME` by `join`.",
+    "N` by `lift`, and as `c file K line L fault N NAME` by `join`. Those of `lift --lidrup` have a "
+    "page of their own, [LIDRUP.md](LIDRUP.md#faults).",
     (
         Row(1, "The line is no step of an LRAT text.", "5 2 0 1 2\n",
             "Ask the solver for LRAT as text (CaDiCaL: `--lrat --no-binary`). If it is the last "
@@ -93,7 +94,7 @@ PROOF = Table(
             "5 2 0 -1 0\n", "The first literal of a RAT lemma is its pivot. " + SAME),
         Row(11, "A candidate is named twice.", "5 2 0 -3 1 -3 1 0\n", SAME),
         Row(12, "A candidate that is blocked has hints.", "5 2 -1 0 -3 1 0\n",
-            "Leave these hints out. Other checkers pass over them."),
+            "Leave these hints out: nothing needs them."),
         Row(13, "No empty clause was added.", "5 2 0 1 2 0\n",
             "The solver was stopped, or it found a model. Run it to its end, and check the proof "
             "only behind status 20."),
