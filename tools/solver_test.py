@@ -21,7 +21,7 @@ import time
 import unittest
 import uuid
 from pathlib import Path
-from typing import Callable, Dict, List, NamedTuple, Optional, Set
+from typing import Callable, Dict, Iterator, List, NamedTuple, Optional, Set
 
 sys.dont_write_bytecode = True
 
@@ -55,6 +55,29 @@ def pigeons(holes: int) -> str:
 
 LONG = pigeons(11)  # takes longer than a test
 BAD = "p cnf 1 1\n2 0\n"
+SORTS = """#include <assert.h>
+short nondet_short(void);
+
+static void sort(short *row, int size)
+{
+    for (int begin = 1; begin < size; begin++) {
+        short next = row[begin];
+        int at = begin;
+        for (; at > 0 && row[at - 1] %s; at--)
+            row[at] = row[at - 1];
+        row[at] = next;
+    }
+}
+
+int main(void)
+{
+    short row[3];
+    for (int at = 0; at < 3; at++)
+        row[at] = nondet_short();
+    sort(row, 3);
+    assert(row[0] <= row[1] && row[1] <= row[2]);
+}
+"""
 
 
 class End(NamedTuple):
@@ -156,7 +179,7 @@ class Case(unittest.TestCase):
 
     def leaves_nothing(self) -> None:
         self.soon("a process is left", lambda: not self.running())
-        self.soon("a folder is left", lambda: not list((self.folder / "tmp").iterdir()))
+        self.soon("a folder is left", lambda: not list((self.folder / "tmp").glob("satcluster-*")))
 
     def verifies(self, formula: str, proof: str) -> None:
         words = [PROGRAM, "check", formula, proof]
@@ -237,6 +260,24 @@ class Answers(Case):
         self.assertEqual((20, b"s UNSATISFIABLE\n"), (done.returncode, done.stdout))
         whole = lambda: os.path.exists(self.at("f.lrat")) and os.path.getsize(self.at("f.lrat")) > 9
         self.soon("a proof", whole)
+
+    def test_kept(self) -> None:
+        formulas = ["four_clauses.cnf", "random_100_sat.cnf", "schur_3_14.cnf"]
+        for words in ("--keep kept", "--keep=kept --jobs 2"):
+            self.env["SATCLUSTER_WORDS"] = words
+            for name in formulas:
+                self.answer(self.example(name))
+            self.answer("-q", given=Path(self.example("four_clauses.cnf")).read_bytes())
+            self.write("bad.cnf", BAD)
+            self.refuses("bad.cnf, line 2", "bad.cnf")
+            there = sorted(path.name for path in (self.folder / "kept").iterdir())
+            self.assertEqual(["1.cnf", "1.lrat", "2.answer", "2.cnf", "3.cnf", "3.lrat", "4.cnf",
+                              "4.lrat"], there)
+            for number in "134":
+                self.verifies("kept/%s.cnf" % number, "kept/%s.lrat" % number)
+            words = [PROGRAM, "model", "kept/2.cnf", "kept/2.answer"]
+            self.assertEqual(0, subprocess.run(words, cwd=str(self.folder)).returncode)
+            shutil.rmtree(self.at("kept"))
 
     def test_name_that_is_linked(self) -> None:
         """A client that calls `kissat` finds it by a link."""
@@ -320,7 +361,7 @@ class Refusals(Case):
 
     def test_part_of_a_proof(self) -> None:
         """A program that is ended as it writes a proof leaves no part of it."""
-        script = "exec 9> f.lrat.part0; echo part >&9; sleep 50; echo s UNKNOWN"
+        script = "exec 9> f.lrat.part0; echo part >&9; exec sleep 50"
         self.env["SATCLUSTER"] = self.script("writes", script)
         self.write("f.lrat.part1", "of another run")
         end = self.answer("-t", "1", self.example("four_clauses.cnf"), "f.lrat")
@@ -556,59 +597,61 @@ class Clients(Case):
             self.skipTest(name + " is not installed: tools/clients.sh fetches it")
         return path
 
-    def solvers(self):
-        """The solver as it is, and with jobs, each as a program that takes a file alone."""
+    def solvers(self) -> Iterator[str]:
+        """The solver as it is, and with jobs, each as a program that keeps what it has said."""
         for words in ("", "--jobs 2"):
-            line = 'echo "$@" >> %s; exec %s %s "$@"\n' % (self.at("calls"), SOLVER, words)
-            self.write("calls", "")
-            yield self.script("bin/solver", line)
-            self.assertTrue((self.folder / "calls").read_text(), "it was not called")
+            line = '%s %s "$@" > said; status=$?; cat said; grep "^s" said >> %s; exit $status\n'
+            yield self.script("bin/solver", line % (SOLVER, words, self.at("answers")))
             self.leaves_nothing()
 
-    def printed(self, *words: str) -> str:
+    def printed(self, answers: str, *words: str) -> str:
+        """What a client prints, to which the solver has given these answers."""
+        self.write("answers", "")
         done = subprocess.run(words, cwd=str(self.folder), env=self.env, timeout=SECONDS,
                               stdin=subprocess.DEVNULL, stdout=subprocess.PIPE,
                               stderr=subprocess.STDOUT)
-        return done.stdout.decode("utf-8", "replace")
+        told = done.stdout.decode("utf-8", "replace")
+        lines = (self.folder / "answers").read_text().split("\n")[:-1]
+        self.assertEqual(["s " + answer for answer in answers.split()], lines, told)
+        return told
 
     def test_cbmc(self) -> None:
         cbmc = self.wanted("cbmc")
-        source = "int nondet(void); int main() { unsigned x = nondet(), y = nondet();\n%s }\n"
-        self.write("right.c", source % '__CPROVER_assert((x ^ y) == (x | y) - (x & y), "xor");')
-        self.write("wrong.c", source % '__CPROVER_assert(x * 3 != 777 || y < x, "bug");')
+        self.write("right.c", SORTS % "> next")
+        self.write("wrong.c", SORTS % ">= next + 1 && at > 1")
         for solver in self.solvers():
-            for name, wanted in (("right.c", "SUCCESSFUL"), ("wrong.c", "FAILED")):
-                told = self.printed(cbmc, "--external-sat-solver", solver, name)
-                self.assertIn("VERIFICATION " + wanted, told)
+            words = [cbmc, "--unwind", "4", "--external-sat-solver", solver]
+            told = self.printed("UNSATISFIABLE", *words, "right.c")
+            self.assertIn("VERIFICATION SUCCESSFUL", told)
+            told = self.printed("SATISFIABLE UNSATISFIABLE", *words, "wrong.c")
+            self.assertIn("VERIFICATION FAILED", told)
 
     def test_yosys(self) -> None:
         yosys, plugin = self.wanted("yosys"), client("satcluster.so")
         if plugin is None:
             self.skipTest("no plugin satcluster.so: tools/clients.sh makes it")
-        script = ("read_verilog f.v; sat -select-solver satcluster -prove ok %d; "
-                  "sat -select-solver satcluster -set ok %d")
         self.write("f.v", "module f(input [7:0] a, b, output ok);\n"
                           "assign ok = (a ^ b) + ((a & b) << 1) == a + b; endmodule\n")
+        words = [yosys, "-m", plugin, "-p"]
+        script = "read_verilog f.v; sat -select-solver satcluster -prove ok %d"
         for solver in self.solvers():
             self.env["SATCLUSTER_SOLVER"] = solver
-            told = self.printed(yosys, "-m", plugin, "-p", script % (1, 1))
+            told = self.printed("UNSATISFIABLE", *words, script % 1)
             self.assertIn("SAT proof finished - no model found: SUCCESS!", told)
-            self.assertIn("SAT solving finished - model found", told)
-            told = self.printed(yosys, "-m", plugin, "-p", script % (0, 0))
+            told = self.printed("SATISFIABLE", *words, script % 0)
             self.assertIn("SAT proof finished - model found: FAIL!", told)
-            self.assertIn("SAT solving finished - no model found", told)
 
     def test_abc(self) -> None:
         abc = self.wanted("yosys-abc" if client("yosys-abc") else "abc")
-        xor3 = self.example("random_100_sat.cnf"), self.example("random_100_unsat.cnf")
         for solver in self.solvers():
             os.replace(solver, self.at("bin/kissat"))
-            told = self.printed(abc, "-q", "twoexact -I 3 -N 2 -k 96")
+            told = self.printed("SATISFIABLE", abc, "-q", "twoexact -I 3 -N 2 -k 96")
             self.assertIn("Verification successful", told)
-            told = self.printed(abc, "-q", "twoexact -I 3 -N 2 -k -v 68")
-            self.assertIn("no solution", told)
-            for formula, wanted in zip(xor3, ("s SATISFIABLE", "s UNSATISFIABLE")):
-                self.assertIn(wanted, self.printed(abc, "-q", "&kissat -k -T 50 " + formula))
+            told = self.printed("UNSATISFIABLE", abc, "-q", "twoexact -I 3 -N 2 -k -v 68")
+            self.assertIn("The problem has no solution", told)
+            for answer, name in (("SATISFIABLE", "sat"), ("UNSATISFIABLE", "unsat")):
+                line = "&kissat -k -T 50 " + self.example("random_100_%s.cnf" % name)
+                self.assertIn("s " + answer, self.printed(answer, abc, "-q", line))
 
 
 def main() -> None:

@@ -12,11 +12,12 @@ from pathlib import Path
 from typing import Callable, Dict, List, Optional
 
 from conquering import places
+from solving.keeping import Keep
 from solving.output import NoReader, Output, can_print, reader_is_gone
 from solving.processes import Ended, Sweeper, end, end_after, kill_with_parts, start
 from solving.sources import Refused, Source, source_of, spooled
-from solving.words import Asked, read
-from telling import words
+from solving.words import Asked, read, words_of_environment
+from telling import looks, words
 
 CONQUER = Path(__file__).resolve().parent.parent / "conquer.py"
 ANSWERS = {10: b"s SATISFIABLE", 20: b"s UNSATISFIABLE", 0: b"s UNKNOWN"}
@@ -76,6 +77,8 @@ class Solver:
 
     asked: Asked
     output: Output
+    keep: Optional[Keep] = None
+    has_decided: bool = False
 
     def program(self) -> str:
         word = places.word_of_program(self.asked.program)
@@ -88,7 +91,19 @@ class Solver:
         program = self.program()
         self.test_proof()
         end_after(self.asked.seconds)
-        return self.alone(program) if self.asked.jobs is None else self.by_jobs(program)
+        run = self.alone if self.asked.jobs is None else self.by_jobs
+        if self.asked.keep is None:
+            return run(program)
+        self.keep = Keep(self.asked.keep)
+        try:
+            return run(program)
+        finally:
+            if not self.has_decided:
+                self.keep.drop()
+
+    def source(self) -> Source:
+        source = source_of(self.asked.formula)
+        return self.keep.take(source) if self.keep else source
 
     def test_proof(self) -> None:
         """Tells at once, and not after hours, that the proof cannot be written."""
@@ -101,7 +116,7 @@ class Solver:
 
     def alone(self, program: str) -> int:
         """One process. Not split: what is learnt under one cube would be lost under the next."""
-        source = source_of(self.asked.formula)
+        source = self.source()
         command = [program, "solve", "--depth", str(self.asked.depth or 0)] + self.more()
         process = start(command + [source.path] + self.proof(), stdin=source.pipe,
                         stdout=subprocess.PIPE)
@@ -111,7 +126,8 @@ class Solver:
             listen(process, lines)
         finally:
             kill_with_parts(process, self.asked.proof)
-        named = words.Named(self.asked.formula, head=source.head)
+        head = looks.head_of(source.path) if self.keep else source.head
+        named = words.Named(self.asked.formula, head=head)
         return self.tell(process, source, lines, lambda line: words.explain(line, named))
 
     def by_jobs(self, program: str) -> int:
@@ -126,20 +142,21 @@ class Solver:
             sweeper.sweep()
 
     def conquer(self, program: str, folder: str) -> int:
-        source, errors = source_of(self.asked.formula), os.path.join(folder, "errors")
-        formula = spooled(source, folder)
+        source, errors = self.source(), os.path.join(folder, "errors")
+        if source.pipe:
+            source = spooled(source, os.path.join(folder, "formula.cnf"))
         command = [sys.executable, str(CONQUER), "--program", program, "--folder",
                    os.path.join(folder, "run"), "--jobs", str(self.asked.jobs)]
         command += ["--depth", str(self.asked.depth)] if self.asked.depth is not None else []
         lines = Lines(self.output)
         with open(errors, "wb") as told:
-            process = start(command + self.more() + [formula] + self.proof(), stdout=subprocess.PIPE,
-                            stdin=subprocess.DEVNULL, stderr=told)
+            process = start(command + self.more() + [source.path] + self.proof(), stderr=told,
+                            stdin=subprocess.DEVNULL, stdout=subprocess.PIPE)
         try:
             listen(process, lines)
         finally:
             end(process, PATIENCE)
-        shown = {formula: words.shown(self.asked.formula)}
+        shown = {source.path: words.shown(self.asked.formula)}
         return self.tell(process, source, lines, lambda _: told_in(errors, shown))
 
     def more(self) -> List[str]:
@@ -148,7 +165,7 @@ class Solver:
         return limit + ([] if asked.values else ["-n"])
 
     def proof(self) -> List[str]:
-        proof = self.asked.proof
+        proof = self.asked.proof or (self.keep.proof() if self.keep else None)
         return [] if proof is None else [os.path.join(".", proof) if proof[0] == "-" else proof]
 
     def tell(self, process: subprocess.Popen, source: Source, lines: Lines,
@@ -163,6 +180,9 @@ class Solver:
             raise Refused(*told, *why_not(status, lines, reasons))
         source.test()
         end_after(None)
+        self.has_decided = status != 0
+        if status == 10 and self.keep:
+            self.keep.answer(answer)
         if status == 0:
             self.output.comment(["the run ended without a verdict"])
         self.output.answer(answer)
@@ -192,11 +212,12 @@ Decides a DIMACS formula, standard input if FILE is left out or is -, packed or 
 PROOF is an LRAT proof as text. Answers: s SATISFIABLE (10), s UNSATISFIABLE (20), s UNKNOWN (0).
 -q no c lines; -n no v lines; -t N or --time=N ends it after N seconds; --jobs N on N cores;
 --depth D, --limit L as those of satcluster solve; --program PATH the proved program.
+--keep FOLDER keeps each formula that was decided, N.cnf, and its N.lrat or N.answer.
 Words of CaDiCaL, Kissat and MiniSat are taken or passed over; docs/CLIENTS.md tells more."""
 
 
 def main(line: List[str]) -> int:
-    asked = read(line)
+    asked = read(words_of_environment() + line)
     output = Output(asked.quiet)
     for remark in asked.remarks:
         output.remark(remark)

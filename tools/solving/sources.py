@@ -106,13 +106,14 @@ def unpacked(tool: str, file: IO[bytes]) -> Source:
     return Source("/dev/stdin", process.stdout, b"", process, tool)
 
 
-def spooled(source: Source, folder: str) -> str:
+def spooled(source: Source, path: str) -> Source:
     """The formula as a file, for those who read it more than once."""
-    if source.pipe is None:
-        return source.path
-    path = os.path.join(folder, "formula.cnf")
     with open(path, "wb") as file:
-        shutil.copyfileobj(source.pipe, file, PIECE)
+        if source.pipe:
+            shutil.copyfileobj(source.pipe, file, PIECE)
+        else:
+            with open(source.path, "rb") as there:
+                shutil.copyfileobj(there, file, PIECE)
     source.close()
     source.test()
-    return path
+    return Source(path)

@@ -1,11 +1,14 @@
 """The words of `satcluster-solver`: those of CaDiCaL, Kissat and MiniSat, and a few of its own."""
+import os
 import re
+import shlex
 from dataclasses import dataclass, field
 from typing import Callable, Dict, List, Optional
 
 from solving.known import is_known
 
 MOST = 1000000000
+VARIABLE = "SATCLUSTER_WORDS"  # of the environment, for clients that give a file and nothing else
 
 
 @dataclass
@@ -13,6 +16,7 @@ class Asked:
     formula: str = "-"
     proof: Optional[str] = None
     program: Optional[str] = None
+    keep: Optional[str] = None
     jobs: Optional[int] = None
     depth: Optional[int] = None
     limit: Optional[int] = None
@@ -41,6 +45,7 @@ VALUED: Dict[str, tuple] = {  # words with a value: what it is, and how it is re
     "--depth": ("depth", number(0, 16)),
     "--limit": ("limit", number(1, MOST)),
     "--program": ("program", str),
+    "--keep": ("keep", str),
     "-t": ("seconds", seconds),
     "--time": ("seconds", seconds),
     "-cpu-lim": ("seconds", seconds),
@@ -100,6 +105,13 @@ def read(words: List[str]) -> Asked:
         told = [PROOF_WORDS.get(name) for name in formats]
         asked.remarks += [remark for remark in told if remark]
     return asked
+
+
+def words_of_environment() -> List[str]:
+    try:
+        return shlex.split(os.environ.get(VARIABLE, ""))
+    except ValueError:  # a quote that does not end
+        return os.environ[VARIABLE].split()
 
 
 def take(asked: Asked, name: str, value: str) -> None:

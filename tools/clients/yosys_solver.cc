@@ -1,0 +1,24 @@
+// A plugin by which yosys has `satcluster-solver` decide: sat -select-solver satcluster
+//
+//     yosys-config --build satcluster.so tools/clients/yosys_solver.cc
+//     yosys -m ./satcluster.so -p "..; sat -select-solver satcluster -prove ok 1"
+//
+// yosys 0.63 and above runs a command for a solver, and has no word for it: a plugin has to name it.
+// SATCLUSTER_SOLVER of the environment is that command, if it is not on the path.
+#include <cstdlib>
+
+#include "kernel/yosys.h"
+#include "kernel/satgen.h"
+#include "libs/ezsat/ezcmdline.h"
+
+USING_YOSYS_NAMESPACE
+
+struct SatclusterSolver : public SatSolver {
+    SatclusterSolver() : SatSolver("satcluster") {}
+
+    ezSAT *create() override
+    {
+        const char *command = std::getenv("SATCLUSTER_SOLVER");
+        return new ezCmdlineSAT(command ? command : "satcluster-solver");
+    }
+} satcluster_solver;
