@@ -17,8 +17,8 @@ echo "deb [signed-by=$keys] $host sid main" > sid.list
 apt="-o Dir::Etc::sourcelist=$to/sid.list -o Dir::Etc::sourceparts=- -o Dir::State::lists=$to/lists
     -o Dir::Cache=$to/cache"
 apt-get $apt update > log 2>&1 || { cat log; exit 1; }
-for package in cbmc minisat yosys yosys-abc yosys-dev libc6 libstdc++6 libgcc-s1 libffi8 libbz2-1.0 \
-    libreadline8t64 libtcl8.6 libtinfo6 tzdata zlib1g; do
+for package in cbmc minisat yosys yosys-abc yosys-dev libc6 libstdc++6 libgcc-s1 libffi8 \
+    libbz2-1.0 libreadline8t64 libtcl8.6 libtinfo6 tzdata zlib1g; do
     apt-get $apt download "$package" >> log 2>&1 || { cat log; exit 1; }
 done
 for package in *.deb; do dpkg-deb -x "$package" all; done

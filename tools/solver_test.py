@@ -276,7 +276,8 @@ class Answers(Case):
             for number in "134":
                 self.verifies("kept/%s.cnf" % number, "kept/%s.lrat" % number)
             words = [PROGRAM, "model", "kept/2.cnf", "kept/2.answer"]
-            self.assertEqual(0, subprocess.run(words, cwd=str(self.folder)).returncode)
+            done = subprocess.run(words, cwd=str(self.folder), stdout=subprocess.PIPE)
+            self.assertEqual(b"s VERIFIED\n", done.stdout)
             shutil.rmtree(self.at("kept"))
 
     def test_name_that_is_linked(self) -> None:
@@ -299,7 +300,7 @@ class Refusals(Case):
             self.refuses("line 2 fault 4(.|\n)*above the number of variables", *more, "bad.cnf")
             self.refuses("no file none.cnf", *more, "none.cnf")
             self.refuses("is a folder", *more, ".")
-            self.refuses("no header(.|\n)*awk", *more, "bare.cnf")
+            self.refuses("no header(.|\n)*with clauses(.|\n)*awk", *more, "bare.cnf")
             self.refuses("fault 1(.|\n)*no header", *more, "empty.cnf")
             self.refuses("byte order mark(.|\n)*tail", *more, "mark.cnf")
             self.refuses("standard input, line 2: A variable", *more, given=BAD.encode())
@@ -380,9 +381,10 @@ class Lies(Case):
                              ("s SATISFIABLE\nv 1 2\n", 10), ("s SATISFIABLE\nx\n", 10),
                              ("s UNSATISFIABLE\ns UNSATISFIABLE\n", 20), ("c s SATISFIABLE\n", 10),
                              ("s UNSATISFIABLE\nv 1 0\n", 20), ("S UNSATISFIABLE\n", 20),
-                             ("s UNSATISFIABLE \n", 20), ("v 1 0\ns SATISFIABLE\n", 10)):
+                             ("s UNSATISFIABLE \n", 20), ("s SATISFIABLE\n", 10), ("v 1 0\ns SATISFIABLE\n", 10)):
             self.write("said", text)
-            self.env["SATCLUSTER"] = self.script("lies", "cat %s; exit %d\n" % (self.at("said"), status))
+            script = "cat %s; exit %d\n" % (self.at("said"), status)
+            self.env["SATCLUSTER"] = self.script("lies", script)
             end = self.answer(formula)
             self.assertEqual((0, "s UNKNOWN"), (end.status, end.lines[-1]), (text, status))
         self.env["SATCLUSTER"] = self.script("lies", "echo s UNSATISFIABLE; kill -9 $$\n")
@@ -615,6 +617,15 @@ class Clients(Case):
         self.assertEqual(["s " + answer for answer in answers.split()], lines, told)
         return told
 
+    def refused(self, *words: str) -> str:
+        """What a client prints if the program has not memory enough."""
+        program = self.env["SATCLUSTER"]
+        self.env["SATCLUSTER"] = self.script("refuses", "echo c no memory; exit 1\n")
+        try:
+            return self.printed("UNKNOWN", *words)
+        finally:
+            self.env["SATCLUSTER"] = program
+
     def test_cbmc(self) -> None:
         cbmc = self.wanted("cbmc")
         self.write("right.c", SORTS % "> next")
@@ -625,6 +636,8 @@ class Clients(Case):
             self.assertIn("VERIFICATION SUCCESSFUL", told)
             told = self.printed("SATISFIABLE UNSATISFIABLE", *words, "wrong.c")
             self.assertIn("VERIFICATION FAILED", told)
+            told = self.refused(*words, "right.c")
+            self.assertIn("VERIFICATION ERROR", told)
 
     def test_yosys(self) -> None:
         yosys, plugin = self.wanted("yosys"), client("satcluster.so")
@@ -640,6 +653,7 @@ class Clients(Case):
             self.assertIn("SAT proof finished - no model found: SUCCESS!", told)
             told = self.printed("SATISFIABLE", *words, script % 0)
             self.assertIn("SAT proof finished - model found: FAIL!", told)
+            self.assertNotIn("SAT proof finished", self.refused(*words, script % 1))
 
     def test_abc(self) -> None:
         abc = self.wanted("yosys-abc" if client("yosys-abc") else "abc")
@@ -652,6 +666,7 @@ class Clients(Case):
             for answer, name in (("SATISFIABLE", "sat"), ("UNSATISFIABLE", "unsat")):
                 line = "&kissat -k -T 50 " + self.example("random_100_%s.cnf" % name)
                 self.assertIn("s " + answer, self.printed(answer, abc, "-q", line))
+            self.assertIn("s UNKNOWN", self.refused(abc, "-q", line))
 
 
 def main() -> None:

@@ -3,7 +3,7 @@
 //     yosys-config --build satcluster.so tools/clients/yosys_solver.cc
 //     yosys -m ./satcluster.so -p "..; sat -select-solver satcluster -prove ok 1"
 //
-// yosys 0.63 and above runs a command for a solver, and has no word for it: a plugin has to name it.
+// yosys 0.63 and above can run a command as its solver, but a plugin has to name that.
 // SATCLUSTER_SOLVER of the environment is that command, if it is not on the path.
 #include <cstdlib>
 

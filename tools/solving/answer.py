@@ -43,7 +43,7 @@ class Lines:
         self.output.comment(told)
 
 
-def answer_in(status: Optional[int], lines: Lines) -> Optional[bytes]:
+def answer_in(status: Optional[int], lines: Lines, has_values: bool) -> Optional[bytes]:
     """The answer that a command has printed, if line and status agree and nothing is cut."""
     line = ANSWERS.get(status)
     if line is None or lines.begun or lines.held[:1] != [line]:
@@ -51,7 +51,7 @@ def answer_in(status: Optional[int], lines: Lines) -> Optional[bytes]:
     values = lines.held[1:]
     if any(not value.startswith(b"v ") for value in values) or (values and status != 10):
         return None
-    if values and not values[-1].endswith(b" 0"):
+    if status == 10 and has_values and not (values and values[-1].endswith(b" 0")):
         return None
     return b"".join(line + b"\n" for line in lines.held)
 
@@ -172,7 +172,7 @@ class Solver:
              explain: Callable[[str], List[str]]) -> int:
         """Prints the answer, or why there is none."""
         status = process.returncode
-        answer = answer_in(status, lines)
+        answer = answer_in(status, lines, self.asked.values)
         if answer is None:
             last = lines.comments[-1:]
             told = last if self.asked.quiet else []  # else it is printed already

@@ -11,7 +11,7 @@ class NoReader(Exception):
 
 
 def write_all(descriptor: int, data: bytes) -> None:
-    """Writes all of it, however slowly it is read, also if the descriptor is one that never waits."""
+    """Writes all of it, however slowly it is read, even if the descriptor never waits."""
     view = memoryview(data)
     while view:
         try:

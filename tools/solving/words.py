@@ -118,7 +118,8 @@ def take(asked: Asked, name: str, value: str) -> None:
     what, reads = VALUED[name]
     found = reads(value)
     if found is None or found == "":
-        asked.remarks.append("%s %s is passed over: out of range" % (name, value or "without a value"))
+        shown = value or "without a value"
+        asked.remarks.append("%s %s is passed over: out of range" % (name, shown))
     else:
         setattr(asked, what, found)
 

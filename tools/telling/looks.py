@@ -62,7 +62,7 @@ def of_formula(head: bytes, name: str) -> Optional[Look]:
     if first[:2] == [b"p", b"inccnf"]:
         return Look("It is iCNF, a formula with cubes.", "Name the DIMACS file that was split.")
     if first and re.fullmatch(rb"-?[0-9]+", first[0]):
-        return Look("It has no header.", "`%s`" % HEADER.replace("%s", name))
+        return Look("It begins with clauses.", "`%s`" % HEADER.replace("%s", name))
     return None
 
 
@@ -127,7 +127,7 @@ def spells(head: bytes, lists: dict) -> bool:
 
 
 def number_end(head: bytes, at: int) -> Optional[Tuple[int, int]]:
-    """Where the number that begins here ends, and what it is: seven bits a byte, the low ones first."""
+    """Where the number that begins here ends, and what it is: seven bits a byte, low ones first."""
     value, shift = 0, 0
     while at < len(head):
         value |= (head[at] & 127) << shift

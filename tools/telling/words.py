@@ -54,7 +54,8 @@ def of_fault(kind: str, line: int, number: int, named: Named) -> List[str]:
     found = list(looks.look(kind, name, head)) if early(line, number) else []
     seen = None if found else line_of(head, line)
     told = [where] + (["The line is: " + seen] if seen else [])
-    return told + ([part for look in found for part in (look.sentence, look.remedy)] or [row.remedy])
+    better = [part for look in found for part in (look.sentence, look.remedy)]
+    return told + (better or [row.remedy])
 
 
 def of_foreign_proof(line: str, path: str) -> List[str]:
@@ -69,7 +70,7 @@ def of_foreign_proof(line: str, path: str) -> List[str]:
 
 
 def early(line: int, number: int) -> bool:
-    """Whether the bytes at the front may be why. A fault of memory or of limits is none of these."""
+    """Whether the first bytes may be why; of a fault of memory or of limits they are not."""
     return number in (1, 2, 3) or line <= 2
 
 
