@@ -254,10 +254,12 @@ class Answers(Case):
     def test_pipes_of_a_shell(self) -> None:
         if not shutil.which("bash"):
             self.skipTest("bash is not installed")
-        line = "%s <(cat %s) >(cat > f.lrat)" % (SOLVER, self.example("four_clauses.cnf"))
-        done = subprocess.run(["bash", "-c", line], cwd=str(self.folder), env=self.env,
-                              stdout=subprocess.PIPE)
-        self.assertEqual((20, b"s UNSATISFIABLE\n"), (done.returncode, done.stdout))
+        formula = self.example("four_clauses.cnf")
+        for words in ("<(cat %s) >(cat > f.lrat)", "-q --jobs 2 <(cat %s)"):
+            line = "%s %s" % (SOLVER, words % formula)
+            done = subprocess.run(["bash", "-c", line], cwd=str(self.folder), env=self.env,
+                                  stdout=subprocess.PIPE)
+            self.assertEqual((20, b"s UNSATISFIABLE\n"), (done.returncode, done.stdout))
         whole = lambda: os.path.exists(self.at("f.lrat")) and os.path.getsize(self.at("f.lrat")) > 9
         self.soon("a proof", whole)
 

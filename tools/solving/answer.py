@@ -1,7 +1,8 @@
 """Has the proved program decide a formula, and prints what it has printed, if that is an answer.
 
 Nothing here is an answer by itself: an `s` line is passed on only if the program, or `join` under
-`conquer.py`, has printed it and ended with the status that belongs to it.
+`conquer.py`, has printed it and ended with the status that belongs to it. So the program is never
+put in the place of this process: if it refuses, `s UNKNOWN` has to follow.
 """
 import os
 import select
@@ -125,7 +126,7 @@ class Solver:
         try:
             listen(process, lines)
         finally:
-            kill_with_parts(process, self.asked.proof)
+            kill_with_parts(process, self.proof())
         head = looks.head_of(source.path) if self.keep else source.head
         named = words.Named(self.asked.formula, head=head)
         return self.tell(process, source, lines, lambda line: words.explain(line, named))
@@ -143,7 +144,7 @@ class Solver:
 
     def conquer(self, program: str, folder: str) -> int:
         source, errors = self.source(), os.path.join(folder, "errors")
-        if source.pipe:
+        if source.pipe or not os.path.isfile(source.path):  # it is read more than once
             source = spooled(source, os.path.join(folder, "formula.cnf"))
         command = [sys.executable, str(CONQUER), "--program", program, "--folder",
                    os.path.join(folder, "run"), "--jobs", str(self.asked.jobs)]

@@ -89,9 +89,10 @@ def open_parts(process: subprocess.Popen, proof: str) -> Iterator[Path]:
         pass
 
 
-def kill_with_parts(process: subprocess.Popen, proof: Optional[str]) -> None:
+def kill_with_parts(process: subprocess.Popen, proofs: List[str]) -> None:
     """Kills the program, which then cannot take away the proof that it was writing."""
-    parts = list(open_parts(process, proof)) if proof and process.poll() is None else []
+    runs = process.poll() is None
+    parts = [part for proof in proofs if runs for part in open_parts(process, proof)]
     kill(process)
     for part in parts:
         if part.exists():

@@ -2,6 +2,7 @@
 import os
 import re
 import shlex
+import stat
 from dataclasses import dataclass
 from typing import List, Optional
 
@@ -88,8 +89,10 @@ def shown(path: str) -> str:
 
 
 def unreadable(path: str) -> str:
-    """Why a file cannot be read."""
+    """Why a file cannot be read. A pipe is not opened: that might wait for ever."""
     try:
+        if stat.S_ISFIFO(os.stat(path).st_mode):
+            return "%s is a pipe that cannot be read." % path
         with open(path, "rb") as file:
             file.read(1)
     except FileNotFoundError:
