@@ -447,9 +447,14 @@ class Ends(Case):
 
     def test_thread_that_started_it_ends(self) -> None:
         """The system then tells of an end of the parent, which is there all the same."""
-        self.write("f.cnf", pigeons(8))
+        self.write("f.cnf", pigeons(9))
         held: List[subprocess.Popen] = []
-        starter = threading.Thread(target=lambda: held.append(self.start("f.cnf")))
+
+        def begin() -> None:
+            held.append(self.start("f.cnf"))
+            self.soon("a search", lambda: len(self.running()) > 1)
+
+        starter = threading.Thread(target=begin)
         starter.start()
         starter.join()
         out, err = held[0].communicate(timeout=SECONDS)

@@ -1,6 +1,7 @@
 // A plugin by which yosys has `satcluster-solver` decide: sat -select-solver satcluster
 //
-//     yosys-config --build satcluster.so tools/clients/yosys_solver.cc
+//     g++ -std=c++20 -O1 -fPIC -shared -D_YOSYS_ -DYOSYS_ENABLE_PLUGINS
+//         -I $(yosys-config --datdir)/include -o satcluster.so tools/clients/yosys_solver.cc
 //     yosys -m ./satcluster.so -p "..; sat -select-solver satcluster -prove ok 1"
 //
 // yosys 0.63 and above can run a command as its solver, but a plugin has to name that.
