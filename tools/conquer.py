@@ -22,11 +22,14 @@ import shlex
 import shutil
 import signal
 import sys
+from argparse import Namespace
+from pathlib import Path
+from typing import Any, Callable, Dict, List, NoReturn, Optional, Tuple
 
 sys.dont_write_bytecode = True
 
 from conquering import places, report
-from conquering.engines import ENGINES, work
+from conquering.engines import ENGINES, Engine, work
 from conquering.files import Fault, Folder, last_line, publish
 from conquering.leaf import Plan
 from conquering.processes import Bell, status_of
@@ -44,12 +47,12 @@ SOLVERS = {
 
 
 class Words(argparse.ArgumentParser):
-    def error(self, message):
+    def error(self, message: str) -> NoReturn:
         raise Fault("c usage", message)
 
 
-def number(least, most):
-    def read(word):
+def number(least: int, most: int) -> Callable[[str], int]:
+    def read(word: str) -> int:
         if not (word.isascii() and word.isdigit() and least <= int(word) <= most):
             raise argparse.ArgumentTypeError("%s is no number from %d to %d" % (word, least, most))
         return int(word)
@@ -57,7 +60,7 @@ def number(least, most):
     return read
 
 
-def words():
+def words() -> Namespace:
     parser = Words(usage=__doc__.split("\n\n")[1].strip(), allow_abbrev=False)
     option, most = parser.add_argument, 1000000000
     option("--program", metavar="PATH", help="the proved program")
@@ -76,7 +79,7 @@ def words():
     return parser.parse_args()
 
 
-def found(word):
+def found(word: str) -> str:
     path = places.found(word)
     if path is None:
         is_ours = word == "satcluster"
@@ -85,7 +88,7 @@ def found(word):
     return path
 
 
-def solver_of(asked):
+def solver_of(asked: Namespace) -> Optional[List[List[str]]]:
     """The commands of another solver; None for our own search."""
     if asked.solver == "satcluster":
         return None
@@ -97,7 +100,8 @@ def solver_of(asked):
     return [[found(command[0])] + command[1:] for command in commands]
 
 
-def wrong_solver(asked, line, commands):
+def wrong_solver(asked: Namespace, line: str, commands: List[List[str]]) -> Optional[str]:
+    """Why the command line of a solver is refused."""
     missing = [mark for mark in ("{cnf}", "{lrat}") if mark not in line]
     if len(missing) == 2 and len(line.split()) == 1:
         return ("--solver %s is none of satcluster, %s; a command line of another solver has {cnf} "
@@ -111,12 +115,12 @@ def wrong_solver(asked, line, commands):
     return None
 
 
-def plan_of(asked):
+def plan_of(asked: Namespace) -> Plan:
     program = found(places.word_of_program(asked.program))
     return Plan(program, os.path.abspath(asked.INPUT), solver_of(asked), asked.limit, asked.seconds)
 
 
-def test_places(proof, formula):
+def test_places(proof: Optional[str], formula: str) -> None:
     """Tells at once, and not after hours, what cannot be read or written."""
     if not os.path.isfile(formula) or not os.access(formula, os.R_OK):
         is_other = os.path.exists(formula) and not os.path.isdir(formula)
@@ -130,13 +134,13 @@ def test_places(proof, formula):
         raise Fault("c cannot write proof", unwritable(proof, formula) or "It is no regular file.")
 
 
-def words_of_split(asked):
+def words_of_split(asked: Namespace) -> List[str]:
     if asked.cubes_from:
         return ["--complete", asked.cubes_from]
     return ["--depth", str(DEPTH if asked.depth is None else asked.depth)]
 
 
-def plant(folder, plan, asked):
+def plant(folder: Folder, plan: Plan, asked: Namespace) -> None:
     """Makes the first tree."""
     part = folder.at("scratch", "tree")
     how = words_of_split(asked)
@@ -146,7 +150,7 @@ def plant(folder, plan, asked):
     plan.split = " ".join(how)
 
 
-def take_over(folder, plan, asked, screen):
+def take_over(folder: Folder, plan: Plan, asked: Namespace, screen: Screen) -> None:
     """Where there is a tree it stands, so that logs keep their leaves. Tells if words ask for
     another one."""
     plan.split = plan_before(folder).get("split", "")
@@ -156,45 +160,45 @@ def take_over(folder, plan, asked, screen):
         screen.say("c %s is not used: a tree stands in the folder; %s" % (word, anew(folder)))
 
 
-def anew(folder):
-    return "to begin anew: rm -r " + shlex.quote(folder.path)
+def anew(folder: Folder) -> str:
+    return "to begin anew: rm -r " + shlex.quote(str(folder.path))
 
 
-def plan_before(folder):
+def plan_before(folder: Folder) -> Dict[str, Any]:
     """The plan of an earlier start, as far as it can be read."""
     try:
-        with open(folder.at("plan.json")) as file:
-            plan = json.load(file)
+        plan = json.loads(folder.at("plan.json").read_text())
     except (OSError, ValueError):
         return {}
     return plan if isinstance(plan, dict) else {}
 
 
-def put_proof(folder, proof):
+def put_proof(folder: Folder, proof: Optional[str]) -> None:
     """Moves the joined proof to its place, whole or not at all, be that on another disk."""
     made = folder.at("scratch", "proof.lrat")
-    target = os.path.realpath(proof) if proof else folder.at("proof.lrat")
+    target = Path(os.path.realpath(proof)) if proof else folder.at("proof.lrat")
     try:
-        if os.stat(os.path.dirname(target)).st_dev != os.stat(made).st_dev:
-            made = copied(made, target + ".part")
-        if os.path.exists(target):
-            shutil.copymode(target, made)
+        if target.parent.stat().st_dev != made.stat().st_dev:
+            made = copied(made, Path(str(target) + ".part"))
+        if target.exists():
+            shutil.copymode(str(target), str(made))
         publish(made, target)
     except OSError as why:
         raise Fault("c cannot write proof", "%s: %s." % (target, why.strerror))
 
 
-def copied(made, part):
+def copied(made: Path, part: Path) -> Path:
     """Copies it to another disk; a copy that is broken off, by a signal too, is taken away."""
     try:
-        return shutil.copyfile(made, part)
+        shutil.copyfile(str(made), str(part))
     except BaseException:
-        if os.path.exists(part):
-            os.remove(part)
+        if part.exists():
+            part.unlink()
         raise
+    return part
 
 
-def answer_of(run, engine):
+def answer_of(run: Run, engine: Engine) -> Tuple[int, List[str]]:
     """Runs leaves and joins what they bring, until there is an answer or no leaf is left to run."""
     while True:
         run.begin()
@@ -207,13 +211,14 @@ def answer_of(run, engine):
             return status, lines
 
 
-def cores():
+def cores() -> Optional[int]:
     """The cores that this process may use, where the system tells."""
     return len(os.sched_getaffinity(0)) if hasattr(os, "sched_getaffinity") else os.cpu_count()
 
 
-def conquer(asked, screen):
-    plan, engine = plan_of(asked), ENGINES[asked.engine]()
+def conquer(asked: Namespace, screen: Screen) -> int:
+    plan, engine_of = plan_of(asked), ENGINES[asked.engine]
+    engine_of.test()
     test_places(asked.PROOF, plan.input)
     folder = Folder(asked.folder or asked.INPUT + ".conquer")
     folder.lock()
@@ -223,9 +228,10 @@ def conquer(asked, screen):
     else:
         plant(folder, plan, asked)
     jobs = asked.jobs or (None if asked.engine == "slurm" else cores())
-    run = Run(folder, plan, screen, Bell(), jobs)
+    bell = Bell()
+    engine, run = engine_of(folder, plan, screen, bell, jobs), Run(folder, plan, screen, bell)
     try:
-        engine.settle(run)
+        engine.settle()
         folder.clean()
         folder.write("plan.json", json.dumps(dataclasses.asdict(plan)))
         status, lines = answer_of(run, engine)
@@ -241,11 +247,11 @@ def conquer(asked, screen):
             screen.print(line)
         elif line.startswith("c leaf"):
             screen.say(line)
-    draw(run, status)
+    draw(run, screen, status)
     return status
 
 
-def foreign(folder, before):
+def foreign(folder: Folder, before: Dict[str, Any]) -> List[str]:
     """What is told of a folder whose tree is one of another formula, and keeps its plan."""
     folder.write("plan.json", json.dumps(before))
     other = ", of " + before["input"] if "input" in before else ""
@@ -253,15 +259,15 @@ def foreign(folder, before):
             "Name another folder with --folder, or " + anew(folder)]
 
 
-def draw(run, status):
+def draw(run: Run, screen: Screen, status: int) -> None:
     """The report is a picture of the run: that there is none changes no answer."""
     try:
-        run.screen.say("c report " + report.write(run, status))
+        screen.say("c report %s" % report.write(run, status))
     except Exception as why:
-        run.screen.say("c no report: %r" % why)
+        screen.say("c no report: %r" % why)
 
 
-def tell(lines):
+def tell(lines: List[str]) -> None:
     """Sentences are for whoever looks on: they go to standard error, and change no answer."""
     try:
         for line in lines:
@@ -270,14 +276,14 @@ def tell(lines):
         pass
 
 
-def reasons_of(fault, asked):
+def reasons_of(fault: Fault, asked: Optional[Namespace]) -> List[str]:
     """Why there is no answer: what is known here, or else what the program's line means."""
     if fault.reasons or asked is None:
         return fault.reasons
     return explain(str(fault), Named(asked.INPUT, asked.PROOF, asked.cubes_from))
 
 
-def main():
+def main() -> int:
     if sys.argv[1:2] == ["--work"] and len(sys.argv) == 5:
         return work(*sys.argv[2:])
     asked, screen = None, Screen(True)
