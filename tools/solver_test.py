@@ -3,11 +3,10 @@
 
     tools/solver_test.py PATH-OF-satcluster [CASE ..]
 
-The cases are those of `unittest`, such as Ends or Ends.test_parent_is_killed, and run in any order.
+A CASE is Ends, or Ends.test_parent_is_killed; they run alone, and in any order.
 CBMC, yosys and ABC are run if they are on the path, or in the folder that SATCLUSTER_CLIENTS names
 (tools/clients.sh makes one); if they are not there, that is told.
 """
-import itertools
 import os
 import re
 import shutil
@@ -25,33 +24,17 @@ from typing import Callable, Dict, Iterator, List, NamedTuple, Optional, Set
 
 sys.dont_write_bytecode = True
 
+from cases import EXAMPLES, dimacs, pigeons, run, satisfies
 from telling import looks
 from telling.faults import TABLES
 
 HERE = Path(__file__).resolve().parent
 SOLVER = HERE / "satcluster-solver"
-EXAMPLES = HERE.parent / "examples"
 SECONDS = 60  # how long a run may take
 SOON = 10  # how long what is ended may take to end
 MARK = "SATCLUSTER_TEST"
-PROGRAM = os.environ.get("SATCLUSTER", "")
 CLIENTS = os.environ.get("SATCLUSTER_CLIENTS", "")
 S_LINES = {10: "s SATISFIABLE", 20: "s UNSATISFIABLE", 0: "s UNKNOWN"}
-
-
-def dimacs(variables: int, clauses: List[List[int]]) -> str:
-    lines = ["p cnf %d %d" % (variables, len(clauses))]
-    return "\n".join(lines + [" ".join(map(str, clause + [0])) for clause in clauses]) + "\n"
-
-
-def pigeons(holes: int) -> str:
-    """One pigeon more than there are holes: each has a hole, and no hole has two."""
-    clauses = [[p * holes + h + 1 for h in range(holes)] for p in range(holes + 1)]
-    for hole in range(holes):
-        for first, second in itertools.combinations(range(holes + 1), 2):
-            clauses.append([-(first * holes + hole + 1), -(second * holes + hole + 1)])
-    return dimacs((holes + 1) * holes, clauses)
-
 
 LONG = pigeons(11)  # takes longer than a test
 BAD = "p cnf 1 1\n2 0\n"
@@ -86,14 +69,6 @@ class End(NamedTuple):
     errors: List[str]
 
 
-def satisfies(formula: str, lines: List[str]) -> bool:
-    """Whether the `v` lines satisfy the formula, as this test reads both."""
-    true = {word for line in lines if line.startswith("v ") for word in line.split()[1:]}
-    rows = [line for line in formula.split("\n") if line[:1] not in ("c", "p")]
-    clauses = [set(clause.split()) for clause in " ".join(rows).split(" 0")]
-    return all(true & clause for clause in clauses if clause)
-
-
 class Case(unittest.TestCase):
     """A folder of its own, in which the solver runs, and whose temporary files are here too."""
 
@@ -102,8 +77,9 @@ class Case(unittest.TestCase):
         self.addCleanup(shutil.rmtree, str(self.folder), ignore_errors=True)
         (self.folder / "tmp").mkdir()
         self.mark = uuid.uuid4().hex
-        self.env: Dict[str, str] = dict(os.environ, SATCLUSTER=PROGRAM, TMPDIR=self.at("tmp"))
+        self.env: Dict[str, str] = dict(os.environ, TMPDIR=self.at("tmp"))
         self.env[MARK] = self.mark
+        self.program = os.environ["SATCLUSTER"]
 
     def at(self, name: str) -> str:
         return str(self.folder / name)
@@ -182,7 +158,7 @@ class Case(unittest.TestCase):
         self.soon("a folder is left", lambda: not list((self.folder / "tmp").glob("satcluster-*")))
 
     def verifies(self, formula: str, proof: str) -> None:
-        words = [PROGRAM, "check", formula, proof]
+        words = [self.program, "check", formula, proof]
         done = subprocess.run(words, cwd=str(self.folder), stdout=subprocess.PIPE)
         self.assertEqual((0, b"s VERIFIED\n"), (done.returncode, done.stdout))
 
@@ -277,7 +253,7 @@ class Answers(Case):
                               "4.lrat"], there)
             for number in "134":
                 self.verifies("kept/%s.cnf" % number, "kept/%s.lrat" % number)
-            words = [PROGRAM, "model", "kept/2.cnf", "kept/2.answer"]
+            words = [self.program, "model", "kept/2.cnf", "kept/2.answer"]
             done = subprocess.run(words, cwd=str(self.folder), stdout=subprocess.PIPE)
             self.assertEqual(b"s VERIFIED\n", done.stdout)
             shutil.rmtree(self.at("kept"))
@@ -356,11 +332,11 @@ class Refusals(Case):
             self.assertIn("c the time is up", end.lines)
             self.assertLess(time.monotonic() - began, SOON)
             self.assertFalse(list(self.folder.glob("f.lrat*")))
-        with socket.socket() as listener:  # a formula that does not come
-            read, write = os.pipe()
-            end = self.answer("-t", "0.5", stdin=read)
-            self.assertIn("c the time is up", end.lines)
-            os.close(read), os.close(write)
+        read, write = os.pipe()  # from which no formula comes
+        end = self.answer("-t", "0.5", stdin=read)
+        self.assertIn("c the time is up", end.lines)
+        os.close(read)
+        os.close(write)
 
     def test_part_of_a_proof(self) -> None:
         """A program that is ended as it writes a proof leaves no part of it."""
@@ -478,7 +454,8 @@ class Ends(Case):
         parent.kill()
         parent.wait()
         self.leaves_nothing()
-        os.close(read), os.close(write)
+        os.close(read)
+        os.close(write)
 
 
 class Readers(Case):
@@ -507,7 +484,8 @@ class Readers(Case):
         process = self.start("f.cnf")
         self.whole(self.read_slowly(process.stdout.fileno()))
         self.assertEqual((10, b""), (process.wait(), process.stderr.read()))
-        process.stdout.close(), process.stderr.close()
+        process.stdout.close()
+        process.stderr.close()
 
     def test_pipe_that_does_not_wait(self) -> None:
         """A descriptor is shared with whoever else has it, and so is that it never waits."""
@@ -517,7 +495,8 @@ class Readers(Case):
         os.close(write)
         self.whole(self.read_slowly(read))
         self.assertEqual((10, b""), (process.wait(), process.stderr.read()))
-        process.stderr.close(), os.close(read)
+        process.stderr.close()
+        os.close(read)
 
     def test_short_answer_read_late(self) -> None:
         process = self.start(self.example("four_clauses.cnf"))
@@ -556,7 +535,7 @@ class Table(Case):
     """The table of faults says what the program prints."""
 
     def fault(self, *words: str) -> str:
-        done = subprocess.run([PROGRAM, *words], cwd=str(self.folder), stdout=subprocess.PIPE)
+        done = subprocess.run([self.program, *words], cwd=str(self.folder), stdout=subprocess.PIPE)
         found = re.search(r"line \d+ fault (\d+)", done.stdout.decode())
         return found.group(1) if found else done.stdout.decode()
 
@@ -676,13 +655,5 @@ class Clients(Case):
             self.assertIn("s UNKNOWN", self.refused(abc, "-q", line))
 
 
-def main() -> None:
-    global PROGRAM
-    if len(sys.argv) < 2 or not shutil.which(sys.argv[1]):
-        sys.exit(__doc__)
-    PROGRAM = os.path.abspath(shutil.which(sys.argv[1]))
-    unittest.main(argv=sys.argv[:1] + sys.argv[2:], verbosity=2)
-
-
 if __name__ == "__main__":
-    main()
+    run(__doc__)
