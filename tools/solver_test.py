@@ -338,6 +338,16 @@ class Refusals(Case):
         os.close(read)
         os.close(write)
 
+    def test_time_if_signals_are_blocked(self) -> None:
+        """A program hands on to what it starts which signals it blocks, and which it ignores."""
+        def deaf() -> None:
+            signal.signal(signal.SIGALRM, signal.SIG_IGN)
+            signal.pthread_sigmask(signal.SIG_BLOCK, range(1, signal.NSIG))
+
+        self.write("long.cnf", LONG)
+        end = self.answer("-t", "1", "long.cnf", preexec_fn=deaf)
+        self.assertIn("c the time is up", end.lines)
+
     def test_part_of_a_proof(self) -> None:
         """A program that is ended as it writes a proof leaves no part of it."""
         script = "exec 9> f.lrat.part0; echo part >&9; exec sleep 50"
@@ -391,7 +401,8 @@ class Ends(Case):
         self.write("long.cnf", LONG)
         for more in ([], ["--jobs", "2"]):
             words = [str(SOLVER), *more, "long.cnf"]
-            code = "import subprocess, sys; subprocess.run(%r)" % words
+            code = ("import signal, subprocess; signal.signal(signal.SIGUSR2, signal.SIG_IGN); "
+                    "subprocess.run(%r)" % words)
             parent = subprocess.Popen([sys.executable, "-c", code], cwd=str(self.folder),
                                       env=self.env, stdout=subprocess.PIPE, stderr=subprocess.PIPE)
             most = 4 if more else 2

@@ -41,8 +41,10 @@ def end_by_signals() -> None:
         raise Ended(ENDINGS[number])
 
     for number in ENDINGS:
-        if signal.getsignal(number) != signal.SIG_IGN:  # as `nohup` has it
+        is_ours = number in (PARENT_ENDED, signal.SIGALRM)
+        if is_ours or signal.getsignal(number) != signal.SIG_IGN:  # as `nohup` has it
             signal.signal(number, end)
+    signal.pthread_sigmask(signal.SIG_UNBLOCK, ENDINGS)  # a client may have blocked them for itself
     if prctl:
         prctl(DIE_WITH_PARENT, PARENT_ENDED)
 
