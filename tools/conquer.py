@@ -3,7 +3,7 @@
 
     tools/conquer.py [--program PATH] [--solver satcluster|cadical|kissat|COMMAND]
                      [--engine local|make|parallel|slurm] [--jobs N] [--depth D | --cubes-from FILE]
-                     [--limit L] [--seconds S] [--folder DIR] [-q] [-n] INPUT [PROOF]
+                     [--limit L] [--seconds S] [--no-race] [--folder DIR] [-q] [-n] INPUT [PROOF]
 
 Prints the `s` and `v` lines of `satcluster solve`, and ends with its statuses: 10, 20, 0 and 1.
 Each answer is one of the proved program: `join` tests every log and every assignment that a job has
@@ -71,6 +71,7 @@ def words() -> Namespace:
     option("--cubes-from", metavar="FILE", help="complete the cubes that this file lists")
     option("--limit", metavar="L", type=number(1, most), help="lemmas before a leaf is cut in two")
     option("--seconds", metavar="S", type=number(1, most), help="the same in seconds of a search")
+    option("--no-race", action="store_true", help="no job searches the whole formula unsplit")
     option("--folder", metavar="DIR", help="where the files of the run stand; INPUT.conquer")
     option("-q", action="store_true", dest="quiet", help="no c lines")
     option("-n", action="store_true", dest="no_values", help="no v lines")
@@ -229,7 +230,8 @@ def conquer(asked: Namespace, screen: Screen) -> int:
         plant(folder, plan, asked)
     jobs = asked.jobs or (None if asked.engine == "slurm" else cores())
     bell = Bell()
-    engine, run = engine_of(folder, plan, screen, bell, jobs), Run(folder, plan, screen, bell)
+    engine = engine_of(folder, plan, screen, bell, jobs, not asked.no_race)
+    run = Run(folder, plan, screen, bell)
     try:
         engine.settle()
         folder.clean()

@@ -19,6 +19,7 @@ from typing import Dict, List, Optional, Tuple, Type
 from conquering.files import Fault, Folder, log_of
 from conquering.leaf import CLOSED, FAILED, Job, Leaf, Plan, conquer_leaf, read_records
 from conquering.processes import Bell, Command, Word, die_with, kill, output_of, start
+from conquering.race import Race
 from conquering.run import Run
 from conquering.screen import Screen
 
@@ -35,6 +36,7 @@ class Engine:
     screen: Screen
     bell: Bell
     jobs: Optional[int]  # how many at a time
+    races: bool = False  # whether one of them searches the whole formula
 
     @classmethod
     def test(cls) -> None:
@@ -53,24 +55,42 @@ class Local(Engine):
     def work(self, run: Run) -> None:
         jobs: List[Job] = []
         mark = str(time.time_ns())
+        race = self.race(run, mark)
         try:
-            while (run.waits() or jobs) and not run.over():
-                while run.waits() and len(jobs) < self.jobs:
+            while (run.waits() or jobs or race) and not run.over():
+                while run.waits() and len(jobs) + bool(race) < self.jobs:
                     leaf = run.take()
                     jobs.append(Job(leaf, conquer_leaf(self.folder, self.plan, leaf, mark)))
                 self.bell.wait(min([1.0] + [job.end - time.monotonic() for job in jobs]))
                 for job in [job for job in jobs if job.ended()]:
                     jobs.remove(job)
+                    run.spent(time.monotonic() - job.began)
                     run.ended(job.leaf, *job.result)
+                if race and race.ended(run):
+                    race = None
                 for job in [job for job in jobs if run.is_covered(job.leaf)]:
                     jobs.remove(job)
                     run.let_go(job.leaf)
                     job.stop()
-                run.tick(len(jobs))
+                if race and race.is_lost(run, jobs, self.jobs):
+                    race = self.end_race(run, race)
+                run.tick(len(jobs), race is not None)
         finally:
-            for job in jobs:
+            for job in jobs + ([race.job] if race else []):
                 run.let_go(job.leaf)
                 job.stop()
+
+    def race(self, run: Run, mark: str) -> Optional[Race]:
+        """Once in a start, and not where a leaf is the whole formula."""
+        if not self.races or not run.waits() or len(run.cubes) == 1:
+            return None
+        self.races = False
+        return Race.begin(self.folder, self.plan, mark)
+
+    def end_race(self, run: Run, race: Race) -> None:
+        race.job.stop()
+        if run.open():
+            self.screen.say("c the leaves are ahead: the search of the whole formula is ended")
 
 
 class Rounds(Engine):

@@ -1,6 +1,7 @@
 """The state of a run: a folder of files, each of which is there whole or not at all.
 
     trees/N.icnf     the splitting tree; a leaf that is cut in two makes a new file
+    whole.icnf       a tree of no levels, for the search of the whole formula
     logs/LEAF.lrat   a log that closes a leaf
     answers/LEAF     `v` lines that a job has brought
     records/..       how long each job took, and how it ended, for the report

@@ -156,6 +156,7 @@ class Job:
     def __init__(self, leaf: Leaf, steps: Steps) -> None:
         self.leaf, self.steps = leaf, steps
         self.process, self.result = None, None
+        self.began = time.monotonic()
         self.next(None)
 
     def next(self, status: Status) -> None:

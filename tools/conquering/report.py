@@ -14,7 +14,7 @@ from pathlib import Path
 from typing import Dict, Iterator, List, Optional, Set, Tuple
 
 from conquering.files import Cube
-from conquering.leaf import CLOSED, Record, read_records
+from conquering.leaf import CLOSED, LIMIT, Record, read_records
 from conquering.run import Run
 from conquering.screen import clock
 
@@ -250,12 +250,21 @@ def table(cubes: List[Cube], covered: Set[Cube], last: Dict[Cube, Record]) -> st
     return "<table>%s</table>" % "\n".join(lines)
 
 
+def is_race(record: Record, cubes: List[Cube]) -> bool:
+    """Whether its job searched the whole formula beside the leaves. One that left a tree of no
+    levels at its limit was cut in two."""
+    return record.cube == () and () not in cubes and record.outcome != LIMIT
+
+
 def facts(cubes: List[Cube], covered: Set[Cube], records: List[Record],
           last: Dict[Cube, Record]) -> Iterator[Tuple[str, str]]:
     """The figures of the run, as pairs of what and how much."""
     jobs = [last[cube] for cube in cubes if cube in last and last[cube].outcome == CLOSED]
     times, whole = sorted(map(spent, jobs)), sum(map(spent, records))
     yield "leaves", "{:,}".format(len(cubes))
+    for record in records:
+        if is_race(record, cubes):
+            yield "the whole formula unsplit", "%s in %s" % (record.outcome, told(spent(record)))
     yield "closed by a job", "{:,}".format(len(jobs))
     yield "with another leaf", "{:,}".format(len(covered))
     yield "jobs", "{:,}".format(len(records))
@@ -278,7 +287,7 @@ edge is a job that closed nothing.</p>"""
 
 def page(name: str, how: str, cubes: List[Cube], covered: Set[Cube], records: List[Record],
          status: int) -> str:
-    last = {record.cube: record for record in records}
+    last = {record.cube: record for record in records if not is_race(record, cubes)}
     times = {cube: spent(record) for cube, record in last.items()}
     shown = [times[cube] for cube in cubes if cube in times]
     scale, title = Scale(list(times.values())), html.escape(os.path.basename(name))

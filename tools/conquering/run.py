@@ -71,6 +71,7 @@ class Run:
         self.unlimited: Set[Cube] = set()  # to be run without a limit
         self.alone: Set[Cube] = set()  # to be run in any case
         self.failures, self.closed, self.splits = 0, 0, 0
+        self.longest = 0.0  # seconds of a leaf's job
         self.began, self.model = time.monotonic(), False
         self.join: Optional[Join] = None
         self.can_split: Optional[bool] = None
@@ -122,6 +123,14 @@ class Run:
     def take_all(self) -> List[Leaf]:
         return [self.take() for _ in range(len(self.queue))]
 
+    def open(self) -> int:
+        """How many leaves nothing closes yet."""
+        return sum(cube not in self.done for cube in self.cubes)
+
+    def spent(self, seconds: float) -> None:
+        """A leaf's job has taken so long."""
+        self.longest = max(self.longest, seconds)
+
     def let_go(self, leaf: Leaf) -> None:
         """Its job was ended before it had found anything."""
         self.running.pop(leaf.cube, None)
@@ -160,6 +169,19 @@ class Run:
                 self.queue.append(cube)
         else:
             self.fail(cube, note)
+
+    def raced(self, outcome: str, note: str) -> None:
+        """What follows when the search of the whole formula has ended: its log closes every leaf."""
+        if outcome == CLOSED:
+            self.screen.say("c the whole formula was refuted unsplit")
+            self.closed += 1
+            self.cover(closed_by(self.folder.at(log_of(()))))
+            if self.join:
+                self.join.add(log_of(()))
+        elif outcome == MODEL:
+            self.model = True
+        else:
+            self.screen.say("c the whole formula unsplit: " + (note or outcome))
 
     def cover(self, closed: Optional[FrozenSet[int]]) -> None:
         """A log whose search has not used all of its cube closes other leaves, too: they need not
@@ -226,12 +248,13 @@ class Run:
         for name in set(self.folder.names("trees")) - named:
             self.folder.at(name).unlink()
 
-    def tick(self, running: int) -> None:
+    def tick(self, running: int, is_raced: bool = False) -> None:
         """Tells how far the run is; the time left is reckoned by the leaves that are closed."""
-        waits, gone = len(self.cubes) - len(self.done), time.monotonic() - self.began
+        waits, gone = self.open(), time.monotonic() - self.began
         line = "c %d of %d leaves closed, %d running, %d open" % (
-            len(self.done), len(self.cubes), running, max(0, waits - running))
+            len(self.cubes) - waits, len(self.cubes), running, max(0, waits - running))
         line += ", %d split" % self.splits if self.splits else ""
+        line += ", beside the whole formula" if is_raced else ""
         line += ", %s gone" % clock(gone)
         if self.closed:
             line += ", about %s left" % clock(gone / self.closed * max(0, waits - running / 2))
