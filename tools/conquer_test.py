@@ -218,7 +218,7 @@ class Folder(Case):
     def test_spoiled_files(self) -> None:
         """Logs that are cut, empty, garbage, of another leaf, a folder; a wrong answer."""
         name = "urquhart_24.cnf"
-        self.conquer("-q", name, "good.lrat")
+        self.conquer("-q", "--no-race", name, "good.lrat")
         logs = self.logs(name)
         logs[0].write_bytes(logs[0].read_bytes()[:-2])
         logs[1].write_bytes(b"")
@@ -229,7 +229,7 @@ class Folder(Case):
         self.at(name + ".conquer", "logs", "a file\nof another").mkdir()
         logs[6].rename(self.at(name + ".conquer", "logs", "brought from elsewhere"))
         self.write(name + ".conquer/answers/wrong", "s SATISFIABLE\nv 1 2 3 0\n")
-        status, lines = self.conquer(name, "good.lrat")
+        status, lines = self.conquer("--no-race", name, "good.lrat")
         self.assertEqual((20, True), (status, "s UNSATISFIABLE" in lines))
         told = [line for line in lines if line.startswith("c file")]
         self.assertTrue(any("leaf" in line for line in told) and len(told) >= 3, told)
@@ -296,6 +296,40 @@ class Solvers(Case):
         self.assertLess(time.monotonic() - began, 60)
 
 
+class Races(Case):
+    """One job searches the whole formula beside the leaves; solvers that know which one they search."""
+
+    NAME, UNSPLIT = "schur_3_14.cnf", "c the whole formula was refuted unsplit"
+
+    def race(self, whole: str, leaf: str) -> List[str]:
+        """The lines of a run of two jobs, where a solver does one thing for the whole formula, and
+        another for a leaf, which has units beside it."""
+        size = len(self.at(self.NAME).read_text().split("\n"))
+        script = "if [ $(wc -l < $1) -lt %d ]; then %s; else %s; fi" % (size + 1, whole, leaf)
+        solver = self.script("racer", script)
+        words = ["--jobs", "2", "--depth", "3", "--solver", solver, self.NAME, "r.lrat"]
+        status, lines = self.conquer(*words)
+        self.assertEqual((20, True), (status, "s UNSATISFIABLE" in lines), lines)
+        self.verifies(self.NAME, "r.lrat")
+        self.assertEqual([], self.running(self.NAME), "jobs that are left")
+        return lines
+
+    def test_whole_formula_is_first(self) -> None:
+        lines = self.race("exec %s solve -q --depth 0 $1 $2" % self.program, "sleep 100")
+        self.assertIn(self.UNSPLIT, lines)
+
+    def test_lie_of_the_whole_formula(self) -> None:
+        lines = self.race("echo garbage > $2; exit 20", "exec %s solve -q $1 $2" % self.program)
+        self.assertNotIn(self.UNSPLIT, lines)
+
+    def test_leaves_are_first(self) -> None:
+        self.race("sleep 100", "exec %s solve -q --depth 0 $1 $2" % self.program)
+
+    def test_no_race(self) -> None:
+        self.ends(20, ["s UNSATISFIABLE"], "-q", "--no-race", self.NAME)
+        self.assertFalse(self.at(self.NAME + ".conquer", "whole.icnf").exists())
+
+
 def kill(process: int) -> int:
     try:
         os.kill(process, signal.SIGKILL)
@@ -357,7 +391,8 @@ class Kills(Case):
         self.killed("parallel", max(1, self.kills // 3))
 
     def killed(self, engine: str, kills: int) -> None:
-        words = ["-q", "--engine", engine, "--jobs", "2", "--depth", "5", PIGEONS, "p.lrat"]
+        words = ["-q", "--no-race", "--engine", engine, "--jobs", "2", "--depth", "5"]
+        words += [PIGEONS, "p.lrat"]
         began = time.monotonic()
         self.ends(20, ["s UNSATISFIABLE"], *words)
         whole = time.monotonic() - began
