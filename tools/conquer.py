@@ -3,7 +3,7 @@
 
     tools/conquer.py [--program PATH] [--solver satcluster|cadical|kissat|COMMAND]
                      [--engine local|make|parallel|slurm] [--jobs N] [--depth D | --cubes-from FILE]
-                     [--limit L] [--seconds S] [--folder DIR] [-q] [-n] INPUT [PROOF]
+                     [--limit L] [--seconds S] [--no-race] [--folder DIR] [-q] [-n] INPUT [PROOF]
 
 Prints the `s` and `v` lines of `satcluster solve`, and ends with its statuses: 10, 20, 0 and 1.
 Each answer is one of the proved program: `join` tests every log and every assignment that a job has
@@ -15,25 +15,30 @@ same command goes on with what is there. COMMAND is a command line with {cnf} an
 with {drat} between them and &&. docs/ENGINES.md tells more.
 """
 import argparse
+import dataclasses
 import json
 import os
 import shlex
 import shutil
 import signal
-import subprocess
 import sys
-import types
+from argparse import Namespace
+from pathlib import Path
+from typing import Any, Callable, Dict, List, NoReturn, Optional, Tuple
 
 sys.dont_write_bytecode = True
 
-from conquering import report
-from conquering.engines import ENGINES, work
+from conquering import places, report
+from conquering.engines import ENGINES, Engine, work
 from conquering.files import Fault, Folder, last_line, publish
-from conquering.processes import Bell
+from conquering.leaf import Plan
+from conquering.processes import Bell, status_of
 from conquering.run import Run
-from conquering.screen import Screen
+from conquering.screen import Screen, plain
+from telling.words import Named, explain, unwritable
 
-HERE = os.path.dirname(os.path.abspath(__file__))
+DEPTH = 6  # if none is asked for
+FOREIGN = "c cubes of another formula"
 SOLVERS = {
     "cadical": "cadical -q --lrat --no-binary {cnf} {lrat}",
     "kissat": "kissat -q --no-factor --no-binary {cnf} {drat}"
@@ -42,31 +47,31 @@ SOLVERS = {
 
 
 class Words(argparse.ArgumentParser):
-    def error(self, message):
-        print("c usage")
-        sys.exit(1)
+    def error(self, message: str) -> NoReturn:
+        raise Fault("c usage", message)
 
 
-def number(least, most):
-    def read(word):
+def number(least: int, most: int) -> Callable[[str], int]:
+    def read(word: str) -> int:
         if not (word.isascii() and word.isdigit() and least <= int(word) <= most):
-            raise argparse.ArgumentTypeError("out of range")
+            raise argparse.ArgumentTypeError("%s is no number from %d to %d" % (word, least, most))
         return int(word)
 
     return read
 
 
-def words():
+def words() -> Namespace:
     parser = Words(usage=__doc__.split("\n\n")[1].strip(), allow_abbrev=False)
     option, most = parser.add_argument, 1000000000
     option("--program", metavar="PATH", help="the proved program")
     option("--solver", metavar="NAME", default="satcluster", help="who searches under a leaf")
     option("--engine", default="local", choices=sorted(ENGINES), help="who starts the jobs")
     option("--jobs", metavar="N", type=number(1, most), help="how many at a time; as many as cores")
-    option("--depth", metavar="D", type=number(0, 16), default=6, help="how deep to split; 6")
+    option("--depth", metavar="D", type=number(0, 16), help="how deep to split; %d" % DEPTH)
     option("--cubes-from", metavar="FILE", help="complete the cubes that this file lists")
     option("--limit", metavar="L", type=number(1, most), help="lemmas before a leaf is cut in two")
     option("--seconds", metavar="S", type=number(1, most), help="the same in seconds of a search")
+    option("--no-race", action="store_true", help="no job searches the whole formula unsplit")
     option("--folder", metavar="DIR", help="where the files of the run stand; INPUT.conquer")
     option("-q", action="store_true", dest="quiet", help="no c lines")
     option("-n", action="store_true", dest="no_values", help="no v lines")
@@ -75,69 +80,126 @@ def words():
     return parser.parse_args()
 
 
-def found(word):
-    path = shutil.which(word)
+def found(word: str) -> str:
+    path = places.found(word)
     if path is None:
-        more = ": build it, or name it with --program" if word == "satcluster" else ""
-        raise Fault("c cannot run " + word + more)
-    return os.path.abspath(path)
+        is_ours = word == "satcluster"
+        raise Fault("c cannot run " + word + (": build it, or name it with --program" * is_ours),
+                    "There is no program %s%s." % (word, "" if "/" in word else " on the path"))
+    return path
 
 
-def plan_of(asked):
-    """What every job has to know; it is kept as a file for those that run elsewhere."""
-    built = os.path.join(HERE, "..", "crates", "satcluster", "out", "satcluster")
-    program = found(asked.program or (built if os.path.exists(built) else "satcluster"))
-    solver = None
-    if asked.solver != "satcluster":
-        line = SOLVERS.get(asked.solver, asked.solver)
-        commands = [shlex.split(command) for command in line.split("&&")]
-        if "{cnf}" not in line or "{lrat}" not in line or not all(commands) or asked.limit:
-            raise Fault("c usage")
-        solver = [[found(command[0])] + command[1:] for command in commands]
-    return types.SimpleNamespace(program=program, solver=solver, limit=asked.limit,
-                                 seconds=asked.seconds, input=os.path.abspath(asked.INPUT))
+def solver_of(asked: Namespace) -> Optional[List[List[str]]]:
+    """The commands of another solver; None for our own search."""
+    if asked.solver == "satcluster":
+        return None
+    line = SOLVERS.get(asked.solver, asked.solver)
+    commands = [shlex.split(command) for command in line.split("&&")]
+    why = wrong_solver(asked, line, commands)
+    if why:
+        raise Fault("c usage", why)
+    return [[found(command[0])] + command[1:] for command in commands]
 
 
-def test_places(proof, formula):
+def wrong_solver(asked: Namespace, line: str, commands: List[List[str]]) -> Optional[str]:
+    """Why the command line of a solver is refused."""
+    missing = [mark for mark in ("{cnf}", "{lrat}") if mark not in line]
+    if len(missing) == 2 and len(line.split()) == 1:
+        return ("--solver %s is none of satcluster, %s; a command line of another solver has {cnf} "
+                "for the formula and {lrat} for the proof" % (line, ", ".join(sorted(SOLVERS))))
+    if missing:
+        return "the command line of --solver has no %s" % " and no ".join(missing)
+    if not all(commands):
+        return "the command line of --solver has nothing beside &&"
+    if asked.limit:
+        return "--limit counts the lemmas of our own search: with another solver use --seconds"
+    return None
+
+
+def plan_of(asked: Namespace) -> Plan:
+    program = found(places.word_of_program(asked.program))
+    return Plan(program, os.path.abspath(asked.INPUT), solver_of(asked), asked.limit, asked.seconds)
+
+
+def test_places(proof: Optional[str], formula: str) -> None:
     """Tells at once, and not after hours, what cannot be read or written."""
     if not os.path.isfile(formula) or not os.access(formula, os.R_OK):
-        raise Fault("c cannot read input")
+        is_other = os.path.exists(formula) and not os.path.isdir(formula)
+        raise Fault("c cannot read input", *["It is no regular file."] * is_other)
     if proof is None:
         return
     right = os.access(os.path.dirname(os.path.realpath(proof)), os.W_OK)
     if os.path.lexists(proof):
         right = right and os.path.isfile(proof) and not os.path.samefile(proof, formula)
     if not right:
-        raise Fault("c cannot write proof")
+        raise Fault("c cannot write proof", unwritable(proof, formula) or "It is no regular file.")
 
 
-def plant(folder, plan, asked):
-    """Makes the first tree. Where there is a tree it stands, so that logs keep their leaves."""
+def words_of_split(asked: Namespace) -> List[str]:
+    if asked.cubes_from:
+        return ["--complete", asked.cubes_from]
+    return ["--depth", str(DEPTH if asked.depth is None else asked.depth)]
+
+
+def plant(folder: Folder, plan: Plan, asked: Namespace) -> None:
+    """Makes the first tree."""
     part = folder.at("scratch", "tree")
-    how = ["--complete", asked.cubes_from] if asked.cubes_from else ["--depth", str(asked.depth)]
-    with open(part, "wb") as tree:
-        status = subprocess.call([plan.program, "cubes", *how, plan.input], stdout=tree)
-    if status != 0:
+    how = words_of_split(asked)
+    if status_of([plan.program, "cubes", *how, plan.input], part) != 0:
         raise Fault(last_line(part))
     publish(part, folder.at("trees", "1.icnf"))
+    plan.split = " ".join(how)
 
 
-def put_proof(folder, proof):
+def take_over(folder: Folder, plan: Plan, asked: Namespace, screen: Screen) -> None:
+    """Where there is a tree it stands, so that logs keep their leaves. Tells if words ask for
+    another one."""
+    plan.split = plan_before(folder).get("split", "")
+    is_asked = asked.depth is not None or asked.cubes_from
+    if is_asked and plan.split != " ".join(words_of_split(asked)):
+        word = "--cubes-from" if asked.cubes_from else "--depth"
+        screen.say("c %s is not used: a tree stands in the folder; %s" % (word, anew(folder)))
+
+
+def anew(folder: Folder) -> str:
+    return "to begin anew: rm -r " + shlex.quote(str(folder.path))
+
+
+def plan_before(folder: Folder) -> Dict[str, Any]:
+    """The plan of an earlier start, as far as it can be read."""
+    try:
+        plan = json.loads(folder.at("plan.json").read_text())
+    except (OSError, ValueError):
+        return {}
+    return plan if isinstance(plan, dict) else {}
+
+
+def put_proof(folder: Folder, proof: Optional[str]) -> None:
     """Moves the joined proof to its place, whole or not at all, be that on another disk."""
     made = folder.at("scratch", "proof.lrat")
-    target = os.path.realpath(proof) if proof else folder.at("proof.lrat")
+    target = Path(os.path.realpath(proof)) if proof else folder.at("proof.lrat")
     try:
-        if os.stat(os.path.dirname(target)).st_dev != os.stat(made).st_dev:
-            shutil.copyfile(made, target + ".part")
-            made = target + ".part"
-        if os.path.exists(target):
-            shutil.copymode(target, made)
+        if target.parent.stat().st_dev != made.stat().st_dev:
+            made = copied(made, Path(str(target) + ".part"))
+        if target.exists():
+            shutil.copymode(str(target), str(made))
         publish(made, target)
-    except OSError:
-        raise Fault("c cannot write proof")
+    except OSError as why:
+        raise Fault("c cannot write proof", "%s: %s." % (target, why.strerror))
 
 
-def answer_of(run, engine):
+def copied(made: Path, part: Path) -> Path:
+    """Copies it to another disk; a copy that is broken off, by a signal too, is taken away."""
+    try:
+        shutil.copyfile(str(made), str(part))
+    except BaseException:
+        if part.exists():
+            part.unlink()
+        raise
+    return part
+
+
+def answer_of(run: Run, engine: Engine) -> Tuple[int, List[str]]:
     """Runs leaves and joins what they bring, until there is an answer or no leaf is left to run."""
     while True:
         run.begin()
@@ -150,29 +212,36 @@ def answer_of(run, engine):
             return status, lines
 
 
-def cores():
+def cores() -> Optional[int]:
     """The cores that this process may use, where the system tells."""
     return len(os.sched_getaffinity(0)) if hasattr(os, "sched_getaffinity") else os.cpu_count()
 
 
-def conquer(asked, screen):
-    plan, engine = plan_of(asked), ENGINES[asked.engine]()
+def conquer(asked: Namespace, screen: Screen) -> int:
+    plan, engine_of = plan_of(asked), ENGINES[asked.engine]
+    engine_of.test()
     test_places(asked.PROOF, plan.input)
     folder = Folder(asked.folder or asked.INPUT + ".conquer")
     folder.lock()
-    if not folder.newest_tree():
+    before = plan_before(folder)
+    if folder.newest_tree():
+        take_over(folder, plan, asked, screen)
+    else:
         plant(folder, plan, asked)
     jobs = asked.jobs or (None if asked.engine == "slurm" else cores())
-    run = Run(folder, plan, screen, Bell(), jobs)
+    bell = Bell()
+    engine = engine_of(folder, plan, screen, bell, jobs, not asked.no_race)
+    run = Run(folder, plan, screen, bell)
     try:
-        engine.settle(run)
+        engine.settle()
         folder.clean()
-        folder.write("plan.json", json.dumps(vars(plan)))
+        folder.write("plan.json", json.dumps(dataclasses.asdict(plan)))
         status, lines = answer_of(run, engine)
     finally:
         run.end_join()
     if status not in (0, 10, 20):
-        raise Fault(lines[-1] if lines else "c join ends with %d" % status)
+        line = lines[-1] if lines else "c join ends with %d" % status
+        raise Fault(line, *foreign(folder, before) if line == FOREIGN else [])
     if status == 20:
         put_proof(folder, asked.PROOF)
     for line in lines:
@@ -180,36 +249,62 @@ def conquer(asked, screen):
             screen.print(line)
         elif line.startswith("c leaf"):
             screen.say(line)
-    draw(run, status)
+    draw(run, screen, status)
     return status
 
 
-def draw(run, status):
+def foreign(folder: Folder, before: Dict[str, Any]) -> List[str]:
+    """What is told of a folder whose tree is one of another formula, and keeps its plan."""
+    folder.write("plan.json", json.dumps(before))
+    other = ", of " + before["input"] if "input" in before else ""
+    return ["The folder %s holds a run of another formula%s." % (folder.path, other),
+            "Name another folder with --folder, or " + anew(folder)]
+
+
+def draw(run: Run, screen: Screen, status: int) -> None:
     """The report is a picture of the run: that there is none changes no answer."""
     try:
-        run.screen.say("c report " + report.write(run, status))
+        screen.say("c report %s" % report.write(run, status))
     except Exception as why:
-        run.screen.say("c no report: %r" % why)
+        screen.say("c no report: %r" % why)
 
 
-def main():
+def tell(lines: List[str]) -> None:
+    """Sentences are for whoever looks on: they go to standard error, and change no answer."""
+    try:
+        for line in lines:
+            print("c " + plain(line), file=sys.stderr, flush=True)
+    except OSError:
+        pass
+
+
+def reasons_of(fault: Fault, asked: Optional[Namespace]) -> List[str]:
+    """Why there is no answer: what is known here, or else what the program's line means."""
+    if fault.reasons or asked is None:
+        return fault.reasons
+    return explain(str(fault), Named(asked.INPUT, asked.PROOF, asked.cubes_from))
+
+
+def main() -> int:
     if sys.argv[1:2] == ["--work"] and len(sys.argv) == 5:
         return work(*sys.argv[2:])
-    asked = words()
-    screen = Screen(asked.quiet)
+    asked, screen = None, Screen(True)
     for ending in (signal.SIGINT, signal.SIGTERM, signal.SIGHUP):
         signal.signal(ending, lambda *_: sys.exit(1))  # which ends the jobs on its way out
     try:
+        asked = words()
+        screen = Screen(asked.quiet)
         return conquer(asked, screen)
     except Fault as fault:
-        line = str(fault)
+        line, reasons = str(fault), reasons_of(fault, asked)
     except OSError as why:
-        line = "c %s" % why
+        line, reasons = "c %s" % why, []
     try:
         screen.quiet = screen.quiet and line != "c usage"
         screen.say(line)
     except OSError:  # nobody reads what is printed
         os.dup2(os.open(os.devnull, os.O_WRONLY), sys.stdout.fileno())
+    tell(reasons)
     return 1
 
 

@@ -1,313 +1,336 @@
 #!/usr/bin/env python3
 """Runs `conquer.py` as a process, kills it and its jobs, and spoils its files.
 
-    tools/conquer_test.py PATH-OF-satcluster [KILLS [SEED]]
+    tools/conquer_test.py PATH-OF-satcluster [CASE ..]
 
-Tells what it tests, a line each, and ends with status 1 at the first difference. KILLS is how often
-the script is killed at random moments, and how often a job of it, at least; 6 where it is left out.
-With other engines it is a third of that.
+A CASE is Kills, or Kills.test_local; they run alone, and in any order. KILLS of the environment is
+how often the script is killed at random moments, and how often a job of it, at least; 6 if it is
+not there. With other engines it is a third of that. SEED draws the moments.
 """
-import itertools
+import collections
 import os
 import random
+import re
 import shutil
 import signal
 import subprocess
 import sys
 import tempfile
 import time
+import unittest
+from pathlib import Path
+from typing import Callable, Dict, List, NamedTuple
 
-HERE = os.path.dirname(os.path.abspath(__file__))
-EXAMPLES = os.path.join(HERE, "..", "examples")
+sys.dont_write_bytecode = True
+
+from cases import EXAMPLES, pigeons, run, satisfies
+from conquering import report
+from conquering.files import Fault, answer_of, closed_by, log_of, name_of, read_cubes
+from conquering.leaf import CLOSED, LIMIT, Record
+
+SCRIPT = Path(__file__).resolve().parent / "conquer.py"
 SECONDS = 120  # how long a run may take
+FORMULAS = ("four_clauses", "schur_3_14", "urquhart_24", "random_100_sat", "schur_3_13")
+FOUR = "four_clauses.cnf"
+PIGEONS = "pigeons.cnf"
 
 
-def differs(what, wanted, found):
-    print("DIFFERS: %s: wanted %r, found %r" % (what, wanted, found))
-    sys.exit(1)
+class End(NamedTuple):
+    status: int
+    lines: List[str]
 
 
-def same(what, wanted, found):
-    if wanted != found:
-        differs(what, wanted, found)
+class Case(unittest.TestCase):
+    """A folder of its own with formulas, in which the script is run."""
 
+    def setUp(self) -> None:
+        self.program = os.environ["SATCLUSTER"]
+        self.folder = Path(os.path.realpath(tempfile.mkdtemp()))
+        self.addCleanup(shutil.rmtree, str(self.folder), ignore_errors=True)
+        for name in FORMULAS:
+            shutil.copy(str(EXAMPLES / (name + ".cnf")), str(self.folder))
+        self.write(PIGEONS, pigeons(6))
 
-def ok(what):
-    print("ok: " + what, flush=True)
+    def at(self, *names: str) -> Path:
+        return self.folder.joinpath(*names)
 
+    def write(self, name: str, text: str) -> str:
+        self.at(name).write_text(text)
+        return name
 
-def pigeons(holes):
-    """One pigeon more than there are holes: each has a hole, and no hole has two."""
-    at = lambda pigeon, hole: pigeon * holes + hole + 1
-    clauses = [[at(p, h) for h in range(holes)] for p in range(holes + 1)]
-    for hole in range(holes):
-        for first, second in itertools.combinations(range(holes + 1), 2):
-            clauses.append([-at(first, hole), -at(second, hole)])
-    lines = ["p cnf %d %d" % ((holes + 1) * holes, len(clauses))]
-    return "\n".join(lines + [" ".join(map(str, clause + [0])) for clause in clauses]) + "\n"
+    def script(self, name: str, text: str) -> str:
+        """A command line of a solver, which is this script of a shell."""
+        self.write(name, "#!/bin/sh\n" + text + "\n")
+        self.at(name).chmod(0o755)
+        return "%s {cnf} {lrat}" % self.at(name)
 
-
-class Bench:
-    """A folder with formulas, in which the script is run."""
-
-    def __init__(self, program, folder):
-        self.program, self.folder = os.path.abspath(program), folder
-
-    def at(self, *names):
-        return os.path.join(self.folder, *names)
-
-    def write(self, name, text):
-        with open(self.at(name), "w") as file:
-            file.write(text)
-
-    def read(self, name):
-        with open(self.at(name), "rb") as file:
-            return file.read()
-
-    def start(self, *words):
-        script = [sys.executable, os.path.join(HERE, "conquer.py"), "--program", self.program]
-        return subprocess.Popen([*script, *words], cwd=self.folder, stdout=subprocess.PIPE,
+    def start(self, *words: str) -> subprocess.Popen:
+        script = [sys.executable, str(SCRIPT), "--program", self.program]
+        return subprocess.Popen([*script, *words], cwd=str(self.folder), stdout=subprocess.PIPE,
                                 stderr=subprocess.PIPE)
 
-    def run(self, *words):
-        """Status and lines of a run, which writes nothing to standard error."""
+    def conquer(self, *words: str) -> End:
+        """Status and lines of a run. To standard error it writes why there is no answer, if so."""
         return self.end(self.start(*words), words)
 
-    def end(self, process, what):
+    def end(self, process: subprocess.Popen, what: object) -> End:
         try:
             out, err = process.communicate(timeout=SECONDS)
         except subprocess.TimeoutExpired:
             process.kill()
-            differs(what, "an end", "none after %d seconds" % SECONDS)
-        same("%s: standard error" % (what,), "", err.decode())
-        return process.returncode, out.decode().split("\n")[:-1]
+            self.fail("%s: no end after %d seconds" % (what, SECONDS))
+        self.told = err.decode().split("\n")[:-1]
+        if process.returncode != 1 or not all(line.startswith("c ") for line in self.told):
+            self.assertEqual([], self.told, what)
+        return End(process.returncode, out.decode().split("\n")[:-1])
 
-    def ends(self, what, status, lines, *words):
-        same(what, (status, lines), self.run(*words))
+    def ends(self, status: int, lines: List[str], *words: str) -> None:
+        self.assertEqual((status, lines), self.conquer(*words), words)
 
-    def verifies(self, formula, proof):
+    def tells(self, *parts: str) -> None:
+        """What the last run has written to standard error has these parts."""
+        for part in parts:
+            self.assertIn(part, "\n".join(self.told))
+
+    def verifies(self, formula: str, proof: str) -> None:
         words = [self.program, "check", formula, proof]
-        done = subprocess.run(words, cwd=self.folder, stdout=subprocess.PIPE)
-        same("check " + proof, (0, b"s VERIFIED\n"), (done.returncode, done.stdout))
+        done = subprocess.run(words, cwd=str(self.folder), stdout=subprocess.PIPE)
+        self.assertEqual((0, b"s VERIFIED\n"), (done.returncode, done.stdout))
 
-    def logs(self, formula):
-        folder = self.at(formula + ".conquer", "logs")
-        return [os.path.join(folder, name) for name in sorted(os.listdir(folder))]
+    def logs(self, formula: str) -> List[Path]:
+        return sorted(self.at(formula + ".conquer", "logs").iterdir())
 
-    def leaves(self, formula):
+    def leaves(self, formula: str) -> List[str]:
         """The leaves of the first tree, each as its line."""
-        with open(self.at(formula + ".conquer", "trees", "1.icnf")) as tree:
-            return [line for line in tree if line.startswith("a ")]
+        tree = self.at(formula + ".conquer", "trees", "1.icnf").read_text()
+        return [line for line in tree.split("\n") if line.startswith("a ")]
 
-    def moments(self, formula):
+    def moments(self, formula: str) -> Dict[Path, int]:
         """When each log was written."""
-        return {path: os.stat(path).st_mtime_ns for path in self.logs(formula)}
+        return {path: path.stat().st_mtime_ns for path in self.logs(formula)}
 
-    def forget(self, formula):
-        shutil.rmtree(self.at(formula + ".conquer"), ignore_errors=True)
+    def forget(self, formula: str) -> None:
+        shutil.rmtree(str(self.at(formula + ".conquer")), ignore_errors=True)
 
-    def running(self, formula):
+    def running(self, formula: str) -> List[int]:
         """The processes that have the folder of this formula's run among their words."""
-        found, mark = [], (self.at(formula + ".conquer") + "/").encode()
+        found, mark = [], ("%s/" % self.at(formula + ".conquer")).encode()
         for name in filter(str.isdigit, os.listdir("/proc")):
             try:
-                with open("/proc/%s/cmdline" % name, "rb") as file:
-                    if mark in file.read():
-                        found.append(int(name))
+                if mark in Path("/proc", name, "cmdline").read_bytes():
+                    found.append(int(name))
             except OSError:  # it has ended meanwhile
                 pass
         return found
 
-
-def satisfies(formula, lines):
-    """Whether the `v` lines satisfy the formula, as this test reads both."""
-    true = {word for line in lines if line.startswith("v ") for word in line.split()[1:]}
-    rows = [line for line in formula.split("\n") if line[:1] not in ("c", "p")]
-    clauses = [set(clause.split()) for clause in " ".join(rows).split(" 0")]
-    return all(true & clause for clause in clauses if clause)
+    def wait_for(self, what: str, holds: Callable[[], object], seconds: float = SECONDS) -> None:
+        end = time.monotonic() + seconds
+        while not holds():
+            self.assertLess(time.monotonic(), end, what)
+            time.sleep(0.002)
 
 
-def answers(bench):
-    for name in ("four_clauses", "schur_3_14", "urquhart_24"):
-        formula = name + ".cnf"
-        bench.ends(name, 20, ["s UNSATISFIABLE"], "-q", "--depth", "4", formula, "f.lrat")
-        bench.verifies(formula, "f.lrat")
-        before = bench.moments(formula)
-        os.remove(bench.at("f.lrat"))
-        bench.ends(name + " again", 20, ["s UNSATISFIABLE"], "-q", formula, "f.lrat")
-        bench.verifies(formula, "f.lrat")
-        same("no leaf is run again", before, bench.moments(formula))
-    ok("formulas that nothing satisfies; a second start takes what is there")
-    before = bench.read("f.lrat")
-    for name in ("random_100_sat", "schur_3_13"):
-        status, lines = bench.run("-q", "--depth", "3", name + ".cnf", "f.lrat")
-        same(name, (10, "s SATISFIABLE"), (status, lines[0]))
-        same("an assignment", True, satisfies(bench.read(name + ".cnf").decode(), lines))
-        bench.ends("without values", 10, ["s SATISFIABLE"], "-q", "-n", name + ".cnf")
-    same("the proof that stood", before, bench.read("f.lrat"))
-    ok("formulas that something satisfies; the proof that stood is left")
+class Answers(Case):
+    def test_unsatisfiable(self) -> None:
+        """A second start takes what is there."""
+        for name in ("four_clauses", "schur_3_14", "urquhart_24"):
+            formula = name + ".cnf"
+            self.ends(20, ["s UNSATISFIABLE"], "-q", "--depth", "4", formula, "f.lrat")
+            self.verifies(formula, "f.lrat")
+            before = self.moments(formula)
+            self.at("f.lrat").unlink()
+            self.ends(20, ["s UNSATISFIABLE"], "-q", formula, "f.lrat")
+            self.verifies(formula, "f.lrat")
+            self.assertEqual(before, self.moments(formula), "a leaf was run again")
+
+    def test_satisfiable(self) -> None:
+        """The proof that stood is left."""
+        self.write("f.lrat", "what stood\n")
+        for name in ("random_100_sat.cnf", "schur_3_13.cnf"):
+            status, lines = self.conquer("-q", "--depth", "3", name, "f.lrat")
+            self.assertEqual((10, "s SATISFIABLE"), (status, lines[0]))
+            self.assertTrue(satisfies(self.at(name).read_text(), lines))
+            self.ends(10, ["s SATISFIABLE"], "-q", "-n", name)
+        self.assertEqual("what stood\n", self.at("f.lrat").read_text())
+
+    def test_listed_cubes(self) -> None:
+        """Cubes that another splitter lists."""
+        formula = "schur_3_14.cnf"
+        words = ["--cubes-from", "march.cubes", formula, "f.lrat"]
+        self.write("march.cubes", "a 4 0\na 4 1 0\n")
+        self.ends(1, ["c cubes line 2 fault 12"], *words)
+        self.tells("march.cubes, line 2", "leaves of one tree", "a 4 1 0")
+        self.write("march.cubes", "a 4 -1 5 0\nwhat a splitter prints\na -4 1 0\n")
+        self.ends(20, ["s UNSATISFIABLE"], "-q", *words)
+        self.verifies(formula, "f.lrat")
+        self.assertEqual(5, len(self.leaves(formula)), "three leaves were added")
 
 
-def faults(bench):
-    bench.write("bad.cnf", "p cnf 1 1\n2 0\n")
-    bench.ends("a fault", 1, ["c input line 2 fault 4"], "bad.cnf")
-    bench.ends("no input", 1, ["c cannot read input"], "none.cnf")
-    name, words = "four_clauses.cnf", ["--solver", "no-solver {cnf} {lrat}", "four_clauses.cnf"]
-    for proof in (name, "none/f.lrat", "/dev/null", "."):
-        bench.ends("the proof " + proof, 1, ["c cannot write proof"], name, proof)
-    bench.ends("an odd word", 1, ["c usage"], "--odd", name)
-    bench.ends("a depth above", 1, ["c usage"], "-q", "--depth", "17", name)
-    bench.ends("a solver without files", 1, ["c usage"], "--solver", "true", name)
-    bench.ends("no such solver", 1, ["c cannot run no-solver"], *words)
-    words = ["-q", "--folder", "four_clauses.cnf.conquer", "schur_3_14.cnf"]
-    bench.ends("another formula's folder, quietly", 1, [], *words)
-    same("another formula's folder", (1, "c cubes of another formula"), last(bench.run(*words[1:])))
-    ok("faults of words, input, proof and folder")
+class Faults(Case):
+    def test_input(self) -> None:
+        self.write("bad.cnf", "p cnf 1 1\n2 0\n")
+        self.ends(1, ["c input line 2 fault 4"], "bad.cnf")
+        self.tells("bad.cnf, line 2: A variable is above", "The line is: 2 0", "header")
+        self.ends(1, ["c cannot read input"], "none.cnf")
+        self.tells("no file none.cnf")
+        self.ends(1, ["c cannot read input"], ".")
+        self.tells(". is a folder")
+
+    def test_proof(self) -> None:
+        for proof, why in ((FOUR, "the formula itself"), ("none/f.lrat", "mkdir -p"),
+                           ("/dev/null", "no regular file"), (".", "is a folder")):
+            self.ends(1, ["c cannot write proof"], FOUR, proof)
+            self.tells(why)
+
+    def test_words(self) -> None:
+        """Which word is wrong is told."""
+        for told, *words in (("--odd", "--odd", FOUR), ("INPUT",),
+                             ("17 is no number from 0 to 16", "-q", "--depth", "17", FOUR),
+                             ("none of satcluster, cadical, kissat", "--solver", "nosuch", FOUR),
+                             ("no {cnf} and no {lrat}", "--solver", "true 1", FOUR),
+                             ("no {lrat}", "--solver", "true {cnf}", FOUR),
+                             ("--seconds", "--limit", "9", "--solver", "true {cnf} {lrat}", FOUR)):
+            self.ends(1, ["c usage"], *words)
+            self.tells(told)
+        self.ends(1, ["c cannot run no-solver"], "--solver", "no-solver {cnf} {lrat}", FOUR)
+        self.tells("no program no-solver on the path")
+
+    def test_folder_of_another_formula(self) -> None:
+        self.ends(20, ["s UNSATISFIABLE"], "-q", FOUR)
+        words = ["--folder", FOUR + ".conquer", "schur_3_14.cnf"]
+        for _ in range(2):
+            self.ends(1, [], "-q", *words)
+            self.tells("/%s." % FOUR, "rm -r ", "--folder")
+        status, lines = self.conquer(*words)
+        self.assertEqual((1, "c cubes of another formula"), (status, lines[-1]))
+
+    def test_depth_that_is_not_used(self) -> None:
+        """It is told if a tree stands that was made by other words."""
+        unused = "c --depth is not used"
+        for words, is_told in ((["--depth", "1"], False), (["--depth", "1"], False), ([], False),
+                               (["--depth", "2"], True)):
+            status, lines = self.conquer(*words, FOUR)
+            found = any(unused in line for line in lines)
+            self.assertEqual((20, is_told), (status, found), lines)
 
 
-def listed(bench):
-    formula = "schur_3_14.cnf"
-    words = ["--cubes-from", "march.cubes", formula, "f.lrat"]
-    bench.forget(formula)
-    bench.write("march.cubes", "a 4 0\na 4 1 0\n")
-    bench.ends("cubes of no tree", 1, ["c cubes line 2 fault 12"], *words)
-    bench.forget(formula)
-    bench.write("march.cubes", "a 4 -1 5 0\nwhat a splitter prints\na -4 1 0\n")
-    bench.ends("listed cubes", 20, ["s UNSATISFIABLE"], "-q", *words)
-    bench.verifies(formula, "f.lrat")
-    same("five leaves, three of them added", 5, len(bench.leaves(formula)))
-    bench.forget(formula)
-    ok("cubes that another splitter lists")
+class Folder(Case):
+    def test_spoiled_files(self) -> None:
+        """Logs that are cut, empty, garbage, of another leaf, a folder; a wrong answer."""
+        name = "urquhart_24.cnf"
+        self.conquer("-q", "--no-race", name, "good.lrat")
+        logs = self.logs(name)
+        logs[0].write_bytes(logs[0].read_bytes()[:-2])
+        logs[1].write_bytes(b"")
+        logs[2].write_bytes(b"garbage\n")
+        shutil.copy(str(logs[4]), str(logs[3]))
+        logs[5].unlink()
+        logs[5].mkdir()
+        self.at(name + ".conquer", "logs", "a file\nof another").mkdir()
+        logs[6].rename(self.at(name + ".conquer", "logs", "brought from elsewhere"))
+        self.write(name + ".conquer/answers/wrong", "s SATISFIABLE\nv 1 2 3 0\n")
+        status, lines = self.conquer("--no-race", name, "good.lrat")
+        self.assertEqual((20, True), (status, "s UNSATISFIABLE" in lines))
+        told = [line for line in lines if line.startswith("c file")]
+        self.assertTrue(any("leaf" in line for line in told) and len(told) >= 3, told)
+        self.verifies(name, "good.lrat")
+        self.assertTrue(logs[5].is_file(), "a leaf's log that was a folder")
+        self.assertFalse(logs[6].exists(), "a leaf whose log has another name")
+
+    def test_folder_in_use(self) -> None:
+        """A run that is ended ends its jobs."""
+        solver = self.script("waits", "sleep 100")
+        first = self.start("-q", "--depth", "5", "--solver", solver, PIGEONS)
+        self.wait_for("the lock", lambda: self.running(PIGEONS))
+        self.ends(1, ["c folder in use"], PIGEONS)
+        self.tells("under way")
+        first.send_signal(signal.SIGTERM)
+        self.assertEqual((1, []), self.end(first, "a run that is ended"))
+        self.assertEqual([], self.running(PIGEONS))
 
 
-def last(end):
-    return end[0], end[1][-1]
-
-
-def spoiled(bench):
-    name = "urquhart_24.cnf"
-    bench.run("-q", name, "good.lrat")
-    logs = bench.logs(name)
-    whole = {path: open(path, "rb").read() for path in logs}
-    with open(logs[0], "wb") as file:
-        file.write(whole[logs[0]][:-2])
-    with open(logs[1], "wb") as file:
-        file.write(b"")
-    with open(logs[2], "wb") as file:
-        file.write(b"garbage\n")
-    shutil.copy(logs[4], logs[3])
-    os.remove(logs[5])
-    os.mkdir(logs[5])
-    os.mkdir(bench.at(name + ".conquer", "logs", "a file\nof another"))
-    os.rename(logs[6], bench.at(name + ".conquer", "logs", "brought from elsewhere"))
-    bench.write(name + ".conquer/answers/wrong", "s SATISFIABLE\nv 1 2 3 0\n")
-    status, lines = bench.run(name, "good.lrat")
-    same("spoiled files", (20, True), (status, "s UNSATISFIABLE" in lines))
-    told = [line for line in lines if line.startswith("c file")]
-    same("what is told", True, any("leaf" in line for line in told) and len(told) >= 3)
-    bench.verifies(name, "good.lrat")
-    same("a leaf's log that was a folder", True, os.path.isfile(logs[5]))
-    same("a leaf whose log has another name", False, os.path.exists(logs[6]))
-    ok("logs that are cut, empty, garbage, of another leaf, a folder; an answer that is wrong")
-
-
-def liars(bench):
-    """Solvers that lie, or fail: no answer comes of it."""
-    name = "four_clauses.cnf"
-    lies = {
+class Solvers(Case):
+    LIES = {
         "an answer that is no model": "echo s SATISFIABLE; echo v 1 2 0; exit 10",
         "a refutation without a proof": "exit 20",
         "garbage as a proof": "echo garbage > $2; exit 20",
         "an end by a signal": "kill -9 $$",
         "no answer": "exit 0",
     }
-    for what, script in lies.items():
-        bench.write("liar", "#!/bin/sh\n" + script + "\n")
-        os.chmod(bench.at("liar"), 0o755)
-        bench.forget(name)
-        words = ["--depth", "0", "--solver", bench.at("liar") + " {cnf} {lrat}", name]
-        status, lines = bench.run(*words)
-        same(what, (0, True, True), (status, "s UNKNOWN" in lines, "c leaf 1 missing" in lines))
-        same(what + ", quietly", (0, ["s UNKNOWN"]), bench.run("-q", *words))
-    bench.ends("the same with our own search", 20, ["s UNSATISFIABLE"], "-q", name)
-    ok("solvers that lie and fail")
+    PROOFS = {  # bytes of a proof, as printf has them, and what is told of it
+        "binary LRAT": r"a\012\005\000\006\010\000",
+        "binary DRAT": r"a\005\000a\000",
+        "DRAT as text": r"2 0\n0\n",
+        "CR LF": r"5 2 0 1 2 0\r\n",
+        "gzip": r"\037\213",
+    }
+
+    def test_lies(self) -> None:
+        """Solvers that lie, or fail: no answer comes of it, and why is told once."""
+        for what, script in self.LIES.items():
+            self.forget(FOUR)
+            words = ["--depth", "0", "--solver", self.script("liar", script), FOUR]
+            status, lines = self.conquer(*words)
+            self.assertEqual((0, True), (status, "s UNKNOWN" in lines), what)
+            self.assertIn("c leaf 1 missing", lines, what)
+            told = [line for line in lines if " failed: " in line]
+            kinds = ["leaf" if line.startswith("c leaf ") else line.split()[2] for line in told]
+            self.assertEqual(["leaf", "jobs"][:len(told)], kinds, told)
+            self.ends(0, ["s UNKNOWN"], "-q", *words)
+        self.ends(20, ["s UNSATISFIABLE"], "-q", FOUR)
+
+    def test_proofs_of_other_kinds(self) -> None:
+        for what, octal in self.PROOFS.items():
+            self.forget(FOUR)
+            solver = self.script("odd", "printf '%s' > $2; exit 20" % octal)
+            status, lines = self.conquer("--depth", "0", "--solver", solver, FOUR)
+            self.assertEqual((0, True), (status, any(what in line for line in lines)), lines)
+
+    def test_late(self) -> None:
+        """A search whose time is up is ended, and its leaf is cut in two, or runs until it ends."""
+        began = time.monotonic()
+        script = "[ -e late ] && exec %s solve -q $1 $2\ntouch late; sleep 100" % self.program
+        solver = self.script("slow", script)
+        end = self.conquer("-q", "--depth", "0", "--seconds", "1", "--solver", solver, FOUR)
+        self.assertIn(end.status, (0, 20))
+        self.assertLess(time.monotonic() - began, 60)
 
 
-def late(bench):
-    """A search whose time is up is ended, and its leaf is cut in two, or run until it decides."""
-    name, began = "four_clauses.cnf", time.monotonic()
-    script = "#!/bin/sh\n[ -e late ] && exec %s solve -q $1 $2\ntouch late; sleep 100\n"
-    bench.write("slow", script % bench.program)
-    os.chmod(bench.at("slow"), 0o755)
-    bench.forget(name)
-    words = ["--depth", "0", "--seconds", "1", "--solver", bench.at("slow") + " {cnf} {lrat}", name]
-    same("a second start of a slow leaf", True, bench.run("-q", *words)[0] in (0, 20))
-    same("in time", True, time.monotonic() - began < 60)
-    ok("a search whose time is up")
+class Races(Case):
+    """One job searches the whole formula beside the leaves; solvers that know which one they search."""
+
+    NAME, UNSPLIT = "schur_3_14.cnf", "c the whole formula was refuted unsplit"
+
+    def race(self, whole: str, leaf: str) -> List[str]:
+        """The lines of a run of two jobs, where a solver does one thing for the whole formula, and
+        another for a leaf, which has units beside it."""
+        size = len(self.at(self.NAME).read_text().split("\n"))
+        script = "if [ $(wc -l < $1) -lt %d ]; then %s; else %s; fi" % (size + 1, whole, leaf)
+        solver = self.script("racer", script)
+        words = ["--jobs", "2", "--depth", "3", "--solver", solver, self.NAME, "r.lrat"]
+        status, lines = self.conquer(*words)
+        self.assertEqual((20, True), (status, "s UNSATISFIABLE" in lines), lines)
+        self.verifies(self.NAME, "r.lrat")
+        self.assertEqual([], self.running(self.NAME), "jobs that are left")
+        return lines
+
+    def test_whole_formula_is_first(self) -> None:
+        lines = self.race("exec %s solve -q --depth 0 $1 $2" % self.program, "sleep 100")
+        self.assertIn(self.UNSPLIT, lines)
+
+    def test_lie_of_the_whole_formula(self) -> None:
+        lines = self.race("echo garbage > $2; exit 20", "exec %s solve -q $1 $2" % self.program)
+        self.assertNotIn(self.UNSPLIT, lines)
+
+    def test_leaves_are_first(self) -> None:
+        self.race("sleep 100", "exec %s solve -q --depth 0 $1 $2" % self.program)
+
+    def test_no_race(self) -> None:
+        self.ends(20, ["s UNSATISFIABLE"], "-q", "--no-race", self.NAME)
+        self.assertFalse(self.at(self.NAME + ".conquer", "whole.icnf").exists())
 
 
-def locked(bench):
-    bench.write("waits", "#!/bin/sh\nsleep 100\n")
-    os.chmod(bench.at("waits"), 0o755)
-    solver = ["--solver", bench.at("waits") + " {cnf} {lrat}"]
-    first = bench.start("-q", "--depth", "5", *solver, "pigeons.cnf")
-    wait_for("the lock", lambda: bench.running("pigeons.cnf"))
-    bench.ends("a folder in use", 1, ["c folder in use"], "pigeons.cnf")
-    first.send_signal(signal.SIGTERM)
-    same("a run that is ended", (1, []), bench.end(first, "ended"))
-    same("its jobs", [], bench.running("pigeons.cnf"))
-    bench.forget("pigeons.cnf")
-    ok("a folder in use; a run that is ended ends its jobs")
-
-
-def wait_for(what, holds):
-    end = time.monotonic() + SECONDS
-    while not holds():
-        if time.monotonic() > end:
-            differs(what, "in time", "never")
-        time.sleep(0.002)
-
-
-def killed(bench, engine, kills, draw):
-    """The script is killed at random moments, and started again; so are its jobs."""
-    name = "pigeons.cnf"
-    bench.forget(name)
-    words = ["-q", "--engine", engine, "--jobs", "2", "--depth", "5", name, "p.lrat"]
-    began = time.monotonic()
-    bench.ends("a run", 20, ["s UNSATISFIABLE"], *words)
-    whole = time.monotonic() - began
-    bench.forget(name)
-    scripts = jobs = 0
-    while min(scripts, jobs) < kills:
-        run = bench.start(*words)
-        until = time.monotonic() + draw.uniform(0.1, 0.5) * whole
-        while time.monotonic() < until and run.poll() is None:
-            time.sleep(draw.uniform(0, 0.03) * whole)
-            found = [job for job in bench.running(name) if job != run.pid]
-            if found and draw.random() < 0.5:
-                jobs += kill(draw.choice(found))
-        if run.poll() is None:
-            scripts += kill(run.pid)
-            run.communicate()
-            end = time.monotonic() + 2
-            while bench.running(name) and time.monotonic() < end:
-                time.sleep(0.01)
-            same("jobs of a script that was killed", [], bench.running(name))
-        else:
-            status, lines = bench.end(run, "a start")
-            if status != 0:  # else a leaf's jobs were killed three times
-                same("a start that was left alone", (20, ["s UNSATISFIABLE"]), (status, lines))
-                bench.forget(name)
-    if os.path.exists(bench.at("p.lrat")):
-        os.remove(bench.at("p.lrat"))
-    bench.ends("the last start", 20, ["s UNSATISFIABLE"], *words)
-    bench.verifies(name, "p.lrat")
-    beside = [name for name in os.listdir(bench.folder) if name.startswith("p.lrat")]
-    same("what stands beside the proof", ["p.lrat"], beside)
-    ok("%s: killed %d times, and %d of its jobs" % (engine, scripts, jobs))
-
-
-def kill(process):
+def kill(process: int) -> int:
     try:
         os.kill(process, signal.SIGKILL)
     except ProcessLookupError:
@@ -315,42 +338,156 @@ def kill(process):
     return 1
 
 
-def succeeds(words):
+def succeeds(*words: str) -> bool:
     done = subprocess.run(words, stdout=subprocess.DEVNULL, stderr=subprocess.DEVNULL)
     return done.returncode == 0
 
 
-def engine(bench, name, tool):
+class Engines(Case):
     """An engine of others gives the same answers."""
-    if not shutil.which(tool) or (tool == "sbatch" and not succeeds(["sinfo", "-h"])):
-        print("skipped: %s is not installed" % name, flush=True)
-        return False
-    bench.forget("schur_3_14.cnf")
-    words = ["-q", "--engine", name, "--jobs", "2", "--depth", "3"]
-    bench.ends(name, 20, ["s UNSATISFIABLE"], *words, "schur_3_14.cnf", "e.lrat")
-    bench.verifies("schur_3_14.cnf", "e.lrat")
-    bench.forget("schur_3_13.cnf")
-    same(name + ": a model", (10, ["s SATISFIABLE"]), bench.run(*words, "-n", "schur_3_13.cnf"))
-    ok(name)
-    return True
+
+    def answers(self, name: str, tool: str) -> None:
+        if not shutil.which(tool):
+            self.skipTest(name + " is not installed")
+        words = ["-q", "--engine", name, "--jobs", "2", "--depth", "3"]
+        self.ends(20, ["s UNSATISFIABLE"], *words, "schur_3_14.cnf", "e.lrat")
+        self.verifies("schur_3_14.cnf", "e.lrat")
+        self.ends(10, ["s SATISFIABLE"], *words, "-n", "schur_3_13.cnf")
+
+    def test_make(self) -> None:
+        self.answers("make", "make")
+
+    def test_parallel(self) -> None:
+        self.answers("parallel", "parallel")
+
+    def test_slurm(self) -> None:
+        if not shutil.which("sinfo") or not succeeds("sinfo", "-h"):
+            self.skipTest("slurm is not installed")
+        self.answers("slurm", "sbatch")
+
+    def test_engine_that_is_not_there(self) -> None:
+        if shutil.which("parallel"):
+            self.skipTest("parallel is installed")
+        self.ends(1, ["c parallel is not installed"], "--engine", "parallel", FOUR)
 
 
-def main():
-    if not 2 <= len(sys.argv) <= 4:
-        sys.exit(__doc__)
-    kills = int(sys.argv[2]) if len(sys.argv) > 2 else 6
-    draw = random.Random(int(sys.argv[3]) if len(sys.argv) > 3 else 1)
-    with tempfile.TemporaryDirectory() as folder:
-        bench = Bench(sys.argv[1], os.path.realpath(folder))
-        for name in ("four_clauses", "schur_3_14", "urquhart_24", "random_100_sat", "schur_3_13"):
-            shutil.copy(os.path.join(EXAMPLES, name + ".cnf"), folder)
-        bench.write("pigeons.cnf", pigeons(6))
-        for test in (answers, faults, listed, spoiled, liars, late, locked):
-            test(bench)
-        killed(bench, "local", kills, draw)
-        for name, tool in (("make", "make"), ("parallel", "parallel"), ("slurm", "sbatch")):
-            if engine(bench, name, tool) and name != "slurm":
-                killed(bench, name, max(1, kills // 3), draw)
+class Kills(Case):
+    """The script is killed at random moments, and started again; so are its jobs."""
+
+    def setUp(self) -> None:
+        super().setUp()
+        self.kills = int(os.environ.get("KILLS", 6))
+        self.draw = random.Random(int(os.environ.get("SEED", 1)))
+
+    def test_local(self) -> None:
+        self.killed("local", self.kills)
+
+    def test_make(self) -> None:
+        self.killed("make", max(1, self.kills // 3))
+
+    def test_parallel(self) -> None:
+        if not shutil.which("parallel"):
+            self.skipTest("parallel is not installed")
+        self.killed("parallel", max(1, self.kills // 3))
+
+    def killed(self, engine: str, kills: int) -> None:
+        words = ["-q", "--no-race", "--engine", engine, "--jobs", "2", "--depth", "5"]
+        words += [PIGEONS, "p.lrat"]
+        began = time.monotonic()
+        self.ends(20, ["s UNSATISFIABLE"], *words)
+        whole = time.monotonic() - began
+        self.forget(PIGEONS)
+        done: Dict[str, int] = collections.Counter()
+        while min(done["scripts"], done["jobs"]) < kills:
+            process = self.start(*words)
+            done["jobs"] += self.kill_jobs(process, whole)
+            if process.poll() is None:
+                done["scripts"] += kill(process.pid)
+                process.communicate()
+                self.wait_for("jobs of a killed script", lambda: not self.running(PIGEONS), 2)
+            else:
+                self.left_alone(process)
+        if self.at("p.lrat").exists():
+            self.at("p.lrat").unlink()
+        self.ends(20, ["s UNSATISFIABLE"], *words)
+        self.verifies(PIGEONS, "p.lrat")
+        self.assertEqual(["p.lrat"], [path.name for path in self.folder.glob("p.lrat*")])
+        print("%s: killed %d times, and %d of its jobs" % (engine, done["scripts"], done["jobs"]))
+
+    def kill_jobs(self, process: subprocess.Popen, whole: float) -> int:
+        """Kills jobs of a run now and then, for a part of the time that a run takes."""
+        until, killed = time.monotonic() + self.draw.uniform(0.1, 0.5) * whole, 0
+        while time.monotonic() < until and process.poll() is None:
+            time.sleep(self.draw.uniform(0, 0.03) * whole)
+            found = [job for job in self.running(PIGEONS) if job != process.pid]
+            if found and self.draw.random() < 0.5:
+                killed += kill(self.draw.choice(found))
+        return killed
+
+    def left_alone(self, process: subprocess.Popen) -> None:
+        """A run that came to its end; if not, a leaf's jobs were killed three times."""
+        end = self.end(process, "a start")
+        if end.status != 0:
+            self.assertEqual((20, ["s UNSATISFIABLE"]), end)
+            self.forget(PIGEONS)
 
 
-main()
+class Units(unittest.TestCase):
+    """What is read of files, and reckoned of a run."""
+
+    def setUp(self) -> None:
+        self.path = Path(tempfile.mkstemp()[1])
+        self.addCleanup(self.path.unlink)
+
+    def test_cubes(self) -> None:
+        self.path.write_text("p inccnf\n1 -2 0\na 1 -2 0\na 1 2 0\na 0\nc a 3 0\n")
+        self.assertEqual([(1, -2), (1, 2), ()], read_cubes(self.path))
+        self.path.write_text("a 1 x 0\n")
+        self.assertRaises(Fault, read_cubes, self.path)
+
+    def test_closed_by(self) -> None:
+        """The last lemma tells it, also behind deletions and in a log that is long."""
+        for text, wanted in (("5 -1 2 0 2 4 0\n", {1, -2}), ("5 0 1 0\n", set()), ("", None),
+                             ("5 -1 0 2 4 0\n6 d 5 0\n", {1}), ("5 d 1 0\n", None),
+                             ("garbage\n", None), ("5 1 2 3\n", None),
+                             ("5 7 0 1 0\n" * 9000 + "6 -3 0 1 0\n", {3}),
+                             ("5 7 0 " + "1 " * 20000 + "0\n", None)):
+            self.path.write_text(text)
+            self.assertEqual(wanted, closed_by(self.path), text[:40])
+        self.assertIsNone(closed_by(Path("/none")))
+
+    def test_names(self) -> None:
+        self.assertEqual("leaf_3_-7", name_of((3, -7)))
+        self.assertEqual("leaf", name_of(()))
+        self.assertEqual("logs/leaf_-1.lrat", log_of((-1,)))
+        self.assertEqual("answers/leaf_-1", answer_of((-1,)))
+        names = {name_of(tuple(range(first, first + 64))) for first in (1, 2, 100000)}
+        self.assertEqual((3, True), (len(names), all(len(name) < 200 for name in names)))
+
+    def test_figures(self) -> None:
+        """Those of a run with three leaves: one was cut in two, one closed by another's log."""
+        cubes = [(1, 2), (1, -2), (-1,)]
+        records = [Record((1,), LIMIT, "", 0.0, 10.0, "here", 0),
+                   Record((-1,), CLOSED, "", 0.0, 30.0, "here", 500),
+                   Record((1, -2), CLOSED, "", 10.0, 20.0, "here", 1500)]
+        last = {record.cube: record for record in records}
+        figures = dict(report.facts(cubes, {(1, 2)}, records, last))
+        self.assertEqual({"leaves": "3", "closed by a job": "2", "with another leaf": "1",
+                          "jobs": "3", "time of all jobs": "50 s", "mean of a leaf": "20 s",
+                          "median": "30 s", "longest": "30 s, 60% of all",
+                          "logs": "2,000 bytes"}, figures)
+        page = report.page("/a/<f>.cnf", "x", cubes, {(1, 2)}, records, 20)
+        self.assertIn("&lt;f&gt;.cnf: s UNSATISFIABLE", page)
+        self.assertEqual(3, len(re.findall("<td class=cube>", page)))
+        self.assertEqual(([0, 1, 0], [("here", 0), ("here", 1)]), report.lanes_of(records))
+        self.assertEqual(([], 30.0), report.breaks_of(records))
+        later = Record((2,), CLOSED, "", 100.0, 101.0, "there", 1)
+        self.assertEqual(([(30.0, 70.0)], 101.0), report.breaks_of(records + [later]))
+
+    def test_figures_of_nothing(self) -> None:
+        self.assertEqual("0", dict(report.facts([()], set(), [], {}))["closed by a job"])
+        self.assertIn("s UNKNOWN", report.page("f", "x", [()], set(), [], 0))
+
+
+if __name__ == "__main__":
+    run(__doc__)

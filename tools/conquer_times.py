@@ -91,4 +91,5 @@ def main():
         print("| `%s` | %s |" % (name, " | ".join(map(cell, whole + one + many))), flush=True)
 
 
-main()
+if __name__ == "__main__":
+    main()

@@ -208,4 +208,5 @@ def main():
             test(bench)
 
 
-main()
+if __name__ == "__main__":
+    main()

@@ -84,4 +84,5 @@ def main():
             print("| `%s` | %s | %s |" % (name, way.replace("%d", str(asked.jobs)), " | ".join("%.1f" % cell for cell in cells)), flush=True)
 
 
-main()
+if __name__ == "__main__":
+    main()

@@ -98,4 +98,5 @@ def main():
         raise SystemExit("\n".join(found))
 
 
-main()
+if __name__ == "__main__":
+    main()

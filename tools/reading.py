@@ -376,4 +376,5 @@ def main():
     PAGE.write_text(text)
 
 
-main()
+if __name__ == "__main__":
+    main()

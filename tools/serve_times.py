@@ -75,4 +75,5 @@ def main():
         print("| %s | %s | %.1f |" % (name, " | ".join(cells), solved(asked, formula)), flush=True)
 
 
-main()
+if __name__ == "__main__":
+    main()

@@ -12,70 +12,110 @@ import shutil
 import subprocess
 import sys
 import time
-import types
+from dataclasses import astuple, dataclass
+from pathlib import Path
+from typing import Dict, List, Optional, Tuple, Type
 
 from conquering.files import Fault, Folder, log_of
-from conquering.leaf import CLOSED, FAILED, Job, Leaf, conquer_leaf, read_records
-from conquering.processes import Bell, Command, die_with, kill, output_of, start
+from conquering.leaf import CLOSED, FAILED, Job, Leaf, Plan, conquer_leaf, read_records
+from conquering.processes import Bell, Command, Word, die_with, kill, output_of, start
+from conquering.race import Race
+from conquering.run import Run
+from conquering.screen import Screen
 
-COMMAND = os.path.join(os.path.dirname(os.path.dirname(os.path.abspath(__file__))), "conquer.py")
+COMMAND = Path(__file__).resolve().parent.parent / "conquer.py"
 ARRAY = 1000  # tasks of a Slurm array, which ends there by default
 
 
-class Local:
+@dataclass
+class Engine:
+    """Who starts jobs, with what it needs for that. What follows from them, `Run` knows."""
+
+    folder: Folder
+    plan: Plan
+    screen: Screen
+    bell: Bell
+    jobs: Optional[int]  # how many at a time
+    races: bool = False  # whether one of them searches the whole formula
+
+    @classmethod
+    def test(cls) -> None:
+        """Tells if it is not installed."""
+
+    def settle(self) -> None:
+        """Waits for what earlier starts have left under way."""
+
+    def work(self, run: Run) -> None:
+        raise NotImplementedError
+
+
+class Local(Engine):
     """As many jobs at a time as are asked for."""
 
-    def settle(self, run):
-        pass
-
-    def work(self, run):
-        jobs = []
+    def work(self, run: Run) -> None:
+        jobs: List[Job] = []
+        mark = str(time.time_ns())
+        race = self.race(run, mark)
         try:
-            while (run.queue or jobs) and not run.over():
-                while run.queue and len(jobs) < run.jobs:
-                    leaf = run.leaf(run.queue.popleft())
-                    run.running[leaf.cube] = leaf
-                    jobs.append(Job(leaf, conquer_leaf(run.folder, run.plan, leaf, run.mark)))
-                run.bell.wait(min([1.0] + [job.end - time.monotonic() for job in jobs]))
+            while (run.waits() or jobs or race) and not run.over():
+                while run.waits() and len(jobs) + bool(race) < self.jobs:
+                    leaf = run.take()
+                    jobs.append(Job(leaf, conquer_leaf(self.folder, self.plan, leaf, mark)))
+                self.bell.wait(min([1.0] + [job.end - time.monotonic() for job in jobs]))
                 for job in [job for job in jobs if job.ended()]:
                     jobs.remove(job)
-                    del run.running[job.leaf.cube]
-                    run.ended(job.leaf.cube, *job.result)
-                for job in [job for job in jobs if job.leaf.cube in run.covered]:
+                    run.spent(time.monotonic() - job.began)
+                    run.ended(job.leaf, *job.result)
+                if race and race.ended(run):
+                    race = None
+                for job in [job for job in jobs if run.is_covered(job.leaf)]:
                     jobs.remove(job)
-                    del run.running[job.leaf.cube]
+                    run.let_go(job.leaf)
                     job.stop()
-                run.tick(len(jobs))
+                if race and race.is_lost(run, jobs, self.jobs):
+                    race = self.end_race(run, race)
+                run.tick(len(jobs), race is not None)
         finally:
-            run.running.clear()
-            for job in jobs:
+            for job in jobs + ([race.job] if race else []):
+                run.let_go(job.leaf)
                 job.stop()
 
+    def race(self, run: Run, mark: str) -> Optional[Race]:
+        """Once in a start, and not where a leaf is the whole formula."""
+        if not self.races or not run.waits() or len(run.cubes) == 1:
+            return None
+        self.races = False
+        return Race.begin(self.folder, self.plan, mark)
 
-class Rounds:
+    def end_race(self, run: Run, race: Race) -> None:
+        race.job.stop()
+        if run.open():
+            self.screen.say("c the leaves are ahead: the search of the whole formula is ended")
+
+
+class Rounds(Engine):
     """An engine of others."""
 
-    tool, most, outlives = None, None, False  # whether its jobs outlive the script
+    tool = ""
+    most: Optional[int] = None  # tasks of a round
+    outlives = False  # whether its jobs outlive the script
 
-    def __init__(self):
-        if not shutil.which(self.tool):
-            raise Fault("c %s is not installed" % self.tool)
+    @classmethod
+    def test(cls) -> None:
+        if not shutil.which(cls.tool):
+            raise Fault("c %s is not installed" % cls.tool)
 
-    def settle(self, run):
-        pass
-
-    def work(self, run):
-        while run.queue and not run.over():
-            leaves = [run.leaf(cube) for cube in run.queue]
-            run.queue.clear()
-            run.mark = str(time.time_ns())
+    def work(self, run: Run) -> None:
+        while run.waits() and not run.over():
+            leaves = run.take_all()
+            self.mark = str(time.time_ns())
             tasks = min(len(leaves), self.most or len(leaves))
-            told = dict(tasks=tasks, leaves=leaves, outlives=self.outlives)
-            run.folder.write("rounds/" + run.mark, json.dumps(told))
-            self.begin(run, tasks)
+            told = dict(tasks=tasks, leaves=list(map(astuple, leaves)), outlives=self.outlives)
+            self.folder.write("rounds/" + self.mark, json.dumps(told))
+            self.begin(tasks)
             try:
                 while self.runs() and not run.over():
-                    run.bell.wait(1)
+                    self.bell.wait(1)
                     self.look(run, leaves)
             finally:
                 self.stop()
@@ -83,30 +123,35 @@ class Rounds:
             if not run.over():
                 self.gather(run, leaves)
 
-    def look(self, run, leaves):
+    def look(self, run: Run, leaves: List[Leaf]) -> None:
         """Sees which leaves were closed meanwhile, and whether a model was brought."""
-        have = set(run.folder.names("logs"))
-        for cube in [leaf.cube for leaf in leaves if leaf.cube not in run.done]:
-            if log_of(cube) in have:
-                run.ended(cube, CLOSED, "")
-        run.model = bool(run.folder.names("answers"))
-        run.tick(sum(name.startswith("leaf") for name in os.listdir(run.folder.at("scratch"))))
+        have = set(self.folder.names("logs"))
+        for leaf in leaves:
+            if not run.is_closed(leaf) and log_of(leaf.cube) in have:
+                run.ended(leaf, CLOSED, "")
+        run.look_for_answers()
+        names = os.listdir(self.folder.at("scratch"))
+        run.tick(sum(name.startswith("leaf") for name in names))
 
-    def gather(self, run, leaves):
+    def gather(self, run: Run, leaves: List[Leaf]) -> None:
         """What became of the round's other leaves; of a job that was lost there is no record."""
         ends = {}
-        for record in read_records(run.folder, ".%s." % run.mark):
+        for record in read_records(self.folder, ".%s." % self.mark):
             ends[record.cube] = record.outcome, record.note
         for leaf in leaves:
-            if leaf.cube not in run.done:
-                run.ended(leaf.cube, *ends.get(leaf.cube, (FAILED, "its job was lost")))
+            if not run.is_closed(leaf):
+                run.ended(leaf, *ends.get(leaf.cube, (FAILED, "its job was lost")))
 
-    def words(self, run):
-        return [sys.executable, COMMAND, "--work", run.folder.path, run.mark]
+    def words(self) -> List[str]:
+        return [sys.executable, str(COMMAND), "--work", str(self.folder.path), self.mark]
 
-    def begin(self, run, tasks):
-        words, text = self.command(run, tasks)
-        output = run.folder.at("scratch", self.tool)
+    def command(self, tasks: int) -> Tuple[List[Word], str]:
+        """How it is started, and what it reads then."""
+        raise NotImplementedError
+
+    def begin(self, tasks: int) -> None:
+        words, text = self.command(tasks)
+        output = self.folder.at("scratch", self.tool)
         self.process = start(Command(words, output), stdin=subprocess.PIPE)
         try:
             self.process.stdin.write(text.encode())
@@ -114,10 +159,10 @@ class Rounds:
         except BrokenPipeError:
             pass
 
-    def runs(self):
+    def runs(self) -> bool:
         return self.process.poll() is None
 
-    def stop(self):
+    def stop(self) -> None:
         kill(self.process)
 
 
@@ -126,11 +171,11 @@ class Make(Rounds):
 
     tool = "make"
 
-    def command(self, run, tasks):
-        recipe = " ".join(map(shlex.quote, self.words(run))).replace("$", "$$")
+    def command(self, tasks: int) -> Tuple[List[Word], str]:
+        recipe = " ".join(map(shlex.quote, self.words())).replace("$", "$$")
         targets = " ".join(map(str, range(1, tasks + 1)))
         text = "all: {0}\n.PHONY: all {0}\n{0}:\n\t-@{1} $@\n".format(targets, recipe)
-        return ["make", "-s", "-k", "-j", str(run.jobs), "-f", "-"], text
+        return ["make", "-s", "-k", "-j", str(self.jobs), "-f", "-"], text
 
 
 class Parallel(Rounds):
@@ -138,8 +183,8 @@ class Parallel(Rounds):
 
     tool = "parallel"
 
-    def command(self, run, tasks):
-        words = ["parallel", "--will-cite", "-q", "-j", str(run.jobs)] + self.words(run) + ["{}"]
+    def command(self, tasks: int) -> Tuple[List[Word], str]:
+        words = ["parallel", "--will-cite", "-q", "-j", str(self.jobs)] + self.words() + ["{}"]
         return words, "".join("%d\n" % task for task in range(1, tasks + 1))
 
 
@@ -148,59 +193,56 @@ class Slurm(Rounds):
 
     tool, most, outlives = "sbatch", ARRAY, True
 
-    def settle(self, run):
+    def settle(self) -> None:
         """Waits for the arrays of earlier starts, which would else run the same leaves."""
-        rounds = run.folder.names("rounds")
-        for name in [name for name in rounds if name.endswith(".slurm")]:
-            with open(run.folder.at(name)) as file:
-                self.number = file.read()
+        for name in [name for name in self.folder.names("rounds") if name.endswith(".slurm")]:
+            self.number = self.folder.at(name).read_text()
             if self.runs():
-                run.screen.say("c waiting for array %s of an earlier start" % self.number)
+                self.screen.say("c waiting for array %s of an earlier start" % self.number)
             while self.runs():
                 time.sleep(2)
-            os.remove(run.folder.at(name))
+            self.folder.at(name).unlink()
 
-    def begin(self, run, tasks):
-        path = run.folder.at("scratch", "array")
-        with open(path, "w") as file:
-            task = " ".join(map(shlex.quote, self.words(run)))
-            file.write("#!/bin/sh\nexec %s $SLURM_ARRAY_TASK_ID\n" % task)
-        array = "--array=1-%d" % tasks + ("%%%d" % run.jobs if run.jobs else "")
+    def begin(self, tasks: int) -> None:
+        path = self.folder.at("scratch", "array")
+        task = " ".join(map(shlex.quote, self.words()))
+        path.write_text("#!/bin/sh\nexec %s $SLURM_ARRAY_TASK_ID\n" % task)
+        array = "--array=1-%d" % tasks + ("%%%d" % self.jobs if self.jobs else "")
         words = ["sbatch", "--parsable", "--job-name=conquer", "--output=/dev/null"]
         status, text = output_of(words + ["--cpus-per-task=1", array, path])
         if status != 0:
             raise Fault("c sbatch ends with %d: %s" % (status, " ".join(text.split())))
         self.number = text.split(";")[0].strip()
-        run.folder.write("rounds/%s.slurm" % run.mark, self.number)
+        self.folder.write("rounds/%s.slurm" % self.mark, self.number)
 
-    def runs(self):
+    def runs(self) -> bool:
         """Where the controller does not answer, the array is taken to be under way."""
         status, text = output_of(["squeue", "-h", "-u", str(os.getuid()), "-o", "%F"])
         return status != 0 or self.number in text.split()
 
-    def stop(self):
+    def stop(self) -> None:
         if self.runs():
             output_of(["scancel", self.number])
 
 
-ENGINES = {"local": Local, "make": Make, "parallel": Parallel, "slurm": Slurm}
+ENGINES: Dict[str, Type[Engine]] = {
+    "local": Local, "make": Make, "parallel": Parallel, "slurm": Slurm,
+}
 
 
-def work(path, mark, task):
+def work(path: str, mark: str, task: str) -> int:
     """A task of a round, in a process that an engine has started: its leaves in turn."""
     die_with(os.getppid())
     folder, bell = Folder(path), Bell()
-    with open(folder.at("plan.json")) as file:
-        plan = types.SimpleNamespace(**json.load(file))
-    with open(folder.at("rounds", mark)) as file:
-        told = json.load(file)
+    plan = Plan(**json.loads(folder.at("plan.json").read_text()))
+    told = json.loads(folder.at("rounds", mark).read_text())
     if not told["outlives"] and not folder.is_locked():  # the script ended before this job began
         return 0
     for cube, *rest in told["leaves"][int(task) - 1::told["tasks"]]:
         leaf = Leaf(tuple(cube), *rest)
         if folder.names("answers"):
             break
-        if any(map(os.path.exists, (folder.at(log_of(leaf.cube)), folder.covered(leaf.cube)))):
+        if folder.at(log_of(leaf.cube)).exists() or folder.covered(leaf.cube).exists():
             continue
         job = Job(leaf, conquer_leaf(folder, plan, leaf, mark))
         while not job.ended():

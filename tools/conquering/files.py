@@ -1,6 +1,7 @@
 """The state of a run: a folder of files, each of which is there whole or not at all.
 
     trees/N.icnf     the splitting tree; a leaf that is cut in two makes a new file
+    whole.icnf       a tree of no levels, for the search of the whole formula
     logs/LEAF.lrat   a log that closes a leaf
     answers/LEAF     `v` lines that a job has brought
     records/..       how long each job took, and how it ended, for the report
@@ -13,21 +14,29 @@ import hashlib
 import os
 import shutil
 import time
+from pathlib import Path
+from typing import FrozenSet, List, Optional, Tuple
+
+Cube = Tuple[int, ...]  # the literals of a path of the splitting tree
 
 
 class Fault(Exception):
-    """A line that ends the run with status 1."""
+    """A line that ends the run with status 1, and sentences that tell why."""
+
+    def __init__(self, line: str, *reasons: str) -> None:
+        super().__init__(line)
+        self.reasons = list(reasons)
 
 
-def publish(part, path):
+def publish(part: Path, path: Path) -> None:
     """Moves a finished file to its place, so that no crash leaves a piece of it there."""
-    with open(part, "rb") as file:
+    with part.open("rb") as file:
         os.fsync(file.fileno())
-    os.replace(part, path)
-    sync(os.path.dirname(path))
+    part.replace(path)
+    sync(path.parent)
 
 
-def sync(folder):
+def sync(folder: Path) -> None:
     handle = os.open(folder, os.O_RDONLY)
     try:
         os.fsync(handle)
@@ -35,42 +44,42 @@ def sync(folder):
         os.close(handle)
 
 
-def read_cubes(path):
+def read_cubes(path: Path) -> List[Cube]:
     """The cubes of a tree that the program has printed: it puts each on a line of its own."""
     try:
-        with open(path, "rb") as file:
+        with path.open("rb") as file:
             return [tuple(map(int, line.split()[1:-1])) for line in file if line[:2] == b"a "]
     except ValueError:
         raise Fault("c cannot read cubes")
 
 
-def last_line(path):
+def last_line(path: Path) -> str:
     """The last line that a command has printed: most say there why they failed."""
-    with open(path, "rb") as file:
-        file.seek(max(0, os.path.getsize(path) - 1000))
+    with path.open("rb") as file:
+        file.seek(max(0, path.stat().st_size - 1000))
         lines = file.read().decode("ascii", "replace").split("\n")
     return next((line.strip() for line in reversed(lines) if line.strip()), "nothing printed")
 
 
-def name_of(cube):
+def name_of(cube: Cube) -> str:
     """A leaf's name: its place shifts when another leaf is cut in two, its cube does not."""
     name = "_".join(["leaf"] + [str(literal) for literal in cube])
     return name if len(name) <= 180 else "leaf_" + hashlib.sha256(name.encode()).hexdigest()
 
 
-def log_of(cube):
+def log_of(cube: Cube) -> str:
     return "logs/" + name_of(cube) + ".lrat"
 
 
-def answer_of(cube):
+def answer_of(cube: Cube) -> str:
     return "answers/" + name_of(cube)
 
 
-def closed_by(path):
+def closed_by(path: Path) -> Optional[FrozenSet[int]]:
     """The literals whose cube the last lemma of a log closes, None where it cannot be told here."""
     try:
-        with open(path, "rb") as file:
-            begin = max(0, os.path.getsize(path) - (1 << 14))
+        with path.open("rb") as file:
+            begin = max(0, path.stat().st_size - (1 << 14))
             file.seek(begin)
             lines = [line.split() for line in file.read().split(b"\n")]
     except OSError:
@@ -82,7 +91,7 @@ def closed_by(path):
     return None
 
 
-def takes(handle, lock):
+def takes(handle: int, lock: int) -> bool:
     try:
         fcntl.flock(handle, lock | fcntl.LOCK_NB)
     except BlockingIOError:
@@ -91,15 +100,15 @@ def takes(handle, lock):
 
 
 class Folder:
-    def __init__(self, path):
-        self.path = os.path.abspath(path)
+    def __init__(self, path: str) -> None:
+        self.path = Path(os.path.abspath(path))
         for kind in ("trees", "logs", "answers", "records", "rounds", "scratch"):
-            os.makedirs(self.at(kind), exist_ok=True)
+            self.at(kind).mkdir(parents=True, exist_ok=True)
 
-    def at(self, *names):
-        return os.path.join(self.path, *names)
+    def at(self, *names: str) -> Path:
+        return self.path.joinpath(*names)
 
-    def lock(self):
+    def lock(self) -> None:
         """Two runs would do the same work. The lock ends with this process, however it ends."""
         self.held = os.open(self.at("lock"), os.O_WRONLY | os.O_CREAT, 0o644)
         for _ in range(10):  # a job that looks for it, as below, has it for a moment
@@ -108,46 +117,44 @@ class Folder:
             time.sleep(0.03)
         raise Fault("c folder in use")
 
-    def is_locked(self):
+    def is_locked(self) -> bool:
         handle = os.open(self.at("lock"), os.O_RDONLY)
         try:
             return not takes(handle, fcntl.LOCK_SH)
         finally:
             os.close(handle)
 
-    def clean(self):
+    def clean(self) -> None:
         """What earlier starts have left unfinished is of no use."""
-        shutil.rmtree(self.at("scratch"))
-        os.mkdir(self.at("scratch"))
+        shutil.rmtree(str(self.at("scratch")))
+        self.at("scratch").mkdir()
 
-    def write(self, name, text):
+    def write(self, name: str, text: str) -> None:
         part = self.at("scratch", name.replace("/", "."))
-        with open(part, "w") as file:
-            file.write(text)
+        part.write_text(text)
         publish(part, self.at(name))
 
-    def record(self, name, text):
+    def record(self, name: str, text: str) -> None:
         """As `write`, but not synced: a record that a crash spoils costs a colour of the report."""
         part = self.at("scratch", "record." + name)
-        with open(part, "w") as file:
-            file.write(text)
-        os.replace(part, self.at("records", name))
+        part.write_text(text)
+        part.replace(self.at("records", name))
 
-    def set_aside(self, name):
+    def set_aside(self, name: str) -> None:
         """Takes away what `join` has refused, whatever it is; the next start removes it."""
         if os.path.lexists(self.at(name)):
-            os.replace(self.at(name), self.at("scratch", "refused.%d" % time.time_ns()))
+            self.at(name).replace(self.at("scratch", "refused.%d" % time.time_ns()))
 
-    def names(self, kind):
+    def names(self, kind: str) -> List[str]:
         """Names for `join`, one a line. It runs in this folder, whatever that is called."""
         names = sorted(name for name in os.listdir(self.at(kind)) if "\n" not in name)
         return [kind + "/" + name for name in names]
 
-    def covered(self, cube):
+    def covered(self, cube: Cube) -> Path:
         """A file that tells jobs elsewhere that another leaf's log closes this one."""
         return self.at("scratch", "covered." + name_of(cube))
 
-    def newest_tree(self):
+    def newest_tree(self) -> int:
         """The number of the tree that stands, 0 where there is none yet."""
-        stems = [os.path.splitext(name)[0] for name in os.listdir(self.at("trees"))]
+        stems = [path.stem for path in self.at("trees").iterdir()]
         return max([0] + [int(stem) for stem in stems if stem.isdigit()])

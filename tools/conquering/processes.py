@@ -1,13 +1,22 @@
 """Commands that are started, waited for, and ended with all that they have started."""
-import collections
 import ctypes
 import os
 import select
 import signal
 import subprocess
+from dataclasses import dataclass
+from pathlib import Path
+from typing import Any, List, Optional, Tuple, Union
 
-# What is run, where its output goes, and after how many seconds it is ended (None: never).
-Command = collections.namedtuple("Command", "words output seconds", defaults=(None,))
+Word = Union[str, Path]
+
+
+@dataclass(frozen=True)
+class Command:
+    words: List[Word]
+    output: Path  # where its output goes
+    seconds: Optional[float] = None  # after how many it is ended; None: never
+
 
 DIE_WITH_PARENT = 1  # PR_SET_PDEATHSIG
 
@@ -17,7 +26,7 @@ except (OSError, AttributeError):  # not Linux: there the jobs of a killed scrip
     prctl = None
 
 
-def die_with(parent):
+def die_with(parent: int) -> None:
     """Has the system kill this process when its parent ends: a killed script leaves no job."""
     if prctl:
         prctl(DIE_WITH_PARENT, signal.SIGKILL)
@@ -25,16 +34,24 @@ def die_with(parent):
             os._exit(1)
 
 
-def start(command, **more):
+def start(command: Command, **more: Any) -> subprocess.Popen:
     """Starts a command in a process group of its own, so that it can be ended with its children."""
     parent = os.getpid()
     more = {"stdin": subprocess.DEVNULL, "stderr": subprocess.STDOUT, **more}
-    with open(command.output, "wb") as output:
+    with command.output.open("wb") as output:
         return subprocess.Popen(command.words, stdout=output, start_new_session=True,
                                 preexec_fn=lambda: die_with(parent), **more)
 
 
-def kill(process):
+def status_of(words: List[Word], output: Path) -> int:
+    """Runs a short command, which ends with this process, and writes what it prints to a file."""
+    parent = os.getpid()
+    with output.open("wb") as file:
+        return subprocess.call(words, stdin=subprocess.DEVNULL, stdout=file,
+                               preexec_fn=lambda: die_with(parent))
+
+
+def kill(process: subprocess.Popen) -> None:
     try:
         os.killpg(process.pid, signal.SIGKILL)
     except ProcessLookupError:
@@ -42,7 +59,7 @@ def kill(process):
     process.wait()
 
 
-def output_of(words):
+def output_of(words: List[Word]) -> Tuple[int, str]:
     done = subprocess.run(words, stdin=subprocess.DEVNULL, stdout=subprocess.PIPE,
                           stderr=subprocess.STDOUT)
     return done.returncode, done.stdout.decode("ascii", "replace")
@@ -51,13 +68,13 @@ def output_of(words):
 class Bell:
     """Rings when a process of ours has ended, so that nothing has to ask for it all the time."""
 
-    def __init__(self):
+    def __init__(self) -> None:
         self.read, write = os.pipe()
         os.set_blocking(self.read, False)
         os.set_blocking(write, False)
         signal.signal(signal.SIGCHLD, lambda *_: None)
         signal.set_wakeup_fd(write, warn_on_full_buffer=False)
 
-    def wait(self, seconds):
+    def wait(self, seconds: float) -> None:
         if select.select([self.read], [], [], max(0, seconds))[0]:
             os.read(self.read, 1 << 16)

@@ -10,8 +10,12 @@ import html
 import math
 import os
 import time
+from pathlib import Path
+from typing import Dict, Iterator, List, Optional, Set, Tuple
 
-from conquering.leaf import CLOSED, read_records
+from conquering.files import Cube
+from conquering.leaf import CLOSED, LIMIT, Record, read_records
+from conquering.run import Run
 from conquering.screen import clock
 
 WIDTH = 1160  # of each picture, in pixels
@@ -34,11 +38,11 @@ td.cube{white-space:normal;overflow-wrap:anywhere}
 """
 
 
-def spent(record):
+def spent(record: Record) -> float:
     return max(0.001, record.end - record.begin)
 
 
-def told(seconds):
+def told(seconds: float) -> str:
     if seconds >= 3600:
         return clock(seconds)
     return "%.0f s" % seconds if seconds >= 100 else "%.3g s" % seconds
@@ -47,37 +51,38 @@ def told(seconds):
 class Scale:
     """Colours for times, by their logarithm: from the shortest to the longest."""
 
-    def __init__(self, times):
+    def __init__(self, times: List[float]) -> None:
         self.least, self.most = min(times, default=0.001), max(times, default=0.001)
 
-    def place(self, seconds):
+    def place(self, seconds: float) -> float:
         """From 0 for the shortest to 1 for the longest."""
         if self.most <= self.least:
             return 0.0
         return math.log(seconds / self.least) / math.log(self.most / self.least)
 
-    def colour(self, seconds):
+    def colour(self, seconds: float) -> str:
         at = min(0.9999, max(0.0, self.place(seconds))) * (len(RAMP) - 1)
         low, high = RAMP[int(at)], RAMP[int(at) + 1]
         return "#%02x%02x%02x" % tuple(round(a + (b - a) * (at % 1)) for a, b in zip(low, high))
 
-    def ink(self, seconds):
+    def ink(self, seconds: Optional[float]) -> str:
         """A colour to write with on that of `seconds`."""
         return "#fff" if seconds and self.place(seconds) > 0.6 else "#333"
 
 
-def picture(height, parts, label):
+def picture(height: float, parts: List[str], label: str) -> str:
     size = 'viewBox="0 0 %d %d" width="%d" height="%d"' % (WIDTH, height, WIDTH, height)
     return '<svg %s role="img" aria-label="%s">%s</svg>' % (size, label, "".join(parts))
 
 
-def box(x, y, wide, high, colour, title, more=""):
+def box(x: float, y: float, wide: float, high: float, colour: str, title: str,
+        more: str = "") -> str:
     size = 'x="%.2f" y="%.2f" width="%.2f" height="%.2f"' % (x, y, wide, high)
     title = "<title>%s</title>" % html.escape(title)
     return '<rect %s fill="%s"%s>%s</rect>' % (size, colour, more, title)
 
 
-def text(x, y, words, anchor="middle", ink="#333"):
+def text(x: float, y: float, words: str, anchor: str = "middle", ink: str = "#333") -> str:
     return '<text x="%.1f" y="%.1f" text-anchor="%s" style="fill:%s">%s</text>' % (
         x, y, anchor, ink, html.escape(words))
 
@@ -85,7 +90,8 @@ def text(x, y, words, anchor="middle", ink="#333"):
 class Tree:
     """The splitting tree as boxes: each branch under its fork, a leaf down to the floor."""
 
-    def __init__(self, cubes, covered, times, scale):
+    def __init__(self, cubes: List[Cube], covered: Set[Cube], times: Dict[Cube, float],
+                 scale: Scale) -> None:
         self.cubes, self.covered, self.times, self.scale = cubes, covered, times, scale
         self.depth = max(map(len, cubes))
         self.high = max(7, min(22, 440 // (self.depth + 1)))
@@ -93,7 +99,7 @@ class Tree:
         self.floor = (self.depth + 2) * self.high
         self.longest = [times.get(cube) for cube in cubes]
 
-    def draw(self):
+    def draw(self) -> str:
         parts, stack = [], [(0, 0, len(self.cubes))]
         while stack:
             depth, low, high = stack.pop()
@@ -107,13 +113,13 @@ class Tree:
             stack += [(depth + 1, low, middle), (depth + 1, middle, high)]
         return picture(self.floor + 2, parts, "the splitting tree")
 
-    def other_branch(self, depth, low, high):
+    def other_branch(self, depth: int, low: int, high: int) -> int:
         """Where the leaves behind the fork's second branch begin."""
         first = self.cubes[low][depth]
         behind = [self.cubes[place][depth] != first for place in range(low, high)]
         return low + bisect.bisect_left(behind, True)
 
-    def fork(self, path, low, wide):
+    def fork(self, path: Cube, low: int, wide: float) -> List[str]:
         seconds = self.times.get(path)  # it was a leaf once, and was cut in two at its limit
         title = "%s, %d leaves below" % (self.told(path), round(wide / self.wide))
         title += ", cut in two after " + told(seconds) if seconds else ""
@@ -122,14 +128,14 @@ class Tree:
         parts = [box(x, y, wide, self.high, colour, title, THIN)]
         return parts + self.label(path, x, y, wide, self.scale.ink(seconds))
 
-    def label(self, path, x, y, wide, ink):
+    def label(self, path: Cube, x: float, y: float, wide: float, ink: str) -> List[str]:
         """The literal of a branch, where there is room for it."""
         if wide < 30 or self.high < 12:
             return []
         words = str(path[-1]) if path else "formula"
         return [text(x + wide / 2, y + self.high / 2 + 4, words, ink=ink)]
 
-    def leaves(self, depth, low, high):
+    def leaves(self, depth: int, low: int, high: int) -> List[str]:
         """A leaf, or several that are too narrow to be told apart."""
         seconds = max(filter(None, self.longest[low:high]), default=None)
         closed = self.covered.issuperset(self.cubes[low:high])
@@ -149,11 +155,11 @@ class Tree:
         return parts
 
     @staticmethod
-    def told(path):
+    def told(path: Cube) -> str:
         return " ".join(map(str, path)) or "the whole formula"
 
 
-def curve(times, scale):
+def curve(times: List[float], scale: Scale) -> str:
     """The leaves from the longest to the shortest; each line up is ten times as long."""
     high, left, times = 200, 54, sorted(times, reverse=True)
     least, most = math.floor(math.log10(scale.least)), math.ceil(math.log10(scale.most))
@@ -174,7 +180,7 @@ def curve(times, scale):
     return picture(high + 14, parts, "the leaves by time")
 
 
-def lanes_of(records):
+def lanes_of(records: List[Record]) -> Tuple[List[int], List[Tuple[str, int]]]:
     """For each job the lane in which it is drawn: the first of its host that is free by then."""
     free, lanes = collections.defaultdict(list), []
     for record in records:
@@ -187,7 +193,7 @@ def lanes_of(records):
     return [order[lane] for lane in lanes], sorted(order)
 
 
-def breaks_of(records):
+def breaks_of(records: List[Record]) -> Tuple[List[Tuple[float, float]], float]:
     """The times at which nothing ran, between two starts, as pairs of begin and length."""
     breaks, end = [], records[0].begin
     for record in records:
@@ -197,7 +203,7 @@ def breaks_of(records):
     return breaks, end
 
 
-def workers(records, scale):
+def workers(records: List[Record], scale: Scale) -> str:
     """What ran where and when; times at which nothing ran are left out."""
     places, lanes = lanes_of(records)
     breaks, end = breaks_of(records)
@@ -227,7 +233,7 @@ def workers(records, scale):
     return picture(floor + 22, parts, "the workers' lanes")
 
 
-def table(cubes, covered, last):
+def table(cubes: List[Cube], covered: Set[Cube], last: Dict[Cube, Record]) -> str:
     """The leaves that took longest, each with its last job."""
     late = lambda row: -spent(last[row[1]]) if row[1] in last else 1
     rows = sorted(enumerate(cubes, 1), key=late)
@@ -244,11 +250,21 @@ def table(cubes, covered, last):
     return "<table>%s</table>" % "\n".join(lines)
 
 
-def facts(cubes, covered, records, last):
+def is_race(record: Record, cubes: List[Cube]) -> bool:
+    """Whether its job searched the whole formula beside the leaves. One that left a tree of no
+    levels at its limit was cut in two."""
+    return record.cube == () and () not in cubes and record.outcome != LIMIT
+
+
+def facts(cubes: List[Cube], covered: Set[Cube], records: List[Record],
+          last: Dict[Cube, Record]) -> Iterator[Tuple[str, str]]:
     """The figures of the run, as pairs of what and how much."""
     jobs = [last[cube] for cube in cubes if cube in last and last[cube].outcome == CLOSED]
     times, whole = sorted(map(spent, jobs)), sum(map(spent, records))
     yield "leaves", "{:,}".format(len(cubes))
+    for record in records:
+        if is_race(record, cubes):
+            yield "the whole formula unsplit", "%s in %s" % (record.outcome, told(spent(record)))
     yield "closed by a job", "{:,}".format(len(jobs))
     yield "with another leaf", "{:,}".format(len(covered))
     yield "jobs", "{:,}".format(len(records))
@@ -269,8 +285,9 @@ LANES = """<h2>Workers</h2><p>Which job ran when. Dashed lines are times at whic
 edge is a job that closed nothing.</p>"""
 
 
-def page(name, how, cubes, covered, records, status):
-    last = {record.cube: record for record in records}
+def page(name: str, how: str, cubes: List[Cube], covered: Set[Cube], records: List[Record],
+         status: int) -> str:
+    last = {record.cube: record for record in records if not is_race(record, cubes)}
     times = {cube: spent(record) for cube, record in last.items()}
     shown = [times[cube] for cube in cubes if cube in times]
     scale, title = Scale(list(times.values())), html.escape(os.path.basename(name))
@@ -287,7 +304,7 @@ def page(name, how, cubes, covered, records, status):
     return '<!DOCTYPE html><html lang="en">%s\n%s</html>\n' % (head, "\n".join(body))
 
 
-def write(run, status):
+def write(run: Run, status: int) -> Path:
     """Writes the report and answers its path."""
     plan, how = run.plan, "satcluster refute"
     if plan.solver:

@@ -3,11 +3,12 @@ import collections
 import os
 import subprocess
 import time
+from typing import Counter, DefaultDict, Deque, Dict, FrozenSet, List, Optional, Set, Tuple
 
-from conquering.files import answer_of, closed_by, log_of, publish, read_cubes
-from conquering.leaf import CLOSED, LIMIT, MODEL, Leaf
-from conquering.processes import Command, kill, output_of, start
-from conquering.screen import clock
+from conquering.files import Cube, Folder, answer_of, closed_by, log_of, publish, read_cubes
+from conquering.leaf import CLOSED, LIMIT, MODEL, Leaf, Plan
+from conquering.processes import Bell, Command, kill, output_of, start, status_of
+from conquering.screen import Screen, clock
 
 TRIES = 3  # how often a leaf is run in one start before it is given up
 HOPELESS = 20  # how many jobs may fail before any leaf is closed
@@ -16,17 +17,19 @@ HOPELESS = 20  # how many jobs may fail before any leaf is closed
 class Join:
     """The program's `join`, told names of logs as they come: it reads while leaves still run."""
 
-    def __init__(self, folder, plan, tree):
-        self.output, self.names, self.waiting = folder.at("scratch", "joined"), [], b""
+    def __init__(self, folder: Folder, plan: Plan, tree: str) -> None:
+        self.output, self.waiting = folder.at("scratch", "joined"), b""
+        self.names: List[str] = []
         words = [plan.program, "join", "--cubes", tree, plan.input, "scratch/proof.lrat", "-"]
-        self.process = start(Command(words, self.output), stdin=subprocess.PIPE, cwd=folder.path)
+        self.process = start(Command(words, self.output), stdin=subprocess.PIPE,
+                             cwd=str(folder.path))
         os.set_blocking(self.process.stdin.fileno(), False)
 
-    def add(self, *names):
+    def add(self, *names: str) -> None:
         self.names += names
         self.waiting += b"".join(os.fsencode(name) + b"\n" for name in names)
 
-    def feed(self):
+    def feed(self) -> bool:
         """Hands on what the pipe takes. Answers whether `join` still runs."""
         pipe = self.process.stdin.fileno()
         try:
@@ -38,17 +41,17 @@ class Join:
             self.waiting = b""
         return self.process.poll() is None
 
-    def answer(self, bell):
+    def answer(self, bell: Bell) -> Tuple[int, List[str]]:
         """Its status and lines, when it has read all that it was told."""
         while self.feed() and self.waiting:
             bell.wait(0.05)
         self.process.stdin.close()
         while self.process.poll() is None:
             bell.wait(1)
-        with open(self.output, encoding="ascii", errors="replace") as lines:
-            return self.process.returncode, lines.read().split("\n")[:-1]
+        text = self.output.read_text(encoding="ascii", errors="replace")
+        return self.process.returncode, text.split("\n")[:-1]
 
-    def refused(self, lines):
+    def refused(self, lines: List[str]) -> Tuple[List[str], List[int]]:
         """The names of files that it refuses, and the places of leaves that nothing closes."""
         words = [line.split() for line in lines]
         files = [w for w in words if w[:2] == ["c", "file"] and w[3:5] != ["closes", "nothing"]]
@@ -59,31 +62,40 @@ class Join:
 class Run:
     """The leaves that wait, that run and that are closed. Engines tell it which job has ended."""
 
-    def __init__(self, folder, plan, screen, bell, jobs):
-        self.folder, self.plan, self.jobs = folder, plan, jobs
-        self.screen, self.bell = screen, bell
-        self.tries, self.running = collections.Counter(), {}
-        self.unlimited, self.alone = set(), set()  # to be run without a limit, and in any case
+    def __init__(self, folder: Folder, plan: Plan, screen: Screen, bell: Bell) -> None:
+        self.folder, self.plan, self.screen, self.bell = folder, plan, screen, bell
+        self.tries: Counter[Cube] = collections.Counter()
+        self.reasons: Counter[str] = collections.Counter()  # why jobs have failed, and how often
+        self.running: Dict[Cube, Leaf] = {}
+        self.queue: Deque[Cube] = collections.deque()
+        self.unlimited: Set[Cube] = set()  # to be run without a limit
+        self.alone: Set[Cube] = set()  # to be run in any case
         self.failures, self.closed, self.splits = 0, 0, 0
-        self.began, self.join, self.can_split = time.monotonic(), None, None
+        self.longest = 0.0  # seconds of a leaf's job
+        self.began, self.model = time.monotonic(), False
+        self.join: Optional[Join] = None
+        self.can_split: Optional[bool] = None
         self.take_tree(folder.newest_tree())
 
-    def take_tree(self, number):
+    def take_tree(self, number: int) -> None:
         self.number, self.tree = number, "trees/%d.icnf" % number
         self.cubes = read_cubes(self.folder.at(self.tree))
         self.place = {cube: place for place, cube in enumerate(self.cubes, 1)}
-        self.having = collections.defaultdict(set)  # for each literal the cubes that have it
+        # For each literal the cubes that have it.
+        self.having: DefaultDict[int, Set[Cube]] = collections.defaultdict(set)
         for cube in self.cubes:
             for literal in cube:
                 self.having[literal].add(cube)
 
-    def begin(self):
+    def begin(self) -> None:
         """Begins a pass over the leaves that have no log."""
         have = set(self.folder.names("logs"))
-        self.mark = str(time.time_ns())
-        self.model = bool(self.folder.names("answers"))
-        self.done = {cube for cube in self.cubes if log_of(cube) in have}
-        self.covered, self.closings, self.queue = set(), set(), collections.deque()
+        self.look_for_answers()
+        self.done: Set[Cube] = {cube for cube in self.cubes if log_of(cube) in have}
+        self.covered: Set[Cube] = set()
+        self.closings: Set[FrozenSet[int]] = set()
+        self.queue.clear()
+        self.running.clear()
         for name in have:
             self.cover(closed_by(self.folder.at(name)))
         # From the last leaf to the first: behind negations of what the rule has chosen less follows,
@@ -93,20 +105,56 @@ class Run:
         self.join = Join(self.folder, self.plan, self.tree)
         self.join.add(*sorted(have))
         for cube in self.queue:  # what an earlier pass has told of it may have been wrong
-            if os.path.exists(self.folder.covered(cube)):
-                os.remove(self.folder.covered(cube))
+            if self.folder.covered(cube).exists():
+                self.folder.covered(cube).unlink()
         self.screen.say("c %d leaves, %d to run" % (len(self.cubes), len(self.queue)))
 
-    def leaf(self, cube):
-        return Leaf(cube, self.tree, self.place[cube], cube not in self.unlimited)
+    def waits(self) -> bool:
+        """Whether a leaf waits to be run."""
+        return bool(self.queue)
 
-    def over(self):
+    def take(self) -> Leaf:
+        """The next leaf to be run, which then counts as running."""
+        cube = self.queue.popleft()
+        leaf = Leaf(cube, self.tree, self.place[cube], cube not in self.unlimited)
+        self.running[cube] = leaf
+        return leaf
+
+    def take_all(self) -> List[Leaf]:
+        return [self.take() for _ in range(len(self.queue))]
+
+    def open(self) -> int:
+        """How many leaves nothing closes yet."""
+        return sum(cube not in self.done for cube in self.cubes)
+
+    def spent(self, seconds: float) -> None:
+        """A leaf's job has taken so long."""
+        self.longest = max(self.longest, seconds)
+
+    def let_go(self, leaf: Leaf) -> None:
+        """Its job was ended before it had found anything."""
+        self.running.pop(leaf.cube, None)
+
+    def is_closed(self, leaf: Leaf) -> bool:
+        return leaf.cube in self.done
+
+    def is_covered(self, leaf: Leaf) -> bool:
+        """Whether another leaf's log closes it."""
+        return leaf.cube in self.covered
+
+    def look_for_answers(self) -> None:
+        self.model = bool(self.folder.names("answers"))
+
+    def over(self) -> bool:
         """No leaf needs to be run any more: there is a model, or `join` has found a fault."""
         if self.join and not self.join.feed() and self.join.process.returncode < 0:
             self.join = None  # it was killed: in the end it is begun anew
         return self.model or (self.join is not None and not self.join.feed())
 
-    def ended(self, cube, outcome, note):
+    def ended(self, leaf: Leaf, outcome: str, note: str) -> None:
+        """What follows when a leaf's job has ended."""
+        cube = leaf.cube
+        self.let_go(leaf)
         if outcome == CLOSED:
             self.closed += 1
             self.done.add(cube)
@@ -122,7 +170,20 @@ class Run:
         else:
             self.fail(cube, note)
 
-    def cover(self, closed):
+    def raced(self, outcome: str, note: str) -> None:
+        """What follows when the search of the whole formula has ended: its log closes every leaf."""
+        if outcome == CLOSED:
+            self.screen.say("c the whole formula was refuted unsplit")
+            self.closed += 1
+            self.cover(closed_by(self.folder.at(log_of(()))))
+            if self.join:
+                self.join.add(log_of(()))
+        elif outcome == MODEL:
+            self.model = True
+        else:
+            self.screen.say("c the whole formula unsplit: " + (note or outcome))
+
+    def cover(self, closed: Optional[FrozenSet[int]]) -> None:
         """A log whose search has not used all of its cube closes other leaves, too: they need not
         be run. This only guesses what `join` will say; if it says no, they are."""
         if closed is None:
@@ -136,22 +197,31 @@ class Run:
             self.covered |= found
             self.done |= found
         for cube in found:  # tells jobs that run elsewhere
-            open(self.folder.covered(cube), "w").close()
+            self.folder.covered(cube).touch()
 
-    def fail(self, cube, note):
+    def fail(self, cube: Cube, note: str) -> None:
         self.tries[cube] += 1
         self.failures += 1
-        self.screen.say("c leaf %d failed: %s" % (self.place[cube], note))
+        self.reasons[note] += 1
+        if self.reasons[note] == 1:
+            self.screen.say("c leaf %d failed: %s" % (self.place[cube], note))
         if self.hopeless():
             self.queue.clear()
         elif self.tries[cube] < TRIES:
             self.queue.append(cube)
 
-    def hopeless(self):
+    def tell_failures(self) -> None:
+        """What has failed for one reason again and again is told once, and in the end how often."""
+        for note, times in self.reasons.items():
+            if times > 1:
+                self.screen.say("c %d jobs failed: %s" % (times, note))
+        self.reasons.clear()
+
+    def hopeless(self) -> bool:
         """A solver that fails again and again, and never closes a leaf, is not the one to run."""
         return self.failures >= HOPELESS and not self.closed
 
-    def split(self, cube):
+    def split(self, cube: Cube) -> bool:
         """Cuts a leaf in two where the program can, in a new tree file: jobs keep the old one."""
         if self.can_split is None:
             self.can_split = "--split" in output_of([self.plan.program, "cubes", "--help"])[1]
@@ -160,9 +230,8 @@ class Run:
         part, before = self.folder.at("scratch", "tree"), set(self.cubes)
         words = [self.plan.program, "cubes", "--cubes", self.folder.at(self.tree)]
         words += ["--split", str(self.place[cube]), self.plan.input]
-        with open(part, "wb") as tree:
-            if subprocess.call(words, stdout=tree) != 0:
-                return False
+        if status_of(words, part) != 0:
+            return False
         publish(part, self.folder.at("trees", "%d.icnf" % (self.number + 1)))
         self.take_tree(self.number + 1)
         self.queue.extend(new for new in self.cubes if new not in before)
@@ -173,25 +242,27 @@ class Run:
         self.forget_trees()
         return True
 
-    def forget_trees(self):
+    def forget_trees(self) -> None:
         """A tree file has the whole formula in it, so those that no job names are removed."""
         named = {leaf.tree for leaf in self.running.values()} | {self.tree}
         for name in set(self.folder.names("trees")) - named:
-            os.remove(self.folder.at(name))
+            self.folder.at(name).unlink()
 
-    def tick(self, running):
+    def tick(self, running: int, is_raced: bool = False) -> None:
         """Tells how far the run is; the time left is reckoned by the leaves that are closed."""
-        waits, gone = len(self.cubes) - len(self.done), time.monotonic() - self.began
+        waits, gone = self.open(), time.monotonic() - self.began
         line = "c %d of %d leaves closed, %d running, %d open" % (
-            len(self.done), len(self.cubes), running, max(0, waits - running))
+            len(self.cubes) - waits, len(self.cubes), running, max(0, waits - running))
         line += ", %d split" % self.splits if self.splits else ""
+        line += ", beside the whole formula" if is_raced else ""
         line += ", %s gone" % clock(gone)
         if self.closed:
             line += ", about %s left" % clock(gone / self.closed * max(0, waits - running / 2))
         self.screen.progress(line)
 
-    def answer(self):
+    def answer(self) -> Tuple[int, List[str]]:
         """What the program says of what is there. A right assignment decides, and so goes alone."""
+        self.tell_failures()
         if self.model:
             self.end_join()
         if self.join is None:
@@ -200,7 +271,7 @@ class Run:
         self.screen.progress("c joining")
         return self.join.answer(self.bell)
 
-    def learn(self, lines):
+    def learn(self, lines: List[str]) -> bool:
         """Takes away what was refused, so that its leaves are run again, and tells if any are."""
         refused, missing = self.join.refused(lines)
         missing = [self.cubes[place - 1] for place in missing]
@@ -217,7 +288,7 @@ class Run:
             self.folder.set_aside(name)
         return not self.hopeless() and any(self.tries[cube] < TRIES for cube in missing)
 
-    def end_join(self):
+    def end_join(self) -> None:
         if self.join:
             kill(self.join.process)
         self.join = None

@@ -5,19 +5,19 @@ import time
 
 
 class Screen:
-    def __init__(self, quiet):
+    def __init__(self, quiet: bool) -> None:
         self.quiet, self.rewrites, self.shown = quiet, sys.stdout.isatty(), ""
         self.next = time.monotonic() + (0 if self.rewrites else 60)
 
-    def say(self, line):
+    def say(self, line: str) -> None:
         if not self.quiet:
             self.print(plain(line))
 
-    def print(self, line):
+    def print(self, line: str) -> None:
         print("\r\x1b[K" * bool(self.shown) + line, flush=True)
         self.shown = ""
 
-    def progress(self, line):
+    def progress(self, line: str) -> None:
         if self.quiet or time.monotonic() < self.next:
             return
         self.next = time.monotonic() + (0.2 if self.rewrites else 60)
@@ -28,11 +28,11 @@ class Screen:
             self.print(line)
 
 
-def plain(line):
+def plain(line: str) -> str:
     """Bytes of names and of what solvers print stay within the line, and within ASCII."""
-    bytes = line.encode("utf-8", "surrogateescape")
-    return "".join(chr(byte) if 32 <= byte < 127 else "%%%02X" % byte for byte in bytes)
+    data = line.encode("utf-8", "surrogateescape")
+    return "".join(chr(byte) if 32 <= byte < 127 else "%%%02X" % byte for byte in data)
 
 
-def clock(seconds):
+def clock(seconds: float) -> str:
     return "%d:%02d:%02d" % (seconds // 3600, seconds // 60 % 60, seconds % 60)

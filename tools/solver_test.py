@@ -1,0 +1,670 @@
+#!/usr/bin/env python3
+"""Runs `satcluster-solver` as clients do, and as they should not.
+
+    tools/solver_test.py PATH-OF-satcluster [CASE ..]
+
+A CASE is Ends, or Ends.test_parent_is_killed; they run alone, and in any order.
+CBMC, yosys and ABC are run if they are on the path, or in the folder that SATCLUSTER_CLIENTS names
+(tools/clients.sh makes one); if they are not there, that is told.
+"""
+import os
+import re
+import shutil
+import signal
+import socket
+import subprocess
+import sys
+import tempfile
+import threading
+import time
+import unittest
+import uuid
+from pathlib import Path
+from typing import Callable, Dict, Iterator, List, NamedTuple, Optional, Set
+
+sys.dont_write_bytecode = True
+
+from cases import EXAMPLES, dimacs, pigeons, run, satisfies
+from telling import looks
+from telling.faults import TABLES
+
+HERE = Path(__file__).resolve().parent
+SOLVER = HERE / "satcluster-solver"
+SECONDS = 60  # how long a run may take
+SOON = 10  # how long what is ended may take to end
+MARK = "SATCLUSTER_TEST"
+CLIENTS = os.environ.get("SATCLUSTER_CLIENTS", "")
+S_LINES = {10: "s SATISFIABLE", 20: "s UNSATISFIABLE", 0: "s UNKNOWN"}
+
+LONG = pigeons(11)  # takes longer than a test
+BAD = "p cnf 1 1\n2 0\n"
+SORTS = """#include <assert.h>
+short nondet_short(void);
+
+static void sort(short *row, int size)
+{
+    for (int begin = 1; begin < size; begin++) {
+        short next = row[begin];
+        int at = begin;
+        for (; at > 0 && row[at - 1] %s; at--)
+            row[at] = row[at - 1];
+        row[at] = next;
+    }
+}
+
+int main(void)
+{
+    short row[3];
+    for (int at = 0; at < 3; at++)
+        row[at] = nondet_short();
+    sort(row, 3);
+    assert(row[0] <= row[1] && row[1] <= row[2]);
+}
+"""
+
+
+class End(NamedTuple):
+    status: int
+    lines: List[str]
+    errors: List[str]
+
+
+class Case(unittest.TestCase):
+    """A folder of its own, in which the solver runs, and whose temporary files are here too."""
+
+    def setUp(self) -> None:
+        self.folder = Path(os.path.realpath(tempfile.mkdtemp()))
+        self.addCleanup(shutil.rmtree, str(self.folder), ignore_errors=True)
+        (self.folder / "tmp").mkdir()
+        self.mark = uuid.uuid4().hex
+        self.env: Dict[str, str] = dict(os.environ, TMPDIR=self.at("tmp"))
+        self.env[MARK] = self.mark
+        self.program = os.environ["SATCLUSTER"]
+
+    def at(self, name: str) -> str:
+        return str(self.folder / name)
+
+    def write(self, name: str, text: str) -> str:
+        (self.folder / name).write_text(text)
+        return name
+
+    def script(self, name: str, text: str) -> str:
+        self.write(name, "#!/bin/sh\n" + text)
+        (self.folder / name).chmod(0o755)
+        return self.at(name)
+
+    def example(self, name: str) -> str:
+        return str(EXAMPLES / name)
+
+    def start(self, *words: str, **more) -> subprocess.Popen:
+        more = {"stdin": subprocess.DEVNULL, "stdout": subprocess.PIPE,
+                "stderr": subprocess.PIPE, "env": self.env, **more}
+        return subprocess.Popen([str(SOLVER), *words], cwd=str(self.folder), **more)
+
+    def run_solver(self, *words: str, given: Optional[bytes] = None, **more) -> End:
+        if given is not None:
+            more["stdin"] = subprocess.PIPE
+        process = self.start(*words, **more)
+        try:
+            out, err = process.communicate(given, timeout=SECONDS)
+        except subprocess.TimeoutExpired:
+            process.kill()
+            self.fail("%s does not end" % (words,))
+        return End(process.returncode, out.decode().splitlines(), err.decode().splitlines())
+
+    def answer(self, *words: str, **more) -> End:
+        """A run, which prints one `s` line, that of its status, and leaves nothing."""
+        end = self.run_solver(*words, **more)
+        said = [line for line in end.lines if line.startswith("s ")]
+        self.assertEqual([S_LINES.get(end.status)], said, end)
+        rest = [line for line in end.lines if line[:2] not in ("s ", "v ", "c ")]
+        self.assertEqual([], rest)
+        self.leaves_nothing()
+        return end
+
+    def decides(self, status: int, *words: str, **more) -> End:
+        end = self.answer(*words, **more)
+        self.assertEqual((status, []), (end.status, end.errors), end)
+        return end
+
+    def refuses(self, why: str, *words: str, **more) -> None:
+        """No answer: `s UNKNOWN` behind `c` lines that tell why; quietly that is told apart."""
+        end = self.answer(*words, **more)
+        self.assertEqual((0, "s UNKNOWN"), (end.status, end.lines[-1]))
+        self.assertRegex("\n".join(end.lines[:-1]), why)
+        quiet = self.answer("-q", *words, **more)
+        self.assertEqual((0, ["s UNKNOWN"]), (quiet.status, quiet.lines))
+        self.assertRegex("\n".join(quiet.errors), why)
+
+    def running(self) -> Set[int]:
+        """The processes that this test has started, and those that they have."""
+        found, mark = set(), ("%s=%s" % (MARK, self.mark)).encode()
+        for entry in Path("/proc").iterdir():
+            try:
+                if entry.name.isdigit() and mark in (entry / "environ").read_bytes():
+                    found.add(int(entry.name))
+            except OSError:  # it has ended meanwhile
+                pass
+        return found
+
+    def soon(self, what: str, holds: Callable[[], bool]) -> None:
+        end = time.monotonic() + SOON
+        while not holds():
+            self.assertLess(time.monotonic(), end, what)
+            time.sleep(0.01)
+
+    def leaves_nothing(self) -> None:
+        self.soon("a process is left", lambda: not self.running())
+        self.soon("a folder is left", lambda: not list((self.folder / "tmp").glob("satcluster-*")))
+
+    def verifies(self, formula: str, proof: str) -> None:
+        words = [self.program, "check", formula, proof]
+        done = subprocess.run(words, cwd=str(self.folder), stdout=subprocess.PIPE)
+        self.assertEqual((0, b"s VERIFIED\n"), (done.returncode, done.stdout))
+
+
+class Answers(Case):
+    def test_proof(self) -> None:
+        for more in ([], ["--jobs", "2"], ["--lrat", "--no-binary"]):
+            formula = self.example("schur_3_14.cnf")
+            self.decides(20, *more, formula, "f.lrat")
+            self.verifies(formula, "f.lrat")
+            os.remove(self.at("f.lrat"))
+
+    def test_model(self) -> None:
+        for more in ([], ["--jobs", "2"]):
+            formula = self.example("random_100_sat.cnf")
+            end = self.decides(10, *more, formula, "f.lrat")
+            self.assertTrue(satisfies(Path(formula).read_text(), end.lines))
+            end = self.decides(10, "-q", "-n", *more, formula)
+            self.assertEqual(["s SATISFIABLE"], end.lines)
+            self.assertFalse(os.path.exists(self.at("f.lrat")))
+
+    def test_standard_input(self) -> None:
+        text = Path(self.example("schur_3_14.cnf")).read_bytes()
+        for words in ([], ["-"], ["/dev/stdin"], ["--jobs", "2"], ["-", "f.lrat"]):
+            self.decides(20, *words, given=text)
+        self.verifies(self.example("schur_3_14.cnf"), "f.lrat")
+        ours, theirs = socket.socketpair()  # which cannot be opened by a name
+        ours.sendall(text)
+        ours.close()
+        with theirs:
+            self.decides(20, stdin=theirs)
+
+    def test_packed(self) -> None:
+        formula = Path(self.example("schur_3_14.cnf")).read_bytes()
+        for tool, end in (("gzip", "gz"), ("xz", "xz"), ("bzip2", "bz2"), ("zstd", "zst")):
+            if not shutil.which(tool):
+                print("skipped: %s is not installed" % tool)
+                continue
+            packed = subprocess.run([tool, "-c"], input=formula, stdout=subprocess.PIPE).stdout
+            for name in ("f.cnf." + end, "f.cnf"):  # by its bytes, whatever it is called
+                (self.folder / name).write_bytes(packed)
+                self.decides(20, name)
+            self.decides(20, "--jobs", "2", name)
+            self.decides(20, given=packed)
+            (self.folder / name).write_bytes(packed[:-9])
+            self.refuses(tool + " ends with", name)
+            self.refuses(tool + " ends with", "--jobs", "2", name)
+
+    def test_words_of_others(self) -> None:
+        formula = self.example("four_clauses.cnf")
+        for words in ("-q -q", "-n -n", "--quiet --no-witness", "-t 50", "--time=50", "-v -v -f -s",
+                      "--sat", "--unsat --plain", "--seed=7", "--no-elim", "--restartint=50 -P2",
+                      "-verb=0 -cpu-lim=50 -no-pre -rnd-seed=9", "--no-binary", "--chrono=true"):
+            self.decides(20, *words.split(), formula)
+            self.decides(20, formula, *words.split())
+        self.assertTrue(os.path.isfile(formula))
+
+    def test_words_that_are_not_known(self) -> None:
+        formula = self.example("four_clauses.cnf")
+        for words in ("--odd", "-t x", "--jobs 0", "-c 5", "-w out", "--conflicts=3", "--depth=99"):
+            end = self.answer(*words.split(), formula)
+            self.assertEqual((20, 1), (end.status, len(end.errors)), end)
+            self.assertIn("passed over", end.errors[0])
+        end = self.answer("--binary", formula, "f.lrat")
+        self.assertEqual(20, end.status)
+        self.assertIn("text", end.errors[0])
+        self.verifies(formula, "f.lrat")
+
+    def test_pipes_of_a_shell(self) -> None:
+        if not shutil.which("bash"):
+            self.skipTest("bash is not installed")
+        formula = self.example("four_clauses.cnf")
+        for words in ("<(cat %s) >(cat > f.lrat)", "-q --jobs 2 <(cat %s)"):
+            line = "%s %s" % (SOLVER, words % formula)
+            done = subprocess.run(["bash", "-c", line], cwd=str(self.folder), env=self.env,
+                                  stdout=subprocess.PIPE)
+            self.assertEqual((20, b"s UNSATISFIABLE\n"), (done.returncode, done.stdout))
+        whole = lambda: os.path.exists(self.at("f.lrat")) and os.path.getsize(self.at("f.lrat")) > 9
+        self.soon("a proof", whole)
+
+    def test_kept(self) -> None:
+        formulas = ["four_clauses.cnf", "random_100_sat.cnf", "schur_3_14.cnf"]
+        for words in ("--keep kept", "--keep=kept --jobs 2"):
+            self.env["SATCLUSTER_WORDS"] = words
+            for name in formulas:
+                self.answer(self.example(name))
+            self.answer("-q", given=Path(self.example("four_clauses.cnf")).read_bytes())
+            self.write("bad.cnf", BAD)
+            self.refuses("bad.cnf, line 2", "bad.cnf")
+            there = sorted(path.name for path in (self.folder / "kept").iterdir())
+            self.assertEqual(["1.cnf", "1.lrat", "2.answer", "2.cnf", "3.cnf", "3.lrat", "4.cnf",
+                              "4.lrat"], there)
+            for number in "134":
+                self.verifies("kept/%s.cnf" % number, "kept/%s.lrat" % number)
+            words = [self.program, "model", "kept/2.cnf", "kept/2.answer"]
+            done = subprocess.run(words, cwd=str(self.folder), stdout=subprocess.PIPE)
+            self.assertEqual(b"s VERIFIED\n", done.stdout)
+            shutil.rmtree(self.at("kept"))
+
+    def test_name_that_is_linked(self) -> None:
+        """A client that calls `kissat` finds it by a link."""
+        (self.folder / "kissat").symlink_to(SOLVER)
+        words = [self.at("kissat"), "-q", self.example("four_clauses.cnf")]
+        done = subprocess.run(words, env=self.env, stdout=subprocess.PIPE)
+        self.assertEqual((20, b"s UNSATISFIABLE\n"), (done.returncode, done.stdout))
+
+
+class Refusals(Case):
+    """What the program refuses is no answer."""
+
+    def test_formulas(self) -> None:
+        self.write("bad.cnf", BAD)
+        self.write("bare.cnf", "1 2 0\n")
+        self.write("empty.cnf", "")
+        (self.folder / "mark.cnf").write_bytes(b"\xef\xbb\xbfp cnf 1 1\n1 0\n")
+        for more in ([], ["--jobs", "2"]):
+            self.refuses("line 2 fault 4(.|\n)*above the number of variables", *more, "bad.cnf")
+            self.refuses("no file none.cnf", *more, "none.cnf")
+            self.refuses("is a folder", *more, ".")
+            self.refuses("no header(.|\n)*with clauses(.|\n)*awk", *more, "bare.cnf")
+            self.refuses("fault 1(.|\n)*no header", *more, "empty.cnf")
+            self.refuses("byte order mark(.|\n)*tail", *more, "mark.cnf")
+            self.refuses("standard input, line 2: A variable", *more, given=BAD.encode())
+            self.refuses("fault 1", *more)
+
+    def test_header_by_the_command_that_is_told(self) -> None:
+        self.write("bare.cnf", "c 5 6\n1 2 0 -1\n2 0\n")
+        told = "\n".join(self.answer("bare.cnf").lines)
+        command = re.search("`(awk.*NEW)`", told).group(1).replace("NEW", "new.cnf")
+        subprocess.run(["sh", "-c", command], cwd=str(self.folder), check=True)
+        self.decides(10, "new.cnf")
+
+    def test_proofs(self) -> None:
+        name = self.write("f.cnf", BAD)
+        for more in ([], ["--jobs", "2"]):
+            self.refuses("no folder .*none", *more, name, "none/f.lrat")
+            self.refuses("is a folder", *more, name, ".")
+            self.refuses("formula itself", *more, name, name)
+            self.refuses("standard output", *more, name, "-")
+
+    def test_program(self) -> None:
+        formula = self.example("four_clauses.cnf")
+        for more in ([], ["--jobs", "2"]):
+            self.refuses("no program none", "--program", "none", *more, formula)
+        self.env["SATCLUSTER"] = self.script("no", "echo c no memory; exit 1\n")
+        self.refuses("no memory(.|\n)*memory enough", formula)
+        self.env["SATCLUSTER"] = self.script("no", "kill -9 $$\n")
+        self.refuses("signal 9", formula)
+        self.env["SATCLUSTER"] = self.script("no", "exit 3\n")
+        self.refuses("status 3", formula)
+
+    def test_memory(self) -> None:
+        import resource
+        room = 1 << 29
+        limit = lambda: resource.setrlimit(resource.RLIMIT_AS, (room, room))
+        variables = range(1, 1000000, 3)
+        self.write("big.cnf", dimacs(1000000, [[v, v + 1, v + 2] for v in variables] * 3))
+        end = self.answer("-n", "big.cnf", preexec_fn=limit)
+        self.assertIn(end.status, (0, 10))
+
+    def test_help(self) -> None:
+        for word in ("--help", "-h", "--version"):
+            self.assertEqual("s UNKNOWN", self.answer(word).lines[-1])
+
+    def test_time(self) -> None:
+        self.write("long.cnf", LONG)
+        for words in (["-t", "1"], ["--time=1"], ["-cpu-lim=1"], ["-t", "1", "--jobs", "2"]):
+            began = time.monotonic()
+            end = self.answer(*words, "long.cnf", "f.lrat")
+            self.assertEqual("s UNKNOWN", end.lines[-1])
+            self.assertIn("c the time is up", end.lines)
+            self.assertLess(time.monotonic() - began, SOON)
+            self.assertFalse(list(self.folder.glob("f.lrat*")))
+        read, write = os.pipe()  # from which no formula comes
+        end = self.answer("-t", "0.5", stdin=read)
+        self.assertIn("c the time is up", end.lines)
+        os.close(read)
+        os.close(write)
+
+    def test_time_if_signals_are_blocked(self) -> None:
+        """A program hands on to what it starts which signals it blocks, and which it ignores."""
+        def deaf() -> None:
+            signal.signal(signal.SIGALRM, signal.SIG_IGN)
+            signal.pthread_sigmask(signal.SIG_BLOCK, range(1, signal.NSIG))
+
+        self.write("long.cnf", LONG)
+        end = self.answer("-t", "1", "long.cnf", preexec_fn=deaf)
+        self.assertIn("c the time is up", end.lines)
+
+    def test_part_of_a_proof(self) -> None:
+        """A program that is ended as it writes a proof leaves no part of it."""
+        script = "exec 9> f.lrat.part0; echo part >&9; exec sleep 50"
+        self.env["SATCLUSTER"] = self.script("writes", script)
+        self.write("f.lrat.part1", "of another run")
+        end = self.answer("-t", "1", self.example("four_clauses.cnf"), "f.lrat")
+        self.assertEqual(0, end.status)
+        self.assertEqual(["f.lrat.part1"], [path.name for path in self.folder.glob("f.lrat*")])
+
+
+class Lies(Case):
+    """A program that is not the proved one: its line and its status do not agree, or are cut."""
+
+    def test_answers(self) -> None:
+        formula = self.example("four_clauses.cnf")
+        for text, status in (("s SATISFIABLE\nv 1 0\n", 20), ("s UNSATISFIABLE\n", 10),
+                             ("s UNSATISFIABLE\n", 1), ("s SATISFIABLE\nv 1 0\n", 0), ("", 20),
+                             ("", 10), ("s UNSATISFIABLE", 20), ("s SATISFIABLE\nv 1 2", 10),
+                             ("s SATISFIABLE\nv 1 2\n", 10), ("s SATISFIABLE\nx\n", 10),
+                             ("s UNSATISFIABLE\ns UNSATISFIABLE\n", 20), ("c s SATISFIABLE\n", 10),
+                             ("s UNSATISFIABLE\nv 1 0\n", 20), ("S UNSATISFIABLE\n", 20),
+                             ("s UNSATISFIABLE \n", 20), ("s SATISFIABLE\n", 10), ("v 1 0\ns SATISFIABLE\n", 10)):
+            self.write("said", text)
+            script = "cat %s; exit %d\n" % (self.at("said"), status)
+            self.env["SATCLUSTER"] = self.script("lies", script)
+            end = self.answer(formula)
+            self.assertEqual((0, "s UNKNOWN"), (end.status, end.lines[-1]), (text, status))
+        self.env["SATCLUSTER"] = self.script("lies", "echo s UNSATISFIABLE; kill -9 $$\n")
+        self.assertEqual(0, self.answer(formula).status)
+
+    def test_names(self) -> None:
+        """No name of a file prints an answer."""
+        for name in ("none\ns UNSATISFIABLE", "s UNSATISFIABLE\n", "none\rs SATISFIABLE\n"):
+            for more in ([], ["--jobs", "2"]):
+                self.assertEqual(0, self.answer(*more, name).status)
+                self.assertEqual(0, self.answer(*more, name, name + "/proof").status)
+        end = self.answer("--x\ns SATISFIABLE", "none")
+        self.assertEqual([], [line for line in end.errors if line.startswith("s ")])
+
+
+class Ends(Case):
+    def begun(self, *words: str, **more) -> subprocess.Popen:
+        """A run of which the search is under way."""
+        self.write("long.cnf", LONG)
+        process = self.start(*words, "long.cnf", "f.lrat", **more)
+        most = 3 if "--jobs" in words else 1
+        self.soon("a search", lambda: len(self.running() - {process.pid}) >= most)
+        return process
+
+    def test_parent_is_killed(self) -> None:
+        self.write("long.cnf", LONG)
+        for more in ([], ["--jobs", "2"]):
+            words = [str(SOLVER), *more, "long.cnf"]
+            code = ("import signal, subprocess; signal.signal(signal.SIGUSR2, signal.SIG_IGN); "
+                    "subprocess.run(%r)" % words)
+            parent = subprocess.Popen([sys.executable, "-c", code], cwd=str(self.folder),
+                                      env=self.env, stdout=subprocess.PIPE, stderr=subprocess.PIPE)
+            most = 4 if more else 2
+            self.soon("a search", lambda: len(self.running() - {parent.pid}) >= most)
+            parent.kill()
+            out, err = parent.communicate(timeout=SOON)
+            self.assertNotIn(b"s SAT", out)
+            self.assertNotIn(b"s UNSAT", out)
+            self.assertEqual(b"", err)
+            self.leaves_nothing()
+
+    def test_solver_is_killed(self) -> None:
+        for more in ([], ["--jobs", "2"]):
+            process = self.begun(*more)
+            process.kill()
+            out, _ = process.communicate(timeout=SOON)
+            self.assertNotIn(b"s ", out.replace(b"leaves ", b""))
+            self.leaves_nothing()
+
+    def test_solver_is_ended(self) -> None:
+        for number in (signal.SIGTERM, signal.SIGINT, signal.SIGHUP):
+            for more in ([], ["--jobs", "2"]):
+                process = self.begun(*more)
+                process.send_signal(number)
+                out, err = process.communicate(timeout=SOON)
+                self.assertEqual((0, b""), (process.returncode, err))
+                self.assertTrue(out.endswith(b"\ns UNKNOWN\n"), out)
+                self.leaves_nothing()
+
+    def test_thread_that_started_it_ends(self) -> None:
+        """The system then tells of an end of the parent, which is there all the same."""
+        self.write("f.cnf", pigeons(9))
+        held: List[subprocess.Popen] = []
+
+        def begin() -> None:
+            held.append(self.start("f.cnf"))
+            self.soon("a search", lambda: len(self.running()) > 1)
+
+        starter = threading.Thread(target=begin)
+        starter.start()
+        starter.join()
+        out, err = held[0].communicate(timeout=SECONDS)
+        self.assertEqual((20, b"s UNSATISFIABLE\n", b""), (held[0].returncode, out, err))
+        self.leaves_nothing()
+
+    def test_parent_that_reads_nothing_is_killed(self) -> None:
+        """It cannot wait for a reader then."""
+        read, write = os.pipe()
+        os.set_blocking(write, False)
+        try:
+            while True:
+                os.write(write, b"x" * 65536)
+        except BlockingIOError:
+            os.set_blocking(write, True)
+        self.write("long.cnf", LONG)
+        code = "import subprocess; subprocess.run([%r, 'long.cnf'])" % str(SOLVER)
+        parent = subprocess.Popen([sys.executable, "-c", code], cwd=str(self.folder), env=self.env,
+                                  stdout=write)
+        self.soon("a search", lambda: len(self.running() - {parent.pid}) >= 2)
+        parent.kill()
+        parent.wait()
+        self.leaves_nothing()
+        os.close(read)
+        os.close(write)
+
+
+class Readers(Case):
+    VARIABLES = 100000  # a model of which is longer than what a pipe holds
+
+    def setUp(self) -> None:
+        super().setUp()
+        size = self.VARIABLES
+        self.write("f.cnf", dimacs(size, [[-v, -v - 1] for v in range(1, size)]))
+
+    def whole(self, data: bytes) -> None:
+        lines = data.decode().splitlines()
+        self.assertEqual("s SATISFIABLE", lines[0])
+        values = [word for line in lines[1:] for word in line.split()[1:]]
+        self.assertEqual((self.VARIABLES + 1, "0"), (len(values), values[-1]))
+
+    def read_slowly(self, descriptor: int) -> bytes:
+        data, piece = [], b"x"
+        while piece:
+            time.sleep(0.5 if len(data) < 3 else 0.001)
+            piece = os.read(descriptor, 1000 if len(data) < 3 else 8192)
+            data.append(piece)
+        return b"".join(data)
+
+    def test_slow(self) -> None:
+        process = self.start("f.cnf")
+        self.whole(self.read_slowly(process.stdout.fileno()))
+        self.assertEqual((10, b""), (process.wait(), process.stderr.read()))
+        process.stdout.close()
+        process.stderr.close()
+
+    def test_pipe_that_does_not_wait(self) -> None:
+        """A descriptor is shared with whoever else has it, and so is that it never waits."""
+        read, write = os.pipe()
+        os.set_blocking(write, False)
+        process = self.start("f.cnf", stdout=write)
+        os.close(write)
+        self.whole(self.read_slowly(read))
+        self.assertEqual((10, b""), (process.wait(), process.stderr.read()))
+        process.stderr.close()
+        os.close(read)
+
+    def test_short_answer_read_late(self) -> None:
+        process = self.start(self.example("four_clauses.cnf"))
+        self.assertEqual(20, process.wait(timeout=SECONDS))
+        out, err = process.communicate()
+        self.assertEqual((b"s UNSATISFIABLE\n", b""), (out, err))
+
+    def test_reader_that_goes(self) -> None:
+        """Quietly: before the answer, and within it."""
+        process = self.start("f.cnf")
+        process.stdout.read(100)
+        process.stdout.close()
+        self.assertEqual(b"", process.stderr.read())
+        process.wait(timeout=SOON)
+        process.stderr.close()
+        self.leaves_nothing()
+        self.write("long.cnf", LONG)
+        for more in ([], ["--jobs", "2"]):
+            process = self.start(*more, "long.cnf")
+            self.soon("a search", lambda: len(self.running()) > 1)
+            process.stdout.close()
+            self.assertEqual((0, b""), (process.wait(timeout=SOON), process.stderr.read()))
+            process.stderr.close()
+            self.leaves_nothing()
+
+    def test_descriptors_that_are_closed(self) -> None:
+        for line in ("%s f.cnf >&-", "%s f.cnf <&-", "%s f.cnf 2>&-", "%s f.cnf <&- >&- 2>&-"):
+            done = subprocess.run(["sh", "-c", line % SOLVER], cwd=str(self.folder), env=self.env,
+                                  stdout=subprocess.PIPE, stderr=subprocess.PIPE)
+            self.assertEqual((10, b""), (done.returncode, done.stderr), line)
+            if ">&-" not in line.replace("2>&-", ""):
+                self.whole(done.stdout)
+
+
+class Table(Case):
+    """The table of faults says what the program prints."""
+
+    def fault(self, *words: str) -> str:
+        done = subprocess.run([self.program, *words], cwd=str(self.folder), stdout=subprocess.PIPE)
+        found = re.search(r"line \d+ fault (\d+)", done.stdout.decode())
+        return found.group(1) if found else done.stdout.decode()
+
+    def test_examples(self) -> None:
+        formula, name = self.example("four_clauses.cnf"), "example"
+        commands = {"input": ["solve", "--depth", "0", name], "proof": ["check", formula, name],
+                    "cubes": ["leaf", "--cubes", name, "--leaf", "1", formula],
+                    "answer": ["model", formula, name]}
+        for table in TABLES.values():
+            for row in table.rows:
+                if row.example:
+                    self.write(name, row.example)
+                    found = self.fault(*commands[table.name])
+                    self.assertEqual(str(row.number), found, (table.name, row.example))
+
+    def test_looks(self) -> None:
+        for head, wanted in ((b"a\x04\x00a\x06\x00a\x08\x00", "binary DRAT"),
+                             (b"a\x81\x02\x00d\x81\x02\x00a\x06\x00", "binary DRAT"),
+                             (b"a\x0a\x05\x00\x06\x08\x00a\x0c\x02\x00\x0a\x02\x00", "binary LRAT"),
+                             (b"1 2 0\nd 1 2 0\n0\n", "DRAT as text"), (b"0\n", "DRAT as text"),
+                             (b"5 2 0 1 2 0\r\n", "CR LF"), (b"\x1f\x8b\x08\x00", "gzip"),
+                             (b"\xfd7zXZ\x00", "xz"), (b"\x28\xb5\x2f\xfd", "zstd"),
+                             (b"\xef\xbb\xbf5 2 0 1 2 0\n", "byte order mark"),
+                             (b"o 1  1 2 0\n", "FRAT"), (b"c x\n5 2 0 1 0\n", "comments"),
+                             (b"5 2 0 1 2 0\n6 0 5 3 4 0\n", None), (b"5 d 1 0\n", None),
+                             (b"", None), (b"5 -1 0 2 4 0\n5 d 1 2 0\n", None)):
+            found = "".join(look.sentence for look in looks.look("proof", "f", head))
+            self.assertTrue(wanted in found if wanted else not found, (head, found))
+
+
+def client(name: str) -> Optional[str]:
+    path = os.pathsep.join(filter(None, (CLIENTS, os.environ.get("PATH"))))
+    return shutil.which(name, path=path)
+
+
+class Clients(Case):
+    """CBMC, yosys and ABC, with the proved program as their solver."""
+
+    def setUp(self) -> None:
+        super().setUp()
+        self.env["PATH"] = os.pathsep.join([self.at("bin"), self.env["PATH"]])
+        (self.folder / "bin").mkdir()
+
+    def wanted(self, name: str) -> str:
+        path = client(name)
+        if path is None:
+            self.skipTest(name + " is not installed: tools/clients.sh fetches it")
+        return path
+
+    def solvers(self) -> Iterator[str]:
+        """The solver as it is, and with jobs, each as a program that keeps what it has said."""
+        for words in ("", "--jobs 2"):
+            line = '%s %s "$@" > said; status=$?; cat said; grep "^s" said >> %s; exit $status\n'
+            yield self.script("bin/solver", line % (SOLVER, words, self.at("answers")))
+            self.leaves_nothing()
+
+    def printed(self, answers: str, *words: str) -> str:
+        """What a client prints, to which the solver has given these answers."""
+        self.write("answers", "")
+        done = subprocess.run(words, cwd=str(self.folder), env=self.env, timeout=SECONDS,
+                              stdin=subprocess.DEVNULL, stdout=subprocess.PIPE,
+                              stderr=subprocess.STDOUT)
+        told = done.stdout.decode("utf-8", "replace")
+        lines = (self.folder / "answers").read_text().split("\n")[:-1]
+        self.assertEqual(["s " + answer for answer in answers.split()], lines, told)
+        return told
+
+    def refused(self, *words: str) -> str:
+        """What a client prints if the program has not memory enough."""
+        program = self.env["SATCLUSTER"]
+        self.env["SATCLUSTER"] = self.script("refuses", "echo c no memory; exit 1\n")
+        try:
+            return self.printed("UNKNOWN", *words)
+        finally:
+            self.env["SATCLUSTER"] = program
+
+    def test_cbmc(self) -> None:
+        cbmc = self.wanted("cbmc")
+        self.write("right.c", SORTS % "> next")
+        self.write("wrong.c", SORTS % ">= next + 1 && at > 1")
+        for solver in self.solvers():
+            words = [cbmc, "--unwind", "4", "--external-sat-solver", solver]
+            told = self.printed("UNSATISFIABLE", *words, "right.c")
+            self.assertIn("VERIFICATION SUCCESSFUL", told)
+            told = self.printed("SATISFIABLE UNSATISFIABLE", *words, "wrong.c")
+            self.assertIn("VERIFICATION FAILED", told)
+            told = self.refused(*words, "right.c")
+            self.assertIn("VERIFICATION ERROR", told)
+
+    def test_yosys(self) -> None:
+        yosys, plugin = self.wanted("yosys"), client("satcluster.so")
+        if plugin is None:
+            self.skipTest("no plugin satcluster.so: tools/clients.sh makes it")
+        self.write("f.v", "module f(input [7:0] a, b, output ok);\n"
+                          "assign ok = (a ^ b) + ((a & b) << 1) == a + b; endmodule\n")
+        words = [yosys, "-m", plugin, "-p"]
+        script = "read_verilog f.v; sat -select-solver satcluster -prove ok %d"
+        for solver in self.solvers():
+            self.env["SATCLUSTER_SOLVER"] = solver
+            told = self.printed("UNSATISFIABLE", *words, script % 1)
+            self.assertIn("SAT proof finished - no model found: SUCCESS!", told)
+            told = self.printed("SATISFIABLE", *words, script % 0)
+            self.assertIn("SAT proof finished - model found: FAIL!", told)
+            self.assertNotIn("SAT proof finished", self.refused(*words, script % 1))
+
+    def test_abc(self) -> None:
+        abc = self.wanted("yosys-abc" if client("yosys-abc") else "abc")
+        for solver in self.solvers():
+            os.replace(solver, self.at("bin/kissat"))
+            told = self.printed("SATISFIABLE", abc, "-q", "twoexact -I 3 -N 2 -k 96")
+            self.assertIn("Verification successful", told)
+            told = self.printed("UNSATISFIABLE", abc, "-q", "twoexact -I 3 -N 2 -k -v 68")
+            self.assertIn("The problem has no solution", told)
+            for answer, name in (("SATISFIABLE", "sat"), ("UNSATISFIABLE", "unsat")):
+                line = "&kissat -k -T 50 " + self.example("random_100_%s.cnf" % name)
+                self.assertIn("s " + answer, self.printed(answer, abc, "-q", line))
+            self.assertIn("s UNKNOWN", self.refused(abc, "-q", line))
+
+
+if __name__ == "__main__":
+    run(__doc__)

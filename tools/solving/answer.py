@@ -1,0 +1,240 @@
+"""Has the proved program decide a formula, and prints what it has printed, if that is an answer.
+
+Nothing here is an answer by itself: an `s` line is passed on only if the program, or `join` under
+`conquer.py`, has printed it and ended with the status that belongs to it. So the program is never
+put in the place of this process: if it refuses, `s UNKNOWN` has to follow.
+"""
+import os
+import select
+import subprocess
+import sys
+from dataclasses import dataclass, field
+from pathlib import Path
+from typing import Callable, Dict, List, Optional
+
+from conquering import places
+from solving.keeping import Keep
+from solving.output import NoReader, Output, can_print, reader_is_gone
+from solving.processes import Ended, Sweeper, end, end_after, kill_with_parts, start
+from solving.sources import Refused, Source, source_of, spooled
+from solving.words import Asked, read, words_of_environment
+from telling import looks, words
+
+CONQUER = Path(__file__).resolve().parent.parent / "conquer.py"
+ANSWERS = {10: b"s SATISFIABLE", 20: b"s UNSATISFIABLE", 0: b"s UNKNOWN"}
+PATIENCE = 10  # seconds that conquer.py has to end its jobs
+LOOKS = 500  # milliseconds between two looks at whether anybody still reads
+
+
+@dataclass
+class Lines:
+    """What a command prints: `c` lines go on as they come, all others wait until it has ended."""
+
+    output: Output
+    begun: bytes = b""
+    comments: List[str] = field(default_factory=list)
+    held: List[bytes] = field(default_factory=list)
+
+    def add(self, data: bytes) -> None:
+        *lines, self.begun = (self.begun + data).split(b"\n")
+        told = [line[2:].decode("ascii", "replace") for line in lines if line.startswith(b"c ")]
+        told = [line for line in told if not line.startswith("report ")]  # its folder goes
+        self.held += [line for line in lines if not line.startswith(b"c ")]
+        self.comments += told
+        self.output.comment(told)
+
+
+def answer_in(status: Optional[int], lines: Lines, has_values: bool) -> Optional[bytes]:
+    """The answer that a command has printed, if line and status agree and nothing is cut."""
+    line = ANSWERS.get(status)
+    if line is None or lines.begun or lines.held[:1] != [line]:
+        return None
+    values = lines.held[1:]
+    if any(not value.startswith(b"v ") for value in values) or (values and status != 10):
+        return None
+    if status == 10 and has_values and not (values and values[-1].endswith(b" 0")):
+        return None
+    return b"".join(line + b"\n" for line in lines.held)
+
+
+def listen(process: subprocess.Popen, lines: Lines) -> None:
+    """Takes what the command prints until it has ended, or nobody reads what is printed here."""
+    poll, pipe = select.poll(), process.stdout.fileno()
+    poll.register(pipe, select.POLLIN)
+    while True:
+        if poll.poll(LOOKS):
+            data = os.read(pipe, 1 << 16)
+            if not data:
+                break
+            lines.add(data)
+        elif reader_is_gone():
+            raise NoReader()
+    process.wait()
+
+
+@dataclass
+class Solver:
+    """A run of one command line."""
+
+    asked: Asked
+    output: Output
+    keep: Optional[Keep] = None
+    has_decided: bool = False
+
+    def program(self) -> str:
+        word = places.word_of_program(self.asked.program)
+        path = places.found(word)
+        if path is None:
+            raise Refused("There is no program %s: %s." % (word, places.HOW_TO))
+        return path
+
+    def decide(self) -> int:
+        program = self.program()
+        self.test_proof()
+        end_after(self.asked.seconds)
+        run = self.alone if self.asked.jobs is None else self.by_jobs
+        if self.asked.keep is None:
+            return run(program)
+        self.keep = Keep(self.asked.keep)
+        try:
+            return run(program)
+        finally:
+            if not self.has_decided:
+                self.keep.drop()
+
+    def source(self) -> Source:
+        source = source_of(self.asked.formula)
+        return self.keep.take(source) if self.keep else source
+
+    def test_proof(self) -> None:
+        """Tells at once, and not after hours, that the proof cannot be written."""
+        asked = self.asked
+        if asked.proof == "-":
+            raise Refused("The proof cannot go to standard output: name a file.")
+        why = asked.proof and words.unwritable(asked.proof, asked.formula)
+        if why:
+            raise Refused(why)
+
+    def alone(self, program: str) -> int:
+        """One process. Not split: what is learnt under one cube would be lost under the next."""
+        source = self.source()
+        command = [program, "solve", "--depth", str(self.asked.depth or 0)] + self.more()
+        process = start(command + [source.path] + self.proof(), stdin=source.pipe,
+                        stdout=subprocess.PIPE)
+        source.close()
+        lines = Lines(self.output)
+        try:
+            listen(process, lines)
+        finally:
+            kill_with_parts(process, self.proof())
+        head = looks.head_of(source.path) if self.keep else source.head
+        named = words.Named(self.asked.formula, head=head)
+        return self.tell(process, source, lines, lambda line: words.explain(line, named))
+
+    def by_jobs(self, program: str) -> int:
+        """`conquer.py` in a folder of its own, which goes with this process however it ends."""
+        from tempfile import mkdtemp  # slow to load, and seldom wanted
+
+        folder = mkdtemp(prefix="satcluster-")
+        sweeper = Sweeper(folder)
+        try:
+            return self.conquer(program, folder)
+        finally:
+            sweeper.sweep()
+
+    def conquer(self, program: str, folder: str) -> int:
+        source, errors = self.source(), os.path.join(folder, "errors")
+        if source.pipe or not os.path.isfile(source.path):  # it is read more than once
+            source = spooled(source, os.path.join(folder, "formula.cnf"))
+        command = [sys.executable, str(CONQUER), "--program", program, "--folder",
+                   os.path.join(folder, "run"), "--jobs", str(self.asked.jobs)]
+        command += ["--depth", str(self.asked.depth)] if self.asked.depth is not None else []
+        lines = Lines(self.output)
+        with open(errors, "wb") as told:
+            process = start(command + self.more() + [source.path] + self.proof(), stderr=told,
+                            stdin=subprocess.DEVNULL, stdout=subprocess.PIPE)
+        try:
+            listen(process, lines)
+        finally:
+            end(process, PATIENCE)
+        shown = {source.path: words.shown(self.asked.formula)}
+        return self.tell(process, source, lines, lambda _: told_in(errors, shown))
+
+    def more(self) -> List[str]:
+        asked = self.asked
+        limit = ["--limit", str(asked.limit)] if asked.limit is not None else []
+        return limit + ([] if asked.values else ["-n"])
+
+    def proof(self) -> List[str]:
+        proof = self.asked.proof or (self.keep.proof() if self.keep else None)
+        return [] if proof is None else [os.path.join(".", proof) if proof[0] == "-" else proof]
+
+    def tell(self, process: subprocess.Popen, source: Source, lines: Lines,
+             explain: Callable[[str], List[str]]) -> int:
+        """Prints the answer, or why there is none."""
+        status = process.returncode
+        answer = answer_in(status, lines, self.asked.values)
+        if answer is None:
+            last = lines.comments[-1:]
+            told = last if self.asked.quiet else []  # else it is printed already
+            reasons = source.trouble() or explain("c " + "".join(last))
+            raise Refused(*told, *why_not(status, lines, reasons))
+        source.test()
+        end_after(None)
+        self.has_decided = status != 0
+        if status == 10 and self.keep:
+            self.keep.answer(answer)
+        if status == 0:
+            self.output.comment(["the run ended without a verdict"])
+        self.output.answer(answer)
+        return status
+
+
+def why_not(status: int, lines: Lines, reasons: List[str]) -> List[str]:
+    if status < 0:
+        return ["the program was ended by signal %d" % -status] + reasons
+    if status == 1 and lines.comments and not lines.held:
+        return reasons
+    return ["the program ended with status %d, and without the answer of that" % status] + reasons
+
+
+def told_in(path: str, shown: Dict[str, str]) -> List[str]:
+    """What a command has written to standard error, its last lines."""
+    with open(path, encoding="ascii", errors="replace") as file:
+        text = file.read()
+    for name, told in shown.items():
+        text = text.replace(name, told)
+    lines = [line for line in text.split("\n")[-10:] if line.strip()]
+    return [line[2:] if line.startswith("c ") else line for line in lines]
+
+
+HELP = """satcluster-solver [words] [FILE [PROOF]]
+Decides a DIMACS formula, standard input if FILE is left out or is -, packed or not.
+PROOF is an LRAT proof as text. Answers: s SATISFIABLE (10), s UNSATISFIABLE (20), s UNKNOWN (0).
+-q no c lines; -n no v lines; -t N or --time=N ends it after N seconds; --jobs N on N cores;
+--depth D, --limit L as those of satcluster solve; --program PATH the proved program.
+--keep FOLDER keeps each formula that was decided, N.cnf, and its N.lrat or N.answer.
+Words of CaDiCaL, Kissat and MiniSat are taken or passed over; docs/CLIENTS.md tells more."""
+
+
+def main(line: List[str]) -> int:
+    asked = read(words_of_environment() + line)
+    output = Output(asked.quiet)
+    for remark in asked.remarks:
+        output.remark(remark)
+    try:
+        if asked.helps:
+            raise Refused(*HELP.split("\n"))
+        return Solver(asked, output).decide()
+    except NoReader:
+        return 0
+    except (Refused, Ended, OSError, MemoryError) as why:
+        if output.has_answered:
+            return 0
+        reasons = why.reasons if isinstance(why, Refused) else [str(why) or repr(why)]
+        try:
+            if not isinstance(why, Ended) or can_print():
+                output.unknown(reasons)
+        except NoReader:
+            pass
+        return 0

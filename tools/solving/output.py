@@ -1,0 +1,80 @@
+"""What is printed: whole lines, straight to the descriptors, so that nothing waits in a buffer."""
+import os
+import select
+from typing import Iterable, List
+
+OUT, ERR = 1, 2
+
+
+class NoReader(Exception):
+    """Nobody reads standard output any more."""
+
+
+def write_all(descriptor: int, data: bytes) -> None:
+    """Writes all of it, however slowly it is read, even if the descriptor never waits."""
+    view = memoryview(data)
+    while view:
+        try:
+            view = view[os.write(descriptor, view):]
+        except BlockingIOError:
+            select.select([], [descriptor], [])
+
+
+def plain(text: str) -> str:
+    """Bytes of names stay within the line, and within ASCII, so that no name prints an answer."""
+    raw = text.encode("utf-8", "surrogateescape")
+    return "".join(chr(byte) if 32 <= byte < 127 else "%%%02X" % byte for byte in raw)
+
+
+class Output:
+    """Prints one `s` line, once."""
+
+    def __init__(self, quiet: bool) -> None:
+        self.quiet, self.has_answered = quiet, False
+
+    def remark(self, text: str) -> None:
+        self.error(["satcluster-solver: " + text])
+
+    def error(self, lines: Iterable[str]) -> None:
+        try:
+            write_all(ERR, "".join(plain(line) + "\n" for line in lines).encode())
+        except OSError:  # standard error is closed: the answer does not depend on it
+            pass
+
+    def comment(self, lines: List[str]) -> None:
+        if lines and not self.quiet:
+            self.put("".join("c " + plain(line) + "\n" for line in lines).encode())
+
+    def answer(self, data: bytes) -> None:
+        self.has_answered = True
+        self.put(data)
+
+    def unknown(self, reasons: List[str]) -> None:
+        """No answer, and why: with -q that is told on standard error, so that it is not lost."""
+        self.has_answered = True
+        if self.quiet:
+            self.error(["c " + line for line in reasons])
+        self.comment(reasons)
+        self.put(b"s UNKNOWN\n")
+
+    def put(self, data: bytes) -> None:
+        try:
+            write_all(OUT, data)
+        except OSError as why:
+            raise NoReader(why.strerror)
+
+
+def can_print() -> bool:
+    """Whether a line can be printed at once: who is asked to end waits for no reader."""
+    return bool(select.select([], [OUT], [], 1)[1])
+
+
+def reader_is_gone(descriptor: int = OUT) -> bool:
+    """Whether standard output is a pipe or a terminal of which the other end is closed."""
+    poll = select.poll()
+    try:
+        poll.register(descriptor, 0)
+    except (OSError, ValueError):
+        return False
+    found = poll.poll(0)
+    return any(event & (select.POLLERR | select.POLLHUP) for _, event in found)

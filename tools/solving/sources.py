@@ -1,0 +1,119 @@
+"""Where the formula comes from: a file, a packed file, or standard input."""
+import os
+import shutil
+import signal
+import stat
+import subprocess
+import threading
+from dataclasses import dataclass
+from pathlib import Path
+from typing import IO, List, Optional
+
+from solving.processes import start
+from telling import looks, words
+
+PACKED_NAMES = {".gz": "gzip", ".xz": "xz", ".bz2": "bzip2", ".zst": "zstd"}
+PIECE = 1 << 16
+
+
+class Refused(Exception):
+    """There is no answer; `reasons` tells why."""
+
+    def __init__(self, *reasons: str) -> None:
+        super().__init__(*reasons)
+        self.reasons = list(reasons)
+
+
+@dataclass
+class Source:
+    """A formula. `path` is what the program is told; if it is read from a pipe, `pipe` is that."""
+
+    path: str
+    pipe: Optional[IO[bytes]] = None
+    head: Optional[bytes] = None  # its first bytes, if the path has not got them
+    unpacker: Optional[subprocess.Popen] = None
+    tool: str = ""
+
+    def close(self) -> None:
+        """Leaves the pipe to the program alone, so that whoever writes to it ends with that."""
+        if self.pipe:
+            self.pipe.close()
+
+    def trouble(self) -> List[str]:
+        """Why what came was not the whole formula, if it was packed; called when all was read."""
+        if not self.unpacker:
+            return []
+        told = self.unpacker.stderr.read(PIECE).decode("ascii", "replace").strip()
+        if self.unpacker.wait() in (0, -signal.SIGPIPE):
+            return []
+        end = "%s ends with %d" % (self.tool, self.unpacker.returncode)
+        return [": ".join([end] + told.split("\n")[-1:])]
+
+    def test(self) -> None:
+        """Behind an answer: what was cut may have spelt another formula."""
+        trouble = self.trouble()
+        if trouble:
+            raise Refused(*trouble)
+
+
+def source_of(formula: str) -> Source:
+    if formula == "-":
+        return from_standard_input()
+    path = formula if not formula.startswith("-") else os.path.join(".", formula)
+    try:
+        is_file = stat.S_ISREG(os.stat(path).st_mode)
+        if os.path.isdir(path) or not os.access(path, os.R_OK):
+            raise OSError
+    except (OSError, ValueError):
+        raise Refused(words.unreadable(path))
+    # What a file is its bytes tell; a pipe cannot be looked into, so that its name has to.
+    tool = looks.packing(looks.head_of(path)) if is_file else PACKED_NAMES.get(Path(path).suffix)
+    if tool is None:
+        return Source(path)
+    with open(path, "rb") as file:
+        return unpacked(tool, file)
+
+
+def from_standard_input() -> Source:
+    try:
+        head = os.read(0, PIECE)
+    except OSError as why:
+        raise Refused("Standard input cannot be read: %s." % why.strerror)
+    read, write = os.pipe()
+    threading.Thread(target=pump, args=(head, write), daemon=True).start()
+    file, tool = os.fdopen(read, "rb"), looks.packing(head)
+    if tool is None:
+        return Source("/dev/stdin", file, head[:looks.HEAD])
+    with file:
+        return unpacked(tool, file)
+
+
+def pump(head: bytes, write: int) -> None:
+    """Hands standard input on, in a thread of its own, until it ends or nobody takes it."""
+    try:
+        with os.fdopen(write, "wb", buffering=0) as file:
+            while head:
+                file.write(head)
+                head = os.read(0, PIECE)
+    except OSError:
+        pass
+
+
+def unpacked(tool: str, file: IO[bytes]) -> Source:
+    if not shutil.which(tool):
+        raise Refused("The formula is packed by %s, which is not installed." % tool)
+    process = start([tool, "-dc"], stdin=file, stdout=subprocess.PIPE, stderr=subprocess.PIPE)
+    return Source("/dev/stdin", process.stdout, b"", process, tool)
+
+
+def spooled(source: Source, path: str) -> Source:
+    """The formula as a file, for those who read it more than once."""
+    with open(path, "wb") as file:
+        if source.pipe:
+            shutil.copyfileobj(source.pipe, file, PIECE)
+        else:
+            with open(source.path, "rb") as there:
+                shutil.copyfileobj(there, file, PIECE)
+    source.close()
+    source.test()
+    return Source(path)
