@@ -2,7 +2,7 @@
 use Rattle.std.proofs.Common.{◌≡◌, ◌<◌, ◌≤◌, ◌+◌, ◌-◌, ℕ, List, [], ◌++◌, length, take, drop, refl, sym, ap, ◌∙◌, arith}
 use Rattle.std.proofs.Math.Seq.{take-add}
 use Rattle.std.proofs.lemmas.List.{drop-drop, length-take-le, length-drop, take_at}
-use Rattle.hub.specs.Unread.{IsHandedOut}
+use Rattle.hub.specs.inner.Finding.{IsHandedOut}
 
 -- from one place up to another so many bytes are put at the front of a room
 pub handed_out : (items room front : List ℕ) (place start end count : ℕ) → 0 < count → count ≤ end - start → end ≤ length items → front ≡ take count (drop start items)

@@ -31,7 +31,7 @@ impl Model for Ahead {
 
 impl Ahead {
     ghost use Rattle.std.specs.Prelude.{◌≡◌, ◌≢◌, ◌<◌, ◌≤◌, [], length, map, is_some, IfOk, IfSome, MatchBool, MatchOption};
-    ghost use Rattle.hub.specs.Unread.{IsHandedOut};
+    ghost use Rattle.hub.specs.inner.Finding.{IsHandedOut};
     ghost use Rattle.hub.specs.inner.Known.{ReadsOne, known_at};
 
     /// Room for bytes, of which none are there.

@@ -3,7 +3,7 @@
 ghost use Rattle.std.specs.Prelude.{◌≡◌, ◌≢◌, ◌<◌, ◌≤◌, ◌⊎◌, [], length, replicate, set, get_or, false, true, IfOk, IfSome, IfNone, IsErr, MatchOption, OnOk, OnErr};
 ghost use Rattle.links.specs.Arrivals.{IsWithin};
 ghost use Rattle.hub.specs.Hub.{links_of, unread_of};
-ghost use Rattle.hub.specs.Unread.{Finds};
+ghost use Rattle.hub.specs.inner.Finding.{Finds};
 ghost use Rattle.hub.specs.inner.Changes.{Changes};
 ghost use Rattle.links.specs.declared.arrivals.Event.TheVariants as events;
 

@@ -1,5 +1,5 @@
 use Rattle.std.proofs.Common.{refl}
-use Rattle.hub.specs.Unread.{Finds}
+use Rattle.hub.specs.inner.Finding.{Finds}
 use Rattle.hub.proofs.hub.Hub.find.Goals as goal
 
 pub returns-in-Some-clause-finds : goal.returns-in-Some-clause-finds

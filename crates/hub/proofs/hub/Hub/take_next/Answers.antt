@@ -1,5 +1,6 @@
 use Rattle.std.proofs.Common.{refl, ap, sym, ◌∙◌}
-use Rattle.hub.specs.Unread.{Finds, Unread}
+use Rattle.hub.specs.Unread.{Unread}
+use Rattle.hub.specs.inner.Finding.{Finds}
 use Rattle.hub.proofs.hub.Hub.take_next.Goals as goal
 
 pub returns-in-Some-read-clause-finds : goal.returns-in-Some-read-clause-finds
