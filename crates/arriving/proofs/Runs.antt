@@ -1,5 +1,5 @@
 -- How runs of turns add up.
-use Rattle.std.proofs.Common.{◌≡◌, ◌≤◌, ℕ, ◌+◌, ◌-◌, ◌^◌, ◌⊎◌, ◌∙◌, inl, inr, List, [], Option, Bool, true, false, Result, Ok, Err, OnOk, refl, ap, sym, subst, arith}
+use Rattle.std.proofs.Common.{◌≡◌, ◌≤◌, ℕ, ◌+◌, ◌-◌, ◌^◌, ◌⊎◌, ◌∙◌, inl, inr, List, [], Option, Some, None, Bool, true, false, Result, Ok, Err, OnOk, refl, ap, sym, subst, arith}
 use Rattle.std.specs.Prelude.{◌||◌, not}
 use Rattle.std.proofs.lemmas.Bool.{cases_lt}
 use Rattle.std.proofs.lemmas.Bool.Decides.{nat_tests}
@@ -12,7 +12,7 @@ use Rattle.links.specs.declared.arrivals.Event.{Event}
 use Rattle.links.specs.declared.arrivals.Event.TheVariants.{Linked, Bytes, Quiet, Over}
 use Rattle.arriving.specs.declared.run.Run.{Run}
 use Rattle.arriving.specs.Accounts.{EachCloses, HasBegun, RoseBy}
-use Rattle.arriving.specs.Ending.{HasEnded, HasServed, is_decided}
+use Rattle.arriving.specs.Ending.{HasEnded, HasServed, is_decided, is_deserted_by}
 use Rattle.arriving.specs.inner.Rounds as rounds
 use Rattle.arriving.specs.Run.{verdict_of}
 
@@ -153,3 +153,9 @@ pub served_since : (first before after : ℕ) (is_at_end : Bool) (run : Run) →
 served_since first before after is_at_end run rises (HasServed.nobody none) = HasServed.nobody none
 served_since first before after is_at_end run rises (HasServed.over ends) = HasServed.over ends
 served_since first before after is_at_end run rises (HasServed.full far) = HasServed.full (omega (arith, rises, far))
+
+-- patience does not end before a link was looked for
+pub not_deserted : (ticks linked : Option ℕ) (is_open : Bool) (tick : ℕ) → linked ≡ None → is_deserted_by ticks linked is_open tick ≡ false
+not_deserted None linked is_open tick none = refl
+not_deserted (Some ticks) None is_open tick none = refl
+not_deserted (Some ticks) (Some last) is_open tick none = absurd (cc)

@@ -1,13 +1,13 @@
 //! A run goes on until a verdict is held.
 
-ghost use Rattle.std.specs.Prelude.{◌≡◌, ◌≤◌, ◌+◌, ℕ, [], All, IfOk, OnOk, false, true};
+ghost use Rattle.std.specs.Prelude.{◌≡◌, ◌≤◌, ◌+◌, ℕ, [], All, None, IfOk, OnOk, false, true};
 ghost use Rattle.dimacs.specs.logic.Cnf.{Cnf};
 ghost use Rattle.cube_split.specs.Pairs.{IsBaseWith};
 ghost use Rattle.evidence.specs.Jobs.{IsInside};
 ghost use Rattle.lrat_check.specs.Verdicts.{Right};
 ghost use Rattle.lrat_check.specs.declared.verdict.Verdict.TheVariants.{Nothing};
 ghost use Rattle.arriving.specs.Accounts.{AreBounded, EachCloses, HasBegun, OnceEach, RoseBy, nobody, open_of};
-ghost use Rattle.arriving.specs.Ending.{HasEnded, is_decided};
+ghost use Rattle.arriving.specs.Ending.{HasEnded, is_decided, is_deserted};
 ghost use Rattle.arriving.specs.inner.Rounds.{is_over};
 ghost use Rattle.arriving.specs.Run.{formula_of, verdict_of};
 ghost use Rattle.arriving.specs.inner.Deliveries.{AreServed, HearsFirst, NobodyRests};
@@ -22,9 +22,10 @@ use links::Arrivals;
 use std::alloc::{AllocError, Global};
 
 impl Run {
-    /// A round of a run that is not over: none is played behind a verdict.
+    /// A round of a run that goes on: none is played behind a verdict, nor where no link was open for too long.
     fn turn<A: Arrivals>(&mut self, links: &mut A) -> Result<bool, AllocError>
-        requires { is_over self.old ≡ false }
+        requires over { is_over self.old ≡ false }
+        requires deserted { is_deserted self.old ≡ false }
         ensures formula { formula_of self.new ≡ formula_of self.old }
         ensures one { RoseBy 1 (A.call_count links.old) (A.call_count links.new) }
         ensures most { A.call_count links.new ≤ A.call_count links.old + 1033984 }
@@ -46,6 +47,7 @@ impl Run {
         requires links { self.old.lines.items ≡ [] }
         requires verdict { verdict_of self.old ≡ Nothing }
         requires stuck { self.old.desk.coordinator.stuck ≡ false }
+        requires linked { self.old.linked ≡ None }
         ensures formula { formula_of self.new ≡ formula_of self.old }
         ensures used { OnOk result (HasBegun (A.call_count links.old) (A.call_count links.new) (verdict_of self.new)) }
         ensures most { AreBounded (A.arrival_count links.old) (A.arrival_count links.new) (A.call_count links.old) (A.call_count links.new) }

@@ -1,6 +1,6 @@
 //! The run of a coordinator whose links are taken up as their bytes come.
 
-ghost use Rattle.std.specs.Prelude.{◌≡◌, ◌≢◌, ◌≤◌, ◌+◌, ℕ, [], length, All, IfOk, OnOk, false, true, not};
+ghost use Rattle.std.specs.Prelude.{◌≡◌, ◌≢◌, ◌≤◌, ◌+◌, ℕ, [], length, All, None, IfOk, OnOk, false, true, not};
 ghost use Rattle.dimacs.specs.logic.Cnf.{Cnf};
 ghost use Rattle.cube_split.specs.Pairs.{IsBaseWith};
 ghost use Rattle.evidence.specs.Jobs.{IsInside};
@@ -82,6 +82,7 @@ impl Run {
         ensures verdict { IfOk result (λ r. verdict_of r ≡ Nothing) }
         ensures stuck { IfOk result (λ r. r.desk.coordinator.stuck ≡ false) }
         ensures links { IfOk result (λ r. r.lines.items ≡ []) }
+        ensures linked { IfOk result (λ r. r.linked ≡ None) }
     {
         let coordinator = Coordinator::of(
             alloc,

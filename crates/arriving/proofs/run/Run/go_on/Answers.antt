@@ -71,4 +71,5 @@ loop-preserved g c =
       c.turn.ensures.apart c.loop.invariant.4,
       omega (arith, one, c.loop.invariant.5),
       decided_rests _ _ c.in_ok-goes_on.ensures.told,
+      sym c.is_deserted.ensures ∙ c.if-is_deserted.false,
     )

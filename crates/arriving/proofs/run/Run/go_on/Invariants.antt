@@ -1,6 +1,6 @@
-use Rattle.std.proofs.Common.{◌≡◌, ◌≤◌, ◌+◌, ◌*◌, true}
+use Rattle.std.proofs.Common.{◌≡◌, ◌≤◌, ◌+◌, ◌*◌, false, true}
 use Rattle.arriving.specs.Accounts.{EachCloses, open_of}
-use Rattle.arriving.specs.Ending.{is_decided}
+use Rattle.arriving.specs.Ending.{is_decided, is_deserted}
 use Rattle.arriving.specs.inner.Deliveries.{NobodyRests}
 use Rattle.arriving.proofs.Runs.{Stage}
 use Rattle.arriving.specs.inner.Seats.{AreApart}
@@ -15,3 +15,4 @@ invariant-loop g l =
     × AreApart l.self.lines.items
     × (g.A.Arrivals.arrival_count l.links ≡ g.A.Arrivals.arrival_count l.fn.links + l.counter)
     × (is_decided l.self.desk.coordinator.verdict ≡ true → NobodyRests l.self.lines.items 255)
+    × (is_deserted l.self ≡ false)
