@@ -1,6 +1,6 @@
 -- What a poll gives, and frames that are handed out one by one.
 use Rattle.std.proofs.Common.{◌≡◌, ℕ, Bool, true, false, List, [], ◌∷◌, Option, Some, None, Result, Ok, Err, refl, subst, sym, ◌∙◌, IfOk, OnOk, OnErr, ◌^◌}
-use Rattle.std.specs.Prelude.{nat_lt, position, IsSome}
+use Rattle.std.specs.Prelude.{nat_lt, position, IsSome, IsSomeAnd, ◌≢◌}
 use Rattle.lrat_check.specs.declared.verdict.Reaction.TheVariants as reaction
 use Rattle.lrat_check.specs.declared.verdict.Verdict.{Verdict}
 use Rattle.lrat_check.specs.declared.verdict.Verdict.TheVariants.{Nothing, Model, Proof}
@@ -11,8 +11,12 @@ use Rattle.evidence.specs.Events.{Sent, Reacted, given_by}
 use Rattle.coordinator_core.specs.declared.desks.Fixed.{Fixed}
 use Rattle.coordinator_core.specs.declared.desks.Job.{Job}
 use Rattle.arriving.specs.declared.line.Line.{Line}
-use Rattle.arriving.specs.inner.Seats.{seated_worker}
-use Rattle.arriving.specs.inner.Deliveries.{AreDelivered, AreHeard, HasNothing, IsAsked, IsHeard, IsNextDelivered}
+use Rattle.arriving.specs.Ending.{is_decided}
+use Rattle.arriving.specs.declared.line.Broken.{Broken}
+use Rattle.arriving.specs.declared.line.Broken.TheVariants.{Closed, NoMemory}
+use Rattle.arriving.specs.inner.Lines.{one_if_closed}
+use Rattle.arriving.specs.inner.Seats.{line_at, parked_in, seated_worker}
+use Rattle.arriving.specs.inner.Deliveries.{AreDelivered, AreHeard, AreServed, HasNothing, IsAsked, IsHeard, IsHeardAt, IsNextDelivered, NobodyRests, is_own}
 use Rattle.coordinator_core.specs.Coordinator.{CoordinatorState, CoordinatorPolls, coordinator_poll, poll_by, stuck_poll, job_poll, fixed_poll, leaf_poll, verdict_poll, want_at, job_at, is_open}
 
 polled : (c : CoordinatorState) (worker : ℕ) (frame : Frame) (new : CoordinatorState) → CoordinatorPolls c worker (Sent frame) new
@@ -86,10 +90,10 @@ has_nothing c d worker parked rest after is_parked w is =
 
 -- a frame was heard, and the coordinator asked behind it
 pub next_delivered : {E : Type 0} (turn : Result (Unit {0}) E) (seat asked : Option ℕ) (frame : Frame) (old heard told : CoordinatorState) → asked ≡ seat
-    → IsHeard frame old heard → OnOk turn (IsAsked asked heard told) → OnOk turn (IsNextDelivered seat frame old told)
-next_delivered (Ok x) seat asked frame old heard told is_seat is_heard is_asked = λ frames after rest.
-    (heard, told, is_heard, subst (λ (worker : Option ℕ). IsAsked worker heard told) is_seat is_asked, rest)
-next_delivered (Err fault) seat asked frame old heard told is_seat is_heard is_asked = tt
+    → is_own seat frame ≡ true → IsHeard frame old heard → OnOk turn (IsAsked asked heard told) → OnOk turn (IsNextDelivered seat frame old told)
+next_delivered (Ok x) seat asked frame old heard told is_seat own is_heard is_asked = λ frames after rest.
+    (heard, told, own, is_heard, subst (λ (worker : Option ℕ). IsAsked worker heard told) is_seat is_asked, rest)
+next_delivered (Err fault) seat asked frame old heard told is_seat own is_heard is_asked = tt
 
 -- one more of the frames that wait was delivered
 pub delivered_on : (seat asked : Option ℕ) (frame : Frame) (waiting left after : List Frame) (old told new : CoordinatorState) → waiting ≡ frame ∷ left → after ≡ left
@@ -125,3 +129,33 @@ heard_by (Ok x) bytes old mid new before after came same seat none given = λ so
   delivered = subst (λ (k : Option ℕ). AreDelivered k mid.waiting.items before after) seat given;
   none_waits = none;
 }
+
+-- what a turn with these bytes has come to at a place
+pub settled_heard : {E : Type 0} (turn : Result (Unit {0}) Broken) (result : Result (Unit {0}) E) (bytes : List ℕ) (old told : Line) (line : Option Line) (b c d : CoordinatorState)
+    → OnOk turn (IsSome (seated_worker old) → AreHeard bytes old told b c) → (turn ≡ Err Closed → line ≡ None) → OnOk result (turn ≢ Err NoMemory)
+    → (one_if_closed turn ≡ 0 → (line ≡ Some told) × (d ≡ c)) → OnOk result (IsHeardAt bytes (Some old) line b d)
+settled_heard turn (Err fault) bytes old told line b c d heard closed memory same = tt
+settled_heard (Ok x) (Ok y) bytes old told line b c d heard closed memory same =
+    subst (λ (l : Option Line). IsHeardAt bytes (Some old) l b d) (sym (same refl).0)
+    (λ some. subst (λ (k : CoordinatorState). AreHeard bytes old told b k) (sym (same refl).1) (heard some))
+settled_heard (Err Closed) (Ok y) bytes old told line b c d heard closed memory same =
+    subst (λ (l : Option Line). IsHeardAt bytes (Some old) l b d) (sym (closed refl)) tt
+settled_heard (Err NoMemory) (Ok y) bytes old told line b c d heard closed memory same = absurd (memory refl)
+
+-- whoever asks behind a verdict has it to do
+decided_verdict : (c : CoordinatorState) (worker : ℕ) (want : Option ℕ) → (verdict_poll c worker want).frame ≡ Rest → ⊥
+decided_verdict c worker (Some offset) rest = cc
+decided_verdict c worker None rest = cc
+
+decided_by : (c : CoordinatorState) (worker : ℕ) (verdict : Verdict) → is_decided verdict ≡ true → (poll_by c worker verdict).frame ≡ Rest → ⊥
+decided_by c worker Nothing decided rest = cc
+decided_by c worker (Model values) decided rest = decided_verdict c worker (want_at c worker) rest
+decided_by c worker (Proof text) decided rest = decided_verdict c worker (want_at c worker) rest
+
+some_rests : (parked : Option ℕ) (c : CoordinatorState) → is_decided c.verdict ≡ true → IsSomeAnd parked (HasNothing c) → ⊥
+some_rests None c decided rests = absurd rests
+some_rests (Some worker) c decided rests = decided_by c worker c.verdict decided rests
+
+pub decided_rests : (lines : List (Option Line)) (c : CoordinatorState) → AreServed lines c → is_decided c.verdict ≡ true → NobodyRests lines 255
+decided_rests lines c (AreServed.nobody none) decided = none
+decided_rests lines c (AreServed.one place rests) decided = absurd (some_rests (parked_in (line_at lines place)) c decided rests)

@@ -1,12 +1,20 @@
 -- How runs of turns add up.
-use Rattle.std.proofs.Common.{◌≡◌, ◌≤◌, ℕ, ◌+◌, ◌-◌, ◌^◌, ◌⊎◌, ◌∙◌, inl, inr, List, [], Option, Bool, true, false, subst, arith}
+use Rattle.std.proofs.Common.{◌≡◌, ◌≤◌, ℕ, ◌+◌, ◌-◌, ◌^◌, ◌⊎◌, ◌∙◌, inl, inr, List, [], Option, Some, None, Bool, true, false, Result, Ok, Err, OnOk, refl, ap, sym, subst, arith}
+use Rattle.std.specs.Prelude.{◌||◌, not}
 use Rattle.std.proofs.lemmas.Bool.{cases_lt}
 use Rattle.std.proofs.lemmas.Bool.Decides.{nat_tests}
 use Rattle.lrat_check.specs.declared.verdict.Verdict.{Verdict}
 use Rattle.lrat_check.specs.declared.verdict.Verdict.TheVariants.{Nothing}
 use Rattle.links.specs.Counts.{one_more}
 use Rattle.arriving.specs.declared.line.Line.{Line}
+use Rattle.links.specs.Arrivals.{arrived, is_over}
+use Rattle.links.specs.declared.arrivals.Event.{Event}
+use Rattle.links.specs.declared.arrivals.Event.TheVariants.{Linked, Bytes, Quiet, Over}
+use Rattle.arriving.specs.declared.run.Run.{Run}
 use Rattle.arriving.specs.Accounts.{EachCloses, HasBegun, RoseBy}
+use Rattle.arriving.specs.Ending.{HasEnded, HasServed, is_decided, is_deserted_by}
+use Rattle.arriving.specs.inner.Rounds as rounds
+use Rattle.arriving.specs.Run.{verdict_of}
 
 pub rose_on : (k a b c : ℕ) → RoseBy k a b → b ≤ c → RoseBy k a c
 rose_on k a b c rose rises = elim rose [
@@ -61,9 +69,9 @@ after_turn turns base mid new lines stuck v w stage one rises first = elim stage
 
 -- a run is not over before its first turn
 pub over_later : (turns base calls : ℕ) (lines : List (Option Line)) (stuck over : Bool) (v : Verdict) → Stage turns base calls lines stuck v
-    → (v ≡ Nothing → stuck ≡ false → over ≡ false) → over ≡ true → HasBegun base calls v
-over_later turns base calls lines stuck over v stage never is_over = elim stage [
-  | inl at_first ↦ absurd (differ (never at_first.2 at_first.3) is_over)
+    → over ≡ (is_decided v || stuck) → over ≡ true → HasBegun base calls v
+over_later turns base calls lines stuck over v stage test is_over = elim stage [
+  | inl at_first ↦ absurd (differ (test ∙ (ap (λ (w : Verdict). is_decided w || stuck) at_first.2 ∙ at_first.3)) is_over)
   | inr begun ↦ begun
 ]
   where
@@ -106,3 +114,48 @@ rises_one old mid new call rises = elim (cases_lt old (2 ^ 64 - 1)) [
   | inl below ↦ let e : mid ≡ old + 1 = grind (arith, nat_tests) in omega (arith, e, rises)
   | inr top ↦ let e : mid ≡ old = grind (arith, nat_tests) in omega (arith, e, rises)
 ]
+
+pub on_ok_any : {T E P : Type 0} (turn : Result T E) → P → OnOk turn P
+on_ok_any (Ok x) fact = fact
+on_ok_any (Err fault) fact = tt
+
+-- what may be followed by more is counted, and nothing follows `Over`
+pub arrived_by : (event : Event) → not (is_over event) ≡ true → arrived event ≡ 1
+arrived_by (Linked place) goes = refl
+arrived_by (Bytes place count) goes = refl
+arrived_by Quiet goes = refl
+arrived_by Over goes = absurd (cc)
+
+pub over_by : (event : Event) → not (is_over event) ≡ false → is_over event ≡ true
+over_by (Linked place) ends = absurd (cc)
+over_by (Bytes place count) ends = absurd (cc)
+over_by Quiet ends = absurd (cc)
+over_by Over ends = refl
+
+pub none_decided : (v : Verdict) → v ≡ Nothing → is_decided v ≡ true → ⊥
+none_decided v nothing decided =
+    let never : false ≡ true = ap is_decided (sym nothing) ∙ decided in cc
+
+-- a run that is over holds a verdict, or is stuck
+pub over_ends : (before after : ℕ) (is_at_end : Bool) (run : Run) → rounds.is_over run ≡ true → HasEnded before after is_at_end run
+over_ends before after is_at_end run over = go (is_decided (verdict_of run)) refl
+  where
+    second : (a b : Bool) → (a || b) ≡ true → a ≡ false → b ≡ true
+    second true b is fails = absurd (cc)
+    second false b is fails = is
+
+    go : (b : Bool) → is_decided (verdict_of run) ≡ b → HasEnded before after is_at_end run
+    go true is = HasEnded.decided is
+    go false is = HasEnded.stuck (second (is_decided (verdict_of run)) run.desk.coordinator.stuck over is)
+
+-- the handing out of a verdict, with what came before it
+pub served_since : (first before after : ℕ) (is_at_end : Bool) (run : Run) → first ≤ before → HasServed before after is_at_end run → HasServed first after is_at_end run
+served_since first before after is_at_end run rises (HasServed.nobody none) = HasServed.nobody none
+served_since first before after is_at_end run rises (HasServed.over ends) = HasServed.over ends
+served_since first before after is_at_end run rises (HasServed.full far) = HasServed.full (omega (arith, rises, far))
+
+-- patience does not end before a link was looked for
+pub not_deserted : (ticks linked : Option ℕ) (is_open : Bool) (tick : ℕ) → linked ≡ None → is_deserted_by ticks linked is_open tick ≡ false
+not_deserted None linked is_open tick none = refl
+not_deserted (Some ticks) None is_open tick none = refl
+not_deserted (Some ticks) (Some last) is_open tick none = absurd (cc)

@@ -12,7 +12,7 @@ use Rattle.arriving.specs.declared.line.Standing.{Standing}
 use Rattle.arriving.specs.declared.line.Standing.TheVariants.{Ungreeted, Queued, Parked, Asked, Working}
 use Rattle.arriving.specs.inner.Deliveries.{AreServed, HasNothing, NobodyRests}
 use Rattle.arriving.specs.inner.Lines.{one_if_closed}
-use Rattle.arriving.specs.inner.Seats.{AreApart, is_worker, line_at, may_sit, may_sit_by, parked_by, parked_in, parked_worker, queued_by, queued_in, queued_worker, seated_by, seated_in, seated_worker, seats}
+use Rattle.arriving.specs.inner.Seats.{AreApart, NobodyMaySit, is_worker, line_at, may_sit, may_sit_by, parked_by, parked_in, parked_worker, queued_by, queued_in, queued_worker, seated_by, seated_in, seated_worker, seats}
 
 pub seated_is : (standing : Standing) (worker : Option ℕ) (w : ℕ) → seated_by standing worker ≡ Some w → worker ≡ Some w
 seated_is Ungreeted worker w seated = cc
@@ -244,3 +244,112 @@ nobody_parked line worker none parks = go line.standing none parks
 
 pub not_both : (b : Bool) → b ≡ true → b ≡ false → ⊥
 not_both b holds fails = cc
+
+-- who is linked does not wait
+pub seated_not_queued : (line : Line) (worker : ℕ) → seated_worker line ≡ Some worker → queued_worker line ≡ None
+seated_not_queued line worker sits = go line.standing sits
+  where
+    go : (standing : Standing) → seated_by standing line.worker ≡ Some worker → queued_by standing line.worker ≡ None
+    go Ungreeted is = refl
+    go Queued is = absurd (cc)
+    go Parked is = refl
+    go Asked is = refl
+    go Working is = refl
+
+queued_seats : (line : Option Line) (worker : ℕ) → queued_in line ≡ Some worker → (other : ℕ) → seats other line ≡ false
+queued_seats None worker waits other = refl
+queued_seats (Some line) worker waits other = go line.standing waits
+  where
+    go : (standing : Standing) → queued_by standing line.worker ≡ Some worker → is_worker other (seated_by standing line.worker) ≡ false
+    go Ungreeted is = refl
+    go Queued is = refl
+    go Parked is = absurd (cc)
+    go Asked is = absurd (cc)
+    go Working is = absurd (cc)
+
+-- who may sit is not linked
+sits_not : (lines : List (Option Line)) (line : Option Line) (queued : Option ℕ) → queued ≡ queued_in line → true ≡ may_sit_by lines queued → (other : ℕ) → seats other line ≡ false
+sits_not lines line None same may other = absurd (cc)
+sits_not lines line (Some worker) same may other = queued_seats line worker (sym same) other
+
+or_on : (a b c : Bool) → (b ≡ true → c ≡ true) → (a || b) ≡ true → (a || c) ≡ true
+or_on true b c step is = refl
+or_on false b c step is = step is
+
+or_second : (a b : Bool) → (a || b) ≡ true → a ≡ false → b ≡ true
+or_second true b is fails = absurd (cc)
+or_second false b is fails = is
+
+or_right : (a b : Bool) → b ≡ true → (a || b) ≡ true
+or_right true b is = refl
+or_right false b is = is
+
+-- some line passes a test still, if the one that changed did not
+any_kept : (f : Option Line → Bool) (lines : List (Option Line)) (i : ℕ) (line : Option Line) → i < length lines → f (line_at lines i) ≡ false → list_any f lines ≡ true
+    → list_any f (set lines i line) ≡ true
+any_kept f [] i line at fails some = absurd (omega (arith, at))
+any_kept f (x ∷ lines) zero line at fails some = or_right (f line) (list_any f lines) (or_second (f x) (list_any f lines) some fails)
+any_kept f (x ∷ lines) (suc i) line at fails some =
+    or_on (f x) (list_any f lines) (list_any f (set lines i line)) (any_kept f lines i line (omega (arith, at)) fails) some
+
+set_same : (lines : List (Option Line)) (i : ℕ) (line : Option Line) → line ≡ line_at lines i → i < length lines → set lines i line ≡ lines
+set_same [] i line same at = refl
+set_same (x ∷ lines) zero line same at = ap (λ (y : Option Line). y ∷ lines) same
+set_same (x ∷ lines) (suc i) line same at = ap (λ (ys : List (Option Line)). x ∷ ys) (set_same lines i line same (omega (arith, at)))
+
+not_false : (b : Bool) → not b ≡ false → b ≡ true
+not_false true is = refl
+not_false false is = absurd (cc)
+
+-- who was barred before a turn of another link is barred behind it
+still_barred : (lines : List (Option Line)) (i : ℕ) (line : Option Line) (queued : Option ℕ) → i < length lines → ((other : ℕ) → seats other (line_at lines i) ≡ false)
+    → may_sit_by lines queued ≡ false → may_sit_by (set lines i line) queued ≡ false
+still_barred lines i line None at sits barred = refl
+still_barred lines i line (Some worker) at sits barred = ap not (any_kept (seats worker) lines i line at (sits worker) (not_false (list_any (seats worker) lines) barred))
+
+pub nobody_sits_on : (lines : List (Option Line)) (i : ℕ) (line d : Option Line) (may : Bool) → i < length lines → may ≡ may_sit lines i
+    → (may ≡ false → line ≡ get_or lines i d) → (may ≡ true → queued_in line ≡ None) → NobodyMaySit lines i → NobodyMaySit (set lines i line) (i + 1)
+nobody_sits_on lines i line d false at answer barred waits so_far = λ place below.
+    let same = set_same lines i line (barred refl ∙ found_at lines i d at) at in
+    subst (λ (ls : List (Option Line)). may_sit ls place ≡ false) (sym same) (elim (eqb_tells place i) [
+      | inl here ↦ subst (λ (p : ℕ). may_sit lines p ≡ false) (sym here.1) (sym answer)
+      | inr differs ↦ let other = differs.1 in so_far place (omega (arith, other, below))
+    ])
+nobody_sits_on lines i line d true at answer barred waits so_far = λ place below. elim (eqb_tells place i) [
+  | inl here ↦
+      subst (λ (p : ℕ). may_sit (set lines i line) p ≡ false) (sym here.1)
+      (ap (λ (q : Option ℕ). may_sit_by (set lines i line) q) (ap queued_in (line_here lines i line at) ∙ waits refl))
+  | inr differs ↦
+      let other = differs.1 in
+      let before = so_far place (omega (arith, other, below)) in
+      ap (λ (q : Option ℕ). may_sit_by (set lines i line) q) (ap queued_in (line_there lines i place line other))
+      ∙ still_barred lines i line (queued_in (line_at lines place)) at (sits_not lines (line_at lines i) (queued_in (line_at lines i)) refl answer) before
+]
+
+pub nobody_left_at_end : (lines : List (Option Line)) (places : ℕ) → 255 ≤ places → NobodyMaySit lines places → NobodyMaySit lines 255
+nobody_left_at_end lines places all so_far place below = so_far place (omega (arith, all, below))
+
+pub nobody_left : (lines : List (Option Line)) (places : ℕ) → length lines ≤ places → NobodyMaySit lines places → NobodyMaySit lines 255
+nobody_left lines places far so_far place below = elim (cases_lt place places) [
+  | inl before ↦ so_far place before
+  | inr behind ↦ ap (λ (q : Option ℕ). may_sit_by lines q) (ap queued_in (line_beyond lines place (omega (arith, far, behind))))
+]
+
+-- who got the seat does not wait, and an ended link has nobody
+pub settled_waits : {E : Type 0} (turn : Result (Unit {0}) Broken) (result : Result (Unit {0}) E) (told : Line) (line : Option Line) (may : Bool)
+    → OnOk turn (queued_worker told ≡ None) → (turn ≡ Err Closed → line ≡ None) → OnOk result (turn ≢ Err NoMemory) → (one_if_closed turn ≡ 0 → line ≡ Some told)
+    → OnOk result (may ≡ true → queued_in line ≡ None)
+settled_waits turn (Err fault) told line may waits closed memory same = tt
+settled_waits (Ok x) (Ok y) told line may waits closed memory same = λ holds. ap queued_in (same refl) ∙ waits
+settled_waits (Err Closed) (Ok y) told line may waits closed memory same = λ holds. ap queued_in (closed refl)
+settled_waits (Err NoMemory) (Ok y) told line may waits closed memory same = absurd (memory refl)
+
+-- a place more, without a link
+pub line_pushed : (lines : List (Option Line)) (place : ℕ) → line_at (lines ++ None ∷ []) place ≡ line_at lines place
+line_pushed [] zero = refl
+line_pushed [] (suc place) = refl
+line_pushed (line ∷ lines) zero = refl
+line_pushed (line ∷ lines) (suc place) = line_pushed lines place
+
+pub same_worker : (seat : Option ℕ) (one other : ℕ) → seat ≡ Some one → seat ≡ Some other → one ≡ other
+same_worker seat one other is too = cc

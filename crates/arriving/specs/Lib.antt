@@ -1,3 +1,4 @@
 pub mod Accounts
 pub mod Run
+pub mod Ending
 pub mod inner

@@ -3,4 +3,5 @@ pub mod Deliveries
 pub mod Greetings
 pub mod Lines
 pub mod Quiet
+pub mod Rounds
 pub mod Seats

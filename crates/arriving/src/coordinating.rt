@@ -1,11 +1,11 @@
 //! What a run asks of the coordinator.
 
-ghost use Rattle.std.specs.Prelude.{◌≡◌, ◌<◌, ℕ, true, false, length, Err, IfOk, OnErr, OnOk};
+ghost use Rattle.std.specs.Prelude.{◌≡◌, ◌<◌, length, Err, IfOk, OnErr, OnOk};
 ghost use Rattle.coordinator_core.specs.Coordinator.{CoordinatorStep, IsWorker, coordinator_poll};
 ghost use Rattle.evidence.specs.Events.{Delivered, Lost, Reacted, Silent};
 ghost use Rattle.arriving.specs.declared.line.Broken.TheVariants.{Closed};
+ghost use Rattle.arriving.specs.Ending.{is_decided};
 ghost use Rattle.arriving.specs.inner.Deliveries.{IsToldBy};
-ghost use Rattle.lrat_check.specs.declared.verdict.Verdict.TheVariants.{Nothing};
 
 use crate::line::Broken;
 use coordinator_core::Coordinator;
@@ -83,7 +83,7 @@ pub(crate) fn join_ahead(coordinator: &mut Coordinator)
 
 /// Whether it holds a verdict.
 pub(crate) fn is_decided(coordinator: &Coordinator) -> bool
-    ensures { coordinator.now.verdict ≡ Nothing → result ≡ false }
+    ensures { result ≡ is_decided coordinator.now.verdict }
 {
     !matches!(coordinator.verdict(), Verdict::Nothing)
 }

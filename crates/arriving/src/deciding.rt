@@ -1,13 +1,16 @@
 //! A run goes on until a verdict is held.
 
-ghost use Rattle.std.specs.Prelude.{◌≡◌, ◌≤◌, [], All, IfOk, OnOk, false};
+ghost use Rattle.std.specs.Prelude.{◌≡◌, ◌≤◌, ◌+◌, ℕ, [], All, None, IfOk, OnOk, false, true};
 ghost use Rattle.dimacs.specs.logic.Cnf.{Cnf};
 ghost use Rattle.cube_split.specs.Pairs.{IsBaseWith};
 ghost use Rattle.evidence.specs.Jobs.{IsInside};
 ghost use Rattle.lrat_check.specs.Verdicts.{Right};
 ghost use Rattle.lrat_check.specs.declared.verdict.Verdict.TheVariants.{Nothing};
-ghost use Rattle.arriving.specs.Accounts.{AreBounded, EachCloses, HasBegun, OnceEach, nobody, open_of};
+ghost use Rattle.arriving.specs.Accounts.{AreBounded, EachCloses, HasBegun, OnceEach, RoseBy, nobody, open_of};
+ghost use Rattle.arriving.specs.Ending.{HasEnded, is_decided, is_deserted};
+ghost use Rattle.arriving.specs.inner.Rounds.{is_over};
 ghost use Rattle.arriving.specs.Run.{formula_of, verdict_of};
+ghost use Rattle.arriving.specs.inner.Deliveries.{AreServed, HearsFirst, NobodyRests};
 ghost use Rattle.arriving.specs.inner.Seats.{AreApart};
 
 use crate::plan::Plan;
@@ -19,23 +22,49 @@ use links::Arrivals;
 use std::alloc::{AllocError, Global};
 
 impl Run {
+    /// A round of a run that goes on: none is played behind a verdict, nor where no link was open for too long.
+    fn turn<A: Arrivals>(&mut self, links: &mut A) -> Result<bool, AllocError>
+        requires over { is_over self.old ≡ false }
+        requires deserted { is_deserted self.old ≡ false }
+        ensures formula { formula_of self.new ≡ formula_of self.old }
+        ensures one { RoseBy 1 (A.call_count links.old) (A.call_count links.new) }
+        ensures most { A.call_count links.new ≤ A.call_count links.old + 1033984 }
+        ensures rises { A.call_count links.old ≤ A.call_count links.new }
+        ensures arrivals { A.arrival_count links.old ≤ A.arrival_count links.new }
+        ensures arrived { IfOk result (λ goes_on. goes_on ≡ true → A.arrival_count links.new ≡ A.arrival_count links.old + 1) }
+        ensures each { EachCloses (open_of self.old) (open_of self.new) (A.link_count links.old) (A.link_count links.new) (A.refusal_count links.old) (A.refusal_count links.new) }
+        ensures first { self.old.lines.items ≡ [] → verdict_of self.new ≡ verdict_of self.old }
+        ensures apart { AreApart self.old.lines.items → AreApart self.new.lines.items }
+        ensures told { OnOk result (AreServed self.new.lines.items self.new.desk.coordinator) }
+        ensures over { IfOk result (λ goes_on. goes_on ≡ false → A.has_ended links.new ≡ true) }
+        ensures heard { OnOk result (HearsFirst A.came links.old self.old) }
+    {
+        self.round(links)
+    }
+
     /// Goes on until a verdict is held, none will be, or nothing comes any more.
     fn go_on<A: Arrivals>(&mut self, links: &mut A) -> Result<(), AllocError>
         requires links { self.old.lines.items ≡ [] }
         requires verdict { verdict_of self.old ≡ Nothing }
         requires stuck { self.old.desk.coordinator.stuck ≡ false }
+        requires linked { self.old.linked ≡ None }
         ensures formula { formula_of self.new ≡ formula_of self.old }
         ensures used { OnOk result (HasBegun (A.call_count links.old) (A.call_count links.new) (verdict_of self.new)) }
         ensures most { AreBounded (A.arrival_count links.old) (A.arrival_count links.new) (A.call_count links.old) (A.call_count links.new) }
         ensures each { EachCloses (open_of self.old) (open_of self.new) (A.link_count links.old) (A.link_count links.new) (A.refusal_count links.old) (A.refusal_count links.new) }
         ensures apart { AreApart self.new.lines.items }
+        ensures ended { OnOk result (HasEnded (A.arrival_count links.old) (A.arrival_count links.new) (A.has_ended links.new) self.new) }
+        ensures rests { OnOk result (is_decided (verdict_of self.new) ≡ true → NobodyRests self.new.lines.items 255) }
     {
         for _ in 0..ARRIVALS {
             if self.is_over() {
                 return Ok(());
             }
             let goes_on = self.turn(links)?;
-            if !goes_on || self.is_deserted() {
+            if !goes_on {
+                return Ok(());
+            }
+            if self.is_deserted() {
                 return Ok(());
             }
         }
@@ -59,6 +88,7 @@ pub fn decide<A: Arrivals>(
     ensures used { IfOk result (λ r. HasBegun (A.call_count links.old) (A.call_count links.new) (verdict_of r)) }
     ensures most { AreBounded (A.arrival_count links.old) (A.arrival_count links.new) (A.call_count links.old) (A.call_count links.new) }
     ensures each { OnceEach (A.link_count links.old) (A.link_count links.new) (A.refusal_count links.old) (A.refusal_count links.new) }
+    ensures ended { IfOk result (λ r. HasEnded (A.arrival_count links.old) (A.arrival_count links.new) (A.has_ended links.new) r) }
     ensures closes { IfOk result (λ r. EachCloses nobody (open_of r) (A.link_count links.old) (A.link_count links.new) (A.refusal_count links.old) (A.refusal_count links.new)) }
 {
     let opened = Opened::of(alloc, formula, plan.defs)?;
@@ -79,6 +109,7 @@ pub fn decide_of<A: Arrivals>(
     ensures used { IfOk result (λ r. HasBegun (A.call_count links.old) (A.call_count links.new) (verdict_of r)) }
     ensures most { AreBounded (A.arrival_count links.old) (A.arrival_count links.new) (A.call_count links.old) (A.call_count links.new) }
     ensures each { OnceEach (A.link_count links.old) (A.link_count links.new) (A.refusal_count links.old) (A.refusal_count links.new) }
+    ensures ended { IfOk result (λ r. HasEnded (A.arrival_count links.old) (A.arrival_count links.new) (A.has_ended links.new) r) }
     ensures closes { IfOk result (λ r. EachCloses nobody (open_of r) (A.link_count links.old) (A.link_count links.new) (A.refusal_count links.old) (A.refusal_count links.new)) }
 {
     let mut run = Run::new(alloc, opened, tree, plan)?;

@@ -2,7 +2,7 @@
 
 ghost use Rattle.std.specs.Prelude.{◌≡◌, ◌≢◌, ◌≤◌, ◌+◌, ℕ, [], Err, None, Some, IsSome, OnOk, slice_set};
 ghost use Rattle.arriving.specs.Accounts.{one_if_open, open_at};
-ghost use Rattle.arriving.specs.inner.Deliveries.{AreHeard};
+ghost use Rattle.arriving.specs.inner.Deliveries.{AreHeard, IsElsewhere, IsHeardAt};
 ghost use Rattle.arriving.specs.inner.Lines.{AreFresh, one_if_closed};
 ghost use Rattle.arriving.specs.inner.Seats.{AreApart, IsLost, line_at, seated_in, seated_worker};
 ghost use Rattle.links.specs.Arrivals.{begun_at};
@@ -42,6 +42,7 @@ pub(crate) fn end<A: Arrivals>(links: &mut A, desk: &mut Desk, place: u8, line: 
     ensures verdict { desk.new.coordinator.verdict ≡ desk.old.coordinator.verdict }
     ensures calls { A.call_count links.new ≡ A.call_count links.old }
     ensures arrivals { A.arrival_count links.new ≡ A.arrival_count links.old }
+    ensures over { A.has_ended links.new ≡ A.has_ended links.old }
     ensures begun { (p : ℕ) → A.link_count links.new p ≡ A.link_count links.old p }
     ensures refusals { (p : ℕ) → A.refusal_count links.new p ≡ A.refusal_count links.old p }
     ensures closed { line.new ≡ None }
@@ -66,6 +67,7 @@ pub(crate) fn settle<A: Arrivals>(
     ensures verdict { desk.new.coordinator.verdict ≡ desk.old.coordinator.verdict }
     ensures calls { A.call_count links.new ≡ A.call_count links.old }
     ensures arrivals { A.arrival_count links.new ≡ A.arrival_count links.old }
+    ensures over { A.has_ended links.new ≡ A.has_ended links.old }
     ensures begun { (p : ℕ) → A.link_count links.new p ≡ A.link_count links.old p }
     ensures refusals { (p : ℕ) → A.refusal_count links.new p ≡ A.refusal_count links.old p }
     ensures closed { turn ≡ Err Closed → line.new ≡ None }
@@ -95,6 +97,7 @@ fn take<A: Arrivals>(
     ensures most { A.call_count links.new ≤ A.call_count links.old + 4037 }
     ensures rises { A.call_count links.old ≤ A.call_count links.new }
     ensures arrivals { A.arrival_count links.new ≡ A.arrival_count links.old }
+    ensures over { A.has_ended links.new ≡ A.has_ended links.old }
     ensures begun { (p : ℕ) → A.link_count links.new p ≡ A.link_count links.old p }
     ensures here { A.refusal_count links.new at.place ≤ A.refusal_count links.old at.place + one_if_closed result }
     ensures elsewhere { (p : ℕ) → p ≢ at.place → A.refusal_count links.new p ≤ A.refusal_count links.old p }
@@ -122,10 +125,12 @@ fn hear<A: Arrivals>(
     ensures most { A.call_count links.new ≤ A.call_count links.old + 4037 }
     ensures rises { A.call_count links.old ≤ A.call_count links.new }
     ensures arrivals { A.arrival_count links.new ≡ A.arrival_count links.old }
+    ensures over { A.has_ended links.new ≡ A.has_ended links.old }
     ensures begun { (p : ℕ) → A.link_count links.new p ≡ A.link_count links.old p }
     ensures here { A.refusal_count links.new at.place + one_if_open line.new ≤ A.refusal_count links.old at.place + one_if_open line.old }
     ensures elsewhere { (p : ℕ) → p ≢ at.place → A.refusal_count links.new p ≤ A.refusal_count links.old p }
     ensures seat { (worker : ℕ) → seated_in line.new ≡ Some worker → seated_in line.old ≡ Some worker }
+    ensures heard { OnOk result (IsHeardAt bytes.now line.old line.new desk.old.coordinator desk.new.coordinator) }
 {
     let turn = match line {
         None => {
@@ -149,8 +154,11 @@ pub(crate) fn hear_at<A: Arrivals>(
     ensures most { A.call_count links.new ≤ A.call_count links.old + 4037 }
     ensures rises { A.call_count links.old ≤ A.call_count links.new }
     ensures arrivals { A.arrival_count links.new ≡ A.arrival_count links.old }
+    ensures over { A.has_ended links.new ≡ A.has_ended links.old }
     ensures begun { (p : ℕ) → A.link_count links.new p ≡ A.link_count links.old p }
     ensures each { (p : ℕ) → A.refusal_count links.new p + open_at lines.new p ≤ A.refusal_count links.old p + open_at lines.old p }
+    ensures heard { OnOk result (IsHeardAt bytes.now (line_at lines.old at.place) (line_at lines.new at.place) desk.old.coordinator desk.new.coordinator) }
+    ensures elsewhere { IsElsewhere at.place lines.old lines.new }
     ensures first { lines.old ≡ [] → (desk.new.coordinator.verdict ≡ desk.old.coordinator.verdict) × (lines.new ≡ []) }
     ensures apart { AreApart lines.old → AreApart lines.new }
 {
@@ -203,6 +211,7 @@ pub(crate) fn welcome(desk: &mut Desk, place: u8, lines: &mut [Option<Line>], ne
 /// Has places up to this one.
 pub(crate) fn reach(lines: &mut Vec<Option<Line>>, place: u8) -> Result<(), AllocError>
     ensures open { (p : ℕ) → open_at lines.new.items p ≡ open_at lines.old.items p }
+    ensures places { (p : ℕ) → line_at lines.new.items p ≡ line_at lines.old.items p }
     ensures fresh { AreFresh lines.old.items → AreFresh lines.new.items }
     ensures apart { AreApart lines.old.items → AreApart lines.new.items }
 {

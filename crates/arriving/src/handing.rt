@@ -1,7 +1,8 @@
 //! A verdict is handed out to those that are linked.
 
-ghost use Rattle.std.specs.Prelude.{◌≡◌};
+ghost use Rattle.std.specs.Prelude.{◌≡◌, ◌≤◌, OnOk};
 ghost use Rattle.arriving.specs.Accounts.{AreBounded, EachCloses, open_of};
+ghost use Rattle.arriving.specs.Ending.{HandsOut, HasServed};
 ghost use Rattle.arriving.specs.Run.{formula_of};
 ghost use Rattle.arriving.specs.inner.Seats.{AreApart};
 
@@ -20,15 +21,17 @@ impl Run {
     fn hand_on<A: Arrivals>(&mut self, links: &mut A) -> Result<(), AllocError>
         ensures formula { formula_of self.new ≡ formula_of self.old }
         ensures most { AreBounded (A.arrival_count links.old) (A.arrival_count links.new) (A.call_count links.old) (A.call_count links.new) }
+        ensures rises { A.call_count links.old ≤ A.call_count links.new }
         ensures each { EachCloses (open_of self.old) (open_of self.new) (A.link_count links.old) (A.link_count links.new) (A.refusal_count links.old) (A.refusal_count links.new) }
         ensures apart { AreApart self.old.lines.items → AreApart self.new.lines.items }
+        ensures served { OnOk result (HasServed (A.arrival_count links.old) (A.arrival_count links.new) (A.has_ended links.new) self.new) }
     {
         for _ in 0..ARRIVALS {
             end_unserved(links, &mut self.desk, self.tick, SILENCE, &mut self.lines);
             if !self.has_link() {
                 return Ok(());
             }
-            let goes_on = self.turn(links)?;
+            let goes_on = self.round(links)?;
             if !goes_on {
                 return Ok(());
             }
@@ -41,8 +44,12 @@ impl Run {
         ensures formula { formula_of self.new ≡ formula_of self.old }
         ensures most { AreBounded (A.arrival_count links.old) (A.arrival_count links.new) (A.call_count links.old) (A.call_count links.new) }
         ensures each { EachCloses (open_of self.old) (open_of self.new) (A.link_count links.old) (A.link_count links.new) (A.refusal_count links.old) (A.refusal_count links.new) }
+        ensures handed { OnOk result (HandsOut self.old (A.call_count links.old) (A.call_count links.new) (A.arrival_count links.old) (A.arrival_count links.new) (A.has_ended links.new) self.new) }
     {
-        if !is_decided(&self.desk.coordinator) || !self.has_link() {
+        if !is_decided(&self.desk.coordinator) {
+            return Ok(());
+        }
+        if !self.has_link() {
             return Ok(());
         }
         // Time has gone by since the verdict, in which nobody was listened to.

@@ -1,9 +1,9 @@
 //! What comes over a link.
 
-ghost use Rattle.std.specs.Prelude.{◌≡◌, ◌≢◌, ◌≤◌, ◌+◌, ◌⊎◌, ◌∷◌, ℕ, [], Ok, None, Some, IsSome, OnOk};
+ghost use Rattle.std.specs.Prelude.{◌≡◌, ◌≢◌, ◌≤◌, ◌+◌, ◌⊎◌, ◌∷◌, ℕ, [], Ok, None, Some, IsSome, OnOk, true};
 ghost use Rattle.frames.specs.declared.frame.Frame.TheVariants.{Idle};
 ghost use Rattle.arriving.specs.declared.line.Standing.TheVariants.{Ungreeted};
-ghost use Rattle.arriving.specs.inner.Deliveries.{AreDelivered, IsHeard, IsNextDelivered, StaysLinked};
+ghost use Rattle.arriving.specs.inner.Deliveries.{AreDelivered, IsHeard, IsNextDelivered, StaysLinked, is_own, sender_of};
 ghost use Rattle.arriving.specs.inner.Greetings.{IsGreeted};
 ghost use Rattle.arriving.specs.inner.Lines.{one_if_closed};
 ghost use Rattle.arriving.specs.inner.Seats.{queued_worker, seated_worker};
@@ -17,7 +17,9 @@ use links::Arrivals;
 use lrat_check::Reaction;
 
 /// The worker that a frame to the coordinator names.
-fn sender_of(frame: &Frame) -> Option<WorkerNumber> {
+fn sender_of(frame: &Frame) -> Option<WorkerNumber>
+    ensures { result ≡ sender_of frame.now }
+{
     match frame {
         Frame::Done { attempt, .. } => Some(attempt.worker),
         Frame::Piece { attempt, .. } => Some(attempt.worker),
@@ -28,7 +30,9 @@ fn sender_of(frame: &Frame) -> Option<WorkerNumber> {
 }
 
 /// Whether a frame is of the worker whose link it came over.
-fn is_own(line: &Line, frame: &Frame) -> bool {
+fn is_own(line: &Line, frame: &Frame) -> bool
+    ensures { result ≡ is_own (seated_worker line.now) frame.now }
+{
     match (line.seated(), sender_of(frame)) {
         (Some(worker), Some(sender)) => worker.number() == sender.number(),
         _ => false,
@@ -44,6 +48,7 @@ fn deliver_one(
 ) -> Result<(), Broken>
     ensures formula { coordinator.new.formula ≡ coordinator.old.formula }
     ensures link { StaysLinked line.old line.new }
+    ensures own { OnOk result (is_own (seated_worker line.old) frame.now ≡ true) }
     ensures heard { OnOk result (IsHeard frame.now coordinator.old coordinator.new) }
 {
     if !is_own(line, frame) {
@@ -74,6 +79,7 @@ fn hear_frame<A: Arrivals>(
     ensures most { A.call_count links.new ≤ A.call_count links.old + 1 }
     ensures rises { A.call_count links.old ≤ A.call_count links.new }
     ensures arrivals { A.arrival_count links.new ≡ A.arrival_count links.old }
+    ensures over { A.has_ended links.new ≡ A.has_ended links.old }
     ensures begun { (p : ℕ) → A.link_count links.new p ≡ A.link_count links.old p }
     ensures here { A.refusal_count links.new at.place ≤ A.refusal_count links.old at.place + one_if_closed result }
     ensures elsewhere { (p : ℕ) → p ≢ at.place → A.refusal_count links.new p ≤ A.refusal_count links.old p }
@@ -98,6 +104,7 @@ pub(crate) fn converse<A: Arrivals>(
     ensures most { A.call_count links.new ≤ A.call_count links.old + 4037 }
     ensures rises { A.call_count links.old ≤ A.call_count links.new }
     ensures arrivals { A.arrival_count links.new ≡ A.arrival_count links.old }
+    ensures over { A.has_ended links.new ≡ A.has_ended links.old }
     ensures begun { (p : ℕ) → A.link_count links.new p ≡ A.link_count links.old p }
     ensures here { A.refusal_count links.new at.place ≤ A.refusal_count links.old at.place + one_if_closed result }
     ensures elsewhere { (p : ℕ) → p ≢ at.place → A.refusal_count links.new p ≤ A.refusal_count links.old p }
@@ -147,10 +154,12 @@ pub(crate) fn seat<A: Arrivals>(
     ensures most { A.call_count links.new ≤ A.call_count links.old + 4038 }
     ensures rises { A.call_count links.old ≤ A.call_count links.new }
     ensures arrivals { A.arrival_count links.new ≡ A.arrival_count links.old }
+    ensures over { A.has_ended links.new ≡ A.has_ended links.old }
     ensures begun { (p : ℕ) → A.link_count links.new p ≡ A.link_count links.old p }
     ensures here { A.refusal_count links.new at.place ≤ A.refusal_count links.old at.place + one_if_closed result }
     ensures elsewhere { (p : ℕ) → p ≢ at.place → A.refusal_count links.new p ≤ A.refusal_count links.old p }
     ensures seat { (worker : ℕ) → queued_worker line.old ≡ Some worker → seated_worker line.new ≡ Some worker }
+    ensures waits { OnOk result (queued_worker line.new ≡ None) }
     ensures none_waits { OnOk result (IsSome (queued_worker line.old) → line.new.waiting.items ≡ []) }
     ensures delivered { OnOk result ((worker : ℕ) → queued_worker line.old ≡ Some worker → AreDelivered (Some worker) (Idle worker line.old.incarnation ∷ line.old.waiting.items) coordinator.old coordinator.new) }
 {

@@ -81,7 +81,7 @@ impl Drop for Line {
 }
 
 impl Line {
-    ghost use Rattle.std.specs.Prelude.{MatchBool, ◌≢◌};
+    ghost use Rattle.std.specs.Prelude.{MatchBool, ◌≢◌, ◌<◌};
     ghost use Rattle.frames.specs.Stream.{TakesPiece};
     ghost use Rattle.arriving.specs.inner.Greetings.{Greets, HandsOut};
     ghost use Rattle.arriving.specs.inner.Quiet.{is_overdue, quiet_since};
@@ -263,7 +263,9 @@ impl Line {
     }
 
     /// Whether an answer is still to come.
-    pub(crate) fn owes(&self) -> bool {
+    pub(crate) fn owes(&self) -> bool
+        ensures { MatchBool result (0 < self.now.owed) (self.now.owed ≡ 0) }
+    {
         self.owed > 0
     }
 

@@ -43,6 +43,7 @@ fn tell_one<A: Arrivals>(
     ensures most { A.call_count links.new ≤ A.call_count links.old + 1 }
     ensures rises { A.call_count links.old ≤ A.call_count links.new }
     ensures arrivals { A.arrival_count links.new ≡ A.arrival_count links.old }
+    ensures over { A.has_ended links.new ≡ A.has_ended links.old }
     ensures begun { (p : ℕ) → A.link_count links.new p ≡ A.link_count links.old p }
     ensures here { A.refusal_count links.new at.place + one_if_open line.new ≤ A.refusal_count links.old at.place + one_if_open line.old }
     ensures elsewhere { (p : ℕ) → p ≢ at.place → A.refusal_count links.new p ≤ A.refusal_count links.old p }
@@ -68,6 +69,7 @@ fn tell_if_parked<A: Arrivals>(
     ensures most { A.call_count links.new ≤ A.call_count links.old + 1 }
     ensures rises { A.call_count links.old ≤ A.call_count links.new }
     ensures arrivals { A.arrival_count links.new ≡ A.arrival_count links.old }
+    ensures over { A.has_ended links.new ≡ A.has_ended links.old }
     ensures begun { (p : ℕ) → A.link_count links.new p ≡ A.link_count links.old p }
     ensures here { A.refusal_count links.new at.place + one_if_open line.new ≤ A.refusal_count links.old at.place + one_if_open line.old }
     ensures elsewhere { (p : ℕ) → p ≢ at.place → A.refusal_count links.new p ≤ A.refusal_count links.old p }
@@ -93,6 +95,7 @@ pub(crate) fn tell_parked<A: Arrivals>(
     ensures most { A.call_count links.new ≤ A.call_count links.old + 255 }
     ensures rises { A.call_count links.old ≤ A.call_count links.new }
     ensures arrivals { A.arrival_count links.new ≡ A.arrival_count links.old }
+    ensures over { A.has_ended links.new ≡ A.has_ended links.old }
     ensures begun { (p : ℕ) → A.link_count links.new p ≡ A.link_count links.old p }
     ensures each { (p : ℕ) → A.refusal_count links.new p + open_at lines.new p ≤ A.refusal_count links.old p + open_at lines.old p }
     ensures told { OnOk result (AreServed lines.new desk.new.coordinator) }

@@ -1,10 +1,10 @@
 //! Workers who wait are linked, none at two places.
 
-ghost use Rattle.std.specs.Prelude.{◌≡◌, ◌≢◌, ◌≤◌, ◌<◌, ◌+◌, ◌*◌, ◌⊎◌, ℕ, Ok, Some, false, length};
+ghost use Rattle.std.specs.Prelude.{◌≡◌, ◌≢◌, ◌≤◌, ◌<◌, ◌+◌, ◌*◌, ◌⊎◌, ℕ, None, Ok, OnOk, Some, false, true, length};
 ghost use Rattle.std.specs.List.{list_any};
 ghost use Rattle.arriving.specs.Accounts.{one_if_open, open_at};
 ghost use Rattle.arriving.specs.inner.Lines.{AreFresh, IsFresh};
-ghost use Rattle.arriving.specs.inner.Seats.{AreApart, may_sit, queued_in, seated_in, seats};
+ghost use Rattle.arriving.specs.inner.Seats.{AreApart, NobodyMaySit, may_sit, queued_in, seated_in, seats};
 
 use crate::floor::{Desk, seated, settle};
 use crate::hearing::seat;
@@ -64,12 +64,14 @@ fn seat_one<A: Arrivals>(
     ensures most { A.call_count links.new ≤ A.call_count links.old + 4038 }
     ensures rises { A.call_count links.old ≤ A.call_count links.new }
     ensures arrivals { A.arrival_count links.new ≡ A.arrival_count links.old }
+    ensures over { A.has_ended links.new ≡ A.has_ended links.old }
     ensures begun { (p : ℕ) → A.link_count links.new p ≡ A.link_count links.old p }
     ensures here { A.refusal_count links.new at.place + one_if_open line.new ≤ A.refusal_count links.old at.place + one_if_open line.old }
     ensures elsewhere { (p : ℕ) → p ≢ at.place → A.refusal_count links.new p ≤ A.refusal_count links.old p }
     ensures fresh { IsFresh line.old → (desk.new.coordinator.verdict ≡ desk.old.coordinator.verdict) × IsFresh line.new }
     ensures barred { may_sit ≡ false → (line.new ≡ line.old) × (desk.new ≡ desk.old) × (result ≡ Ok tt) }
     ensures seat { (worker : ℕ) → seated_in line.new ≡ Some worker → (seated_in line.old ≡ Some worker) ⊎ (queued_in line.old ≡ Some worker) }
+    ensures waits { OnOk result (may_sit ≡ true → queued_in line.new ≡ None) }
 {
     if !may_sit {
         return Ok(());
@@ -93,9 +95,11 @@ pub(crate) fn seat_all<A: Arrivals>(
     ensures most { A.call_count links.new ≤ A.call_count links.old + 4038 * 255 }
     ensures rises { A.call_count links.old ≤ A.call_count links.new }
     ensures arrivals { A.arrival_count links.new ≡ A.arrival_count links.old }
+    ensures over { A.has_ended links.new ≡ A.has_ended links.old }
     ensures begun { (p : ℕ) → A.link_count links.new p ≡ A.link_count links.old p }
     ensures each { (p : ℕ) → A.refusal_count links.new p + open_at lines.new p ≤ A.refusal_count links.old p + open_at lines.old p }
     ensures apart { AreApart lines.old → AreApart lines.new }
+    ensures seated { OnOk result (NobodyMaySit lines.new 255) }
 {
     for place in 0..u8::MAX {
         if lines.len() <= place as usize {

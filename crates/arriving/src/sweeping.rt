@@ -44,6 +44,7 @@ fn end_overdue<A: Arrivals>(
     ensures most { A.call_count links.new ≤ A.call_count links.old + 0 }
     ensures rises { A.call_count links.old ≤ A.call_count links.new }
     ensures arrivals { A.arrival_count links.new ≡ A.arrival_count links.old }
+    ensures over { A.has_ended links.new ≡ A.has_ended links.old }
     ensures begun { (p : ℕ) → A.link_count links.new p ≡ A.link_count links.old p }
     ensures here { A.refusal_count links.new at.place + one_if_open line.new ≤ A.refusal_count links.old at.place + one_if_open line.old }
     ensures elsewhere { (p : ℕ) → p ≢ at.place → A.refusal_count links.new p ≤ A.refusal_count links.old p }
@@ -75,6 +76,7 @@ pub(crate) fn end_all_overdue<A: Arrivals>(
     ensures most { A.call_count links.new ≤ A.call_count links.old + 0 }
     ensures rises { A.call_count links.old ≤ A.call_count links.new }
     ensures arrivals { A.arrival_count links.new ≡ A.arrival_count links.old }
+    ensures over { A.has_ended links.new ≡ A.has_ended links.old }
     ensures begun { (p : ℕ) → A.link_count links.new p ≡ A.link_count links.old p }
     ensures each { (p : ℕ) → A.refusal_count links.new p + open_at lines.new p ≤ A.refusal_count links.old p + open_at lines.old p }
     ensures fresh { AreFresh lines.old → AreFresh lines.new }
@@ -105,6 +107,7 @@ fn end_if_unserved<A: Arrivals>(
     ensures most { A.call_count links.new ≤ A.call_count links.old + 0 }
     ensures rises { A.call_count links.old ≤ A.call_count links.new }
     ensures arrivals { A.arrival_count links.new ≡ A.arrival_count links.old }
+    ensures over { A.has_ended links.new ≡ A.has_ended links.old }
     ensures begun { (p : ℕ) → A.link_count links.new p ≡ A.link_count links.old p }
     ensures here { A.refusal_count links.new at.place + one_if_open line.new ≤ A.refusal_count links.old at.place + one_if_open line.old }
     ensures elsewhere { (p : ℕ) → p ≢ at.place → A.refusal_count links.new p ≤ A.refusal_count links.old p }
@@ -132,6 +135,7 @@ pub(crate) fn end_unserved<A: Arrivals>(
     ensures most { A.call_count links.new ≤ A.call_count links.old + 0 }
     ensures rises { A.call_count links.old ≤ A.call_count links.new }
     ensures arrivals { A.arrival_count links.new ≡ A.arrival_count links.old }
+    ensures over { A.has_ended links.new ≡ A.has_ended links.old }
     ensures begun { (p : ℕ) → A.link_count links.new p ≡ A.link_count links.old p }
     ensures each { (p : ℕ) → A.refusal_count links.new p + open_at lines.new p ≤ A.refusal_count links.old p + open_at lines.old p }
     ensures apart { AreApart lines.old → AreApart lines.new }

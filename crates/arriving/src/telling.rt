@@ -1,6 +1,9 @@
 //! What workers are told.
 
-ghost use Rattle.std.specs.Prelude.{◌≡◌, ◌≢◌, ◌≤◌, ◌+◌, ℕ, None, Some, IsSome, IfSome, OnOk, length};
+ghost use Rattle.std.specs.Prelude.{◌≡◌, ◌≢◌, ◌<◌, ◌≤◌, ◌+◌, ℕ, None, Some, IsSome, IfSome, OnOk, length};
+ghost use Rattle.coordinator_core.specs.Coordinator.{coordinator_poll};
+ghost use Rattle.frames.specs.declared.frame.Frame.TheVariants.{Rest};
+ghost use Rattle.links.specs.Counts.{one_more};
 ghost use Rattle.arriving.specs.inner.Deliveries.{HasNothing, IsAsked, StaysLinked};
 ghost use Rattle.arriving.specs.inner.Lines.{one_if_closed};
 ghost use Rattle.arriving.specs.inner.Seats.{parked_worker, seated_worker};
@@ -47,7 +50,9 @@ fn mark_of(cube: &Cube) -> u64 {
 
 impl Patience {
     /// How long a task may take that was not taken back, and a run without a link.
-    pub(crate) fn ticks(&self) -> Option<u64> {
+    pub(crate) fn ticks(&self) -> Option<u64>
+        ensures { result ≡ self.now.ticks }
+    {
         self.ticks
     }
 
@@ -141,9 +146,11 @@ fn write(frame: &Frame, announced: u32, room: &mut [u8]) -> (u32, usize)
 /// Sends a frame over the link at a place, and with one that asks for a part those that ask for the next.
 fn send<A: Arrivals>(links: &mut A, place: u8, line: &mut Line, frame: &Frame) -> Result<(), Broken>
     ensures line { line.new ≡ record line.old { owed = line.new.owed } }
+    ensures calls { A.call_count links.new ≡ one_more (A.call_count links.old) }
     ensures most { A.call_count links.new ≤ A.call_count links.old + 1 }
     ensures rises { A.call_count links.old ≤ A.call_count links.new }
     ensures arrivals { A.arrival_count links.new ≡ A.arrival_count links.old }
+    ensures over { A.has_ended links.new ≡ A.has_ended links.old }
     ensures begun { (p : ℕ) → A.link_count links.new p ≡ A.link_count links.old p }
     ensures here { A.refusal_count links.new place ≤ A.refusal_count links.old place + one_if_closed result }
     ensures elsewhere { (p : ℕ) → p ≢ place → A.refusal_count links.new p ≤ A.refusal_count links.old p }
@@ -179,9 +186,13 @@ fn tell_frame<A: Arrivals>(
     line: &mut Line,
     frame: &Frame,
 ) -> Result<(), Broken>
+    // It is told if and only if no answer is to come.
+    ensures owing { 0 < line.old.owed → A.call_count links.new ≡ A.call_count links.old }
+    ensures told { line.old.owed ≡ 0 → A.call_count links.new ≡ one_more (A.call_count links.old) }
     ensures most { A.call_count links.new ≤ A.call_count links.old + 1 }
     ensures rises { A.call_count links.old ≤ A.call_count links.new }
     ensures arrivals { A.arrival_count links.new ≡ A.arrival_count links.old }
+    ensures over { A.has_ended links.new ≡ A.has_ended links.old }
     ensures begun { (p : ℕ) → A.link_count links.new p ≡ A.link_count links.old p }
     ensures here { A.refusal_count links.new at.place ≤ A.refusal_count links.old at.place + one_if_closed result }
     ensures elsewhere { (p : ℕ) → p ≢ at.place → A.refusal_count links.new p ≤ A.refusal_count links.old p }
@@ -210,11 +221,14 @@ pub(crate) fn tell<A: Arrivals>(
     ensures most { A.call_count links.new ≤ A.call_count links.old + 1 }
     ensures rises { A.call_count links.old ≤ A.call_count links.new }
     ensures arrivals { A.arrival_count links.new ≡ A.arrival_count links.old }
+    ensures over { A.has_ended links.new ≡ A.has_ended links.old }
     ensures begun { (p : ℕ) → A.link_count links.new p ≡ A.link_count links.old p }
     ensures here { A.refusal_count links.new at.place ≤ A.refusal_count links.old at.place + one_if_closed result }
     ensures elsewhere { (p : ℕ) → p ≢ at.place → A.refusal_count links.new p ≤ A.refusal_count links.old p }
     ensures link { StaysLinked line.old line.new }
     ensures asked { OnOk result (IsAsked (seated_worker line.old) coordinator.old coordinator.new) }
+    ensures owing { 0 < line.old.owed → A.call_count links.new ≡ A.call_count links.old }
+    ensures told { OnOk result ((worker : ℕ) → seated_worker line.old ≡ Some worker → line.old.owed ≡ 0 → (coordinator_poll coordinator.old worker).frame ≢ Rest → A.call_count links.new ≡ one_more (A.call_count links.old)) }
     ensures parked { OnOk result ((worker : ℕ) → parked_worker line.new ≡ Some worker → HasNothing coordinator.new worker) }
 {
     let Some(worker) = line.seated() else {

@@ -1,1 +1,3 @@
 pub mod HubLemmas
+mod KnownLemmas
+mod UnreadLemmas

@@ -1,2 +1,3 @@
+pub mod Unread
 pub mod Hub
 pub mod inner

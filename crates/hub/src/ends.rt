@@ -1,19 +1,21 @@
 //! The connections of a listener, by their places.
 
-ghost use Rattle.std.specs.Prelude.{◌≡◌, ◌<◌, ◌≤◌, length, map, replicate, set, get_or, false, true, is_some, IfOk, IfSome, IsErr};
+ghost use Rattle.std.specs.Prelude.{◌≡◌, ◌<◌, ◌≤◌, ℕ, length, map, replicate, set, get_or, false, true, is_some, IfOk, IfNone, IfSome, IsErr, OnOk};
+ghost use Rattle.std.specs.Io.KnownBytes.{Appends};
+ghost use Rattle.hub.specs.inner.Known.{Reads, ReadsOne, known_at, known_in};
 
 use crate::end::End;
 use links::LinkFault;
 use mio::Events;
 use mio::event::Event;
 use std::alloc::{AllocError, Global};
-use std::io::Write;
+use std::io::{Read, Write};
 
 /// The listener's token, behind those of all places.
 pub(crate) const LISTENER: usize = 256;
 
 /// So many places without a link.
-pub(crate) fn places(alloc: Global, count: u8) -> Result<Vec<Option<End>>, AllocError>
+pub(crate) fn places<S: Drop>(alloc: Global, count: u8) -> Result<Vec<Option<End<S>>>, AllocError>
     ensures { IfOk result (λ v. map (λ e. is_some e) v.items ≡ replicate count false) }
 {
     let mut ends = Vec::new(alloc);
@@ -24,8 +26,9 @@ pub(crate) fn places(alloc: Global, count: u8) -> Result<Vec<Option<End>>, Alloc
 }
 
 /// The first place without a link.
-pub(crate) fn free_place(ends: &[Option<End>]) -> Option<u8>
-    ensures { IfSome result (λ place. (place < length ends.now) × (get_or (map (λ e. is_some e) ends.now) place true ≡ false)) }
+pub(crate) fn free_place<S>(ends: &[Option<End<S>>]) -> Option<u8>
+    ensures some { IfSome result (λ place. (place < length ends.now) × (get_or (map (λ e. is_some e) ends.now) place true ≡ false)) }
+    ensures none { IfNone result ((place : ℕ) → place < 255 → get_or (map (λ e. is_some e) ends.now) place true ≡ true) }
 {
     for place in 0..u8::MAX {
         if ends.len() <= place as usize {
@@ -39,7 +42,7 @@ pub(crate) fn free_place(ends: &[Option<End>]) -> Option<u8>
 }
 
 /// Puts a connection at a place, or none.
-pub(crate) fn put(ends: &mut [Option<End>], place: u8, end: Option<End>)
+pub(crate) fn put<S: Drop>(ends: &mut [Option<End<S>>], place: u8, end: Option<End<S>>)
     requires { place < length ends.old }
     ensures { map (λ e. is_some e) ends.new ≡ set (map (λ e. is_some e) ends.old) place (is_some end) }
 {
@@ -52,7 +55,7 @@ fn tells_end(event: &Event) -> bool {
 }
 
 /// Notes that bytes of a connection may be there, or its end.
-fn note(end: &mut Option<End>, event: &Event)
+fn note<S>(end: &mut Option<End<S>>, event: &Event)
     ensures { is_some end.new ≡ is_some end.old }
 {
     if let Some(end) = end {
@@ -62,7 +65,7 @@ fn note(end: &mut Option<End>, event: &Event)
 }
 
 /// Notes of which connections bytes may be there, and answers whether a connection may wait to be accepted.
-pub(crate) fn note_all(ends: &mut [Option<End>], events: &Events) -> bool
+pub(crate) fn note_all<S>(ends: &mut [Option<End<S>>], events: &Events) -> bool
     ensures { map (λ e. is_some e) ends.new ≡ map (λ e. is_some e) ends.old }
 {
     let mut knocks = false;
@@ -78,21 +81,19 @@ pub(crate) fn note_all(ends: &mut [Option<End>], events: &Events) -> bool
 }
 
 /// Sends without waiting. What the connection has no room for is refused, and what is sent to nobody.
-pub(crate) fn send(end: &mut Option<End>, bytes: &[u8]) -> Result<(), LinkFault>
+pub(crate) fn send<S: Write>(end: &mut Option<End<S>>, bytes: &[u8]) -> Result<(), LinkFault>
     ensures links { is_some end.new ≡ is_some end.old }
     ensures nobody { is_some end.old ≡ false → IsErr result }
+    ensures sent { OnOk result (Appends (known_in S.contents end.old) (known_in S.contents end.new) bytes.now) }
 {
     match end {
-        Some(end) => match end.stream.write_all(bytes) {
-            Ok(()) => Ok(()),
-            Err(_) => Err(LinkFault),
-        },
+        Some(end) => end.write(bytes),
         None => Err(LinkFault),
     }
 }
 
 /// Whether bytes of a connection may be there.
-pub(crate) fn is_ready(ends: &[Option<End>]) -> bool {
+pub(crate) fn is_ready<S>(ends: &[Option<End<S>>]) -> bool {
     ends.iter().any(|end| match end {
         Some(end) => end.is_ready,
         None => false,
@@ -100,7 +101,8 @@ pub(crate) fn is_ready(ends: &[Option<End>]) -> bool {
 }
 
 /// Reads what is there of a connection, where bytes of it may be there.
-fn read_end(end: &mut Option<End>, room: &mut [u8]) -> Option<usize>
+fn read_end<S: Read>(end: &mut Option<End<S>>, room: &mut [u8]) -> Option<usize>
+    ensures bytes { Reads (known_in S.remaining end.old) result room.new (known_in S.remaining end.new) }
     ensures within { IfSome result (λ count. count ≤ length room.new) }
     ensures links { is_some end.new ≡ is_some end.old }
 {
@@ -111,12 +113,13 @@ fn read_end(end: &mut Option<End>, room: &mut [u8]) -> Option<usize>
 }
 
 /// Reads what is there of the first connection from one place up to another of which something is there, and answers its place.
-pub(crate) fn read_between(
-    ends: &mut [Option<End>],
+pub(crate) fn read_between<S: Read>(
+    ends: &mut [Option<End<S>>],
     from: u8,
     to: u8,
     room: &mut [u8],
 ) -> Option<(u8, usize)>
+    ensures bytes { ReadsOne (known_at S.remaining ends.old) result room.new (known_at S.remaining ends.new) }
     ensures within { IfSome result (λ found. found.1 ≤ length room.new) }
     ensures links { map (λ e. is_some e) ends.new ≡ map (λ e. is_some e) ends.old }
 {

@@ -1,8 +1,9 @@
 //! The links of a listener.
 
-ghost use Rattle.std.specs.Prelude.{◌≡◌, ◌<◌, ◌≤◌, length, replicate, set, get_or, false, true, IfOk, IfSome, IfNone, IsErr, OnOk, OnErr};
+ghost use Rattle.std.specs.Prelude.{◌≡◌, ◌≢◌, ◌<◌, ◌≤◌, ◌⊎◌, [], length, replicate, set, get_or, false, true, IfOk, IfSome, IfNone, IsErr, MatchOption, OnOk, OnErr};
 ghost use Rattle.links.specs.Arrivals.{IsWithin};
-ghost use Rattle.hub.specs.Hub.{links_of};
+ghost use Rattle.hub.specs.Hub.{links_of, unread_of};
+ghost use Rattle.hub.specs.inner.Finding.{Finds};
 ghost use Rattle.hub.specs.inner.Changes.{Changes};
 ghost use Rattle.links.specs.declared.arrivals.Event.TheVariants as events;
 
@@ -35,7 +36,7 @@ pub struct Hub<C> {
     poll: Poll,
     events: Events,
     listener: TcpListener,
-    ends: Vec<Option<End>>,
+    ends: Vec<Option<End<TcpStream>>>,
     ahead: Ahead,
     /// How often connections were read since it was looked what has come.
     reads: u32,
@@ -71,7 +72,8 @@ impl<C> Hub<C> {
     ) -> io::Result<Hub<C>>
     where
         C: Drop,
-        ensures { IfOk result (λ h. links_of h ≡ replicate count false) }
+        ensures links { IfOk result (λ h. links_of h ≡ replicate count false) }
+        ensures unread { IfOk result (λ h. (unread_of h).bytes ≡ []) }
     {
         let (poll, listener) = listen(net, port)?;
         let events = Events::with_capacity(alloc, EVENTS)?;
@@ -106,7 +108,8 @@ impl<C> Hub<C> {
     /// Notes of which connections something has come. Where nothing is there it is waited for, but for the first time: it is told that
     /// nothing has come before that, so that whoever asks may do in the meantime what else there is.
     fn look(&mut self) -> io::Result<()>
-        ensures { links_of self.new ≡ links_of self.old }
+        ensures links { links_of self.new ≡ links_of self.old }
+        ensures unread { unread_of self.new ≡ unread_of self.old }
     {
         let is_busy = self.is_busy();
         if is_busy && self.reads < MOST_READS {
@@ -127,6 +130,7 @@ impl<C> Hub<C> {
         requires { place < length (links_of self.old) }
         ensures ok { OnOk result (links_of self.new ≡ set (links_of self.old) place true) }
         ensures err { OnErr result (links_of self.new ≡ links_of self.old) }
+        ensures unread { unread_of self.new ≡ unread_of self.old }
     {
         stream.set_nodelay(true)?;
         self.poll
@@ -146,6 +150,7 @@ impl<C> Hub<C> {
     fn accept(&mut self) -> Option<u8>
         ensures some { IfSome result (λ place. Changes (events.Linked place) (links_of self.old) (links_of self.new)) }
         ensures none { IfNone result (links_of self.new ≡ links_of self.old) }
+        ensures unread { unread_of self.new ≡ unread_of self.old }
     {
         let place = free_place(&self.ends)?;
         match self.listener.accept() {
@@ -162,7 +167,9 @@ impl<C> Hub<C> {
 
     /// Reads ahead of the connection whose turn it is, and answers its place and how many bytes; no bytes are its end.
     fn read_ahead(&mut self) -> Option<(u8, usize)>
-        ensures { links_of self.new ≡ links_of self.old }
+        requires { (unread_of self.old).bytes ≡ [] }
+        ensures links { links_of self.new ≡ links_of self.old }
+        ensures unread { MatchOption result (unread_of self.new ≡ unread_of self.old) (λ found. ((unread_of self.new).place ≡ found.0) × (length (unread_of self.new).bytes ≡ found.1)) }
     {
         let cursor = self.cursor;
         let found = match self.ahead.read(&mut self.ends, cursor, u8::MAX) {
@@ -176,28 +183,46 @@ impl<C> Hub<C> {
         found
     }
 
-    /// The bytes of the connection whose turn it is, with its place and how many; no bytes are its end.
+    /// The bytes of the connection whose turn it is, with its place and how many; no bytes are its end. What is left for want of room stays.
     fn read(&mut self, room: &mut [u8]) -> Option<(u8, usize)>
         ensures within { IfSome result (λ found. found.1 ≤ length room.new) }
         ensures links { links_of self.new ≡ links_of self.old }
+        ensures some { IfSome result (λ found. ((unread_of self.old).bytes ≡ []) × ((unread_of self.new).place ≡ found.0)) }
+        ensures none { IfNone result (0 < length room.new → unread_of self.new ≡ unread_of self.old) }
+        ensures kept { ((unread_of self.old).bytes ≡ []) ⊎ (unread_of self.new ≡ unread_of self.old) }
     {
-        match self.read_ahead() {
-            Some((place, 0)) => Some((place, 0)),
-            Some(_) => self.ahead.take(room),
-            None => None,
+        if self.ahead.has_left() {
+            return None;
         }
+        let (place, count) = self.read_ahead()?;
+        if count == 0 {
+            return Some((place, 0));
+        }
+        self.ahead.take(room)
+    }
+
+    /// Accepts a connection where one may wait, and none was accepted last.
+    fn accept_in_turn(&mut self) -> Option<u8>
+        ensures some { IfSome result (λ place. Changes (events.Linked place) (links_of self.old) (links_of self.new)) }
+        ensures none { IfNone result (links_of self.new ≡ links_of self.old) }
+        ensures unread { unread_of self.new ≡ unread_of self.old }
+    {
+        if self.knocks && !self.has_accepted {
+            return self.accept();
+        }
+        None
     }
 
     /// What comes next: a new link and the bytes of the others in turn.
     fn take_next(&mut self, room: &mut [u8]) -> Event
+        requires { 0 < length room.old → (unread_of self.old).bytes ≡ [] }
+        ensures finds { Finds (unread_of self.old) result room.new (unread_of self.new) }
         ensures within { IsWithin result (length room.new) }
         ensures changes { Changes result (links_of self.old) (links_of self.new) }
     {
-        if self.knocks && !self.has_accepted {
-            if let Some(place) = self.accept() {
-                self.has_accepted = true;
-                return Event::Linked { place };
-            }
+        if let Some(place) = self.accept_in_turn() {
+            self.has_accepted = true;
+            return Event::Linked { place };
         }
         self.has_accepted = false;
         match self.read(room) {
@@ -210,7 +235,8 @@ impl<C> Hub<C> {
 impl<C: Clock> Hub<C> {
     /// Reads the clock. With each tick the listener is tried again.
     fn look_at_clock(&mut self)
-        ensures { links_of self.new ≡ links_of self.old }
+        ensures links { links_of self.new ≡ links_of self.old }
+        ensures unread { unread_of self.new ≡ unread_of self.old }
     {
         if let Ok(time) = self.clock.monotonic() {
             if self.tick != time.as_secs() {
@@ -222,6 +248,8 @@ impl<C: Clock> Hub<C> {
 
     /// What comes next, once it was looked what has come.
     fn look_for_next(&mut self, room: &mut [u8]) -> Event
+        requires { 0 < length room.old → (unread_of self.old).bytes ≡ [] }
+        ensures finds { Finds (unread_of self.old) result room.new (unread_of self.new) }
         ensures within { IsWithin result (length room.new) }
         ensures changes { Changes result (links_of self.old) (links_of self.new) }
     {
@@ -232,17 +260,28 @@ impl<C: Clock> Hub<C> {
             Err(_) => Event::Over,
         }
     }
+
+    /// What is left of what was read, and else what comes next.
+    fn find(&mut self, room: &mut [u8]) -> Event
+        ensures finds { Finds (unread_of self.old) result room.new (unread_of self.new) }
+        ensures within { IsWithin result (length room.new) }
+        ensures changes { Changes result (links_of self.old) (links_of self.new) }
+    {
+        match self.ahead.take(room) {
+            Some((place, count)) => Event::Bytes { place, count },
+            None => self.look_for_next(room),
+        }
+    }
 }
 
 impl<C: Clock> Station for Hub<C> {
     fn await_any(&mut self, room: &mut [u8]) -> Arrival
         ensures within { IsWithin result.event (length room.new) }
+        // What was read and is left comes next, in its order and as bytes of its connection.
+        ensures finds { Finds (unread_of self.old) result.event room.new (unread_of self.new) }
         ensures changes { Changes result.event (links_of self.old) (links_of self.new) }
     {
-        let event = match self.ahead.take(room) {
-            Some((place, count)) => Event::Bytes { place, count },
-            None => self.look_for_next(room),
-        };
+        let event = self.find(room);
         self.is_quiet = matches!(event, Event::Quiet);
         Arrival {
             tick: self.tick,
@@ -252,6 +291,7 @@ impl<C: Clock> Station for Hub<C> {
 
     fn carry_to(&mut self, place: u8, bytes: &[u8]) -> Result<(), LinkFault>
         ensures links { links_of self.new ≡ links_of self.old }
+        ensures unread { unread_of self.new ≡ unread_of self.old }
         // What is sent to nobody is refused.
         ensures unlinked { get_or (links_of self.old) place false ≡ false → IsErr result }
     {
@@ -262,7 +302,10 @@ impl<C: Clock> Station for Hub<C> {
     }
 
     fn drop_at(&mut self, place: u8)
-        ensures { links_of self.new ≡ set (links_of self.old) place false }
+        ensures links { links_of self.new ≡ set (links_of self.old) place false }
+        // Nothing is left of a link that was hung up.
+        ensures there { place < length (links_of self.old) → (unread_of self.old).place ≡ place → (unread_of self.new).bytes ≡ [] }
+        ensures elsewhere { (unread_of self.old).place ≢ place → unread_of self.new ≡ unread_of self.old }
     {
         if (place as usize) < self.ends.len() {
             put(&mut self.ends, place, None);

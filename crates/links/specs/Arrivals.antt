@@ -1,5 +1,5 @@
 -- What may come to a coordinator's ends.
-use Rattle.std.specs.Prelude.{ℕ, ◌≤◌, ◌==◌, ⊤, if◌then◌else◌}
+use Rattle.std.specs.Prelude.{ℕ, ◌≤◌, ◌==◌, Bool, true, false, ⊤, if◌then◌else◌}
 use Rattle.links.specs.declared.arrivals.Event.{Event}
 use Rattle.links.specs.declared.arrivals.Event.TheVariants.{Linked, Bytes, Quiet, Over}
 
@@ -23,3 +23,10 @@ begun_at (Linked place) p = if p == place then 1 else 0
 begun_at (Bytes place count) p = 0
 begun_at Quiet p = 0
 begun_at Over p = 0
+
+-- nothing will come any more
+abbrev pub is_over : Event → Bool
+is_over (Linked place) = false
+is_over (Bytes place count) = false
+is_over Quiet = false
+is_over Over = true

@@ -1,5 +1,5 @@
 -- What links that come to a station have counted.
-use Rattle.std.specs.Prelude.{ℕ, slice_index}
+use Rattle.std.specs.Prelude.{ℕ, Bool, slice_index}
 use Rattle.links.specs.declared.observed.Observed.{Observed}
 
 -- where they come to
@@ -21,3 +21,7 @@ links_at links place = slice_index links.links place
 -- how many sends to a place were refused
 abbrev pub refusals_at : {S : Type 0} → Observed S → ℕ → ℕ
 refusals_at links place = slice_index links.refusals place
+
+-- whether nothing will come any more
+abbrev pub is_at_end : {S : Type 0} → Observed S → Bool
+is_at_end links = links.is_over

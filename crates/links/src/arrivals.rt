@@ -1,8 +1,9 @@
 //! What comes to a coordinator over any of its links.
 
-ghost use Rattle.std.specs.Prelude.{◌≡◌, ◌≢◌, ◌≤◌, ◌+◌, ℕ, length};
+ghost use Rattle.std.specs.Prelude.{◌≡◌, ◌≢◌, ◌≤◌, ◌+◌, ℕ, Bool, List, length};
 ghost use Rattle.links.specs.Counts.{one_more, one_more_if_err};
-ghost use Rattle.links.specs.Arrivals.{IsWithin, arrived, begun_at};
+ghost use Rattle.links.specs.Arrivals.{IsWithin, arrived, begun_at, is_over};
+ghost use Rattle.links.specs.declared.arrivals.Event.{Event};
 
 use crate::link::LinkFault;
 use crate::progress::Progress;
@@ -30,7 +31,9 @@ pub struct Arrival {
 }
 
 /// The coordinator's ends of links that come and go. Each has a place, 0 to 255; a place may have one link after another. The calls, what
-/// came, and of each place the links that began and the refusals, are counted; the calls and the refusals stay at 2^64 - 1.
+/// came, and of each place the links that began and the refusals, are counted; the calls and the refusals stay at 2^64 - 1. `has_ended` says
+/// whether what came last was `Over`; `came`, where an implementation defines it, what a receive brings: before it, what came, the room with the
+/// bytes at its front, and after it.
 pub trait Arrivals {
     ghost call_count: { Self → ℕ };
 
@@ -40,11 +43,17 @@ pub trait Arrivals {
 
     ghost refusal_count: { Self → ℕ → ℕ };
 
+    ghost has_ended: { Self → Bool };
+
+    ghost came: { Self → Event → List ℕ → Self → Type 0 } = { λ _ _ _ _. Unit {0} };
+
     /// Waits until something comes over any link, and puts its bytes at the front of the room. It waits for no one link.
     fn receive_any(&mut self, room: &mut [u8]) -> Arrival
         ensures within { IsWithin result.event (length room.new) }
         ensures calls { call_count self.new ≡ one_more (call_count self.old) }
         ensures arrivals { arrival_count self.new ≡ arrival_count self.old + arrived result.event }
+        ensures ended { has_ended self.new ≡ is_over result.event }
+        ensures came { came self.old result.event room.new self.new }
         ensures links { (p : ℕ) → link_count self.new p ≡ link_count self.old p + begun_at result.event p }
         ensures refusals { (p : ℕ) → refusal_count self.new p ≡ refusal_count self.old p };
 
@@ -52,6 +61,7 @@ pub trait Arrivals {
     fn send_to(&mut self, place: u8, bytes: &[u8]) -> Result<(), LinkFault>
         ensures calls { call_count self.new ≡ one_more (call_count self.old) }
         ensures arrivals { arrival_count self.new ≡ arrival_count self.old }
+        ensures ended { has_ended self.new ≡ has_ended self.old }
         ensures links { (p : ℕ) → link_count self.new p ≡ link_count self.old p }
         ensures refusal { refusal_count self.new place ≡ one_more_if_err result (refusal_count self.old place) }
         ensures elsewhere { (p : ℕ) → p ≢ place → refusal_count self.new p ≡ refusal_count self.old p };
@@ -60,6 +70,7 @@ pub trait Arrivals {
     fn hang_up(&mut self, place: u8)
         ensures calls { call_count self.new ≡ call_count self.old }
         ensures arrivals { arrival_count self.new ≡ arrival_count self.old }
+        ensures ended { has_ended self.new ≡ has_ended self.old }
         ensures links { (p : ℕ) → link_count self.new p ≡ link_count self.old p }
         ensures refusals { (p : ℕ) → refusal_count self.new p ≡ refusal_count self.old p };
 
@@ -67,6 +78,7 @@ pub trait Arrivals {
     fn show(&mut self, progress: &Progress)
         ensures calls { call_count self.new ≡ call_count self.old }
         ensures arrivals { arrival_count self.new ≡ arrival_count self.old }
+        ensures ended { has_ended self.new ≡ has_ended self.old }
         ensures links { (p : ℕ) → link_count self.new p ≡ link_count self.old p }
         ensures refusals { (p : ℕ) → refusal_count self.new p ≡ refusal_count self.old p };
 }

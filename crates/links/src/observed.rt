@@ -1,9 +1,9 @@
 //! Arrivals at any station.
 
-ghost use Rattle.std.specs.Prelude.{◌≡◌, ◌≢◌, ◌≤◌, ◌<◌, ◌+◌, ◌^◌, ℕ, length, replicate, slice_index, if◌then◌else◌};
+ghost use Rattle.std.specs.Prelude.{◌≡◌, ◌≢◌, ◌≤◌, ◌<◌, ◌+◌, ◌^◌, ℕ, false, length, replicate, slice_index, if◌then◌else◌};
 ghost use Rattle.links.specs.Counts.{one_more, one_more_if_err};
-ghost use Rattle.links.specs.Arrivals.{IsWithin, arrived, begun_at};
-ghost use Rattle.links.specs.Observed.{station_of, arrivals_of, observed_calls, links_at, refusals_at};
+ghost use Rattle.links.specs.Arrivals.{IsWithin, arrived, begun_at, is_over};
+ghost use Rattle.links.specs.Observed.{station_of, arrivals_of, is_at_end, observed_calls, links_at, refusals_at};
 
 use crate::arrivals::{Arrival, Arrivals, Event};
 use crate::counted::count;
@@ -22,6 +22,8 @@ pub struct Observed<S> {
     arrivals: u64,
     links: [u64; PLACES],
     refusals: [u64; PLACES],
+    /// Whether nothing will come any more.
+    is_over: bool,
 }
 
 /// Counts one more at a place, up to the greatest number, where the call answered `Err`.
@@ -35,6 +37,16 @@ fn note(counts: &mut [u64], place: u8, answer: Result<(), LinkFault>) -> Result<
         count(&mut counts[place as usize]);
     }
     answer
+}
+
+/// Whether this tells that nothing will come any more.
+fn is_over(event: Event) -> bool
+    ensures { result ≡ is_over event }
+{
+    match event {
+        Event::Linked { .. } | Event::Bytes { .. } | Event::Quiet => false,
+        Event::Over => true,
+    }
 }
 
 /// Counts a link that begins, where there is a number left.
@@ -58,6 +70,7 @@ impl<S> Observed<S> {
         ensures arrivals { arrivals_of result ≡ 0 }
         ensures links { (p : ℕ) → links_at result p ≡ 0 }
         ensures refusals { (p : ℕ) → refusals_at result p ≡ 0 }
+        ensures ended { is_at_end result ≡ false }
     {
         Observed {
             station,
@@ -65,6 +78,7 @@ impl<S> Observed<S> {
             arrivals: 0,
             links: [0; PLACES],
             refusals: [0; PLACES],
+            is_over: false,
         }
     }
 
@@ -108,12 +122,16 @@ impl<S: Station> Arrivals for Observed<S> {
 
     ghost refusal_count = { refusals_at };
 
+    ghost has_ended = { is_at_end };
+
     fn receive_any(&mut self, room: &mut [u8]) -> Arrival {
         count(&mut self.calls);
         let arrival = self.station.await_any(room);
+        let event = self.note_event(arrival.event);
+        self.is_over = is_over(event);
         Arrival {
             tick: arrival.tick,
-            event: self.note_event(arrival.event),
+            event,
         }
     }
 

@@ -40,6 +40,12 @@ abbrev pub is_overdue_in : Option Line → ℕ → Bool → Bool
 is_overdue_in None tick is_other_free = false
 is_overdue_in (Some line) tick is_other_free = is_overdue line tick is_other_free
 
+-- the last tick at which a link was open, or the first: behind one more tick, with a link open or not
+abbrev pub linked_by : Option ℕ → Bool → ℕ → Option ℕ
+linked_by None is_open tick = Some tick
+linked_by (Some linked) true tick = Some tick
+linked_by (Some linked) false tick = Some linked
+
 -- a worker at a place is free
 abbrev pub rests : Option Line → Bool
 rests line = is_some (parked_in line)

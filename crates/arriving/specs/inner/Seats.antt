@@ -1,5 +1,5 @@
 -- Whose link a line is: nobody's before a greeting, and while it waits for the end of another one.
-use Rattle.std.specs.Prelude.{◌≡◌, ◌==◌, ℕ, Bool, false, not, List, Option, Some, None, slice_index_or}
+use Rattle.std.specs.Prelude.{◌≡◌, ◌<◌, ◌==◌, ℕ, Bool, false, not, List, Option, Some, None, slice_index_or}
 use Rattle.std.specs.List.{list_any}
 use Rattle.evidence.specs.Events.{Lost, Silent}
 use Rattle.coordinator_core.specs.Coordinator.{CoordinatorState, CoordinatorStep}
@@ -72,6 +72,10 @@ may_sit_by lines (Some worker) = not (list_any (seats worker) lines)
 
 abbrev pub may_sit : List (Option Line) → ℕ → Bool
 may_sit lines place = may_sit_by lines (queued_in (line_at lines place))
+
+-- before this place nobody waits whose number has no other link
+abbrev pub NobodyMaySit : List (Option Line) → ℕ → Type 0
+NobodyMaySit lines places = (place : ℕ) → place < places → may_sit lines place ≡ false
 
 -- the link of a worker has ended, if somebody was linked: the coordinator hears that of this worker, and of nobody else
 abbrev pub IsLost : Option ℕ → CoordinatorState → CoordinatorState → Type 0

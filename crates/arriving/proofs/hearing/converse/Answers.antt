@@ -14,6 +14,7 @@ returns-in_default g c =
       most = omega (arith, c.loop.invariant.1, c.loop.auto.counter-end);
       rises = c.loop.invariant.2;
       arrivals = c.loop.invariant.3;
+      over = c.loop.invariant.9;
       begun = c.loop.invariant.4;
       here = omega (arith, so_far);
       elsewhere = λ p other. c.loop.invariant.5 p;
@@ -31,6 +32,7 @@ returns-in-Err g c =
       most = omega (arith, c.hear_frame.ensures.most, c.loop.invariant.1, c.loop-test.true);
       rises = omega (arith, c.hear_frame.ensures.rises, c.loop.invariant.2);
       arrivals = c.hear_frame.ensures.arrivals ∙ c.loop.invariant.3;
+      over = c.hear_frame.ensures.over ∙ c.loop.invariant.9;
       begun = λ p. c.hear_frame.ensures.begun p ∙ c.loop.invariant.4 p;
       here = omega (arith, c.in-Err.ensures.here, so_far);
       elsewhere = λ p other.
@@ -50,6 +52,7 @@ returns-then-has_next g c =
       most = omega (arith, c.loop.invariant.1, c.loop.auto.counter-end);
       rises = c.loop.invariant.2;
       arrivals = c.loop.invariant.3;
+      over = c.loop.invariant.9;
       begun = c.loop.invariant.4;
       here = omega (arith, so_far);
       elsewhere = λ p other. c.loop.invariant.5 p;
@@ -66,6 +69,7 @@ returns g c =
       most = omega (arith, c.loop.invariant.1, c.loop.auto.counter-end);
       rises = c.loop.invariant.2;
       arrivals = c.loop.invariant.3;
+      over = c.loop.invariant.9;
       begun = c.loop.invariant.4;
       here = omega (arith, so_far);
       elsewhere = λ p other. c.loop.invariant.5 p;
@@ -88,4 +92,5 @@ loop-preserved g c =
       c.hear_frame.ensures.link.seat ∙ asked,
       c.hear_frame.ensures.link.reader ∙ (ap (λ (l : Line). l.reader) out ∙ c.loop.invariant.7),
       λ new rest. c.loop.invariant.8 new (delivered_on _ _ c.in-Some.frame c.loop.line.waiting.items _ _ _ _ _ c.in-Some.ensures.0 c.hear_frame.ensures.link.waiting asked c.in_default-hear_frame.ensures.delivered rest),
+      c.hear_frame.ensures.over ∙ c.loop.invariant.9,
     )

@@ -16,3 +16,4 @@ invariant-loop g l =
     × (l.line.reader ≡ l.fn.line.reader)
     × ((new : CoordinatorState) → AreDelivered (seated_worker l.fn.line) l.line.waiting.items l.coordinator new
     → AreDelivered (seated_worker l.fn.line) l.fn.line.waiting.items l.fn.coordinator new)
+    × (g.A.Arrivals.has_ended l.links ≡ g.A.Arrivals.has_ended l.fn.links)

@@ -12,6 +12,7 @@ returns-then-lines-place g c = record {
   most = omega (arith, c.loop-place.invariant.1, c.loop-place.auto.place-end);
   rises = c.loop-place.invariant.2;
   arrivals = c.loop-place.invariant.3;
+  over = c.loop-place.invariant.9;
   begun = c.loop-place.invariant.4;
   each = c.loop-place.invariant.5;
   told = AreServed.nobody (nobody_beyond c.loop-place.lines c.loop-place.place (omega arith) c.loop-place.invariant.8);
@@ -25,6 +26,7 @@ returns g c = record {
   most = omega (arith, c.loop-place.invariant.1, c.loop-place.auto.place-end);
   rises = c.loop-place.invariant.2;
   arrivals = c.loop-place.invariant.3;
+  over = c.loop-place.invariant.9;
   begun = c.loop-place.invariant.4;
   each = c.loop-place.invariant.5;
   told = AreServed.nobody (nobody_at_end c.loop-place.lines c.loop-place.place (omega arith) c.loop-place.invariant.8);
@@ -40,6 +42,7 @@ returns-in_err-tell_if_parked g c =
       most = omega (arith, c.tell_if_parked.ensures.most, c.loop-place.invariant.1, c.loop-place.auto.place-end, c.loop-place-test.true);
       rises = omega (arith, c.tell_if_parked.ensures.rises, c.loop-place.invariant.2);
       arrivals = c.tell_if_parked.ensures.arrivals ∙ c.loop-place.invariant.3;
+      over = c.tell_if_parked.ensures.over ∙ c.loop-place.invariant.9;
       begun = λ p. c.tell_if_parked.ensures.begun p ∙ c.loop-place.invariant.4 p;
       each = turned _ _ _ c.args.lines.now c.loop-place.lines c.loop-place.place c.tell_if_parked.new.line c.index-lines-place.result at c.tell_if_parked.ensures.here c.tell_if_parked.ensures.elsewhere c.loop-place.invariant.5;
       told = rw p.1 tt;
@@ -54,6 +57,7 @@ returns-then-branch g c =
       most = omega (arith, c.tell_if_parked.ensures.most, c.loop-place.invariant.1, c.loop-place.auto.place-end, c.loop-place-test.true);
       rises = omega (arith, c.tell_if_parked.ensures.rises, c.loop-place.invariant.2);
       arrivals = c.tell_if_parked.ensures.arrivals ∙ c.loop-place.invariant.3;
+      over = c.tell_if_parked.ensures.over ∙ c.loop-place.invariant.9;
       begun = λ p. c.tell_if_parked.ensures.begun p ∙ c.loop-place.invariant.4 p;
       each = turned _ _ _ c.args.lines.now c.loop-place.lines c.loop-place.place c.tell_if_parked.new.line c.index-lines-place.result at c.tell_if_parked.ensures.here c.tell_if_parked.ensures.elsewhere c.loop-place.invariant.5;
       told = rests_here c.loop-place.lines c.loop-place.place c.tell_if_parked.new.line c.tell_if_parked.new.desk.coordinator at
@@ -75,4 +79,5 @@ loop-place-preserved g c =
       rests_on c.loop-place.lines c.loop-place.place c.tell_if_parked.new.line at
           (not_parked c.in_ok-tell_if_parked.field-0 c.tell_if_parked.new.line c.tell_if_parked.new.desk.coordinator c.in_ok-tell_if_parked.ensures.parked c.if-branch.false)
           c.loop-place.invariant.8,
+      c.tell_if_parked.ensures.over ∙ c.loop-place.invariant.9,
     )

@@ -15,3 +15,4 @@ invariant-loop-place g l =
     × (l.desk.coordinator.verdict ≡ l.fn.desk.coordinator.verdict)
     × (AreApart l.fn.lines → AreApart l.lines)
     × NobodyRests l.lines l.place
+    × (g.A.Arrivals.has_ended l.links ≡ g.A.Arrivals.has_ended l.fn.links)

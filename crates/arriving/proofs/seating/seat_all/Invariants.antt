@@ -1,7 +1,7 @@
 use Rattle.std.proofs.Common.{◌≡◌, ◌≤◌, ℕ, ◌+◌, ◌*◌}
 use Rattle.arriving.specs.Accounts.{open_at}
 use Rattle.arriving.specs.inner.Lines.{AreFresh}
-use Rattle.arriving.specs.inner.Seats.{AreApart}
+use Rattle.arriving.specs.inner.Seats.{AreApart, NobodyMaySit}
 use Rattle.arriving.proofs.seating.seat_all.Given as goal
 
 abbrev pub invariant-loop-place : goal.invariant-loop-place
@@ -14,3 +14,5 @@ invariant-loop-place g l =
     × ((p : ℕ) → g.A.Arrivals.refusal_count l.links p + open_at l.lines p ≤ g.A.Arrivals.refusal_count l.fn.links p + open_at l.fn.lines p)
     × (AreFresh l.fn.lines → (l.desk.coordinator.verdict ≡ l.fn.desk.coordinator.verdict) × AreFresh l.lines)
     × (AreApart l.fn.lines → AreApart l.lines)
+    × NobodyMaySit l.lines l.place
+    × (g.A.Arrivals.has_ended l.links ≡ g.A.Arrivals.has_ended l.fn.links)

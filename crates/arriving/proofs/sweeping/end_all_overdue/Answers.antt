@@ -13,6 +13,7 @@ returns-then-lines-place g c = record {
   most = omega (arith, c.loop-place.invariant.1, c.loop-place.auto.place-end);
   rises = c.loop-place.invariant.2;
   arrivals = c.loop-place.invariant.3;
+  over = c.loop-place.invariant.10;
   begun = c.loop-place.invariant.4;
   each = c.loop-place.invariant.5;
   fresh = c.loop-place.invariant.7;
@@ -27,6 +28,7 @@ returns g c = record {
   most = omega (arith, c.loop-place.invariant.1, c.loop-place.auto.place-end);
   rises = c.loop-place.invariant.2;
   arrivals = c.loop-place.invariant.3;
+  over = c.loop-place.invariant.10;
   begun = c.loop-place.invariant.4;
   each = c.loop-place.invariant.5;
   fresh = c.loop-place.invariant.7;
@@ -43,6 +45,7 @@ returns-in_err-end_overdue g c =
       most = omega (arith, c.end_overdue.ensures.most, c.loop-place.invariant.1, c.loop-place.auto.place-end, c.loop-place-test.true);
       rises = omega (arith, c.end_overdue.ensures.rises, c.loop-place.invariant.2);
       arrivals = c.end_overdue.ensures.arrivals ∙ c.loop-place.invariant.3;
+      over = c.end_overdue.ensures.over ∙ c.loop-place.invariant.10;
       begun = λ p. c.end_overdue.ensures.begun p ∙ c.loop-place.invariant.4 p;
       each = turned _ _ _ c.args.lines.now c.loop-place.lines c.loop-place.place c.end_overdue.new.line c.index-lines-place.result at c.end_overdue.ensures.here c.end_overdue.ensures.elsewhere c.loop-place.invariant.5;
       fresh = λ fresh. set_fresh c.loop-place.lines c.loop-place.place c.end_overdue.new.line (c.end_overdue.ensures.fresh (fresh_at c.loop-place.lines c.loop-place.place c.index-lines-place.result at (c.loop-place.invariant.7 fresh))) (c.loop-place.invariant.7 fresh);
@@ -64,6 +67,7 @@ loop-place-preserved g c =
       λ apart. apart_kept c.loop-place.lines c.loop-place.place c.end_overdue.new.line c.index-lines-place.result at c.end_overdue.ensures.seat (c.loop-place.invariant.8 apart),
       sweeps_on c.args.lines.now c.loop-place.lines c.loop-place.place c.args.tick c.end_overdue.new.line c.index-lines-place.result c.has_parked-is_other_free.result at c.has_parked-is_other_free.ensures
           (λ late. (c.end_overdue.ensures.ended late).0) (λ timely. (c.end_overdue.ensures.stays timely).0) c.loop-place.invariant.9,
+      c.end_overdue.ensures.over ∙ c.loop-place.invariant.10,
     )
 
 pub loop-place-init : goal.loop-place-init
@@ -78,4 +82,5 @@ loop-place-init g c = (
   λ fresh. fresh,
   λ apart. apart,
   sweeps_none c.args.lines.now c.args.tick,
+  refl,
 )

@@ -17,3 +17,4 @@ invariant-loop-place g l =
     × (AreFresh l.fn.lines → AreFresh l.lines)
     × (AreApart l.fn.lines → AreApart l.lines)
     × IsSweeping l.place l.fn.lines l.lines l.tick
+    × (g.A.Arrivals.has_ended l.links ≡ g.A.Arrivals.has_ended l.fn.links)

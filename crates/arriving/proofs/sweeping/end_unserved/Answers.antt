@@ -10,6 +10,7 @@ returns-then-lines-place g c = record {
   most = omega (arith, c.loop-place.invariant.1, c.loop-place.auto.place-end);
   rises = c.loop-place.invariant.2;
   arrivals = c.loop-place.invariant.3;
+  over = c.loop-place.invariant.8;
   begun = c.loop-place.invariant.4;
   each = c.loop-place.invariant.5;
   apart = c.loop-place.invariant.7;
@@ -22,6 +23,7 @@ returns g c = record {
   most = omega (arith, c.loop-place.invariant.1, c.loop-place.auto.place-end);
   rises = c.loop-place.invariant.2;
   arrivals = c.loop-place.invariant.3;
+  over = c.loop-place.invariant.8;
   begun = c.loop-place.invariant.4;
   each = c.loop-place.invariant.5;
   apart = c.loop-place.invariant.7;
@@ -38,4 +40,5 @@ loop-place-preserved g c =
       turned _ _ _ c.args.lines.now c.loop-place.lines c.loop-place.place c.end_if_unserved.new.line c.index-lines-place.result at c.end_if_unserved.ensures.here c.end_if_unserved.ensures.elsewhere c.loop-place.invariant.5,
       c.end_if_unserved.ensures.verdict ∙ c.loop-place.invariant.6,
       λ apart. apart_kept c.loop-place.lines c.loop-place.place c.end_if_unserved.new.line c.index-lines-place.result at c.end_if_unserved.ensures.seat (c.loop-place.invariant.7 apart),
+      c.end_if_unserved.ensures.over ∙ c.loop-place.invariant.8,
     )

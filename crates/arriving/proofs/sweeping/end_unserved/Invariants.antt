@@ -13,3 +13,4 @@ invariant-loop-place g l =
     × ((p : ℕ) → g.A.Arrivals.refusal_count l.links p + open_at l.lines p ≤ g.A.Arrivals.refusal_count l.fn.links p + open_at l.fn.lines p)
     × (l.desk.coordinator.verdict ≡ l.fn.desk.coordinator.verdict)
     × (AreApart l.fn.lines → AreApart l.lines)
+    × (g.A.Arrivals.has_ended l.links ≡ g.A.Arrivals.has_ended l.fn.links)

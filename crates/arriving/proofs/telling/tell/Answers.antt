@@ -1,11 +1,13 @@
 use Rattle.std.proofs.Common.{◌≡◌, ◌∙◌, ℕ, Option, None, Some, ap, le_refl, refl, subst, sym}
 use Rattle.std.specs.Prelude.{is_some}
+use Rattle.coordinator_core.specs.Coordinator.{coordinator_poll}
+use Rattle.frames.specs.declared.frame.Frame.TheVariants.{Rest}
 use Rattle.arriving.specs.declared.line.Line.{Line}
 use Rattle.arriving.specs.inner.Deliveries.{IsAsked}
 use Rattle.arriving.specs.inner.Seats.{parked_worker, seated_worker}
 use Rattle.arriving.proofs.Polls.{asked_on, has_nothing, nobody_parks}
-use Rattle.arriving.proofs.Runs.{at_least}
-use Rattle.arriving.proofs.SeatLemmas.{nobody_parked, sits_as}
+use Rattle.arriving.proofs.Runs.{at_least, on_ok_any}
+use Rattle.arriving.proofs.SeatLemmas.{nobody_parked, nobody_waits, same_worker, sits_as}
 use Rattle.arriving.proofs.telling.tell.Goals as goal
 
 pub returns-in_default : goal.returns-in_default
@@ -16,11 +18,14 @@ returns-in_default g c =
       most = at_least _ _;
       rises = le_refl _;
       arrivals = refl;
+      over = refl;
       begun = λ p. refl;
       here = at_least _ _;
       elsewhere = λ p other. le_refl _;
       link = record { seat = refl; waiting = refl; reader = refl };
       asked = subst (λ (k : Option ℕ). IsAsked k c.args.coordinator.now c.args.coordinator.now) (sym nobody) refl;
+      owing = λ owes. refl;
+      told = λ worker sits none tells. absurd (nobody_waits _ worker nobody sits);
       parked = λ worker parks. absurd (nobody_parked c.args.line.now worker nobody parks);
     }
 
@@ -31,11 +36,14 @@ returns-in-Err g c = record {
   most = at_least _ _;
   rises = le_refl _;
   arrivals = refl;
+  over = refl;
   begun = λ p. refl;
   here = at_least _ _;
   elsewhere = λ p other. le_refl _;
   link = record { seat = refl; waiting = refl; reader = refl };
   asked = tt;
+  owing = λ owes. refl;
+  told = tt;
   parked = tt;
 }
 
@@ -47,11 +55,14 @@ returns-in-Ok-Some g c =
       most = c.tell_frame.ensures.most;
       rises = c.tell_frame.ensures.rises;
       arrivals = c.tell_frame.ensures.arrivals;
+      over = c.tell_frame.ensures.over;
       begun = c.tell_frame.ensures.begun;
       here = c.tell_frame.ensures.here;
       elsewhere = c.tell_frame.ensures.elsewhere;
       link = c.tell_frame.ensures.link (ap is_some sits);
       asked = asked_on c.tell_frame.result _ c.in-Some.worker c.args.coordinator.now c.poll.new.coordinator sits c.in-Ok-Some.ensures.after;
+      owing = c.tell_frame.ensures.owing;
+      told = on_ok_any c.tell_frame.result (λ worker seat none tells. c.tell_frame.ensures.told none);
       parked = nobody_parks c.tell_frame.result _ c.poll.new.coordinator c.tell_frame.ensures.parked;
     }
 
@@ -65,6 +76,7 @@ returns-in-Ok-None g c =
       most = at_least _ _;
       rises = le_refl _;
       arrivals = refl;
+      over = refl;
       begun = λ p. refl;
       here = at_least _ _;
       elsewhere = λ p other. le_refl _;
@@ -74,5 +86,9 @@ returns-in-Ok-None g c =
         reader = ap (λ (l : Line). l.reader) c.park.ensures;
       };
       asked = subst (λ (k : Option ℕ). IsAsked k c.args.coordinator.now c.poll.new.coordinator) (sym sits) c.in-Ok-None.ensures.after;
+      owing = λ owes. refl;
+      told = λ worker seat none tells.
+          let who : c.in-Some.worker ≡ worker = same_worker _ _ _ sits seat in
+          absurd (tells (subst (λ (w : ℕ). (coordinator_poll c.args.coordinator.now w).frame ≡ Rest) who rest));
       parked = has_nothing c.args.coordinator.now c.poll.new.coordinator c.in-Some.worker _ rest c.in-Ok-None.ensures.after (ap parked_worker c.park.ensures ∙ greeted);
     }

@@ -3,4 +3,4 @@ use Rattle.hub.proofs.ends.places.Given as goal
 
 -- none of the places so far has a link
 abbrev pub invariant-loop : goal.invariant-loop
-invariant-loop l = map (λ e. is_some e) l.ends.items ≡ replicate l.counter false
+invariant-loop g l = map (λ e. is_some e) l.ends.items ≡ replicate l.counter false

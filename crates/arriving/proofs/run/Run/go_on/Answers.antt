@@ -1,6 +1,8 @@
-use Rattle.std.proofs.Common.{◌∙◌, arith, inr}
+use Rattle.std.proofs.Common.{◌∙◌, arith, inr, sym}
 use Rattle.std.proofs.lemmas.Result.{err_from_is_err_and}
-use Rattle.arriving.proofs.Runs.{after_turn, at_end, closes_on, over_later}
+use Rattle.arriving.specs.Ending.{HasEnded}
+use Rattle.arriving.proofs.Polls.{decided_rests}
+use Rattle.arriving.proofs.Runs.{after_turn, at_end, closes_on, over_ends, over_later}
 use Rattle.arriving.proofs.run.Run.go_on.Goals as goal
 
 pub returns-then-is_over : goal.returns-then-is_over
@@ -10,6 +12,8 @@ returns-then-is_over g c = record {
   most = omega (arith, c.loop.invariant.1);
   each = c.loop.invariant.2;
   apart = c.loop.invariant.4;
+  ended = over_ends _ _ _ c.loop.self (sym c.is_over.ensures ∙ c.if-is_over.true);
+  rests = c.loop.invariant.6;
 }
 
 pub returns-in_err-goes_on : goal.returns-in_err-goes_on
@@ -20,6 +24,8 @@ returns-in_err-goes_on g c =
       most = omega (arith, c.turn.ensures.most, c.turn.ensures.arrivals, c.loop.invariant.1);
       each = closes_on _ _ _ _ _ _ _ _ _ c.loop.invariant.2 c.turn.ensures.each;
       apart = c.turn.ensures.apart c.loop.invariant.4;
+      ended = rw p.1 tt;
+      rests = rw p.1 tt;
     }
 
 pub returns-then-not-goes_on : goal.returns-then-not-goes_on
@@ -29,6 +35,19 @@ returns-then-not-goes_on g c = record {
   most = omega (arith, c.turn.ensures.most, c.turn.ensures.arrivals, c.loop.invariant.1);
   each = closes_on _ _ _ _ _ _ _ _ _ c.loop.invariant.2 c.turn.ensures.each;
   apart = c.turn.ensures.apart c.loop.invariant.4;
+  ended = HasEnded.over (c.in_ok-goes_on.ensures.over c.if-not-goes_on.true);
+  rests = decided_rests _ _ c.in_ok-goes_on.ensures.told;
+}
+
+pub returns-then-is_deserted : goal.returns-then-is_deserted
+returns-then-is_deserted g c = record {
+  formula = c.turn.ensures.formula ∙ c.loop.invariant.0;
+  used = after_turn _ _ _ _ _ _ _ _ c.loop.invariant.3 c.turn.ensures.one c.turn.ensures.rises c.turn.ensures.first;
+  most = omega (arith, c.turn.ensures.most, c.turn.ensures.arrivals, c.loop.invariant.1);
+  each = closes_on _ _ _ _ _ _ _ _ _ c.loop.invariant.2 c.turn.ensures.each;
+  apart = c.turn.ensures.apart c.loop.invariant.4;
+  ended = HasEnded.deserted (sym c.is_deserted.ensures ∙ c.if-is_deserted.true);
+  rests = decided_rests _ _ c.in_ok-goes_on.ensures.told;
 }
 
 pub returns : goal.returns
@@ -38,6 +57,8 @@ returns g c = record {
   most = omega (arith, c.loop.invariant.1);
   each = c.loop.invariant.2;
   apart = c.loop.invariant.4;
+  ended = HasEnded.full (omega (arith, c.loop-test.false, c.loop.invariant.5));
+  rests = c.loop.invariant.6;
 }
 
 pub loop-preserved : goal.loop-preserved
@@ -48,4 +69,7 @@ loop-preserved g c =
       closes_on _ _ _ _ _ _ _ _ _ c.loop.invariant.2 c.turn.ensures.each,
       inr (after_turn _ _ _ _ _ _ _ _ c.loop.invariant.3 c.turn.ensures.one c.turn.ensures.rises c.turn.ensures.first),
       c.turn.ensures.apart c.loop.invariant.4,
+      omega (arith, one, c.loop.invariant.5),
+      decided_rests _ _ c.in_ok-goes_on.ensures.told,
+      sym c.is_deserted.ensures ∙ c.if-is_deserted.false,
     )

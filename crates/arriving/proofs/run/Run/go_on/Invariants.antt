@@ -1,5 +1,7 @@
-use Rattle.std.proofs.Common.{◌≡◌, ◌≤◌, ◌+◌, ◌*◌}
+use Rattle.std.proofs.Common.{◌≡◌, ◌≤◌, ◌+◌, ◌*◌, false, true}
 use Rattle.arriving.specs.Accounts.{EachCloses, open_of}
+use Rattle.arriving.specs.Ending.{is_decided, is_deserted}
+use Rattle.arriving.specs.inner.Deliveries.{NobodyRests}
 use Rattle.arriving.proofs.Runs.{Stage}
 use Rattle.arriving.specs.inner.Seats.{AreApart}
 use Rattle.arriving.proofs.run.Run.go_on.Given as goal
@@ -11,3 +13,6 @@ invariant-loop g l =
     × EachCloses (open_of l.fn.self) (open_of l.self) (g.A.Arrivals.link_count l.fn.links) (g.A.Arrivals.link_count l.links) (g.A.Arrivals.refusal_count l.fn.links) (g.A.Arrivals.refusal_count l.links)
     × Stage l.counter (g.A.Arrivals.call_count l.fn.links) (g.A.Arrivals.call_count l.links) l.self.lines.items l.self.desk.coordinator.stuck l.self.desk.coordinator.verdict
     × AreApart l.self.lines.items
+    × (g.A.Arrivals.arrival_count l.links ≡ g.A.Arrivals.arrival_count l.fn.links + l.counter)
+    × (is_decided l.self.desk.coordinator.verdict ≡ true → NobodyRests l.self.lines.items 255)
+    × (is_deserted l.self ≡ false)

@@ -9,3 +9,5 @@ invariant-loop g l =
     × (g.A.Arrivals.call_count l.links + 1033984 * g.A.Arrivals.arrival_count l.fn.links ≤ g.A.Arrivals.call_count l.fn.links + 1033984 * g.A.Arrivals.arrival_count l.links)
     × EachCloses (open_of l.fn.self) (open_of l.self) (g.A.Arrivals.link_count l.fn.links) (g.A.Arrivals.link_count l.links) (g.A.Arrivals.refusal_count l.fn.links) (g.A.Arrivals.refusal_count l.links)
     × (AreApart l.fn.self.lines.items → AreApart l.self.lines.items)
+    × (g.A.Arrivals.arrival_count l.links ≡ g.A.Arrivals.arrival_count l.fn.links + l.counter)
+    × (g.A.Arrivals.call_count l.fn.links ≤ g.A.Arrivals.call_count l.links)

@@ -1,7 +1,7 @@
 use Rattle.std.proofs.Common.{◌∙◌, arith}
 use Rattle.std.proofs.lemmas.Result.{err_from_is_err_and}
 use Rattle.arriving.proofs.Runs.{closes_then, rose_on}
-use Rattle.arriving.proofs.run.Run.turn.Goals as goal
+use Rattle.arriving.proofs.run.Run.round.Goals as goal
 
 pub returns-in_err-goes_on : goal.returns-in_err-goes_on
 returns-in_err-goes_on g c =
@@ -16,6 +16,8 @@ returns-in_err-goes_on g c =
       first = λ none. (c.in_err-goes_on.ensures.first none).0;
       apart = c.in_err-goes_on.ensures.apart;
       told = rw p.1 tt;
+      over = rw p.1 tt;
+      heard = rw p.1 tt;
     }
 
 pub returns-in_err-attend : goal.returns-in_err-attend
@@ -33,6 +35,8 @@ returns-in_err-attend g c =
           c.attend.ensures.fresh heard.1 ∙ heard.0;
       apart = λ apart. c.attend.ensures.apart (c.in_ok-goes_on.ensures.apart apart);
       told = rw p.1 tt;
+      over = rw p.1 tt;
+      heard = rw p.1 tt;
     }
 
 pub returns : goal.returns
@@ -49,4 +53,6 @@ returns g c = record {
       c.attend.ensures.fresh heard.1 ∙ heard.0;
   apart = λ apart. c.attend.ensures.apart (c.in_ok-goes_on.ensures.apart apart);
   told = c.in_ok-attend.ensures.told;
+  over = λ ends. c.attend.ensures.over ∙ c.in_ok-goes_on.ensures.over ends;
+  heard = (c.hear_next.new.self, c.in_ok-goes_on.ensures.heard);
 }
