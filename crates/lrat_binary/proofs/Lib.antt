@@ -1,0 +1,5 @@
+pub mod NumberLemmas
+pub mod ReadLemmas
+pub mod SpelledLemmas
+pub mod TakingLemmas
+pub mod TokenLemmas
