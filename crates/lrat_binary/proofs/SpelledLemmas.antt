@@ -31,7 +31,7 @@ module _ (part : Part) where
       ap (λ (x : Bool). cond x (cond (b == 0 && nat_lt 1 w) (Fails BadToken) (number_taken part (token_of (v + w * b)))) (cond (nat_lt w (2 ^ 42) && nat_lt b 256) (Goes (Within part (v + w * (b - 128)) (128 * w))) (Fails NumberTooLarge))) (le-ltb b 128 many)
       ∙ ap (λ (x : Bool). cond x (Goes (Within part (v + w * (b - 128)) (128 * w))) (Fails NumberTooLarge)) (and_from (nat_lt w (2 ^ 42)) (nat_lt b 256) (lt-ltb w (2 ^ 42) small) (lt-ltb b 256 few))
 
-  number_at : (bytes : List ℕ) (v w n : ℕ) (more : List ℕ) → Completes v w bytes n → read (Within part v w) (bytes ++ more) ≡ from_outcome (number_taken part (token_of n)) (λ next. read next more)
+  pub number_at : (bytes : List ℕ) (v w n : ℕ) (more : List ℕ) → Completes v w bytes n → read (Within part v w) (bytes ++ more) ≡ from_outcome (number_taken part (token_of n)) (λ next. read next more)
   number_at [] v w n more h = absurd h
   number_at (b ∷ []) v w n more h =
       read-byte (Within part v w) b more
@@ -75,7 +75,7 @@ passes_on part bytes next codes last others p q = record { rest = q.rest; spelle
 within_back : (n : ℕ) (x y : Outcome) → n ≤ 2000000 → cond (nat_le n 2000000) x y ≡ x
 within_back n x y h = ap (λ (b : Bool). cond b x y) (le-leb n 2000000 h)
 
-literal_taken_as : (id : ℕ) (lits : List Literal) (l : Literal) → IsWithin 2000000 l → number_taken (AtLiterals id lits) (token_of (index_of l)) ≡ Goes (Within (AtLiterals id (lits ++ l ∷ [])) 0 1)
+pub literal_taken_as : (id : ℕ) (lits : List Literal) (l : Literal) → IsWithin 2000000 l → number_taken (AtLiterals id lits) (token_of (index_of l)) ≡ Goes (Within (AtLiterals id (lits ++ l ∷ [])) 0 1)
 literal_taken_as id lits (Pos v) h = ap (number_taken (AtLiterals id lits)) (token_even v h.0) ∙ within_back v (Goes (Within (AtLiterals id (lits ++ Pos v ∷ [])) 0 1)) (Fails NumberTooLarge) h.1
 literal_taken_as id lits (Neg v) h = ap (number_taken (AtLiterals id lits)) (token_odd v h.0) ∙ within_back v (Goes (Within (AtLiterals id (lits ++ Neg v ∷ [])) 0 1)) (Fails NumberTooLarge) h.1
 

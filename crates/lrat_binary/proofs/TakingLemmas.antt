@@ -6,6 +6,7 @@ use Rattle.lrat_text.specs.declared.step.Step.{Step}
 use Rattle.lrat_binary.specs.declared.taking.FeedFault.{FeedFault}
 use Rattle.lrat_binary.specs.declared.taking.FeedFault.TheVariants.{Bytes, Step as OfStep}
 use Rattle.lrat_binary.specs.Reading.{Begun, Between, Outcome, Goes, Ends, Fails, Reading, after, from_outcome, behind, read}
+use Rattle.lrat_binary.specs.inner.Short.{SkipsTo}
 use Rattle.lrat_binary.specs.Taking.{TakesAll, HandsOn, Breaks, Refuses, Stops}
 
 -- ---- what is read
@@ -53,6 +54,14 @@ module _ {S : Type 0} (takes : S → Step → S → Type 0) where
     reads = λ more. p.reads more ∙ ap (behind p.steps) (q.reads more) ∙ behind-append p.steps q.steps (read c (z ++ more));
     taken = takes_on takes s p.steps t q.steps u p.taken q.taken;
   }
+
+  -- with more that is begun
+  pub hands_skip : (s : S) (a : Begun) (x : List ℕ) (t : S) (b : Begun) (y : List ℕ) (c : Begun) (z : List ℕ) → HandsOn takes s a x t b y → SkipsTo b y c z → HandsOn takes s a x t c z
+  hands_skip s a x t b y c z p skips = record { steps = p.steps; reads = λ more. p.reads more ∙ ap (behind p.steps) (skips more); taken = p.taken }
+
+  -- behind some steps memory ran out
+  pub breaks_memory : (s : S) (a : Begun) (x : List ℕ) (t : S) (b : Begun) (y : List ℕ) → HandsOn takes s a x t b y → Breaks takes s a x t NoMemory
+  breaks_memory s a x t b y p = record { steps = p.steps; taken = p.taken; reads = λ other. absurd (other refl) }
 
   pub breaks_byte : (s : S) (begun : Begun) (b : ℕ) (fault : TextFault) → (fault ≢ NoMemory → after begun b ≡ Fails fault) → Breaks takes s begun (b ∷ []) s fault
   breaks_byte s begun b fault e = record { steps = []; taken = refl; reads = λ other more. read-after begun b (Fails fault) more (e other) }

@@ -8,6 +8,7 @@ mod laws;
 mod number;
 mod parts;
 mod reader;
+mod short;
 mod taking;
 mod token;
 

@@ -1,19 +1,21 @@
 //! The step that is begun, in vectors that are used again from step to step.
 
-ghost use Rattle.std.specs.Prelude.{◌≡◌, ◌<◌, ◌≤◌, if◌then◌else◌};
+ghost use Rattle.std.specs.Prelude.{◌≡◌, ◌<◌, ◌≤◌, IfOk, length, if◌then◌else◌};
 ghost use Rattle.dimacs.specs.logic.Literal.{Neg, Pos};
 ghost use Rattle.lrat_text.specs.Steps.{step_of};
 ghost use Rattle.lrat_binary.specs.Reading.{AtId, AtLiterals, AtHints, AtDeleted, Between, byte_taken, letter_taken, number_taken, hint_taken, literal_taken, token_of, after};
+ghost use Rattle.lrat_binary.specs.inner.Short.{SkipsTo};
 ghost use Rattle.lrat_binary.specs.inner.Parts.{IsCounted, part_at, begun_of, step_held, Tells};
 
 use crate::number::{LAST_WEIGHT, Number};
+use crate::short::{take_literals, take_numbers};
 use crate::token::{Token, token_of};
 use dimacs::{Lit, Var};
 use lrat_text::{Groups, StepRef, TextFault};
-use std::alloc::Global;
+use std::alloc::{AllocError, Global};
 
 /// The greatest variable of a proof.
-const MAX_VAR: u64 = 2_000_000;
+pub(crate) const MAX_VAR: u64 = 2_000_000;
 
 /// Where in a step the next number stands.
 #[derive(Clone, Copy)]
@@ -67,7 +69,7 @@ impl Drop for Parts {
 
 /// The literal of a variable's number.
 #[inline(always)]
-fn literal_of(number: u64, is_negative: bool) -> Lit
+pub(crate) fn literal_of(number: u64, is_negative: bool) -> Lit
     requires { (1 ≤ number) × (number ≤ 2000000) }
     ensures { result ≡ if is_negative then Neg number else Pos number }
 {
@@ -274,5 +276,28 @@ impl Parts {
         ensures { begun_of self.new ≡ Between }
     {
         self.place = None;
+    }
+
+    /// Takes numbers as far as they lie whole in a text and are short, and answers what follows them. At the middle of a number it takes nothing.
+    #[inline(always)]
+    pub(crate) fn take_short<'a>(&mut self, text: &'a [u8]) -> Result<&'a [u8], AllocError>
+        ensures skips { IfOk result (λ rest. SkipsTo (begun_of self.old) text.now (begun_of self.new) rest.now) }
+        ensures shorter { IfOk result (λ rest. length rest.now ≤ length text.now) }
+    {
+        if self.number.weight != 1 {
+            return Ok(text);
+        }
+        match self.place {
+            Some(Place::Literals) => take_literals(&mut self.literals, text),
+            Some(Place::Deleted) => take_numbers(&mut self.numbers, text),
+            Some(Place::Hints) => {
+                if self.groups.is_empty() {
+                    take_numbers(&mut self.numbers, text)
+                } else {
+                    Ok(text)
+                }
+            }
+            _ => Ok(text),
+        }
     }
 }

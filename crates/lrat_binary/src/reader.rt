@@ -65,7 +65,10 @@ fn take_bytes<T: TakesSteps>(
     let mut rest = piece;
     while let Some((byte, later)) = rest.split_first() {
         take_byte(parts, *byte, taker)?;
-        rest = later;
+        rest = match parts.take_short(later) {
+            Ok(rest) => rest,
+            Err(_) => return Err(FeedFault::Bytes(TextFault::NoMemory)),
+        };
     }
     Ok(())
 }
