@@ -19,7 +19,8 @@ pub struct CheckFault {
     /// In a log also 15, where a lemma does not follow by its hints alone, 16, where a clause of the base is deleted, and in a fragment
     /// 17, where the last step does not close the cube.
     pub number: u8,
-    /// The line, from 1; that of 13 and 17 is one more than there are LF bytes, and that of 14 is 0.
+    /// The line, from 1; that of 13 and 17 is one more than there are LF bytes, and that of 14 is 0. Of a proof in binary form it is the
+    /// step, and that of 13 is one more than there are steps.
     pub line: u64,
     /// The text fault's number, 1 to 4, at 1; else 0.
     pub text: u8,

@@ -1,0 +1,71 @@
+//! What takes the steps of a proof, and checks them.
+
+ghost use Rattle.std.specs.Prelude.{◌≡◌, ◌+◌, MatchResult};
+ghost use Rattle.lrat_check.specs.Checking.{no_memory};
+ghost use Rattle.lrat_check.specs.inner.Checking.{step_refusal};
+
+use lrat_binary::TakesSteps;
+use lrat_check::{CheckFault, Checker, StepFault};
+use lrat_text::StepRef;
+
+/// The fault of a step that is refused.
+fn step_refused(fault: StepFault, number: u64) -> CheckFault
+    ensures { result ≡ step_refusal fault number }
+{
+    match fault {
+        StepFault::NoMemory => CheckFault::no_memory(),
+        _ => CheckFault {
+            number: fault.number(),
+            line: number,
+            text: 0,
+        },
+    }
+}
+
+/// The number of the next step; none where it has no room in 64 bits.
+fn next_number(number: u64) -> Result<u64, CheckFault>
+    ensures { MatchResult result (λ next. next ≡ number + 1) (λ fault. fault ≡ no_memory) }
+{
+    match number.checked_add(1) {
+        Some(next) => Ok(next),
+        None => Err(CheckFault::no_memory()),
+    }
+}
+
+/// What is handed the steps of a proof, one after the other.
+pub(crate) struct StepChecker {
+    pub(crate) checker: Checker,
+    /// The number of the next step.
+    pub(crate) number: u64,
+}
+
+// By hand, so that whoever owns one drops it by one call, and no proof there goes through its parts.
+impl Drop for StepChecker {
+    fn drop(self) {
+        let StepChecker {
+            checker: _,
+            number: _,
+        } = self;
+    }
+}
+
+impl TakesSteps for StepChecker {
+    ghost use Rattle.binary_check.specs.inner.Steps.{MayTake, Takes, Refuses};
+
+    type Fault = CheckFault;
+
+    ghost may_take = { MayTake };
+
+    ghost takes = { Takes };
+
+    ghost refuses = { Refuses };
+
+    fn take_step(&mut self, step: StepRef<'_>) -> Result<(), CheckFault> {
+        match self.checker.take(step) {
+            Ok(()) => {}
+            Err(fault) => return Err(step_refused(fault, self.number)),
+        }
+        self.number = next_number(self.number)?;
+        Ok(())
+    }
+}

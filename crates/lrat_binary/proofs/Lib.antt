@@ -1,0 +1,6 @@
+pub mod NumberLemmas
+pub mod ReadLemmas
+pub mod ShortLemmas
+pub mod SpelledLemmas
+pub mod TakingLemmas
+pub mod TokenLemmas

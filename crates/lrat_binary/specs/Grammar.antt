@@ -1,0 +1,52 @@
+-- The grammar of LRAT proofs in binary form, as CaDiCaL 2.1.3 writes them and docs/LRAT.md tells. This is what is to be
+-- believed of them; which fault bytes have that spell no steps stands in Reading.
+use Rattle.std.specs.Prelude.{◌≡◌, ℕ, ◌+◌, ◌*◌, ◌<◌, ◌≤◌, List, [], ◌∷◌, ◌++◌, map}
+use Rattle.std.specs.List.{flat_map}
+use Rattle.std.specs.Str.{byte}
+use Rattle.dimacs.specs.logic.Literal.{index_of}
+use Rattle.dimacs.specs.logic.Rat.{Group}
+use Rattle.lrat_text.specs.Grammar.{IsStep}
+use Rattle.lrat_text.specs.declared.step.Step.{Step}
+use Rattle.lrat_text.specs.declared.step.Step.TheVariants.{Add, Delete}
+
+-- A number in unsigned LEB128, its lowest seven bits first. A byte below 128 is the last one. One from 128 on has seven bits and
+-- the number of the bytes behind it, which is not 0: so each number has one spelling.
+abbrev pub SpellsNumber : List ℕ → ℕ → Type 0
+SpellsNumber [] n = ⊥
+SpellsNumber (b ∷ []) n = (b < 128) × (n ≡ b)
+SpellsNumber (b ∷ c ∷ bs) n = (128 ≤ b) × (b < 256) × (high : ℕ) × (0 < high) × (n + 128 ≡ b + 128 * high) × SpellsNumber (c ∷ bs) high
+
+-- one number after the other
+abbrev pub SpellsNumbers : List ℕ → List ℕ → Type 0
+SpellsNumbers bytes [] = bytes ≡ []
+SpellsNumbers bytes (n ∷ ns) = (front : List ℕ) × (rest : List ℕ) × (bytes ≡ front ++ rest) × SpellsNumber front n × SpellsNumbers rest ns
+
+-- a clause is its number, twice; a candidate one more; a literal is twice its variable, and one more where it is negated
+abbrev pub clause_code : ℕ → ℕ
+clause_code n = 2 * n
+
+abbrev pub candidate_code : ℕ → ℕ
+candidate_code n = 2 * n + 1
+
+abbrev pub group_codes : Group → List ℕ
+group_codes g = candidate_code g.0 ∷ map clause_code g.1
+
+-- an addition is its number, the literals, 0, the hints, the groups, 0; a deletion is the numbers of the clauses, 0
+abbrev pub step_codes : Step → List ℕ
+step_codes (Add id lits hints groups) = clause_code id ∷ (map index_of lits ++ 0 ∷ (map clause_code hints ++ flat_map group_codes groups ++ 0 ∷ []))
+step_codes (Delete ids) = map clause_code ids ++ 0 ∷ []
+
+-- behind a letter
+abbrev pub step_letter : Step → ℕ
+step_letter (Add id lits hints groups) = byte "a"
+step_letter (Delete ids) = byte "d"
+
+-- bytes spell a step
+abbrev pub SpellsStep : List ℕ → Step → Type 0
+SpellsStep [] step = ⊥
+SpellsStep (b ∷ bytes) step = IsStep step × (b ≡ step_letter step) × SpellsNumbers bytes (step_codes step)
+
+-- bytes are the steps, one after the other
+abbrev pub Spells : List ℕ → List Step → Type 0
+Spells bytes [] = bytes ≡ []
+Spells bytes (step ∷ steps) = (front : List ℕ) × (rest : List ℕ) × (bytes ≡ front ++ rest) × SpellsStep front step × Spells rest steps

@@ -1,0 +1,17 @@
+//! Laws of proofs in binary form, as contracts of calls that do nothing.
+
+ghost use Rattle.std.specs.Prelude.{◌≡◌, ℕ, List, None};
+ghost use Rattle.lrat_text.specs.declared.step.Step.{Step};
+ghost use Rattle.lrat_binary.specs.Grammar.{Spells};
+ghost use Rattle.lrat_binary.specs.Reading.{steps_in};
+
+/// Steps are read without a fault if and only if the bytes spell them.
+pub fn reading_is_spelling()
+    ensures found { (bytes : List ℕ) (steps : List Step) → steps_in bytes ≡ (steps, None) → Spells bytes steps }
+    ensures only { (bytes : List ℕ) (steps : List Step) → Spells bytes steps → steps_in bytes ≡ (steps, None) }
+{}
+
+/// Bytes spell one list of steps.
+pub fn a_proof_spells_one_list()
+    ensures { (bytes : List ℕ) (steps others : List Step) → Spells bytes steps → Spells bytes others → steps ≡ others }
+{}
