@@ -222,9 +222,8 @@ class Answers(Case):
             end = self.answer(*words.split(), formula)
             self.assertEqual((20, 1), (end.status, len(end.errors)), end)
             self.assertIn("passed over", end.errors[0])
-        end = self.answer("--binary", formula, "f.lrat")
-        self.assertEqual(20, end.status)
-        self.assertIn("text", end.errors[0])
+        end = self.decides(20, "--binary", formula, "f.lrat")
+        self.assertEqual("c the proof is written as text, not binary", end.lines[0])
         self.verifies(formula, "f.lrat")
 
     def test_pipes_of_a_shell(self) -> None:

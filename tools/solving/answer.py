@@ -223,6 +223,7 @@ def main(line: List[str]) -> int:
     for remark in asked.remarks:
         output.remark(remark)
     try:
+        output.reasons(asked.comments)
         if asked.helps:
             raise Refused(*HELP.split("\n"))
         return Solver(asked, output).decide()

@@ -45,16 +45,19 @@ class Output:
         if lines and not self.quiet:
             self.put("".join("c " + plain(line) + "\n" for line in lines).encode())
 
+    def reasons(self, lines: List[str]) -> None:
+        """`c` lines that are not to be lost: with -q they go to standard error."""
+        if self.quiet:
+            self.error(["c " + line for line in lines])
+        self.comment(lines)
+
     def answer(self, data: bytes) -> None:
         self.has_answered = True
         self.put(data)
 
     def unknown(self, reasons: List[str]) -> None:
-        """No answer, and why: with -q that is told on standard error, so that it is not lost."""
         self.has_answered = True
-        if self.quiet:
-            self.error(["c " + line for line in reasons])
-        self.comment(reasons)
+        self.reasons(reasons)
         self.put(b"s UNKNOWN\n")
 
     def put(self, data: bytes) -> None:
