@@ -30,7 +30,7 @@ class Output:
     """Prints one `s` line, once."""
 
     def __init__(self, quiet: bool) -> None:
-        self.quiet, self.has_answered = quiet, False
+        self.quiet, self.has_answered, self.status = quiet, False, 0
 
     def remark(self, text: str) -> None:
         self.error(["satcluster-solver: " + text])
@@ -51,13 +51,15 @@ class Output:
             self.error(["c " + line for line in lines])
         self.comment(lines)
 
-    def answer(self, data: bytes) -> None:
+    def answer(self, data: bytes, status: int) -> None:
+        """An answer, whose status counts once all of it is printed."""
         self.has_answered = True
         self.put(data)
+        self.status = status
 
     def unknown(self, reasons: List[str]) -> None:
-        self.has_answered = True
         self.reasons(reasons)
+        self.has_answered = True
         self.put(b"s UNKNOWN\n")
 
     def put(self, data: bytes) -> None:
