@@ -386,7 +386,8 @@ class Lies(Case):
                              ("s SATISFIABLE\nv 1 2\n", 10), ("s SATISFIABLE\nx\n", 10),
                              ("s UNSATISFIABLE\ns UNSATISFIABLE\n", 20), ("c s SATISFIABLE\n", 10),
                              ("s UNSATISFIABLE\nv 1 0\n", 20), ("S UNSATISFIABLE\n", 20),
-                             ("s UNSATISFIABLE \n", 20), ("s SATISFIABLE\n", 10), ("v 1 0\ns SATISFIABLE\n", 10)):
+                             ("s UNSATISFIABLE \n", 20), ("s SATISFIABLE\n", 10),
+                             ("v 1 0\ns SATISFIABLE\n", 10)):
             self.write("said", text)
             script = "cat %s; exit %d\n" % (self.at("said"), status)
             self.env["SATCLUSTER"] = self.script("lies", script)

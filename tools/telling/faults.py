@@ -67,8 +67,8 @@ INPUT = Table(
 PROOF = Table(
     "proof",
     "An LRAT proof, printed as `c line L fault N` by `check` and `trim`, as `c proof line L fault "
-    "N` by `lift`, and as `c file K line L fault N NAME` by `join`. [LIDRUP.md](LIDRUP.md#faults) has "
-    "those of `lift --lidrup`.",
+    "N` by `lift`, and as `c file K line L fault N NAME` by `join`. [LIDRUP.md](LIDRUP.md#faults) "
+    "has those of `lift --lidrup`.",
     (
         Row(1, "The line is no step of an LRAT text.", "5 2 0 1 2\n",
             "Ask the solver for LRAT as text (CaDiCaL: `--lrat --no-binary`). If it is the last "
