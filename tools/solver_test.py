@@ -7,6 +7,7 @@ A CASE is Ends, or Ends.test_parent_is_killed; they run alone, and in any order.
 CBMC, yosys and ABC are run if they are on the path, or in the folder that SATCLUSTER_CLIENTS names
 (tools/clients.sh makes one); if they are not there, that is told.
 """
+import gzip
 import os
 import re
 import shutil
@@ -207,6 +208,20 @@ class Answers(Case):
             self.refuses(tool + " ends with", name)
             self.refuses(tool + " ends with", "--jobs", "2", name)
 
+    def test_refused_while_more_may_come(self) -> None:
+        """A program that refuses at once leaves whoever unpacks waiting for more."""
+        self.env["SATCLUSTER"] = self.script("refuses", "echo c no memory; exit 1\n")
+        for data in (BAD.encode(), gzip.compress(BAD.encode())[:9]):
+            process = self.start(stdin=subprocess.PIPE)
+            process.stdin.write(data)
+            process.stdin.flush()
+            out = process.stdout.read().decode().splitlines()
+            self.assertEqual(("c no memory", "s UNKNOWN"), (out[0], out[-1]))
+            self.assertEqual((0, b""), (process.wait(timeout=SOON), process.stderr.read()))
+            for pipe in (process.stdin, process.stdout, process.stderr):
+                pipe.close()
+            self.leaves_nothing()
+
     def test_words_of_others(self) -> None:
         formula = self.example("four_clauses.cnf")
         for words in ("-q -q", "-n -n", "--quiet --no-witness", "-t 50", "--time=50", "-v -v -f -s",
@@ -222,9 +237,8 @@ class Answers(Case):
             end = self.answer(*words.split(), formula)
             self.assertEqual((20, 1), (end.status, len(end.errors)), end)
             self.assertIn("passed over", end.errors[0])
-        end = self.answer("--binary", formula, "f.lrat")
-        self.assertEqual(20, end.status)
-        self.assertIn("text", end.errors[0])
+        end = self.decides(20, "--binary", formula, "f.lrat")
+        self.assertEqual("c the proof is written as text, not binary", end.lines[0])
         self.verifies(formula, "f.lrat")
 
     def test_pipes_of_a_shell(self) -> None:
@@ -293,10 +307,13 @@ class Refusals(Case):
 
     def test_proofs(self) -> None:
         name = self.write("f.cnf", BAD)
+        self.write("g.cnf", BAD)
         for more in ([], ["--jobs", "2"]):
             self.refuses("no folder .*none", *more, name, "none/f.lrat")
             self.refuses("is a folder", *more, name, ".")
             self.refuses("formula itself", *more, name, name)
+            self.refuses("not written over", *more, "--odd", name, "g.cnf")
+            self.assertEqual(BAD, Path(self.at("g.cnf")).read_text())
             self.refuses("standard output", *more, name, "-")
 
     def test_program(self) -> None:
@@ -369,7 +386,8 @@ class Lies(Case):
                              ("s SATISFIABLE\nv 1 2\n", 10), ("s SATISFIABLE\nx\n", 10),
                              ("s UNSATISFIABLE\ns UNSATISFIABLE\n", 20), ("c s SATISFIABLE\n", 10),
                              ("s UNSATISFIABLE\nv 1 0\n", 20), ("S UNSATISFIABLE\n", 20),
-                             ("s UNSATISFIABLE \n", 20), ("s SATISFIABLE\n", 10), ("v 1 0\ns SATISFIABLE\n", 10)):
+                             ("s UNSATISFIABLE \n", 20), ("s SATISFIABLE\n", 10),
+                             ("v 1 0\ns SATISFIABLE\n", 10)):
             self.write("said", text)
             script = "cat %s; exit %d\n" % (self.at("said"), status)
             self.env["SATCLUSTER"] = self.script("lies", script)

@@ -88,16 +88,17 @@ class Solver:
             raise Refused("There is no program %s: %s." % (word, places.HOW_TO))
         return path
 
-    def decide(self) -> int:
+    def decide(self) -> None:
         program = self.program()
         self.test_proof()
         end_after(self.asked.seconds)
         run = self.alone if self.asked.jobs is None else self.by_jobs
         if self.asked.keep is None:
-            return run(program)
+            run(program)
+            return
         self.keep = Keep(self.asked.keep)
         try:
-            return run(program)
+            run(program)
         finally:
             if not self.has_decided:
                 self.keep.drop()
@@ -114,8 +115,11 @@ class Solver:
         why = asked.proof and words.unwritable(asked.proof, asked.formula)
         if why:
             raise Refused(why)
+        # A value that was not known as one, of a word that was not known, makes FILE the proof.
+        if asked.proof and looks.is_formula(looks.head_of(asked.proof)):
+            raise Refused("%s is a formula: the proof is not written over it." % asked.proof)
 
-    def alone(self, program: str) -> int:
+    def alone(self, program: str) -> None:
         """One process. Not split: what is learnt under one cube would be lost under the next."""
         source = self.source()
         command = [program, "solve", "--depth", str(self.asked.depth or 0)] + self.more()
@@ -129,20 +133,20 @@ class Solver:
             kill_with_parts(process, self.proof())
         head = looks.head_of(source.path) if self.keep else source.head
         named = words.Named(self.asked.formula, head=head)
-        return self.tell(process, source, lines, lambda line: words.explain(line, named))
+        self.tell(process, source, lines, lambda line: words.explain(line, named))
 
-    def by_jobs(self, program: str) -> int:
+    def by_jobs(self, program: str) -> None:
         """`conquer.py` in a folder of its own, which goes with this process however it ends."""
         from tempfile import mkdtemp  # slow to load, and seldom wanted
 
         folder = mkdtemp(prefix="satcluster-")
         sweeper = Sweeper(folder)
         try:
-            return self.conquer(program, folder)
+            self.conquer(program, folder)
         finally:
             sweeper.sweep()
 
-    def conquer(self, program: str, folder: str) -> int:
+    def conquer(self, program: str, folder: str) -> None:
         source, errors = self.source(), os.path.join(folder, "errors")
         if source.pipe or not os.path.isfile(source.path):  # it is read more than once
             source = spooled(source, os.path.join(folder, "formula.cnf"))
@@ -158,7 +162,7 @@ class Solver:
         finally:
             end(process, PATIENCE)
         shown = {source.path: words.shown(self.asked.formula)}
-        return self.tell(process, source, lines, lambda _: told_in(errors, shown))
+        self.tell(process, source, lines, lambda _: told_in(errors, shown))
 
     def more(self) -> List[str]:
         asked = self.asked
@@ -170,7 +174,7 @@ class Solver:
         return [] if proof is None else [os.path.join(".", proof) if proof[0] == "-" else proof]
 
     def tell(self, process: subprocess.Popen, source: Source, lines: Lines,
-             explain: Callable[[str], List[str]]) -> int:
+             explain: Callable[[str], List[str]]) -> None:
         """Prints the answer, or why there is none."""
         status = process.returncode
         answer = answer_in(status, lines, self.asked.values)
@@ -186,8 +190,7 @@ class Solver:
             self.keep.answer(answer)
         if status == 0:
             self.output.comment(["the run ended without a verdict"])
-        self.output.answer(answer)
-        return status
+        self.output.answer(answer, status)
 
 
 def why_not(status: int, lines: Lines, reasons: List[str]) -> List[str]:
@@ -220,21 +223,31 @@ Words of CaDiCaL, Kissat and MiniSat are taken or passed over; docs/CLIENTS.md t
 def main(line: List[str]) -> int:
     asked = read(words_of_environment() + line)
     output = Output(asked.quiet)
+    try:
+        try:
+            attempt(asked, output)
+        except (Refused, OSError, MemoryError) as why:
+            output.unknown(why.reasons if isinstance(why, Refused) else [str(why) or repr(why)])
+    except Ended as why:
+        tell_end(str(why), output)
+    except NoReader:
+        pass
+    return output.status
+
+
+def attempt(asked: Asked, output: Output) -> None:
     for remark in asked.remarks:
         output.remark(remark)
+    output.reasons(asked.comments)
+    if asked.helps:
+        raise Refused(*HELP.split("\n"))
+    Solver(asked, output).decide()
+
+
+def tell_end(why: str, output: Output) -> None:
+    """The last line of a run that is ended, if there is none yet, and if it can be printed."""
     try:
-        if asked.helps:
-            raise Refused(*HELP.split("\n"))
-        return Solver(asked, output).decide()
+        if not output.has_answered and can_print():
+            output.unknown([why])
     except NoReader:
-        return 0
-    except (Refused, Ended, OSError, MemoryError) as why:
-        if output.has_answered:
-            return 0
-        reasons = why.reasons if isinstance(why, Refused) else [str(why) or repr(why)]
-        try:
-            if not isinstance(why, Ended) or can_print():
-                output.unknown(reasons)
-        except NoReader:
-            pass
-        return 0
+        pass

@@ -30,7 +30,7 @@ class Output:
     """Prints one `s` line, once."""
 
     def __init__(self, quiet: bool) -> None:
-        self.quiet, self.has_answered = quiet, False
+        self.quiet, self.has_answered, self.status = quiet, False, 0
 
     def remark(self, text: str) -> None:
         self.error(["satcluster-solver: " + text])
@@ -45,16 +45,21 @@ class Output:
         if lines and not self.quiet:
             self.put("".join("c " + plain(line) + "\n" for line in lines).encode())
 
-    def answer(self, data: bytes) -> None:
+    def reasons(self, lines: List[str]) -> None:
+        """`c` lines that are not to be lost: with -q they go to standard error."""
+        if self.quiet:
+            self.error(["c " + line for line in lines])
+        self.comment(lines)
+
+    def answer(self, data: bytes, status: int) -> None:
+        """An answer, whose status counts once all of it is printed."""
         self.has_answered = True
         self.put(data)
+        self.status = status
 
     def unknown(self, reasons: List[str]) -> None:
-        """No answer, and why: with -q that is told on standard error, so that it is not lost."""
+        self.reasons(reasons)
         self.has_answered = True
-        if self.quiet:
-            self.error(["c " + line for line in reasons])
-        self.comment(reasons)
         self.put(b"s UNKNOWN\n")
 
     def put(self, data: bytes) -> None:

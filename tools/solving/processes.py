@@ -120,7 +120,7 @@ class Sweeper:
 
 
 def sweep(folder: str, read: int, alive: int) -> None:
-    """Waits for the end of the pipe, in a session of its own: a terminal's signals do not end it."""
+    """Waits for the end of the pipe, in a session of its own, which no terminal ends."""
     os.setsid()
     for number in ENDINGS:
         signal.signal(number, signal.SIG_IGN)

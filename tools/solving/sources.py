@@ -5,15 +5,17 @@ import signal
 import stat
 import subprocess
 import threading
-from dataclasses import dataclass
+from dataclasses import dataclass, field
 from pathlib import Path
 from typing import IO, List, Optional
 
-from solving.processes import start
+from solving.output import write_all
+from solving.processes import kill, start
 from telling import looks, words
 
 PACKED_NAMES = {".gz": "gzip", ".xz": "xz", ".bz2": "bzip2", ".zst": "zstd"}
 PIECE = 1 << 16
+PATIENCE = 5  # seconds that a program has to end once nobody reads what it unpacks
 
 
 class Refused(Exception):
@@ -33,6 +35,7 @@ class Source:
     head: Optional[bytes] = None  # its first bytes, if the path has not got them
     unpacker: Optional[subprocess.Popen] = None
     tool: str = ""
+    errors: List[str] = field(default_factory=list)  # of reading standard input
 
     def close(self) -> None:
         """Leaves the pipe to the program alone, so that whoever writes to it ends with that."""
@@ -40,20 +43,25 @@ class Source:
             self.pipe.close()
 
     def trouble(self) -> List[str]:
-        """Why what came was not the whole formula, if it was packed; called when all was read."""
-        if not self.unpacker:
+        """Why what came was not the whole formula; called when nobody reads it any more."""
+        if self.errors or not self.unpacker:
+            return self.errors
+        try:
+            self.unpacker.wait(PATIENCE)
+        except subprocess.TimeoutExpired:  # it waits for a formula that was refused meanwhile
+            kill(self.unpacker)
+            return []
+        if self.unpacker.returncode in (0, -signal.SIGPIPE):
             return []
         told = self.unpacker.stderr.read(PIECE).decode("ascii", "replace").strip()
-        if self.unpacker.wait() in (0, -signal.SIGPIPE):
-            return []
         end = "%s ends with %d" % (self.tool, self.unpacker.returncode)
         return [": ".join([end] + told.split("\n")[-1:])]
 
     def test(self) -> None:
-        """Behind an answer: what was cut may have spelt another formula."""
+        """What the program has answered is of what came: refuses that if it was not all."""
         trouble = self.trouble()
-        if trouble:
-            raise Refused(*trouble)
+        if trouble or (self.unpacker and self.unpacker.returncode != 0):
+            raise Refused(*trouble or ["%s did not end" % self.tool])
 
 
 def source_of(formula: str) -> Source:
@@ -71,7 +79,7 @@ def source_of(formula: str) -> Source:
     if tool is None:
         return Source(path)
     with open(path, "rb") as file:
-        return unpacked(tool, file)
+        return unpacked(tool, file, [])
 
 
 def from_standard_input() -> Source:
@@ -80,30 +88,34 @@ def from_standard_input() -> Source:
     except OSError as why:
         raise Refused("Standard input cannot be read: %s." % why.strerror)
     read, write = os.pipe()
-    threading.Thread(target=pump, args=(head, write), daemon=True).start()
     file, tool = os.fdopen(read, "rb"), looks.packing(head)
+    source = Source("/dev/stdin", file, head[:looks.HEAD])
+    threading.Thread(target=pump, args=(head, write, source.errors), daemon=True).start()
     if tool is None:
-        return Source("/dev/stdin", file, head[:looks.HEAD])
+        return source
     with file:
-        return unpacked(tool, file)
+        return unpacked(tool, file, source.errors)
 
 
-def pump(head: bytes, write: int) -> None:
+def pump(head: bytes, write: int, errors: List[str]) -> None:
     """Hands standard input on, in a thread of its own, until it ends or nobody takes it."""
     try:
-        with os.fdopen(write, "wb", buffering=0) as file:
-            while head:
-                file.write(head)
-                head = os.read(0, PIECE)
-    except OSError:
+        while head:
+            write_all(write, head)
+            head = os.read(0, PIECE)
+    except BrokenPipeError:
         pass
+    except OSError as why:
+        errors.append("Standard input cannot be read to its end: %s." % why.strerror)
+    finally:
+        os.close(write)
 
 
-def unpacked(tool: str, file: IO[bytes]) -> Source:
+def unpacked(tool: str, file: IO[bytes], errors: List[str]) -> Source:
     if not shutil.which(tool):
         raise Refused("The formula is packed by %s, which is not installed." % tool)
     process = start([tool, "-dc"], stdin=file, stdout=subprocess.PIPE, stderr=subprocess.PIPE)
-    return Source("/dev/stdin", process.stdout, b"", process, tool)
+    return Source("/dev/stdin", process.stdout, b"", process, tool, errors)
 
 
 def spooled(source: Source, path: str) -> Source:

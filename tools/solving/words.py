@@ -25,6 +25,7 @@ class Asked:
     values: bool = True
     helps: bool = False
     remarks: List[str] = field(default_factory=list)  # what was passed over, and is told
+    comments: List[str] = field(default_factory=list)  # what is told of the proof
 
 
 def number(least: int, most: int) -> Callable[[str], Optional[int]]:
@@ -103,7 +104,7 @@ def read(words: List[str]) -> Asked:
     place(asked, files)
     if asked.proof:
         told = [PROOF_WORDS.get(name) for name in formats]
-        asked.remarks += [remark for remark in told if remark]
+        asked.comments += [comment for comment in told if comment]
     return asked
 
 

@@ -67,8 +67,8 @@ INPUT = Table(
 PROOF = Table(
     "proof",
     "An LRAT proof, printed as `c line L fault N` by `check` and `trim`, as `c proof line L fault "
-    "N` by `lift`, and as `c file K line L fault N NAME` by `join`. [LIDRUP.md](LIDRUP.md#faults) has "
-    "those of `lift --lidrup`.",
+    "N` by `lift`, and as `c file K line L fault N NAME` by `join`. [LIDRUP.md](LIDRUP.md#faults) "
+    "has those of `lift --lidrup`.",
     (
         Row(1, "The line is no step of an LRAT text.", "5 2 0 1 2\n",
             "Ask the solver for LRAT as text (CaDiCaL: `--lrat --no-binary`). If it is the last "
@@ -83,8 +83,8 @@ PROOF = Table(
             "It is a proof of another formula, or wrong. " + SAME),
         Row(6, "A hint's clause has two literals or more that are open: nothing follows from it.",
             "5 0 1 0\n", "It is a proof of another formula, or wrong. " + SAME),
-        Row(7, "A hint's clause is false, and further hints stand behind it.",
-            "5 2 0 1 2 3 0\n", "The hints behind the conflict have to go. " + SAME),
+        Row(7, "A hint's clause is false, and further hints follow.",
+            "5 2 0 1 2 3 0\n", "The hints after the conflict have to go. " + SAME),
         Row(8, "The hints reach no conflict.", "5 0 0\n",
             "It is a proof of another formula, or wrong; a DRAT proof has no hints at all: "
             "`drat-trim f.cnf f.drat -L f.lrat` finds them."),
@@ -97,7 +97,7 @@ PROOF = Table(
             "Leave these hints out: nothing needs them."),
         Row(13, "No empty clause was added.", "5 2 0 1 2 0\n",
             "The solver was stopped, or it found a model. Run it to its end, and check the proof "
-            "only behind status 20."),
+            "only after status 20."),
         Row(14, "There was not memory enough for the proof.", "", MEMORY),
         Row(15, "The lemma does not follow by its hints alone.", "",
             "`lift` and `join` take lemmas of unit propagation. " + RAT),
@@ -125,7 +125,7 @@ CUBES = Table(
         Row(8, "The tree is above the limits: those of a formula, and 65,536 cubes.",
             "p inccnf\n1000001 0\n", "Split less deep."),
         Row(9, "There was not memory enough for the tree.", "", MEMORY),
-        Row(10, "A clause stands behind the first cube.", "p inccnf\n1 2 0\na 1 0\n-1 0\n",
+        Row(10, "A clause follows the first cube.", "p inccnf\n1 2 0\na 1 0\n-1 0\n",
             "Put all clauses before all cubes."),
         Row(11, "A cube has a variable twice.", "p inccnf\n1 2 0\na 1 1 0\n",
             "Make the tree anew by `satcluster cubes`."),
@@ -144,7 +144,7 @@ ANSWER = Table(
             "Put the `v` lines into the file as the solver has printed them."),
         Row(2, "A value is no number, or above 99,999,999.", "v 1 x 0\n",
             "A number has neither a plus nor a leading zero."),
-        Row(3, "A value stands behind the `0`.", "v 1 0 2\n",
+        Row(3, "A value follows the `0`.", "v 1 0 2\n",
             "The file has the answers of two runs: take one of them."),
         Row(4, "A literal is named, and its negation too.", "v 1 2\nv -1 0\n",
             "The solver is wrong, or the file has the answers of two runs."),

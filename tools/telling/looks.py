@@ -66,6 +66,10 @@ def of_formula(head: bytes, name: str) -> Optional[Look]:
     return None
 
 
+def is_formula(head: bytes) -> bool:
+    return first_words(head)[:2] == [b"p", b"cnf"]
+
+
 def first_words(head: bytes) -> List[bytes]:
     lines = [line for line in head.split(b"\n") if line[:1] != b"c" and line.split()]
     return lines[0].split() if lines else []
