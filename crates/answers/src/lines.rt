@@ -1,6 +1,6 @@
 //! The lines of an answer, part by part.
 
-ghost use Rattle.std.specs.Prelude.{◌≡◌, ◌+◌, ◌∷◌, [], false, MatchResult};
+ghost use Rattle.std.specs.Prelude.{◌≡◌, ◌≤◌, ◌+◌, ◌^◌, ◌∷◌, [], false, MatchResult, OnErr};
 ghost use Rattle.dimacs.specs.inner.Pieces.{IsOpen};
 ghost use Rattle.answers.specs.Pieces.{GivesNamed, read_on};
 ghost use Rattle.answers.specs.Reading.{no_memory};
@@ -14,9 +14,10 @@ use crate::words::cut_line;
 use std::alloc::{AllocError, Global};
 use std::marker::Model;
 
-/// The number of the line behind so many lines. A number that has no room in 64 bits is refused as for want of memory.
+/// The number of the line behind so many lines. A number that has no room in 64 bits, and no other, is refused as for want of memory.
 fn next_number(count: u64) -> Result<u64, AnswerFault>
-    ensures { MatchResult result (λ n. n ≡ count + 1) (λ fault. fault ≡ no_memory) }
+    ensures number { MatchResult result (λ n. n ≡ count + 1) (λ fault. fault ≡ no_memory) }
+    ensures only { OnErr result (2 ^ 64 ≤ count + 1) }
 {
     match count.checked_add(1) {
         Some(number) => Ok(number),

@@ -1,6 +1,7 @@
 //! What is handed the lines of a LIDRUP text, one after the other.
 
-ghost use Rattle.std.specs.Prelude.{◌≡◌, OnOk, IfErr, if◌then◌else◌};
+ghost use Rattle.std.specs.Prelude.{◌≡◌, ◌≤◌, ◌+◌, ◌^◌, MatchResult, OnErr, OnOk, IfErr, if◌then◌else◌};
+ghost use Rattle.lrat_check.specs.Checking.{no_memory};
 ghost use Rattle.lrat_text.specs.Reading.{step_in};
 ghost use Rattle.lidrup.specs.Lidrup.{take_read};
 ghost use Rattle.lidrup.specs.Lines.{by_step, line_in, lrat_line};
@@ -21,6 +22,17 @@ fn not_read(fault: TextFault) -> LineFault
     match fault {
         TextFault::NoMemory => LineFault::NoMemory,
         _ => LineFault::Text(fault),
+    }
+}
+
+/// The number of the line behind this one. One that has no room in 64 bits, and no other, is refused as for want of memory.
+fn next_line(line: u64) -> Result<u64, CheckFault>
+    ensures number { MatchResult result (λ n. n ≡ line + 1) (λ fault. fault ≡ no_memory) }
+    ensures only { OnErr result (2 ^ 64 ≤ line + 1) }
+{
+    match line.checked_add(1) {
+        Some(next) => Ok(next),
+        None => Err(CheckFault::no_memory()),
     }
 }
 
@@ -90,8 +102,9 @@ impl TakesLines for CubeLines {
     ghost refuses = { Refuses };
 
     fn take_line(&mut self, line: &[u8]) -> Result<(), CheckFault> {
-        let Some(next) = self.line.checked_add(1) else {
-            return Err(CheckFault::no_memory());
+        let next = match next_line(self.line) {
+            Ok(next) => next,
+            Err(fault) => return Err(fault),
         };
         if self.known.log.empty == 0 {
             match self.take(line) {

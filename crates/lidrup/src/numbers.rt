@@ -1,6 +1,6 @@
 //! Foreign numbers of hints and of deletions as numbers of the log.
 
-ghost use Rattle.std.specs.Prelude.{◌≡◌, ◌++◌, ◌∷◌, [], All, OnOk, IfOk, Some, None, if◌then◌else◌};
+ghost use Rattle.std.specs.Prelude.{◌≡◌, ◌≤◌, ◌^◌, ◌⊎◌, ◌++◌, ◌∷◌, [], All, OnErr, OnOk, IfOk, Some, None, if◌then◌else◌, vec_capacity, vec_len};
 ghost use Rattle.lrat_text.specs.Grammar.{IsClauseNumber};
 ghost use Rattle.lidrup.specs.Lidrup.{forgotten, own_numbers};
 ghost use Rattle.lidrup.specs.View.{names_of};
@@ -15,6 +15,8 @@ pub(crate) const LIMIT: u64 = 1 << 48;
 fn put(number: u64, numbers: &mut Vec<u64>) -> Result<(), AllocError>
     requires { All IsClauseNumber numbers.old.items }
     ensures put { OnOk result (numbers.new.items ≡ numbers.old.items ++ number ∷ []) }
+    // Memory is wanting only if there was no room, or of a number that no clause has.
+    ensures only { OnErr result ((vec_capacity numbers.old ≤ vec_len numbers.old) ⊎ ((number ≡ 0) ⊎ (2 ^ 48 ≤ number))) }
     ensures all { OnOk result (All IsClauseNumber numbers.new.items) }
 {
     if number == 0 || number >= LIMIT {

@@ -1,6 +1,6 @@
 //! `serve` as links come and go: a formula is decided by a coordinator, whose workers are elsewhere.
 
-ghost use Rattle.std.specs.Prelude.{◌≡◌, ◌≤◌, ℕ, All, List, IfOk, MatchOption, Option, None, Some, option_map};
+ghost use Rattle.std.specs.Prelude.{◌≡◌, ◌≤◌, ℕ, All, List, IfOk, MatchOption, OnOk, Option, None, Some, option_map};
 ghost use Rattle.command_line.specs.Options.{AreOptions};
 ghost use Rattle.cube_split.specs.Pairs.{IsBaseWith};
 ghost use Rattle.dimacs.specs.logic.Cnf.{Cnf};
@@ -8,7 +8,7 @@ ghost use Rattle.evidence.specs.Jobs.{IsInside};
 ghost use Rattle.arriving.specs.Accounts.{AreBounded, EachCloses, OnceEach, nobody};
 ghost use Rattle.arriving.specs.Run.{verdict_of};
 ghost use Rattle.node_main.specs.Deciding.{Decides};
-ghost use Rattle.node_main.specs.Serving.{links_of, proof_in, report_of};
+ghost use Rattle.node_main.specs.Serving.{HandsOutBy, HasEndedBy, links_of, proof_in, report_of};
 ghost use Rattle.node_main.specs.Running.{WasServed};
 ghost use Rattle.node_main.specs.Solving.{Solves};
 ghost use Rattle.node_main.specs.Starting.{IsStart, Starts};
@@ -74,6 +74,7 @@ impl Service {
     /// Hands the verdict out to those that are linked, for as long as they ask for it.
     pub fn hand_out<A: Arrivals>(&mut self, links: &mut A) -> Result<(), AllocError>
         ensures most { AreBounded (A.arrival_count links.old) (A.arrival_count links.new) (A.call_count links.old) (A.call_count links.new) }
+        ensures handed { OnOk result (HandsOutBy self.old (A.call_count links.old) (A.call_count links.new) (A.arrival_count links.old) (A.arrival_count links.new) (A.has_ended links.new) self.new) }
         ensures closes { EachCloses (links_of self.old) (links_of self.new) (A.link_count links.old) (A.link_count links.new) (A.refusal_count links.old) (A.refusal_count links.new) }
     {
         match &mut self.run {
@@ -97,6 +98,7 @@ fn attend_to<A: Arrivals>(
     ensures used { IfOk result (λ s. WasServed (A.call_count links.old) (A.call_count links.new) (report_of s)) }
     ensures most { AreBounded (A.arrival_count links.old) (A.arrival_count links.new) (A.call_count links.old) (A.call_count links.new) }
     ensures each { OnceEach (A.link_count links.old) (A.link_count links.new) (A.refusal_count links.old) (A.refusal_count links.new) }
+    ensures ended { IfOk result (λ s. HasEndedBy (A.arrival_count links.old) (A.arrival_count links.new) (A.has_ended links.new) s) }
     ensures closes { IfOk result (λ s. EachCloses nobody (links_of s) (A.link_count links.old) (A.link_count links.new) (A.refusal_count links.old) (A.refusal_count links.new)) }
 {
     let run = match arriving::decide_of(alloc, opened, tree, &service_plan(options), links) {
@@ -126,6 +128,7 @@ pub fn run_attend<A: Arrivals>(
     ensures used { IfOk result (λ s. WasServed (A.call_count links.old) (A.call_count links.new) (report_of s)) }
     ensures most { AreBounded (A.arrival_count links.old) (A.arrival_count links.new) (A.call_count links.old) (A.call_count links.new) }
     ensures each { OnceEach (A.link_count links.old) (A.link_count links.new) (A.refusal_count links.old) (A.refusal_count links.new) }
+    ensures ended { IfOk result (λ s. HasEndedBy (A.arrival_count links.old) (A.arrival_count links.new) (A.has_ended links.new) s) }
     ensures closes { IfOk result (λ s. EachCloses nobody (links_of s) (A.link_count links.old) (A.link_count links.new) (A.refusal_count links.old) (A.refusal_count links.new)) }
 {
     match begin(alloc, dimacs::read(alloc, input), cubes, options) {
@@ -149,6 +152,7 @@ pub fn attend<A: Arrivals>(
     ensures used { IfOk result (λ s. WasServed (A.call_count links.old) (A.call_count links.new) (report_of s)) }
     ensures most { AreBounded (A.arrival_count links.old) (A.arrival_count links.new) (A.call_count links.old) (A.call_count links.new) }
     ensures each { OnceEach (A.link_count links.old) (A.link_count links.new) (A.refusal_count links.old) (A.refusal_count links.new) }
+    ensures ended { IfOk result (λ s. HasEndedBy (A.arrival_count links.old) (A.arrival_count links.new) (A.has_ended links.new) s) }
     ensures closes { IfOk result (λ s. EachCloses nobody (links_of s) (A.link_count links.old) (A.link_count links.new) (A.refusal_count links.old) (A.refusal_count links.new)) }
 {
     accepted_proofs_are_sound();
