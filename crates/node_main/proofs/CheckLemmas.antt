@@ -17,15 +17,17 @@ use Rattle.lrat_text.proofs.SpellingLemmas.{found_spells, spelled_found}
 use Rattle.lrat_binary.proofs.ReadLemmas.{found_spells as binary_found_spells}
 use Rattle.lrat_binary.proofs.SpelledLemmas.{spelled_found as binary_spelled_found}
 use Rattle.lrat_check.specs.Checking.{GivesCheck, check_of, no_memory}
+use Rattle.lrat_check.specs.Soundness.{Soundness}
 use Rattle.lrat_check.specs.declared.checking.CheckFault.{CheckFault}
 use Rattle.lrat_check.proofs.Lines.{checked_accepted, accepted_checked, check_text-end, is_lf}
-use Rattle.binary_check.specs.Accepting.{AcceptsBinary}
+use Rattle.binary_check.specs.Accepting.{AcceptsBinary, BinarySoundness}
 use Rattle.binary_check.specs.Checking.{check_binary_of}
 use Rattle.binary_check.proofs.CheckedLemmas.{checked_accepted as binary_checked_accepted, accepted_checked as binary_accepted_checked}
 use Rattle.node_main.specs.Forms.{is_binary}
 use Rattle.node_main.specs.Reports.{answer_text, binary_answer_text, check_text, proof_text}
 use Rattle.node_main.specs.ProofChecks.{IsCheckReport}
 use Rattle.node_main.specs.inner.Checks.{IsTextReport}
+use Rattle.node_main.specs.Truth.{SpellsUnsatisfiable}
 use Rattle.node_main.proofs.FormLemmas.{text_form, binary_form}
 use Rattle.reports.specs.Faults.{input_fault_text}
 use Rattle.reports.specs.declared.report.Report.{Report}
@@ -153,3 +155,12 @@ input_report input proof fault (Ok report) fails text status none other =
       text = text ∙ sym (ap (λ found. proof_text found proof) read);
       no_proof = none;
     }
+
+-- ---- the truth
+
+-- what is verified is unsatisfiable, in whichever form it was
+pub check_true : Soundness → BinarySoundness → (input proof : List ℕ) (r : Result Report AllocError) → IfOk r (IsCheckReport input proof) → IfOk r (λ (x : Report). (x.status ≡ 0) → SpellsUnsatisfiable input)
+check_true sound binary_sound input proof (Err e) is = tt
+check_true sound binary_sound input proof (Ok x) is = λ zero.
+    let h = is.verified.0 zero in
+    (h.0, h.1, elim h.2 [ inl text ↦ sound h.0 proof text | inr binary ↦ binary_sound h.0 proof binary ])

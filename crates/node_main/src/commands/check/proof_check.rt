@@ -3,10 +3,13 @@
 ghost use Rattle.std.specs.Prelude.{◌≡◌, ◌++◌, [], ℕ, List, true, IfOk};
 ghost use Rattle.dimacs.specs.text.Reading.{GivesFormula, parse};
 ghost use Rattle.node_main.specs.ProofChecks.{HasTaken, IsCheckReport, KeepsNoLine, has_fault};
+ghost use Rattle.node_main.specs.Truth.{SpellsUnsatisfiable};
 
 use crate::commands::check::check_report::unread;
 use crate::commands::check::stage::Stage;
+use binary_check::accepted_binary_proofs_are_sound;
 use dimacs::{DimacsFault, Formula, read};
+use lrat_check::accepted_proofs_are_sound;
 use reports::Report;
 use std::alloc::{AllocError, Global};
 use std::marker::Model;
@@ -28,6 +31,16 @@ fn taken(
     match stage.taking(alloc, piece) {
         Ok(stage) => Ok(stage),
         Err(error) => Err(DimacsFault::from(error)),
+    }
+}
+
+/// What is reported where no further byte comes.
+fn report_of(alloc: Global, state: &Result<Stage, DimacsFault>) -> Result<Report, AllocError>
+    ensures { (input proof : List ℕ) → HasTaken input state.now proof → IfOk result (IsCheckReport input proof) }
+{
+    match state {
+        Ok(stage) => stage.report(alloc),
+        Err(fault) => unread(alloc, *fault),
     }
 }
 
@@ -97,11 +110,12 @@ impl ProofCheck {
 
     /// The report, where no further byte comes. The error stands for the report `c no memory`, status 1.
     pub fn finish(&self) -> Result<Report, AllocError>
-        ensures { (input proof : List ℕ) → HasTaken input self.now proof → IfOk result (IsCheckReport input proof) }
+        ensures report { (input proof : List ℕ) → HasTaken input self.now proof → IfOk result (IsCheckReport input proof) }
+        // So with status 0 the formula that the input spells is unsatisfiable.
+        ensures truth { (input proof : List ℕ) → HasTaken input self.now proof → IfOk result (λ r. r.status ≡ 0 → SpellsUnsatisfiable input) }
     {
-        match &self.state {
-            Ok(stage) => stage.report(self.alloc),
-            Err(fault) => unread(self.alloc, *fault),
-        }
+        accepted_proofs_are_sound();
+        accepted_binary_proofs_are_sound();
+        report_of(self.alloc, &self.state)
     }
 }

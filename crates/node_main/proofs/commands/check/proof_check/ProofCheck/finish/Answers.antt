@@ -1,14 +1,12 @@
-use Rattle.std.proofs.Common.{◌∙◌, sym, subst}
+use Rattle.std.proofs.Common.{sym, subst}
 use Rattle.node_main.specs.ProofChecks.{HasTaken}
-use Rattle.node_main.proofs.CheckLemmas.{input_report}
+use Rattle.node_main.proofs.CheckLemmas.{check_true}
 use Rattle.node_main.proofs.commands.check.proof_check.ProofCheck.finish.Goals as goal
 
-pub returns-in-Ok : goal.returns-in-Ok
-returns-in-Ok c = λ input proof taken.
-    let has = subst (λ s. HasTaken input s proof) (sym c.self.view_is ∙ c.in-Ok.is) taken in
-    c.report.ensures input proof has.0 has.1 has.2
+pub returns-clause-report : goal.returns-clause-report
+returns-clause-report c = λ input proof taken. c.report_of.ensures input proof (subst (λ s. HasTaken input s proof) (sym c.self.view_is) taken)
 
-pub returns-in-Err : goal.returns-in-Err
-returns-in-Err c = λ input proof taken.
-    let fails = subst (λ s. HasTaken input s proof) (sym c.self.view_is ∙ c.in-Err.is) taken in
-    input_report input proof c.in-Err.fault c.unread.result fails c.unread.ensures.text c.unread.ensures.status c.unread.ensures.proof c.unread.ensures.memory
+pub returns-clause-truth : goal.returns-clause-truth
+returns-clause-truth c = λ input proof taken.
+    check_true c.accepted_proofs_are_sound.ensures c.accepted_binary_proofs_are_sound.ensures input proof c.report_of.result
+    (c.report_of.ensures input proof (subst (λ s. HasTaken input s proof) (sym c.self.view_is) taken))
