@@ -23,7 +23,12 @@ CLAIMS = [
         "`s VERIFIED` is true",
         "If `check` ends with status 0, the input spells a formula that no assignment satisfies. Nothing of proofs has to be "
         "read for that.",
-        [("node_main", "run_check", ["truth"])],
+        [
+            ("node_main", "ProofCheck::new", ["taken"]),
+            ("node_main", "ProofCheck::feed", ["taken"]),
+            ("node_main", "ProofCheck::finish", ["truth"]),
+        ],
+        "HasTaken",
     ),
     (
         "What `check` makes of the bytes of a proof",
@@ -32,7 +37,7 @@ CLAIMS = [
         [
             ("node_main", "ProofCheck::of", ["taken"]),
             ("node_main", "ProofCheck::feed", ["taken"]),
-            ("node_main", "ProofCheck::finish", [None]),
+            ("node_main", "ProofCheck::finish", ["report"]),
         ],
         "HasTaken",
     ),
@@ -93,8 +98,8 @@ counted. The page is made by `tools/reading.py`, which counts them from the sour
 `IfOk r P` says that P holds of x if r is `Ok x`, and nothing of an error; so does `OnOk r Q`, that Q holds then. `x.now` is the value of
 a reference, `x.old` and `x.new` those before and after the call, and `v.items` the elements of a vector.
 
-The clauses are those of calls on whole texts. The program makes the calls that these make, on pieces of its files: `ProofCheck::finish` for
-`run_check`, `run_solve_of`, `attend` and `run_work_of` for `run_solve`, `run_attend` and `run_work`.
+The clauses are those of calls on whole texts. The program makes the calls that these make, on pieces of its files: `ProofCheck::of` for
+`ProofCheck::new`, `run_solve_of`, `attend` and `run_work_of` for `run_solve`, `run_attend` and `run_work`.
 [PROOFS.md](PROOFS.md#from-a-printed-byte-to-its-contract) tells how, and by which contracts pieces give what the whole text gives.
 The calls of a cluster are made by tests alone.
 """

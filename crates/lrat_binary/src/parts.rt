@@ -5,7 +5,8 @@ ghost use Rattle.dimacs.specs.logic.Literal.{Neg, Pos};
 ghost use Rattle.lrat_text.specs.Steps.{step_of};
 ghost use Rattle.lrat_binary.specs.Reading.{AtId, AtLiterals, AtHints, AtDeleted, Between, byte_taken, letter_taken, number_taken, hint_taken, literal_taken, token_of, after};
 ghost use Rattle.lrat_binary.specs.inner.Short.{SkipsTo};
-ghost use Rattle.lrat_binary.specs.inner.Parts.{IsCounted, part_at, begun_of, step_held, Tells};
+ghost use Rattle.lrat_binary.specs.Parts.{part_at, begun_of};
+ghost use Rattle.lrat_binary.specs.inner.Parts.{IsCounted, step_held, Tells};
 
 use crate::number::{LAST_WEIGHT, Number};
 use crate::short::{take_literals, take_numbers};

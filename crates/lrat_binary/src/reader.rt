@@ -4,7 +4,8 @@ ghost use Rattle.std.specs.Prelude.{◌≡◌, ℕ, [], ◌∷◌, MatchResult};
 ghost use Rattle.std.specs.Result.{result_err};
 ghost use Rattle.lrat_binary.specs.Reading.{Begun, Between, Ends, after, at_end};
 ghost use Rattle.lrat_binary.specs.Taking.{HandsOn, Stops};
-ghost use Rattle.lrat_binary.specs.inner.Parts.{begun_of, step_held};
+ghost use Rattle.lrat_binary.specs.Parts.{begun_of};
+ghost use Rattle.lrat_binary.specs.inner.Parts.{step_held};
 
 use crate::parts::{Parts, Taken};
 use crate::taking::{FeedFault, TakesSteps};
@@ -81,7 +82,7 @@ pub struct BinaryReader {
 
 impl Model for BinaryReader {
     ghost use Rattle.lrat_binary.specs.Reading.{Begun};
-    ghost use Rattle.lrat_binary.specs.inner.Parts.{begun_of};
+    ghost use Rattle.lrat_binary.specs.Parts.{begun_of};
 
     ghost Value = { Begun };
 

@@ -1,8 +1,11 @@
 -- What `check` reports of a proof that comes in pieces.
-use Rattle.std.proofs.Common.{◌≡◌, ◌≢◌, ◌⊎◌, ℕ, List, cond, Result, Ok, Err, None, inl, inr, refl, sym, ap, subst, ◌∙◌}
+use Rattle.std.proofs.Common.{◌≡◌, ◌≢◌, ◌⊎◌, ℕ, Bool, true, false, List, [], cond, Result, Ok, Err, None, inl, inr, refl, sym, ap, subst, ◌∙◌}
 use Rattle.std.specs.Prelude.{IfOk, OnOk, is_ok}
 use Rattle.std.specs.declared.alloc.AllocError.{AllocError}
+use Rattle.std.proofs.lemmas.Bool.{true≢false}
+use Rattle.std.proofs.lemmas.List.Elements.{All-nil}
 use Rattle.dimacs.specs.logic.Cnf.{Cnf}
+use Rattle.dimacs.specs.logic.ClauseMap.{map_of}
 use Rattle.dimacs.specs.text.Reading.{parse, no_memory as input_no_memory}
 use Rattle.dimacs.specs.text.Rows.{Fails}
 use Rattle.dimacs.specs.text.Spelling.{Spells}
@@ -11,12 +14,22 @@ use Rattle.dimacs.specs.declared.fault.Kind.TheVariants.{NoMemory}
 use Rattle.dimacs.proofs.SpellingLemmas.{parse_spells, spells_parse}
 use Rattle.lrat_text.specs.Proof.{Accepts}
 use Rattle.lrat_text.proofs.SpellingLemmas.{found_spells, spelled_found}
+use Rattle.lrat_binary.proofs.ReadLemmas.{found_spells as binary_found_spells}
+use Rattle.lrat_binary.proofs.SpelledLemmas.{spelled_found as binary_spelled_found}
 use Rattle.lrat_check.specs.Checking.{GivesCheck, check_of, no_memory}
+use Rattle.lrat_check.specs.Soundness.{Soundness}
 use Rattle.lrat_check.specs.declared.checking.CheckFault.{CheckFault}
-use Rattle.lrat_check.proofs.Lines.{checked_accepted, accepted_checked}
-use Rattle.node_main.specs.Reports.{answer_text, check_text}
-use Rattle.reports.specs.Faults.{input_fault_text}
+use Rattle.lrat_check.proofs.Lines.{checked_accepted, accepted_checked, check_text-end, is_lf}
+use Rattle.binary_check.specs.Accepting.{AcceptsBinary, BinarySoundness}
+use Rattle.binary_check.specs.Checking.{check_binary_of}
+use Rattle.binary_check.proofs.CheckedLemmas.{checked_accepted as binary_checked_accepted, accepted_checked as binary_accepted_checked}
+use Rattle.node_main.specs.Forms.{is_binary}
+use Rattle.node_main.specs.Reports.{answer_text, binary_answer_text, check_text, proof_text}
 use Rattle.node_main.specs.ProofChecks.{IsCheckReport}
+use Rattle.node_main.specs.inner.Checks.{IsTextReport}
+use Rattle.node_main.specs.Truth.{SpellsUnsatisfiable}
+use Rattle.node_main.proofs.FormLemmas.{text_form, binary_form}
+use Rattle.reports.specs.Faults.{input_fault_text}
 use Rattle.reports.specs.declared.report.Report.{Report}
 
 -- ---- the proof's answer
@@ -41,10 +54,12 @@ one_of_two (Err fault) = inr refl
 formula_is : (input : List ℕ) (F G : Cnf) → parse input ≡ Ok F → Spells input G → G ≡ F
 formula_is input F G read spells = let other : parse input ≡ Ok G = spells_parse input G spells in cc
 
-pub proof_report : (input proof : List ℕ) (F : Cnf) (answer : Result (Unit {0}) CheckFault) (result : Result Report AllocError) → parse input ≡ Ok F → GivesCheck answer (check_of F proof)
-    → IfOk result (λ r. r.stdout.items ≡ answer_text answer) → IfOk result (λ r. r.status ≡ status_of answer) → IfOk result (λ r. r.proof ≡ None) → OnOk result (answer ≢ Err no_memory) → IfOk result (IsCheckReport input proof)
-proof_report input proof F answer (Err e) read gives text status none other = tt
-proof_report input proof F answer (Ok report) read gives text status none other =
+-- ---- a text
+
+pub text_report : (input proof : List ℕ) (F : Cnf) (answer : Result (Unit {0}) CheckFault) (result : Result Report AllocError) → parse input ≡ Ok F → GivesCheck answer (check_of F proof)
+    → IfOk result (λ r. r.stdout.items ≡ answer_text answer) → IfOk result (λ r. r.status ≡ status_of answer) → IfOk result (λ r. r.proof ≡ None) → OnOk result (answer ≢ Err no_memory) → IfOk result (IsTextReport input proof)
+text_report input proof F answer (Err e) read gives text status none other = tt
+text_report input proof F answer (Ok report) read gives text status none other =
     let is : answer ≡ check_of F proof = answer_is answer (check_of F proof) gives other in
     record {
       verified = (
@@ -59,6 +74,54 @@ proof_report input proof F answer (Ok report) read gives text status none other 
       no_proof = none;
     }
 
+same_text : (found : Result Cnf DimacsFault) (proof : List ℕ) → is_binary proof ≡ false → check_text found proof ≡ proof_text found proof
+same_text (Ok F) proof form = ap (λ (b : Bool). cond b (binary_answer_text (check_binary_of F proof)) (answer_text (check_of F proof))) (sym form)
+same_text (Err fault) proof form = refl
+
+-- what is reported of a text is what is reported of a proof that is not in binary form
+pub proof_report : (input proof : List ℕ) (result : Result Report AllocError) → is_binary proof ≡ false → IfOk result (IsTextReport input proof) → IfOk result (IsCheckReport input proof)
+proof_report input proof (Err e) form is = tt
+proof_report input proof (Ok report) form is = record {
+  verified = (
+    λ zero. let h = is.verified.0 zero in (h.0, h.1, inl h.2),
+    λ (G, spells, accepts). elim accepts [
+      | inl text ↦ is.verified.1 (G, spells, text)
+      | inr binary ↦ absurd (true≢false (sym (binary_form G proof binary) ∙ form))
+    ],
+  );
+  status = is.status;
+  text = is.text ∙ same_text (parse input) proof form;
+  no_proof = is.no_proof;
+}
+
+-- a text without a byte
+pub nothing_given : (F : Cnf) → GivesCheck (Err (record { number = 13; line = 1; text = 0 })) (check_of F [])
+nothing_given F = inr (check_text-end false (map_of F) _ 1 [] (All-nil (λ b. is_lf b ≡ false)))
+
+-- ---- the binary form
+
+pub binary_report : (input proof : List ℕ) (F : Cnf) (answer : Result (Unit {0}) CheckFault) (result : Result Report AllocError) → parse input ≡ Ok F → is_binary proof ≡ true → GivesCheck answer (check_binary_of F proof)
+    → IfOk result (λ r. r.stdout.items ≡ binary_answer_text answer) → IfOk result (λ r. r.status ≡ status_of answer) → IfOk result (λ r. r.proof ≡ None) → OnOk result (answer ≢ Err no_memory) → IfOk result (IsCheckReport input proof)
+binary_report input proof F answer (Err e) read form gives text status none other = tt
+binary_report input proof F answer (Ok report) read form gives text status none other =
+    let is : answer ≡ check_binary_of F proof = answer_is answer (check_binary_of F proof) gives other in
+    record {
+      verified = (
+        λ zero. (F, parse_spells input F read, inr (binary_checked_accepted binary_found_spells (λ bytes steps h. binary_spelled_found steps bytes h) F proof (sym is ∙ passed answer (sym status ∙ zero)))),
+        λ (G, spells, accepts).
+            elim accepts [
+              | inl text ↦ absurd (true≢false (sym form ∙ text_form G proof text))
+              | inr binary ↦
+                  let same : G ≡ F = formula_is input F G read spells in
+                  let well : check_binary_of F proof ≡ Ok tt = binary_accepted_checked binary_found_spells (λ bytes steps h. binary_spelled_found steps bytes h) F proof (subst (λ H. AcceptsBinary H proof) same binary) in
+                  status ∙ ap status_of (is ∙ well)
+            ],
+      );
+      status = subst (λ n. (n ≡ 0) ⊎ (n ≡ 1)) (sym status) (one_of_two answer);
+      text = text ∙ ap binary_answer_text is ∙ sym (ap (λ (b : Bool). cond b (binary_answer_text (check_binary_of F proof)) (answer_text (check_of F proof))) form) ∙ sym (ap (λ found. proof_text found proof) read);
+      no_proof = none;
+    }
+
 -- ---- the input's fault
 
 -- a fault that is not want of memory is the input's
@@ -69,17 +132,35 @@ fault_stands fault expected (inr is) other = is
 unspelled : {P : Type 0} (input : List ℕ) (fault : DimacsFault) (F : Cnf) → parse input ≡ Err fault → Spells input F → P
 unspelled input fault F read spells = let other : parse input ≡ Ok F = spells_parse input F spells in absurd cc
 
+pub input_text_report : (input proof : List ℕ) (fault : DimacsFault) (result : Result Report AllocError) → Fails input_no_memory fault (parse input)
+    → IfOk result (λ r. r.stdout.items ≡ input_fault_text fault) → IfOk result (λ r. r.status ≡ 1) → IfOk result (λ r. r.proof ≡ None) → OnOk result (fault.kind ≢ NoMemory) → IfOk result (IsTextReport input proof)
+input_text_report input proof fault (Err e) fails text status none other = tt
+input_text_report input proof fault (Ok report) fails text status none other =
+    let read : parse input ≡ Err fault = fault_stands fault (parse input) fails other in
+    record {
+      verified = (λ zero. absurd (let one : 1 ≡ 0 = sym status ∙ zero in cc), λ (G, spells, accepts). unspelled input fault G read spells);
+      status = inr status;
+      text = text ∙ sym (ap (λ found. check_text found proof) read);
+      no_proof = none;
+    }
+
 pub input_report : (input proof : List ℕ) (fault : DimacsFault) (result : Result Report AllocError) → Fails input_no_memory fault (parse input)
     → IfOk result (λ r. r.stdout.items ≡ input_fault_text fault) → IfOk result (λ r. r.status ≡ 1) → IfOk result (λ r. r.proof ≡ None) → OnOk result (fault.kind ≢ NoMemory) → IfOk result (IsCheckReport input proof)
 input_report input proof fault (Err e) fails text status none other = tt
 input_report input proof fault (Ok report) fails text status none other =
     let read : parse input ≡ Err fault = fault_stands fault (parse input) fails other in
     record {
-      verified = (
-        λ zero. absurd (let no : 1 ≡ 0 = sym status ∙ zero in cc),
-        λ (G, spells, accepts). unspelled input fault G read spells,
-      );
+      verified = (λ zero. absurd (let one : 1 ≡ 0 = sym status ∙ zero in cc), λ (G, spells, accepts). unspelled input fault G read spells);
       status = inr status;
-      text = text ∙ sym (ap (λ found. check_text found proof) read);
+      text = text ∙ sym (ap (λ found. proof_text found proof) read);
       no_proof = none;
     }
+
+-- ---- the truth
+
+-- what is verified is unsatisfiable, in whichever form it was
+pub check_true : Soundness → BinarySoundness → (input proof : List ℕ) (r : Result Report AllocError) → IfOk r (IsCheckReport input proof) → IfOk r (λ (x : Report). (x.status ≡ 0) → SpellsUnsatisfiable input)
+check_true sound binary_sound input proof (Err e) is = tt
+check_true sound binary_sound input proof (Ok x) is = λ zero.
+    let h = is.verified.0 zero in
+    (h.0, h.1, elim h.2 [ inl text ↦ sound h.0 proof text | inr binary ↦ binary_sound h.0 proof binary ])

@@ -1,4 +1,6 @@
 pub mod CheckLemmas
+pub mod FormLemmas
+pub mod StageLemmas
 pub mod ServingLemmas
 pub mod SplittingLemmas
 pub mod StartLemmas

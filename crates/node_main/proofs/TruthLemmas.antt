@@ -5,7 +5,7 @@ use Rattle.dimacs.specs.logic.Cnf.{Cnf, assignment_of}
 use Rattle.dimacs.specs.text.Spelling.{Spells}
 use Rattle.lrat_text.specs.Proof.{Accepts}
 use Rattle.lrat_check.specs.Soundness.{Soundness, IsUnsatisfiable}
-use Rattle.node_main.specs.ProofChecks.{IsCheckReport}
+use Rattle.node_main.specs.inner.Checks.{IsTextReport}
 use Rattle.node_main.specs.Deciding.{Decides}
 use Rattle.node_main.specs.Solving.{Answers, IsRefused, Solves, Works}
 use Rattle.node_main.specs.Truth.{SpellsUnsatisfiable, IsTrueReport}
@@ -57,6 +57,6 @@ works_true sound input o (Err fault) is = tt
 
 -- what is verified is unsatisfiable
 pub verified_true : {E : Type 0} → Soundness → (input proof : List ℕ) (r : Result Report E)
-    → IfOk r (IsCheckReport input proof) → IfOk r (λ (x : Report). (x.status ≡ 0) → SpellsUnsatisfiable input)
+    → IfOk r (IsTextReport input proof) → IfOk r (λ (x : Report). (x.status ≡ 0) → SpellsUnsatisfiable input)
 verified_true sound input proof (Ok x) is = λ zero. let h = is.verified.0 zero in (h.0, h.1, sound h.0 proof h.2)
 verified_true sound input proof (Err fault) is = tt

@@ -3,6 +3,7 @@ pub mod Deciding
 pub mod Drawing
 pub mod DrillReports
 pub mod Drilling
+pub mod Forms
 pub mod ProofChecks
 pub mod Reports
 pub mod Running

@@ -201,3 +201,68 @@ fn faults_are_kept_to_the_end(rt: HostRuntime) {
         is_printed(&rt, rt.alloc(), *input, *proof, *want);
     }
 }
+
+/// Proofs in binary form, whose faults are told by step.
+const BINARY: &[Row] = &[
+    (
+        FOUR,
+        b"a\x0a\x04\0\x02\x04\0a\x0c\0\x0a\x06\x08\0",
+        b"s VERIFIED\n",
+    ),
+    // Each candidate has a group, and a deletion names nothing.
+    (
+        FOUR,
+        b"d\0a\x0a\x04\0\x07\x02\x09\x04\0a\x0c\0\x0a\x06\x08\0",
+        b"s VERIFIED\n",
+    ),
+    // No empty clause: one more than there are steps.
+    (
+        FOUR,
+        b"a\x0a\x04\0\x02\x04\0",
+        b"s NOT VERIFIED\nc step 2 fault 13\n",
+    ),
+    (
+        FOUR,
+        b"a\x08\x04\0\x02\x04\0",
+        b"s NOT VERIFIED\nc step 1 fault 2\n",
+    ),
+    // Another letter, behind a right step.
+    (
+        FOUR,
+        b"a\x0a\x04\0\x02\x04\0x",
+        b"s NOT VERIFIED\nc step 2 fault 1\n",
+    ),
+    // A text of DRAT: the number 49 of a deletion is odd.
+    (FOUR, b"d 1 2 0\n", b"s NOT VERIFIED\nc step 1 fault 1\n"),
+    // A number with a needless byte.
+    (
+        FOUR,
+        b"a\x8a\0\x04\0\x02\x04\0",
+        b"s NOT VERIFIED\nc step 1 fault 1\n",
+    ),
+    // An eighth byte.
+    (
+        FOUR,
+        b"d\x80\x80\x80\x80\x80\x80\x80\x01\0",
+        b"s NOT VERIFIED\nc step 1 fault 1\n",
+    ),
+    // The greatest number is no live clause.
+    (
+        FOUR,
+        b"d\xfe\xff\xff\xff\xff\xff\x7f\0",
+        b"s NOT VERIFIED\nc step 1 fault 3\n",
+    ),
+    // The end within a step.
+    (
+        FOUR,
+        b"d\0a\x0a\x04\0\x02",
+        b"s NOT VERIFIED\nc step 2 fault 1\n",
+    ),
+];
+
+#[test]
+fn faults_of_the_binary_form_are_told_by_step(rt: HostRuntime) {
+    for (input, proof, want) in BINARY {
+        is_printed(&rt, rt.alloc(), *input, *proof, *want);
+    }
+}

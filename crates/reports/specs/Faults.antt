@@ -5,9 +5,17 @@ use Rattle.dimacs.specs.declared.fault.DimacsFault.{DimacsFault}
 use Rattle.icnf.specs.Faults.{number_of_kind as number_of_cubes_kind}
 use Rattle.icnf.specs.declared.fault.IcnfFault.{IcnfFault}
 
+-- where a fault is, and its number
+abbrev pub fault_at : List ℕ → ℕ → ℕ → List ℕ
+fault_at place at number = place ++ decimal at ++ codes " fault " ++ decimal number ++ codes "\n"
+
 -- a fault's line and number
 abbrev pub fault_text : ℕ → ℕ → List ℕ
-fault_text line number = codes "line " ++ decimal line ++ codes " fault " ++ decimal number ++ codes "\n"
+fault_text line number = fault_at (codes "line ") line number
+
+-- a fault's step and number
+abbrev pub step_fault_text : ℕ → ℕ → List ℕ
+step_fault_text step number = fault_at (codes "step ") step number
 
 -- what is printed of a faulty input
 abbrev pub input_fault_text : DimacsFault → List ℕ

@@ -2,7 +2,7 @@
 
 ghost use Rattle.std.specs.Prelude.{◌≡◌, ◌++◌, OnErr, OnOk, IfOk, None, decimal};
 ghost use Rattle.dimacs.specs.text.Spelling.{Begins};
-ghost use Rattle.reports.specs.Faults.{cubes_fault_text, fault_text, input_fault_text, other_formula_text};
+ghost use Rattle.reports.specs.Faults.{cubes_fault_text, fault_at, fault_text, input_fault_text, other_formula_text, step_fault_text};
 
 use crate::report::Report;
 use dimacs::DimacsFault;
@@ -20,15 +20,28 @@ pub fn put_number(out: &mut Vec<u8>, number: u64) -> Result<(), AllocError>
     out.extend_from_slice(text.as_bytes())
 }
 
-fn put_words(out: &mut Vec<u8>, line: u64, number: u8) -> Result<(), AllocError>
-    ensures ok { OnOk result (out.new.items ≡ out.old.items ++ fault_text line number) }
+fn put_words(out: &mut Vec<u8>, place: &[u8], at: u64, number: u8) -> Result<(), AllocError>
+    ensures ok { OnOk result (out.new.items ≡ out.old.items ++ fault_at place.now at number) }
     ensures begins { Begins out.old.items out.new.items }
 {
-    out.extend_from_slice(b"line ")?;
-    put_number(out, line)?;
+    out.extend_from_slice(place)?;
+    put_number(out, at)?;
     out.extend_from_slice(b" fault ")?;
     put_number(out, u64::from(number))?;
     out.extend_from_slice(b"\n")
+}
+
+/// Appends where a fault is, and its number. Where memory is refused, `out` is as before.
+fn put_fault_at(out: &mut Vec<u8>, place: &[u8], at: u64, number: u8) -> Result<(), AllocError>
+    ensures ok { OnOk result (out.new.items ≡ out.old.items ++ fault_at place.now at number) }
+    ensures err { OnErr result (out.new.items ≡ out.old.items) }
+{
+    let len = out.len();
+    let written = put_words(out, place, at, number);
+    if written.is_err() {
+        out.truncate(len);
+    }
+    written
 }
 
 /// Appends `line L fault N` and LF. Where memory is refused, `out` is as before.
@@ -36,12 +49,15 @@ pub fn put_fault(out: &mut Vec<u8>, line: u64, number: u8) -> Result<(), AllocEr
     ensures ok { OnOk result (out.new.items ≡ out.old.items ++ fault_text line number) }
     ensures err { OnErr result (out.new.items ≡ out.old.items) }
 {
-    let len = out.len();
-    let written = put_words(out, line, number);
-    if written.is_err() {
-        out.truncate(len);
-    }
-    written
+    put_fault_at(out, b"line ", line, number)
+}
+
+/// Appends `step K fault N` and LF. Where memory is refused, `out` is as before.
+pub fn put_step_fault(out: &mut Vec<u8>, step: u64, number: u8) -> Result<(), AllocError>
+    ensures ok { OnOk result (out.new.items ≡ out.old.items ++ step_fault_text step number) }
+    ensures err { OnErr result (out.new.items ≡ out.old.items) }
+{
+    put_fault_at(out, b"step ", step, number)
 }
 
 /// The report of a fault of the input.

@@ -5,6 +5,8 @@ mod faults;
 mod refusal;
 mod report;
 
-pub use faults::{faulty_cubes, faulty_input, other_formula, put_fault, put_number};
+pub use faults::{
+    faulty_cubes, faulty_input, other_formula, put_fault, put_number, put_step_fault,
+};
 pub use refusal::Refusal;
 pub use report::Report;

@@ -1,15 +1,14 @@
--- What the parts of a reader hold.
-use Rattle.std.specs.Prelude.{◌≡◌, ◌≢◌, ◌≤◌, Bool, true, false, Option, Some, None, Result, Ok, Err}
+-- What a byte makes of a reader's parts.
+use Rattle.std.specs.Prelude.{◌≡◌, ◌≢◌, ◌≤◌, Bool, true, false, Result, Ok, Err}
 use Rattle.lrat_text.specs.declared.fault.TextFault.{TextFault}
 use Rattle.lrat_text.specs.declared.fault.TextFault.TheVariants.{NoMemory}
 use Rattle.lrat_text.specs.declared.step.Step.{Step}
 use Rattle.lrat_text.specs.declared.step.Step.TheVariants.{Add, Delete}
-use Rattle.lrat_binary.specs.Reading.{Part, AtId, AtLiterals, AtHints, AtDeleted, Begun, Between, Within, Outcome, Goes, Ends, Fails}
+use Rattle.lrat_binary.specs.Parts.{begun_of}
+use Rattle.lrat_binary.specs.Reading.{Outcome, Goes, Ends, Fails}
 use Rattle.lrat_binary.specs.declared.token.Token.{Token}
 use Rattle.lrat_binary.specs.declared.token.Token.TheVariants.{End, Plus, Minus, Other}
 use Rattle.lrat_binary.specs.declared.parts.Parts.{Parts}
-use Rattle.lrat_binary.specs.declared.parts.Place.{Place}
-use Rattle.lrat_binary.specs.declared.parts.Place.TheVariants as place
 use Rattle.lrat_binary.specs.declared.parts.Taken.{Taken}
 use Rattle.lrat_binary.specs.declared.parts.Taken.TheVariants.{More, Addition, Deletion}
 
@@ -19,21 +18,6 @@ IsCounted End = Unit {0}
 IsCounted (Plus n) = 1 ≤ n
 IsCounted (Minus n) = 1 ≤ n
 IsCounted Other = Unit {0}
-
--- what came before the next number, where that stands at a place
-abbrev pub part_at : Place → Parts → Part
-part_at place.Id p = AtId
-part_at place.Literals p = AtLiterals p.id p.literals.items
-part_at place.Hints p = AtHints p.id p.literals.items p.numbers.items p.groups
-part_at place.Deleted p = AtDeleted p.numbers.items
-
-abbrev pub begun_at : Option Place → Parts → Begun
-begun_at None p = Between
-begun_at (Some at) p = Within (part_at at p) p.number.value p.number.weight
-
--- what is begun
-abbrev pub begun_of : Parts → Begun
-begun_of p = begun_at p.place p
 
 -- the step that is whole
 abbrev pub step_held : Bool → Parts → Step

@@ -7,15 +7,30 @@ ghost use Rattle.dimacs.specs.text.Spelling.{Spells};
 ghost use Rattle.lrat_text.specs.Proof.{Accepts};
 ghost use Rattle.node_main.specs.Reports.{check_text};
 ghost use Rattle.node_main.specs.Truth.{SpellsUnsatisfiable};
+ghost use Rattle.node_main.specs.inner.Checks.{IsTextReport};
 
+mod check_report;
 mod proof_check;
+mod stage;
 
-use lrat_check::accepted_proofs_are_sound;
+use check_report::{answered, unread};
+use dimacs::read;
+use lrat_check::{accepted_proofs_are_sound, check};
 pub use proof_check::ProofCheck;
 use reports::Report;
 use std::alloc::{AllocError, Global};
 
-/// Reads a formula and checks a proof of it. The error stands for the report `c no memory`, status 1.
+/// Checks a text of a proof.
+fn check_text(alloc: Global, input: &[u8], proof: &[u8]) -> Result<Report, AllocError>
+    ensures { IfOk result (IsTextReport input.now proof.now) }
+{
+    match read(alloc, input) {
+        Ok(formula) => answered(alloc, check(alloc, &formula, proof)),
+        Err(fault) => unread(alloc, fault),
+    }
+}
+
+/// Reads a formula and checks the text of a proof of it. The error stands for the report `c no memory`, status 1.
 pub fn run_check(alloc: Global, input: &[u8], proof: &[u8]) -> Result<Report, AllocError>
     // Exactly where the input spells a formula and the proof is accepted against it.
     ensures verified { IfOk result (λ r. (r.status ≡ 0) ↔ ((F : Cnf) × Spells input.now F × Accepts F proof.now)) }
@@ -27,7 +42,5 @@ pub fn run_check(alloc: Global, input: &[u8], proof: &[u8]) -> Result<Report, Al
     ensures proof { IfOk result (λ r. r.proof ≡ None) }
 {
     accepted_proofs_are_sound();
-    let mut check = ProofCheck::new(alloc, input);
-    check.feed(proof);
-    check.finish()
+    check_text(alloc, input, proof)
 }

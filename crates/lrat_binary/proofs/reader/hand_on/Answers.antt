@@ -1,7 +1,7 @@
 use Rattle.std.proofs.Common.{◌∙◌, sym, ap}
 use Rattle.lrat_text.specs.Steps.{step_of}
 use Rattle.lrat_binary.specs.Reading.{Ends}
-use Rattle.lrat_binary.specs.inner.Parts.{begun_of}
+use Rattle.lrat_binary.specs.Parts.{begun_of}
 use Rattle.lrat_binary.proofs.TakingLemmas.{hands_step, refuses_byte}
 use Rattle.lrat_binary.proofs.reader.hand_on.Goals as goal
 

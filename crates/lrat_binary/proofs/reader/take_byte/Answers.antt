@@ -1,4 +1,4 @@
-use Rattle.lrat_binary.specs.inner.Parts.{begun_of}
+use Rattle.lrat_binary.specs.Parts.{begun_of}
 use Rattle.lrat_binary.proofs.TakingLemmas.{hands_byte, breaks_byte}
 use Rattle.lrat_binary.proofs.reader.take_byte.Goals as goal
 

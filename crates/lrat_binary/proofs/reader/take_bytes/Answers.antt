@@ -1,7 +1,7 @@
 use Rattle.std.proofs.Common.{◌≡◌, ◌∷◌, sym, subst}
 use Rattle.std.proofs.lemmas.Result.{err_from_is_err_and}
 use Rattle.lrat_binary.specs.Taking.{HandsOn, Stops}
-use Rattle.lrat_binary.specs.inner.Parts.{begun_of}
+use Rattle.lrat_binary.specs.Parts.{begun_of}
 use Rattle.lrat_binary.proofs.TakingLemmas.{breaks_memory, hands_more, hands_on, hands_skip, stops_more, stops_on}
 use Rattle.lrat_binary.proofs.reader.take_bytes.Goals as goal
 

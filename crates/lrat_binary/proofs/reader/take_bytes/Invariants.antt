@@ -1,6 +1,6 @@
 use Rattle.std.proofs.Common.{length}
 use Rattle.lrat_binary.specs.Taking.{HandsOn}
-use Rattle.lrat_binary.specs.inner.Parts.{begun_of}
+use Rattle.lrat_binary.specs.Parts.{begun_of}
 use Rattle.lrat_binary.proofs.reader.take_bytes.Given as goal
 
 -- the bytes so far lead from the piece to the rest

@@ -1,87 +1,67 @@
 //! A check of a proof that comes in pieces.
 
-ghost use Rattle.std.specs.Prelude.{◌≡◌, ◌≢◌, ◌++◌, [], ℕ, List, true, Ok, Err, None, IfOk, OnOk, is_ok, if◌then◌else◌};
+ghost use Rattle.std.specs.Prelude.{◌≡◌, ◌++◌, [], ℕ, List, true, IfOk};
 ghost use Rattle.dimacs.specs.text.Reading.{GivesFormula, parse};
-ghost use Rattle.lrat_check.specs.Checking.{no_memory};
 ghost use Rattle.node_main.specs.ProofChecks.{HasTaken, IsCheckReport, KeepsNoLine, has_fault};
-ghost use Rattle.node_main.specs.Reports.{answer_text};
-ghost use Rattle.reports.specs.Faults.{input_fault_text};
+ghost use Rattle.node_main.specs.Truth.{SpellsUnsatisfiable};
 
-use dimacs::{DimacsFault, Formula, Kind};
-use lrat_check::{CheckFault, StreamChecker};
-use reports::{Report, faulty_input, put_fault};
+use crate::commands::check::check_report::unread;
+use crate::commands::check::stage::Stage;
+use binary_check::accepted_binary_proofs_are_sound;
+use dimacs::{DimacsFault, Formula, read};
+use lrat_check::accepted_proofs_are_sound;
+use reports::Report;
 use std::alloc::{AllocError, Global};
 use std::marker::Model;
+use std::mem;
 
-/// The report of a proof that is not accepted.
-fn refused_proof(alloc: Global, fault: CheckFault) -> Result<Report, AllocError>
-    ensures text { IfOk result (λ r. r.stdout.items ≡ answer_text (Err fault)) }
-    ensures status { IfOk result (λ r. r.status ≡ 1) }
-    ensures proof { IfOk result (λ r. r.proof ≡ None) }
+/// Takes the next piece of a proof of an input that was read, or not.
+fn taken(
+    alloc: Global,
+    state: Result<Stage, DimacsFault>,
+    piece: &[u8],
+) -> Result<Stage, DimacsFault>
+    ensures taken { (input proof : List ℕ) → HasTaken input state proof → HasTaken input result (proof ++ piece.now) }
+    ensures kept { KeepsNoLine result }
 {
-    let mut report = Report::of(alloc, b"s NOT VERIFIED\nc ", 1)?;
-    put_fault(&mut report.stdout, fault.line, fault.number)?;
-    Ok(report)
-}
-
-/// The report of what checking answered.
-fn answered(alloc: Global, answer: Result<(), CheckFault>) -> Result<Report, AllocError>
-    ensures text { IfOk result (λ r. r.stdout.items ≡ answer_text answer) }
-    ensures status { IfOk result (λ r. r.status ≡ (if is_ok answer then 0 else 1)) }
-    ensures proof { IfOk result (λ r. r.proof ≡ None) }
-    ensures memory { OnOk result (answer ≢ Err no_memory) }
-{
-    match answer {
-        Ok(()) => Report::of(alloc, b"s VERIFIED\n", 0),
-        Err(fault) if fault.is_no_memory() => Err(AllocError),
-        Err(fault) => refused_proof(alloc, fault),
-    }
-}
-
-/// The report of an input that was not read.
-fn unread(alloc: Global, fault: DimacsFault) -> Result<Report, AllocError>
-    ensures text { IfOk result (λ r. r.stdout.items ≡ input_fault_text fault) }
-    ensures status { IfOk result (λ r. r.status ≡ 1) }
-    ensures proof { IfOk result (λ r. r.proof ≡ None) }
-    ensures memory { OnOk result (fault.kind ≢ Kind.NoMemory) }
-{
-    if fault.kind == Kind::NoMemory {
-        return Err(AllocError);
-    }
-    faulty_input(alloc, fault)
-}
-
-/// Begins to check a proof of a formula that was read, or not.
-fn begin(alloc: Global, found: Result<Formula, DimacsFault>) -> Result<StreamChecker, DimacsFault>
-    ensures { (input : List ℕ) → GivesFormula found (parse input) → HasTaken input result [] }
-{
-    let formula = match found {
-        Ok(formula) => formula,
+    let stage = match state {
+        Ok(stage) => stage,
         Err(fault) => return Err(fault),
     };
-    match StreamChecker::of(alloc, formula) {
-        Ok(stream) => Ok(stream),
+    match stage.taking(alloc, piece) {
+        Ok(stage) => Ok(stage),
         Err(error) => Err(DimacsFault::from(error)),
     }
 }
 
-/// A check of a proof that comes in pieces. Each fault, of the input, of the proof or of memory, is kept for `finish`.
+/// What is reported where no further byte comes.
+fn report_of(alloc: Global, state: &Result<Stage, DimacsFault>) -> Result<Report, AllocError>
+    ensures { (input proof : List ℕ) → HasTaken input state.now proof → IfOk result (IsCheckReport input proof) }
+{
+    match state {
+        Ok(stage) => stage.report(alloc),
+        Err(fault) => unread(alloc, *fault),
+    }
+}
+
+/// A check of a proof that comes in pieces: of a text, or, where the first byte is `a` or `d`, of the binary form. Each fault, of the
+/// input, of the proof or of memory, is kept for `finish`.
 #[derive(Drop)]
 pub struct ProofCheck {
     alloc: Global,
-    state: Result<StreamChecker, DimacsFault>,
+    state: Result<Stage, DimacsFault>,
 }
 
 impl Model for ProofCheck {
     ghost use Rattle.std.specs.Prelude.{Result};
     ghost use Rattle.std.specs.Coded.{codes};
-    ghost use Rattle.dimacs.specs.inner.Codes.{clause_map_code};
+    ghost use Rattle.dimacs.specs.inner.Codes.{clause_map_code, literal_code};
     ghost use Rattle.dimacs.specs.declared.fault.DimacsFault.{DimacsFault};
-    ghost use Rattle.lrat_check.specs.Stream.{Progress};
+    ghost use Rattle.node_main.specs.declared.commands.check.stage.Stage.{Stage};
 
-    ghost Value = { Result Progress DimacsFault };
+    ghost Value = { Result Stage DimacsFault };
 
-    ghost coded = { Prim.hlevel (codes, clause_map_code) };
+    ghost coded = { Prim.hlevel (codes, clause_map_code, literal_code) };
 
     ghost view = { λ c. c.state };
 }
@@ -92,7 +72,7 @@ impl ProofCheck {
         ensures taken { HasTaken input.now result [] }
         ensures kept { KeepsNoLine result }
     {
-        ProofCheck::of(alloc, dimacs::read(alloc, input))
+        ProofCheck::of(alloc, read(alloc, input))
     }
 
     /// The same of an input that was read, or has a fault, whichever way it came.
@@ -100,10 +80,11 @@ impl ProofCheck {
         ensures taken { (input : List ℕ) → GivesFormula found (parse input) → HasTaken input result [] }
         ensures kept { KeepsNoLine result }
     {
-        ProofCheck {
-            alloc,
-            state: begin(alloc, found),
-        }
+        let state = match found {
+            Ok(formula) => Ok(Stage::Awaiting(formula)),
+            Err(fault) => Err(fault),
+        };
+        ProofCheck { alloc, state }
     }
 
     /// Takes the next piece of the proof.
@@ -111,13 +92,8 @@ impl ProofCheck {
         ensures taken { (input proof : List ℕ) → HasTaken input self.old proof → HasTaken input self.new (proof ++ piece.now) }
         ensures kept { KeepsNoLine self.new }
     {
-        match &mut self.state {
-            // A fault is answered again by `finish`.
-            Ok(stream) => {
-                let _ = stream.feed(piece);
-            }
-            Err(_) => {}
-        }
+        let state = mem::replace(&mut self.state, Err(DimacsFault::from(AllocError)));
+        self.state = taken(self.alloc, state, piece);
     }
 
     /// Whether there is a fault, of the input, of the proof or of memory. Then no further byte of the proof changes what `finish` answers, so
@@ -127,18 +103,19 @@ impl ProofCheck {
         ensures stays { result ≡ true → (input proof more : List ℕ) → HasTaken input self.now proof → HasTaken input self.now (proof ++ more) }
     {
         match &self.state {
-            Ok(stream) => stream.is_settled(),
+            Ok(stage) => stage.is_settled(),
             Err(_) => true,
         }
     }
 
     /// The report, where no further byte comes. The error stands for the report `c no memory`, status 1.
     pub fn finish(&self) -> Result<Report, AllocError>
-        ensures { (input proof : List ℕ) → HasTaken input self.now proof → IfOk result (IsCheckReport input proof) }
+        ensures report { (input proof : List ℕ) → HasTaken input self.now proof → IfOk result (IsCheckReport input proof) }
+        // So with status 0 the formula that the input spells is unsatisfiable.
+        ensures truth { (input proof : List ℕ) → HasTaken input self.now proof → IfOk result (λ r. r.status ≡ 0 → SpellsUnsatisfiable input) }
     {
-        match &self.state {
-            Ok(stream) => answered(self.alloc, stream.finish()),
-            Err(fault) => unread(self.alloc, *fault),
-        }
+        accepted_proofs_are_sound();
+        accepted_binary_proofs_are_sound();
+        report_of(self.alloc, &self.state)
     }
 }

@@ -1,8 +1,5 @@
-use Rattle.std.proofs.Common.{[]}
 use Rattle.node_main.proofs.TruthLemmas.{verified_true}
 use Rattle.node_main.proofs.commands.check.run_check.Goals as goal
 
 pub returns-clause-truth : goal.returns-clause-truth
-returns-clause-truth c =
-    verified_true c.accepted_proofs_are_sound.ensures c.args.input.now c.args.proof.now c.finish.result
-    (c.finish.ensures c.args.input.now c.args.proof.now (c.feed.ensures.taken c.args.input.now [] c.new-check.ensures.taken))
+returns-clause-truth c = verified_true c.accepted_proofs_are_sound.ensures c.args.input.now c.args.proof.now c.check_text.result c.check_text.ensures

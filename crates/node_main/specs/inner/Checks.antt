@@ -1,0 +1,35 @@
+-- One piece of a proof, and what is reported of a text.
+use Rattle.std.specs.Prelude.{◌≡◌, ◌↔◌, ◌⊎◌, ◌++◌, ℕ, Bool, true, false, List, [], None}
+use Rattle.dimacs.specs.logic.Cnf.{Cnf}
+use Rattle.dimacs.specs.text.Reading.{parse}
+use Rattle.dimacs.specs.text.Spelling.{Spells}
+use Rattle.lrat_text.specs.Proof.{Accepts}
+use Rattle.lrat_check.specs.Stream as text
+use Rattle.binary_check.specs.Stream as binary
+use Rattle.node_main.specs.Reports.{check_text}
+use Rattle.node_main.specs.declared.commands.check.stage.Stage.{Stage}
+use Rattle.node_main.specs.declared.commands.check.stage.Stage.TheVariants.{Awaiting, Text, Binary}
+use Rattle.reports.specs.declared.report.Report.{Report}
+
+-- a check has begun in one of the forms, and has taken no byte
+abbrev pub IsBegun : Cnf → Bool → Stage → Type 0
+IsBegun F form (Awaiting G) = ⊥
+IsBegun F form (Text p) = (form ≡ false) × text.HasTaken F p []
+IsBegun F form (Binary p) = (form ≡ true) × binary.HasTaken F p []
+
+-- a piece leads from one stage to another, in the same form
+abbrev pub IsFed : Stage → List ℕ → Stage → Type 0
+IsFed (Awaiting F) piece new = new ≡ Awaiting F
+IsFed (Text p) piece (Text q) = (F : Cnf) (bytes : List ℕ) → text.HasTaken F p bytes → text.HasTaken F q (bytes ++ piece)
+IsFed (Binary p) piece (Binary q) = (F : Cnf) (bytes : List ℕ) → binary.HasTaken F p bytes → binary.HasTaken F q (bytes ++ piece)
+IsFed (Text p) piece (Awaiting F) = ⊥
+IsFed (Text p) piece (Binary q) = ⊥
+IsFed (Binary p) piece (Awaiting F) = ⊥
+IsFed (Binary p) piece (Text q) = ⊥
+
+-- what is reported of an input and the text of a proof
+pub record IsTextReport (input proof : List ℕ) (report : Report) : Type 0 where
+  pub verified : (report.status ≡ 0) ↔ ((F : Cnf) × Spells input F × Accepts F proof)
+  pub status : (report.status ≡ 0) ⊎ (report.status ≡ 1)
+  pub text : report.stdout.items ≡ check_text (parse input) proof
+  pub no_proof : report.proof ≡ None
