@@ -232,16 +232,19 @@ def conquer(asked: Namespace, screen: Screen) -> int:
     bell = Bell()
     engine = engine_of(folder, plan, screen, bell, jobs, not asked.no_race)
     run = Run(folder, plan, screen, bell)
+    run.renew = report.Live(run, screen).renew
     try:
         engine.settle()
         folder.clean()
         folder.write("plan.json", json.dumps(dataclasses.asdict(plan)))
         status, lines = answer_of(run, engine)
+    except BaseException:  # a signal, too
+        draw(run, screen, report.NONE)
+        raise
     finally:
         run.end_join()
     if status not in (0, 10, 20):
-        line = lines[-1] if lines else "c join ends with %d" % status
-        raise Fault(line, *foreign(folder, before) if line == FOREIGN else [])
+        fail(run, screen, before, lines[-1] if lines else "c join ends with %d" % status)
     if status == 20:
         put_proof(folder, asked.PROOF)
     for line in lines:
@@ -251,6 +254,13 @@ def conquer(asked: Namespace, screen: Screen) -> int:
             screen.say(line)
     draw(run, screen, status)
     return status
+
+
+def fail(run: Run, screen: Screen, before: Dict[str, Any], line: str) -> NoReturn:
+    if line == FOREIGN:  # the report is one of the other run
+        raise Fault(line, *foreign(run.folder, before))
+    draw(run, screen, report.NONE)
+    raise Fault(line)
 
 
 def foreign(folder: Folder, before: Dict[str, Any]) -> List[str]:
@@ -264,7 +274,7 @@ def foreign(folder: Folder, before: Dict[str, Any]) -> List[str]:
 def draw(run: Run, screen: Screen, status: int) -> None:
     """The report is a picture of the run: that there is none changes no answer."""
     try:
-        screen.say("c report %s" % report.write(run, status))
+        screen.say("c report %s" % report.Report(run).write(status))
     except Exception as why:
         screen.say("c no report: %r" % why)
 

@@ -24,9 +24,12 @@ from typing import Callable, Dict, List, NamedTuple
 sys.dont_write_bytecode = True
 
 from cases import EXAMPLES, pigeons, run, satisfies
-from conquering import report
+from conquering import files, report, screen
+from conquering.figures import State, state_of
 from conquering.files import Fault, answer_of, closed_by, log_of, name_of, read_cubes
-from conquering.leaf import CLOSED, LIMIT, Record
+from conquering.leaf import CLOSED, ENDED, LIMIT, Plan, Record
+from conquering.race import WHOLE
+from conquering.run import Run
 
 SCRIPT = Path(__file__).resolve().parent / "conquer.py"
 SECONDS = 120  # how long a run may take
@@ -108,6 +111,10 @@ class Case(unittest.TestCase):
     def moments(self, formula: str) -> Dict[Path, int]:
         """When each log was written."""
         return {path: path.stat().st_mtime_ns for path in self.logs(formula)}
+
+    def report(self, formula: str) -> str:
+        path = self.at(formula + ".conquer", "report.html")
+        return path.read_text() if path.exists() else ""
 
     def forget(self, formula: str) -> None:
         shutil.rmtree(str(self.at(formula + ".conquer")), ignore_errors=True)
@@ -247,6 +254,25 @@ class Folder(Case):
         first.send_signal(signal.SIGTERM)
         self.assertEqual((1, []), self.end(first, "a run that is ended"))
         self.assertEqual([], self.running(PIGEONS))
+        self.assertIn("pigeons.cnf: ended without answer", self.report(PIGEONS))
+
+    def test_report_that_is_live(self) -> None:
+        """It stands from the first leaf on, and is there behind SIGTERM, with what has run."""
+        script = "grep -q '^1 0' $1 && sleep 100; exec %s solve -q --depth 0 $1 $2"
+        script %= self.program
+        words = ["--no-race", "--jobs", "2", "--depth", "2", "--solver",
+                 self.script("waits", script), PIGEONS]
+        first = self.start("-q", *words)
+        self.wait_for("the report", lambda: "under way" in self.report(PIGEONS), 20)
+        scratch = self.at(PIGEONS + ".conquer", "scratch")
+        self.wait_for("the jobs that wait", lambda: len(list(scratch.glob("leaf_1_*"))) == 2)
+        first.send_signal(signal.SIGTERM)
+        self.assertEqual((1, []), self.end(first, "a run that is ended"))
+        text = self.report(PIGEONS)
+        for part in ("ended without answer", "the tree was made by --depth 2", "most memory",
+                     "<td>ended<td class=cube>"):
+            self.assertIn(part, text)
+        self.assertNotIn("http-equiv", text, "a page that is renewed no more")
 
 
 class Solvers(Case):
@@ -467,16 +493,16 @@ class Units(unittest.TestCase):
     def test_figures(self) -> None:
         """Those of a run with three leaves: one was cut in two, one closed by another's log."""
         cubes = [(1, 2), (1, -2), (-1,)]
-        records = [Record((1,), LIMIT, "", 0.0, 10.0, "here", 0),
-                   Record((-1,), CLOSED, "", 0.0, 30.0, "here", 500),
+        records = [Record((1,), LIMIT, "", 0.0, 10.0, "here", 0, 3000000),
+                   Record((-1,), CLOSED, "", 0.0, 30.0, "here", 500, 5000000),
                    Record((1, -2), CLOSED, "", 10.0, 20.0, "here", 1500)]
-        last = {record.cube: record for record in records}
-        figures = dict(report.facts(cubes, {(1, 2)}, records, last))
-        self.assertEqual({"leaves": "3", "closed by a job": "2", "with another leaf": "1",
-                          "jobs": "3", "time of all jobs": "50 s", "mean of a leaf": "20 s",
-                          "median": "30 s", "longest": "30 s, 60% of all",
-                          "logs": "2,000 bytes"}, figures)
-        page = report.page("/a/<f>.cnf", "x", cubes, {(1, 2)}, records, 20)
+        state = State(cubes, frozenset(cubes[1:]), frozenset(cubes[:1]), records)
+        self.assertEqual({"leaves": "3", "closed by a log of its own": "2", "by another's log": "1",
+                          "open": "0", "jobs": "3", "time of all jobs": "50 s",
+                          "most memory": "5 MB", "mean of a leaf": "20 s", "median": "30 s",
+                          "longest": "30 s, 60% of all", "logs": "2,000 bytes"},
+                         dict(state.facts()))
+        page = report.page("/a/<f>.cnf", "x", state, 20)
         self.assertIn("&lt;f&gt;.cnf: s UNSATISFIABLE", page)
         self.assertEqual(3, len(re.findall("<td class=cube>", page)))
         self.assertEqual(([0, 1, 0], [("here", 0), ("here", 1)]), report.lanes_of(records))
@@ -485,8 +511,79 @@ class Units(unittest.TestCase):
         self.assertEqual(([(30.0, 70.0)], 101.0), report.breaks_of(records + [later]))
 
     def test_figures_of_nothing(self) -> None:
-        self.assertEqual("0", dict(report.facts([()], set(), [], {}))["closed by a job"])
-        self.assertIn("s UNKNOWN", report.page("f", "x", [()], set(), [], 0))
+        state = State([()], frozenset(), frozenset(), [])
+        self.assertEqual("0", dict(state.facts())["closed by a log of its own"])
+        self.assertIn("f: under way", report.page("f", "x", state, None))
+
+    def test_figures_of_the_race(self) -> None:
+        """The job that searched the whole formula is told, and closes no leaf by a log of its own."""
+        race = Record((), ENDED, "", 0.0, 5.0, "here", 0, 0, WHOLE.tree)
+        state = State([(1,), (-1,)], frozenset(), frozenset(), [race])
+        self.assertEqual(("ended, 5 s", "2"), tuple(
+            dict(state.facts())[name] for name in ("the whole formula unsplit", "open")))
+
+    def test_lines_of_progress(self) -> None:
+        """One every ten seconds in the first minute, then every minute."""
+        moments = [screen.pause(0)]
+        while moments[-1] < 200:
+            moments.append(moments[-1] + screen.pause(moments[-1]))
+        self.assertEqual([10, 20, 30, 40, 50, 60, 120, 180, 240], moments)
+
+
+class Sums(unittest.TestCase):
+    """The figures of a run add up, whatever logs came and in which order."""
+
+    CUBES = [(1, 2), (1, -2), (-1, 2), (-1, -2)]
+
+    def setUp(self) -> None:
+        path = tempfile.mkdtemp()
+        self.addCleanup(shutil.rmtree, path)
+        self.folder = files.Folder(path)
+        lines = ["a %s 0" % " ".join(map(str, cube)) for cube in self.CUBES]
+        self.folder.write("trees/1.icnf", "\n".join(["p inccnf", *lines]) + "\n")
+
+    def run_of(self) -> Run:
+        """A run whose `join` says nothing."""
+        run = Run(self.folder, Plan("true", "f.cnf"), screen.Screen(True), None)
+        self.addCleanup(run.end_join)
+        run.begin()
+        return run
+
+    def log(self, cube: files.Cube, closes: files.Cube) -> None:
+        lemma = " ".join(str(-literal) for literal in closes)
+        self.folder.write(log_of(cube), "5 %s 0 1 0\n" % lemma)
+
+    def sums(self, run: Run, is_refuted: bool = False) -> List[int]:
+        """How many leaves have logs of their own, are closed by others', and are open."""
+        facts = dict(state_of(run, [], is_refuted).facts())
+        return [int(facts[name]) for name in ("closed by a log of its own", "by another's log",
+                                              "open")]
+
+    def test_own_log_of_a_leaf_that_is_covered(self) -> None:
+        """Two jobs end in one moment, and the log of one closes the other's leaf as well."""
+        run = self.run_of()
+        first, second = run.take(), run.take()
+        self.log(first.cube, (-1,))
+        self.log(second.cube, second.cube)
+        run.ended(first, CLOSED, "")
+        self.assertEqual([1, 1, 2], self.sums(run))
+        run.ended(second, CLOSED, "")
+        self.assertEqual([2, 0, 2], self.sums(run), "a leaf is counted twice")
+
+    def test_logs_of_an_earlier_start(self) -> None:
+        """Some have no record, and one is named otherwise."""
+        self.log((1, 2), (1, 2))
+        self.log((9,), (-1,))
+        run = self.run_of()
+        self.assertEqual([1, 2, 1], self.sums(run))
+        self.assertEqual([1, 3, 0], self.sums(run, True), "join has closed what is left")
+
+    def test_log_that_is_refused(self) -> None:
+        self.log((1, 2), (1,))
+        run = self.run_of()
+        self.assertEqual([1, 1, 2], self.sums(run))
+        run.learn(["c file 1 line 1 fault 3 x", "c leaf 1 missing", "c leaf 2 missing"])
+        self.assertEqual([0, 0, 4], self.sums(run))
 
 
 if __name__ == "__main__":

@@ -17,7 +17,7 @@ from pathlib import Path
 from typing import Dict, List, Optional, Tuple, Type
 
 from conquering.files import Fault, Folder, log_of
-from conquering.leaf import CLOSED, FAILED, Job, Leaf, Plan, conquer_leaf, read_records
+from conquering.leaf import CLOSED, FAILED, Job, Leaf, Plan, Records
 from conquering.processes import Bell, Command, Word, die_with, kill, output_of, start
 from conquering.race import Race
 from conquering.run import Run
@@ -60,7 +60,7 @@ class Local(Engine):
             while (run.waits() or jobs or race) and not run.over():
                 while run.waits() and len(jobs) + bool(race) < self.jobs:
                     leaf = run.take()
-                    jobs.append(Job(leaf, conquer_leaf(self.folder, self.plan, leaf, mark)))
+                    jobs.append(Job(self.folder, self.plan, leaf, mark))
                 self.bell.wait(min([1.0] + [job.end - time.monotonic() for job in jobs]))
                 for job in [job for job in jobs if job.ended()]:
                     jobs.remove(job)
@@ -136,7 +136,7 @@ class Rounds(Engine):
     def gather(self, run: Run, leaves: List[Leaf]) -> None:
         """What became of the round's other leaves; of a job that was lost there is no record."""
         ends = {}
-        for record in read_records(self.folder, ".%s." % self.mark):
+        for record in Records(self.folder).all(".%s." % self.mark):
             ends[record.cube] = record.outcome, record.note
         for leaf in leaves:
             if not run.is_closed(leaf):
@@ -244,7 +244,7 @@ def work(path: str, mark: str, task: str) -> int:
             break
         if folder.at(log_of(leaf.cube)).exists() or folder.covered(leaf.cube).exists():
             continue
-        job = Job(leaf, conquer_leaf(folder, plan, leaf, mark))
+        job = Job(folder, plan, leaf, mark)
         while not job.ended():
             bell.wait(min(60, job.end - time.monotonic()))
     return 0

@@ -3,7 +3,7 @@ import collections
 import os
 import subprocess
 import time
-from typing import Counter, DefaultDict, Deque, Dict, FrozenSet, List, Optional, Set, Tuple
+from typing import Callable, Counter, DefaultDict, Deque, Dict, FrozenSet, List, Optional, Set, Tuple
 
 from conquering.files import Cube, Folder, answer_of, closed_by, log_of, publish, read_cubes
 from conquering.leaf import CLOSED, LIMIT, MODEL, Leaf, Plan
@@ -73,6 +73,9 @@ class Run:
         self.failures, self.closed, self.splits = 0, 0, 0
         self.longest = 0.0  # seconds of a leaf's job
         self.began, self.model = time.monotonic(), False
+        self.done: Set[Cube] = set()  # closed by a log of its own, or by another's
+        self.covered: Set[Cube] = set()  # of these the ones that another's closes
+        self.renew: Callable[[], None] = lambda: None  # the report, while leaves run
         self.join: Optional[Join] = None
         self.can_split: Optional[bool] = None
         self.take_tree(folder.newest_tree())
@@ -91,8 +94,8 @@ class Run:
         """Begins a pass over the leaves that have no log."""
         have = set(self.folder.names("logs"))
         self.look_for_answers()
-        self.done: Set[Cube] = {cube for cube in self.cubes if log_of(cube) in have}
-        self.covered: Set[Cube] = set()
+        self.done = {cube for cube in self.cubes if log_of(cube) in have}
+        self.covered = set()
         self.closings: Set[FrozenSet[int]] = set()
         self.queue.clear()
         self.running.clear()
@@ -158,6 +161,7 @@ class Run:
         if outcome == CLOSED:
             self.closed += 1
             self.done.add(cube)
+            self.covered.discard(cube)  # if another's log came before its own
             self.cover(closed_by(self.folder.at(log_of(cube))))
             if self.join:
                 self.join.add(log_of(cube))
@@ -259,6 +263,7 @@ class Run:
         if self.closed:
             line += ", about %s left" % clock(gone / self.closed * max(0, waits - running / 2))
         self.screen.progress(line)
+        self.renew()
 
     def answer(self) -> Tuple[int, List[str]]:
         """What the program says of what is there. A right assignment decides, and so goes alone."""
@@ -284,6 +289,8 @@ class Run:
         else:  # a log that was not refused may close something else than its leaf
             refused = set(refused).union(brought.intersection(map(log_of, missing)))
             self.alone.update(self.covered.intersection(missing))
+            self.done.difference_update(missing)
+            self.covered.difference_update(missing)
         for name in refused:
             self.folder.set_aside(name)
         return not self.hopeless() and any(self.tries[cube] < TRIES for cube in missing)
@@ -291,4 +298,5 @@ class Run:
     def end_join(self) -> None:
         if self.join:
             kill(self.join.process)
+            self.join.process.stdin.close()
         self.join = None
