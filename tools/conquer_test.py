@@ -19,15 +19,17 @@ import tempfile
 import time
 import unittest
 from pathlib import Path
+from types import SimpleNamespace
 from typing import Callable, Dict, List, NamedTuple
 
 sys.dont_write_bytecode = True
 
 from cases import EXAMPLES, pigeons, run, satisfies
 from conquering import files, report, screen
+from conquering.cuts import to_cut
 from conquering.figures import State, state_of
 from conquering.files import Fault, answer_of, closed_by, log_of, name_of, read_cubes
-from conquering.leaf import CLOSED, ENDED, LIMIT, Plan, Record
+from conquering.leaf import CLOSED, ENDED, LIMIT, Leaf, Plan, Record
 from conquering.race import WHOLE
 from conquering.run import Run
 
@@ -364,6 +366,76 @@ def kill(process: int) -> int:
     return 1
 
 
+class Cuts(Case):
+    """A leaf whose job takes long is cut in two while a core is idle; solvers that know whether they
+    search the whole formula or a leaf, which has units beside it."""
+
+    NAME, HEADER = "schur_3_14.cnf", "^p cnf 42 163$"
+    SOLVE = "exec %s solve -q --depth 0 $1 $2"
+
+    def words(self, whole: str, half: str, *more: str) -> List[str]:
+        """A run of one leaf, the whole formula, whose halves have a unit each."""
+        script = "if grep -q '%s' $1; then %s; else %s; fi" % (self.HEADER, whole, half)
+        solver = self.script("cutter", script.replace("SOLVE", self.SOLVE % self.program))
+        return ["--jobs", "3", "--depth", "0", "--solver", solver, *more, self.NAME, "c.lrat"]
+
+    def cut(self, whole: str, half: str, *more: str) -> List[str]:
+        """The lines of such a run, which ends with a proof and leaves no job."""
+        status, lines = self.conquer(*self.words(whole, half, *more))
+        self.assertEqual((20, True), (status, "s UNSATISFIABLE" in lines), lines)
+        self.verifies(self.NAME, "c.lrat")
+        self.assertEqual([], self.running(self.NAME), "jobs that are left")
+        return lines
+
+    def sums(self) -> List[int]:
+        """How many leaves are closed by logs of their own, by others', and open, by the report."""
+        found = dict(re.findall("<dt>([^<]*)<dd>([^<]*)</div>", self.report(self.NAME)))
+        return [int(found[name]) for name in ("closed by a log of its own", "by another's log",
+                                              "open")]
+
+    def test_halves_are_first(self) -> None:
+        """Both are run, in one pass; the job that was ended has closed nothing."""
+        lines = self.cut("exec sleep 60", "SOLVE")
+        self.assertEqual(1, sum(line.endswith(" to run") for line in lines), lines)
+        names = [path.name for path in self.logs(self.NAME)]
+        self.assertEqual((2, False), (len(names), "leaf.lrat" in names), "a half was not run")
+        self.assertEqual([2, 0, 0], self.sums())
+        self.assertIn("as one leaf ended after", self.report(self.NAME))
+
+    def test_whole_leaf_is_first(self) -> None:
+        """Its log closes both halves, whose jobs are ended."""
+        self.cut("sleep 3; SOLVE", "exec sleep 60")
+        self.assertEqual(["leaf.lrat"], [path.name for path in self.logs(self.NAME)])
+        self.assertEqual([0, 2, 0], self.sums())
+
+    def test_halves_that_fail(self) -> None:
+        lines = self.cut("sleep 4; SOLVE", "exit 3")
+        self.assertIn("failed: the solver ends with 3", "\n".join(lines))
+
+    def test_whole_leaf_that_fails(self) -> None:
+        self.cut("sleep 2.5; exit 3", "sleep 1; SOLVE")
+        self.assertEqual([2, 0, 0], self.sums())
+
+    def test_no_cuts(self) -> None:
+        self.cut("sleep 3; SOLVE", "exec sleep 60", "--no-cuts")
+        self.assertEqual([1, 0, 0], self.sums())
+
+    def test_killed(self) -> None:
+        """The script is killed at moments around the cut; what is there goes on."""
+        draw = random.Random(int(os.environ.get("SEED", 1)))
+        words = self.words("exec sleep 60", "sleep 1; SOLVE")
+        for _ in range(max(2, int(os.environ.get("KILLS", 6)) // 3)):
+            process = self.start("-q", *words)
+            time.sleep(draw.uniform(1.8, 3.4))
+            kill(process.pid)
+            process.communicate()
+            self.wait_for("jobs of a killed script", lambda: not self.running(self.NAME), 2)
+            if draw.random() < 0.3:
+                self.forget(self.NAME)
+        self.ends(20, ["s UNSATISFIABLE"], "-q", *words)
+        self.verifies(self.NAME, "c.lrat")
+
+
 def succeeds(*words: str) -> bool:
     done = subprocess.run(words, stdout=subprocess.DEVNULL, stderr=subprocess.DEVNULL)
     return done.returncode == 0
@@ -530,8 +602,9 @@ class Units(unittest.TestCase):
         self.assertEqual([10, 20, 30, 40, 50, 60, 120, 180, 240], moments)
 
 
-class Sums(unittest.TestCase):
-    """The figures of a run add up, whatever logs came and in which order."""
+class Runs(unittest.TestCase):
+    """What a run knows of its leaves: figures that add up, whatever logs came and in which order, and
+    which leaf is cut."""
 
     CUBES = [(1, 2), (1, -2), (-1, 2), (-1, -2)]
 
@@ -577,6 +650,30 @@ class Sums(unittest.TestCase):
         run = self.run_of()
         self.assertEqual([1, 2, 1], self.sums(run))
         self.assertEqual([1, 3, 0], self.sums(run, True), "join has closed what is left")
+
+    def test_leaf_that_is_cut(self) -> None:
+        """The one that has run longest, and twice the mean of those that are closed; each once."""
+        run, now = self.run_of(), time.monotonic()
+        run.closed, run.spent = 2, 20.0
+
+        def job(cube: files.Cube, seconds: float) -> SimpleNamespace:
+            return SimpleNamespace(leaf=Leaf(cube, run.tree, 1, False), began=now - seconds)
+
+        jobs = [job((1, 2), 21), job((1, -2), 25), job((-1, 2), 19), job((9,), 99)]
+        self.assertIs(jobs[1], to_cut(run, jobs), "(9,) is no leaf any more")
+        self.assertIsNone(to_cut(run, jobs[2:]))
+        run.cut(jobs[1].leaf)  # which `true` does not
+        self.assertIs(jobs[0], to_cut(run, jobs))
+        run.closed, run.spent = 0, 0.0
+        self.assertIsNone(to_cut(run, [job((1, 2), 1.9)]))
+
+    def test_leaf_whose_halves_are_closed(self) -> None:
+        """Its job is of no use only then, be the halves cut in turn."""
+        run = self.run_of()
+        run.halves = {(5,): [(5, 6), (5, -6)], (5, 6): [(5, 6, 7), (5, 6, -7)]}
+        for closed, is_settled in (((5, -6), False), ((5, 6, 7), False), ((5, 6, -7), True)):
+            run.done.add(closed)
+            self.assertEqual(is_settled, run.is_settled((5,)), closed)
 
     def test_log_that_is_refused(self) -> None:
         self.log((1, 2), (1,))
