@@ -367,8 +367,8 @@ def kill(process: int) -> int:
 
 
 class Cuts(Case):
-    """A leaf whose job takes long is cut in two while a core is idle; solvers that know whether they
-    search the whole formula or a leaf, which has units beside it."""
+    """A leaf whose job takes long is cut in two while a core is idle; solvers that know whether
+    they search the whole formula or a leaf, which has units beside it."""
 
     NAME, HEADER = "schur_3_14.cnf", "^p cnf 42 163$"
     SOLVE = "exec %s solve -q --depth 0 $1 $2"
@@ -394,9 +394,11 @@ class Cuts(Case):
                                               "open")]
 
     def test_halves_are_first(self) -> None:
-        """Both are run, in one pass; the job that was ended has closed nothing."""
-        lines = self.cut("exec sleep 60", "SOLVE")
+        """Both are run, in one pass, though one takes longer; the job that was ended has closed
+        nothing."""
+        lines = self.cut("exec sleep 60", "mkdir $0.first || sleep 1; SOLVE")
         self.assertEqual(1, sum(line.endswith(" to run") for line in lines), lines)
+        self.assertFalse(any(line.startswith("c file ") for line in lines), lines)
         names = [path.name for path in self.logs(self.NAME)]
         self.assertEqual((2, False), (len(names), "leaf.lrat" in names), "a half was not run")
         self.assertEqual([2, 0, 0], self.sums())
@@ -588,7 +590,7 @@ class Units(unittest.TestCase):
         self.assertIn("f: under way", report.page("f", "x", state, None))
 
     def test_figures_of_the_race(self) -> None:
-        """The job that searched the whole formula is told, and closes no leaf by a log of its own."""
+        """The job that searched the whole formula is told, and is no job of a leaf."""
         race = Record((), ENDED, "", 0.0, 5.0, "here", 0, 0, WHOLE.tree)
         state = State([(1,), (-1,)], frozenset(), frozenset(), [race])
         self.assertEqual(("ended, 5 s", "2"), tuple(
@@ -603,8 +605,8 @@ class Units(unittest.TestCase):
 
 
 class Runs(unittest.TestCase):
-    """What a run knows of its leaves: figures that add up, whatever logs came and in which order, and
-    which leaf is cut."""
+    """What a run knows of its leaves: figures that add up, whatever logs came and in which order,
+    and which leaf is cut."""
 
     CUBES = [(1, 2), (1, -2), (-1, 2), (-1, -2)]
 

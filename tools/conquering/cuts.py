@@ -2,10 +2,10 @@
 
 One leaf may take longer than all others together, and all cores but one wait for it then. So its
 halves are run beside its own job, which goes on: if it ends first its log closes both halves, and a
-cut that gains nothing has cost what was idle. It goes on until both halves are closed, though one of
-them be: on schur-4-45 one half is closed at once and the other takes as long as the leaf. Where the
-job gave its core to a leaf that waited as soon as a half was closed, one leaf was cut nine times, and
-40 s were spent for 13.
+cut that gains nothing has cost what was idle. It goes on until both halves are closed: on
+schur-4-45 one half is closed at once, and the other takes as long as the leaf. When the job gave
+its core to a leaf that waited as soon as one half was closed, a leaf was cut nine times, and 40 s
+were spent for 13.
 
 The halves take longer together than the leaf, as a rule, so a leaf is cut late: with 16 cores
 rand3-350 took 16.8 s for 13.6 in a simulation where each was cut that ran when a core was idle.

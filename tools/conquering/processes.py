@@ -37,8 +37,9 @@ def die_with(parent: int) -> None:
 
 
 class Process(subprocess.Popen):
-    """One that keeps the most memory that it, or a child for which it has waited, has had at a time:
-    `wait4` alone tells that. It is never less than what this script has, whose copy it begins as."""
+    """One that keeps the most memory that it, or a child for which it has waited, has had at a
+    time: `wait4` alone tells that. It is never less than what this script has, as whose copy it
+    begins."""
 
     memory = 0  # bytes
 

@@ -312,7 +312,7 @@ class Report:
         self.run, self.records = run, Records(run.folder)
 
     def write(self, status: Optional[int]) -> Path:
-        """Writes it and answers its path. A crash that spoils it costs a picture: it is not synced."""
+        """Writes it and answers its path. It is not synced: a crash that spoils it costs a picture."""
         run, now = self.run, time.strftime("; %d %B %Y, %H:%M:%S")
         state = state_of(run, self.records.all(), status == 20)
         text = page(run.plan.input, how_of(run.plan, run.number - 1) + now, state, status)

@@ -277,9 +277,9 @@ class Run:
         return True
 
     def put_off_join(self) -> None:
-        """A join is one of the tree with which it was begun, so it is begun anew: when no leaf was cut
-        for a while, or in the end. The while is doubled each time, so that however many leaves are
-        cut, what joins read in vain is little beside what is searched."""
+        """A join is one of the tree with which it was begun, so it is begun anew: when no leaf was
+        cut for a while, or in the end. The while is doubled each time, so that however many leaves
+        are cut, what joins read in vain is little beside what is searched."""
         if self.join:
             self.end_join()
             self.patience *= 2
