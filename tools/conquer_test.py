@@ -32,6 +32,7 @@ from conquering.files import Fault, answer_of, closed_by, log_of, name_of, read_
 from conquering.leaf import CLOSED, ENDED, LIMIT, Leaf, Plan, Record
 from conquering.race import WHOLE
 from conquering.run import Run
+from simulate import Measured, Play, uncut
 
 SCRIPT = Path(__file__).resolve().parent / "conquer.py"
 SECONDS = 120  # how long a run may take
@@ -212,6 +213,20 @@ class Faults(Case):
             self.tells("/%s." % FOUR, "rm -r ", "--folder")
         status, lines = self.conquer(*words)
         self.assertEqual((1, "c cubes of another formula"), (status, lines[-1]))
+
+    def test_simulation(self) -> None:
+        """It plays a run that has ended, and makes no folder where there is none."""
+        def play(folder: str) -> subprocess.CompletedProcess:
+            words = [sys.executable, str(SCRIPT.parent / "simulate.py"), folder]
+            return subprocess.run(words, cwd=str(self.folder), stdout=subprocess.PIPE,
+                                  stderr=subprocess.PIPE)
+
+        self.conquer("-q", "--no-race", "--depth", "4", "schur_3_14.cnf")
+        done = play("schur_3_14.cnf.conquer")
+        self.assertEqual((0, 13), (done.returncode, len(done.stdout.splitlines())), done.stderr)
+        done = play("none")
+        self.assertEqual((1, b"c none is no folder of conquer.py\n"), (done.returncode, done.stderr))
+        self.assertFalse(self.at("none").exists())
 
     def test_depth_that_is_not_used(self) -> None:
         """It is told if a tree stands that was made by other words."""
@@ -683,6 +698,35 @@ class Runs(unittest.TestCase):
         self.assertEqual([1, 1, 2], self.sums(run))
         run.learn(["c file 1 line 1 fault 3 x", "c leaf 1 missing", "c leaf 2 missing"])
         self.assertEqual([0, 0, 4], self.sums(run))
+
+
+class Plays(unittest.TestCase):
+    """Simulated runs of leaves whose times are given."""
+
+    def play(self, leaves: List[Measured], cores: int, cuts: bool = False) -> float:
+        return round(Play(leaves, cores, cuts, 0).run(), 6)
+
+    def test_leaves(self) -> None:
+        leaves = [Measured(10, 1)] * 4
+        self.assertEqual([40, 20, 20, 10, 10], [self.play(leaves, n) for n in (1, 2, 3, 4, 9)])
+
+    def test_log_that_closes_others(self) -> None:
+        """They are ended, or not begun."""
+        leaves = [Measured(50, 1), Measured(10, 1), Measured(10, 1, (0, 2))]
+        self.assertEqual([20, 10, 10], [self.play(leaves, n) for n in (1, 2, 3)])
+
+    def test_cut(self) -> None:
+        """After two seconds; the halves take 57.5 seconds each, one after the other or side by side."""
+        self.assertEqual([100, 100, 59.5], [self.play([Measured(100, 1)], n, True)
+                                            for n in (1, 2, 3)])
+        leaves = [Measured(100, 1)] + [Measured(10, 1)] * 3
+        self.assertEqual(20 + 57.5, self.play(leaves, 4, True), "twice the mean of the others")
+
+    def test_whole_run(self) -> None:
+        """A leaf that was cut and closed as one is one."""
+        jobs = {(1,): None, (-1, 2): None, (-1, -2): None}
+        self.assertEqual([(1,), (-1, 2), (-1, -2)],
+                         uncut([(1, 3), (1, -3), (-1, 2), (-1, -2)], jobs))
 
 
 if __name__ == "__main__":
