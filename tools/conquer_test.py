@@ -424,6 +424,7 @@ class Cuts(Case):
         self.cut("sleep 3; SOLVE", "exec sleep 60")
         self.assertEqual(["leaf.lrat"], [path.name for path in self.logs(self.NAME)])
         self.assertEqual([0, 2, 0], self.sums())
+        self.assertIn("<dt>of these closed as one<dd>1</div>", self.report(self.NAME))
 
     def test_halves_that_fail(self) -> None:
         lines = self.cut("sleep 4; SOLVE", "exit 3")
@@ -587,7 +588,8 @@ class Units(unittest.TestCase):
                    Record((1, -2), CLOSED, "", 10.0, 20.0, "here", 1500)]
         state = State(cubes, frozenset(cubes[1:]), frozenset(cubes[:1]), records)
         self.assertEqual({"leaves": "3", "closed by a log of its own": "2", "by another's log": "1",
-                          "open": "0", "jobs": "3", "time of all jobs": "50 s",
+                          "open": "0", "leaves that were cut": "1",
+                          "of these closed as one": "0", "jobs": "3", "time of all jobs": "50 s",
                           "most memory": "5 MB", "mean of a leaf": "20 s", "median": "30 s",
                           "longest": "30 s, 60% of all", "logs": "2,000 bytes"},
                          dict(state.facts()))
