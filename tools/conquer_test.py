@@ -694,6 +694,19 @@ class Runs(unittest.TestCase):
             run.done.add(closed)
             self.assertEqual(is_settled, run.is_settled((5,)), closed)
 
+    def test_join_that_is_put_off(self) -> None:
+        """It is begun anew when no leaf was cut for a while, which doubles each time."""
+        run = self.run_of()
+        for patience in (10, 20, 40):
+            run.put_off_join()
+            run.join_anew()
+            self.assertEqual((None, patience), (run.join, run.patience))
+            run.put_off_join()
+            self.assertEqual(patience, run.patience, "none was ended")
+            run.calm = 0.0
+            run.join_anew()
+            self.assertIsNotNone(run.join)
+
     def test_log_that_is_refused(self) -> None:
         self.log((1, 2), (1,))
         run = self.run_of()
