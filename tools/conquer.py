@@ -3,7 +3,8 @@
 
     tools/conquer.py [--program PATH] [--solver satcluster|cadical|kissat|COMMAND]
                      [--engine local|make|parallel|slurm] [--jobs N] [--depth D | --cubes-from FILE]
-                     [--limit L] [--seconds S] [--no-race] [--folder DIR] [-q] [-n] INPUT [PROOF]
+                     [--limit L] [--seconds S] [--no-race] [--no-cuts] [--folder DIR] [-q] [-n]
+                     INPUT [PROOF]
 
 Prints the `s` and `v` lines of `satcluster solve`, and ends with its statuses: 10, 20, 0 and 1.
 Each answer is one of the proved program: `join` tests every log and every assignment that a job has
@@ -72,6 +73,7 @@ def words() -> Namespace:
     option("--limit", metavar="L", type=number(1, most), help="lemmas before a leaf is cut in two")
     option("--seconds", metavar="S", type=number(1, most), help="the same in seconds of a search")
     option("--no-race", action="store_true", help="no job searches the whole formula unsplit")
+    option("--no-cuts", action="store_true", help="no leaf is cut in two since a core is idle")
     option("--folder", metavar="DIR", help="where the files of the run stand; INPUT.conquer")
     option("-q", action="store_true", dest="quiet", help="no c lines")
     option("-n", action="store_true", dest="no_values", help="no v lines")
@@ -230,18 +232,21 @@ def conquer(asked: Namespace, screen: Screen) -> int:
         plant(folder, plan, asked)
     jobs = asked.jobs or (None if asked.engine == "slurm" else cores())
     bell = Bell()
-    engine = engine_of(folder, plan, screen, bell, jobs, not asked.no_race)
+    engine = engine_of(folder, plan, screen, bell, jobs, not asked.no_race, not asked.no_cuts)
     run = Run(folder, plan, screen, bell)
+    run.renew = report.Live(run, screen).renew
     try:
         engine.settle()
         folder.clean()
         folder.write("plan.json", json.dumps(dataclasses.asdict(plan)))
         status, lines = answer_of(run, engine)
+    except BaseException:  # a signal, too
+        draw(run, screen, report.NONE)
+        raise
     finally:
         run.end_join()
     if status not in (0, 10, 20):
-        line = lines[-1] if lines else "c join ends with %d" % status
-        raise Fault(line, *foreign(folder, before) if line == FOREIGN else [])
+        fail(run, screen, before, lines[-1] if lines else "c join ends with %d" % status)
     if status == 20:
         put_proof(folder, asked.PROOF)
     for line in lines:
@@ -251,6 +256,13 @@ def conquer(asked: Namespace, screen: Screen) -> int:
             screen.say(line)
     draw(run, screen, status)
     return status
+
+
+def fail(run: Run, screen: Screen, before: Dict[str, Any], line: str) -> NoReturn:
+    if line == FOREIGN:  # the report is one of the other run
+        raise Fault(line, *foreign(run.folder, before))
+    draw(run, screen, report.NONE)
+    raise Fault(line)
 
 
 def foreign(folder: Folder, before: Dict[str, Any]) -> List[str]:
@@ -264,7 +276,7 @@ def foreign(folder: Folder, before: Dict[str, Any]) -> List[str]:
 def draw(run: Run, screen: Screen, status: int) -> None:
     """The report is a picture of the run: that there is none changes no answer."""
     try:
-        screen.say("c report %s" % report.write(run, status))
+        screen.say("c report %s" % report.Report(run).write(status))
     except Exception as why:
         screen.say("c no report: %r" % why)
 

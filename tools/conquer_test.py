@@ -19,14 +19,20 @@ import tempfile
 import time
 import unittest
 from pathlib import Path
+from types import SimpleNamespace
 from typing import Callable, Dict, List, NamedTuple
 
 sys.dont_write_bytecode = True
 
 from cases import EXAMPLES, pigeons, run, satisfies
-from conquering import report
+from conquering import files, report, screen
+from conquering.cuts import to_cut
+from conquering.figures import State, state_of
 from conquering.files import Fault, answer_of, closed_by, log_of, name_of, read_cubes
-from conquering.leaf import CLOSED, LIMIT, Record
+from conquering.leaf import CLOSED, ENDED, LIMIT, Leaf, Plan, Record
+from conquering.race import WHOLE
+from conquering.run import Run
+from simulate import Measured, Play, uncut
 
 SCRIPT = Path(__file__).resolve().parent / "conquer.py"
 SECONDS = 120  # how long a run may take
@@ -108,6 +114,10 @@ class Case(unittest.TestCase):
     def moments(self, formula: str) -> Dict[Path, int]:
         """When each log was written."""
         return {path: path.stat().st_mtime_ns for path in self.logs(formula)}
+
+    def report(self, formula: str) -> str:
+        path = self.at(formula + ".conquer", "report.html")
+        return path.read_text() if path.exists() else ""
 
     def forget(self, formula: str) -> None:
         shutil.rmtree(str(self.at(formula + ".conquer")), ignore_errors=True)
@@ -204,6 +214,20 @@ class Faults(Case):
         status, lines = self.conquer(*words)
         self.assertEqual((1, "c cubes of another formula"), (status, lines[-1]))
 
+    def test_simulation(self) -> None:
+        """It plays a run that has ended, and makes no folder where there is none."""
+        def play(folder: str) -> subprocess.CompletedProcess:
+            words = [sys.executable, str(SCRIPT.parent / "simulate.py"), folder]
+            return subprocess.run(words, cwd=str(self.folder), stdout=subprocess.PIPE,
+                                  stderr=subprocess.PIPE)
+
+        self.conquer("-q", "--no-race", "--depth", "4", "schur_3_14.cnf")
+        done = play("schur_3_14.cnf.conquer")
+        self.assertEqual((0, 13), (done.returncode, len(done.stdout.splitlines())), done.stderr)
+        done = play("none")
+        self.assertEqual((1, b"c none is no folder of conquer.py\n"), (done.returncode, done.stderr))
+        self.assertFalse(self.at("none").exists())
+
     def test_depth_that_is_not_used(self) -> None:
         """It is told if a tree stands that was made by other words."""
         unused = "c --depth is not used"
@@ -247,6 +271,25 @@ class Folder(Case):
         first.send_signal(signal.SIGTERM)
         self.assertEqual((1, []), self.end(first, "a run that is ended"))
         self.assertEqual([], self.running(PIGEONS))
+        self.assertIn("pigeons.cnf: ended without answer", self.report(PIGEONS))
+
+    def test_report_that_is_live(self) -> None:
+        """It stands from the first leaf on, and is there behind SIGTERM, with what has run."""
+        script = "grep -q '^1 0' $1 && sleep 100; exec %s solve -q --depth 0 $1 $2"
+        script %= self.program
+        words = ["--no-race", "--jobs", "2", "--depth", "2", "--solver",
+                 self.script("waits", script), PIGEONS]
+        first = self.start("-q", *words)
+        self.wait_for("the report", lambda: "under way" in self.report(PIGEONS), 20)
+        scratch = self.at(PIGEONS + ".conquer", "scratch")
+        self.wait_for("the jobs that wait", lambda: len(list(scratch.glob("leaf_1_*"))) == 2)
+        first.send_signal(signal.SIGTERM)
+        self.assertEqual((1, []), self.end(first, "a run that is ended"))
+        text = self.report(PIGEONS)
+        for part in ("ended without answer", "the tree was made by --depth 2", "most memory",
+                     "<td>ended<td class=cube>"):
+            self.assertIn(part, text)
+        self.assertNotIn("http-equiv", text, "a page that is renewed no more")
 
 
 class Solvers(Case):
@@ -336,6 +379,79 @@ def kill(process: int) -> int:
     except ProcessLookupError:
         return 0
     return 1
+
+
+class Cuts(Case):
+    """A leaf whose job takes long is cut in two while a core is idle; solvers that know whether
+    they search the whole formula or a leaf, which has units beside it."""
+
+    NAME, HEADER = "schur_3_14.cnf", "^p cnf 42 163$"
+    SOLVE = "exec %s solve -q --depth 0 $1 $2"
+
+    def words(self, whole: str, half: str, *more: str) -> List[str]:
+        """A run of one leaf, the whole formula, whose halves have a unit each."""
+        script = "if grep -q '%s' $1; then %s; else %s; fi" % (self.HEADER, whole, half)
+        solver = self.script("cutter", script.replace("SOLVE", self.SOLVE % self.program))
+        return ["--jobs", "3", "--depth", "0", "--solver", solver, *more, self.NAME, "c.lrat"]
+
+    def cut(self, whole: str, half: str, *more: str) -> List[str]:
+        """The lines of such a run, which ends with a proof and leaves no job."""
+        status, lines = self.conquer(*self.words(whole, half, *more))
+        self.assertEqual((20, True), (status, "s UNSATISFIABLE" in lines), lines)
+        self.verifies(self.NAME, "c.lrat")
+        self.assertEqual([], self.running(self.NAME), "jobs that are left")
+        return lines
+
+    def sums(self) -> List[int]:
+        """How many leaves are closed by logs of their own, by others', and open, by the report."""
+        found = dict(re.findall("<dt>([^<]*)<dd>([^<]*)</div>", self.report(self.NAME)))
+        return [int(found[name]) for name in ("closed by a log of its own", "by another's log",
+                                              "open")]
+
+    def test_halves_are_first(self) -> None:
+        """Both are run, in one pass, though one takes longer; the job that was ended has closed
+        nothing."""
+        lines = self.cut("exec sleep 60", "mkdir $0.first || sleep 1; SOLVE")
+        self.assertEqual(1, sum(line.endswith(" to run") for line in lines), lines)
+        self.assertFalse(any(line.startswith("c file ") for line in lines), lines)
+        names = [path.name for path in self.logs(self.NAME)]
+        self.assertEqual((2, False), (len(names), "leaf.lrat" in names), "a half was not run")
+        self.assertEqual([2, 0, 0], self.sums())
+        self.assertIn("as one leaf ended after", self.report(self.NAME))
+
+    def test_whole_leaf_is_first(self) -> None:
+        """Its log closes both halves, whose jobs are ended."""
+        self.cut("sleep 3; SOLVE", "exec sleep 60")
+        self.assertEqual(["leaf.lrat"], [path.name for path in self.logs(self.NAME)])
+        self.assertEqual([0, 2, 0], self.sums())
+        self.assertIn("<dt>of these closed as one<dd>1</div>", self.report(self.NAME))
+
+    def test_halves_that_fail(self) -> None:
+        lines = self.cut("sleep 4; SOLVE", "exit 3")
+        self.assertIn("failed: the solver ends with 3", "\n".join(lines))
+
+    def test_whole_leaf_that_fails(self) -> None:
+        self.cut("sleep 2.5; exit 3", "sleep 1; SOLVE")
+        self.assertEqual([2, 0, 0], self.sums())
+
+    def test_no_cuts(self) -> None:
+        self.cut("sleep 3; SOLVE", "exec sleep 60", "--no-cuts")
+        self.assertEqual([1, 0, 0], self.sums())
+
+    def test_killed(self) -> None:
+        """The script is killed at moments around the cut; what is there goes on."""
+        draw = random.Random(int(os.environ.get("SEED", 1)))
+        words = self.words("exec sleep 60", "sleep 1; SOLVE")
+        for _ in range(max(2, int(os.environ.get("KILLS", 6)) // 3)):
+            process = self.start("-q", *words)
+            time.sleep(draw.uniform(1.8, 3.4))
+            kill(process.pid)
+            process.communicate()
+            self.wait_for("jobs of a killed script", lambda: not self.running(self.NAME), 2)
+            if draw.random() < 0.3:
+                self.forget(self.NAME)
+        self.ends(20, ["s UNSATISFIABLE"], "-q", *words)
+        self.verifies(self.NAME, "c.lrat")
 
 
 def succeeds(*words: str) -> bool:
@@ -467,16 +583,17 @@ class Units(unittest.TestCase):
     def test_figures(self) -> None:
         """Those of a run with three leaves: one was cut in two, one closed by another's log."""
         cubes = [(1, 2), (1, -2), (-1,)]
-        records = [Record((1,), LIMIT, "", 0.0, 10.0, "here", 0),
-                   Record((-1,), CLOSED, "", 0.0, 30.0, "here", 500),
+        records = [Record((1,), LIMIT, "", 0.0, 10.0, "here", 0, 3000000),
+                   Record((-1,), CLOSED, "", 0.0, 30.0, "here", 500, 5000000),
                    Record((1, -2), CLOSED, "", 10.0, 20.0, "here", 1500)]
-        last = {record.cube: record for record in records}
-        figures = dict(report.facts(cubes, {(1, 2)}, records, last))
-        self.assertEqual({"leaves": "3", "closed by a job": "2", "with another leaf": "1",
-                          "jobs": "3", "time of all jobs": "50 s", "mean of a leaf": "20 s",
-                          "median": "30 s", "longest": "30 s, 60% of all",
-                          "logs": "2,000 bytes"}, figures)
-        page = report.page("/a/<f>.cnf", "x", cubes, {(1, 2)}, records, 20)
+        state = State(cubes, frozenset(cubes[1:]), frozenset(cubes[:1]), records)
+        self.assertEqual({"leaves": "3", "closed by a log of its own": "2", "by another's log": "1",
+                          "open": "0", "leaves that were cut": "1",
+                          "of these closed as one": "0", "jobs": "3", "time of all jobs": "50 s",
+                          "most memory": "5 MB", "mean of a leaf": "20 s", "median": "30 s",
+                          "longest": "30 s, 60% of all", "logs": "2,000 bytes"},
+                         dict(state.facts()))
+        page = report.page("/a/<f>.cnf", "x", state, 20)
         self.assertIn("&lt;f&gt;.cnf: s UNSATISFIABLE", page)
         self.assertEqual(3, len(re.findall("<td class=cube>", page)))
         self.assertEqual(([0, 1, 0], [("here", 0), ("here", 1)]), report.lanes_of(records))
@@ -485,8 +602,146 @@ class Units(unittest.TestCase):
         self.assertEqual(([(30.0, 70.0)], 101.0), report.breaks_of(records + [later]))
 
     def test_figures_of_nothing(self) -> None:
-        self.assertEqual("0", dict(report.facts([()], set(), [], {}))["closed by a job"])
-        self.assertIn("s UNKNOWN", report.page("f", "x", [()], set(), [], 0))
+        state = State([()], frozenset(), frozenset(), [])
+        self.assertEqual("0", dict(state.facts())["closed by a log of its own"])
+        self.assertIn("f: under way", report.page("f", "x", state, None))
+
+    def test_figures_of_the_race(self) -> None:
+        """The job that searched the whole formula is told, and is no job of a leaf."""
+        race = Record((), ENDED, "", 0.0, 5.0, "here", 0, 0, WHOLE.tree)
+        state = State([(1,), (-1,)], frozenset(), frozenset(), [race])
+        self.assertEqual(("ended, 5 s", "2"), tuple(
+            dict(state.facts())[name] for name in ("the whole formula unsplit", "open")))
+
+    def test_lines_of_progress(self) -> None:
+        """One every ten seconds in the first minute, then every minute."""
+        moments = [screen.pause(0)]
+        while moments[-1] < 200:
+            moments.append(moments[-1] + screen.pause(moments[-1]))
+        self.assertEqual([10, 20, 30, 40, 50, 60, 120, 180, 240], moments)
+
+
+class Runs(unittest.TestCase):
+    """What a run knows of its leaves: figures that add up, whatever logs came and in which order,
+    and which leaf is cut."""
+
+    CUBES = [(1, 2), (1, -2), (-1, 2), (-1, -2)]
+
+    def setUp(self) -> None:
+        path = tempfile.mkdtemp()
+        self.addCleanup(shutil.rmtree, path)
+        self.folder = files.Folder(path)
+        lines = ["a %s 0" % " ".join(map(str, cube)) for cube in self.CUBES]
+        self.folder.write("trees/1.icnf", "\n".join(["p inccnf", *lines]) + "\n")
+
+    def run_of(self) -> Run:
+        """A run whose `join` says nothing."""
+        run = Run(self.folder, Plan("true", "f.cnf"), screen.Screen(True), None)
+        self.addCleanup(run.end_join)
+        run.begin()
+        return run
+
+    def log(self, cube: files.Cube, closes: files.Cube) -> None:
+        lemma = " ".join(str(-literal) for literal in closes)
+        self.folder.write(log_of(cube), "5 %s 0 1 0\n" % lemma)
+
+    def sums(self, run: Run, is_refuted: bool = False) -> List[int]:
+        """How many leaves have logs of their own, are closed by others', and are open."""
+        facts = dict(state_of(run, [], is_refuted).facts())
+        return [int(facts[name]) for name in ("closed by a log of its own", "by another's log",
+                                              "open")]
+
+    def test_own_log_of_a_leaf_that_is_covered(self) -> None:
+        """Two jobs end in one moment, and the log of one closes the other's leaf as well."""
+        run = self.run_of()
+        first, second = run.take(), run.take()
+        self.log(first.cube, (-1,))
+        self.log(second.cube, second.cube)
+        run.ended(first, CLOSED, "")
+        self.assertEqual([1, 1, 2], self.sums(run))
+        run.ended(second, CLOSED, "")
+        self.assertEqual([2, 0, 2], self.sums(run), "a leaf is counted twice")
+
+    def test_logs_of_an_earlier_start(self) -> None:
+        """Some have no record, and one is named otherwise."""
+        self.log((1, 2), (1, 2))
+        self.log((9,), (-1,))
+        run = self.run_of()
+        self.assertEqual([1, 2, 1], self.sums(run))
+        self.assertEqual([1, 3, 0], self.sums(run, True), "join has closed what is left")
+
+    def test_leaf_that_is_cut(self) -> None:
+        """The one that has run longest, and twice the mean of those that are closed; each once."""
+        run, now = self.run_of(), time.monotonic()
+        run.closed, run.spent = 2, 20.0
+
+        def job(cube: files.Cube, seconds: float) -> SimpleNamespace:
+            return SimpleNamespace(leaf=Leaf(cube, run.tree, 1, False), began=now - seconds)
+
+        jobs = [job((1, 2), 21), job((1, -2), 25), job((-1, 2), 19), job((9,), 99)]
+        self.assertIs(jobs[1], to_cut(run, jobs), "(9,) is no leaf any more")
+        self.assertIsNone(to_cut(run, jobs[2:]))
+        run.cut(jobs[1].leaf)  # which `true` does not
+        self.assertIs(jobs[0], to_cut(run, jobs))
+        run.closed, run.spent = 0, 0.0
+        self.assertIsNone(to_cut(run, [job((1, 2), 1.9)]))
+
+    def test_leaf_whose_halves_are_closed(self) -> None:
+        """Its job is of no use only then, be the halves cut in turn."""
+        run = self.run_of()
+        run.halves = {(5,): [(5, 6), (5, -6)], (5, 6): [(5, 6, 7), (5, 6, -7)]}
+        for closed, is_settled in (((5, -6), False), ((5, 6, 7), False), ((5, 6, -7), True)):
+            run.done.add(closed)
+            self.assertEqual(is_settled, run.is_settled((5,)), closed)
+
+    def test_join_that_is_put_off(self) -> None:
+        """It is begun anew when no leaf was cut for a while, which doubles each time."""
+        run = self.run_of()
+        for patience in (10, 20, 40):
+            run.put_off_join()
+            run.join_anew()
+            self.assertEqual((None, patience), (run.join, run.patience))
+            run.put_off_join()
+            self.assertEqual(patience, run.patience, "none was ended")
+            run.calm = 0.0
+            run.join_anew()
+            self.assertIsNotNone(run.join)
+
+    def test_log_that_is_refused(self) -> None:
+        self.log((1, 2), (1,))
+        run = self.run_of()
+        self.assertEqual([1, 1, 2], self.sums(run))
+        run.learn(["c file 1 line 1 fault 3 x", "c leaf 1 missing", "c leaf 2 missing"])
+        self.assertEqual([0, 0, 4], self.sums(run))
+
+
+class Plays(unittest.TestCase):
+    """Simulated runs of leaves whose times are given."""
+
+    def play(self, leaves: List[Measured], cores: int, cuts: bool = False) -> float:
+        return round(Play(leaves, cores, cuts, 0).run(), 6)
+
+    def test_leaves(self) -> None:
+        leaves = [Measured(10, 1)] * 4
+        self.assertEqual([40, 20, 20, 10, 10], [self.play(leaves, n) for n in (1, 2, 3, 4, 9)])
+
+    def test_log_that_closes_others(self) -> None:
+        """They are ended, or not begun."""
+        leaves = [Measured(50, 1), Measured(10, 1), Measured(10, 1, (0, 2))]
+        self.assertEqual([20, 10, 10], [self.play(leaves, n) for n in (1, 2, 3)])
+
+    def test_cut(self) -> None:
+        """After two seconds; the halves take 57.5 seconds each, one after the other or side by side."""
+        self.assertEqual([100, 100, 59.5], [self.play([Measured(100, 1)], n, True)
+                                            for n in (1, 2, 3)])
+        leaves = [Measured(100, 1)] + [Measured(10, 1)] * 3
+        self.assertEqual(20 + 57.5, self.play(leaves, 4, True), "twice the mean of the others")
+
+    def test_whole_run(self) -> None:
+        """A leaf that was cut and closed as one is one."""
+        jobs = {(1,): None, (-1, 2): None, (-1, -2): None}
+        self.assertEqual([(1,), (-1, 2), (-1, -2)],
+                         uncut([(1, 3), (1, -3), (-1, 2), (-1, -2)], jobs))
 
 
 if __name__ == "__main__":

@@ -16,8 +16,9 @@ from dataclasses import astuple, dataclass
 from pathlib import Path
 from typing import Dict, List, Optional, Tuple, Type
 
+from conquering.cuts import to_cut
 from conquering.files import Fault, Folder, log_of
-from conquering.leaf import CLOSED, FAILED, Job, Leaf, Plan, conquer_leaf, read_records
+from conquering.leaf import CLOSED, FAILED, Job, Leaf, Plan, Records
 from conquering.processes import Bell, Command, Word, die_with, kill, output_of, start
 from conquering.race import Race
 from conquering.run import Run
@@ -37,6 +38,7 @@ class Engine:
     bell: Bell
     jobs: Optional[int]  # how many at a time
     races: bool = False  # whether one of them searches the whole formula
+    cuts: bool = False  # whether a long leaf is cut in two if a core is idle
 
     @classmethod
     def test(cls) -> None:
@@ -60,18 +62,14 @@ class Local(Engine):
             while (run.waits() or jobs or race) and not run.over():
                 while run.waits() and len(jobs) + bool(race) < self.jobs:
                     leaf = run.take()
-                    jobs.append(Job(leaf, conquer_leaf(self.folder, self.plan, leaf, mark)))
+                    jobs.append(Job(self.folder, self.plan, leaf, mark))
+                if self.cuts and self.cut(run, jobs, race):
+                    continue
                 self.bell.wait(min([1.0] + [job.end - time.monotonic() for job in jobs]))
-                for job in [job for job in jobs if job.ended()]:
-                    jobs.remove(job)
-                    run.spent(time.monotonic() - job.began)
-                    run.ended(job.leaf, *job.result)
+                self.gather(run, jobs)
                 if race and race.ended(run):
                     race = None
-                for job in [job for job in jobs if run.is_covered(job.leaf)]:
-                    jobs.remove(job)
-                    run.let_go(job.leaf)
-                    job.stop()
+                self.end_needless(run, jobs)
                 if race and race.is_lost(run, jobs, self.jobs):
                     race = self.end_race(run, race)
                 run.tick(len(jobs), race is not None)
@@ -79,6 +77,27 @@ class Local(Engine):
             for job in jobs + ([race.job] if race else []):
                 run.let_go(job.leaf)
                 job.stop()
+
+    def cut(self, run: Run, jobs: List[Job], race: Optional[Race]) -> bool:
+        """Cuts the longest leaf if a core is idle. Answers whether leaves wait then."""
+        job = None if len(jobs) + bool(race) >= self.jobs else to_cut(run, jobs)
+        if job is None:
+            return False
+        run.cut(job.leaf)
+        return run.waits()
+
+    def gather(self, run: Run, jobs: List[Job]) -> None:
+        for job in [job for job in jobs if job.ended()]:
+            jobs.remove(job)
+            run.took(time.monotonic() - job.began, job.result[0])
+            run.ended(job.leaf, *job.result)
+
+    def end_needless(self, run: Run, jobs: List[Job]) -> None:
+        """Ends jobs of leaves that others have closed meanwhile."""
+        for job in [job for job in jobs if run.is_settled(job.leaf.cube)]:
+            jobs.remove(job)
+            run.let_go(job.leaf)
+            job.stop()
 
     def race(self, run: Run, mark: str) -> Optional[Race]:
         """Once in a start, and not where a leaf is the whole formula."""
@@ -136,7 +155,7 @@ class Rounds(Engine):
     def gather(self, run: Run, leaves: List[Leaf]) -> None:
         """What became of the round's other leaves; of a job that was lost there is no record."""
         ends = {}
-        for record in read_records(self.folder, ".%s." % self.mark):
+        for record in Records(self.folder).all(".%s." % self.mark):
             ends[record.cube] = record.outcome, record.note
         for leaf in leaves:
             if not run.is_closed(leaf):
@@ -244,7 +263,7 @@ def work(path: str, mark: str, task: str) -> int:
             break
         if folder.at(log_of(leaf.cube)).exists() or folder.covered(leaf.cube).exists():
             continue
-        job = Job(leaf, conquer_leaf(folder, plan, leaf, mark))
+        job = Job(folder, plan, leaf, mark)
         while not job.ended():
             bell.wait(min(60, job.end - time.monotonic()))
     return 0

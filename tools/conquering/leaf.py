@@ -13,14 +13,15 @@ from pathlib import Path
 from typing import Dict, Generator, List, Optional, Tuple, Union
 
 from conquering.files import Cube, Folder, answer_of, last_line, log_of, name_of, publish
-from conquering.processes import Command, Word, kill, start
+from conquering.processes import Command, Process, Word, kill, start
 from telling.words import of_foreign_proof
 
 CLOSED, MODEL, LIMIT, FAILED = "closed", "model", "limit", "failed"  # how a job ends
+ENDED = "ended"  # before it had found anything, since others had or the script was ended
 LATE = "late"  # the status of a command that was ended since its time was up
 
 Status = Union[int, str, None]  # of a command: a number, or why there is none
-Steps = Generator[Command, Status, Tuple[str, str]]
+Steps = Generator[Command, Status, Tuple[str, str, int]]
 Search = Generator[Command, Status, str]
 
 
@@ -55,17 +56,20 @@ class Record:
     end: float
     host: str
     bytes: int  # of its log
+    memory: int = 0  # the most that one of its processes had, in bytes
+    tree: str = ""
 
 
 class Failed(Exception):
     """Why a job has brought nothing."""
 
 
-def conquer_leaf(folder: Folder, plan: Plan, leaf: Leaf, mark: str) -> Steps:
-    """A leaf's job. Publishes what it brings, and returns how it ended, and why if it failed."""
+def conquer_leaf(folder: Folder, plan: Plan, leaf: Leaf) -> Steps:
+    """A leaf's job. Publishes what it brings, and returns how it ended, why if it failed, and how
+    many bytes its log has."""
     here = folder.at("scratch", "%s.%d" % (name_of(leaf.cube), os.getpid()))
     here.mkdir(parents=True, exist_ok=True)
-    begin, note, size = time.time(), "", 0
+    note, size = "", 0
     words = ["--cubes", folder.at(leaf.tree), "--leaf", str(leaf.place)]
     try:
         search = by_refute if plan.solver is None else by_solver
@@ -79,22 +83,32 @@ def conquer_leaf(folder: Folder, plan: Plan, leaf: Leaf, mark: str) -> Steps:
         outcome, note = FAILED, str(why)
     finally:
         shutil.rmtree(str(here), ignore_errors=True)
-    record = Record(leaf.cube, outcome, note, begin, time.time(), socket.gethostname(), size)
-    name = "%s.%s.%d" % (name_of(leaf.cube), mark, begin * 1000)
-    folder.record(name, json.dumps(asdict(record)))
-    return outcome, note
+    return outcome, note, size
 
 
-def read_records(folder: Folder, mark: str = "") -> List[Record]:
-    """The records whose names have a mark, by the moments at which their jobs began."""
-    records = []
-    for name in [name for name in folder.names("records") if mark in name]:
-        try:
-            told = json.loads(folder.at(name).read_text())
-            records.append(Record(**{**told, "cube": tuple(told["cube"])}))
-        except (OSError, ValueError, TypeError, KeyError):  # a crash has spoiled it
-            continue
-    return sorted(records, key=lambda record: record.begin)
+def read_record(path: Path) -> Optional[Record]:
+    try:
+        told = json.loads(path.read_text())
+        return Record(**{**told, "cube": tuple(told["cube"])})
+    except (OSError, ValueError, TypeError, KeyError):  # a crash has spoiled it
+        return None
+
+
+class Records:
+    """The records of a folder, each of which is read once."""
+
+    def __init__(self, folder: Folder) -> None:
+        self.folder = folder
+        self.read: Dict[str, Optional[Record]] = {}
+
+    def all(self, mark: str = "") -> List[Record]:
+        """Those whose names have a mark, by the moments at which their jobs began."""
+        names = [name for name in self.folder.names("records") if mark in name]
+        for name in names:
+            if name not in self.read:
+                self.read[name] = read_record(self.folder.at(name))
+        found = [record for record in map(self.read.get, names) if record]
+        return sorted(found, key=lambda record: record.begin)
 
 
 def by_refute(plan: Plan, words: List[Word], here: Path, limited: bool) -> Search:
@@ -151,19 +165,25 @@ def keep_values(output: Path, answer: Path) -> None:
 
 
 class Job:
-    """A leaf's job under way: the command that runs, and when it has to end."""
+    """A leaf's job under way: the command that runs, and when it has to end. It leaves a record,
+    however it ends."""
 
-    def __init__(self, leaf: Leaf, steps: Steps) -> None:
-        self.leaf, self.steps = leaf, steps
-        self.process, self.result = None, None
-        self.began = time.monotonic()
+    def __init__(self, folder: Folder, plan: Plan, leaf: Leaf, mark: str) -> None:
+        self.folder, self.leaf, self.mark = folder, leaf, mark
+        self.steps = conquer_leaf(folder, plan, leaf)
+        self.process: Optional[Process] = None
+        self.result: Optional[Tuple[str, str]] = None  # how it has ended, and why
+        self.memory = 0
+        self.began, self.begin = time.monotonic(), time.time()
         self.next(None)
 
     def next(self, status: Status) -> None:
         try:
             command = self.steps.send(status)
         except StopIteration as stop:
-            self.process, self.result = None, stop.value
+            outcome, note, size = stop.value
+            self.process, self.result = None, (outcome, note)
+            self.record(outcome, note, size)
             return
         self.end = time.monotonic() + (command.seconds or float("inf"))
         try:
@@ -179,11 +199,27 @@ class Job:
             late = status is None and time.monotonic() >= self.end
             if status is None and not late:
                 return False
-            kill(self.process)  # with what a command has left of its group
+            self.kill()  # with what a command has left of its group
             self.next(LATE if late else status)
         return True
 
+    def kill(self) -> None:
+        kill(self.process)
+        self.memory = max(self.memory, self.process.memory)
+
     def stop(self) -> None:
         if self.process:
-            kill(self.process)
+            self.kill()
         self.steps.close()
+        if self.result:
+            return
+        try:
+            self.record(ENDED, "", 0)
+        except OSError:  # other jobs are to be ended all the same
+            pass
+
+    def record(self, outcome: str, note: str, size: int) -> None:
+        record = Record(self.leaf.cube, outcome, note, self.begin, time.time(),
+                        socket.gethostname(), size, self.memory, self.leaf.tree)
+        name = "%s.%s.%d" % (name_of(self.leaf.cube), self.mark, self.begin * 1000)
+        self.folder.record(name, json.dumps(asdict(record)))

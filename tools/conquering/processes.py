@@ -4,6 +4,7 @@ import os
 import select
 import signal
 import subprocess
+import sys
 from dataclasses import dataclass
 from pathlib import Path
 from typing import Any, List, Optional, Tuple, Union
@@ -19,6 +20,7 @@ class Command:
 
 
 DIE_WITH_PARENT = 1  # PR_SET_PDEATHSIG
+UNIT = 1 if sys.platform == "darwin" else 1024  # bytes in which the system counts memory
 
 try:
     prctl = ctypes.CDLL(None).prctl
@@ -34,13 +36,41 @@ def die_with(parent: int) -> None:
             os._exit(1)
 
 
-def start(command: Command, **more: Any) -> subprocess.Popen:
+class Process(subprocess.Popen):
+    """One that keeps the most memory that it, or a child for which it has waited, has had at a
+    time: `wait4` alone tells that. It is never less than what this script has, as whose copy it
+    begins."""
+
+    memory = 0  # bytes
+
+    def poll(self) -> Optional[int]:
+        return self.look(os.WNOHANG)
+
+    def wait(self, timeout: Optional[float] = None) -> Optional[int]:
+        return self.look(0)
+
+    def look(self, how: int) -> Optional[int]:
+        if self.returncode is not None:
+            return self.returncode
+        try:
+            ended, status, used = os.wait4(self.pid, how)
+        except ChildProcessError:  # a signal came while it was waited for
+            self.returncode = 0
+            return 0
+        if ended:
+            is_killed = os.WIFSIGNALED(status)
+            self.returncode = -os.WTERMSIG(status) if is_killed else os.WEXITSTATUS(status)
+            self.memory = used.ru_maxrss * UNIT
+        return self.returncode
+
+
+def start(command: Command, **more: Any) -> Process:
     """Starts a command in a process group of its own, so that it can be ended with its children."""
     parent = os.getpid()
     more = {"stdin": subprocess.DEVNULL, "stderr": subprocess.STDOUT, **more}
     with command.output.open("wb") as output:
-        return subprocess.Popen(command.words, stdout=output, start_new_session=True,
-                                preexec_fn=lambda: die_with(parent), **more)
+        return Process(command.words, stdout=output, start_new_session=True,
+                       preexec_fn=lambda: die_with(parent), **more)
 
 
 def status_of(words: List[Word], output: Path) -> int:

@@ -8,7 +8,7 @@ import time
 from typing import List, Optional
 
 from conquering.files import Folder, publish
-from conquering.leaf import Job, Leaf, Plan, conquer_leaf
+from conquering.leaf import Job, Leaf, Plan
 from conquering.processes import status_of
 from conquering.run import Run
 
@@ -27,7 +27,7 @@ class Race:
         if status_of([plan.program, "cubes", "--depth", "0", plan.input], part) != 0:
             return None
         publish(part, folder.at(WHOLE.tree))
-        return cls(Job(WHOLE, conquer_leaf(folder, plan, WHOLE, mark)))
+        return cls(Job(folder, plan, WHOLE, mark))
 
     def ended(self, run: Run) -> bool:
         """Whether it has ended by itself, of which the run is told."""

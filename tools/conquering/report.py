@@ -11,16 +11,19 @@ import math
 import os
 import time
 from pathlib import Path
-from typing import Dict, Iterator, List, Optional, Set, Tuple
+from typing import Dict, List, Optional, Tuple
 
+from conquering.figures import State, megabytes, size, spent, state_of, told
 from conquering.files import Cube
-from conquering.leaf import CLOSED, LIMIT, Record, read_records
+from conquering.leaf import CLOSED, LIMIT, Plan, Record, Records
 from conquering.run import Run
-from conquering.screen import clock
+from conquering.screen import Screen
 
 WIDTH = 1160  # of each picture, in pixels
 NARROW = 1.5  # what is narrower than this is drawn with its neighbours
 ROWS = 400  # of the table
+EVERY = 3  # seconds after which the report is renewed at the earliest
+SHARE = 0.02  # of the time, at most, that the script spends on renewing it
 RAMP = ((255, 246, 205), (253, 200, 105), (240, 125, 60), (190, 50, 80), (75, 20, 95))
 OPEN, COVERED, FORK = "#d9d9df", "#cfe3f3", "#f4f4f7"  # of what has no time
 THIN, RED = ' stroke="#fff" stroke-width=".6"', ' stroke="#c00" stroke-dasharray="2"'  # edges
@@ -36,16 +39,6 @@ th,td{padding:.15em .7em;text-align:right;border-bottom:1px solid #eee;white-spa
 th{color:#666;font-weight:600}.cube{text-align:left}
 td.cube{white-space:normal;overflow-wrap:anywhere}
 """
-
-
-def spent(record: Record) -> float:
-    return max(0.001, record.end - record.begin)
-
-
-def told(seconds: float) -> str:
-    if seconds >= 3600:
-        return clock(seconds)
-    return "%.0f s" % seconds if seconds >= 100 else "%.3g s" % seconds
 
 
 class Scale:
@@ -90,14 +83,15 @@ def text(x: float, y: float, words: str, anchor: str = "middle", ink: str = "#33
 class Tree:
     """The splitting tree as boxes: each branch under its fork, a leaf down to the floor."""
 
-    def __init__(self, cubes: List[Cube], covered: Set[Cube], times: Dict[Cube, float],
-                 scale: Scale) -> None:
-        self.cubes, self.covered, self.times, self.scale = cubes, covered, times, scale
-        self.depth = max(map(len, cubes))
+    def __init__(self, state: State, last: Dict[Cube, Record], scale: Scale) -> None:
+        self.cubes, self.covered, self.last, self.scale = state.cubes, state.covered, last, scale
+        self.depth = max(map(len, self.cubes))
         self.high = max(7, min(22, 440 // (self.depth + 1)))
-        self.wide = WIDTH / len(cubes)
+        self.wide = WIDTH / len(self.cubes)
         self.floor = (self.depth + 2) * self.high
-        self.longest = [times.get(cube) for cube in cubes]
+        self.own = state.own.issuperset
+        self.longest = [spent(last[cube]) if cube in state.own and cube in last else None
+                        for cube in self.cubes]
 
     def draw(self) -> str:
         parts, stack = [], [(0, 0, len(self.cubes))]
@@ -120,9 +114,12 @@ class Tree:
         return low + bisect.bisect_left(behind, True)
 
     def fork(self, path: Cube, low: int, wide: float) -> List[str]:
-        seconds = self.times.get(path)  # it was a leaf once, and was cut in two at its limit
+        job = self.last.get(path)  # it was a leaf once, and was cut in two
+        seconds = spent(job) if job else None
         title = "%s, %d leaves below" % (self.told(path), round(wide / self.wide))
-        title += ", cut in two after " + told(seconds) if seconds else ""
+        if job:
+            how = "cut in two" if job.outcome == LIMIT else "as one leaf " + job.outcome
+            title += ", %s after %s" % (how, told(seconds))
         colour = self.scale.colour(seconds) if seconds else FORK
         x, y = low * self.wide, len(path) * self.high
         parts = [box(x, y, wide, self.high, colour, title, THIN)]
@@ -138,8 +135,7 @@ class Tree:
     def leaves(self, depth: int, low: int, high: int) -> List[str]:
         """A leaf, or several that are too narrow to be told apart."""
         seconds = max(filter(None, self.longest[low:high]), default=None)
-        closed = self.covered.issuperset(self.cubes[low:high])
-        colour, words = (COVERED, "with another") if closed else (OPEN, "open")
+        colour, words = self.kind(self.cubes[low:high])
         if seconds:
             colour, words = self.scale.colour(seconds), told(seconds)
         x, y, wide = low * self.wide, depth * self.high, (high - low) * self.wide
@@ -153,6 +149,12 @@ class Tree:
         if wide > 7 * len(words):
             parts.append(text(x + wide / 2, self.floor - 6, words, ink=ink))
         return parts
+
+    def kind(self, cubes: List[Cube]) -> Tuple[str, str]:
+        """The colour and word of leaves that have no time."""
+        if self.covered.issuperset(cubes):
+            return COVERED, "by another's log"
+        return (FORK, "closed by logs") if self.own(cubes) else (OPEN, "open")
 
     @staticmethod
     def told(path: Cube) -> str:
@@ -233,50 +235,35 @@ def workers(records: List[Record], scale: Scale) -> str:
     return picture(floor + 22, parts, "the workers' lanes")
 
 
-def table(cubes: List[Cube], covered: Set[Cube], last: Dict[Cube, Record]) -> str:
+def closed(state: State, cube: Cube) -> str:
+    """By what a leaf is closed."""
+    if cube in state.covered:
+        return "by another's log"
+    return "by its log" if cube in state.own else "open"
+
+
+def table(state: State, last: Dict[Cube, Record]) -> str:
     """The leaves that took longest, each with its last job."""
     late = lambda row: -spent(last[row[1]]) if row[1] in last else 1
-    rows = sorted(enumerate(cubes, 1), key=late)
-    lines = ["<tr><th>leaf<th>time<th>log<th>began<th>host<th>ended<th class=cube>cube"]
+    rows = sorted(enumerate(state.cubes, 1), key=late)
+    lines = ["<tr><th>leaf<th>closed<th>time<th>memory<th>log<th>began<th>host<th>its job"
+             "<th class=cube>cube"]
     for place, cube in rows[:ROWS]:
         job = last.get(cube)
-        cells = ["", "", "", "", "with another" if cube in covered else "open"]
+        cells = [closed(state, cube)] + [""] * 6
         if job:
             began = time.strftime("%d %b %H:%M:%S", time.localtime(job.begin))
-            size = "{:,} bytes".format(job.bytes) if job.bytes else ""
-            cells = [told(spent(job)), size, began, job.host, job.outcome]
+            cells[1:] = [told(spent(job)), megabytes(job.memory), size(job.bytes), began, job.host,
+                         job.outcome]
         cells = "".join("<td>" + html.escape(cell) for cell in [str(place)] + cells)
         lines.append("<tr>%s<td class=cube>%s" % (cells, html.escape(Tree.told(cube))))
     return "<table>%s</table>" % "\n".join(lines)
 
 
-def is_race(record: Record, cubes: List[Cube]) -> bool:
-    """Whether its job searched the whole formula beside the leaves. One that left a tree of no
-    levels at its limit was cut in two."""
-    return record.cube == () and () not in cubes and record.outcome != LIMIT
-
-
-def facts(cubes: List[Cube], covered: Set[Cube], records: List[Record],
-          last: Dict[Cube, Record]) -> Iterator[Tuple[str, str]]:
-    """The figures of the run, as pairs of what and how much."""
-    jobs = [last[cube] for cube in cubes if cube in last and last[cube].outcome == CLOSED]
-    times, whole = sorted(map(spent, jobs)), sum(map(spent, records))
-    yield "leaves", "{:,}".format(len(cubes))
-    for record in records:
-        if is_race(record, cubes):
-            yield "the whole formula unsplit", "%s in %s" % (record.outcome, told(spent(record)))
-    yield "closed by a job", "{:,}".format(len(jobs))
-    yield "with another leaf", "{:,}".format(len(covered))
-    yield "jobs", "{:,}".format(len(records))
-    yield "time of all jobs", told(whole)
-    if times:
-        yield "mean of a leaf", told(sum(times) / len(times))
-        yield "median", told(times[len(times) // 2])
-        yield "longest", "%s, %.0f%% of all" % (told(times[-1]), 100 * times[-1] / whole)
-        yield "logs", "{:,} bytes".format(sum(job.bytes for job in jobs))
-
-
-ANSWERS = {20: "s UNSATISFIABLE", 10: "s SATISFIABLE", 0: "s UNKNOWN"}
+NONE = 1  # the status of a run that was ended before it had an answer
+ANSWERS = {20: "s UNSATISFIABLE", 10: "s SATISFIABLE", 0: "s UNKNOWN", NONE: "ended without answer",
+           None: "under way"}
+RENEWED = '<meta http-equiv="refresh" content="5">'
 TREE = """<h2>The splitting tree</h2><p>From the whole formula down to the leaves: the lighter, the
 sooner closed (%s); the darker, the later (%s). Blue leaves are closed by another's log, grey ones
 are open.</p>"""
@@ -285,33 +272,72 @@ LANES = """<h2>Workers</h2><p>Which job ran when. Dashed lines are times at whic
 edge is a job that closed nothing.</p>"""
 
 
-def page(name: str, how: str, cubes: List[Cube], covered: Set[Cube], records: List[Record],
-         status: int) -> str:
-    last = {record.cube: record for record in records if not is_race(record, cubes)}
+def page(name: str, how: str, state: State, status: Optional[int]) -> str:
+    last = state.last()
     times = {cube: spent(record) for cube, record in last.items()}
-    shown = [times[cube] for cube in cubes if cube in times]
+    shown = [times[cube] for cube in state.cubes if cube in state.own and cube in times]
     scale, title = Scale(list(times.values())), html.escape(os.path.basename(name))
     body = ["<h1>%s: %s</h1><p>%s</p>" % (title, ANSWERS[status], html.escape(how))]
-    figures = facts(cubes, covered, records, last)
-    body.append("<dl>%s</dl>" % "".join("<div><dt>%s<dd>%s</div>" % figure for figure in figures))
-    if shown:
+    figures = "".join("<div><dt>%s<dd>%s</div>" % figure for figure in state.facts())
+    body.append("<dl>%s</dl>" % figures)
+    if times:
         body.append(TREE % (told(scale.least), told(scale.most)))
-        body.append(Tree(cubes, covered, times, scale).draw())
-        body += [CURVE, curve(shown, scale), LANES, workers(records, scale)]
-    more = ", the %d longest" % ROWS if len(cubes) > ROWS else ""
-    body.append("<h2>The leaves%s</h2>%s" % (more, table(cubes, covered, last)))
+        body.append(Tree(state, last, scale).draw())
+    if shown:
+        body += [CURVE, curve(shown, scale)]
+    if state.records:
+        body += [LANES, workers(state.records, scale)]
+    more = ", the %d longest" % ROWS if len(state.cubes) > ROWS else ""
+    body.append("<h2>The leaves%s</h2>%s" % (more, table(state, last)))
     head = '<meta charset="utf-8"><title>%s</title><style>%s</style>' % (title, STYLE)
+    head += RENEWED if status is None else ""
     return '<!DOCTYPE html><html lang="en">%s\n%s</html>\n' % (head, "\n".join(body))
 
 
-def write(run: Run, status: int) -> Path:
-    """Writes the report and answers its path."""
-    plan, how = run.plan, "satcluster refute"
+def how_of(plan: Plan, cuts: int) -> str:
+    """By what the formula was split and its leaves were searched."""
+    how = "satcluster refute"
     if plan.solver:
         how = " && ".join(" ".join(command) for command in plan.solver)
     how += ", limit %d lemmas" % plan.limit if plan.limit else ""
     how += ", limit %d seconds" % plan.seconds if plan.seconds else ""
-    records = read_records(run.folder)
-    text = page(plan.input, how, run.cubes, run.covered, records, status)
-    run.folder.write("report.html", text)
-    return run.folder.at("report.html")
+    how += "; the tree was made by " + plan.split if plan.split else ""
+    return how + (", and %d of its leaves were cut in two" % cuts if cuts else "")
+
+
+class Report:
+    """The file of the report, written again and again."""
+
+    def __init__(self, run: Run) -> None:
+        self.run, self.records = run, Records(run.folder)
+
+    def write(self, status: Optional[int]) -> Path:
+        """Writes it and answers its path. It is not synced: a crash that spoils it costs a picture."""
+        run, now = self.run, time.strftime("; %d %B %Y, %H:%M:%S")
+        state = state_of(run, self.records.all(), status == 20)
+        text = page(run.plan.input, how_of(run.plan, run.number - 1) + now, state, status)
+        part, path = run.folder.at("scratch", "report.html"), run.folder.at("report.html")
+        part.write_text(text, encoding="utf-8", errors="replace")
+        part.replace(path)
+        return path
+
+
+class Live:
+    """Renews the report while leaves run, as often as costs little. It begins with the first leaf
+    that is closed, since only then the folder is surely not one of another formula."""
+
+    def __init__(self, run: Run, screen: Screen) -> None:
+        self.report, self.screen, self.next = Report(run), screen, 0.0
+
+    def renew(self) -> None:
+        begin = time.monotonic()
+        if begin < self.next or not self.report.run.closed:
+            return
+        try:
+            self.report.write(None)
+        except Exception as why:  # which changes no answer
+            self.screen.say("c no report: %r" % why)
+            self.next = float("inf")
+            return
+        end = time.monotonic()
+        self.next = end + max(EVERY, (end - begin) / SHARE)

@@ -3,7 +3,7 @@ import collections
 import os
 import subprocess
 import time
-from typing import Counter, DefaultDict, Deque, Dict, FrozenSet, List, Optional, Set, Tuple
+from typing import Callable, Counter, DefaultDict, Deque, Dict, FrozenSet, List, Optional, Set, Tuple
 
 from conquering.files import Cube, Folder, answer_of, closed_by, log_of, publish, read_cubes
 from conquering.leaf import CLOSED, LIMIT, MODEL, Leaf, Plan
@@ -12,6 +12,7 @@ from conquering.screen import Screen, clock
 
 TRIES = 3  # how often a leaf is run in one start before it is given up
 HOPELESS = 20  # how many jobs may fail before any leaf is closed
+CALM = 5  # seconds
 
 
 class Join:
@@ -72,7 +73,15 @@ class Run:
         self.alone: Set[Cube] = set()  # to be run in any case
         self.failures, self.closed, self.splits = 0, 0, 0
         self.longest = 0.0  # seconds of a leaf's job
+        self.spent = 0.0  # seconds of all jobs that have closed a leaf
+        self.halves: Dict[Cube, List[Cube]] = {}  # of leaves that were cut in two
+        self.uncut: Set[Cube] = set()  # leaves that cannot be
+        self.patience = CALM  # for how long no leaf has to be cut before a join is begun anew
+        self.calm = float("inf")  # the moment at which it is
         self.began, self.model = time.monotonic(), False
+        self.done: Set[Cube] = set()  # closed by a log of its own, or by another's
+        self.covered: Set[Cube] = set()  # of these the ones that another's closes
+        self.renew: Callable[[], None] = lambda: None  # the report, while leaves run
         self.join: Optional[Join] = None
         self.can_split: Optional[bool] = None
         self.take_tree(folder.newest_tree())
@@ -91,8 +100,8 @@ class Run:
         """Begins a pass over the leaves that have no log."""
         have = set(self.folder.names("logs"))
         self.look_for_answers()
-        self.done: Set[Cube] = {cube for cube in self.cubes if log_of(cube) in have}
-        self.covered: Set[Cube] = set()
+        self.done = {cube for cube in self.cubes if log_of(cube) in have}
+        self.covered = set()
         self.closings: Set[FrozenSet[int]] = set()
         self.queue.clear()
         self.running.clear()
@@ -127,9 +136,14 @@ class Run:
         """How many leaves nothing closes yet."""
         return sum(cube not in self.done for cube in self.cubes)
 
-    def spent(self, seconds: float) -> None:
+    def took(self, seconds: float, outcome: str) -> None:
         """A leaf's job has taken so long."""
         self.longest = max(self.longest, seconds)
+        self.spent += seconds if outcome == CLOSED else 0
+
+    def mean(self) -> float:
+        """Of the seconds of jobs that have closed a leaf."""
+        return self.spent / max(1, self.closed)
 
     def let_go(self, leaf: Leaf) -> None:
         """Its job was ended before it had found anything."""
@@ -138,9 +152,11 @@ class Run:
     def is_closed(self, leaf: Leaf) -> bool:
         return leaf.cube in self.done
 
-    def is_covered(self, leaf: Leaf) -> bool:
-        """Whether another leaf's log closes it."""
-        return leaf.cube in self.covered
+    def is_settled(self, cube: Cube) -> bool:
+        """Whether a leaf is closed, or both its halves: a job for it is of no use any more."""
+        halves = self.halves.get(cube, [])
+        return cube in self.done or (bool(halves) and all(map(self.is_settled, halves)))
+
 
     def look_for_answers(self) -> None:
         self.model = bool(self.folder.names("answers"))
@@ -158,13 +174,16 @@ class Run:
         if outcome == CLOSED:
             self.closed += 1
             self.done.add(cube)
+            self.covered.discard(cube)  # if another's log came before its own
             self.cover(closed_by(self.folder.at(log_of(cube))))
+            if cube in self.halves:
+                self.cover(frozenset(cube))
             if self.join:
                 self.join.add(log_of(cube))
         elif outcome == MODEL:
             self.model = True
         elif outcome == LIMIT:
-            if not self.split(cube):
+            if cube not in self.halves and not self.split(cube):
                 self.unlimited.add(cube)
                 self.queue.append(cube)
         else:
@@ -191,7 +210,11 @@ class Run:
         self.closings.add(closed)
         sets = [self.having.get(literal, set()) for literal in closed]
         rarest = min(sets, key=len, default=self.cubes)
-        found = {cube for cube in rarest if closed.issubset(cube)} - self.done - self.alone
+        self.close({cube for cube in rarest if closed.issubset(cube)})
+
+    def close(self, found: Set[Cube]) -> None:
+        """Others' logs close these leaves."""
+        found = found - self.done - self.alone
         if found:
             self.queue = collections.deque(cube for cube in self.queue if cube not in found)
             self.covered |= found
@@ -204,10 +227,11 @@ class Run:
         self.failures += 1
         self.reasons[note] += 1
         if self.reasons[note] == 1:
-            self.screen.say("c leaf %d failed: %s" % (self.place[cube], note))
+            name = "leaf %d" % self.place[cube] if cube in self.place else "a leaf that was cut"
+            self.screen.say("c %s failed: %s" % (name, note))
         if self.hopeless():
             self.queue.clear()
-        elif self.tries[cube] < TRIES:
+        elif self.tries[cube] < TRIES and cube not in self.halves:
             self.queue.append(cube)
 
     def tell_failures(self) -> None:
@@ -220,6 +244,14 @@ class Run:
     def hopeless(self) -> bool:
         """A solver that fails again and again, and never closes a leaf, is not the one to run."""
         return self.failures >= HOPELESS and not self.closed
+
+    def may_cut(self, leaf: Leaf) -> bool:
+        return leaf.cube in self.place and leaf.cube not in self.uncut and not self.hopeless()
+
+    def cut(self, leaf: Leaf) -> None:
+        """Cuts a leaf in two whose job goes on, beside those of its halves."""
+        if not self.split(leaf.cube):
+            self.uncut.add(leaf.cube)
 
     def split(self, cube: Cube) -> bool:
         """Cuts a leaf in two where the program can, in a new tree file: jobs keep the old one."""
@@ -234,13 +266,30 @@ class Run:
             return False
         publish(part, self.folder.at("trees", "%d.icnf" % (self.number + 1)))
         self.take_tree(self.number + 1)
-        self.queue.extend(new for new in self.cubes if new not in before)
+        halves = [new for new in self.cubes if new not in before]
+        self.halves[cube] = halves
+        self.queue.extend(halves)
         self.splits += 1
-        for closed in self.closings:
-            self.cover(closed)
-        self.end_join()  # it joins the leaves of the tree with which it was begun
+        self.close({half for half in halves
+                    if any(closed.issubset(half) for closed in self.closings)})
+        self.put_off_join()
         self.forget_trees()
         return True
+
+    def put_off_join(self) -> None:
+        """A join is one of the tree with which it was begun, so it is begun anew: when no leaf was
+        cut for a while, or in the end. The while is doubled each time, so that however many leaves
+        are cut, what joins read in vain is little beside what is searched."""
+        if self.join:
+            self.end_join()
+            self.patience *= 2
+        self.calm = time.monotonic() + self.patience
+
+    def join_anew(self) -> None:
+        if self.join is None and time.monotonic() >= self.calm:
+            self.join = Join(self.folder, self.plan, self.tree)
+            self.join.add(*self.folder.names("logs"))
+            self.calm = float("inf")
 
     def forget_trees(self) -> None:
         """A tree file has the whole formula in it, so those that no job names are removed."""
@@ -259,6 +308,8 @@ class Run:
         if self.closed:
             line += ", about %s left" % clock(gone / self.closed * max(0, waits - running / 2))
         self.screen.progress(line)
+        self.renew()
+        self.join_anew()
 
     def answer(self) -> Tuple[int, List[str]]:
         """What the program says of what is there. A right assignment decides, and so goes alone."""
@@ -284,6 +335,8 @@ class Run:
         else:  # a log that was not refused may close something else than its leaf
             refused = set(refused).union(brought.intersection(map(log_of, missing)))
             self.alone.update(self.covered.intersection(missing))
+            self.done.difference_update(missing)
+            self.covered.difference_update(missing)
         for name in refused:
             self.folder.set_aside(name)
         return not self.hopeless() and any(self.tries[cube] < TRIES for cube in missing)
@@ -291,4 +344,5 @@ class Run:
     def end_join(self) -> None:
         if self.join:
             kill(self.join.process)
+            self.join.process.stdin.close()
         self.join = None

@@ -4,10 +4,17 @@ import sys
 import time
 
 
+def pause(seconds: float) -> int:
+    """After how many seconds a line follows another where none can be rewritten, so many after the
+    start: whoever looks on wants to see soon that something goes on, and later no long list."""
+    return 10 if seconds < 59 else 60
+
+
 class Screen:
     def __init__(self, quiet: bool) -> None:
         self.quiet, self.rewrites, self.shown = quiet, sys.stdout.isatty(), ""
-        self.next = time.monotonic() + (0 if self.rewrites else 60)
+        self.began = time.monotonic()
+        self.next = self.began + (0 if self.rewrites else pause(0))
 
     def say(self, line: str) -> None:
         if not self.quiet:
@@ -18,9 +25,10 @@ class Screen:
         self.shown = ""
 
     def progress(self, line: str) -> None:
-        if self.quiet or time.monotonic() < self.next:
+        now = time.monotonic()
+        if self.quiet or now < self.next:
             return
-        self.next = time.monotonic() + (0.2 if self.rewrites else 60)
+        self.next = now + (0.2 if self.rewrites else pause(now - self.began))
         if self.rewrites:
             self.shown = line[: shutil.get_terminal_size().columns - 1]
             print("\r\x1b[K" + self.shown, end="", flush=True)

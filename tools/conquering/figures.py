@@ -1,0 +1,89 @@
+"""What is known of a run at a moment, and the figures that the report tells of it."""
+from dataclasses import dataclass
+from typing import Dict, FrozenSet, Iterator, List, Tuple
+
+from conquering.files import Cube
+from conquering.leaf import CLOSED, Record
+from conquering.race import WHOLE
+from conquering.run import Run
+from conquering.screen import clock
+
+
+def spent(record: Record) -> float:
+    return max(0.001, record.end - record.begin)
+
+
+def told(seconds: float) -> str:
+    if seconds >= 3600:
+        return clock(seconds)
+    return "%.0f s" % seconds if seconds >= 100 else "%.3g s" % seconds
+
+
+def size(number: int) -> str:
+    return "{:,} bytes".format(number) if number else ""
+
+
+def megabytes(number: int) -> str:
+    return "{:,.0f} MB".format(number / 1e6) if number else ""
+
+
+def is_race(record: Record) -> bool:
+    """Whether its job searched the whole formula beside the leaves."""
+    return record.tree == WHOLE.tree
+
+
+@dataclass(frozen=True)
+class State:
+    """The leaves of the tree that stands, each of which is closed by a log of its own, closed by
+    another's, or open; and the jobs that have ended. A record tells what a job did, and not what
+    closes a leaf: its log may have been brought, refused, or covered by another."""
+
+    cubes: List[Cube]
+    own: FrozenSet[Cube]
+    covered: FrozenSet[Cube]
+    records: List[Record]
+
+    def last(self) -> Dict[Cube, Record]:
+        """The last job of each leaf."""
+        return {record.cube: record for record in self.records if not is_race(record)}
+
+    def cut_leaves(self, last: Dict[Cube, Record]) -> List[Record]:
+        """The last jobs of leaves that were cut in two."""
+        paths = {cube[:depth] for cube in self.cubes for depth in range(len(cube))}
+        return [last[path] for path in sorted(paths & last.keys())]
+
+    def facts(self) -> Iterator[Tuple[str, str]]:
+        """The figures of the run, as pairs of what and how much."""
+        last, whole = self.last(), sum(map(spent, self.records))
+        jobs = [last[cube] for cube in self.cubes if cube in self.own and cube in last]
+        cut = self.cut_leaves(last)
+        yield "leaves", "{:,}".format(len(self.cubes))
+        yield "closed by a log of its own", "{:,}".format(len(self.own))
+        yield "by another's log", "{:,}".format(len(self.covered))
+        yield "open", "{:,}".format(len(self.cubes) - len(self.own) - len(self.covered))
+        for record in filter(is_race, self.records):
+            yield "the whole formula unsplit", "%s, %s" % (record.outcome, told(spent(record)))
+        if cut:
+            yield "leaves that were cut", "{:,}".format(len(cut))
+            as_one = sum(job.outcome == CLOSED for job in cut)
+            yield "of these closed as one", "{:,}".format(as_one)
+        yield "jobs", "{:,}".format(len(self.records))
+        yield "time of all jobs", told(whole)
+        memory = max((record.memory for record in self.records), default=0)
+        if memory:
+            yield "most memory", megabytes(memory)
+        if jobs:
+            times = sorted(map(spent, jobs))
+            yield "mean of a leaf", told(sum(times) / len(times))
+            yield "median", told(times[len(times) // 2])
+            yield "longest", "%s, %.0f%% of all" % (told(times[-1]), 100 * times[-1] / whole)
+            yield "logs", size(sum(job.bytes for job in jobs + cut))
+
+
+def state_of(run: Run, records: List[Record], is_refuted: bool) -> State:
+    leaves = frozenset(run.cubes)
+    covered = leaves & run.covered
+    own = leaves & run.done - covered
+    if is_refuted:  # `join` may know more than was guessed here: it has closed the others, too
+        covered = leaves - own
+    return State(run.cubes, own, covered, records)

@@ -1,0 +1,210 @@
+#!/usr/bin/env python3
+"""Plays the measured leaves of a run on 1 to 1,024 cores, to tell how many of them it could use.
+
+    tools/simulate.py [--no-cuts] [--starts S] [--join MB] [--check MB] FOLDER
+
+FOLDER is one of `conquer.py`. Prints a table: when the last leaf ends, when `join` does, which reads
+logs as they come, and when `check` of the joined proof does, in seconds. S is what starting a leaf
+takes, MB are millions of bytes a second. A leaf that another's log has closed takes as long as that
+one if it is begun before; a half of a leaf takes 1.15 times the half of its time, and has as much
+more of its log. The job that searches the whole formula is left out.
+"""
+import argparse
+import heapq
+import os
+import sys
+from dataclasses import dataclass, field
+from typing import Dict, List, Optional, Tuple
+
+sys.dont_write_bytecode = True
+
+from conquering.cuts import MEANS, SECONDS
+from conquering.figures import is_race, spent
+from conquering.files import Cube, Fault, Folder, closed_by, log_of, read_cubes
+from conquering.leaf import CLOSED, Record, Records
+
+CORES = (1, 2, 4, 8, 16, 32, 64, 128, 256, 512, 1024)
+LOSS = 1.15  # what the halves of a leaf take together, for what it takes
+
+
+@dataclass(frozen=True)
+class Measured:
+    """What was measured of a leaf."""
+
+    seconds: float
+    bytes: float
+    closes: Tuple[int, ...] = ()  # the places of the other leaves that its log closes, from 0
+
+
+def measured(path: str) -> List[Measured]:
+    """The leaves of the tree that stands."""
+    if not os.path.isdir(os.path.join(path, "trees")):  # which a `Folder` would make
+        raise Fault("c %s is no folder of conquer.py" % path)
+    folder = Folder(path)
+    jobs = {record.cube: record for record in Records(folder).all()
+            if record.outcome == CLOSED and not is_race(record)}
+    cubes = uncut(read_cubes(folder.at("trees", "%d.icnf" % folder.newest_tree())), jobs)
+    closes, closer = closings(folder, cubes, list(jobs))
+    leaves = []
+    for cube in cubes:
+        job = jobs.get(cube) or jobs.get(closer.get(cube, ()))
+        if job is None:
+            raise Fault("c no job has closed the leaf %s" % " ".join(map(str, cube)))
+        leaves.append(Measured(spent(job), job.bytes, tuple(closes.get(cube, ()))))
+    return leaves
+
+
+def uncut(cubes: List[Cube], jobs: Dict[Cube, Record]) -> List[Cube]:
+    """The leaves, each that was cut and closed as one by its own job in place of what it was cut
+    into."""
+    paths = [next((cube[:depth] for depth in range(len(cube)) if cube[:depth] in jobs), cube)
+             for cube in cubes]
+    return list(dict.fromkeys(paths))
+
+
+def closings(folder: Folder, cubes: List[Cube], ran: List[Cube]) -> Tuple[
+        Dict[Cube, List[int]], Dict[Cube, Cube]]:
+    """For each cube that a job closed the places of the leaves that its log closes; and for each
+    leaf one whose log closes it."""
+    closes: Dict[Cube, List[int]] = {}
+    closer: Dict[Cube, Cube] = {}
+    for cube in ran:
+        closed = closed_by(folder.at(log_of(cube)))
+        if closed is not None:
+            closes[cube] = [place for place, other in enumerate(cubes) if closed.issubset(other)]
+            closer.update((cubes[place], cube) for place in closes[cube])
+    return closes, closer
+
+
+@dataclass(eq=False)
+class Part:
+    """A leaf, or a half of one that was cut: what is searched by one job."""
+
+    leaf: int
+    seconds: float
+    bytes: float
+    whole: Optional["Part"] = None  # what it is a half of
+    halves: List["Part"] = field(default_factory=list)
+    began: Optional[float] = None
+    closed: bool = False
+
+
+class Play:
+    """A run of `conquer.py` with the local engine: leaves from the last to the first, and cuts."""
+
+    def __init__(self, leaves: List[Measured], cores: int, cuts: bool, starts: float) -> None:
+        self.leaves, self.cores, self.cuts = leaves, cores, cuts
+        self.roots = [Part(place, leaf.seconds + starts, leaf.bytes)
+                      for place, leaf in enumerate(leaves)]
+        self.waiting, self.running = list(self.roots), []  # the next is the last of those that wait
+        self.ends: List[Tuple[float, int, Optional[Part]]] = []
+        self.now, self.events, self.count = 0.0, 0, 0
+        self.logs: List[Tuple[float, float]] = []  # when each came, and its bytes
+        self.closed_seconds, self.closed_jobs = 0.0, 0
+
+    def run(self) -> float:
+        """When the last leaf is closed."""
+        self.fill()
+        while self.running:
+            self.now, _, part = heapq.heappop(self.ends)
+            if part in self.running:
+                self.running.remove(part)
+                self.closed_seconds += part.seconds
+                self.closed_jobs += 1
+                self.logs.append((self.now, part.bytes))
+                self.close(part)
+            self.fill()
+        return max(moment for moment, _ in self.logs)
+
+    def at(self, moment: float, part: Optional[Part]) -> None:
+        self.events += 1
+        heapq.heappush(self.ends, (moment, self.events, part))
+
+    def fill(self) -> None:
+        """Gives each idle core a leaf, and cuts the longest if none waits."""
+        while len(self.running) < self.cores:
+            while self.waiting and self.waiting[-1].closed:
+                self.waiting.pop()
+            if not self.waiting and not self.cut():
+                return
+            part = self.waiting.pop()
+            part.began = self.now
+            self.running.append(part)
+            self.at(self.now + part.seconds, part)
+
+    def cut(self) -> bool:
+        found = [part for part in self.running if not part.halves]
+        if not self.cuts or not found:
+            return False
+        longest = min(found, key=lambda part: part.began)
+        mean = self.closed_seconds / max(1, self.closed_jobs)
+        moment = longest.began + max(SECONDS, MEANS * mean)
+        if moment > self.now:
+            self.at(moment, None)
+            return False
+        share = LOSS / 2
+        half = longest.leaf, longest.seconds * share, longest.bytes * share, longest
+        longest.halves = [Part(*half), Part(*half)]
+        self.waiting += longest.halves
+        self.count += 1
+        return True
+
+    def close(self, part: Part) -> None:
+        """A part is closed, with all that it was cut into, and what it is a half of if both are."""
+        self.take_away(part)
+        whole = part.whole
+        if whole is None:
+            for place in self.leaves[part.leaf].closes:
+                if not self.roots[place].closed:
+                    self.take_away(self.roots[place])
+        elif not whole.closed and all(half.closed for half in whole.halves):
+            self.close(whole)
+
+    def take_away(self, part: Part) -> None:
+        part.closed = True
+        if part in self.running:
+            self.running.remove(part)
+        for half in part.halves:
+            self.take_away(half)
+
+
+def joined(play: Play, rate: float) -> float:
+    """When `join` has read all logs: as they come, or anew in the end if leaves were cut."""
+    if play.count:
+        return play.now + sum(size for _, size in play.logs) / rate
+    moment = 0.0
+    for came, size in play.logs:
+        moment = max(moment, came) + size / rate
+    return moment
+
+
+def row(leaves: List[Measured], cores: int, asked: argparse.Namespace) -> str:
+    play = Play(leaves, cores, not asked.no_cuts, asked.starts)
+    search = play.run()
+    join = joined(play, asked.join * 1e6)
+    check = join + sum(size for _, size in play.logs) / (asked.check * 1e6)
+    cells = [str(cores), "%.2f" % search, "%.2f" % join, "%.2f" % check, str(play.count)]
+    return "| %s |" % " | ".join(cells)
+
+
+def main() -> int:
+    parser = argparse.ArgumentParser(description=__doc__.split("\n\n")[0])
+    parser.add_argument("--no-cuts", action="store_true")
+    parser.add_argument("--starts", metavar="S", type=float, default=0.006)
+    parser.add_argument("--join", metavar="MB", type=float, default=90)
+    parser.add_argument("--check", metavar="MB", type=float, default=140)
+    parser.add_argument("FOLDER")
+    asked = parser.parse_args()
+    try:
+        leaves = measured(asked.FOLDER)
+    except Fault as fault:
+        print(fault, file=sys.stderr)
+        return 1
+    print("| cores | leaves | join | check | cuts |\n|---|---|---|---|---|")
+    for cores in CORES:
+        print(row(leaves, cores, asked))
+    return 0
+
+
+if __name__ == "__main__":
+    sys.exit(main())
