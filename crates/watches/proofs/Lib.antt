@@ -1,4 +1,5 @@
 pub mod TrailLemmas
+pub mod ExplainLemmas
 pub mod Present
 pub mod Tested
 pub mod Swept

@@ -1,5 +1,5 @@
 -- Waiting places that are looked at.
-use Rattle.std.proofs.Common.{◌≡◌, ◌≢◌, ℕ, zero, suc, ◌+◌, ◌*◌, ◌-◌, ◌/◌, ◌%◌, ◌<◌, ◌≤◌, ◌⊎◌, inl, inr, Bool, true, false, List, [], ◌∷◌, ◌++◌, length, get_or, swap, Some, refl, ap, sym, ◌∙◌, subst, arith, Contains, All, append_assoc}
+use Rattle.std.proofs.Common.{◌≡◌, ◌≢◌, ℕ, zero, suc, ◌+◌, ◌*◌, ◌-◌, ◌/◌, ◌%◌, ◌<◌, ◌≤◌, ◌⊎◌, inl, inr, Bool, true, false, List, [], ◌∷◌, ◌++◌, length, get_or, swap, Some, refl, ap, sym, ◌∙◌, subst, arith, Contains, append_assoc}
 use Rattle.std.specs.List.{IsDistinct}
 use Rattle.std.specs.FinMap.{get, insert}
 use Rattle.std.proofs.lemmas.Bool.{cases_eq}
@@ -17,7 +17,7 @@ use Rattle.watches.specs.Law.{AreSame, IsCalm, live_among}
 use Rattle.watches.specs.Scanning.{numbers}
 use Rattle.watches.specs.inner.Scanning.{IsHere}
 use Rattle.watches.specs.inner.ScanLaws.{has_number}
-use Rattle.watches.proofs.GuardLemmas.{guarded_free, holds_up_to}
+use Rattle.watches.proofs.GuardLemmas.{guarded_free}
 use Rattle.watches.specs.declared.watched.places.Place.{Place}
 use Rattle.watches.specs.inner.Chains.{literal_at, next_of, twin, IsIn, IsOnce, IsChain, last_of, Relinks}
 use Rattle.watches.specs.inner.Watching.{owner, no_clause, FindsWatch, IsGuarded, IsLong, IsSettled, IsWatching, IsRelinked}
@@ -351,9 +351,9 @@ index_two n (Neg v) h = omega (arith, h.0)
 
 -- a place of a short clause that is true at level 0 goes to those that are done with
 pub retires : (W : Watches) (m : Clauses) (t : TrailValue) (previous here : ℕ)
-    (w : Wake W m t previous) (is : here ≡ next_of W.places previous) (some : 0 < here) → (owner W here).len < 2 → IsSatisfied m t.entries (owner W here) → All (λ e. e.level ≤ 0) t.entries
+    (w : Wake W m t previous) (is : here ≡ next_of W.places previous) (some : 0 < here) → (owner W here).len < 2 → IsSettled m t.entries (owner W here)
     → (ys : List Place) (f : Literal) → f ≡ literal_at W.places here → Relinks W.places ys previous here 1 f → Wake (record W { places = ys }) m t previous × IsShorter W.places ys previous previous
-retires W m t previous here w is some short sat low ys f own r =
+retires W m t previous here w is some short sat ys f own r =
     leaves W m t previous here w is some ys f 1 (sym own) (let b = w.watching.wide in omega arith) (omega arith)
     (λ v b e. absurd (let i = index_two t.vars v b in omega arith))
     (λ g. absurd (let a = g.2 in omega arith))
@@ -364,8 +364,7 @@ retires W m t previous here w is some short sat low ys f own r =
     settled i e C st =
         let half : (here - W.base) / 2 ≡ i = omega arith in
         let own' : owner W here ≡ get_or W.clauses i no_clause = ap (λ j. get_or W.clauses j no_clause) half in
-        let b = sat C (subst (λ a. Stands m a C) (sym own') st) in
-        (b.0, b.1, holds_up_to t.entries 0 b.0 low b.2)
+        sat C (subst (λ a. Stands m a C) (sym own') st)
 
 pub wake_moves : (old new : Watches) (n : Clauses) (t : TrailValue) (previous here : ℕ) → IsRelinked old new
     → Wake (record old { places = new.places }) n t previous × IsShorter old.places new.places previous previous → Wakes old new n t previous here Moves

@@ -1,6 +1,6 @@
 -- What propagation of units may do, and what it owes: over a relation from the numbers of clauses to clauses, so that the
 -- trail, the trail cut to a level, a checker and an arena speak of the same things (Handbook of Satisfiability, chapter 4).
-use Rattle.std.specs.Prelude.{◌≡◌, ◌≢◌, ℕ, List, [], ◌∷◌, ◌++◌, Some, None, Contains, ◌↔◌, length}
+use Rattle.std.specs.Prelude.{◌≡◌, ◌≢◌, ℕ, List, [], ◌∷◌, ◌++◌, Some, None, Contains, ◌↔◌, length, map}
 use Rattle.dimacs.specs.logic.Literal.{Literal, Clause}
 use Rattle.dimacs.specs.logic.ClauseMap.{Live}
 use Rattle.dimacs.specs.logic.Propagation.{Assumed, IsFalse, IsUnit}
@@ -63,3 +63,20 @@ AreWithout old n new = (k : ℕ) → Contains new k ↔ (Contains old k × (k �
 pub record AreSame (old new : Clauses) : Type 0 where
   pub there : (n p : ℕ) (C : Clause) → get old n ≡ Some (p, C) → (D : Clause) × (get new n ≡ Some (p, D)) × IsReordered C D
   pub none : (n : ℕ) → get old n ≡ None → get new n ≡ None
+
+-- an entry but for its reason
+abbrev pub bare : Assigned → Assigned
+bare e = record e { reason = None }
+
+-- the same literals at the same levels, perhaps for other reasons
+abbrev pub AreAlike : List Assigned → List Assigned → Type 0
+AreAlike old new = map bare new ≡ map bare old
+
+-- the entry of a literal has the clause of a number for its reason, and all else is as it was
+pub record IsExplained (old new : List Assigned) (l : Literal) (number : ℕ) : Type 0 where
+  pub front : List Assigned
+  pub entry : Assigned
+  pub rest : List Assigned
+  pub literal : entry.literal ≡ l
+  pub before : old ≡ front ++ entry ∷ rest
+  pub after : new ≡ front ++ (record entry { reason = Some number }) ∷ rest

@@ -1,4 +1,5 @@
 -- What only private contracts, invariants and proofs name. Nothing here is to be believed.
+pub mod AlikeLaws
 pub mod Chains
 pub mod Moving
 pub mod Ready

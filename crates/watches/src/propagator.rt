@@ -7,7 +7,7 @@ ghost use Rattle.dimacs.specs.logic.Literal.{Clause, IsWithin, same};
 ghost use Rattle.clause_arena.specs.Clauses.{Clauses, Stands, IsLive, live_of};
 ghost use Rattle.clause_arena.specs.Compaction.{IsCompacted};
 ghost use Rattle.watches.specs.Trails.{TrailValue};
-ghost use Rattle.watches.specs.Law.{Grows, IsQuiet, IsConflict, AreSame, AreWithout, live_among};
+ghost use Rattle.watches.specs.Law.{AreAlike, Grows, IsQuiet, IsConflict, AreSame, AreWithout, live_among};
 ghost use Rattle.watches.specs.declared.trail.Assigned.{Assigned};
 
 use crate::trail::Trail;
@@ -76,6 +76,9 @@ pub trait Propagator {
 
     /// It stays ready where literals come to the trail's end.
     ghost pushed: { (p : Self) (m : Clauses) (t u : TrailValue) (more : List Assigned) → is_ready p m t → u.vars ≡ t.vars → u.entries ≡ t.entries ++ more → is_ready p m u };
+
+    /// It stays ready where entries have other reasons.
+    ghost explained: { (p : Self) (m : Clauses) (t u : TrailValue) → is_ready p m t → u.vars ≡ t.vars → AreAlike t.entries u.entries → is_ready p m u };
 
     /// It stays ready where other clauses change.
     ghost elsewhere: { (p : Self) (m k : Clauses) (t : TrailValue) → is_ready p m t → ((n : ℕ) → Contains (attached p) n → fin.get k n ≡ fin.get m n) → is_ready p k t };

@@ -88,6 +88,8 @@ impl Propagator for Scan {
 
     ghost pushed = { λ p m t u more h e f. here_pushed m t u p h e };
 
+    ghost explained = { λ p m t u h e a. here_pushed m t u p h e };
+
     ghost elsewhere = { λ p m k t h e. here_elsewhere m k t.vars p h e };
 
     fn reserve(&mut self, _vars: u32) -> Result<(), AllocError> {

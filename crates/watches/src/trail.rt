@@ -2,6 +2,7 @@
 
 ghost use Rattle.std.specs.Prelude.{◌≡◌, ℕ, ◌+◌, ◌-◌, ◌<◌, ◌≤◌, true, false, List, [], ◌∷◌, ◌++◌, length, All, Contains, IfOk, slice_index_or};
 ghost use Rattle.dimacs.specs.logic.Literal.{Literal, IsWithin, negation};
+ghost use Rattle.watches.specs.Law.{IsExplained};
 ghost use Rattle.watches.specs.Trails.{TrailValue, IsTrailValue, IsTruth, holds, present};
 ghost use Rattle.watches.specs.declared.trail.Assigned.{Assigned};
 
@@ -142,6 +143,21 @@ impl Trail {
             Some(entry) => entry.level,
             None => 0,
         }
+    }
+
+    /// Gives the entry of a literal of the trail the clause of a number for its reason. It takes no memory.
+    pub fn explain(&mut self, literal: Lit, number: u64)
+        requires { holds self.old.entries literal ≡ true }
+        ensures vars { self.new.vars ≡ self.old.vars }
+        ensures entries { IsExplained self.old.entries self.new.entries literal number }
+    {
+        let place = self.place_of(literal);
+        let entry = self.entries[place];
+        self.entries[place] = Assigned {
+            literal: entry.literal,
+            level: entry.level,
+            reason: Some(number),
+        };
     }
 
     /// Takes out exactly the literals above a level, and takes no memory.

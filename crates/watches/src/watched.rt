@@ -8,7 +8,7 @@
 ghost use Rattle.std.specs.Prelude.{◌≡◌, ◌+◌, ◌*◌, ◌<◌, []};
 ghost use Rattle.watches.specs.Scanning.{numbers};
 ghost use Rattle.watches.specs.inner.Ready.{IsReady};
-ghost use Rattle.watches.specs.inner.ReadyLaws.{ready_pushed, ready_elsewhere};
+ghost use Rattle.watches.specs.inner.ReadyLaws.{ready_pushed, ready_explained, ready_elsewhere};
 
 mod chains;
 mod lookup;
@@ -94,6 +94,8 @@ impl Propagator for Watched {
     ghost is_ready = { λ w m t. IsReady w m t };
 
     ghost pushed = { λ w m t u more h v e. ready_pushed w m t u more h v e };
+
+    ghost explained = { λ w m t u h v a. ready_explained w m t u h v a };
 
     ghost elsewhere = { λ w m k t h e. ready_elsewhere w m k t h e };
 

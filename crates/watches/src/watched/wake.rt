@@ -1,8 +1,9 @@
 //! The places that wait to be looked at.
 
-ghost use Rattle.std.specs.Prelude.{◌≡◌, true, ◌^◌, ◌<◌, ◌≤◌, length, IfSome, IfNone};
-ghost use Rattle.dimacs.specs.logic.Literal.{negation};
-ghost use Rattle.watches.specs.Trails.{holds};
+ghost use Rattle.std.specs.Prelude.{◌≡◌, true, ◌^◌, ◌<◌, ◌≤◌, length, All, Contains, IfSome, IfNone};
+ghost use Rattle.std.specs.Bool.{OnTrue};
+ghost use Rattle.dimacs.specs.logic.Literal.{Literal, IsWithin, negation};
+ghost use Rattle.watches.specs.Trails.{holds, up_to};
 ghost use Rattle.watches.specs.inner.Chains.{next_of, literal_at, twin};
 ghost use Rattle.watches.specs.inner.Watching.{watches_of, owner, AreWatching, IsRelinked};
 ghost use Rattle.watches.specs.inner.Walking.{Wake, Wakes, IsStep, Stops, Woken, IsSatisfied};
@@ -15,6 +16,32 @@ use crate::watched::replacement::find_watch;
 use crate::watched::visit::Visit;
 use crate::watched::walk::recall;
 use clause_arena::Arena;
+use dimacs::Lit;
+
+/// Whether a literal is true at level 0.
+fn is_fixed(trail: &Trail, literal: Lit) -> bool
+    requires { IsWithin trail.now.vars literal }
+    ensures { OnTrue result (up_to trail.now.entries 0 literal ≡ true) }
+{
+    match trail.value(literal) {
+        Truth::True => trail.entry_of(literal).level == 0,
+        Truth::False => false,
+        Truth::Free => false,
+    }
+}
+
+/// Whether a literal of a clause is true at level 0.
+fn is_settled(clause: &[Lit], trail: &Trail) -> bool
+    requires { All (IsWithin trail.now.vars) clause.now }
+    ensures { OnTrue result ((b : Literal) × Contains clause.now b × (up_to trail.now.entries 0 b ≡ true)) }
+{
+    for &literal in clause {
+        if is_fixed(trail, literal) {
+            return true;
+        }
+    }
+    false
+}
 
 impl Chains {
     /// Looks at each waiting place. Answers the number of a clause that is false.
@@ -162,7 +189,7 @@ impl Chains {
         }
     }
 
-    /// Lets a place of a clause of no or one literal rest for good where its clause is true at level 0.
+    /// Lets a place of a clause of no or one literal rest for good where its clause is true at level 0, whatever the present level.
     fn retire(&mut self, arena: &Arena, trail: &Trail, previous: usize, here: usize) -> Visit
         requires wake { Wake (watches_of self.old) arena.now trail.now previous }
         requires here_is { here ≡ next_of self.old.places.items previous }
@@ -173,7 +200,8 @@ impl Chains {
         ensures rest { IsRelinked (watches_of self.old) (watches_of self.new) }
         ensures wakes { Wakes (watches_of self.old) (watches_of self.new) arena.now trail.now previous here result }
     {
-        if trail.level() > 0 {
+        let clause = self.owner_of(here);
+        if !is_settled(arena.clause(clause), trail) {
             return Visit::Stays;
         }
         let own = self.own_literal(here);

@@ -1,9 +1,13 @@
-use Rattle.std.proofs.Common.{◌≤◌, subst, arith, All}
-use Rattle.watches.specs.declared.trail.Assigned.{Assigned}
-use Rattle.watches.specs.inner.Watching.{watches_of}
+use Rattle.std.proofs.Common.{◌≡◌, true, sym, subst, arith, All, Contains}
+use Rattle.std.proofs.lemmas.Bool.{OnTrue_at}
+use Rattle.dimacs.specs.logic.Literal.{Literal, IsWithin}
+use Rattle.clause_arena.specs.Clauses.{Stands}
+use Rattle.watches.specs.Trails.{up_to}
+use Rattle.watches.specs.inner.Watching.{watches_of, owner, IsSettled}
 use Rattle.watches.proofs.StepLemmas.{unmoved}
 use Rattle.watches.proofs.WakeLemmas as K
 use Rattle.watches.proofs.watched.chains.Chains.retire.Goals as goal
+use Rattle.watches.proofs.watched.chains.Chains.retire.Goals.{Else-not-is_settled}
 
 pub own_literal-own-requires : goal.own_literal-own-requires
 own_literal-own-requires c = (K.here_real (watches_of c.args.self.now) c.args.arena.now c.args.trail.now c.args.previous c.args.here c.requires.wake c.requires.here_is c.requires.there).1
@@ -23,17 +27,38 @@ relink-requires c =
       apart_both = K.heads_apart (watches_of c.args.self.now) c.args.arena.now c.args.trail.now c.args.previous c.args.here c.requires.wake c.requires.here_is c.requires.there 1 (omega arith) (omega arith);
     }
 
-pub returns-then-level-gt0 : goal.returns-then-level-gt0
-returns-then-level-gt0 c = record {
+pub owner_of-clause-requires-clause-low : goal.owner_of-clause-requires-clause-low
+owner_of-clause-requires-clause-low c = (K.here_real (watches_of c.args.self.now) c.args.arena.now c.args.trail.now c.args.previous c.args.here c.requires.wake c.requires.here_is c.requires.there).0
+
+pub owner_of-clause-requires-clause-within : goal.owner_of-clause-requires-clause-within
+owner_of-clause-requires-clause-within c = K.owner_in (watches_of c.args.self.now) c.args.arena.now c.args.trail.now c.args.previous c.args.here c.requires.wake c.requires.here_is c.requires.there
+
+pub clause-requires : goal.clause-requires
+clause-requires c = let s = K.wake_here (watches_of c.args.self.now) c.args.arena.now c.args.trail.now c.args.previous c.args.here c.requires.wake c.requires.here_is c.requires.there in record { live = (s.0, subst (λ a. Stands c.args.arena.now a s.0) (sym c.owner_of-clause.ensures) s.1) }
+
+pub is_settled-requires : goal.is_settled-requires
+is_settled-requires c =
+    let s = K.wake_here (watches_of c.args.self.now) c.args.arena.now c.args.trail.now c.args.previous c.args.here c.requires.wake c.requires.here_is c.requires.there in
+    let e = c.clause.ensures.literals s.0 (subst (λ a. Stands c.args.arena.now a s.0) (sym c.owner_of-clause.ensures) s.1) in
+    subst (All (IsWithin c.args.trail.now.vars)) (sym e) s.2
+
+pub returns-then-not-is_settled : goal.returns-then-not-is_settled
+returns-then-not-is_settled c = record {
   rest = unmoved (watches_of c.args.self.now);
   wakes = K.waits (watches_of c.args.self.now) c.args.arena.now c.args.trail.now c.args.previous c.args.here c.requires.wake c.requires.here_is c.requires.there c.requires.satisfied;
 }
 
+-- the clause that was looked at has a literal that is true at level 0
+settled : (c : Else-not-is_settled) → IsSettled c.args.arena.now c.args.trail.now.entries (owner (watches_of c.args.self.now) c.args.here)
+settled c D st =
+    let e = c.clause.ensures.literals D (subst (λ a. Stands c.args.arena.now a D) (sym c.owner_of-clause.ensures) st) in
+    subst (λ C. (b : Literal) × Contains C b × (up_to c.args.trail.now.entries 0 b ≡ true)) e (OnTrue_at c.if-not-is_settled.false c.is_settled.ensures)
+
 pub returns : goal.returns
 returns c =
-    let z : c.level.result ≤ 0 = omega arith in
+    let b = (goal.at.returns c).Else-not-is_settled in
     record {
       rest = c.relink.ensures.rest;
       wakes = K.wake_moves (watches_of c.args.self.now) (watches_of c.relink.new.self) c.args.arena.now c.args.trail.now c.args.previous c.args.here c.relink.ensures.rest
-          (K.retires (watches_of c.args.self.now) c.args.arena.now c.args.trail.now c.args.previous c.args.here c.requires.wake c.requires.here_is c.requires.there c.requires.short c.requires.satisfied (subst (λ n. All (λ (e : Assigned). e.level ≤ n) c.args.trail.now.entries) (omega arith) c.level.ensures.greatest) c.relink.new.self.places.items c.own_literal-own.result c.own_literal-own.ensures c.relink.ensures.relinks);
+          (K.retires (watches_of c.args.self.now) c.args.arena.now c.args.trail.now c.args.previous c.args.here c.requires.wake c.requires.here_is c.requires.there c.requires.short (settled b) c.relink.new.self.places.items c.own_literal-own.result c.own_literal-own.ensures c.relink.ensures.relinks);
     }
