@@ -8,3 +8,4 @@ pub mod Pace
 pub mod State
 pub mod Steady
 pub mod Steps
+pub mod Units

@@ -9,6 +9,7 @@
 mod average;
 mod decision;
 mod descent;
+mod fixing;
 mod forgetting;
 mod gaps;
 mod levels;
@@ -23,6 +24,7 @@ mod queue;
 mod search;
 mod solving;
 mod state;
+mod units;
 mod uses;
 mod values;
 

@@ -14,8 +14,10 @@ ghost use Rattle.cube_solve.specs.inner.Learning.{AreBelow, IsWritten, Learns};
 ghost use Rattle.cube_solve.specs.Outcome.{IsRightOutcome};
 ghost use Rattle.cube_solve.specs.inner.State.{IsAssuming};
 ghost use Rattle.cube_solve.specs.inner.Steady.{IsSteady, IsSearching};
+ghost use Rattle.cube_solve.specs.inner.Units.{AreNoted, IsFixing};
 
 use crate::descent::Found;
+use crate::fixing::{want, write_next};
 use crate::gaps::Gaps;
 use crate::levels::Levels;
 use crate::log::Log;
@@ -23,6 +25,7 @@ use crate::model::read_model;
 use crate::outcome::Outcome;
 use crate::phases::Phases;
 use crate::state::State;
+use crate::units::Units;
 use crate::uses::Uses;
 use conflict_analysis::{Analyser, Closing, Lemma, close_cube};
 use dimacs::{Base, Lit};
@@ -39,6 +42,9 @@ pub(crate) struct Search<'a, P> {
     pub(crate) uses: Uses,
     pub(crate) log: Log,
     pub(crate) gaps: Gaps,
+    pub(crate) units: Units,
+    /// The literals of level 0 that want a lemma of their own, the next one last.
+    wanted: Vec<Lit>,
     analyser: Analyser,
     /// The lemma of the last conflict, whose room the next one takes.
     lemma: Lemma,
@@ -55,6 +61,8 @@ impl<P> Drop for Search<'_, P> {
             uses: _,
             log: _,
             gaps: _,
+            units: _,
+            wanted: _,
             analyser: _,
             lemma: _,
             levels: _,
@@ -83,6 +91,8 @@ impl<'a, P: Propagator> Search<'a, P> {
             uses: Uses::new(alloc, base.len() as u64 + 1),
             log: Log::new(alloc),
             gaps: Gaps::new(base),
+            units: Units::new(alloc, base)?,
+            wanted: Vec::new(alloc),
             analyser: Analyser::new(alloc),
             lemma: Lemma::new(alloc),
             levels: Levels::new(alloc, base.vars())?,
@@ -101,6 +111,8 @@ impl<'a, P: Propagator> Search<'a, P> {
             uses: _,
             log,
             gaps: _,
+            units: _,
+            wanted: _,
             analyser: _,
             lemma: _,
             levels: _,
@@ -138,7 +150,9 @@ impl<'a, P: Propagator> Search<'a, P> {
         requires limit { self.old.state.trail.vars ≤ 2000000 }
         requires id { IsClauseNumber id }
         requires numbers { AreBelow id (live_of self.old.state.arena) }
+        requires noted { AreNoted (live_of self.old.state.arena) self.old.units.numbers.items }
         ensures steady { OnOk result (IsSteady P.is_ready P.attached self.new.state) }
+        ensures noted { OnOk result (AreNoted (live_of self.new.state.arena) self.new.units.numbers.items) }
         ensures learns { OnOk result (Learns self.old.state.trail.vars id (live_of self.old.state.arena) (live_of self.new.state.arena) self.old.log self.new.log) }
         ensures lemmas { OnOk result (self.new.lemmas.items ≡ self.old.lemmas.items ++ id ∷ []) }
         ensures vars { OnOk result (self.new.state.trail.vars ≡ self.old.state.trail.vars) }
@@ -148,6 +162,13 @@ impl<'a, P: Propagator> Search<'a, P> {
         self.analyser
             .analyse_into(&state.arena, &state.trail, conflict, &mut self.lemma)?;
         self.log.write(id, &self.lemma)?;
+        want(
+            &mut self.wanted,
+            &self.units,
+            &state.arena,
+            &state.trail,
+            &self.lemma.hints,
+        )?;
         self.uses.count(&self.lemma.hints);
         self.uses.count_levels(
             &mut self.levels,
@@ -170,9 +191,70 @@ impl<'a, P: Propagator> Search<'a, P> {
             id,
             &self.lemma.lits,
         )?;
+        self.units.note(&self.lemma.lits, id);
         self.lemmas.push(id)?;
         self.uses.learn(levels)?;
         Ok(())
+    }
+
+    /// Learns the lemma of a literal that is true at level 0: it is written, and is the literal's reason from then on.
+    fn learn_unit(&mut self, literal: Lit, id: u64) -> Result<(), AllocError>
+        requires steady { IsSteady P.is_ready P.attached self.old.state }
+        requires above { 0 < present self.old.state.trail.entries }
+        requires limit { self.old.state.trail.vars ≤ 2000000 }
+        requires id { IsClauseNumber id }
+        requires numbers { AreBelow id (live_of self.old.state.arena) }
+        requires noted { AreNoted (live_of self.old.state.arena) self.old.units.numbers.items }
+        requires fixing { IsFixing (live_of self.old.state.arena) self.old.state.trail self.old.units.numbers.items literal self.old.lemma }
+        ensures steady { OnOk result (IsSteady P.is_ready P.attached self.new.state) }
+        ensures noted { OnOk result (AreNoted (live_of self.new.state.arena) self.new.units.numbers.items) }
+        ensures learns { OnOk result (Learns self.old.state.trail.vars id (live_of self.old.state.arena) (live_of self.new.state.arena) self.old.log self.new.log) }
+        ensures lemmas { OnOk result (self.new.lemmas.items ≡ self.old.lemmas.items ++ id ∷ []) }
+        ensures vars { OnOk result (self.new.state.trail.vars ≡ self.old.state.trail.vars) }
+        ensures assuming { OnOk result ((q : Cube) → IsAssuming q self.old.state.trail.entries self.old.state.assumed → IsAssuming q self.new.state.trail.entries self.new.state.assumed) }
+    {
+        self.log.write(id, &self.lemma)?;
+        self.state.fix(literal, id, &self.lemma.lits)?;
+        self.units.note(&self.lemma.lits, id);
+        self.lemmas.push(id)?;
+        self.uses.learn_unit()?;
+        Ok(())
+    }
+
+    /// Learns the lemma of a literal that wants one, or else that of the conflict: whether it was the conflict's.
+    fn learn(&mut self, conflict: u64, id: u64) -> Result<bool, AllocError>
+        requires steady { IsSteady P.is_ready P.attached self.old.state }
+        requires conflict { IsConflict (live_of self.old.state.arena) self.old.state.trail.entries conflict }
+        requires above { 0 < present self.old.state.trail.entries }
+        requires limit { self.old.state.trail.vars ≤ 2000000 }
+        requires id { IsClauseNumber id }
+        requires numbers { AreBelow id (live_of self.old.state.arena) }
+        requires noted { AreNoted (live_of self.old.state.arena) self.old.units.numbers.items }
+        ensures steady { OnOk result (IsSteady P.is_ready P.attached self.new.state) }
+        ensures noted { OnOk result (AreNoted (live_of self.new.state.arena) self.new.units.numbers.items) }
+        ensures learns { OnOk result (Learns self.old.state.trail.vars id (live_of self.old.state.arena) (live_of self.new.state.arena) self.old.log self.new.log) }
+        ensures lemmas { OnOk result (self.new.lemmas.items ≡ self.old.lemmas.items ++ id ∷ []) }
+        ensures vars { OnOk result (self.new.state.trail.vars ≡ self.old.state.trail.vars) }
+        ensures assuming { OnOk result ((q : Cube) → IsAssuming q self.old.state.trail.entries self.old.state.assumed → IsAssuming q self.new.state.trail.entries self.new.state.assumed) }
+    {
+        let state = &self.state;
+        let next = write_next(
+            &mut self.wanted,
+            &self.units,
+            &state.arena,
+            &state.trail,
+            &mut self.lemma,
+        )?;
+        match next {
+            Some(literal) => {
+                self.learn_unit(literal, id)?;
+                Ok(false)
+            }
+            None => {
+                self.learn_from(conflict, id)?;
+                Ok(true)
+            }
+        }
     }
 
     /// Halves the uses, restarts and forgets lemmas when it is time.
@@ -186,6 +268,7 @@ impl<'a, P: Propagator> Search<'a, P> {
         ensures assuming { OnOk result ((q : Cube) → IsAssuming q self.old.state.trail.entries self.old.state.assumed → IsAssuming q self.new.state.trail.entries self.new.state.assumed) }
         ensures lemmas { OnOk result ((first : ℕ) → AreLemmas first (live_of self.old.state.arena) self.old.lemmas.items → AreLemmas first (live_of self.new.state.arena) self.new.lemmas.items) }
         ensures kept { OnOk result ((first : ℕ) → AreLemmas first (live_of self.old.state.arena) self.old.lemmas.items → MayForget first (live_of self.old.state.arena) (live_of self.new.state.arena) self.old.log self.new.log) }
+        ensures units { self.new.units ≡ self.old.units }
     {
         self.uses.halve_if(self.phases.halves(), &self.lemmas);
         let beat = self.phases.beat(self.state.ticks);
@@ -198,7 +281,7 @@ impl<'a, P: Propagator> Search<'a, P> {
         Ok(())
     }
 
-    /// Learns the lemma of a conflict after others, and keeps pace.
+    /// Learns one lemma after others, and keeps pace where it is that of the conflict.
     fn turn(&mut self, base: &Base, conflict: u64, learnt: u64) -> Result<(), AllocError>
         requires searching { IsSearching P.is_ready P.attached base.now learnt self.old }
         requires conflict { IsConflict (live_of self.old.state.arena) self.old.state.trail.entries conflict }
@@ -209,7 +292,9 @@ impl<'a, P: Propagator> Search<'a, P> {
     {
         let _vars = base.vars(); // with it comes the bound of the number of clauses
         let id = base.len() as u64 + 1 + learnt;
-        self.learn_from(conflict, id)?;
+        if !self.learn(conflict, id)? {
+            return Ok(());
+        }
         self.keep_pace(id)?;
         Ok(())
     }

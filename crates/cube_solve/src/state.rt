@@ -1,11 +1,14 @@
 //! What a search works on.
 
-ghost use Rattle.std.specs.Prelude.{◌≡◌, ◌<◌, ◌≤◌, List, [], ◌++◌, All, IfOk};
+ghost use Rattle.std.specs.Prelude.{◌≡◌, ◌<◌, ◌≤◌, true, List, [], ◌∷◌, ◌++◌, All, IfOk, OnOk};
 ghost use Rattle.clause_arena.specs.Clauses.{live_of};
 ghost use Rattle.dimacs.specs.logic.ClauseMap.{map_of, live_in};
+ghost use Rattle.dimacs.specs.logic.Literal.{IsWithin};
 ghost use Rattle.lrat_text.specs.Log.{Cube};
+ghost use Rattle.watches.specs.Trails.{up_to};
 ghost use Rattle.watches.specs.declared.trail.Assigned.{Assigned};
-ghost use Rattle.cube_solve.specs.inner.Levels.{AreLinked};
+ghost use Rattle.cube_solve.specs.inner.Learning.{AreBelow};
+ghost use Rattle.cube_solve.specs.inner.Levels.{AreLinked, IsAdded};
 ghost use Rattle.cube_solve.specs.inner.State.{IsAssuming};
 ghost use Rattle.cube_solve.specs.inner.Steady.{IsSteady};
 
@@ -13,9 +16,9 @@ use crate::loading::load;
 use crate::order::Order;
 use crate::phases::Beat;
 use clause_arena::Arena;
-use dimacs::Base;
+use dimacs::{Base, Lit};
 use std::alloc::{AllocError, Global};
-use watches::{Propagator, Trail};
+use watches::{Propagator, Trail, add_clause};
 
 /// The clauses, each attached to the propagator, the literals that are true, and the variables that wait to be decided.
 pub(crate) struct State<'a, P> {
@@ -83,6 +86,24 @@ impl<'a, P: Propagator> State<'a, P> {
     {
         self.order.put_back(&self.trail, level);
         self.propagator.undo(&mut self.trail, level);
+    }
+
+    /// Takes in the lemma of a literal that is true at level 0, which is its reason from then on.
+    pub(crate) fn fix(&mut self, literal: Lit, id: u64, lits: &[Lit]) -> Result<(), AllocError>
+        requires steady { IsSteady P.is_ready P.attached self.old }
+        requires lits { lits.now ≡ literal ∷ [] }
+        requires within { IsWithin self.old.trail.vars literal }
+        requires fixed { up_to self.old.trail.entries 0 literal ≡ true }
+        requires numbers { AreBelow id (live_of self.old.arena) }
+        ensures steady { OnOk result (IsSteady P.is_ready P.attached self.new) }
+        ensures added { OnOk result (IsAdded (live_of self.old.arena) id (literal ∷ []) (live_of self.new.arena)) }
+        ensures vars { OnOk result (self.new.trail.vars ≡ self.old.trail.vars) }
+        ensures assuming { OnOk result ((q : Cube) → IsAssuming q self.old.trail.entries self.old.assumed → IsAssuming q self.new.trail.entries self.new.assumed) }
+    {
+        let _entries = self.trail.entries(); // no two of one variable
+        add_clause(self.propagator, &mut self.arena, &self.trail, id, lits)?;
+        self.trail.explain(literal, id);
+        Ok(())
     }
 
     /// Does what a conflict is followed by: a restart leaves the levels of assumptions.

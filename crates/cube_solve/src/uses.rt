@@ -77,6 +77,12 @@ impl Uses {
         Ok(())
     }
 
+    /// The next lemma, of one literal, was learnt: it stays beside those that may go.
+    pub(crate) fn learn_unit(&mut self) -> Result<(), AllocError> {
+        self.most = self.most.saturating_add(1);
+        self.learn(1)
+    }
+
     /// The levels of a clause; 0 for one that is no lemma.
     fn levels_of(&self, number: u64) -> u8 {
         match number.checked_sub(self.first) {

@@ -7,6 +7,7 @@ use Rattle.cube_solve.specs.inner.Forgetting.{AreLemmas}
 use Rattle.cube_solve.specs.inner.Learning.{IsSearch}
 use Rattle.cube_solve.specs.inner.Order.{IsOrder}
 use Rattle.cube_solve.specs.inner.State.{IsState}
+use Rattle.cube_solve.specs.inner.Units.{AreNoted}
 use Rattle.cube_solve.specs.declared.search.Search.{Search}
 use Rattle.cube_solve.specs.declared.state.State.{State}
 
@@ -21,3 +22,4 @@ pub record IsSearching {P : Type 0} (is_ready : P → Clauses → TrailValue →
   pub steady : IsSteady is_ready attached s.state
   pub learnt : IsSearch B n s.state.arena s.state.trail s.log
   pub lemmas : AreLemmas (length B.clauses + 1) (live_of s.state.arena) s.lemmas.items
+  pub noted : AreNoted (live_of s.state.arena) s.units.numbers.items

@@ -1,13 +1,14 @@
 use Rattle.std.proofs.Common.{◌≡◌, ℕ, ◌-◌, List, [], ◌∷◌, ◌++◌, None, ◌∙◌, ap, sym, subst, arith}
 use Rattle.std.specs.List.{Contains}
 use Rattle.std.specs.FinMap.{get, insert}
-use Rattle.dimacs.specs.logic.Literal.{Clause}
+use Rattle.dimacs.specs.logic.Literal.{Literal, Clause, var_of}
 use Rattle.clause_arena.specs.Clauses.{Clauses, live_of}
 use Rattle.watches.specs.Law.{AreSame}
 use Rattle.watches.specs.Trails.{present}
 use Rattle.cube_solve.specs.inner.Learning.{AreBelow}
 use Rattle.cube_solve.specs.inner.Levels.{IsAdded}
 use Rattle.cube_solve.specs.inner.Order.{IsOrder}
+use Rattle.cube_solve.specs.inner.Units.{IsAlone, IsNoted}
 use Rattle.cube_solve.proofs.BuiltLemmas.{sound}
 use Rattle.cube_solve.proofs.ClauseLemmas.{is_added}
 use Rattle.cube_solve.proofs.LevelLemmas.{is_fresh}
@@ -15,6 +16,7 @@ use Rattle.cube_solve.proofs.LogLemmas.{lemma_limits}
 use Rattle.cube_solve.proofs.MapLemmas.{not_live}
 use Rattle.cube_solve.proofs.OrderLemmas.{order_same}
 use Rattle.cube_solve.proofs.StateLemmas.{state_learned}
+use Rattle.cube_solve.proofs.UnitLemmas.{noted_added}
 use Rattle.cube_solve.proofs.search.Search.learn_from.Goals as goal
 
 -- nothing is live under a number that is to come
@@ -74,7 +76,7 @@ returns-clause-steady g c =
     record {
       ready = c.in_ok-add_clause.ensures.ready;
       state = state_learned s.arena c.add_clause.new.arena c.args.id lits
-          (joined s.arena b.new.self.arena c.add_clause.new.arena c.args.id lits c.deref-4.result.now c.requires.numbers b.ensures.arena c.deref-4.ensures.value c.in_ok-add_clause.ensures.clauses)
+          (joined s.arena b.new.self.arena c.add_clause.new.arena c.args.id lits c.deref-5.result.now c.requires.numbers b.ensures.arena c.deref-5.ensures.value c.in_ok-add_clause.ensures.clauses)
           _ _ s.trail b.new.self.trail c.analyse_into.new.lemma.level (c.in_ok-add_clause.ensures.ok ∙ ap (λ (xs : List ℕ). xs ++ c.args.id ∷ []) b.ensures.attached)
           (c.requires.steady).state e.asserting e.within b.ensures.vars b.ensures.front b.ensures.kept;
       order = (b.ensures.steady).order;
@@ -98,5 +100,17 @@ returns-clause-learns g c =
         text = c.in_ok-write.ensures;
       };
       is_new = is_fresh (live_of m) es lits c.analyse_into.new.lemma.level (sound (live_of m) es s.built) s.quiet e.asserting;
-      added = joined m c.go_back.new.self.arena c.add_clause.new.arena c.args.id lits c.deref-4.result.now c.requires.numbers c.go_back.ensures.arena c.deref-4.ensures.value c.in_ok-add_clause.ensures.clauses;
+      added = joined m c.go_back.new.self.arena c.add_clause.new.arena c.args.id lits c.deref-5.result.now c.requires.numbers c.go_back.ensures.arena c.deref-5.ensures.value c.in_ok-add_clause.ensures.clauses;
     }
+
+pub want-requires : goal.want-requires
+want-requires g c = ((c.requires.steady).state).inside
+
+pub returns-clause-noted : goal.returns-clause-noted
+returns-clause-noted g c =
+    let m = c.args.self.now.state.arena in
+    let lits = c.analyse_into.new.lemma.lits.items in
+    noted_added (live_of m) (live_of c.add_clause.new.arena) c.args.id lits c.args.self.now.units.numbers.items c.note-2.new.self.numbers.items c.note-2.ensures.kept
+    (subst (λ (C : Clause). (l : Literal) → IsAlone C l → IsNoted c.note-2.new.self.numbers.items (var_of l)) c.deref-6.ensures.value c.note-2.ensures.noted)
+    (joined m c.go_back.new.self.arena c.add_clause.new.arena c.args.id lits c.deref-5.result.now c.requires.numbers c.go_back.ensures.arena c.deref-5.ensures.value c.in_ok-add_clause.ensures.clauses)
+    c.requires.noted

@@ -1,7 +1,9 @@
 use Rattle.std.proofs.Common.{◌+◌, length, subst, sym}
+use Rattle.dimacs.specs.logic.ClauseMap.{live_in, map_of}
 use Rattle.clause_arena.specs.Clauses.{live_of}
 use Rattle.cube_solve.specs.inner.Forgetting.{AreLemmas}
 use Rattle.cube_solve.proofs.ForgettingLemmas.{lemmas_none}
+use Rattle.cube_solve.proofs.UnitLemmas.{noted_among}
 use Rattle.cube_solve.proofs.SearchLemmas.{search_begins}
 use Rattle.cube_solve.proofs.search.Search.new.Goals as goal
 
@@ -14,6 +16,7 @@ returns-clause-searching g c =
       steady = e.steady;
       learnt = search_begins B s.arena s.trail c.new-4.result e.linked e.vars c.new-4.ensures;
       lemmas = subst (AreLemmas (length B.clauses + 1) (live_of s.arena)) (sym c.new-2.ensures.items) (lemmas_none (length B.clauses + 1) (live_of s.arena));
+      noted = noted_among (live_in (map_of B)) (live_of s.arena) _ (e.linked).back c.in_ok-new.ensures;
     }
 
 pub returns-clause-assuming : goal.returns-clause-assuming

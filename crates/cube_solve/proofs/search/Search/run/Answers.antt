@@ -4,6 +4,7 @@ use Rattle.cube_solve.specs.Outcome.{allowed}
 use Rattle.cube_solve.proofs.ForgettingLemmas.{lemmas_same}
 use Rattle.cube_solve.proofs.OutcomeLemmas.{ends_in_model, ends_refuted, ends_at_limit}
 use Rattle.cube_solve.proofs.SearchLemmas.{closed, limited, satisfied, model_read, search_same, below_next, next_number, closes_assumption, closes_clause, false_assumption}
+use Rattle.cube_solve.proofs.UnitLemmas.{noted_same}
 use Rattle.cube_solve.proofs.search.Search.run.Goals as goal
 
 pub returns-in-Model : goal.returns-in-Model
@@ -91,6 +92,7 @@ turn-requires-clause-searching g c =
       steady = c.descend.ensures.steady;
       learnt = search_same B c.turns.learnt old.state.arena new.arena old.state.trail new.trail old.log i.learnt c.descend.ensures.clauses c.descend.ensures.vars;
       lemmas = lemmas_same (length B.clauses + 1) old.state.arena new.arena old.lemmas.items c.descend.ensures.clauses i.lemmas;
+      noted = noted_same old.state.arena new.arena old.units.numbers.items c.descend.ensures.clauses i.noted;
     }
 
 pub turns-preserved : goal.turns-preserved

@@ -1,0 +1,223 @@
+//! The lemmas of literals that follow from nothing.
+//!
+//! A literal that is true at level 0 gets a lemma of its own once an analysis has met it, which is its reason from then on. So an
+//! analysis that meets it later names that lemma, and looks no further.
+
+ghost use Rattle.std.specs.Prelude.{◌≡◌, true, false, [], ◌∷◌, ◌++◌, All, Contains, IfOk, IfSome};
+ghost use Rattle.std.specs.Bool.{OnTrue};
+ghost use Rattle.std.specs.List.{IsDistinct};
+ghost use Rattle.clause_arena.specs.Clauses.{IsLive, live_of};
+ghost use Rattle.conflict_analysis.specs.Built.{AreInside};
+ghost use Rattle.dimacs.specs.logic.Literal.{Clause, IsWithin, negation, same, var_of};
+ghost use Rattle.watches.specs.Trails.{holds, up_to};
+ghost use Rattle.cube_solve.specs.inner.Units.{IsFixing, IsLed, IsNoted};
+
+use crate::units::Units;
+use clause_arena::{Arena, Ref};
+use conflict_analysis::Lemma;
+use dimacs::Lit;
+use std::alloc::AllocError;
+use watches::{Trail, Truth};
+
+/// Whether a literal has a variable of the trail.
+fn is_within(trail: &Trail, literal: Lit) -> bool
+    ensures { OnTrue result (IsWithin trail.now.vars literal) }
+{
+    let number = literal.var().number();
+    0 < number && number <= trail.vars()
+}
+
+/// The reason of a literal that is true at level 0.
+fn reason_of(trail: &Trail, literal: Lit) -> Option<u64>
+    requires { IsWithin trail.now.vars literal }
+    ensures { IfSome result (λ n. up_to trail.now.entries 0 literal ≡ true) }
+{
+    match trail.value(literal) {
+        Truth::True => {
+            let entry = trail.entry_of(literal);
+            if entry.level > 0 {
+                return None;
+            }
+            entry.reason
+        }
+        Truth::False => None,
+        Truth::Free => None,
+    }
+}
+
+/// Goes on to the negation of another literal, where a clause of one literal has it.
+fn lead_past(
+    units: &Units,
+    arena: &Arena,
+    trail: &Trail,
+    literal: Lit,
+    other: Lit,
+    hints: &mut Vec<u64>,
+) -> Result<bool, AllocError>
+    requires { IsWithin trail.now.vars other }
+    ensures { IfOk result (λ found. OnTrue found ((seen : Clause) → (Contains seen other → ⊥) → IsLed (live_of arena.now) trail.now.entries literal seen hints.old.items → IsLed (live_of arena.now) trail.now.entries literal (seen ++ other ∷ []) hints.new.items)) }
+{
+    if other == literal {
+        return Ok(true);
+    }
+    let negated = other.negate();
+    if negated == literal {
+        return Ok(false);
+    }
+    match trail.value(other) {
+        Truth::False => {}
+        _ => return Ok(false),
+    }
+    match units.find(arena, negated) {
+        Some(number) => {
+            hints.push(number)?;
+            Ok(true)
+        }
+        None => Ok(false),
+    }
+}
+
+/// Leads from the negation of a literal past the literals of a clause.
+fn lead(
+    units: &Units,
+    arena: &Arena,
+    trail: &Trail,
+    literal: Lit,
+    clause: &[Lit],
+    hints: &mut Vec<u64>,
+) -> Result<bool, AllocError>
+    requires within { All (IsWithin trail.now.vars) clause.now }
+    requires distinct { IsDistinct same clause.now }
+    requires none { hints.old.items ≡ [] }
+    ensures { IfOk result (λ found. OnTrue found (IsLed (live_of arena.now) trail.now.entries literal clause.now hints.new.items)) }
+{
+    for &other in clause {
+        if !lead_past(units, arena, trail, literal, other, hints)? {
+            return Ok(false);
+        }
+    }
+    Ok(true)
+}
+
+/// Writes the lemma of a literal by the clause that implied it.
+fn write_by(
+    units: &Units,
+    arena: &Arena,
+    trail: &Trail,
+    literal: Lit,
+    at: Ref,
+    lemma: &mut Lemma,
+) -> Result<bool, AllocError>
+    requires live { IsLive arena.now at }
+    requires inside { AreInside (live_of arena.now) trail.now.vars }
+    requires within { IsWithin trail.now.vars literal }
+    requires fixed { up_to trail.now.entries 0 literal ≡ true }
+    requires unnoted { IsNoted units.now.numbers.items (var_of literal) → ⊥ }
+    ensures { IfOk result (λ found. OnTrue found (IsFixing (live_of arena.now) trail.now units.now.numbers.items literal lemma.new)) }
+{
+    lemma.lits.clear();
+    lemma.lits.push(literal)?;
+    lemma.hints.clear();
+    let clause = arena.clause(at);
+    if !lead(units, arena, trail, literal, clause, &mut lemma.hints)? {
+        return Ok(false);
+    }
+    lemma.hints.push(at.number())?;
+    Ok(true)
+}
+
+/// Writes over a lemma the one of a literal, where it is true at level 0, no clause of it alone is live, and each other literal of
+/// its reason is false by a clause of one literal: whether it did.
+fn write(
+    units: &Units,
+    arena: &Arena,
+    trail: &Trail,
+    literal: Lit,
+    lemma: &mut Lemma,
+) -> Result<bool, AllocError>
+    requires { AreInside (live_of arena.now) trail.now.vars }
+    ensures { IfOk result (λ found. OnTrue found (IsFixing (live_of arena.now) trail.now units.now.numbers.items literal lemma.new)) }
+{
+    if !is_within(trail, literal) || units.is_noted(literal) {
+        return Ok(false);
+    }
+    let Some(number) = reason_of(trail, literal) else {
+        return Ok(false);
+    };
+    match arena.find(number) {
+        Some(at) => write_by(units, arena, trail, literal, at, lemma),
+        None => Ok(false),
+    }
+}
+
+/// Writes the lemma of the next literal that wants one and can have one.
+pub(crate) fn write_next(
+    wanted: &mut Vec<Lit>,
+    units: &Units,
+    arena: &Arena,
+    trail: &Trail,
+    lemma: &mut Lemma,
+) -> Result<Option<Lit>, AllocError>
+    requires { AreInside (live_of arena.now) trail.now.vars }
+    ensures { IfOk result (λ next. IfSome next (λ l. IsFixing (live_of arena.now) trail.now units.now.numbers.items l lemma.new)) }
+{
+    while let Some(literal) = wanted.pop() {
+        if write(units, arena, trail, literal, lemma)? {
+            return Ok(Some(literal));
+        }
+    }
+    Ok(None)
+}
+
+/// The first literal of a clause that is true, where it is so at level 0.
+fn true_in(trail: &Trail, clause: &[Lit]) -> Option<Lit>
+    requires { All (IsWithin trail.now.vars) clause.now }
+{
+    for &literal in clause {
+        if trail.value(literal) == Truth::True {
+            return match reason_of(trail, literal) {
+                Some(_) => Some(literal),
+                None => None,
+            };
+        }
+    }
+    None
+}
+
+/// The literal that the clause of a number implied at level 0.
+fn implied_by(arena: &Arena, trail: &Trail, number: u64) -> Option<Lit>
+    requires { AreInside (live_of arena.now) trail.now.vars }
+{
+    match arena.find(number) {
+        Some(at) => true_in(trail, arena.clause(at)),
+        None => None,
+    }
+}
+
+/// Lists the literals of level 0 that the first hints of a lemma have implied, and that want a lemma of their own, the last first.
+pub(crate) fn want(
+    wanted: &mut Vec<Lit>,
+    units: &Units,
+    arena: &Arena,
+    trail: &Trail,
+    hints: &[u64],
+) -> Result<(), AllocError>
+    requires { AreInside (live_of arena.now) trail.now.vars }
+{
+    wanted.clear();
+    for &number in hints {
+        match implied_by(arena, trail, number) {
+            Some(literal) => {
+                if !units.is_noted(literal) {
+                    wanted.push(literal)?;
+                }
+            }
+            None => {
+                wanted.reverse();
+                return Ok(());
+            }
+        }
+    }
+    wanted.reverse();
+    Ok(())
+}
