@@ -128,6 +128,29 @@ fn a_lemma_loses_what_follows_from_others(rt: HostRuntime) -> Result<(), Fail> {
     all_come(&rt, rt.alloc(), &rows)
 }
 
+/// The first conflict meets 2, which 1 implies at level 0. At the second one the lemma of 2 comes first, and counts; then that of the
+/// conflict names it alone.
+#[test]
+fn a_literal_of_level_0_gets_a_lemma_of_its_own(rt: HostRuntime) -> Result<(), Fail> {
+    let text = b"p cnf 7 8\n1 0\n-1 2 0\n-2 3 4 0\n-2 3 -4 0\n-2 5 6 0\n-2 5 -6 0\n-3 -5 7 0\n-3 -5 -7 0\n";
+    let rows: [Row; 3] = [
+        (text, 0, 1, Want::Limit(b"9 3 0 1 2 3 4 0\n")),
+        (
+            text,
+            0,
+            2,
+            Want::Limit(b"9 3 0 1 2 3 4 0\n10 2 0 1 2 0\n"),
+        ),
+        (
+            text,
+            0,
+            3,
+            Want::Refuted(b"9 3 0 1 2 3 4 0\n10 2 0 1 2 0\n11 5 0 10 5 6 0\n12 0 9 11 7 8 0\n"),
+        ),
+    ];
+    all_come(&rt, rt.alloc(), &rows)
+}
+
 /// The first conflict, under the decision that 1 is false, meets 1 and 3 three times, 4 twice and 2 never, and leaves 3 true: so 3 is
 /// decided next, and true.
 #[test]

@@ -20,7 +20,7 @@ use Rattle.cube_solve.specs.Conflicts.{QuietBelow}
 use Rattle.cube_solve.specs.inner.Levels.{AreTwins, IsAdded}
 use Rattle.cube_solve.specs.inner.Order.{IsOrder}
 use Rattle.cube_solve.specs.inner.State.{IsAssuming}
-use Rattle.cube_solve.proofs.BuiltLemmas.{built_same, sound}
+use Rattle.cube_solve.proofs.BuiltLemmas.{sound}
 use Rattle.cube_solve.proofs.LevelLemmas.{calm_same, calm_set, up_to_has, up_to_more}
 use Rattle.cube_solve.proofs.UnitLemmas.{only_one}
 

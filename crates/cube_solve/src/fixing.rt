@@ -45,108 +45,110 @@ fn reason_of(trail: &Trail, literal: Lit) -> Option<u64>
     }
 }
 
-/// Goes on to the negation of another literal, where a clause of one literal has it.
-fn lead_past(
-    units: &Units,
-    arena: &Arena,
-    trail: &Trail,
-    literal: Lit,
-    other: Lit,
-    hints: &mut Vec<u64>,
-) -> Result<bool, AllocError>
-    requires { IsWithin trail.now.vars other }
-    ensures { IfOk result (λ found. OnTrue found ((seen : Clause) → (Contains seen other → ⊥) → IsLed (live_of arena.now) trail.now.entries literal seen hints.old.items → IsLed (live_of arena.now) trail.now.entries literal (seen ++ other ∷ []) hints.new.items)) }
-{
-    if other == literal {
-        return Ok(true);
-    }
-    let negated = other.negate();
-    if negated == literal {
-        return Ok(false);
-    }
-    match trail.value(other) {
-        Truth::False => {}
-        _ => return Ok(false),
-    }
-    match units.find(arena, negated) {
-        Some(number) => {
-            hints.push(number)?;
-            Ok(true)
+impl Units {
+    /// Goes on to the negation of another literal, where a clause of one literal has it.
+    fn lead_past(
+        &self,
+        arena: &Arena,
+        trail: &Trail,
+        literal: Lit,
+        other: Lit,
+        hints: &mut Vec<u64>,
+    ) -> Result<bool, AllocError>
+        requires { IsWithin trail.now.vars other }
+        ensures { IfOk result (λ found. OnTrue found ((seen : Clause) → (Contains seen other → ⊥) → IsLed (live_of arena.now) trail.now.entries literal seen hints.old.items → IsLed (live_of arena.now) trail.now.entries literal (seen ++ other ∷ []) hints.new.items)) }
+    {
+        if other == literal {
+            return Ok(true);
         }
-        None => Ok(false),
-    }
-}
-
-/// Leads from the negation of a literal past the literals of a clause.
-fn lead(
-    units: &Units,
-    arena: &Arena,
-    trail: &Trail,
-    literal: Lit,
-    clause: &[Lit],
-    hints: &mut Vec<u64>,
-) -> Result<bool, AllocError>
-    requires within { All (IsWithin trail.now.vars) clause.now }
-    requires distinct { IsDistinct same clause.now }
-    requires none { hints.old.items ≡ [] }
-    ensures { IfOk result (λ found. OnTrue found (IsLed (live_of arena.now) trail.now.entries literal clause.now hints.new.items)) }
-{
-    for &other in clause {
-        if !lead_past(units, arena, trail, literal, other, hints)? {
+        let negated = other.negate();
+        if negated == literal {
             return Ok(false);
         }
+        match trail.value(other) {
+            Truth::False => {}
+            _ => return Ok(false),
+        }
+        match self.find(arena, negated) {
+            Some(number) => {
+                hints.push(number)?;
+                Ok(true)
+            }
+            None => Ok(false),
+        }
     }
-    Ok(true)
-}
 
-/// Writes the lemma of a literal by the clause that implied it.
-fn write_by(
-    units: &Units,
-    arena: &Arena,
-    trail: &Trail,
-    literal: Lit,
-    at: Ref,
-    lemma: &mut Lemma,
-) -> Result<bool, AllocError>
-    requires live { IsLive arena.now at }
-    requires inside { AreInside (live_of arena.now) trail.now.vars }
-    requires within { IsWithin trail.now.vars literal }
-    requires fixed { up_to trail.now.entries 0 literal ≡ true }
-    requires unnoted { IsNoted units.now.numbers.items (var_of literal) → ⊥ }
-    ensures { IfOk result (λ found. OnTrue found (IsFixing (live_of arena.now) trail.now units.now.numbers.items literal lemma.new)) }
-{
-    lemma.lits.clear();
-    lemma.lits.push(literal)?;
-    lemma.hints.clear();
-    let clause = arena.clause(at);
-    if !lead(units, arena, trail, literal, clause, &mut lemma.hints)? {
-        return Ok(false);
+    /// Leads from the negation of a literal past the literals of a clause.
+    fn lead(
+        &self,
+        arena: &Arena,
+        trail: &Trail,
+        literal: Lit,
+        clause: &[Lit],
+        hints: &mut Vec<u64>,
+    ) -> Result<bool, AllocError>
+        requires within { All (IsWithin trail.now.vars) clause.now }
+        requires distinct { IsDistinct same clause.now }
+        requires none { hints.old.items ≡ [] }
+        ensures { IfOk result (λ found. OnTrue found (IsLed (live_of arena.now) trail.now.entries literal clause.now hints.new.items)) }
+    {
+        for &other in clause {
+            if !self.lead_past(arena, trail, literal, other, hints)? {
+                return Ok(false);
+            }
+        }
+        Ok(true)
     }
-    lemma.hints.push(at.number())?;
-    Ok(true)
-}
 
-/// Writes over a lemma the one of a literal, where it is true at level 0, no clause of it alone is live, and each other literal of
-/// its reason is false by a clause of one literal: whether it did.
-fn write(
-    units: &Units,
-    arena: &Arena,
-    trail: &Trail,
-    literal: Lit,
-    lemma: &mut Lemma,
-) -> Result<bool, AllocError>
-    requires { AreInside (live_of arena.now) trail.now.vars }
-    ensures { IfOk result (λ found. OnTrue found (IsFixing (live_of arena.now) trail.now units.now.numbers.items literal lemma.new)) }
-{
-    if !is_within(trail, literal) || units.is_noted(literal) {
-        return Ok(false);
+    /// Writes the lemma of a literal by the clause that implied it.
+    fn write_by(
+        &self,
+        arena: &Arena,
+        trail: &Trail,
+        literal: Lit,
+        at: Ref,
+        lemma: &mut Lemma,
+    ) -> Result<bool, AllocError>
+        requires live { IsLive arena.now at }
+        requires inside { AreInside (live_of arena.now) trail.now.vars }
+        requires within { IsWithin trail.now.vars literal }
+        requires fixed { up_to trail.now.entries 0 literal ≡ true }
+        requires unnoted { IsNoted self.now.numbers.items (var_of literal) → ⊥ }
+        ensures { IfOk result (λ found. OnTrue found (IsFixing (live_of arena.now) trail.now self.now.numbers.items literal lemma.new)) }
+    {
+        lemma.lits.clear();
+        lemma.lits.push(literal)?;
+        lemma.hints.clear();
+        let clause = arena.clause(at);
+        if !self.lead(arena, trail, literal, clause, &mut lemma.hints)? {
+            return Ok(false);
+        }
+        lemma.hints.push(at.number())?;
+        Ok(true)
     }
-    let Some(number) = reason_of(trail, literal) else {
-        return Ok(false);
-    };
-    match arena.find(number) {
-        Some(at) => write_by(units, arena, trail, literal, at, lemma),
-        None => Ok(false),
+
+    /// Writes over a lemma the one of a literal, where it is true at level 0, no clause of it alone is live, and each other literal of
+    /// its reason is false by a clause of one literal: whether it did.
+    fn write(
+        &self,
+        arena: &Arena,
+        trail: &Trail,
+        literal: Lit,
+        lemma: &mut Lemma,
+    ) -> Result<bool, AllocError>
+        requires { AreInside (live_of arena.now) trail.now.vars }
+        ensures { IfOk result (λ found. OnTrue found (IsFixing (live_of arena.now) trail.now self.now.numbers.items literal lemma.new)) }
+    {
+        if !is_within(trail, literal) || self.is_noted(literal) {
+            return Ok(false);
+        }
+        let Some(number) = reason_of(trail, literal) else {
+            return Ok(false);
+        };
+        match arena.find(number) {
+            Some(at) => self.write_by(arena, trail, literal, at, lemma),
+            None => Ok(false),
+        }
     }
 }
 
@@ -162,7 +164,7 @@ pub(crate) fn write_next(
     ensures { IfOk result (λ next. IfSome next (λ l. IsFixing (live_of arena.now) trail.now units.now.numbers.items l lemma.new)) }
 {
     while let Some(literal) = wanted.pop() {
-        if write(units, arena, trail, literal, lemma)? {
+        if units.write(arena, trail, literal, lemma)? {
             return Ok(Some(literal));
         }
     }

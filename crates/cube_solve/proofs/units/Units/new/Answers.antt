@@ -1,8 +1,8 @@
-use Rattle.std.proofs.Common.{◌≡◌, ℕ, ◌+◌, ◌-◌, ◌<◌, inl, inr, [], get_or, Some, sym, ◌∙◌, subst, arith}
+use Rattle.std.proofs.Common.{◌≡◌, ℕ, ◌+◌, ◌-◌, inl, inr, [], get_or, Some, sym, ◌∙◌, subst, arith}
 use Rattle.std.proofs.lemmas.Bool.{cases_eq}
 use Rattle.dimacs.specs.logic.Cnf.{Cnf}
 use Rattle.dimacs.specs.logic.ClauseMap.{live_in, map_of}
-use Rattle.dimacs.specs.logic.Literal.{Clause, Literal, var_of}
+use Rattle.dimacs.specs.logic.Literal.{Clause, var_of}
 use Rattle.lrat_text.proofs.ClauseMapLemmas.{numbered_between, numbered_at}
 use Rattle.cube_solve.specs.inner.Units.{IsAlone}
 use Rattle.cube_solve.proofs.units.Units.new.Goals as goal

@@ -5,7 +5,7 @@ use Rattle.dimacs.specs.logic.Literal.{Literal, index_of}
 use Rattle.dimacs.proofs.LiteralLemmas.{same_or_not, index_apart}
 use Rattle.cube_solve.specs.inner.Units.{IsLed}
 use Rattle.cube_solve.proofs.UnitLemmas.{led_same, led_on}
-use Rattle.cube_solve.proofs.fixing.lead_past.Goals as goal
+use Rattle.cube_solve.proofs.units.Units.lead_past.Goals as goal
 
 -- a literal is known by its index
 by_index : (k l : Literal) → index_of k ≡ index_of l → k ≡ l

@@ -5,7 +5,7 @@ use Rattle.clause_arena.specs.Clauses.{live_of}
 use Rattle.dimacs.specs.logic.Literal.{Literal}
 use Rattle.cube_solve.specs.inner.Units.{IsLed}
 use Rattle.cube_solve.proofs.UnitLemmas.{led_none, unseen_yet}
-use Rattle.cube_solve.proofs.fixing.lead.Goals as goal
+use Rattle.cube_solve.proofs.units.Units.lead.Goals as goal
 
 pub loop-other-init : goal.loop-other-init
 loop-other-init c = subst (IsLed (live_of c.args.arena.now) c.args.trail.now.entries c.args.literal []) (sym c.requires.none) (led_none (live_of c.args.arena.now) c.args.trail.now.entries c.args.literal)

@@ -2,11 +2,11 @@ use Rattle.std.proofs.Common.{[], ◌∷◌, ◌++◌, ap, sym, ◌∙◌, subst
 use Rattle.std.specs.List.{All}
 use Rattle.std.proofs.lemmas.Bool.{OnTrue_at}
 use Rattle.clause_arena.specs.Clauses.{live_of}
-use Rattle.dimacs.specs.logic.Literal.{Literal, Clause, IsWithin}
+use Rattle.dimacs.specs.logic.Literal.{Clause, IsWithin}
 use Rattle.dimacs.specs.logic.Propagation.{Rup}
 use Rattle.cube_solve.specs.inner.Units.{IsLed}
 use Rattle.cube_solve.proofs.UnitLemmas.{led_rup}
-use Rattle.cube_solve.proofs.fixing.write_by.Goals as goal
+use Rattle.cube_solve.proofs.units.Units.write_by.Goals as goal
 
 pub lead-requires-clause-within : goal.lead-requires-clause-within
 lead-requires-clause-within c =
