@@ -178,7 +178,7 @@ const DIGESTS: (u64, u64, u64, u64) = (
     10866217410755790172,
     14893062956026013742,
     11508993254657979480,
-    6288443770448324569,
+    18382059315230255385,
 );
 
 /// The digests change if a search bumps, saves values, minimises, restarts, changes its phase or forgets in another way.

@@ -22,6 +22,15 @@ const MARGIN: u64 = 110;
 /// sequence.
 const STABLE_UNIT: u64 = 10;
 
+/// A formula is dense if it has at least so many clauses a variable. The definitions of a circuit's gates are fewer.
+const DENSE: u64 = 4;
+
+/// Conflicts are shallow if they come at so many levels at most, on average.
+const SHALLOW: u64 = 50;
+
+/// Lemmas are wide if they have, all in all, at least this part of the levels on which their conflicts came.
+const WIDE_PART: u64 = 4;
+
 /// How many conflicts are between two rephasings, times the number of the later one.
 const BETWEEN_REPHASINGS: u64 = 1000;
 
@@ -31,8 +40,8 @@ pub(crate) enum Beat {
     Go,
     /// It goes back to the levels that are assumed.
     Restart,
-    /// It goes back, and another phase begins.
-    Change,
+    /// It goes back, and another phase begins, which decides by scores or does not.
+    Change(bool),
     /// It goes back, and the values of its variables are set.
     Rephase(Rephase),
 }
@@ -42,7 +51,13 @@ pub(crate) enum Beat {
 #[derive(Drop)]
 pub(crate) struct Phases {
     is_stable: bool,
+    is_dense: bool,
+    /// Whether focused phases decide by scores too.
+    by_scores: bool,
     conflicts: u64,
+    /// The levels of the lemmas of the first phase, and those on which their conflicts came, added up.
+    levels: u64,
+    depths: u64,
     /// How many conflicts there are at the last restart.
     restarted: u64,
     /// Averages of the levels of late lemmas, and of more.
@@ -60,11 +75,15 @@ pub(crate) struct Phases {
 }
 
 impl Phases {
-    /// No conflict yet: the first phase is focused.
-    pub(crate) fn new() -> Phases {
+    /// No conflict yet, in a formula of so many clauses and variables: the first phase is focused, and decides by the queue.
+    pub(crate) fn new(clauses: u64, vars: u32) -> Phases {
         Phases {
             is_stable: false,
+            is_dense: clauses >= (vars as u64).saturating_mul(DENSE),
+            by_scores: false,
             conflicts: 0,
+            levels: 0,
+            depths: 0,
             restarted: 0,
             fast: Average::new(5),
             slow: Average::new(16),
@@ -77,9 +96,13 @@ impl Phases {
         }
     }
 
-    /// Counts a conflict, whose lemma has so many levels.
-    pub(crate) fn learn(&mut self, levels: u8) {
+    /// Counts a conflict at the level `depth`, whose lemma has so many levels.
+    pub(crate) fn learn(&mut self, levels: u8, depth: u32) {
         self.conflicts = self.conflicts.saturating_add(1);
+        if self.phases == 0 {
+            self.levels = self.levels.saturating_add(levels as u64);
+            self.depths = self.depths.saturating_add(depth as u64);
+        }
         self.fast.take(levels as u32);
         self.slow.take(levels as u32);
         if self.is_stable && self.conflicts % STABLE_UNIT == 0 {
@@ -96,7 +119,7 @@ impl Phases {
     pub(crate) fn beat(&mut self, ticks: u64) -> Beat {
         if self.is_over(ticks) {
             self.change(ticks);
-            return Beat::Change;
+            return Beat::Change(self.is_stable || self.by_scores);
         }
         if self.is_stable && self.conflicts >= self.next_rephasing {
             self.restarted = self.conflicts;
@@ -118,10 +141,19 @@ impl Phases {
         }
     }
 
+    /// Whether the queue gains nothing: what was bumped last is no nearer to the next conflict than the rest of the formula
+    /// where conflicts are shallow and lemmas wide. In a sparse formula it gains all the same.
+    fn is_flat(&self) -> bool {
+        self.is_dense
+            && self.depths <= self.conflicts.saturating_mul(SHALLOW)
+            && self.levels.saturating_mul(WIDE_PART) >= self.depths
+    }
+
     /// The next phase begins. Phases grow with the square of their number.
     fn change(&mut self, ticks: u64) {
         if self.phases == 0 {
             self.turn = ticks.max(1);
+            self.by_scores = self.is_flat();
         }
         self.phases = self.phases.saturating_add(1);
         self.is_stable = !self.is_stable;

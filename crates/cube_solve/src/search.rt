@@ -82,7 +82,7 @@ impl<'a, P: Propagator> Search<'a, P> {
         ensures searching { IfOk result (IsSearching P.is_ready P.attached base.now 0) }
         ensures assuming { IfOk result (λ s. (q : Cube) → IsAssuming q s.state.trail.entries s.state.assumed) }
     {
-        let _vars = base.vars(); // with it comes the bound of the number of clauses
+        let vars = base.vars(); // with it comes the bound of the number of clauses
         let state = State::new(alloc, propagator, base)?;
         Ok(Search {
             alloc,
@@ -96,7 +96,7 @@ impl<'a, P: Propagator> Search<'a, P> {
             analyser: Analyser::new(alloc),
             lemma: Lemma::new(alloc),
             levels: Levels::new(alloc, base.vars())?,
-            phases: Phases::new(),
+            phases: Phases::new(base.len() as u64, vars),
         })
     }
 
@@ -178,7 +178,7 @@ impl<'a, P: Propagator> Search<'a, P> {
         );
         let levels = self.levels.count(&state.trail, &self.lemma.lits, u8::MAX);
         let levels = levels.saturating_sub(1); // but the present one
-        self.phases.learn(levels);
+        self.phases.learn(levels, state.trail.level());
         state
             .order
             .bump(self.analyser.met(), self.analyser.met_again())?;

@@ -117,9 +117,9 @@ impl<'a, P: Propagator> State<'a, P> {
         match beat {
             Beat::Go => {}
             Beat::Restart => self.go_back(self.assumed),
-            Beat::Change => {
+            Beat::Change(by_scores) => {
                 self.go_back(0);
-                self.order.change();
+                self.order.change(by_scores);
             }
             Beat::Rephase(kind) => {
                 self.go_back(0);
