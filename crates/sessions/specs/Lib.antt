@@ -1,0 +1,4 @@
+pub mod Answers
+pub mod Events
+pub mod Lines
+pub mod Texts

@@ -1,0 +1,8 @@
+//! Sessions: clauses are given and queries asked in turn, and one LIDRUP text proves all answers.
+#![tactic(auto)]
+
+mod kind;
+mod laws;
+mod stage;
+
+pub use laws::accepted_sessions_are_right;
