@@ -1,2 +1,3 @@
 pub mod EventLemmas
 pub mod SoundLemmas
+pub mod TokenLemmas

@@ -2,3 +2,4 @@ pub mod Answers
 pub mod Events
 pub mod Lines
 pub mod Texts
+pub mod inner

@@ -1,8 +1,10 @@
 //! Sessions: clauses are given and queries asked in turn, and one LIDRUP text proves all answers.
 #![tactic(auto)]
 
+mod event_lines;
 mod kind;
 mod laws;
+mod line_literals;
 mod stage;
 
 pub use laws::accepted_sessions_are_right;
