@@ -1,3 +1,4 @@
 pub mod EventLemmas
 pub mod SoundLemmas
+pub mod SpellingLemmas
 pub mod TokenLemmas

@@ -7,4 +7,4 @@ mod laws;
 mod line_literals;
 mod stage;
 
-pub use laws::accepted_sessions_are_right;
+pub use laws::{accepted_sessions_are_right, events_are_spelled};
