@@ -1,4 +1,5 @@
 pub mod EventLemmas
+pub mod SetLemmas
 pub mod SoundLemmas
 pub mod SpellingLemmas
 pub mod TokenLemmas
