@@ -1,5 +1,5 @@
 -- Events that are the same.
-use Rattle.std.proofs.Common.{◌≡◌, ℕ, ◌+◌, Bool, true, false, ◌&&◌, List, [], ◌∷◌, refl, sym, ◌∙◌, ap, length, eqb, arith}
+use Rattle.std.proofs.Common.{◌≡◌, ℕ, ◌+◌, Bool, true, false, ◌&&◌, List, [], ◌∷◌, refl, sym, ◌∙◌, ap, subst, length, eqb, arith, Decides}
 use Rattle.std.proofs.lemmas.Bool.{true≢false, and_parts, and_from, eqb-true, eq-eqb}
 use Rattle.dimacs.specs.logic.Literal.{Literal, Clause, same}
 use Rattle.dimacs.proofs.LiteralLemmas.{same-true, same-itself}
@@ -27,3 +27,13 @@ is_event-true (Given C) (Given D) e = ap Given (is_clause-true C D e)
 is_event-true (Asked A) (Asked B) e = ap Asked (is_clause-true A B e)
 is_event-true (Given C) (Asked B) e = absurd (true≢false (sym e))
 is_event-true (Asked A) (Given D) e = absurd (true≢false (sym e))
+
+begins_itself : (c : Clause) → begins_with c c ≡ true
+begins_itself [] = refl
+begins_itself (l ∷ c) = and_from (same l l) (begins_with c c) (same-itself l) (begins_itself c)
+
+is_clause-itself : (c : Clause) → is_clause c c ≡ true
+is_clause-itself c = and_from (begins_with c c) (eqb (length c) (length c)) (begins_itself c) (eq-eqb (length c) (length c) refl)
+
+pub is_clause-Decides : (d c : Clause) → Decides (is_clause d c) (d ≡ c)
+is_clause-Decides d c = (is_clause-true d c, λ e. subst (λ (x : Clause). is_clause d x ≡ true) e (is_clause-itself d))

@@ -176,18 +176,18 @@ met_true a model (k ∷ C) e t = elim (or_cases (has model k) (list_any (has mod
   | inr later ↦ let rest = met_true a model C later t in (rest.0, Contains-cons k rest.0 C rest.1, rest.2)
 ]
 
-all_met : (a : ℕ → Bool) (M : ClauseMap) (model : List Literal) (ns : List ℕ) (F : List Clause) → AreUnder M ns F → list_all (λ id. is_met model (get M id)) ns ≡ true → MakesTrue a model → All (IsTrueIn a) F
+all_met : (a : ℕ → Bool) (M : ClauseMap) (model : List Literal) (ns : List ℕ) (F : List Clause) → AreUnder M ns F → list_all (λ id. is_met (has model) (get M id)) ns ≡ true → MakesTrue a model → All (IsTrueIn a) F
 all_met a M model [] [] u e t = All-nil (IsTrueIn a)
 all_met a M model [] (C ∷ F) u e t = absurd u
 all_met a M model (n ∷ ns) [] u e t = absurd u
 all_met a M model (n ∷ ns) (C ∷ F) u e t =
-    let parts = and_parts (is_met model (get M n)) (list_all (λ id. is_met model (get M id)) ns) e in
-    All-cons (IsTrueIn a) C F (met_true a model C (sym (ap (is_met model) u.0) ∙ parts.0) t) (all_met a M model ns F u.1 parts.1 t)
+    let parts = and_parts (is_met (has model) (get M n)) (list_all (λ id. is_met (has model) (get M id)) ns) e in
+    All-cons (IsTrueIn a) C F (met_true a model C (sym (ap (is_met (has model)) u.0) ∙ parts.0) t) (all_met a M model ns F u.1 parts.1 t)
 
 model_right : (F : List Clause) (s : State) (model : List Literal) → Holds F s → is_model s model ≡ true → IsModel F s.query model
 model_right F s model h e =
-    let one = and_parts (not (is_tautology model)) (list_all (λ id. is_met model (get s.live id)) s.given && list_all (has model) s.query) e in
-    let two = and_parts (list_all (λ id. is_met model (get s.live id)) s.given) (list_all (has model) s.query) one.1 in
+    let one = and_parts (not (is_tautology model)) (list_all (λ id. is_met (has model) (get s.live id)) s.given && list_all (has model) s.query) e in
+    let two = and_parts (list_all (λ id. is_met (has model) (get s.live id)) s.given) (list_all (has model) s.query) one.1 in
     record {
       no_pair = λ pair. both_ways (is_tautology model) (not-true (is_tautology model) one.0) (pair_tautology model pair);
       clauses = λ a t. all_met a s.live model s.given F h.given two.0 t;

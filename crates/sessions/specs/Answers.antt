@@ -2,6 +2,7 @@
 use Rattle.std.specs.Prelude.{◌≡◌, ℕ, ◌+◌, Bool, true, List, [], ◌∷◌, ◌++◌, All, Contains}
 use Rattle.dimacs.specs.logic.Literal.{Literal, Clause, IsTautology, IsTrueIn, literal_true}
 use Rattle.lrat_text.specs.Log.{Cube}
+use Rattle.sessions.specs.declared.tally.Tally.{Tally}
 
 -- a clause is given, or it is asked whether some assignment satisfies the clauses so far and makes these literals true
 pub data Event : Type 0 where
@@ -51,11 +52,6 @@ queries (Given C ∷ E) = queries E
 queries (Asked A ∷ E) = queries E + 1
 
 -- how many answers are of each kind
-pub record Tally : Type 0 where
-  pub satisfied : ℕ
-  pub failed : ℕ
-  pub unknown : ℕ
-
 abbrev pub one_more : Answer → Tally → Tally
 one_more (Satisfied model) t = record t { satisfied = t.satisfied + 1 }
 one_more (Failed core) t = record t { failed = t.failed + 1 }

@@ -1,5 +1,5 @@
 -- The lines of a session's proof. Each that has numbers is read as the line of LRAT text that says the same.
-use Rattle.std.specs.Prelude.{ℕ, ◌==◌, ◌||◌, ◌&&◌, Bool, List, [], ◌∷◌, ◌++◌, Result, Ok, Err, bytes_eq, codes, length, slice_index, if◌then◌else◌}
+use Rattle.std.specs.Prelude.{ℕ, ◌==◌, ◌||◌, ◌&&◌, Bool, List, [], ◌∷◌, ◌++◌, Option, Some, None, Result, Ok, Err, bytes_eq, codes, length, slice_index, if◌then◌else◌}
 use Rattle.std.specs.Str.{byte}
 use Rattle.dimacs.specs.logic.Literal.{Literal, Clause}
 use Rattle.lrat_text.specs.Grammar.{space}
@@ -91,12 +91,19 @@ by_step k (Ok s) = said k s
 by_step k (Err fault) = Err fault
 
 -- the status that a line tells
+abbrev pub status_word : List ℕ → Option Status
+status_word line =
+    if bytes_eq line (codes "s SATISFIABLE") then Some Satisfiable
+    else if bytes_eq line (codes "s UNSATISFIABLE") then Some Unsatisfiable
+    else if bytes_eq line (codes "s UNKNOWN") then Some Unknown
+    else None
+
+abbrev pub by_word : Option Status → Read
+by_word None = Err BadToken
+by_word (Some word) = Ok (Says word)
+
 abbrev pub status_in : List ℕ → Read
-status_in line =
-    if bytes_eq line (codes "s SATISFIABLE") then Ok (Says Satisfiable)
-    else if bytes_eq line (codes "s UNSATISFIABLE") then Ok (Says Unsatisfiable)
-    else if bytes_eq line (codes "s UNKNOWN") then Ok (Says Unknown)
-    else Err BadToken
+status_in line = by_word (status_word line)
 
 -- what a line says whose kind is this, or its first fault
 abbrev pub read_as : Kind → List ℕ → Read

@@ -4,6 +4,7 @@ use Rattle.std.specs.FinMap.{get, insert, remove, from_entries}
 use Rattle.std.specs.List.{list_any, list_all}
 use Rattle.dimacs.specs.logic.ClauseMap.{ClauseMap}
 use Rattle.dimacs.specs.logic.Literal.{Literal, Clause, has, negation}
+use Rattle.dimacs.specs.logic.Propagation.{Assumed}
 use Rattle.dimacs.specs.text.Words.{lines}
 use Rattle.icnf.specs.Comparing.{is_clause}
 use Rattle.lrat_check.specs.Faults.{is_tautology}
@@ -85,14 +86,14 @@ says s stage.Between word = fault 19
 says s stage.Satisfiable word = fault 19
 says s stage.Unsatisfiable word = fault 19
 
--- a literal of the clause under a number is among these
-abbrev pub is_met : List Literal → Option Clause → Bool
-is_met model None = false
-is_met model (Some C) = list_any (has model) C
+-- a literal of the clause under a number is named
+abbrev pub is_met : Assumed → Option Clause → Bool
+is_met named None = false
+is_met named (Some C) = list_any named C
 
 -- these literals hold no pair, one of each clause that was given, and all of the query
 abbrev pub is_model : State → List Literal → Bool
-is_model s model = not (is_tautology model) && (list_all (λ id. is_met model (get s.live id)) s.given && list_all (has model) s.query)
+is_model s model = not (is_tautology model) && (list_all (λ id. is_met (has model) (get s.live id)) s.given && list_all (has model) s.query)
 
 -- a model closes a query of which satisfiable was said
 abbrev pub shows : State → Stage → List Literal → Taken

@@ -2,11 +2,16 @@
 #![tactic(auto)]
 
 mod event_lines;
-mod given;
+mod fault;
 mod kind;
+mod known;
 mod laws;
 mod line_literals;
 mod literal_set;
+mod numbers;
+mod proof_lines;
+mod proof_side;
 mod stage;
+mod tally;
 
 pub use laws::{accepted_sessions_are_right, events_are_spelled};
