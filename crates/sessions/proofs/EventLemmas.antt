@@ -1,7 +1,7 @@
 -- Events that are the same.
-use Rattle.std.proofs.Common.{◌≡◌, ℕ, ◌+◌, Bool, true, false, ◌&&◌, List, [], ◌∷◌, refl, sym, ◌∙◌, ap, subst, length, eqb, arith, Decides}
+use Rattle.std.proofs.Common.{◌≡◌, true, [], ◌∷◌, refl, sym, ◌∙◌, ap, subst, length, eqb, arith, Decides}
 use Rattle.std.proofs.lemmas.Bool.{true≢false, and_parts, and_from, eqb-true, eq-eqb}
-use Rattle.dimacs.specs.logic.Literal.{Literal, Clause, same}
+use Rattle.dimacs.specs.logic.Literal.{Clause, same}
 use Rattle.dimacs.proofs.LiteralLemmas.{same-true, same-itself}
 use Rattle.icnf.specs.Comparing.{begins_with, is_clause}
 use Rattle.sessions.specs.Answers.{Event, Given, Asked}

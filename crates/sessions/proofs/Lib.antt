@@ -1,5 +1,8 @@
 pub mod EventLemmas
+pub mod FeedLemmas
+pub mod FinishLemmas
 pub mod ModelLemmas
+pub mod ReadLemmas
 pub mod SetLemmas
 pub mod SideLemmas
 pub mod SoundLemmas

@@ -1,11 +1,11 @@
 -- What a session's proof answers is right.
-use Rattle.std.proofs.Common.{◌≡◌, ◌⊎◌, inl, inr, ℕ, ◌+◌, ◌≤◌, ◌<◌, Bool, true, false, not, ◌&&◌, ◌||◌, List, [], ◌∷◌, ◌++◌, Option, Some, None, Ok, Err, cond, refl, sym, ◌∙◌, ap, subst, length, map, eqb, arith, length-append}
+use Rattle.std.proofs.Common.{◌≡◌, ◌⊎◌, inl, inr, ℕ, ◌+◌, ◌≤◌, ◌<◌, Bool, true, false, not, ◌&&◌, ◌||◌, List, [], ◌∷◌, ◌++◌, Option, Some, None, Ok, Err, cond, refl, sym, ◌∙◌, ap, subst, length, map, arith, length-append}
 use Rattle.std.specs.Prelude.{nat_eq, nat_le, All, Contains}
 use Rattle.std.specs.FinMap.{get, insert, remove, get-insert, get-remove, get-from_entries}
 use Rattle.std.specs.List.{list_any, list_all}
 use Rattle.std.specs.Ordering.{nat_cmp, eq_by_cmp}
 use Rattle.std.specs.Cmp.{nat_cmp_total}
-use Rattle.std.proofs.lemmas.Bool.{both_ways, true≢false, cases_Bool, and_parts, or_cases, not-true, eqb-true, eq-eqb, ne_eqb}
+use Rattle.std.proofs.lemmas.Bool.{both_ways, true≢false, and_parts, or_cases, not-true, eqb-true, eq-eqb, ne_eqb}
 use Rattle.std.proofs.lemmas.Bool.Decides.{nat_tests}
 use Rattle.std.proofs.lemmas.List.Elements.{All-cons, All-nil, All-head, All-tail}
 use Rattle.std.proofs.lemmas.List.Folds.{list_any-append}
@@ -23,9 +23,9 @@ use Rattle.lrat_check.proofs.Pairs.{pair_tautology, tautology_pair}
 use Rattle.lrat_check.proofs.Pigeonhole.{eq_by_nat_cmp}
 use Rattle.lrat_check.proofs.Truth.{Satisfies, rup_true}
 use Rattle.lrat_text.specs.Log.{Cube}
-use Rattle.sessions.specs.Answers.{Event, Given, Asked, Answer, Satisfied, Failed, Unknown, MakesTrue, IsModel, IsCore, IsRightAnswer, AreRight, queries}
+use Rattle.sessions.specs.Answers.{Event, Given, Asked, Answer, Satisfied, Failed, Unknown, MakesTrue, IsModel, IsRightAnswer, AreRight, queries}
 use Rattle.sessions.specs.Lines.{Line, Gives, Asks, Learns, Deletes, Says, Shows, Fails, Silent, Read, line_in}
-use Rattle.sessions.specs.Texts.{State, Taken, Goes, Awaits, Faulty, Outcome, stopped, with_clause, by_fault, without, is_met, is_model, core_fault, take_line, take_read, listed, is_event, awaited, going_on, by_left, end_of, pieces_from, text_from, begun, session_of, gives, asks, learns, says, shows, fails, is_between}
+use Rattle.sessions.specs.Texts.{State, Taken, Goes, Awaits, Faulty, Outcome, stopped, with_clause, by_fault, without, is_met, is_model, core_fault, take_line, take_read, listed, is_event, going_on, by_left, end_of, pieces_from, text_from, begun, session_of, gives, asks, learns, says, shows, fails, is_between}
 use Rattle.sessions.specs.declared.kind.Status.{Status}
 use Rattle.sessions.specs.declared.kind.Status.TheVariants as status
 use Rattle.sessions.specs.declared.stage.Stage.{Stage}

@@ -1,5 +1,5 @@
 -- Reading gives exactly the events that a text spells.
-use Rattle.std.proofs.Common.{◌≡◌, ◌∙◌, inl, inr, ℕ, zero, suc, ◌+◌, ◌<◌, ◌≤◌, Bool, true, false, cond, List, [], ◌∷◌, ◌++◌, map, length, ℤ, pos, negsuc, nat_abs, Option, Some, None, Result, Ok, Err, refl, sym, ap, subst, arith, append_assoc, codes, bytes_eq}
+use Rattle.std.proofs.Common.{◌≡◌, ◌∙◌, inl, inr, ℕ, ◌+◌, ◌<◌, ◌≤◌, Bool, true, false, cond, List, [], ◌∷◌, ◌++◌, map, length, ℤ, pos, negsuc, nat_abs, Option, Some, None, Result, Ok, Err, refl, sym, ap, subst, arith, append_assoc, codes, bytes_eq}
 use Rattle.std.specs.Prelude.{nat_lt, nat_le, All}
 use Rattle.std.proofs.lemmas.Bool.{cases_Bool, both_ways}
 use Rattle.std.proofs.lemmas.Bool.Decides.{nat_tests}
@@ -7,7 +7,7 @@ use Rattle.std.proofs.lemmas.List.{append-nil}
 use Rattle.std.proofs.lemmas.List.Elements.{All-cons, All-nil, All-head, All-tail}
 use Rattle.std.proofs.lemmas.Slice.Eq.{bytes_eq-Decides}
 use Rattle.dimacs.specs.logic.Cnf.{literal_count}
-use Rattle.dimacs.specs.logic.Literal.{Literal, Clause, IsWithin, literal_of_number, number_of, var_of}
+use Rattle.dimacs.specs.logic.Literal.{Literal, Clause, IsWithin, literal_of_number, number_of}
 use Rattle.dimacs.specs.text.Numbers.{number}
 use Rattle.dimacs.specs.text.Rows.{◌>>=◌, by_tokens}
 use Rattle.dimacs.specs.text.Spelling.{ended}
@@ -22,7 +22,7 @@ use Rattle.icnf.specs.declared.fault.Kind.TheVariants.{NoHeader, BadToken, Claus
 use Rattle.icnf.proofs.SpellingLemmas.{header_is, spelled_header}
 use Rattle.lrat_text.specs.Log.{Cube}
 use Rattle.sessions.specs.Answers.{Event, Given, Asked}
-use Rattle.sessions.specs.Events.{AreEvents, AreHeaded, AreLines, IsNext, IsShort, LineRead, Progress, Row, Spells, SpellsEvent, clauses_of, end_line, events_of, literals_in, literals_of, nothing_read, put_clause, put_query, read_event, read_found, read_lines, read_number, read_row, read_token, read_tokens, start, with_event}
+use Rattle.sessions.specs.Events.{AreHeaded, AreLines, IsNext, IsShort, LineRead, Progress, Row, Spells, SpellsEvent, clauses_of, end_line, events_of, literals_in, literals_of, nothing_read, put_clause, put_query, read_event, read_lines, read_number, read_row, read_token, read_tokens, start, with_event}
 use Rattle.sessions.proofs.TokenLemmas.{number_above, number_ends, number_reads, token_behind, token_is}
 
 abbrev Within : List Literal → Type 0
@@ -143,7 +143,7 @@ unfolding read_tokens
 literals_on line ws more w l c open_ is within all =
     let size = number_size l in
     let reads : read_number line (number_of l) c ≡ Ok (record c { literals = c.literals ++ l ∷ [] }) =
-        number_reads line (number_of l) c (omega (arith, within.0)) (omega (arith, within.1)) ∙ ap (λ (x : Literal). Ok (record c { literals = c.literals ++ x ∷ [] })) (literal_back l within.0) in
+    number_reads line (number_of l) c (omega (arith, within.0)) (omega (arith, within.1)) ∙ ap (λ (x : Literal). Ok (record c { literals = c.literals ++ x ∷ [] })) (literal_back l within.0) in
     rw (all, token_is line w c (Some (number_of l)) open_ is, reads) refl
 
 literals_read : (line : ℕ) (ls : List Literal) (ws : List (List ℕ)) (c : LineRead) → c.ended ≡ false → map number ws ≡ map Some (ended ls) → Within ls → (read_tokens line ws c >>= end_line line) ≡ Ok (c.literals ++ ls)
@@ -185,8 +185,7 @@ row_clause line p q o C e within = at (nat_le 4000000 p.clauses) (nat_lt 5000000
     at true y a b e = absurd cc
     at false true a b e = absurd cc
     at false false a b e =
-        let pair : (record p { clauses = p.clauses + 1; literals = p.literals + length C }, Some (Given C)) ≡ (q, o) = ok_is (record p { clauses = p.clauses + 1; literals = p.literals + length C }, Some (Given C)) (q, o) e in
-        (
+        let pair : (record p { clauses = p.clauses + 1; literals = p.literals + length C }, Some (Given C)) ≡ (q, o) = ok_is (record p { clauses = p.clauses + 1; literals = p.literals + length C }, Some (Given C)) (q, o) e in (
           sym (ap (λ (x : Progress × Option Event). x.1) pair),
           sym (ap (λ (x : Progress × Option Event). x.0) pair),
           (grind (arith, nat_tests, a), grind (arith, nat_tests, b), within),
@@ -281,8 +280,7 @@ lines_spelled (line ∷ more) n p E h e = at (words_of line) refl (λ m q D g r.
         let z = bind_ok (read_row (n + 1) (words_of line) p) (λ x. with_event x.1 (read_lines (n + 1) more x.0)) E e in
         let row = event_spelled (n + 1) w ws p (z.0).0 (z.0).1 (sym (row_event (n + 1) w ws p h) ∙ ap (λ (x : List (List ℕ)). read_row (n + 1) x p) (sym is) ∙ z.1) in
         let later = with_some row.event (read_lines (n + 1) more (z.0).0) E (ap (λ (o : Option Event). with_event o (read_lines (n + 1) more (z.0).0)) (sym row.is) ∙ z.2) in
-        let r = rest (n + 1) (after p row.event) later.0 (headed_after p row.event ∙ h) (ap (λ (q : Progress). read_lines (n + 1) more q) (sym row.after_it) ∙ later.1) in
-        (
+        let r = rest (n + 1) (after p row.event) later.0 (headed_after p row.event ∙ h) (ap (λ (q : Progress). read_lines (n + 1) more q) (sym row.after_it) ∙ later.1) in (
           subst (λ (ts : List (List ℕ)). by_tokens ts (AreLines more E) (λ tokens. IsNext tokens E (λ D. AreLines more D))) (sym is)
               (subst (λ (D : List Event). IsNext (w ∷ ws) D (λ X. AreLines more X)) (sym later.2) (row.spelled, r.0)),
           subst (λ (D : List Event). Fits p D) (sym later.2) (row.takes, r.1),
@@ -374,26 +372,24 @@ fits_limits (Asked A ∷ E) p few small ((short, within), rest) =
 
 limits_fit : (E : List Event) (p : Progress) → Within_limits p E → Fits p E
 limits_fit [] p h = tt
-limits_fit (Given C ∷ E) p h =
-    (
-      (omega (arith, h.clauses), omega (arith, h.literals), All-head (λ e. Within (literals_of e)) (Given C) E h.within),
-      limits_fit E (after p (Given C)) (record {
-        clauses = omega (arith, h.clauses);
-        literals = omega (arith, h.literals);
-        within = All-tail (λ e. Within (literals_of e)) (Given C) E h.within;
-        short = All-tail IsShort (Given C) E h.short;
-      }),
-    )
-limits_fit (Asked A ∷ E) p h =
-    (
-      (All-head IsShort (Asked A) E h.short, All-head (λ e. Within (literals_of e)) (Asked A) E h.within),
-      limits_fit E p (record {
-        clauses = h.clauses;
-        literals = h.literals;
-        within = All-tail (λ e. Within (literals_of e)) (Asked A) E h.within;
-        short = All-tail IsShort (Asked A) E h.short;
-      }),
-    )
+limits_fit (Given C ∷ E) p h = (
+  (omega (arith, h.clauses), omega (arith, h.literals), All-head (λ e. Within (literals_of e)) (Given C) E h.within),
+  limits_fit E (after p (Given C)) (record {
+    clauses = omega (arith, h.clauses);
+    literals = omega (arith, h.literals);
+    within = All-tail (λ e. Within (literals_of e)) (Given C) E h.within;
+    short = All-tail IsShort (Given C) E h.short;
+  }),
+)
+limits_fit (Asked A ∷ E) p h = (
+  (All-head IsShort (Asked A) E h.short, All-head (λ e. Within (literals_of e)) (Asked A) E h.within),
+  limits_fit E p (record {
+    clauses = h.clauses;
+    literals = h.literals;
+    within = All-tail (λ e. Within (literals_of e)) (Asked A) E h.within;
+    short = All-tail IsShort (Asked A) E h.short;
+  }),
+)
 
 pub read_is_spelled : (text : List ℕ) (E : List Event) → events_of text ≡ Ok E → Spells text E
 read_is_spelled text E e =

@@ -1,17 +1,14 @@
 -- A session's proof and its events, as they come in pieces.
 use mathlib.Core.Path.{fun_ext}
-use Rattle.std.proofs.Common.{◌≡◌, ◌⊎◌, inl, inr, ℕ, ◌+◌, Bool, true, false, List, [], ◌∷◌, ◌++◌, Result, Ok, Err, refl, sym, ◌∙◌, ap, subst, append_assoc}
-use Rattle.std.specs.List.{All, slice_split}
-use Rattle.std.proofs.lemmas.List.{append-nil}
-use Rattle.std.proofs.lemmas.List.Elements.{All-append}
+use Rattle.std.proofs.Common.{◌≡◌, ℕ, ◌+◌, List, [], ◌∷◌, ◌++◌, refl, sym, ◌∙◌, ap, append_assoc}
+use Rattle.std.specs.List.{slice_split}
 use Rattle.std.proofs.lemmas.List.Splits.{slice_split_at, slice_split_none}
-use Rattle.dimacs.specs.text.Words.{lines, words_of}
+use Rattle.dimacs.specs.text.Words.{lines}
 use Rattle.lrat_check.proofs.Lines.{is_lf, first_piece}
 use Rattle.lrat_text.specs.Lines.{IsOpen}
 use Rattle.sessions.specs.Answers.{Event, Answer, counted, one_more, tally}
-use Rattle.sessions.specs.Events.{events_of, read_lines, read_row, with_event, Progress, Row}
 use Rattle.sessions.specs.Lines.{line_in}
-use Rattle.sessions.specs.Texts.{State, Outcome, behind, going_on, pieces_from, session_of, take_read, text_from}
+use Rattle.sessions.specs.Texts.{State, Outcome, behind, going_on, pieces_from, take_read, text_from}
 use Rattle.sessions.specs.declared.tally.Tally.{Tally}
 
 -- the first line of a text, and what follows it

@@ -1,5 +1,5 @@
 -- The events that a text lists, or its first fault.
-use Rattle.std.specs.Prelude.{◌≡◌, ℕ, ◌+◌, ◌≤◌, ◌==◌, nat_lt, nat_le, Bool, false, true, List, [], ◌∷◌, ◌++◌, All, length, map, ℤ, nat_abs, Option, Some, None, Result, Ok, Err, codes, bytes_eq, if◌then◌else◌}
+use Rattle.std.specs.Prelude.{◌≡◌, ℕ, ◌+◌, ◌≤◌, ◌==◌, nat_lt, nat_le, Bool, false, true, List, [], ◌∷◌, ◌++◌, All, length, map, ℤ, nat_abs, Option, Some, None, Result, Ok, codes, bytes_eq, if◌then◌else◌}
 use Rattle.dimacs.specs.logic.Cnf.{literal_count}
 use Rattle.dimacs.specs.logic.Literal.{Literal, Clause, IsWithin, literal_of_number}
 use Rattle.dimacs.specs.text.Numbers.{number}

@@ -1,5 +1,5 @@
 -- What a session's proof answers, line by line, up to its first fault.
-use Rattle.std.specs.Prelude.{ℕ, ◌+◌, ◌==◌, ◌&&◌, not, nat_eq, nat_le, Bool, true, false, List, [], ◌∷◌, ◌++◌, Option, Some, None, Result, Ok, Err, length, map, if◌then◌else◌}
+use Rattle.std.specs.Prelude.{ℕ, ◌+◌, ◌&&◌, not, nat_eq, nat_le, Bool, true, false, List, [], ◌∷◌, ◌++◌, Option, Some, None, Ok, Err, map, if◌then◌else◌}
 use Rattle.std.specs.FinMap.{get, insert, remove, from_entries}
 use Rattle.std.specs.List.{list_any, list_all}
 use Rattle.dimacs.specs.logic.ClauseMap.{ClauseMap}

@@ -1,5 +1,5 @@
 -- What the code holds, as the definitions see it.
-use Rattle.std.specs.Prelude.{ℕ, ◌∷◌, ◌++◌, []}
+use Rattle.std.specs.Prelude.{◌∷◌, ◌++◌, []}
 use Rattle.sessions.specs.Texts.{State, with_clause}
 use Rattle.sessions.specs.declared.known.Known.{Known}
 use Rattle.sessions.specs.declared.stage.Stage.TheVariants as stage

@@ -15,7 +15,9 @@ use std::marker::Model;
 
 /// The most clauses, the most literals of all clauses, and the most literals of a query.
 const CLAUSES: u32 = 4_000_000;
+
 const LITERALS: usize = 50_000_000;
+
 const QUERY: usize = 1_000_000;
 
 /// What a line says.
@@ -87,6 +89,13 @@ impl EventLines {
         ensures { result.now ≡ self.now.read.literals }
     {
         self.literals.as_slice()
+    }
+
+    /// Whether the header was there.
+    pub(crate) fn is_headed(&self) -> bool
+        ensures { result ≡ self.now.progress.headed }
+    {
+        self.headed
     }
 
     /// A clause was read.

@@ -75,8 +75,11 @@ const BAD: LineFault = LineFault::Text(TextFault::BadToken);
 /// The number of a line that cannot stand here, of a number that does not rise, of a model that is none, and of a core that is not within
 /// its query.
 const MISPLACED: LineFault = LineFault::OfLine(19);
+
 const NOT_RISING: LineFault = LineFault::OfLine(2);
+
 const NO_MODEL: LineFault = LineFault::OfLine(20);
+
 const NOT_ASKED: LineFault = LineFault::OfLine(21);
 
 /// One more. A number that has no room in 64 bits, and no other, is refused as for want of memory.

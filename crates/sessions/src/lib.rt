@@ -1,6 +1,7 @@
 //! Sessions: clauses are given and queries asked in turn, and one LIDRUP text proves all answers.
 #![tactic(auto)]
 
+mod check;
 mod event_lines;
 mod fault;
 mod kind;
@@ -14,4 +15,6 @@ mod proof_side;
 mod stage;
 mod tally;
 
+pub use check::{SessionCheck, SessionFault, Wants};
 pub use laws::{accepted_sessions_are_right, events_are_spelled};
+pub use tally::Tally;

@@ -1,8 +1,10 @@
 //! How far a session's proof has come.
 
-ghost use Rattle.std.specs.Prelude.{◌≡◌, ◌≢◌, true, IfOk};
+ghost use Rattle.std.specs.Prelude.{◌≡◌, ◌≢◌, ◌==◌, ◌<◌, ◌≤◌, ℕ, List, [], ◌∷◌, ◌++◌, true, IfOk, length, take};
 ghost use Rattle.icnf.specs.Comparing.{is_clause};
+ghost use Rattle.lrat_text.specs.Lines.{IsOpen};
 ghost use Rattle.sessions.specs.Answers.{Event};
+ghost use Rattle.sessions.specs.Follows.{Follows};
 ghost use Rattle.sessions.specs.inner.Faults.{refusal_of};
 ghost use Rattle.sessions.specs.inner.Sides.{EndsEvents, EndsLine, EndsProof, Gives, Hears, IsEvent, IsFirst, IsHigh, Moves, MovesOn, awaiting, fault_at};
 
@@ -12,6 +14,7 @@ use crate::known::Came;
 use crate::proof_lines::ProofLines;
 use dimacs::Lit;
 use lrat_check::CheckFault;
+use lrat_text::cut_line;
 use std::alloc::{AllocError, Global};
 
 /// What a proof waits for.
@@ -39,6 +42,13 @@ fn refused(fault: LineFault, line: u64) -> CheckFault
         LineFault::NoMemory => return CheckFault::no_memory(),
     };
     CheckFault { number, line, text }
+}
+
+/// Whether there is no byte.
+fn is_none(bytes: &[u8]) -> bool
+    ensures { result ≡ (length bytes.now == 0) }
+{
+    bytes.is_empty()
 }
 
 /// Whether two clauses are the same.
@@ -152,6 +162,48 @@ impl ProofSide {
         }
     }
 
+    /// A piece of the line that is begun has come.
+    fn begin_with(&mut self, piece: &[u8])
+        ensures follows { (E : List Event) (p : List ℕ) → self.old.phase ≡ Phase.Reading → IsOpen piece.now → Follows E p self.old → Follows E (p ++ piece.now) self.new }
+        ensures flag { self.new.no_event ≡ self.old.no_event }
+    {
+        match self.begun.extend_from_slice(piece) {
+            Ok(()) => {}
+            Err(_) => self.phase = Phase::Stopped(CheckFault::no_memory()),
+        }
+    }
+
+    /// The rest of the line that is begun has come, and its LF.
+    fn end_with(&mut self, text: &[u8])
+        ensures follows { (E : List Event) (p : List ℕ) → self.old.phase ≡ Phase.Reading → IsOpen text.now → Follows E p self.old → Follows E (p ++ (text.now ++ 10 ∷ [])) self.new }
+        ensures flag { self.new.no_event ≡ self.old.no_event }
+    {
+        match self.begun.extend_from_slice(text) {
+            Ok(()) => self.end_line(),
+            Err(_) => self.phase = Phase::Stopped(CheckFault::no_memory()),
+        }
+    }
+
+    /// Takes bytes up to the first LF, where a line is wanted, and tells how many.
+    pub(crate) fn feed(&mut self, piece: &[u8]) -> usize
+        requires { self.old.phase ≡ Phase.Reading }
+        ensures few { result ≤ length piece.now }
+        ensures some { 0 < length piece.now → 0 < result }
+        ensures follows { (E : List Event) (p : List ℕ) → Follows E p self.old → Follows E (p ++ take result piece.now) self.new }
+        ensures flag { self.new.no_event ≡ self.old.no_event }
+    {
+        match cut_line(piece) {
+            Some((text, _)) => {
+                self.end_with(text);
+                text.len() + 1
+            }
+            None => {
+                self.begin_with(piece);
+                piece.len()
+            }
+        }
+    }
+
     /// The clause that was awaited has come.
     fn give(&mut self)
         ensures gives { IsHigh Phase.Clause self.old.lines.known → Gives self.old self.new }
@@ -232,7 +284,7 @@ impl ProofSide {
         ensures flag { self.new.no_event ≡ self.old.no_event }
     {
         self.no_byte = true;
-        if !self.begun.is_empty() {
+        if !is_none(&self.begun) {
             self.stop(1, 2);
         } else if self.lines.known.is_between() {
             self.phase = Phase::Ended;

@@ -1,12 +1,11 @@
 -- What the code does with a line.
-use Rattle.std.specs.Prelude.{◌≡◌, ◌⊎◌, ℕ, ◌<◌, List, [], Option, Some, None, Result, Ok, Err}
-use Rattle.dimacs.specs.logic.Literal.{Literal}
+use Rattle.std.specs.Prelude.{◌≡◌, ◌⊎◌, ℕ, ◌<◌, Option, Some, None, Ok, Err}
 use Rattle.lrat_text.specs.Faults.{fault_number}
 use Rattle.lrat_text.specs.declared.fault.TextFault.{TextFault}
 use Rattle.lrat_text.specs.declared.fault.TextFault.TheVariants.{NoMemory as NoText}
 use Rattle.sessions.specs.Answers.{Answer, Satisfied, Failed, Unknown, Given, Asked, counted}
 use Rattle.sessions.specs.Lines.{Line, Gives, Asks, Learns, Deletes, Says, Shows, Fails, Silent, Read}
-use Rattle.sessions.specs.Texts.{State, Taken, Goes, Awaits, Faulty, listed, take_read}
+use Rattle.sessions.specs.Texts.{Taken, Goes, Awaits, Faulty, listed, take_read}
 use Rattle.sessions.specs.View.{reached_clause, reached_query, state_of}
 use Rattle.sessions.specs.declared.fault.LineFault.{LineFault}
 use Rattle.sessions.specs.declared.fault.LineFault.TheVariants.{Text, OfLine, NoMemory}

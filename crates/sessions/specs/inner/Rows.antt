@@ -1,5 +1,5 @@
 -- What a call leaves that reads a line of events.
-use Rattle.std.specs.Prelude.{◌≡◌, ℕ, List, Option, Some, None, Result, Ok, Err}
+use Rattle.std.specs.Prelude.{◌≡◌, List, Option, Some, None, Result, Ok, Err}
 use Rattle.dimacs.specs.logic.Literal.{Literal}
 use Rattle.dimacs.specs.text.Rows.{Fails}
 use Rattle.icnf.specs.Reading.{no_memory}

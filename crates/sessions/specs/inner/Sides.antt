@@ -1,5 +1,5 @@
 -- How far a session's proof has come, and what its text answers from there on.
-use Rattle.std.specs.Prelude.{◌≡◌, ◌⊎◌, ℕ, ◌+◌, ◌<◌, Bool, true, false, List, [], ◌∷◌, ◌++◌, Option, Some, None, if◌then◌else◌}
+use Rattle.std.specs.Prelude.{◌≡◌, ◌⊎◌, ℕ, ◌+◌, ◌<◌, Bool, true, false, List, [], ◌∷◌, ◌++◌, Option, Some, if◌then◌else◌}
 use Rattle.dimacs.specs.logic.Literal.{Literal}
 use Rattle.lrat_check.specs.Checking.{no_memory}
 use Rattle.lrat_check.specs.declared.checking.CheckFault.{CheckFault}
@@ -44,6 +44,14 @@ IsHigh phase.Clause k = k.numbers.last < k.id
 IsHigh phase.Query k = Unit {0}
 IsHigh phase.Ended k = Unit {0}
 IsHigh (phase.Stopped fault) k = Unit {0}
+
+-- nothing of the proof is wanted any more
+abbrev pub IsResting : Phase → Type 0
+IsResting phase.Reading = ⊥
+IsResting phase.Clause = ⊥
+IsResting phase.Query = ⊥
+IsResting phase.Ended = Unit {0}
+IsResting (phase.Stopped fault) = Unit {0}
 
 abbrev pub IsBroken : ProofSide → Type 0
 IsBroken x = x.phase ≡ phase.Stopped no_memory
@@ -105,6 +113,7 @@ pub record Turns (old new : ProofSide) (front : List Event) : Type 0 where
   pub begun : new.begun.items ≡ old.begun.items
   pub no_byte : new.no_byte ≡ old.no_byte
   pub stays : IsBroken old → IsBroken new
+  pub rests : IsResting old.phase → IsResting new.phase
   pub is : (D : List Event) (pieces : List (List ℕ)) → Ends new.no_event D → later old (front ++ D) pieces ≡ later new D pieces
 
 -- an event is heard
@@ -122,4 +131,5 @@ pub record EndsProof (old new : ProofSide) : Type 0 where
   pub begun : new.begun.items ≡ old.begun.items
   pub no_event : new.no_event ≡ old.no_event
   pub no_byte : new.no_byte ≡ true
+  pub rests : IsResting new.phase
   pub is : (D : List Event) (pieces : List (List ℕ)) → Ends old.no_event D → text_from (state_of old.lines.known) old.line D (old.begun.items ∷ []) ≡ later new D pieces

@@ -1,4 +1,4 @@
-use Rattle.std.proofs.Common.{◌≡◌, true, false, ◌&&◌, ◌∙◌, refl, sym, ap, subst}
+use Rattle.std.proofs.Common.{◌≡◌, ◌&&◌, ◌∙◌, refl, sym, ap, subst}
 use Rattle.std.specs.Bool.{OnFalse}
 use Rattle.std.specs.FinMap.{get}
 use Rattle.std.specs.List.{list_all}
