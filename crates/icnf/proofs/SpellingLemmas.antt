@@ -229,7 +229,7 @@ test_is xs ys k line r y h = by_test (bytes_eq xs ys) refl h where
   by_test true q h = ((bytes_eq-Decides xs ys).0 q, h)
   by_test false q h = absurd (fault≢ok _ _ _ h)
 
-header_is : (line : ℕ) (ws : List (List ℕ)) (h : Unit {0}) → read_header line ws ≡ Ok h → IsHeader ws
+pub header_is : (line : ℕ) (ws : List (List ℕ)) (h : Unit {0}) → read_header line ws ≡ Ok h → IsHeader ws
 unfolding read_header
 header_is line [] h e = absurd (fault≢ok _ _ _ e)
 header_is line (p ∷ []) h e = absurd (fault≢ok _ _ _ (test_is p (codes "p") NoHeader line _ h e).1)
@@ -242,7 +242,7 @@ header_is line (p ∷ w ∷ d ∷ more) h e =
     let b = test_is w (codes "inccnf") BadHeader line _ h a.1 in
     absurd (fault≢ok _ _ _ b.1)
 
-spelled_header : (line : ℕ) (ws : List (List ℕ)) → IsHeader ws → read_header line ws ≡ Ok tt
+pub spelled_header : (line : ℕ) (ws : List (List ℕ)) → IsHeader ws → read_header line ws ≡ Ok tt
 unfolding read_header
 spelled_header line [] h = absurd h
 spelled_header line (p ∷ []) h = absurd h

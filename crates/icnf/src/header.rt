@@ -45,9 +45,9 @@ fn format_of_header(line: u64, text: &[u8]) -> Result<(), IcnfFault>
     end_of_header(line, rest)
 }
 
-/// Reads the header's line.
+/// Reads the line of the header, which is `p inccnf`.
 #[tactic(auto, unfolding(crate::specs::Reading::read_header))]
-pub(crate) fn read_header(line: u64, text: &[u8]) -> Result<(), IcnfFault>
+pub fn read_header(line: u64, text: &[u8]) -> Result<(), IcnfFault>
     ensures { result ≡ read_header line (words text.now) }
 {
     let Some((word, rest)) = next_word(text) else {

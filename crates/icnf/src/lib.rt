@@ -22,6 +22,7 @@ mod writing;
 pub use builder::TreeBuilder;
 pub use cubes_fault::CubesFault;
 pub use fault::{IcnfFault, Kind};
+pub use header::read_header;
 pub use laws::{no_text_wants_memory, reading_is_spelling, writing_is_spelling};
 pub use reading::read;
 pub use tree::Tree;

@@ -24,6 +24,7 @@ mod marks;
 mod naming;
 mod propagation;
 mod room;
+mod rup;
 mod slot;
 mod slot_tables;
 mod store;
@@ -41,5 +42,6 @@ pub use laws::{
     right_verdicts_agree, right_verdicts_are_true, step_fault_is_exact,
 };
 pub use log_checker::{LogChecker, check_log};
+pub use rup::RupChecker;
 pub use stream::{StreamChecker, check, check_pieces};
 pub use verdict::{Reaction, Verdict};

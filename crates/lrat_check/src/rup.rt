@@ -1,0 +1,116 @@
+//! Clauses under any numbers, and lemmas that follow from them by hints alone.
+
+ghost use Rattle.std.specs.Prelude.{◌≡◌, [], OnOk, OnErr, IfOk, option_map, is_some};
+ghost use Rattle.std.specs.FinMap.{get, insert, remove, from_entries};
+ghost use Rattle.lrat_check.specs.Logs.{own_lemma_fault};
+
+use crate::lemma::Lemma;
+use crate::live::LiveClauses;
+use crate::loading::load;
+use crate::log::test_own;
+use crate::marks::Marks;
+use dimacs::Lit;
+use lrat_text::Groups;
+use std::alloc::{AllocError, Global};
+use std::marker::Model;
+
+/// What a fault has for its number that says nothing but that memory ran out.
+const NO_MEMORY: u8 = 14;
+
+/// Live clauses, each under a number that whoever puts it in chooses, and what tests lemmas over them. Any clause may be put in: which ones
+/// follow is for the caller to ask.
+pub struct RupChecker {
+    alloc: Global,
+    clauses: LiveClauses,
+    marks: Marks,
+}
+
+// By hand, so that a crate above drops a checker by one call, and no proof there goes through its parts.
+impl Drop for RupChecker {
+    fn drop(self) {
+        let RupChecker {
+            alloc: _,
+            clauses: _,
+            marks: _,
+        } = self;
+    }
+}
+
+impl Model for RupChecker {
+    ghost use Rattle.dimacs.specs.logic.ClauseMap.{ClauseMap};
+    ghost use Rattle.dimacs.specs.inner.Codes.{clause_map_code};
+    ghost use Rattle.lrat_check.specs.inner.Table.{AllFit};
+    ghost use Rattle.std.specs.Coded.{codes};
+    ghost use Rattle.std.specs.Prelude.{vec_len};
+
+    ghost Value = { ClauseMap };
+
+    ghost coded = { Prim.hlevel (codes, clause_map_code) };
+
+    ghost view = { λ s. s.clauses };
+
+    ghost invariant = { λ s. AllFit (vec_len s.marks.table) s.clauses };
+}
+
+impl RupChecker {
+    /// No clause is live.
+    pub fn new(alloc: Global) -> Result<RupChecker, AllocError>
+        ensures { IfOk result (λ s. s ≡ from_entries []) }
+    {
+        let (clauses, marks) = load(alloc, Vec::new(alloc), &[0])?;
+        Ok(RupChecker {
+            alloc,
+            clauses,
+            marks,
+        })
+    }
+
+    /// The live clause of this number.
+    #[inline(always)]
+    pub fn clause(&self, number: u64) -> Option<&[Lit]>
+        ensures { option_map (λ c. c.now) result ≡ get self.now number }
+    {
+        self.clauses.get(number)
+    }
+
+    /// The number of the first fault of a lemma that is to follow by these hints, as a checker of logs tells it: 4, 3, 5, 6, 7 or 15; none
+    /// where it follows.
+    pub fn fault(&mut self, lits: &[Lit], hints: &[u64]) -> Result<Option<u8>, AllocError>
+        ensures fault { IfOk result (λ f. f ≡ own_lemma_fault self.old lits.now hints.now []) }
+        ensures same { self.new ≡ self.old }
+    {
+        let no_group = Groups::new(self.alloc);
+        let lemma = Lemma {
+            lits,
+            hints,
+            groups: &no_group,
+        };
+        match test_own(&self.clauses, &mut self.marks, lemma) {
+            Ok(()) => Ok(None),
+            Err(fault) => {
+                let number = fault.number();
+                if number == NO_MEMORY {
+                    return Err(AllocError);
+                }
+                Ok(Some(number))
+            }
+        }
+    }
+
+    /// Puts a clause under a number, in the place of the one that is live there if there is one.
+    pub fn put(&mut self, number: u64, lits: &[Lit]) -> Result<(), AllocError>
+        ensures ok { OnOk result (self.new ≡ insert self.old number lits.now) }
+        ensures err { OnErr result (self.new ≡ self.old) }
+    {
+        self.marks.begin(lits, 0)?;
+        self.clauses.insert(number, lits)
+    }
+
+    /// Takes a clause out, and says whether one was live under the number.
+    pub fn remove(&mut self, number: u64) -> bool
+        ensures live { result ≡ is_some (get self.old number) }
+        ensures after { self.new ≡ remove self.old number }
+    {
+        self.clauses.remove(number)
+    }
+}

@@ -1,0 +1,125 @@
+-- What is wanted, and what is answered at the end.
+use Rattle.std.proofs.Common.{◌≡◌, ◌≢◌, inl, inr, ℕ, Bool, true, false, List, [], ◌++◌, Option, Some, None, Ok, Err, refl, sym, ◌∙◌, ap, subst}
+use Rattle.std.proofs.lemmas.List.{append-nil}
+use Rattle.dimacs.specs.text.Words.{lines}
+use Rattle.icnf.specs.declared.fault.IcnfFault.{IcnfFault}
+use Rattle.lrat_check.specs.Checking.{no_memory}
+use Rattle.lrat_check.specs.declared.checking.CheckFault.{CheckFault}
+use Rattle.sessions.specs.Answers.{Event, tally}
+use Rattle.sessions.specs.Check.{Finishes, HasTaken, ReadsBy, coming_by, front, still, wanted_by}
+use Rattle.sessions.specs.Events.{events_of}
+use Rattle.sessions.specs.Follows.{Follows, Right}
+use Rattle.sessions.specs.Texts.{Outcome, behind, session_of}
+use Rattle.sessions.specs.inner.Sides.{Ends, IsBroken, fault_at, later_by}
+use Rattle.sessions.specs.declared.check.SessionCheck.{SessionCheck}
+use Rattle.sessions.specs.declared.check.SessionFault.TheVariants as fault
+use Rattle.sessions.specs.declared.check.Wants.TheVariants as wants
+use Rattle.sessions.specs.declared.proof_side.Phase.{Phase}
+use Rattle.sessions.specs.declared.proof_side.Phase.TheVariants as phase
+
+-- ---- what is wanted
+still_events : (b : Bool) → still b ≡ wants.Events → b ≡ false
+still_events true e = absurd cc
+still_events false e = refl
+
+still_proof : (b : Bool) → still b ≡ wants.Proof → ⊥
+still_proof true e = cc
+still_proof false e = cc
+
+pub events_wanted : (o : Option IcnfFault) (p : Phase) (b : Bool) → wanted_by o p b ≡ wants.Events → (o ≡ None) × (b ≡ false) × (p ≢ phase.Reading)
+events_wanted (Some f) p b e = absurd cc
+events_wanted None phase.Reading b e = absurd cc
+events_wanted None phase.Clause b e = (refl, still_events b e, λ h. cc)
+events_wanted None phase.Query b e = (refl, still_events b e, λ h. cc)
+events_wanted None phase.Ended b e = (refl, still_events b e, λ h. cc)
+events_wanted None (phase.Stopped f) b e = (refl, still_events b e, λ h. cc)
+
+pub proof_wanted : (o : Option IcnfFault) (p : Phase) (b : Bool) → wanted_by o p b ≡ wants.Proof → p ≡ phase.Reading
+proof_wanted (Some f) p b e = absurd cc
+proof_wanted None phase.Reading b e = refl
+proof_wanted None phase.Clause b e = absurd (still_proof b e)
+proof_wanted None phase.Query b e = absurd (still_proof b e)
+proof_wanted None phase.Ended b e = absurd (still_proof b e)
+proof_wanted None (phase.Stopped f) b e = absurd (still_proof b e)
+
+-- where no event comes any more, none is wanted
+pub no_events : (o : Option IcnfFault) (p : Phase) (b : Bool) → b ≡ true → wanted_by o p b ≡ wants.Events → ⊥
+no_events o p b e h = let none : false ≡ true = sym (events_wanted o p b h).1 ∙ e in cc
+
+-- ---- the end
+ends_nil : (X : Type 0) (b : Bool) → Ends {X = X} b []
+ends_nil X true = refl
+ends_nil X false = tt
+
+-- the events that were heard are all
+all_events : (e : List ℕ) (E : List Event) (x : SessionCheck) → x.proof.no_event ≡ true → ReadsBy None e E x → events_of e ≡ Ok E
+all_events e E x ended r =
+    ap events_of (sym (append-nil e))
+    ∙ r.1 [] (ends_nil ℕ x.proof.no_event)
+    ∙ ap (λ b. front E (coming_by b x [])) ended
+    ∙ ap Ok (append-nil E)
+
+module _ (e p : List ℕ) (x : SessionCheck) (fine : x.fault ≡ None) (ended : x.proof.no_event ≡ true) (h : HasTaken e p x) where
+  events_are : events_of e ≡ Ok h.events
+  events_are = all_events e h.events x ended (subst (λ (o : Option IcnfFault). ReadsBy o e h.events x) fine h.reads)
+
+  session_is : (r : Right h.events p x.proof) (q : Phase) → x.proof.phase ≡ q → (more : List ℕ) → Ends x.proof.no_byte more
+      → session_of h.events (p ++ more) ≡ behind r.told (later_by q x.proof.lines.known x.proof.line [] (lines (x.proof.begun.items ++ more)))
+  session_is r q is more rest =
+      ap (λ (X : List Event). session_of X (p ++ more)) (sym (append-nil h.events))
+      ∙ r.is [] more (ends_nil Event x.proof.no_event) rest
+      ∙ ap (λ (s : Phase). behind r.told (later_by s x.proof.lines.known x.proof.line [] (lines (x.proof.begun.items ++ more)))) is
+
+  pub finishes_right : x.proof.phase ≡ phase.Ended → Finishes e p x (Ok x.proof.lines.known.tally)
+  finishes_right is = at h.follows
+    where
+      at : Follows h.events p x.proof → Finishes e p x (Ok x.proof.lines.known.tally)
+      at (inl broken) = absurd (let s : phase.Ended ≡ phase.Stopped no_memory = sym is ∙ broken in cc)
+      at (inr r) =
+          let same : session_of h.events p ≡ record { answers = r.told ++ []; fault = None } = ap (session_of h.events) (sym (append-nil p)) ∙ session_is r phase.Ended is [] (ends_nil ℕ x.proof.no_byte) in (
+            h.events,
+            events_are,
+            ap (λ (o : Outcome). o.fault) same,
+            r.counts ∙ ap tally (sym (append-nil r.told)) ∙ ap (λ (o : Outcome). tally o.answers) (sym same),
+          )
+
+  -- the proof has a fault
+  stops : (f : CheckFault) → ((r : Right h.events p x.proof) (more : List ℕ) → Ends x.proof.no_byte more → session_of h.events (p ++ more) ≡ record { answers = r.told ++ []; fault = Some f })
+      → (IsBroken x.proof → f ≡ no_memory) → Finishes e p x (Err (fault.Proof f x.proof.lines.known.tally))
+  stops f each broken = at h.follows
+    where
+      at : Follows h.events p x.proof → Finishes e p x (Err (fault.Proof f x.proof.lines.known.tally))
+      at (inl b) = inl (broken b)
+      at (inr r) = inr (
+        h.events,
+        events_are,
+        λ more rest. (
+          ap (λ (o : Outcome). o.fault) (each r more rest),
+          r.counts ∙ ap tally (sym (append-nil r.told)) ∙ ap (λ (o : Outcome). tally o.answers) (sym (each r more rest)),
+        ),
+      )
+
+  pub finishes_stopped : (f : CheckFault) → x.proof.phase ≡ phase.Stopped f → Finishes e p x (Err (fault.Proof f x.proof.lines.known.tally))
+  finishes_stopped f is = stops f (λ r more rest. session_is r (phase.Stopped f) is more rest) (λ b. let s : phase.Stopped f ≡ phase.Stopped no_memory = sym is ∙ b in cc)
+
+  pub finishes_clause : x.proof.phase ≡ phase.Clause → Finishes e p x (Err (fault.Proof (fault_at x.proof.line 18 0) x.proof.lines.known.tally))
+  finishes_clause is = stops (fault_at x.proof.line 18 0) (λ r more rest. session_is r phase.Clause is more rest) (λ b. absurd (let s : phase.Clause ≡ phase.Stopped no_memory = sym is ∙ b in cc))
+
+  pub finishes_query : x.proof.phase ≡ phase.Query → Finishes e p x (Err (fault.Proof (fault_at x.proof.line 18 0) x.proof.lines.known.tally))
+  finishes_query is = stops (fault_at x.proof.line 18 0) (λ r more rest. session_is r phase.Query is more rest) (λ b. absurd (let s : phase.Query ≡ phase.Stopped no_memory = sym is ∙ b in cc))
+
+pub finishes_events : (e p : List ℕ) (x : SessionCheck) (f : IcnfFault) → x.fault ≡ Some f → HasTaken e p x → Finishes e p x (Err (fault.Events f))
+finishes_events e p x f is h = subst (λ (o : Option IcnfFault). ReadsBy o e h.events x) is h.reads
+
+pub finishes_early : (o : Option IcnfFault) (p : Phase) (b : Bool) → o ≡ None → b ≡ false → wanted_by o p b ≡ wants.Nothing → ⊥
+finishes_early o p b fine more e = at p (subst (λ (c : Bool). wanted_by None p c ≡ wants.Nothing) more (subst (λ (r : Option IcnfFault). wanted_by r p b ≡ wants.Nothing) fine e))
+  where
+    at : (q : Phase) → wanted_by None q false ≡ wants.Nothing → ⊥
+    at phase.Reading e = cc
+    at phase.Clause e = cc
+    at phase.Query e = cc
+    at phase.Ended e = cc
+    at (phase.Stopped f) e = cc
+
+pub finishes_reading : (o : Option IcnfFault) (p : Phase) (b : Bool) → o ≡ None → p ≡ phase.Reading → wanted_by o p b ≡ wants.Nothing → ⊥
+finishes_reading o p b fine is e = let s : wants.Proof ≡ wants.Nothing = sym (ap (λ (r : Option IcnfFault). wanted_by r p b) fine ∙ ap (λ (q : Phase). wanted_by None q b) is) ∙ e in cc

@@ -1,0 +1,11 @@
+pub mod EventLemmas
+pub mod FeedLemmas
+pub mod FinishLemmas
+pub mod ModelLemmas
+pub mod ReadLemmas
+pub mod SetLemmas
+pub mod SideLemmas
+pub mod SoundLemmas
+pub mod SpellingLemmas
+pub mod TextLemmas
+pub mod TokenLemmas

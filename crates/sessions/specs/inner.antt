@@ -1,0 +1,7 @@
+-- What only private contracts, invariants and proofs name. Nothing here is to be believed.
+pub mod Acting
+pub mod Faults
+pub mod Feeding
+pub mod Rows
+pub mod Sets
+pub mod Sides

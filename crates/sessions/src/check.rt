@@ -1,0 +1,297 @@
+//! A check of a session: its events and its proof come in pieces, each as far as it is wanted.
+
+ghost use Rattle.std.specs.Prelude.{◌≡◌, ◌≢◌, ◌<◌, ◌≤◌, ℕ, List, [], ◌∷◌, ◌++◌, None, true, false, IfOk, length, take};
+ghost use Rattle.lrat_text.specs.Lines.{IsOpen};
+ghost use Rattle.sessions.specs.Check.{Finishes, HasTaken, wanted};
+ghost use Rattle.sessions.specs.inner.Feeding.{EndsRow, HearsRow, closing};
+ghost use Rattle.sessions.specs.inner.Rows.{event_of};
+ghost use Rattle.sessions.specs.inner.Sides.{fault_at};
+
+use crate::event_lines::{EventLines, Sent};
+use crate::proof_side::{Phase, ProofSide};
+use crate::tally::Tally;
+use icnf::{IcnfFault, Kind};
+use lrat_check::CheckFault;
+use lrat_text::cut_line;
+use std::alloc::{AllocError, Global};
+
+/// What a check wants next.
+#[derive(Clone, Copy, Debug, PartialEq, Eq)]
+pub enum Wants {
+    /// Bytes of the proof, or that it has ended.
+    Proof,
+    /// Bytes of the events, or that they have ended.
+    Events,
+    /// Nothing: what is answered stands.
+    Nothing,
+}
+
+/// Why a session is not verified.
+#[derive(Clone, Copy, Debug, PartialEq, Eq)]
+pub enum SessionFault {
+    /// The events have this fault.
+    Events(IcnfFault),
+    /// The proof has this one, behind so many answers that are right.
+    Proof { fault: CheckFault, before: Tally },
+    /// Something is wanted still.
+    Unfinished,
+}
+
+/// A check of a session. It keeps the clauses that were given, the lemmas that are live, and of each text the line that is begun.
+pub struct SessionCheck {
+    pub(crate) proof: ProofSide,
+    pub(crate) events: EventLines,
+    /// How many lines of events were read.
+    pub(crate) read: u64,
+    /// What has come of the next one.
+    pub(crate) begun: Vec<u8>,
+    /// The first fault of the events.
+    pub(crate) fault: Option<IcnfFault>,
+}
+
+// By hand, so that whoever owns one drops it by one call, and no proof there goes through its parts.
+impl Drop for SessionCheck {
+    fn drop(self) {
+        let SessionCheck {
+            proof: _,
+            events: _,
+            read: _,
+            begun: _,
+            fault: _,
+        } = self;
+    }
+}
+
+impl SessionCheck {
+    /// No byte was taken.
+    pub fn new(alloc: Global) -> Result<SessionCheck, AllocError>
+        ensures { IfOk result (HasTaken [] []) }
+    {
+        let proof = ProofSide::new(alloc)?;
+        Ok(SessionCheck {
+            proof,
+            events: EventLines::new(alloc),
+            read: 0,
+            begun: Vec::new(alloc),
+            fault: None,
+        })
+    }
+
+    /// What is wanted next. Events are wanted only where a line of the proof awaits one, or where nothing of the proof is wanted any more.
+    pub fn wants(&self) -> Wants
+        ensures { result ≡ wanted self.now }
+    {
+        if self.fault.is_some() {
+            return Wants::Nothing;
+        }
+        match self.proof.phase {
+            Phase::Reading => Wants::Proof,
+            Phase::Clause | Phase::Query | Phase::Ended | Phase::Stopped(_) => {
+                if self.proof.no_event {
+                    Wants::Nothing
+                } else {
+                    Wants::Events
+                }
+            }
+        }
+    }
+
+    /// Takes bytes of the proof up to the first LF, where they are wanted, and tells how many.
+    pub fn feed_proof(&mut self, piece: &[u8]) -> usize
+        ensures few { result ≤ length piece.now }
+        ensures some { wanted self.old ≡ Wants.Proof → 0 < length piece.now → 0 < result }
+        ensures taken { (e p : List ℕ) → HasTaken e p self.old → HasTaken e (p ++ take result piece.now) self.new }
+    {
+        match self.wants() {
+            Wants::Proof => self.feed_reading(piece),
+            Wants::Events | Wants::Nothing => 0,
+        }
+    }
+
+    /// The same, where they are wanted.
+    fn feed_reading(&mut self, piece: &[u8]) -> usize
+        requires { wanted self.old ≡ Wants.Proof }
+        ensures few { result ≤ length piece.now }
+        ensures some { 0 < length piece.now → 0 < result }
+        ensures taken { (e p : List ℕ) → HasTaken e p self.old → HasTaken e (p ++ take result piece.now) self.new }
+    {
+        self.proof.feed(piece)
+    }
+
+    /// The proof has ended, where its bytes are wanted.
+    pub fn end_proof(&mut self)
+        ensures ended { ¬ (wanted self.new ≡ Wants.Proof) }
+        ensures taken { (e p : List ℕ) → HasTaken e p self.old → HasTaken e p self.new }
+    {
+        match self.wants() {
+            Wants::Proof => self.proof.end(),
+            Wants::Events | Wants::Nothing => {}
+        }
+    }
+
+    /// An event is heard, if the line says one.
+    fn hear(&mut self, sent: Sent)
+        requires { self.old.proof.phase ≢ Phase.Reading }
+        ensures hears { HearsRow (event_of sent self.old.events.read.literals) self.old.proof self.new.proof }
+        ensures same { self.new ≡ record self.old { proof = self.new.proof } }
+        ensures flag { self.new.proof.no_event ≡ self.old.proof.no_event }
+    {
+        match sent {
+            Sent::Nothing => {}
+            Sent::Clause => self.proof.hear(Sent::Clause, self.events.literals()),
+            Sent::Query => self.proof.hear(Sent::Query, self.events.literals()),
+        }
+    }
+
+    /// The line of events that is begun has come to its end.
+    fn end_row(&mut self)
+        requires waits { self.old.proof.phase ≢ Phase.Reading }
+        requires fine { self.old.fault ≡ None }
+        ensures row { EndsRow self.old self.new }
+        ensures flag { self.new.proof.no_event ≡ self.old.proof.no_event }
+    {
+        let Some(line) = self.read.checked_add(1) else {
+            self.fault = Some(IcnfFault::from(AllocError));
+            return;
+        };
+        match self.events.read(line, &self.begun) {
+            Ok(sent) => {
+                self.read = line;
+                self.begun.clear();
+                self.hear(sent);
+            }
+            Err(fault) => self.fault = Some(fault),
+        }
+    }
+
+    /// A piece of the line of events that is begun has come.
+    fn begin_with(&mut self, piece: &[u8])
+        requires fine { self.old.fault ≡ None }
+        requires more { self.old.proof.no_event ≡ false }
+        ensures { (e p : List ℕ) → IsOpen piece.now → HasTaken e p self.old → HasTaken (e ++ piece.now) p self.new }
+    {
+        match self.begun.extend_from_slice(piece) {
+            Ok(()) => {}
+            Err(_) => self.fault = Some(IcnfFault::from(AllocError)),
+        }
+    }
+
+    /// The rest of that line has come, and its LF.
+    fn end_with(&mut self, text: &[u8])
+        requires waits { self.old.proof.phase ≢ Phase.Reading }
+        requires fine { self.old.fault ≡ None }
+        requires more { self.old.proof.no_event ≡ false }
+        ensures { (e p : List ℕ) → IsOpen text.now → HasTaken e p self.old → HasTaken (e ++ (text.now ++ 10 ∷ [])) p self.new }
+    {
+        match self.begun.extend_from_slice(text) {
+            Ok(()) => self.end_row(),
+            Err(_) => self.fault = Some(IcnfFault::from(AllocError)),
+        }
+    }
+
+    /// Takes bytes of the events up to the first LF, where they are wanted, and tells how many.
+    pub fn feed_events(&mut self, piece: &[u8]) -> usize
+        ensures few { result ≤ length piece.now }
+        ensures some { wanted self.old ≡ Wants.Events → 0 < length piece.now → 0 < result }
+        ensures taken { (e p : List ℕ) → HasTaken e p self.old → HasTaken (e ++ take result piece.now) p self.new }
+    {
+        match self.wants() {
+            Wants::Events => self.feed_waiting(piece),
+            Wants::Proof | Wants::Nothing => 0,
+        }
+    }
+
+    /// The same, where they are wanted.
+    fn feed_waiting(&mut self, piece: &[u8]) -> usize
+        requires { wanted self.old ≡ Wants.Events }
+        ensures few { result ≤ length piece.now }
+        ensures some { 0 < length piece.now → 0 < result }
+        ensures taken { (e p : List ℕ) → HasTaken e p self.old → HasTaken (e ++ take result piece.now) p self.new }
+    {
+        match cut_line(piece) {
+            Some((text, _)) => {
+                self.end_with(text);
+                text.len() + 1
+            }
+            None => {
+                self.begin_with(piece);
+                piece.len()
+            }
+        }
+    }
+
+    /// Events that end need a header.
+    fn close(&mut self)
+        ensures { self.new ≡ record self.old { fault = closing self.old.fault self.old.events.progress.headed self.old.read } }
+    {
+        match self.fault {
+            Some(_) => {}
+            None => {
+                if !self.events.is_headed() {
+                    self.fault = Some(IcnfFault {
+                        kind: Kind::NoHeader,
+                        line: self.read,
+                    });
+                }
+            }
+        }
+    }
+
+    /// What is begun is the last line of the events.
+    fn end_waiting(&mut self)
+        requires { wanted self.old ≡ Wants.Events }
+        ensures ended { self.new.proof.no_event ≡ true }
+        ensures taken { (e p : List ℕ) → HasTaken e p self.old → HasTaken e p self.new }
+    {
+        self.end_row();
+        self.proof.end_events();
+        self.close();
+    }
+
+    /// The events have ended, where their bytes are wanted.
+    pub fn end_events(&mut self)
+        ensures ended { ¬ (wanted self.new ≡ Wants.Events) }
+        ensures taken { (e p : List ℕ) → HasTaken e p self.old → HasTaken e p self.new }
+    {
+        match self.wants() {
+            Wants::Events => self.end_waiting(),
+            Wants::Proof | Wants::Nothing => {}
+        }
+    }
+
+    /// What is awaited does not come any more.
+    fn unheard(&self) -> SessionFault
+        ensures { result ≡ SessionFault.Proof (fault_at self.now.proof.line 18 0) self.now.proof.lines.known.tally }
+    {
+        SessionFault::Proof {
+            fault: CheckFault {
+                number: 18,
+                line: self.proof.line,
+                text: 0,
+            },
+            before: self.proof.lines.known.tally,
+        }
+    }
+
+    /// What is answered where nothing is wanted any more: how many answers there are of each kind, all of them right; or the first fault.
+    pub fn finish(&self) -> Result<Tally, SessionFault>
+        ensures { (e p : List ℕ) → HasTaken e p self.now → Finishes e p self.now result }
+    {
+        if let Some(fault) = self.fault {
+            return Err(SessionFault::Events(fault));
+        }
+        if !self.proof.no_event {
+            return Err(SessionFault::Unfinished);
+        }
+        match self.proof.phase {
+            Phase::Ended => Ok(self.proof.lines.known.tally),
+            Phase::Stopped(fault) => Err(SessionFault::Proof {
+                fault,
+                before: self.proof.lines.known.tally,
+            }),
+            Phase::Clause => Err(self.unheard()),
+            Phase::Query => Err(self.unheard()),
+            Phase::Reading => Err(SessionFault::Unfinished),
+        }
+    }
+}

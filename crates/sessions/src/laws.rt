@@ -1,0 +1,21 @@
+//! Theorems on the definitions. There is nothing to run: each contract is a theorem.
+
+ghost use Rattle.std.specs.Prelude.{◌≡◌, ◌↔◌, ℕ, List, [], None, Ok, length};
+ghost use Rattle.sessions.specs.Answers.{AreRight, Event, queries};
+ghost use Rattle.sessions.specs.Events.{Spells, events_of};
+ghost use Rattle.sessions.specs.Texts.{session_of};
+
+/// Each answer of an accepted text is right for its query: a model of the query and of the clauses that were given before it, or a core
+/// that no assignment which satisfies these clauses makes true.
+pub fn accepted_sessions_are_right()
+    ensures right { (E : List Event) (text : List ℕ) → (session_of E text).fault ≡ None → AreRight [] E (session_of E text).answers }
+    // there is one for each query
+    ensures all { (E : List Event) (text : List ℕ) → (session_of E text).fault ≡ None → length (session_of E text).answers ≡ queries E }
+    // and so is each answer before a text's first fault
+    ensures front { (E : List Event) (text : List ℕ) → AreRight [] E (session_of E text).answers }
+{}
+
+/// What is read of a text of events is what the text spells, and nothing else.
+pub fn events_are_spelled()
+    ensures { (text : List ℕ) (E : List Event) → (events_of text ≡ Ok E) ↔ Spells text E }
+{}

@@ -1,0 +1,20 @@
+//! Sessions: clauses are given and queries asked in turn, and one LIDRUP text proves all answers.
+#![tactic(auto)]
+
+mod check;
+mod event_lines;
+mod fault;
+mod kind;
+mod known;
+mod laws;
+mod line_literals;
+mod literal_set;
+mod numbers;
+mod proof_lines;
+mod proof_side;
+mod stage;
+mod tally;
+
+pub use check::{SessionCheck, SessionFault, Wants};
+pub use laws::{accepted_sessions_are_right, events_are_spelled};
+pub use tally::Tally;

@@ -1,0 +1,120 @@
+//! The literals of a line of events.
+
+ghost use Rattle.std.specs.Prelude.{◌≡◌, ℕ, List, option_map};
+ghost use Rattle.dimacs.specs.inner.Capped.{capped};
+ghost use Rattle.dimacs.specs.inner.Rows.{Gives};
+ghost use Rattle.dimacs.specs.text.Numbers.{number};
+ghost use Rattle.dimacs.specs.text.Words.{words};
+ghost use Rattle.icnf.specs.Reading.{no_memory};
+ghost use Rattle.sessions.specs.Events.{literals_in, nothing_read, read_token, read_tokens};
+ghost use Rattle.sessions.specs.inner.Rows.{GivesLiterals};
+
+use dimacs::Lit;
+use dimacs::number::{Number, next_number};
+use icnf::{IcnfFault, Kind};
+use std::alloc::Global;
+use std::marker::Model;
+
+/// The greatest variable.
+const VARIABLES: u32 = 1_000_000;
+
+/// What was read of a line: its literals, and whether the `0` was read. The room is used again from line to line.
+#[derive(Drop)]
+pub(crate) struct LineLiterals {
+    literals: Vec<Lit>,
+    ended: bool,
+}
+
+impl Model for LineLiterals {
+    ghost use Rattle.sessions.specs.Events.{LineRead};
+
+    ghost Value = { LineRead };
+
+    ghost view = { λ c. record { literals = c.literals.items; ended = c.ended } };
+}
+
+/// The fault of a line.
+pub(crate) fn fault(kind: Kind, line: u64) -> IcnfFault
+    ensures { result ≡ record { kind = kind; line = line } }
+{
+    IcnfFault { kind, line }
+}
+
+impl LineLiterals {
+    /// Nothing was read.
+    pub(crate) fn new(alloc: Global) -> LineLiterals
+        ensures { result ≡ nothing_read }
+    {
+        LineLiterals {
+            literals: Vec::new(alloc),
+            ended: false,
+        }
+    }
+
+    /// The literals.
+    pub(crate) fn as_slice(&self) -> &[Lit]
+        ensures { result.now ≡ self.now.literals }
+    {
+        &self.literals
+    }
+
+    /// A new line begins.
+    fn begin(&mut self)
+        ensures { self.new ≡ nothing_read }
+    {
+        self.literals.clear();
+        self.ended = false;
+    }
+
+    /// Whether the `0` was read.
+    fn has_ended(&self) -> bool
+        ensures { result ≡ self.now.ended }
+    {
+        self.ended
+    }
+
+    /// Reads a token that was found to be this number, or none.
+    fn read_token(&mut self, line: u64, found: Option<Number>) -> Result<(), IcnfFault>
+        ensures { (word : List ℕ) → found ≡ option_map capped (number word) → Gives no_memory self.new result (read_token line word self.old) }
+    {
+        if self.ended {
+            return Err(fault(Kind::ClauseNotEnded, line));
+        }
+        let Some(number) = found else {
+            return Err(fault(Kind::BadToken, line));
+        };
+        if number.size == 0 {
+            self.ended = true;
+            return Ok(());
+        }
+        if number.size > VARIABLES {
+            return Err(fault(Kind::AboveLimit, line));
+        }
+        self.literals.push(number.literal())?;
+        Ok(())
+    }
+
+    /// Reads the tokens of a text that stands on this line.
+    fn read_tokens(&mut self, line: u64, text: &[u8]) -> Result<(), IcnfFault>
+        ensures { Gives no_memory self.new result (read_tokens line (words text.now) self.old) }
+    {
+        let mut rest = text;
+        while let Some((number, after)) = next_number(rest) {
+            self.read_token(line, number)?;
+            rest = after;
+        }
+        Ok(())
+    }
+
+    /// Reads the literals and the `0` that stand on this line, and leaves the literals.
+    pub(crate) fn read(&mut self, line: u64, text: &[u8]) -> Result<(), IcnfFault>
+        ensures { GivesLiterals self.new result (literals_in line (words text.now)) }
+    {
+        self.begin();
+        self.read_tokens(line, text)?;
+        if !self.has_ended() {
+            return Err(fault(Kind::ClauseNotEnded, line));
+        }
+        Ok(())
+    }
+}

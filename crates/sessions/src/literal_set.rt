@@ -1,0 +1,126 @@
+//! A set of literals that is emptied at once.
+
+ghost use Rattle.std.specs.Prelude.{◌≡◌, ℕ, ◌<◌, ◌≤◌, [], OnOk, IfOk, slice_index, vec_len};
+ghost use Rattle.std.specs.Bool.{OnFalse};
+ghost use Rattle.std.specs.List.{list_all, list_any};
+ghost use Rattle.dimacs.specs.logic.Literal.{has};
+ghost use Rattle.dimacs.specs.logic.Propagation.{with_literal};
+ghost use Rattle.lrat_check.specs.Faults.{is_tautology};
+ghost use Rattle.sessions.specs.inner.Sets.{AllAtMost, set_in};
+
+use dimacs::Lit;
+use std::alloc::{AllocError, Global};
+
+/// Makes at least so many places in a table. A new place has stamp 0, as one past the end reads.
+fn grow(stamps: &mut Vec<u64>, places: usize) -> Result<(), AllocError>
+    ensures fits { OnOk result (places ≤ vec_len stamps.new) }
+    ensures same { (i : ℕ) → slice_index stamps.new.items i ≡ slice_index stamps.old.items i }
+{
+    if stamps.len() < places {
+        stamps.resize(places, 0)?;
+    }
+    Ok(())
+}
+
+/// Puts a literal into the set of a stamp.
+fn insert(stamps: &mut Vec<u64>, stamp: u64, literal: Lit) -> Result<(), AllocError>
+    requires { AllAtMost stamp stamps.old.items }
+    ensures put { OnOk result (set_in stamps.new.items stamp ≡ with_literal (set_in stamps.old.items stamp) literal) }
+    ensures most { AllAtMost stamp stamps.new.items }
+{
+    let place = literal.index();
+    grow(stamps, place + 1)?;
+    stamps[place] = stamp;
+    Ok(())
+}
+
+/// Whether a literal is in the set of a stamp; none is that has no place.
+#[inline(always)]
+fn is_in(stamps: &[u64], stamp: u64, literal: Lit) -> bool
+    requires { 0 < stamp }
+    ensures { result ≡ set_in stamps.now stamp literal }
+{
+    let place = literal.index();
+    place < stamps.len() && stamps[place] == stamp
+}
+
+/// Literals by their stamps: one is in the set if its stamp is the set's. So none has to be taken out where the set is emptied.
+pub(crate) struct LiteralSet {
+    pub(crate) stamps: Vec<u64>,
+    pub(crate) stamp: u64,
+    ghost most: { AllAtMost stamp stamps.items },
+    ghost some: { 0 < stamp },
+}
+
+// By hand, so that whoever owns one drops it by one call, and no proof there goes through its parts.
+impl Drop for LiteralSet {
+    fn drop(self) {
+        let LiteralSet {
+            stamps: _,
+            stamp: _,
+        } = self;
+    }
+}
+
+impl LiteralSet {
+    /// No literal is in it.
+    pub(crate) fn new(alloc: Global) -> LiteralSet {
+        LiteralSet {
+            stamps: Vec::new(alloc),
+            stamp: 1,
+        }
+    }
+
+    /// Takes all literals out. A stamp that has no room in 64 bits is refused as for want of memory.
+    fn clear(&mut self) -> Result<(), AllocError>
+        ensures { OnOk result (set_in self.new.stamps.items self.new.stamp ≡ has []) }
+    {
+        match self.stamp.checked_add(1) {
+            Some(next) => {
+                self.stamp = next;
+                Ok(())
+            }
+            None => Err(AllocError),
+        }
+    }
+
+    /// Holds these literals, and no others.
+    pub(crate) fn hold(&mut self, lits: &[Lit]) -> Result<(), AllocError>
+        ensures { OnOk result (set_in self.new.stamps.items self.new.stamp ≡ has lits.now) }
+    {
+        self.clear()?;
+        for l in lits {
+            insert(&mut self.stamps, self.stamp, *l)?;
+        }
+        Ok(())
+    }
+
+    /// The same, and tells whether some literal stands there with its negation; then it holds whatever.
+    pub(crate) fn hold_apart(&mut self, lits: &[Lit]) -> Result<bool, AllocError>
+        ensures pair { IfOk result (λ b. b ≡ is_tautology lits.now) }
+        ensures holds { IfOk result (λ b. OnFalse b (set_in self.new.stamps.items self.new.stamp ≡ has lits.now)) }
+    {
+        self.clear()?;
+        for l in lits {
+            if is_in(&self.stamps, self.stamp, l.negate()) {
+                return Ok(true);
+            }
+            insert(&mut self.stamps, self.stamp, *l)?;
+        }
+        Ok(false)
+    }
+
+    /// Whether all of these literals are in it.
+    pub(crate) fn has_all(&self, lits: &[Lit]) -> bool
+        ensures { result ≡ list_all (set_in self.now.stamps.items self.now.stamp) lits.now }
+    {
+        lits.iter().all(|l| is_in(&self.stamps, self.stamp, *l))
+    }
+
+    /// Whether one of these literals is in it.
+    pub(crate) fn meets(&self, lits: &[Lit]) -> bool
+        ensures { result ≡ list_any (set_in self.now.stamps.items self.now.stamp) lits.now }
+    {
+        lits.iter().any(|l| is_in(&self.stamps, self.stamp, *l))
+    }
+}

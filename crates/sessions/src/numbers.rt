@@ -1,0 +1,85 @@
+//! The numbers of clauses and lemmas, which rise.
+
+ghost use Rattle.std.specs.Prelude.{◌≡◌, ◌<◌, [], ◌∷◌, ◌++◌, OnOk, OnErr, nat_eq};
+ghost use Rattle.std.specs.List.{list_any};
+ghost use Rattle.sessions.specs.inner.Sets.{IsRising, first_numbers};
+
+use std::alloc::{AllocError, Global};
+use std::marker::Model;
+
+/// The numbers of the clauses that were given, each of which is found by a binary search, and the greatest number so far.
+#[derive(Drop)]
+pub(crate) struct Numbers {
+    given: Vec<u64>,
+    last: u64,
+}
+
+impl Model for Numbers {
+    ghost use Rattle.sessions.specs.inner.Sets.{AllAtMost, IsRising, Numbered};
+
+    ghost Value = { Numbered };
+
+    ghost view = { λ g. record { given = g.given.items; last = g.last } };
+
+    ghost invariant = { λ g. IsRising g.given.items × AllAtMost g.last g.given.items };
+}
+
+/// Whether a number is among numbers that rise.
+fn find(numbers: &[u64], number: u64) -> bool
+    requires { IsRising numbers.now }
+    ensures { result ≡ list_any (nat_eq number) numbers.now }
+{
+    numbers.binary_search(&number).is_ok()
+}
+
+impl Numbers {
+    /// No number.
+    pub(crate) fn new(alloc: Global) -> Numbers
+        ensures { result ≡ first_numbers }
+    {
+        Numbers {
+            given: Vec::new(alloc),
+            last: 0,
+        }
+    }
+
+    /// The numbers of the clauses that were given, in order.
+    pub(crate) fn given(&self) -> &[u64]
+        ensures { result.now ≡ self.now.given }
+    {
+        &self.given
+    }
+
+    /// The greatest number so far; 0 where there is none.
+    pub(crate) fn last(&self) -> u64
+        ensures { result ≡ self.now.last }
+    {
+        self.last
+    }
+
+    /// Whether a clause was given under this number.
+    pub(crate) fn is_given(&self, number: u64) -> bool
+        ensures { result ≡ list_any (nat_eq number) self.now.given }
+    {
+        find(&self.given, number)
+    }
+
+    /// A lemma has this number.
+    pub(crate) fn learn(&mut self, number: u64)
+        requires { self.old.last < number }
+        ensures { self.new ≡ record self.old { last = number } }
+    {
+        self.last = number;
+    }
+
+    /// A clause is given under this number.
+    pub(crate) fn give(&mut self, number: u64) -> Result<(), AllocError>
+        requires { self.old.last < number }
+        ensures ok { OnOk result (self.new ≡ record { given = self.old.given ++ number ∷ []; last = number }) }
+        ensures err { OnErr result (self.new ≡ self.old) }
+    {
+        self.given.push(number)?;
+        self.last = number;
+        Ok(())
+    }
+}
