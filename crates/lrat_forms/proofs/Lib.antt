@@ -1,2 +1,4 @@
 pub mod FormLemmas
 pub mod LineLemmas
+pub mod CodeLemmas
+pub mod SpellingLemmas

@@ -4,9 +4,13 @@
 //! bytes that spell no step become a line that has the same fault. [`BinaryForm`] makes binary steps of lines.
 #![tactic(auto)]
 
+mod binary_form;
+mod codes;
 mod first;
 mod limits;
 mod lines;
+mod steps;
 mod text_form;
 
+pub use binary_form::BinaryForm;
 pub use text_form::TextForm;

@@ -1,0 +1,9 @@
+-- Numbers that are appended.
+use Rattle.std.specs.Prelude.{◌≡◌, ℕ, List, ◌++◌}
+use Rattle.lrat_binary.specs.Grammar.{SpellsNumber, SpellsNumbers}
+
+abbrev pub AddsNumber : List ℕ → List ℕ → ℕ → Type 0
+AddsNumber old new n = (bytes : List ℕ) × (new ≡ old ++ bytes) × SpellsNumber bytes n
+
+abbrev pub Adds : List ℕ → List ℕ → List ℕ → Type 0
+Adds old new codes = (bytes : List ℕ) × (new ≡ old ++ bytes) × SpellsNumbers bytes codes
