@@ -7,10 +7,12 @@
 mod binary_form;
 mod codes;
 mod first;
+mod laws;
 mod limits;
 mod lines;
 mod steps;
 mod text_form;
 
 pub use binary_form::BinaryForm;
+pub use laws::both_forms_spell_the_same;
 pub use text_form::TextForm;
