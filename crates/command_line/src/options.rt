@@ -26,8 +26,6 @@ pub struct Options {
     pub progress: bool,
     /// Whether the coordinator takes its workers in turns, round by round.
     pub rounds: bool,
-    /// Whether the proof is written in binary form.
-    pub binary: bool,
     /// Whether `c` lines are left out.
     pub quiet: bool,
     /// Whether the `v` lines of an assignment are printed.
@@ -47,7 +45,6 @@ pub const USUAL: Options = Options {
     patience: None,
     progress: false,
     rounds: false,
-    binary: false,
     quiet: false,
     witness: true,
 };

@@ -70,12 +70,6 @@ pub(crate) const NO_WITNESS: Word<'static> = Word::Flag {
     help: "Print no v lines",
 };
 
-/// Whether the proof is written in binary form.
-pub(crate) const BINARY: Word<'static> = Word::LongFlag {
-    name: "binary",
-    help: "Write the proof in binary form",
-};
-
 /// The proof.
 pub(crate) const PROOF: Word<'static> = Word::File {
     name: "PROOF",
@@ -168,7 +162,6 @@ pub(crate) fn options_of(given: &Found, place: Place) -> Option<Options>
         patience,
         progress: given.flag("progress"),
         rounds: given.flag("rounds"),
-        binary: given.flag("binary"),
         quiet: printing.quiet,
         witness: printing.witness,
     })
