@@ -110,9 +110,12 @@ impl FormJoin {
     /// Ends the proof, between two files. `notes` are the lines that were printed of the files. The report is that of the texts to which the
     /// files come.
     pub fn finish(&mut self, notes: Vec<u8>) -> Result<Report, GatherFault>
-        ensures concludes { IfOk result (λ r. (F : Cnf) (cubes : List Cube) (files : List (List ℕ)) (written : List ℕ)
+        ensures { IfOk result (λ r. (F : Cnf) (cubes : List Cube) (files : List (List ℕ)) (written : List ℕ)
             → Holds F cubes files [] written self.old → Concludes F cubes (map text_form files) [] written notes.items self.new.join r) }
     {
+        if self.form.is_cut() {
+            return Err(GatherFault::NoMemory);
+        }
         self.join.finish(notes)
     }
 }

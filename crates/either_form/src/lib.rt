@@ -6,8 +6,8 @@
 
 mod join;
 mod lift;
-mod trimming;
+mod trim;
 
 pub use join::FormJoin;
 pub use lift::FormLift;
-pub use trimming::FormTrimming;
+pub use trim::FormTrimming;
