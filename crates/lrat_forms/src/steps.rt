@@ -6,8 +6,7 @@ ghost use Rattle.lrat_text.specs.Grammar.{IsClauseNumber, IsGroup, IsStep};
 ghost use Rattle.lrat_text.specs.Steps.{step_of};
 ghost use Rattle.lrat_text.specs.declared.step.Step.TheVariants.{Add, Delete};
 ghost use Rattle.lrat_binary.specs.Grammar.{clause_code, group_codes, step_codes};
-ghost use Rattle.lrat_forms.specs.inner.Codes.{Adds};
-ghost use Rattle.lrat_forms.specs.Spelling.{AddsStep};
+ghost use Rattle.lrat_forms.specs.inner.Codes.{Adds, AddsStep};
 
 use crate::codes::{put_code, put_groups, put_literals, put_numbers};
 use dimacs::Lit;

@@ -3,7 +3,7 @@ use Rattle.std.specs.Prelude.{ℕ, List}
 use Rattle.lrat_text.specs.Grammar.{SpellsStep}
 use Rattle.lrat_text.specs.declared.fault.TextFault.{TextFault}
 use Rattle.lrat_text.specs.declared.step.Step.{Step}
-use Rattle.lrat_forms.specs.Spelling.{AddsStep}
+use Rattle.lrat_forms.specs.inner.Codes.{AddsStep}
 use Rattle.lrat_forms.specs.declared.binary_form.StepWriter.{StepWriter}
 
 abbrev pub MayTake : StepWriter → Type 0
