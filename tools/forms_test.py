@@ -1,5 +1,6 @@
 #!/usr/bin/env python3
-"""Runs `check`, `trim`, `lift` and `join` over proofs in binary form that are cut and drawn.
+"""Runs `check`, `trim`, `lift` and `join` over proofs in binary form that are cut and drawn, and
+commands over standard input.
 
     tools/forms_test.py PATH-OF-satcluster [CUTS [DRAWN]]
 
@@ -135,9 +136,13 @@ class Bench:
         os.remove(path)
         return data
 
-    def run(self, *words: str) -> Tuple[int, bytes]:
-        done = subprocess.run([self.program, *words], cwd=self.folder, stdout=subprocess.PIPE,
-                              timeout=120, check=False)
+    def run(self, *words: str, fed: str = "f.cnf", piped: bool = False) -> Tuple[int, bytes]:
+        """Status and output; standard input is a file of the folder, or a pipe with its bytes."""
+        command = [self.program, *words]
+        with open(os.path.join(self.folder, fed), "rb") as file:
+            source = {"input": file.read()} if piped else {"stdin": file}
+            done = subprocess.run(command, cwd=self.folder, stdout=subprocess.PIPE, timeout=120,
+                                  check=False, **source)
         return done.returncode, done.stdout
 
     def all(self, proof: str) -> List[Tuple[int, bytes, Optional[bytes]]]:
@@ -163,6 +168,39 @@ class Bench:
             sys.exit(1)
 
 
+def standard_input(bench: Bench) -> None:
+    """`-` is standard input, once at most, and no file that is written."""
+    bench.write("f.cnf", RAT[0].encode())
+    bench.write("f.icnf", ("p inccnf\n" + RAT[0].split("\n", 1)[1] + CUBES).encode())
+    bench.write("proof", binary(RAT[1]))
+    bench.write("-", b"no formula\n")
+    right = (0, b"s VERIFIED\n")
+    for fed, wanted, *words in (
+            ("f.cnf", right, "check", "-", "proof"),
+            ("proof", right, "check", "f.cnf", "-"),
+            ("f.cnf", right, "check", "/dev/stdin", "proof"),
+            ("f.cnf", (1, b"c input line 1 fault 2\n"), "check", "./-", "proof"),
+            ("f.cnf", (1, b"c usage\n"), "check", "-", "-"),
+            ("f.cnf", (1, b"c usage\n"), "solve", "f.cnf", "-"),
+            ("f.cnf", (1, b"c usage\n"), "trim", "f.cnf", "proof", "-"),
+            ("f.cnf", (1, b"c usage\n"), "lift", "--cubes", "-", "--leaf", "1", "f.cnf", "-", "out"),
+            ("f.cnf", (1, b"c usage\n"), "join", "--cubes", "f.icnf", "-", "out", "-"),
+            ("f.cnf", (1, b"c usage\n"), "join", "--cubes", "f.icnf", "f.cnf", "out", "a", "-"),
+            ("f.cnf", (0, b"p inccnf\n"), "cubes", "--depth", "0", "-")):
+        for piped in (False, True):
+            found = bench.run(*words, fed=fed, piped=piped)
+            if (found[0], found[1][:len(wanted[1])]) != wanted:
+                print("DIFFERS: %s: %r, and not %r" % (" ".join(words), found, wanted))
+                sys.exit(1)
+    with open(os.path.join(bench.folder, "out"), "wb") as out:
+        subprocess.run([bench.program, "solve", "f.cnf", "/dev/stdout"], cwd=bench.folder,
+                       stdout=out, check=False)
+    if bench.taken("out") != b"c cannot write proof\n":
+        print("DIFFERS: a proof to the file to which is printed")
+        sys.exit(1)
+    print("ok: -", flush=True)
+
+
 def places(length: int, count: int) -> Iterable[int]:
     return sorted({length * i // count for i in range(count + 1)})
 
@@ -185,7 +223,8 @@ def main() -> None:
     draw = random.Random(72)
     with tempfile.TemporaryDirectory() as folder:
         bench = Bench(sys.argv[1], folder)
-        for name, formula, text in (("groups", *RAT), ("a run", pigeons(4), "")):
+        standard_input(bench)
+        for name, formula, text in (("groups", *RAT), ("a run", pigeons(5), "")):
             bench.write("f.cnf", formula.encode())
             bench.write("f.icnf", ("p inccnf\n" + formula.split("\n", 1)[1] + CUBES).encode())
             if not text:
