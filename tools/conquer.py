@@ -6,6 +6,7 @@
                      [--limit L] [--seconds S] [--no-race] [--no-cuts] [--folder DIR] [-q] [-n]
                      INPUT [PROOF]
 
+INPUT may be packed by gzip, xz, bzip2 or zstd, if that is installed: it is unpacked to the folder.
 Prints the `s` and `v` lines of `satcluster solve`, and ends with its statuses: 10, 20, 0 and 1.
 Each answer is one of the proved program: `join` tests every log and every assignment that a job has
 brought. So what is wrong in this script, in a solver or on a disk costs time, and makes no wrong
@@ -22,6 +23,7 @@ import os
 import shlex
 import shutil
 import signal
+import subprocess
 import sys
 from argparse import Namespace
 from pathlib import Path
@@ -36,6 +38,7 @@ from conquering.leaf import Plan
 from conquering.processes import Bell, status_of
 from conquering.run import Run
 from conquering.screen import Screen, plain
+from telling.looks import head_of, packing
 from telling.words import Named, explain, unwritable
 
 DEPTH = 6  # if none is asked for
@@ -137,6 +140,25 @@ def test_places(proof: Optional[str], formula: str) -> None:
         raise Fault("c cannot write proof", unwritable(proof, formula) or "It is no regular file.")
 
 
+def unpack(folder: Folder, formula: str) -> str:
+    """The path that all jobs read: of a packed formula that of a copy in the folder. A copy of an
+    earlier start is made anew, since the packed one may be another by now."""
+    tool = packing(head_of(formula))
+    if tool is None:
+        return os.path.abspath(formula)
+    if not shutil.which(tool):
+        raise Fault("c cannot read input",
+                    "It is packed by %s, which is not installed." % tool)
+    part = folder.at("scratch", "formula")
+    with open(formula, "rb") as packed, part.open("wb") as file:
+        status = subprocess.run([tool, "-dc"], stdin=packed, stdout=file,
+                                stderr=subprocess.DEVNULL, check=False).returncode
+    if status != 0:
+        raise Fault("c cannot read input", "%s ends with %d." % (tool, status))
+    publish(part, folder.at("formula.cnf"))
+    return str(folder.at("formula.cnf"))
+
+
 def words_of_split(asked: Namespace) -> List[str]:
     if asked.cubes_from:
         return ["--complete", asked.cubes_from]
@@ -225,6 +247,7 @@ def conquer(asked: Namespace, screen: Screen) -> int:
     test_places(asked.PROOF, plan.input)
     folder = Folder(asked.folder or asked.INPUT + ".conquer")
     folder.lock()
+    plan.input = unpack(folder, plan.input)
     before = plan_before(folder)
     if folder.newest_tree():
         take_over(folder, plan, asked, screen)

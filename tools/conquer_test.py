@@ -163,6 +163,20 @@ class Answers(Case):
             self.ends(10, ["s SATISFIABLE"], "-q", "-n", name)
         self.assertEqual("what stood\n", self.at("f.lrat").read_text())
 
+    def test_packed_formula(self) -> None:
+        """It is unpacked to the folder; one that is cut is refused."""
+        formula = "schur_3_14.cnf"
+        for tool, name in (("gzip", "f.cnf.gz"), ("xz", "f.cnf.xz"), ("zstd", "f.cnf.zst")):
+            if not shutil.which(tool):
+                continue
+            with self.at(name).open("wb") as packed:
+                subprocess.run([tool, "-c", str(self.at(formula))], stdout=packed, check=True)
+            self.ends(20, ["s UNSATISFIABLE"], "-q", "--depth", "3", name, "f.lrat")
+            self.verifies(formula, "f.lrat")
+            self.at("cut").write_bytes(self.at(name).read_bytes()[:-20])
+            self.ends(1, ["c cannot read input"], "cut")
+            self.tells("%s ends with" % tool)
+
     def test_listed_cubes(self) -> None:
         """Cubes that another splitter lists."""
         formula = "schur_3_14.cnf"
@@ -301,7 +315,6 @@ class Solvers(Case):
         "no answer": "exit 0",
     }
     PROOFS = {  # bytes of a proof, as printf has them, and what is told of it
-        "binary LRAT": r"a\012\005\000\006\010\000",
         "binary DRAT": r"a\005\000a\000",
         "DRAT as text": r"2 0\n0\n",
         "CR LF": r"5 2 0 1 2 0\r\n",

@@ -583,7 +583,7 @@ class Table(Case):
     def test_looks(self) -> None:
         for head, wanted in ((b"a\x04\x00a\x06\x00a\x08\x00", "binary DRAT"),
                              (b"a\x81\x02\x00d\x81\x02\x00a\x06\x00", "binary DRAT"),
-                             (b"a\x0a\x05\x00\x06\x08\x00a\x0c\x02\x00\x0a\x02\x00", "binary LRAT"),
+                             (b"a\x0a\x05\x00\x06\x08\x00a\x0c\x02\x00\x0a\x02\x00", None),
                              (b"1 2 0\nd 1 2 0\n0\n", "DRAT as text"), (b"0\n", "DRAT as text"),
                              (b"5 2 0 1 2 0\r\n", "CR LF"), (b"\x1f\x8b\x08\x00", "gzip"),
                              (b"\xfd7zXZ\x00", "xz"), (b"\x28\xb5\x2f\xfd", "zstd"),

@@ -6,6 +6,7 @@
     answers/LEAF     `v` lines that a job has brought
     records/..       how long each job took, and how it ended, for the report
     rounds/N         what an engine was asked to run; it stays as it is, since queued jobs name it
+    formula.cnf      the formula, unpacked, where INPUT is packed
     plan.json        the program, the solver and the limits, for jobs that run elsewhere
     scratch/         what is unfinished; each start empties it
 """

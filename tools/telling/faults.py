@@ -67,12 +67,12 @@ INPUT = Table(
 PROOF = Table(
     "proof",
     "An LRAT proof, printed as `c line L fault N` by `check` and `trim`, as `c proof line L fault "
-    "N` by `lift`, and as `c file K line L fault N NAME` by `join`. [LIDRUP.md](LIDRUP.md#faults) "
-    "has those of `lift --lidrup`.",
+    "N` by `lift`, and as `c file K line L fault N NAME` by `join`; if the proof is binary, with "
+    "`step` in the place of `line`. [LIDRUP.md](LIDRUP.md#faults) has those of `lift --lidrup`.",
     (
-        Row(1, "The line is no step of an LRAT text.", "5 2 0 1 2\n",
-            "Ask the solver for LRAT as text (CaDiCaL: `--lrat --no-binary`). If it is the last "
-            "line, the file was cut."),
+        Row(1, "The line, or the step of a binary file, is none of LRAT.", "5 2 0 1 2\n",
+            "Ask the solver for LRAT (CaDiCaL: `--lrat`). If it is the last one, the file was "
+            "cut."),
         Row(2, "The lemma's number is not above all before it; in a log it is not the next.",
             "4 2 0 1 2 0\n", "It is a proof of another formula. " + SAME),
         Row(3, "A hint, a candidate or a deletion names a clause that is not there, or no more.",

@@ -80,8 +80,7 @@ def of_proof(head: bytes, name: str) -> Optional[Look]:
     if kind == "DRAT":
         return Look("It is binary DRAT.", "`drat-trim f.cnf %s -L NEW`" % name)
     if kind == "LRAT":
-        return Look("It is binary LRAT.", "Have the solver write text: CaDiCaL takes "
-                    "`--lrat --no-binary`.")
+        return None
     if head[:1] == b"o" and CONTROL.search(head):
         return Look("It is binary FRAT.", "`cadical --lrat --no-binary f.cnf NEW` writes LRAT.")
     if b"\r\n" in head:

@@ -32,10 +32,10 @@ class Named:
 
 def explain(line: str, named: Named) -> List[str]:
     """The sentences behind a line that the program has printed; none if it is not one of these."""
-    match = re.fullmatch(r"c (?:(input|cubes|proof) )?line ([0-9]+) fault ([0-9]+)", line)
+    match = re.fullmatch(r"c (?:(input|cubes|proof) )?(line|step) ([0-9]+) fault ([0-9]+)", line)
     if match:
         kind = match.group(1) or ("proof" if named.proof else "answer")
-        return of_fault(kind, int(match.group(2)), int(match.group(3)), named)
+        return of_fault(kind, match.group(2), int(match.group(3)), int(match.group(4)), named)
     match = re.fullmatch(r"c cannot read (input|cubes|proof|answer)", line)
     if match and named.path(match.group(1)):
         return [unreadable(named.path(match.group(1)))]
@@ -47,13 +47,13 @@ def explain(line: str, named: Named) -> List[str]:
     return []
 
 
-def of_fault(kind: str, line: int, number: int, named: Named) -> List[str]:
+def of_fault(kind: str, place: str, line: int, number: int, named: Named) -> List[str]:
     row, path = faults.TABLES[kind].row(number), named.path(kind)
     head = named.head_of(kind)
-    where = "%s, line %d: %s" % (shown(path or kind), line, row.sentence)
+    where = "%s, %s %d: %s" % (shown(path or kind), place, line, row.sentence)
     name = shlex.quote(path) if path and path != "-" else "FILE"
     found = list(looks.look(kind, name, head)) if early(line, number) else []
-    seen = None if found else line_of(head, line)
+    seen = None if found or place == "step" else line_of(head, line)
     told = [where] + (["The line is: " + seen] if seen else [])
     better = [part for look in found for part in (look.sentence, look.remedy)]
     return told + (better or [row.remedy])
@@ -61,7 +61,7 @@ def of_fault(kind: str, line: int, number: int, named: Named) -> List[str]:
 
 def of_foreign_proof(line: str, path: str) -> List[str]:
     """What a solver has written instead of a proof that can be lifted."""
-    match = re.fullmatch(r"c proof line ([0-9]+) fault ([0-9]+)", line)
+    match = re.fullmatch(r"c proof (?:line|step) ([0-9]+) fault ([0-9]+)", line)
     if not match:
         return []
     row = faults.PROOF.row(int(match.group(2)))

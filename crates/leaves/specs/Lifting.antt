@@ -6,12 +6,12 @@ use Rattle.icnf.specs.Leaves.{Cube}
 use Rattle.leaves.specs.Leaf.{Prints, leaf_at, no_leaf_text}
 use Rattle.leaves.specs.declared.lifting.Lift.{Lift}
 use Rattle.leaves.specs.declared.lifting.LiftEnd.{LiftEnd}
-use Rattle.leaves.specs.declared.lifting.LiftEnd.TheVariants.{NoLeaf, Lifted, Refused}
+use Rattle.leaves.specs.declared.lifting.LiftEnd.TheVariants.{NoLeaf, Lifted, Refused, RefusedStep}
 use Rattle.lrat_check.specs.Checking.{no_memory}
 use Rattle.lrat_check.specs.declared.checking.CheckFault.{CheckFault}
 use Rattle.proof_lift.specs.Leaves.{IsCube}
 use Rattle.proof_lift.specs.Stream.{HasTaken}
-use Rattle.reports.specs.Faults.{fault_text}
+use Rattle.reports.specs.Faults.{fault_text, step_fault_text}
 use Rattle.reports.specs.declared.report.Report.{Report}
 
 -- these bytes of a proof of the formula under the cube have been taken, and behind the bytes written stands what is not handed out yet
@@ -45,8 +45,13 @@ lifted_text number = codes "c leaf " ++ decimal number ++ codes " lifted\n"
 abbrev pub proof_fault_text : ℕ → ℕ → List ℕ
 proof_fault_text line number = codes "c proof " ++ fault_text line number
 
+-- the same of a proof in binary form
+abbrev pub proof_step_fault_text : ℕ → ℕ → List ℕ
+proof_step_fault_text step number = codes "c proof " ++ step_fault_text step number
+
 -- what is reported of the leaf of a number
 abbrev pub PrintsLift : ℕ → LiftEnd → Report → Type 0
 PrintsLift leaf NoLeaf r = Prints 1 no_leaf_text r
 PrintsLift leaf Lifted r = Prints 0 (lifted_text leaf) r
 PrintsLift leaf (Refused line number) r = Prints 1 (proof_fault_text line number) r
+PrintsLift leaf (RefusedStep step number) r = Prints 1 (proof_step_fault_text step number) r

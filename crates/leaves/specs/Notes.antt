@@ -1,7 +1,7 @@
 -- What is printed of the files and the leaves of a join.
 use Rattle.std.specs.Prelude.{ℕ, ◌+◌, ◌/◌, ◌%◌, ◌==◌, nat_le, ◌&&◌, not, List, [], ◌∷◌, ◌++◌, flat_map, codes, decimal, slice_index_or, if◌then◌else◌}
 use Rattle.leaves.specs.declared.notes.Note.{Note}
-use Rattle.leaves.specs.declared.notes.Note.TheVariants.{Fault, ClosesNothing, Unread}
+use Rattle.leaves.specs.declared.notes.Note.TheVariants.{Fault, StepFault, ClosesNothing, Unread}
 
 abbrev pub hex_digit : ℕ → ℕ
 hex_digit n = slice_index_or (codes "0123456789ABCDEF") n 0
@@ -13,9 +13,14 @@ shown_byte b = if nat_le 33 b && nat_le b 126 && not (b == 37) then b ∷ [] els
 abbrev pub name_text : List ℕ → List ℕ
 name_text name = flat_map shown_byte name
 
+-- a fault, behind the word for its place
+abbrev pub fault_said : List ℕ → ℕ → ℕ → List ℕ
+fault_said place at number = place ++ decimal at ++ codes " fault " ++ decimal number
+
 -- what is told of a file
 abbrev pub said : Note → List ℕ
-said (Fault line number) = codes " line " ++ decimal line ++ codes " fault " ++ decimal number
+said (Fault line number) = fault_said (codes " line ") line number
+said (StepFault step number) = fault_said (codes " step ") step number
 said ClosesNothing = codes " closes nothing"
 said Unread = codes " cannot be read"
 

@@ -4,7 +4,7 @@ ghost use Rattle.std.specs.Prelude.{◌≡◌, ◌≤◌, ◌⊎◌, ℕ, List, 
 ghost use Rattle.dimacs.specs.logic.Cnf.{Cnf};
 ghost use Rattle.icnf.specs.Leaves.{Cube};
 ghost use Rattle.leaves.specs.Leaf.{Prints, leaf_of};
-ghost use Rattle.leaves.specs.Lifting.{BeginsAt, EndsAs, KeepsLift, Lifts, PrintsLift, lifted_text, proof_fault_text};
+ghost use Rattle.leaves.specs.Lifting.{BeginsAt, EndsAs, KeepsLift, Lifts, PrintsLift, lifted_text, proof_fault_text, proof_step_fault_text};
 ghost use Rattle.lrat_check.specs.Checking.{no_memory};
 ghost use Rattle.lrat_text.specs.Log.{Closes};
 ghost use Rattle.proof_lift.specs.Leaves.{IsCube, IsRefutation};
@@ -15,7 +15,7 @@ use crate::split::Split;
 use dimacs::{Formula, Lit};
 use lrat_check::CheckFault;
 use proof_lift::Lifter;
-use reports::{Report, put_fault, put_number};
+use reports::{Report, put_fault, put_number, put_step_fault};
 use std::alloc::{AllocError, Global};
 
 /// What lifts a foreign proof of the formula of a leaf, which comes piece by piece, to a log over the formula that closes the leaf.
@@ -106,6 +106,8 @@ pub enum LiftEnd {
     Lifted,
     /// The proof has a fault, of this number, in this line.
     Refused { line: u64, number: u8 },
+    /// The proof, in binary form, has a fault, of this number, in this step.
+    RefusedStep { step: u64, number: u8 },
 }
 
 /// The report of a leaf that is lifted.
@@ -127,6 +129,15 @@ fn refused(alloc: Global, line: u64, number: u8) -> Result<Report, AllocError>
     Ok(report)
 }
 
+/// The report of a proof in binary form with a fault.
+fn refused_step(alloc: Global, step: u64, number: u8) -> Result<Report, AllocError>
+    ensures { IfOk result (Prints 1 (proof_step_fault_text step number)) }
+{
+    let mut report = Report::of(alloc, b"c proof ", 1)?;
+    put_step_fault(&mut report.stdout, step, number)?;
+    Ok(report)
+}
+
 /// The report of the leaf of this number, whose lifting ended so: status 0 where it is lifted, else 1. The error stands for the report
 /// `c no memory`, status 1.
 pub fn lift_report(alloc: Global, leaf: u64, end: LiftEnd) -> Result<Report, AllocError>
@@ -136,5 +147,6 @@ pub fn lift_report(alloc: Global, leaf: u64, end: LiftEnd) -> Result<Report, All
         LiftEnd::NoLeaf => Report::of(alloc, NO_LEAF, 1),
         LiftEnd::Lifted => lifted(alloc, leaf),
         LiftEnd::Refused { line, number } => refused(alloc, line, number),
+        LiftEnd::RefusedStep { step, number } => refused_step(alloc, step, number),
     }
 }

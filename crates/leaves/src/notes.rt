@@ -1,7 +1,7 @@
 //! What `join` prints of its files and leaves.
 
 ghost use Rattle.std.specs.Prelude.{◌≡◌, ◌++◌, ◌+◌, ◌<◌, ◌^◌, OnOk, flat_map, All, codes, decimal};
-ghost use Rattle.leaves.specs.Notes.{missing_line, missing_text, name_text, note_text, said, shown_byte};
+ghost use Rattle.leaves.specs.Notes.{fault_said, missing_line, missing_text, name_text, note_text, said, shown_byte};
 
 use reports::put_number;
 use std::alloc::AllocError;
@@ -13,6 +13,8 @@ const HEX: &[u8] = b"0123456789ABCDEF";
 pub enum Note {
     /// It has the fault of this number, in this line.
     Fault { line: u64, number: u8 },
+    /// It is in binary form, and has the fault of this number, in this step.
+    StepFault { step: u64, number: u8 },
     /// It is right, and closes no leaf that was open.
     ClosesNothing,
     /// It cannot be opened, or not be read to its end.
@@ -43,17 +45,23 @@ fn put_name(out: &mut Vec<u8>, name: &[u8]) -> Result<(), AllocError>
     Ok(())
 }
 
+/// Appends a fault, behind the word for its place.
+fn put_fault(out: &mut Vec<u8>, place: &[u8], at: u64, number: u8) -> Result<(), AllocError>
+    ensures { OnOk result (out.new.items ≡ out.old.items ++ fault_said place.now at number) }
+{
+    out.extend_from_slice(place)?;
+    put_number(out, at)?;
+    out.extend_from_slice(b" fault ")?;
+    put_number(out, u64::from(number))
+}
+
 /// Appends what is told of a file, in words.
 fn put_said(out: &mut Vec<u8>, note: Note) -> Result<(), AllocError>
     ensures { OnOk result (out.new.items ≡ out.old.items ++ said note) }
 {
     match note {
-        Note::Fault { line, number } => {
-            out.extend_from_slice(b" line ")?;
-            put_number(out, line)?;
-            out.extend_from_slice(b" fault ")?;
-            put_number(out, u64::from(number))
-        }
+        Note::Fault { line, number } => put_fault(out, b" line ", line, number),
+        Note::StepFault { step, number } => put_fault(out, b" step ", step, number),
         Note::ClosesNothing => out.extend_from_slice(b" closes nothing"),
         Note::Unread => out.extend_from_slice(b" cannot be read"),
     }

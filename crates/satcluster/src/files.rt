@@ -1,5 +1,6 @@
 //! Reads the files that a command line names.
 
+use crate::standard_input::is_dash;
 use dimacs::{DimacsFault, Formula, FormulaReader};
 use node_main::Refusal;
 use std::fs::{File, OpenFile};
@@ -68,13 +69,21 @@ impl<F: OpenFile> Pieces<F> {
     }
 }
 
+/// What the system calls standard input.
+const STANDARD_INPUT: &str = "/dev/stdin";
+
+/// The path of a file that is read: `-` is standard input.
+pub(crate) fn path_of(name: &str) -> &str {
+    if is_dash(name) { STANDARD_INPUT } else { name }
+}
+
 /// Opens a file, to be read piece by piece.
 pub(crate) fn open<R: Runtime + AllocGlobal>(
     rt: &R,
     path: &str,
     refusal: Refusal,
 ) -> Result<Pieces<R::File>, Refusal> {
-    let file = File::open(rt, path).map_err(|error| refused(error, refusal))?;
+    let file = File::open(rt, path_of(path)).map_err(|error| refused(error, refusal))?;
     let room = vec![in rt.alloc(); 0; PIECE].map_err(no_memory)?;
     Ok(Pieces {
         file,

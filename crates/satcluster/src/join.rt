@@ -3,14 +3,18 @@
 use crate::files::{Pieces, no_memory, open, refused};
 use crate::leaf_runs::{Start, begin, hushed};
 use crate::proof_file::{
-    Part, Place, append, is_part, is_same_file, keep, leads_to, make_part, place_of, remove,
+    Part, Place, append, is_part, is_printed_to, is_same_file, keep, leads_to, make_part, place_of,
+    remove,
 };
+use crate::standard_input::is_dash;
 use command_line::Printing;
 use dimacs::{Answer, Assignment, answer_lines};
+use either_form::FormJoin;
 use gathering::GatherFault;
-use leaves::{FileEnd, Join, Note, Split, put_note};
+use leaves::{FileEnd, Note, Split, put_note};
+use lrat_text::cut_line;
 use node_main::{Refusal, Report};
-use std::io::{BufRead, Read, Write};
+use std::io::{Read, Write};
 use std::rt::Runtime;
 use std::str::from_utf8;
 
@@ -24,7 +28,7 @@ pub(crate) struct JoinFiles<'a> {
 
 /// A join, and what was printed and written of it so far.
 struct Run<F> {
-    join: Join,
+    join: FormJoin,
     part: Part<F>,
     /// The lines of the files.
     notes: Vec<u8>,
@@ -115,6 +119,7 @@ fn end<R: Runtime + AllocGlobal>(
     run: &mut Run<R::File>,
     name: &[u8],
 ) -> Result<Option<Report>, Refusal> {
+    let is_binary = run.join.is_binary();
     let ended = run.join.end().map_err(stopped)?;
     write(run)?;
     match ended {
@@ -126,7 +131,12 @@ fn end<R: Runtime + AllocGlobal>(
             Ok(None)
         }
         FileEnd::Refused { line, number } => {
-            note(run, Note::Fault { line, number }, name)?;
+            let fault = if is_binary {
+                Note::StepFault { step: line, number }
+            } else {
+                Note::Fault { line, number }
+            };
+            note(run, fault, name)?;
             Ok(None)
         }
         FileEnd::Satisfies(values) => {
@@ -179,33 +189,62 @@ fn take_all<R: Runtime + AllocGlobal>(
     Ok(None)
 }
 
+/// Reads the file of a name that standard input lists.
+fn take_named<R: Runtime + AllocGlobal>(
+    rt: &R,
+    run: &mut Run<R::File>,
+    place: &Place,
+    name: &[u8],
+) -> Result<Option<Report>, Refusal> {
+    match from_utf8(name) {
+        Ok(name) if !is_dash(name) => take(rt, run, place, name),
+        _ => {
+            run.count = run.count.saturating_add(1);
+            note(run, Note::Unread, name)?;
+            Ok(None)
+        }
+    }
+}
+
+/// Reads the files of the names that are whole with a piece of what standard input lists, and keeps the name that is begun.
+fn take_names<R: Runtime + AllocGlobal>(
+    rt: &R,
+    run: &mut Run<R::File>,
+    place: &Place,
+    begun: &mut Vec<u8>,
+    piece: &[u8],
+) -> Result<Option<Report>, Refusal> {
+    let mut rest = piece;
+    while let Some((name, later)) = cut_line(rest) {
+        begun.extend_from_slice(name).map_err(no_memory)?;
+        if let Some(report) = take_named(rt, run, place, begun)? {
+            return Ok(Some(report));
+        }
+        begun.clear();
+        rest = later;
+    }
+    begun.extend_from_slice(rest).map_err(no_memory)?;
+    Ok(None)
+}
+
 /// Reads the files whose names standard input lists, one a line, as the names come.
 fn take_listed<R: Runtime + AllocGlobal>(
     rt: &R,
     run: &mut Run<R::File>,
     place: &Place,
 ) -> Result<Option<Report>, Refusal> {
-    let mut reader = rt.reader();
-    let mut line = Vec::new(rt.alloc());
+    let mut names = open(rt, "-", Refusal::Proof)?;
+    let mut begun = Vec::new(rt.alloc());
     for _ in 0..u64::MAX {
-        line.clear();
-        let read = reader.read_until(b'\n', &mut line);
-        if read.map_err(|error| refused(error, Refusal::Proof))? == 0 {
-            return Ok(None);
-        }
-        if line.last() == Some(&b'\n') {
-            line.pop();
-        }
-        match from_utf8(&line) {
-            Ok(name) => {
-                if let Some(report) = take(rt, run, place, name)? {
-                    return Ok(Some(report));
-                }
+        let piece = names.next()?;
+        if piece.is_empty() {
+            if begun.is_empty() {
+                return Ok(None);
             }
-            Err(_) => {
-                run.count = run.count.saturating_add(1);
-                note(run, Note::Unread, &line)?;
-            }
+            return take_named(rt, run, place, &begun);
+        }
+        if let Some(report) = take_names(rt, run, place, &mut begun, piece)? {
+            return Ok(Some(report));
         }
     }
     Ok(None)
@@ -265,6 +304,9 @@ fn beside<R: Runtime + AllocGlobal>(
     let Some(place) = place else {
         return Err(Refusal::Writing);
     };
+    if is_printed_to(rt, &place) {
+        return Err(Refusal::Writing);
+    }
     match make_part(rt, &place) {
         Ok(Some(part)) => Ok((place, part)),
         Ok(None) => Err(Refusal::Writing),
@@ -280,7 +322,7 @@ fn gathered<R: Runtime + AllocGlobal>(
     names: &[&str],
     printing: Printing,
 ) -> Result<Report, Refusal> {
-    let join = Join::of(rt.alloc(), split).map_err(no_memory)?;
+    let join = FormJoin::of(rt.alloc(), split).map_err(no_memory)?;
     let (place, part) = beside(rt, files)?;
     let mut run = Run {
         join,

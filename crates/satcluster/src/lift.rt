@@ -3,8 +3,11 @@
 
 use crate::files::{Pieces, no_memory, open, refused};
 use crate::leaf_runs::{Start, begin};
-use crate::proof_file::{Part, Place, append, is_same_file, keep, make_part, place_of, remove};
-use leaves::{Lift, LiftAll, LiftEnd, Split, lift_report};
+use crate::proof_file::{
+    Part, Place, append, is_printed_to, is_same_file, keep, make_part, place_of, remove,
+};
+use either_form::FormLift;
+use leaves::{LiftAll, LiftEnd, Split, lift_report};
 use lrat_check::CheckFault;
 use node_main::{Refusal, Report};
 use std::alloc::Global;
@@ -29,7 +32,7 @@ pub(crate) struct LiftFiles<'a> {
 #[derive(Drop)]
 enum Task {
     /// A log that closes the leaf of this number.
-    Leaf(Lift, u64),
+    Leaf(FormLift, u64),
     /// A log that closes each leaf, if it can.
     All(LiftAll),
 }
@@ -76,9 +79,15 @@ fn feed<F: Read + Write>(
 }
 
 /// How a proof was refused that was read to its end.
-fn refusal_of(fault: CheckFault) -> Result<LiftEnd, Refusal> {
+fn refusal_of(fault: CheckFault, is_binary: bool) -> Result<LiftEnd, Refusal> {
     if fault.is_no_memory() {
         return Err(Refusal::NoMemory);
+    }
+    if is_binary {
+        return Ok(LiftEnd::RefusedStep {
+            step: fault.line,
+            number: fault.number,
+        });
     }
     Ok(LiftEnd::Refused {
         line: fault.line,
@@ -87,13 +96,14 @@ fn refusal_of(fault: CheckFault) -> Result<LiftEnd, Refusal> {
 }
 
 /// Writes the end of the log of a leaf, or tells the first fault of a proof that was read to its end.
-fn ended<F: Write>(lift: Lift, part: &mut Part<F>) -> Result<LiftEnd, Refusal> {
+fn ended<F: Write>(lift: FormLift, part: &mut Part<F>) -> Result<LiftEnd, Refusal> {
+    let is_binary = lift.is_binary();
     match lift.finish() {
         Ok(rest) => {
             append(part, rest.as_slice()).map_err(not_written)?;
             Ok(LiftEnd::Lifted)
         }
-        Err(fault) => refusal_of(fault),
+        Err(fault) => refusal_of(fault, is_binary),
     }
 }
 
@@ -101,7 +111,7 @@ fn ended<F: Write>(lift: Lift, part: &mut Part<F>) -> Result<LiftEnd, Refusal> {
 fn all_ended(alloc: Global, lift: &LiftAll) -> Result<Report, Refusal> {
     match lift.finish() {
         Ok(()) => lift.report(alloc).map_err(no_memory),
-        Err(fault) => lift_report(alloc, 0, refusal_of(fault)?).map_err(no_memory),
+        Err(fault) => lift_report(alloc, 0, refusal_of(fault, false)?).map_err(no_memory),
     }
 }
 
@@ -161,7 +171,7 @@ fn task_of(alloc: Global, split: Split, leaf: Option<u64>) -> Result<Option<Task
     let Some(leaf) = leaf else {
         return Ok(Some(Task::All(LiftAll::of(alloc, split).map_err(no_memory)?)));
     };
-    match Lift::of(alloc, split, leaf).map_err(no_memory)? {
+    match FormLift::of(alloc, split, leaf).map_err(no_memory)? {
         Some(lift) => Ok(Some(Task::Leaf(lift, leaf))),
         None => Ok(None),
     }
@@ -176,8 +186,8 @@ fn log_place<R: Runtime + AllocGlobal>(rt: &R, files: &LiftFiles<'_>) -> Result<
         return Err(Refusal::Writing);
     }
     match place_of(rt, files.fragment).map_err(not_written)? {
-        Some(place) => Ok(place),
-        None => Err(Refusal::Writing),
+        Some(place) if !is_printed_to(rt, &place) => Ok(place),
+        _ => Err(Refusal::Writing),
     }
 }
 

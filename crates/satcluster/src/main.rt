@@ -15,6 +15,7 @@ mod linked_runs;
 mod model;
 mod proof_file;
 mod showing;
+mod standard_input;
 mod trim;
 
 use check::check;
@@ -28,6 +29,7 @@ use linked_runs::{Files, print, serve, solve, work};
 use model::model;
 use node_main::{Refusal, Report, Request, UsageFault, command, run_cubes};
 use showing::Showing;
+use standard_input::is_sound;
 use std::alloc::AllocError;
 use std::env;
 use std::io::IsTerminal;
@@ -196,6 +198,9 @@ fn respond<R: Runtime + AllocGlobal + Net>(
 ) -> Result<Report, &'static str> {
     match command(rt.alloc(), words) {
         Ok(request) => {
+            if !is_sound(&request) {
+                return Err(Refusal::Usage.line(false));
+            }
             answer(rt, &request, showing).map_err(|refusal| refusal.line(is_quiet(&request)))
         }
         Err(UsageFault::Help(text)) => {

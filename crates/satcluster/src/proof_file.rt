@@ -1,6 +1,6 @@
 //! Writes a proof to its file, whole or not at all wherever a file can be made beside it.
 
-use crate::files::refused;
+use crate::files::{path_of, refused};
 use node_main::Refusal;
 use packed_text::PackedText;
 use std::fs::{File, Metadata, OpenFile, OpenOptions};
@@ -8,6 +8,9 @@ use std::io::{ErrorKind, Write};
 use std::os::unix::fs::MetadataExt;
 use std::rt::Runtime;
 use std::{fs, io};
+
+/// What the system calls standard output.
+const STANDARD_OUTPUT: &str = "/dev/stdout";
 
 /// So many bytes of a proof are unpacked and written at once.
 const PIECE: usize = 65_536;
@@ -43,7 +46,10 @@ impl<F: Drop> Drop for Part<F> {
 
 /// Whether two paths lead to one file, or are the same where there is none.
 pub(crate) fn is_same_file<R: Runtime>(rt: &R, path: &str, other: &str) -> bool {
-    match (fs::metadata(rt, path), fs::metadata(rt, other)) {
+    match (
+        fs::metadata(rt, path_of(path)),
+        fs::metadata(rt, path_of(other)),
+    ) {
         (Ok(found), Ok(known)) => found.dev() == known.dev() && found.ino() == known.ino(),
         _ => path == other,
     }
@@ -105,6 +111,11 @@ fn permitted<R: Runtime>(rt: &R, part: Part<R::File>, place: &Place) -> Option<P
 /// Whether a path leads to the place.
 pub(crate) fn leads_to<R: Runtime>(rt: &R, place: &Place, path: &str) -> bool {
     is_same_file(rt, path, place.path.as_str())
+}
+
+/// Whether what is printed goes to the place: it would be lost.
+pub(crate) fn is_printed_to<R: Runtime>(rt: &R, place: &Place) -> bool {
+    leads_to(rt, place, STANDARD_OUTPUT)
 }
 
 /// Writes behind what the part has.
@@ -194,6 +205,7 @@ pub(crate) fn write_proof<R: Runtime + AllocGlobal>(
         return Err(Refusal::Writing);
     }
     let written = match place_of(rt, path) {
+        Ok(Some(place)) if is_printed_to(rt, &place) => return Err(Refusal::Writing),
         Ok(Some(place)) => write_beside(rt, &place, proof),
         Ok(None) => write_in_place(rt, path, proof),
         Err(error) => Err(error),

@@ -3,16 +3,17 @@
 use crate::files::{no_memory, open, read_formula};
 use crate::leaf_runs::refused_input;
 use crate::proof_file::{is_same_file, write_proof};
+use either_form::FormTrimming;
 use node_main::{Refusal, Report};
 use std::rt::Runtime;
-use trimming::{Trimming, trim_report};
+use trimming::trim_report;
 
 /// Reads a proof to its end, also behind a fault, and feeds it piece by piece. What has no size is read up to the first fault, or up to want
 /// of memory.
 fn feed<R: Runtime + AllocGlobal>(
     rt: &R,
     path: &str,
-    trimming: &mut Trimming,
+    trimming: &mut FormTrimming,
 ) -> Result<(), Refusal> {
     let mut pieces = open(rt, path, Refusal::Proof)?;
     let has_size = pieces.has_size();
@@ -44,9 +45,11 @@ pub(crate) fn trim<R: Runtime + AllocGlobal>(
     if is_same_file(rt, out, proof) || is_same_file(rt, out, input) {
         return Err(Refusal::Writing);
     }
-    let mut trimming = Trimming::new(rt.alloc(), formula).map_err(no_memory)?;
+    let mut trimming = FormTrimming::new(rt.alloc(), formula).map_err(no_memory)?;
     feed(rt, proof, &mut trimming)?;
-    let report = trim_report(rt.alloc(), trimming.finish()).map_err(no_memory)?;
+    let is_binary = trimming.is_binary();
+    let found = trimming.finish();
+    let report = trim_report(rt.alloc(), is_binary, found).map_err(no_memory)?;
     if let Some(text) = &report.proof {
         write_proof(rt, out, text, input, Some(proof))?;
     }

@@ -1,17 +1,18 @@
 -- What is printed of a proof that was trimmed, or has a fault.
-use Rattle.std.specs.Prelude.{ℕ, List, ◌++◌, Option, Some, None, Result, Ok, Err, codes, decimal}
+use Rattle.std.specs.Prelude.{ℕ, Bool, true, false, List, ◌++◌, Option, Some, None, Result, Ok, Err, codes, decimal}
 use Rattle.lrat_check.specs.declared.checking.CheckFault.{CheckFault}
-use Rattle.reports.specs.Faults.{fault_text}
+use Rattle.reports.specs.Faults.{fault_text, step_fault_text}
 use Rattle.trimming.specs.declared.trimming.Trimmed.{Trimmed}
 
 -- how many lemmas stay, and of how many
 abbrev pub lemmas_text : ℕ → ℕ → List ℕ
 lemmas_text kept all = codes "c " ++ decimal kept ++ codes " of " ++ decimal all ++ codes " lemmas\n"
 
--- the lines of what trimming answers
-abbrev pub trim_text : Result Trimmed CheckFault → List ℕ
-trim_text (Ok t) = codes "s VERIFIED\n" ++ lemmas_text t.kept t.all
-trim_text (Err fault) = codes "s NOT VERIFIED\nc " ++ fault_text fault.line fault.number
+-- the lines of what trimming a text answers, or a proof in binary form, whose faults are told by step
+abbrev pub trim_text : Bool → Result Trimmed CheckFault → List ℕ
+trim_text binary (Ok t) = codes "s VERIFIED\n" ++ lemmas_text t.kept t.all
+trim_text false (Err fault) = codes "s NOT VERIFIED\nc " ++ fault_text fault.line fault.number
+trim_text true (Err fault) = codes "s NOT VERIFIED\nc " ++ step_fault_text fault.line fault.number
 
 -- the proof that is written, where there is one
 abbrev pub trimmed_text : Result Trimmed CheckFault → Option (List ℕ)

@@ -3,11 +3,11 @@
 ghost use Rattle.std.specs.Prelude.{◌≡◌, ◌≢◌, ◌++◌, Err, IfOk, OnOk, is_ok, codes, decimal, if◌then◌else◌};
 ghost use Rattle.lrat_check.specs.Checking.{no_memory};
 ghost use Rattle.trimming.specs.Reports.{lemmas_text, trim_text, trimmed_text};
-ghost use Rattle.reports.specs.Faults.{fault_text};
+ghost use Rattle.reports.specs.Faults.{fault_text, step_fault_text};
 
 use crate::trimming::Trimmed;
 use lrat_check::CheckFault;
-use reports::{Report, put_fault, put_number};
+use reports::{Report, put_fault, put_number, put_step_fault};
 use std::alloc::{AllocError, Global};
 
 /// Appends how many lemmas stay, and of how many.
@@ -21,9 +21,29 @@ fn put_lemmas(out: &mut Vec<u8>, kept: u64, all: u64) -> Result<(), AllocError>
     out.extend_from_slice(b" lemmas\n")
 }
 
-/// The report of what trimming answered. The error stands for the report `c no memory`, status 1.
-pub fn trim_report(alloc: Global, found: Result<Trimmed, CheckFault>) -> Result<Report, AllocError>
-    ensures text { IfOk result (λ r. r.stdout.items ≡ trim_text found) }
+/// Appends a fault, by its step where the proof is in binary form, else by its line.
+fn put_refusal(
+    out: &mut Vec<u8>,
+    is_binary: bool,
+    place: u64,
+    number: u8,
+) -> Result<(), AllocError>
+    ensures { OnOk result (out.new.items ≡ out.old.items ++ (if is_binary then step_fault_text place number else fault_text place number)) }
+{
+    if is_binary {
+        put_step_fault(out, place, number)
+    } else {
+        put_fault(out, place, number)
+    }
+}
+
+/// The report of what trimming a text answered, or a proof in binary form. The error stands for the report `c no memory`, status 1.
+pub fn trim_report(
+    alloc: Global,
+    is_binary: bool,
+    found: Result<Trimmed, CheckFault>,
+) -> Result<Report, AllocError>
+    ensures text { IfOk result (λ r. r.stdout.items ≡ trim_text is_binary found) }
     ensures status { IfOk result (λ r. r.status ≡ (if is_ok found then 0 else 1)) }
     ensures proof { IfOk result (λ r. r.proof ≡ trimmed_text found) }
     // what is printed does not hang on memory
@@ -39,7 +59,7 @@ pub fn trim_report(alloc: Global, found: Result<Trimmed, CheckFault>) -> Result<
         Err(fault) if fault.is_no_memory() => Err(AllocError),
         Err(fault) => {
             let mut report = Report::of(alloc, b"s NOT VERIFIED\nc ", 1)?;
-            put_fault(&mut report.stdout, fault.line, fault.number)?;
+            put_refusal(&mut report.stdout, is_binary, fault.line, fault.number)?;
             Ok(report)
         }
     }

@@ -1,0 +1,5 @@
+pub mod FormLemmas
+pub mod LineLemmas
+pub mod CodeLemmas
+pub mod SpellingLemmas
+pub mod LawLemmas

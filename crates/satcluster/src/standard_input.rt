@@ -1,0 +1,76 @@
+//! Where `-` stands for standard input.
+
+use node_main::Request;
+
+/// Whether a name stands for standard input; a file of that name is `./-`.
+pub(crate) fn is_dash(name: &str) -> bool {
+    name == "-"
+}
+
+/// Whether a name that may be left out stands for it.
+fn is_some_dash(name: Option<&str>) -> bool {
+    match name {
+        Some(name) => is_dash(name),
+        None => false,
+    }
+}
+
+/// Whether two of these are so.
+fn are_two(first: bool, second: bool, third: bool) -> bool {
+    (first && second) || (first && third) || (second && third)
+}
+
+/// Whether a name of several stands for it; the only one stands for the names that it lists.
+fn is_one_of_several(names: &[&str]) -> bool {
+    names.len() > 1 && names.iter().any(|name| *name == "-")
+}
+
+/// Whether standard input would be read twice.
+fn is_read_twice(request: &Request) -> bool {
+    match *request {
+        Request::Solve { input, cubes, .. } => is_dash(input) && is_some_dash(cubes),
+        Request::Serve { input, cubes, .. } => is_dash(input) && is_some_dash(cubes),
+        Request::Check { input, proof } => is_dash(input) && is_dash(proof),
+        Request::Trim { input, proof, .. } => is_dash(input) && is_dash(proof),
+        Request::Split { input, cubes, .. } => is_dash(input) && is_dash(cubes),
+        Request::Leaf { input, cubes, .. } => is_dash(input) && is_dash(cubes),
+        Request::Refute { input, cubes, .. } => is_dash(input) && is_dash(cubes),
+        Request::Complete { input, list } => is_dash(input) && is_dash(list),
+        Request::Model { input, output } => is_dash(input) && is_dash(output),
+        Request::Lift {
+            input,
+            cubes,
+            proof,
+            ..
+        } => are_two(is_dash(input), is_dash(cubes), is_dash(proof)),
+        Request::Join {
+            input,
+            cubes,
+            ref fragments,
+            ..
+        } => {
+            let lists = fragments.len() == 1 && is_dash(fragments[0]);
+            is_one_of_several(fragments) || are_two(is_dash(input), is_dash(cubes), lists)
+        }
+        _ => false,
+    }
+}
+
+/// Whether a file that is written has its name.
+fn is_written(request: &Request) -> bool {
+    match *request {
+        Request::Solve { proof, .. } => is_some_dash(proof),
+        Request::Serve { proof, .. } => is_some_dash(proof),
+        Request::Work { proof, .. } => is_some_dash(proof),
+        Request::Refute { fragment, .. } => is_some_dash(fragment),
+        Request::Join { proof, .. } => is_dash(proof),
+        Request::Lift { fragment, .. } => is_dash(fragment),
+        Request::Trim { out, .. } => is_dash(out),
+        _ => false,
+    }
+}
+
+/// Whether the words name standard input as they may: once at most, and not as a file that is written.
+pub(crate) fn is_sound(request: &Request) -> bool {
+    !is_read_twice(request) && !is_written(request)
+}
