@@ -21,6 +21,7 @@ from cases import pigeons
 LINES = {"token": "\n", "end": "0", "large": "281474976710656\n"}
 CUBES = "a 0\n"
 
+FOUR = ("p cnf 2 4\n1 2 0\n-1 2 0\n1 -2 0\n-1 -2 0\n", "5 2 0 1 2 0\n6 0 5 3 4 0\n")
 RAT = ("p cnf 4 8\n1 2 -3 0\n-1 -2 3 0\n2 3 -4 0\n-2 -3 4 0\n-1 -3 -4 0\n1 3 4 0\n-1 2 4 0\n1 -2 -4 0\n",
        "9 -1 0 -2 6 8 -5 1 8 -7 5 1 0\n10 2 0 9 7 5 3 0\n11 0 9 10 4 2 8 0\n")
 
@@ -170,16 +171,16 @@ class Bench:
 
 def standard_input(bench: Bench) -> None:
     """`-` is standard input, once at most, and no file that is written."""
-    bench.write("f.cnf", RAT[0].encode())
-    bench.write("f.icnf", ("p inccnf\n" + RAT[0].split("\n", 1)[1] + CUBES).encode())
-    bench.write("proof", binary(RAT[1]))
+    bench.write("f.cnf", FOUR[0].encode())
+    bench.write("f.icnf", ("p inccnf\n" + FOUR[0].split("\n", 1)[1] + CUBES).encode())
+    bench.write("proof", binary(FOUR[1]))
     bench.write("-", b"no formula\n")
     right = (0, b"s VERIFIED\n")
     for fed, wanted, *words in (
             ("f.cnf", right, "check", "-", "proof"),
             ("proof", right, "check", "f.cnf", "-"),
             ("f.cnf", right, "check", "/dev/stdin", "proof"),
-            ("f.cnf", (1, b"c input line 1 fault 2\n"), "check", "./-", "proof"),
+            ("f.cnf", (1, b"c input line 1 fault 1\n"), "check", "./-", "proof"),
             ("f.cnf", (1, b"c usage\n"), "check", "-", "-"),
             ("f.cnf", (1, b"c usage\n"), "solve", "f.cnf", "-"),
             ("f.cnf", (1, b"c usage\n"), "trim", "f.cnf", "proof", "-"),
@@ -224,7 +225,7 @@ def main() -> None:
     with tempfile.TemporaryDirectory() as folder:
         bench = Bench(sys.argv[1], folder)
         standard_input(bench)
-        for name, formula, text in (("groups", *RAT), ("a run", pigeons(5), "")):
+        for name, formula, text in (("two steps", *FOUR), ("groups", *RAT), ("a run", pigeons(5), "")):
             bench.write("f.cnf", formula.encode())
             bench.write("f.icnf", ("p inccnf\n" + formula.split("\n", 1)[1] + CUBES).encode())
             if not text:

@@ -215,7 +215,10 @@ fn take_names<R: Runtime + AllocGlobal>(
     piece: &[u8],
 ) -> Result<Option<Report>, Refusal> {
     let mut rest = piece;
-    while let Some((name, later)) = cut_line(rest) {
+    for _ in 0..piece.len() {
+        let Some((name, later)) = cut_line(rest) else {
+            break;
+        };
         begun.extend_from_slice(name).map_err(no_memory)?;
         if let Some(report) = take_named(rt, run, place, begun)? {
             return Ok(Some(report));
