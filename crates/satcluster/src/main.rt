@@ -14,6 +14,7 @@ mod lift;
 mod linked_runs;
 mod model;
 mod proof_file;
+mod session;
 mod showing;
 mod trim;
 
@@ -27,6 +28,7 @@ use lift::{LiftFiles, lift};
 use linked_runs::{Files, print, serve, solve, work};
 use model::model;
 use node_main::{Refusal, Report, Request, UsageFault, command, run_cubes};
+use session::session;
 use showing::Showing;
 use std::alloc::AllocError;
 use std::env;
@@ -75,7 +77,16 @@ fn answer<R: Runtime + AllocGlobal + Net>(
             };
             solve(rt, &files, &options, showing)
         }
-        Request::Check { input, proof } => check(rt, input, proof),
+        Request::Check {
+            input,
+            proof,
+            session: false,
+        } => check(rt, input, proof),
+        Request::Check {
+            input,
+            proof,
+            session: true,
+        } => session(rt, input, proof),
         Request::Cubes { input, depth } => cubes(rt, input, depth),
         Request::Serve {
             port,
