@@ -3,6 +3,7 @@ pub mod FeedLemmas
 pub mod FinishLemmas
 pub mod ModelLemmas
 pub mod ReadLemmas
+pub mod ReportLemmas
 pub mod SetLemmas
 pub mod SideLemmas
 pub mod SoundLemmas

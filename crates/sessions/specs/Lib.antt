@@ -3,6 +3,7 @@ pub mod Check
 pub mod Events
 pub mod Follows
 pub mod Lines
+pub mod Reports
 pub mod Texts
 pub mod View
 pub mod inner

@@ -1,0 +1,54 @@
+-- What is printed of a check of a session.
+use Rattle.std.specs.Prelude.{◌≡◌, ◌≢◌, ℕ, ◌+◌, List, ◌++◌, None, Result, Ok, Err, OnOk, codes, decimal}
+use Rattle.icnf.specs.Faults.{number_of_kind}
+use Rattle.icnf.specs.declared.fault.IcnfFault.{IcnfFault}
+use Rattle.icnf.specs.declared.fault.Kind.TheVariants as kind
+use Rattle.lrat_check.specs.Checking.{no_memory}
+use Rattle.lrat_check.specs.declared.checking.CheckFault.{CheckFault}
+use Rattle.reports.specs.Faults.{fault_text}
+use Rattle.reports.specs.declared.refusal.Refusal.{Refusal}
+use Rattle.reports.specs.declared.refusal.Refusal.TheVariants as refusal
+use Rattle.reports.specs.declared.report.Report.{Report}
+use Rattle.sessions.specs.declared.check.SessionFault.{SessionFault}
+use Rattle.sessions.specs.declared.check.SessionFault.TheVariants as fault
+use Rattle.sessions.specs.declared.tally.Tally.{Tally}
+
+abbrev pub total : Tally → ℕ
+total t = t.satisfied + t.failed + t.unknown
+
+abbrev pub count_text : ℕ → List ℕ → List ℕ
+count_text n words = decimal n ++ words
+
+-- behind the first words: how many answers there are of each kind, and where a proof's fault is
+abbrev pub verified_tail : Tally → List ℕ
+verified_tail t =
+    count_text (total t) (codes " queries: ") ++ count_text t.satisfied (codes " satisfiable, ") ++ count_text t.failed (codes " unsatisfiable, ")
+    ++ count_text t.unknown (codes " unknown\n")
+
+abbrev pub refused_tail : CheckFault → Tally → List ℕ
+refused_tail f before = fault_text f.line f.number ++ codes "c " ++ count_text (total before) (codes " queries before\n")
+
+abbrev pub verified_text : Tally → List ℕ
+verified_text t = codes "s VERIFIED\nc " ++ verified_tail t
+
+abbrev pub refused_text : CheckFault → Tally → List ℕ
+refused_text f before = codes "s NOT VERIFIED\nc " ++ refused_tail f before
+
+abbrev pub events_text : IcnfFault → List ℕ
+events_text f = codes "c input " ++ fault_text f.line (number_of_kind f.kind)
+
+-- the report has this text and this status, and no proof; or memory ran out
+abbrev pub Printed : List ℕ → ℕ → Result Report Refusal → Type 0
+Printed text status (Ok r) = (r.stdout.items ≡ text) × (r.status ≡ status) × (r.proof ≡ None)
+Printed text status (Err f) = f ≡ refusal.NoMemory
+
+-- what is printed of a fault; a run that does not end has no report, and want of memory has none
+abbrev pub ReportsFault : SessionFault → Result Report Refusal → Type 0
+ReportsFault (fault.Events f) r = Printed (events_text f) 1 r × OnOk r (f.kind ≢ kind.NoMemory)
+ReportsFault (fault.Proof f before) r = Printed (refused_text f before) 1 r × OnOk r (f ≢ no_memory)
+ReportsFault fault.Unfinished r = r ≡ Err refusal.Proof
+
+-- what is printed of an answer
+abbrev pub Reports : Result Tally SessionFault → Result Report Refusal → Type 0
+Reports (Ok t) r = Printed (verified_text t) 0 r
+Reports (Err f) r = ReportsFault f r
