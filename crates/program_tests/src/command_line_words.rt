@@ -180,7 +180,12 @@ fn a_check_and_cubes_and_a_drill(rt: HostRuntime) {
         proof: "f.lidrup",
         session: true,
     };
-    asks(&rt, alloc, "satcluster check --session f.icnf f.lidrup", session);
+    asks(
+        &rt,
+        alloc,
+        "satcluster check --session f.icnf f.lidrup",
+        session,
+    );
     let cubes = Request::Cubes {
         input: "f.cnf",
         depth: 16,
