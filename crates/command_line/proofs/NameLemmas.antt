@@ -23,7 +23,7 @@ pub record IsNoCommand (name : Text) : Type 0 where
 -- such a name makes no request
 pub makes_none : (read name : Text) (rows : List Row) → read ≡ name → IsNoCommand read → (request : Request) → Makes name rows request → ⊥
 makes_none read name rows is none (Solve input cubes proof options) makes = none.no_solve (is ∙ makes.0)
-makes_none read name rows is none (Check input proof) makes = none.no_check (is ∙ makes.0)
+makes_none read name rows is none (Check input proof session) makes = none.no_check (is ∙ makes.0)
 makes_none read name rows is none (Cubes input depth) makes = none.no_cubes (is ∙ makes.0)
 makes_none read name rows is none (Split input cubes leaf on) makes = none.no_cubes (is ∙ makes.0)
 makes_none read name rows is none (Complete input list) makes = none.no_cubes (is ∙ makes.0)

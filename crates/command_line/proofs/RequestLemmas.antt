@@ -16,7 +16,7 @@ differ a b apart same is = let e : false ≡ true = sym apart ∙ ap (λ t. byte
 
 -- the name of the command of a request
 abbrev name_of : Request → Text
-name_of (Check input proof) = codes "check"
+name_of (Check input proof session) = codes "check"
 name_of (Cubes input depth) = codes "cubes"
 name_of (Split input cubes leaf on) = codes "cubes"
 name_of (Complete input list) = codes "cubes"
@@ -32,7 +32,7 @@ name_of (Model input output) = codes "model"
 name_of (Trim input proof out) = codes "trim"
 
 is_named : (name : Text) (rows : List Row) (r : Request) → Makes name rows r → name ≡ name_of r
-is_named name rows (Check input proof) makes = makes.0
+is_named name rows (Check input proof session) makes = makes.0
 is_named name rows (Cubes input depth) makes = makes.0
 is_named name rows (Split input cubes leaf on) makes = makes.0
 is_named name rows (Complete input list) makes = makes.0
@@ -47,8 +47,8 @@ is_named name rows (Lift input cubes leaf lidrup proof fragment) makes = makes.0
 is_named name rows (Model input output) makes = makes.0
 is_named name rows (Trim input proof out) makes = makes.0
 
-pub only_check : (rows : List Row) → ((input : Bor Text) (proof : Bor Text) → Makes (codes "check") rows (Check input proof) → ⊥) → (r : Request) → Makes (codes "check") rows r → ⊥
-only_check rows none (Check input proof) makes = none input proof makes
+pub only_check : (rows : List Row) → ((input : Bor Text) (proof : Bor Text) (session : Bool) → Makes (codes "check") rows (Check input proof session) → ⊥) → (r : Request) → Makes (codes "check") rows r → ⊥
+only_check rows none (Check input proof session) makes = none input proof session makes
 only_check rows none other makes = differ (codes "check") (name_of other) refl refl (is_named (codes "check") rows other makes)
 
 pub only_cubes : (rows : List Row) → ((input : Bor Text) (depth : ℕ) → Makes (codes "cubes") rows (Cubes input depth) → ⊥) → ((input : Bor Text) (cubes : Bor Text) (leaf : ℕ) (on : Option ℕ) → Makes (codes "cubes") rows (Split input cubes leaf on) → ⊥) → ((input : Bor Text) (list : Bor Text) → Makes (codes "cubes") rows (Complete input list) → ⊥) → (r : Request) → Makes (codes "cubes") rows r → ⊥

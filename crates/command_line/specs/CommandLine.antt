@@ -90,8 +90,9 @@ pub record NamesOptions (place : Place) (rows : List Row) (options : Options) : 
 
 -- the words of a command of this name, of which these rows are made, say what the request does
 abbrev pub Makes : Text → List Row → Request → Type 0
-Makes name rows (Check input proof) =
+Makes name rows (Check input proof session) =
     (name ≡ codes "check") × NamesFile rows (codes "INPUT") (Some input) × NamesFile rows (codes "PROOF") (Some proof)
+    × NamesFlag rows (codes "session") session
 Makes name rows (Cubes input depth) =
     (name ≡ codes "cubes") × NamesFile rows (codes "INPUT") (Some input) × NamesNumberOr rows (codes "depth") 0 16 4 depth
     × NamesNothing rows (codes "cubes") × NamesNothing rows (codes "split") × NamesNothing rows (codes "on") × NamesNothing rows (codes "complete")
@@ -170,7 +171,7 @@ IsVariable variable = (1 ≤ variable) × (variable ≤ 2 ^ 31 - 1)
 
 -- the numbers of a request are in their ranges
 abbrev pub IsInRange : Request → Type 0
-IsInRange (Check input proof) = ⊤
+IsInRange (Check input proof session) = ⊤
 IsInRange (Cubes input depth) = depth ≤ 16
 IsInRange (Split input cubes leaf on) = IsLeafNumber leaf × IfSome on IsVariable
 IsInRange (Complete input list) = ⊤

@@ -26,9 +26,11 @@ with_files a =
 abbrev pub with_leaf : App → App
 with_leaf a = with_rule (with_rule a (needed_file_rule (codes "cubes"))) (needed_number_rule (codes "leaf") 1 (2 ^ 32 - 1))
 
--- `check INPUT PROOF`
+-- `check [--session] INPUT PROOF`
 abbrev pub check_app : App
-check_app = with_rule (with_rule (new_app (codes "check")) (file_rule (codes "INPUT") true)) (file_rule (codes "PROOF") true)
+check_app =
+    with_rule (with_rule (with_rule (new_app (codes "check")) (long_flag_rule (codes "session"))) (file_rule (codes "INPUT") true))
+    (file_rule (codes "PROOF") true)
 
 -- `cubes [--depth D] [--cubes FILE] [--split I] [--on V] [--complete FILE] INPUT`: D from 0 to 16, I from 1 to 4,294,967,295, and V
 -- from 1 to 2 ^ 31 - 1

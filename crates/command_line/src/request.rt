@@ -18,10 +18,11 @@ pub enum Request<'a> {
         proof: Option<&'a str>,
         options: Options,
     },
-    /// Check a proof of a formula.
+    /// Check a proof of a formula; or the proof of a session, where the input is what was sent.
     Check {
         input: &'a str,
         proof: &'a str,
+        session: bool,
     },
     /// Split a formula into cubes, as deep as this, from 0 to 16.
     Cubes {

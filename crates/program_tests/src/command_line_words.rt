@@ -172,8 +172,20 @@ fn a_check_and_cubes_and_a_drill(rt: HostRuntime) {
     let check = Request::Check {
         input: "f.cnf",
         proof: "f.lrat",
+        session: false,
     };
     asks(&rt, alloc, "satcluster check f.cnf f.lrat", check);
+    let session = Request::Check {
+        input: "f.icnf",
+        proof: "f.lidrup",
+        session: true,
+    };
+    asks(
+        &rt,
+        alloc,
+        "satcluster check --session f.icnf f.lidrup",
+        session,
+    );
     let cubes = Request::Cubes {
         input: "f.cnf",
         depth: 16,

@@ -14,6 +14,7 @@ mod lift;
 mod linked_runs;
 mod model;
 mod proof_file;
+mod session;
 mod showing;
 mod standard_input;
 mod trim;
@@ -28,6 +29,7 @@ use lift::{LiftFiles, lift};
 use linked_runs::{Files, print, serve, solve, work};
 use model::model;
 use node_main::{Refusal, Report, Request, UsageFault, command, run_cubes};
+use session::session;
 use showing::Showing;
 use standard_input::is_sound;
 use std::alloc::AllocError;
@@ -77,7 +79,17 @@ fn answer<R: Runtime + AllocGlobal + Net>(
             };
             solve(rt, &files, &options, showing)
         }
-        Request::Check { input, proof } => check(rt, input, proof),
+        Request::Check {
+            input,
+            proof,
+            session: is_session,
+        } => {
+            if is_session {
+                session(rt, input, proof)
+            } else {
+                check(rt, input, proof)
+            }
+        }
         Request::Cubes { input, depth } => cubes(rt, input, depth),
         Request::Serve {
             port,

@@ -30,7 +30,7 @@ fn is_read_twice(request: &Request) -> bool {
     match *request {
         Request::Solve { input, cubes, .. } => is_dash(input) && is_some_dash(cubes),
         Request::Serve { input, cubes, .. } => is_dash(input) && is_some_dash(cubes),
-        Request::Check { input, proof } => is_dash(input) && is_dash(proof),
+        Request::Check { input, proof, .. } => is_dash(input) && is_dash(proof),
         Request::Trim { input, proof, .. } => is_dash(input) && is_dash(proof),
         Request::Split { input, cubes, .. } => is_dash(input) && is_dash(cubes),
         Request::Leaf { input, cubes, .. } => is_dash(input) && is_dash(cubes),

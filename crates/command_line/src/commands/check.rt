@@ -4,21 +4,25 @@ ghost use Rattle.std.specs.Prelude.{◌≡◌, IfSome, IfNone, codes};
 ghost use Rattle.command_line.specs.CommandLine.{IsInRange, Makes};
 ghost use Rattle.command_line.specs.declared.request.Request.{Request};
 
-use crate::commands::words::{INPUT, file_of};
+use crate::commands::words::{INPUT, file_of, is_given};
 use crate::request::Request;
 use word_rules::{CommandRules, Found, Word};
 
 /// The words.
 pub(crate) const RULES: CommandRules<'static> = CommandRules {
     name: "check",
-    about: "Checks an LRAT proof of a DIMACS formula",
+    about: "Checks an LRAT proof of a DIMACS formula, or the LIDRUP proof of a session",
     after_help: "Status: 0 the proof is accepted, 1 it is not, or an error",
     words: &[
+        Word::LongFlag {
+            name: "session",
+            help: "INPUT is what was sent in a session, clauses and queries, and PROOF is a LIDRUP file",
+        },
         INPUT,
         Word::File {
             name: "PROOF",
             required: true,
-            help: "The proof of it, an LRAT file that is read",
+            help: "The proof of it, an LRAT file that is read, or a LIDRUP file",
         },
     ],
 };
@@ -31,5 +35,9 @@ pub(crate) fn asked<'a>(given: &Found<'a>) -> Option<Request<'a>>
 {
     let input = file_of(given, "INPUT")?;
     let proof = file_of(given, "PROOF")?;
-    Some(Request::Check { input, proof })
+    Some(Request::Check {
+        input,
+        proof,
+        session: is_given(given, "session"),
+    })
 }
