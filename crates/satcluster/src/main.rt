@@ -28,6 +28,7 @@ use lift::{LiftFiles, lift};
 use linked_runs::{Files, print, serve, solve, work};
 use model::model;
 use node_main::{Refusal, Report, Request, UsageFault, command, run_cubes};
+use proof_file::Target;
 use showing::Showing;
 use standard_input::is_sound;
 use std::alloc::AllocError;
@@ -74,6 +75,7 @@ fn answer<R: Runtime + AllocGlobal + Net>(
                 input,
                 cubes,
                 proof,
+                binary: options.binary,
             };
             solve(rt, &files, &options, showing)
         }
@@ -90,6 +92,7 @@ fn answer<R: Runtime + AllocGlobal + Net>(
                 input,
                 cubes,
                 proof,
+                binary: options.binary,
             };
             serve(rt, port, &files, &options, showing)
         }
@@ -103,6 +106,7 @@ fn answer<R: Runtime + AllocGlobal + Net>(
                 input,
                 cubes: None,
                 proof,
+                binary: options.binary,
             };
             work(rt, port, &files, &options)
         }
@@ -127,11 +131,13 @@ fn answer<R: Runtime + AllocGlobal + Net>(
             limit,
             fragment,
             printing,
+            binary,
         } => {
             let files = LeafFiles {
                 input,
                 cubes,
                 fragment,
+                binary,
             };
             let search = Search {
                 limit,
@@ -150,11 +156,13 @@ fn answer<R: Runtime + AllocGlobal + Net>(
             proof,
             ref fragments,
             printing,
+            binary,
         } => {
             let files = JoinFiles {
                 input,
                 cubes,
                 proof,
+                binary,
             };
             join(rt, &files, fragments, printing)
         }
@@ -165,17 +173,27 @@ fn answer<R: Runtime + AllocGlobal + Net>(
             lidrup,
             proof,
             fragment,
+            binary,
         } => {
             let files = LiftFiles {
                 input,
                 cubes,
                 proof,
                 fragment,
+                binary,
             };
             lift(rt, &files, leaf, lidrup)
         }
         Request::Model { input, output } => model(rt, input, output),
-        Request::Trim { input, proof, out } => trim(rt, input, proof, out),
+        Request::Trim {
+            input,
+            proof,
+            out,
+            binary,
+        } => {
+            let target = Target { path: out, binary };
+            trim(rt, input, proof, target)
+        }
     }
 }
 
