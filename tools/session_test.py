@@ -191,7 +191,7 @@ class Texts(Case):
 class Drawn(Case):
     def test_changed(self) -> None:
         """Drawn sessions, and each line of their proofs changed in three ways."""
-        for seed in range(60):
+        for seed in range(40):
             session = drawn(seed)
             self.agrees(session.events, text_of(session.proof))
             self.assertEqual(0, expected(session.events, text_of(session.proof))[0])
@@ -200,7 +200,7 @@ class Drawn(Case):
 
     def test_other_events(self) -> None:
         """One event fewer, one twice, one with another literal, and two that are exchanged."""
-        for seed in range(60):
+        for seed in range(40):
             session, proof = drawn(seed), text_of(drawn(seed).proof)
             for at, event in enumerate(session.events):
                 other = Event(event.asks, [*event.literals, 3])
@@ -294,15 +294,16 @@ class Pipes(Case):
         self.assertEqual((1, ["c input line 9 fault 3"]), self.ends(self.process))
 
 
-def library() -> Tuple[Optional[str], str]:
-    """The program over CaDiCaL's library, or why there is none."""
+def library(folder: str) -> Tuple[Optional[str], str]:
+    """The program over CaDiCaL's library, which may be made in this folder, or why there is none."""
     path = os.pathsep.join(filter(None, (os.environ.get("SATCLUSTER_CLIENTS"), os.environ["PATH"])))
     found, compiler = shutil.which("cadical_session", path=path), shutil.which("c++")
     if found or not compiler:
         return found, "neither cadical_session nor a compiler of C++ is installed"
-    made = os.path.join(tempfile.mkdtemp(), "cadical_session")
-    words = [compiler, "-std=c++17", "-O1", "-o", made, str(HERE / "clients/cadical_session.cc")]
-    done = subprocess.run([*words, "-lcadical"], stdout=subprocess.DEVNULL, stderr=subprocess.DEVNULL)
+    made = os.path.join(folder, "cadical_session")
+    words = [compiler, "-std=c++17", "-O1", "-o", made, str(HERE / "clients" / "cadical_session.cc")]
+    done = subprocess.run([*words, "-lcadical"], stdout=subprocess.DEVNULL,
+                          stderr=subprocess.DEVNULL)
     return (made if done.returncode == 0 else None), "CaDiCaL's library is not installed"
 
 
@@ -311,14 +312,14 @@ class Cadical(Case):
 
     @classmethod
     def setUpClass(cls) -> None:
-        cls.solver, why = library()
+        folder = tempfile.mkdtemp()
+        cls.addClassCleanup(shutil.rmtree, folder)
+        cls.solver, why = library(folder)
         if cls.solver is None:
             raise unittest.SkipTest(why)
-        with tempfile.TemporaryDirectory() as folder:
-            (Path(folder) / "events").write_text("p inccnf\n")
-            words = [cls.solver, "events", "proof"]
-            if subprocess.run(words, cwd=folder).returncode == 3:
-                raise unittest.SkipTest("CaDiCaL's library is older than 2.1")
+        (Path(folder) / "events").write_text("p inccnf\n")
+        if subprocess.run([cls.solver, "events", "proof"], cwd=folder).returncode == 3:
+            raise unittest.SkipTest("CaDiCaL's library is older than 2.1")
 
     def prove(self, events: List[Event], *more: str) -> str:
         (self.folder / "events").write_text(events_text(events))
@@ -340,7 +341,7 @@ class Cadical(Case):
         return events
 
     def test_right(self) -> None:
-        for seed in range(60):
+        for seed in range(40):
             events = self.session(seed)
             for more in ((), ("3",)):
                 proof = self.prove(events, *more)
@@ -349,10 +350,10 @@ class Cadical(Case):
 
     def test_changed(self) -> None:
         """Of long proofs some lines are changed."""
-        for seed in range(40):
+        for seed in range(30):
             events, draw = self.session(seed), random.Random(seed)
             proofs = list(changes(self.prove(events).split("\n")[:-1], draw))
-            for proof in draw.sample(proofs, min(30, len(proofs))):
+            for proof in draw.sample(proofs, min(20, len(proofs))):
                 self.agrees(events, text_of(proof))
 
 

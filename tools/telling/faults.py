@@ -161,7 +161,7 @@ SESSION_EVENTS = Table(
     (
         Row(1, "The text has no header: its first token is not `p`.", "1 2 0\n",
             "Put the line `p inccnf` before the events."),
-        Row(2, "The header is not `p inccnf`.", "p cnf 2 1\n1 2 0\n",
+        Row(2, "The header is not `p inccnf`.", "p cnf 2 1\n",
             "EVENTS comes first, and PROOF second. A header tells no number here."),
         Row(3, "A token is no number; an `a` begins a query, and stands nowhere else.",
             "p inccnf\n1 2 0\n1 a 2 0\n",
