@@ -58,7 +58,13 @@ fn a_session_that_is_right(rt: HostRuntime) {
 #[test]
 fn a_session_that_was_killed(rt: HostRuntime) {
     let want = b"s NOT VERIFIED\nc line 16 fault 1\nc 3 queries before\n";
-    prints(&rt, rt.alloc(), EVENTS, first(PROOF, PROOF.len() - 1), (want, 1));
+    prints(
+        &rt,
+        rt.alloc(),
+        EVENTS,
+        first(PROOF, PROOF.len() - 1),
+        (want, 1),
+    );
 }
 
 #[test]
