@@ -25,11 +25,11 @@ name_of (Serve port input cubes proof options) = codes "serve"
 name_of (Work port input proof options) = codes "work"
 name_of (Drill input seed turns) = codes "drill"
 name_of (Leaf input cubes leaf) = codes "leaf"
-name_of (Refute input cubes leaf to limit fragment printing) = codes "refute"
-name_of (Join input cubes proof fragments printing) = codes "join"
-name_of (Lift input cubes leaf lidrup proof fragment) = codes "lift"
+name_of (Refute input cubes leaf to limit fragment printing binary) = codes "refute"
+name_of (Join input cubes proof fragments printing binary) = codes "join"
+name_of (Lift input cubes leaf lidrup proof fragment binary) = codes "lift"
 name_of (Model input output) = codes "model"
-name_of (Trim input proof out) = codes "trim"
+name_of (Trim input proof out binary) = codes "trim"
 
 is_named : (name : Text) (rows : List Row) (r : Request) → Makes name rows r → name ≡ name_of r
 is_named name rows (Check input proof session) makes = makes.0
@@ -41,11 +41,11 @@ is_named name rows (Serve port input cubes proof options) makes = makes.0
 is_named name rows (Work port input proof options) makes = makes.0
 is_named name rows (Drill input seed turns) makes = makes.0
 is_named name rows (Leaf input cubes leaf) makes = makes.0
-is_named name rows (Refute input cubes leaf to limit fragment printing) makes = makes.0
-is_named name rows (Join input cubes proof fragments printing) makes = makes.0
-is_named name rows (Lift input cubes leaf lidrup proof fragment) makes = makes.0
+is_named name rows (Refute input cubes leaf to limit fragment printing binary) makes = makes.0
+is_named name rows (Join input cubes proof fragments printing binary) makes = makes.0
+is_named name rows (Lift input cubes leaf lidrup proof fragment binary) makes = makes.0
 is_named name rows (Model input output) makes = makes.0
-is_named name rows (Trim input proof out) makes = makes.0
+is_named name rows (Trim input proof out binary) makes = makes.0
 
 pub only_check : (rows : List Row) → ((input : Bor Text) (proof : Bor Text) (session : Bool) → Makes (codes "check") rows (Check input proof session) → ⊥) → (r : Request) → Makes (codes "check") rows r → ⊥
 only_check rows none (Check input proof session) makes = none input proof session makes
@@ -77,24 +77,24 @@ pub only_leaf : (rows : List Row) → ((input : Bor Text) (cubes : Bor Text) (le
 only_leaf rows none (Leaf input cubes leaf) makes = none input cubes leaf makes
 only_leaf rows none other makes = differ (codes "leaf") (name_of other) refl refl (is_named (codes "leaf") rows other makes)
 
-pub only_refute : (rows : List Row) → ((input : Bor Text) (cubes : Bor Text) (leaf : ℕ) (to : Option ℕ) (limit : ℕ) (fragment : Option (Bor Text)) (printing : Printing) → Makes (codes "refute") rows (Refute input cubes leaf to limit fragment printing) → ⊥) → (r : Request) → Makes (codes "refute") rows r → ⊥
-only_refute rows none (Refute input cubes leaf to limit fragment printing) makes = none input cubes leaf to limit fragment printing makes
+pub only_refute : (rows : List Row) → ((input : Bor Text) (cubes : Bor Text) (leaf : ℕ) (to : Option ℕ) (limit : ℕ) (fragment : Option (Bor Text)) (printing : Printing) (binary : Bool) → Makes (codes "refute") rows (Refute input cubes leaf to limit fragment printing binary) → ⊥) → (r : Request) → Makes (codes "refute") rows r → ⊥
+only_refute rows none (Refute input cubes leaf to limit fragment printing binary) makes = none input cubes leaf to limit fragment printing binary makes
 only_refute rows none other makes = differ (codes "refute") (name_of other) refl refl (is_named (codes "refute") rows other makes)
 
-pub only_join : (rows : List Row) → ((input : Bor Text) (cubes : Bor Text) (proof : Bor Text) (fragments : Vec (Bor Text) Global) (printing : Printing) → Makes (codes "join") rows (Join input cubes proof fragments printing) → ⊥) → (r : Request) → Makes (codes "join") rows r → ⊥
-only_join rows none (Join input cubes proof fragments printing) makes = none input cubes proof fragments printing makes
+pub only_join : (rows : List Row) → ((input : Bor Text) (cubes : Bor Text) (proof : Bor Text) (fragments : Vec (Bor Text) Global) (printing : Printing) (binary : Bool) → Makes (codes "join") rows (Join input cubes proof fragments printing binary) → ⊥) → (r : Request) → Makes (codes "join") rows r → ⊥
+only_join rows none (Join input cubes proof fragments printing binary) makes = none input cubes proof fragments printing binary makes
 only_join rows none other makes = differ (codes "join") (name_of other) refl refl (is_named (codes "join") rows other makes)
 
-pub only_lift : (rows : List Row) → ((input : Bor Text) (cubes : Bor Text) (leaf : Option ℕ) (lidrup : Bool) (proof : Bor Text) (fragment : Bor Text) → Makes (codes "lift") rows (Lift input cubes leaf lidrup proof fragment) → ⊥) → (r : Request) → Makes (codes "lift") rows r → ⊥
-only_lift rows none (Lift input cubes leaf lidrup proof fragment) makes = none input cubes leaf lidrup proof fragment makes
+pub only_lift : (rows : List Row) → ((input : Bor Text) (cubes : Bor Text) (leaf : Option ℕ) (lidrup : Bool) (proof : Bor Text) (fragment : Bor Text) (binary : Bool) → Makes (codes "lift") rows (Lift input cubes leaf lidrup proof fragment binary) → ⊥) → (r : Request) → Makes (codes "lift") rows r → ⊥
+only_lift rows none (Lift input cubes leaf lidrup proof fragment binary) makes = none input cubes leaf lidrup proof fragment binary makes
 only_lift rows none other makes = differ (codes "lift") (name_of other) refl refl (is_named (codes "lift") rows other makes)
 
 pub only_model : (rows : List Row) → ((input : Bor Text) (output : Bor Text) → Makes (codes "model") rows (Model input output) → ⊥) → (r : Request) → Makes (codes "model") rows r → ⊥
 only_model rows none (Model input output) makes = none input output makes
 only_model rows none other makes = differ (codes "model") (name_of other) refl refl (is_named (codes "model") rows other makes)
 
-pub only_trim : (rows : List Row) → ((input : Bor Text) (proof : Bor Text) (out : Bor Text) → Makes (codes "trim") rows (Trim input proof out) → ⊥) → (r : Request) → Makes (codes "trim") rows r → ⊥
-only_trim rows none (Trim input proof out) makes = none input proof out makes
+pub only_trim : (rows : List Row) → ((input : Bor Text) (proof : Bor Text) (out : Bor Text) (binary : Bool) → Makes (codes "trim") rows (Trim input proof out binary) → ⊥) → (r : Request) → Makes (codes "trim") rows r → ⊥
+only_trim rows none (Trim input proof out binary) makes = none input proof out binary makes
 only_trim rows none other makes = differ (codes "trim") (name_of other) refl refl (is_named (codes "trim") rows other makes)
 
 some_same : {X : Type 0} (a b : X) → Some a ≡ Some b → a ≡ b

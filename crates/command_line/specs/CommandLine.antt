@@ -85,6 +85,7 @@ pub record NamesOptions (place : Place) (rows : List Row) (options : Options) : 
   pub patience_is : NamesAnyNumber rows (codes "patience") 1 1000000000 options.patience
   pub progress_is : NamesFlag rows (codes "progress") options.progress
   pub rounds_is : NamesFlag rows (codes "rounds") options.rounds
+  pub binary_is : NamesFlag rows (codes "binary") options.binary
   pub quiet_is : NamesFlag rows (codes "quiet") options.quiet
   pub witness_is : NamesFlag rows (codes "no-witness") (not options.witness)
 
@@ -117,20 +118,23 @@ Makes name rows (Drill input seed turns) =
     × NamesNumber rows (codes "turns") 0 100000 turns
 Makes name rows (Leaf input cubes leaf) =
     (name ≡ codes "leaf") × NamesFile rows (codes "INPUT") (Some input) × NamesFile rows (codes "cubes") (Some cubes) × NamesLeaf rows leaf
-Makes name rows (Refute input cubes leaf to limit fragment printing) =
+Makes name rows (Refute input cubes leaf to limit fragment printing binary) =
     (name ≡ codes "refute") × NamesFile rows (codes "INPUT") (Some input) × NamesFile rows (codes "cubes") (Some cubes) × NamesLeaf rows leaf
     × NamesAnyNumber rows (codes "to") 1 (2 ^ 32 - 1) to × NamesNumber rows (codes "limit") 1 (2 ^ 47) limit × NamesFile rows (codes "FRAGMENT") fragment × NamesPrinting rows printing
-Makes name rows (Join input cubes proof fragments printing) =
+    × NamesFlag rows (codes "binary") binary
+Makes name rows (Join input cubes proof fragments printing binary) =
     (name ≡ codes "join") × NamesFile rows (codes "INPUT") (Some input) × NamesFile rows (codes "cubes") (Some cubes)
     × NamesFile rows (codes "PROOF") (Some proof) × NamesFiles rows (codes "NAME") fragments.items × NamesPrinting rows printing
-Makes name rows (Lift input cubes leaf lidrup proof fragment) =
+    × NamesFlag rows (codes "binary") binary
+Makes name rows (Lift input cubes leaf lidrup proof fragment binary) =
     (name ≡ codes "lift") × NamesFile rows (codes "INPUT") (Some input) × NamesFile rows (codes "cubes") (Some cubes)
     × NamesAnyNumber rows (codes "leaf") 1 (2 ^ 32 - 1) leaf × NamesFlag rows (codes "lidrup") lidrup × NamesFile rows (codes "PROOF") (Some proof)
-    × NamesFile rows (codes "FRAGMENT") (Some fragment)
+    × NamesFile rows (codes "FRAGMENT") (Some fragment) × NamesFlag rows (codes "binary") binary
 Makes name rows (Model input output) =
     (name ≡ codes "model") × NamesFile rows (codes "INPUT") (Some input) × NamesFile rows (codes "FILE") (Some output)
-Makes name rows (Trim input proof out) =
+Makes name rows (Trim input proof out binary) =
     (name ≡ codes "trim") × NamesFile rows (codes "INPUT") (Some input) × NamesFile rows (codes "PROOF") (Some proof) × NamesFile rows (codes "OUT") (Some out)
+    × NamesFlag rows (codes "binary") binary
 
 -- the words are right by the rules of the command line
 pub record AreTaken (words : List Text) : Type 0 where
@@ -180,8 +184,8 @@ IsInRange (Serve port input cubes proof options) = IsPort port × AreOptions opt
 IsInRange (Work port input proof options) = IsPort port × AreOptions options
 IsInRange (Drill input seed turns) = turns ≤ 100000
 IsInRange (Leaf input cubes leaf) = IsLeafNumber leaf
-IsInRange (Refute input cubes leaf to limit fragment printing) = IsLeafNumber leaf × IfSome to IsLeafNumber × (1 ≤ limit) × (limit ≤ 2 ^ 47)
-IsInRange (Join input cubes proof fragments printing) = 1 ≤ length fragments.items
-IsInRange (Lift input cubes leaf lidrup proof fragment) = IfSome leaf IsLeafNumber
+IsInRange (Refute input cubes leaf to limit fragment printing binary) = IsLeafNumber leaf × IfSome to IsLeafNumber × (1 ≤ limit) × (limit ≤ 2 ^ 47)
+IsInRange (Join input cubes proof fragments printing binary) = 1 ≤ length fragments.items
+IsInRange (Lift input cubes leaf lidrup proof fragment binary) = IfSome leaf IsLeafNumber
 IsInRange (Model input output) = ⊤
-IsInRange (Trim input proof out) = ⊤
+IsInRange (Trim input proof out binary) = ⊤

@@ -16,10 +16,14 @@ with_search depth limit a =
 abbrev pub with_printing : App → App
 with_printing a = with_rule (with_rule a (flag_rule (codes "quiet") (byte "q"))) (flag_rule (codes "no-witness") (byte "n"))
 
--- `[--defs K] [-q] [-n] INPUT [PROOF]`: K from 0 to 64, else 0
+-- `[--binary]`
+abbrev pub with_binary : App → App
+with_binary a = with_rule a (long_flag_rule (codes "binary"))
+
+-- `[--defs K] [--binary] [-q] [-n] INPUT [PROOF]`: K from 0 to 64, else 0
 abbrev pub with_files : App → App
 with_files a =
-    with_rule (with_rule (with_printing (with_rule a (number_rule (codes "defs") 0 64 (codes "0")))) (file_rule (codes "INPUT") true))
+    with_rule (with_rule (with_printing (with_binary (with_rule a (number_rule (codes "defs") 0 64 (codes "0"))))) (file_rule (codes "INPUT") true))
     (file_rule (codes "PROOF") false)
 
 -- `--cubes FILE --leaf I`: I from 1 to 4,294,967,295
@@ -71,35 +75,35 @@ drill_app =
 abbrev pub leaf_app : App
 leaf_app = with_rule (with_leaf (new_app (codes "leaf"))) (file_rule (codes "INPUT") true)
 
--- `refute --cubes FILE --leaf I [--to J] [--limit L] [-q] [-n] INPUT [FRAGMENT]`: J from 1 to 4,294,967,295, and L from 1 to
+-- `refute --cubes FILE --leaf I [--to J] [--limit L] [--binary] [-q] [-n] INPUT [FRAGMENT]`: J from 1 to 4,294,967,295, and L from 1 to
 -- 140,737,488,355,328 = 2 ^ 47, which is what stands where it is left out
 abbrev pub refute_app : App
 refute_app =
-    with_rule (with_rule (with_printing (with_rule (with_rule (with_leaf (new_app (codes "refute"))) (any_number_rule (codes "to") 1 (2 ^ 32 - 1)))
-    (number_rule (codes "limit") 1 (2 ^ 47) (codes "140737488355328"))))
+    with_rule (with_rule (with_printing (with_binary (with_rule (with_rule (with_leaf (new_app (codes "refute"))) (any_number_rule (codes "to") 1 (2 ^ 32 - 1)))
+    (number_rule (codes "limit") 1 (2 ^ 47) (codes "140737488355328")))))
     (file_rule (codes "INPUT") true)) (file_rule (codes "FRAGMENT") false)
 
--- `join --cubes FILE [-q] [-n] INPUT PROOF NAME..`, of one name or more
+-- `join --cubes FILE [--binary] [-q] [-n] INPUT PROOF NAME..`, of one name or more
 abbrev pub join_app : App
 join_app =
-    with_rule (with_rule (with_rule (with_printing (with_rule (new_app (codes "join")) (needed_file_rule (codes "cubes")))) (file_rule (codes "INPUT") true))
+    with_rule (with_rule (with_rule (with_printing (with_binary (with_rule (new_app (codes "join")) (needed_file_rule (codes "cubes"))))) (file_rule (codes "INPUT") true))
     (file_rule (codes "PROOF") true)) (files_rule (codes "NAME"))
 
--- `lift --cubes FILE [--leaf I] [--lidrup] INPUT PROOF FRAGMENT`: I from 1 to 4,294,967,295
+-- `lift --cubes FILE [--leaf I] [--lidrup] [--binary] INPUT PROOF FRAGMENT`: I from 1 to 4,294,967,295
 abbrev pub lift_app : App
 lift_app =
-    with_rule (with_rule (with_rule (with_rule (with_rule (with_rule (new_app (codes "lift")) (needed_file_rule (codes "cubes")))
-    (any_number_rule (codes "leaf") 1 (2 ^ 32 - 1))) (long_flag_rule (codes "lidrup"))) (file_rule (codes "INPUT") true)) (file_rule (codes "PROOF") true))
+    with_rule (with_rule (with_rule (with_binary (with_rule (with_rule (with_rule (new_app (codes "lift")) (needed_file_rule (codes "cubes")))
+    (any_number_rule (codes "leaf") 1 (2 ^ 32 - 1))) (long_flag_rule (codes "lidrup")))) (file_rule (codes "INPUT") true)) (file_rule (codes "PROOF") true))
     (file_rule (codes "FRAGMENT") true)
 
 -- `model INPUT FILE`
 abbrev pub model_app : App
 model_app = with_rule (with_rule (new_app (codes "model")) (file_rule (codes "INPUT") true)) (file_rule (codes "FILE") true)
 
--- `trim INPUT PROOF OUT`
+-- `trim [--binary] INPUT PROOF OUT`
 abbrev pub trim_app : App
 trim_app =
-    with_rule (with_rule (with_rule (new_app (codes "trim")) (file_rule (codes "INPUT") true)) (file_rule (codes "PROOF") true)) (file_rule (codes "OUT") true)
+    with_rule (with_rule (with_rule (with_binary (new_app (codes "trim"))) (file_rule (codes "INPUT") true)) (file_rule (codes "PROOF") true)) (file_rule (codes "OUT") true)
 
 -- the program, of which a command has to be named
 abbrev pub bare_program : App

@@ -26,6 +26,8 @@ pub struct Options {
     pub progress: bool,
     /// Whether the coordinator takes its workers in turns, round by round.
     pub rounds: bool,
+    /// Whether the proof is written in binary form.
+    pub binary: bool,
     /// Whether `c` lines are left out.
     pub quiet: bool,
     /// Whether the `v` lines of an assignment are printed.
@@ -45,6 +47,7 @@ pub const USUAL: Options = Options {
     patience: None,
     progress: false,
     rounds: false,
+    binary: false,
     quiet: false,
     witness: true,
 };

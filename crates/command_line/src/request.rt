@@ -80,6 +80,7 @@ pub enum Request<'a> {
         limit: u64,
         fragment: Option<&'a str>,
         printing: Printing,
+        binary: bool,
     },
     /// Join the fragments of all leaves, one file of them at least, into a proof, and write it to a file. A name `-` stands for the
     /// names that standard input lists.
@@ -89,6 +90,7 @@ pub enum Request<'a> {
         proof: &'a str,
         fragments: Vec<&'a str>,
         printing: Printing,
+        binary: bool,
     },
     /// Make a fragment of a proof and write it to a file: of one of the formula of a leaf, by its number among the cubes of a file, from
     /// 1 to 4,294,967,295; or of a LIDRUP text for all of these cubes. The words may name both, or neither.
@@ -99,6 +101,7 @@ pub enum Request<'a> {
         lidrup: bool,
         proof: &'a str,
         fragment: &'a str,
+        binary: bool,
     },
     /// Check the assignment in the output of a solver.
     Model {
@@ -110,6 +113,7 @@ pub enum Request<'a> {
         input: &'a str,
         proof: &'a str,
         out: &'a str,
+        binary: bool,
     },
 }
 

@@ -24,6 +24,8 @@ pub(crate) struct JoinFiles<'a> {
     pub(crate) input: &'a str,
     pub(crate) cubes: &'a str,
     pub(crate) proof: &'a str,
+    /// Whether it is written in binary form.
+    pub(crate) binary: bool,
 }
 
 /// A join, and what was printed and written of it so far.
@@ -310,7 +312,7 @@ fn beside<R: Runtime + AllocGlobal>(
     if is_printed_to(rt, &place) {
         return Err(Refusal::Writing);
     }
-    match make_part(rt, &place) {
+    match make_part(rt, &place, files.binary) {
         Ok(Some(part)) => Ok((place, part)),
         Ok(None) => Err(Refusal::Writing),
         Err(error) => Err(refused(error, Refusal::Writing)),

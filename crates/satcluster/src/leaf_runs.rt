@@ -2,7 +2,7 @@
 
 use crate::files::{no_memory, open, read_formula};
 use crate::join::stopped;
-use crate::proof_file::write_proof;
+use crate::proof_file::{Target, write_proof};
 use dimacs::{DimacsFault, Kind};
 use icnf::{CubesFault, Kind as CubesKind};
 use leaves::{Search, Split, SplitReader, run_leaf, run_refute, run_refute_all, run_split};
@@ -120,6 +120,8 @@ pub(crate) struct LeafFiles<'a> {
     pub(crate) input: &'a str,
     pub(crate) cubes: &'a str,
     pub(crate) fragment: Option<&'a str>,
+    /// Whether it is written in binary form.
+    pub(crate) binary: bool,
 }
 
 /// The leaf to search under, or the first and the last of several.
@@ -155,7 +157,13 @@ pub(crate) fn refute<R: Runtime + AllocGlobal>(
     };
     let report = searched(rt.alloc(), &split, leaves, search)?;
     match (files.fragment, &report.proof) {
-        (Some(path), Some(log)) => write_proof(rt, path, log, files.input, Some(files.cubes))?,
+        (Some(path), Some(log)) => {
+            let target = Target {
+                path,
+                binary: files.binary,
+            };
+            write_proof(rt, target, log, files.input, Some(files.cubes))?;
+        }
         _ => {}
     }
     Ok(report)

@@ -26,6 +26,8 @@ pub(crate) struct LiftFiles<'a> {
     pub(crate) cubes: &'a str,
     pub(crate) proof: &'a str,
     pub(crate) fragment: &'a str,
+    /// Whether the log is written in binary form.
+    pub(crate) binary: bool,
 }
 
 /// What is made of a proof.
@@ -138,8 +140,9 @@ fn written<R: Runtime + AllocGlobal>(
     pieces: Pieces<R::File>,
     task: Task,
     place: &Place,
+    binary: bool,
 ) -> Result<Report, Refusal> {
-    let Some(mut part) = make_part(rt, place).map_err(not_written)? else {
+    let Some(mut part) = make_part(rt, place, binary).map_err(not_written)? else {
         return Err(Refusal::Writing);
     };
     let found = lifted(rt, pieces, task, &mut part);
@@ -199,7 +202,7 @@ fn lift_proof<R: Runtime + AllocGlobal>(
 ) -> Result<Report, Refusal> {
     let pieces = open(rt, files.proof, Refusal::Proof)?;
     let place = log_place(rt, files)?;
-    written(rt, pieces, task, &place)
+    written(rt, pieces, task, &place, files.binary)
 }
 
 /// A proof of the formula of a leaf, or what was written for all leaves, becomes a log over the formula, which is written to a file:

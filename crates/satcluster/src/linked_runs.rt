@@ -6,7 +6,7 @@ ghost use Rattle.node_main.specs.Starting.{IsStart};
 
 use crate::accepting::accept_workers;
 use crate::files::{no_memory, read_cubes, read_formula, refused};
-use crate::proof_file::write_proof;
+use crate::proof_file::{Target, write_proof};
 use crate::showing::{Showing, Shown};
 use hub::Hub;
 use links::{Counted, Joined, Loopback, Observed, Station};
@@ -25,6 +25,8 @@ pub(crate) struct Files<'a> {
     pub(crate) input: &'a str,
     pub(crate) cubes: Option<&'a str>,
     pub(crate) proof: Option<&'a str>,
+    /// Whether the proof is written in binary form.
+    pub(crate) binary: bool,
 }
 
 fn not_linked(error: io::Error) -> Refusal {
@@ -46,7 +48,13 @@ fn kept<R: Runtime + AllocGlobal>(
     files: &Files,
 ) -> Result<Report, Refusal> {
     match (files.proof, &report.proof) {
-        (Some(path), Some(proof)) => write_proof(rt, path, proof, files.input, files.cubes)?,
+        (Some(path), Some(proof)) => {
+            let target = Target {
+                path,
+                binary: files.binary,
+            };
+            write_proof(rt, target, proof, files.input, files.cubes)?;
+        }
         _ => {}
     }
     Ok(report)
@@ -122,7 +130,11 @@ fn serve_over<R: Runtime + AllocGlobal, S: Station>(
     links.station().end();
     let mut service = run.map_err(no_memory)?;
     if let (Some(path), Some(proof)) = (files.proof, service.proof()) {
-        write_proof(rt, path, proof, files.input, files.cubes)?;
+        let target = Target {
+            path,
+            binary: files.binary,
+        };
+        write_proof(rt, target, proof, files.input, files.cubes)?;
     }
     let status = match print(rt, service.text()) {
         Ok(()) => service.status(),

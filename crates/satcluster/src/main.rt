@@ -29,6 +29,7 @@ use lift::{LiftFiles, lift};
 use linked_runs::{Files, print, serve, solve, work};
 use model::model;
 use node_main::{Refusal, Report, Request, UsageFault, command, run_cubes};
+use proof_file::Target;
 use session::session;
 use showing::Showing;
 use standard_input::is_sound;
@@ -76,6 +77,7 @@ fn answer<R: Runtime + AllocGlobal + Net>(
                 input,
                 cubes,
                 proof,
+                binary: options.binary,
             };
             solve(rt, &files, &options, showing)
         }
@@ -102,6 +104,7 @@ fn answer<R: Runtime + AllocGlobal + Net>(
                 input,
                 cubes,
                 proof,
+                binary: options.binary,
             };
             serve(rt, port, &files, &options, showing)
         }
@@ -115,6 +118,7 @@ fn answer<R: Runtime + AllocGlobal + Net>(
                 input,
                 cubes: None,
                 proof,
+                binary: options.binary,
             };
             work(rt, port, &files, &options)
         }
@@ -139,11 +143,13 @@ fn answer<R: Runtime + AllocGlobal + Net>(
             limit,
             fragment,
             printing,
+            binary,
         } => {
             let files = LeafFiles {
                 input,
                 cubes,
                 fragment,
+                binary,
             };
             let search = Search {
                 limit,
@@ -162,11 +168,13 @@ fn answer<R: Runtime + AllocGlobal + Net>(
             proof,
             ref fragments,
             printing,
+            binary,
         } => {
             let files = JoinFiles {
                 input,
                 cubes,
                 proof,
+                binary,
             };
             join(rt, &files, fragments, printing)
         }
@@ -177,17 +185,27 @@ fn answer<R: Runtime + AllocGlobal + Net>(
             lidrup,
             proof,
             fragment,
+            binary,
         } => {
             let files = LiftFiles {
                 input,
                 cubes,
                 proof,
                 fragment,
+                binary,
             };
             lift(rt, &files, leaf, lidrup)
         }
         Request::Model { input, output } => model(rt, input, output),
-        Request::Trim { input, proof, out } => trim(rt, input, proof, out),
+        Request::Trim {
+            input,
+            proof,
+            out,
+            binary,
+        } => {
+            let target = Target { path: out, binary };
+            trim(rt, input, proof, target)
+        }
     }
 }
 

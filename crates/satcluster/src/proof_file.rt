@@ -1,8 +1,11 @@
 //! Writes a proof to its file, whole or not at all wherever a file can be made beside it.
 
 use crate::files::{path_of, refused};
+use lrat_forms::BinaryForm;
+use lrat_text::TextFault;
 use node_main::Refusal;
 use packed_text::PackedText;
+use std::alloc::Global;
 use std::fs::{File, Metadata, OpenFile, OpenOptions};
 use std::io::{ErrorKind, Write};
 use std::os::unix::fs::MetadataExt;
@@ -32,15 +35,73 @@ impl Drop for Place {
     }
 }
 
+/// In which form a proof is written, of which the text comes piece by piece.
+struct Writer {
+    /// What makes the binary form of it; none if it is written as it comes.
+    form: Option<BinaryForm>,
+}
+
+impl Drop for Writer {
+    fn drop(self) {
+        let Writer { form: _ } = self;
+    }
+}
+
+/// What a text is that spells no steps, or for which there is no memory.
+fn unspelled(fault: TextFault) -> io::Error {
+    match fault {
+        TextFault::NoMemory => io::Error::from(ErrorKind::OutOfMemory),
+        _ => io::Error::from(ErrorKind::InvalidData),
+    }
+}
+
+impl Writer {
+    fn new(alloc: Global, binary: bool) -> Writer {
+        if binary {
+            Writer {
+                form: Some(BinaryForm::new(alloc)),
+            }
+        } else {
+            Writer { form: None }
+        }
+    }
+
+    /// Writes the next piece of the text.
+    fn write<F: Write>(&mut self, file: &mut F, bytes: &[u8]) -> io::Result<()> {
+        match &mut self.form {
+            None => file.write_all(bytes),
+            Some(form) => {
+                form.feed(bytes).map_err(unspelled)?;
+                file.write_all(form.written())?;
+                form.forget();
+                Ok(())
+            }
+        }
+    }
+
+    /// Nothing of the text is left.
+    fn finish(&self) -> io::Result<()> {
+        match &self.form {
+            None => Ok(()),
+            Some(form) => form.finish().map_err(unspelled),
+        }
+    }
+}
+
 /// A proof in the making, in a file beside its place.
 pub(crate) struct Part<F> {
     file: F,
     name: String,
+    writer: Writer,
 }
 
 impl<F: Drop> Drop for Part<F> {
     fn drop(self) {
-        let Part { file: _, name: _ } = self;
+        let Part {
+            file: _,
+            name: _,
+            writer: _,
+        } = self;
     }
 }
 
@@ -84,12 +145,17 @@ pub(crate) fn place_of<R: Runtime + AllocGlobal>(rt: &R, path: &str) -> io::Resu
 pub(crate) fn make_part<R: Runtime + AllocGlobal>(
     rt: &R,
     place: &Place,
+    binary: bool,
 ) -> io::Result<Option<Part<R::File>>> {
     let path = place.path.as_str();
     for number in 0..NAMES {
         let name = format!(in rt.alloc(); "{path}.part{number}")?;
         match File::create_new(rt, name.as_str()) {
-            Ok(file) => return Ok(permitted(rt, Part { file, name }, place)),
+            Ok(file) => {
+                let writer = Writer::new(rt.alloc(), binary);
+                let part = Part { file, name, writer };
+                return Ok(permitted(rt, part, place));
+            }
             Err(error) if error.kind() == ErrorKind::AlreadyExists => {}
             Err(_) => return Ok(None),
         }
@@ -120,7 +186,7 @@ pub(crate) fn is_printed_to<R: Runtime>(rt: &R, place: &Place) -> bool {
 
 /// Writes behind what the part has.
 pub(crate) fn append<F: Write>(part: &mut Part<F>, bytes: &[u8]) -> io::Result<()> {
-    part.file.write_all(bytes)
+    part.writer.write(&mut part.file, bytes)
 }
 
 /// Whether a path leads to the part.
@@ -130,6 +196,10 @@ pub(crate) fn is_part<R: Runtime>(rt: &R, part: &Part<R::File>, path: &str) -> b
 
 /// Lets the part take its place, once all of it is on the disk, and tells whether it could; else it is gone.
 pub(crate) fn keep<R: Runtime>(rt: &R, part: Part<R::File>, place: &Place) -> io::Result<bool> {
+    if let Err(error) = part.writer.finish() {
+        remove(rt, part);
+        return Err(error);
+    }
     if let Err(error) = part.file.sync_all() {
         remove(rt, part);
         return Err(error);
@@ -151,12 +221,13 @@ fn write_text<R: Runtime + AllocGlobal>(
     rt: &R,
     file: &mut R::File,
     proof: &PackedText,
+    writer: &mut Writer,
 ) -> io::Result<()> {
     for i in 0..proof.len() / PIECE + 1 {
         let piece = proof.read(rt.alloc(), PIECE * i, PIECE)?;
-        file.write_all(piece.as_slice())?;
+        writer.write(file, piece.as_slice())?;
     }
-    Ok(())
+    writer.finish()
 }
 
 /// Writes a proof to what stands at the path, in place.
@@ -164,9 +235,11 @@ fn write_in_place<R: Runtime + AllocGlobal>(
     rt: &R,
     path: &str,
     proof: &PackedText,
+    binary: bool,
 ) -> io::Result<()> {
     let mut file = File::create(rt, path)?;
-    write_text(rt, &mut file, proof)
+    let mut writer = Writer::new(rt.alloc(), binary);
+    write_text(rt, &mut file, proof, &mut writer)
 }
 
 /// Writes the proof beside its place, where no file is left; in place where none can be made beside it or put there.
@@ -174,28 +247,37 @@ fn write_beside<R: Runtime + AllocGlobal>(
     rt: &R,
     place: &Place,
     proof: &PackedText,
+    binary: bool,
 ) -> io::Result<()> {
-    let Some(mut part) = make_part(rt, place)? else {
-        return write_in_place(rt, place.path.as_str(), proof);
+    let Some(mut part) = make_part(rt, place, binary)? else {
+        return write_in_place(rt, place.path.as_str(), proof, binary);
     };
-    if let Err(error) = write_text(rt, &mut part.file, proof) {
+    if let Err(error) = write_text(rt, &mut part.file, proof, &mut part.writer) {
         remove(rt, part);
         return Err(error);
     }
     if keep(rt, part, place)? {
         return Ok(());
     }
-    write_in_place(rt, place.path.as_str(), proof)
+    write_in_place(rt, place.path.as_str(), proof, binary)
+}
+
+/// Where a proof is written, and in which form.
+#[derive(Clone, Copy)]
+pub(crate) struct Target<'a> {
+    pub(crate) path: &'a str,
+    pub(crate) binary: bool,
 }
 
 /// Writes a proof to the file at a path, unless it is one of the files that were read.
 pub(crate) fn write_proof<R: Runtime + AllocGlobal>(
     rt: &R,
-    path: &str,
+    target: Target<'_>,
     proof: &PackedText,
     input: &str,
     cubes: Option<&str>,
 ) -> Result<(), Refusal> {
+    let Target { path, binary } = target;
     let was_read = is_same_file(rt, path, input)
         || match cubes {
             Some(cubes) => is_same_file(rt, path, cubes),
@@ -206,8 +288,8 @@ pub(crate) fn write_proof<R: Runtime + AllocGlobal>(
     }
     let written = match place_of(rt, path) {
         Ok(Some(place)) if is_printed_to(rt, &place) => return Err(Refusal::Writing),
-        Ok(Some(place)) => write_beside(rt, &place, proof),
-        Ok(None) => write_in_place(rt, path, proof),
+        Ok(Some(place)) => write_beside(rt, &place, proof, binary),
+        Ok(None) => write_in_place(rt, path, proof, binary),
         Err(error) => Err(error),
     };
     written.map_err(|error| refused(error, Refusal::Writing))

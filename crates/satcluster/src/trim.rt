@@ -2,7 +2,7 @@
 
 use crate::files::{no_memory, open, read_formula};
 use crate::leaf_runs::refused_input;
-use crate::proof_file::{is_same_file, write_proof};
+use crate::proof_file::{Target, is_same_file, write_proof};
 use either_form::FormTrimming;
 use node_main::{Refusal, Report};
 use std::rt::Runtime;
@@ -36,13 +36,13 @@ pub(crate) fn trim<R: Runtime + AllocGlobal>(
     rt: &R,
     input: &str,
     proof: &str,
-    out: &str,
+    target: Target<'_>,
 ) -> Result<Report, Refusal> {
     let formula = match read_formula(rt, input)? {
         Ok(formula) => formula,
         Err(fault) => return refused_input(rt, fault),
     };
-    if is_same_file(rt, out, proof) || is_same_file(rt, out, input) {
+    if is_same_file(rt, target.path, proof) || is_same_file(rt, target.path, input) {
         return Err(Refusal::Writing);
     }
     let mut trimming = FormTrimming::new(rt.alloc(), formula).map_err(no_memory)?;
@@ -51,7 +51,7 @@ pub(crate) fn trim<R: Runtime + AllocGlobal>(
     let found = trimming.finish();
     let report = trim_report(rt.alloc(), is_binary, found).map_err(no_memory)?;
     if let Some(text) = &report.proof {
-        write_proof(rt, out, text, input, Some(proof))?;
+        write_proof(rt, target, text, input, Some(proof))?;
     }
     Ok(report)
 }

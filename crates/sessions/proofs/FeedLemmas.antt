@@ -10,7 +10,8 @@ use Rattle.sessions.specs.Answers.{Event, counted}
 use Rattle.sessions.specs.Follows.{Follows}
 use Rattle.sessions.specs.Texts.{State, behind, listed, session_of, text_from}
 use Rattle.sessions.specs.View.{state_of}
-use Rattle.sessions.specs.inner.Sides.{Ends, EndsEvents, EndsLine, EndsProof, Hears, IsBroken, IsFirst, IsHigh, IsResting, later, later_by}
+use Rattle.sessions.specs.Sides.{Ends, IsBroken, IsHigh, IsResting, later, later_by}
+use Rattle.sessions.specs.inner.Sides.{EndsEvents, EndsLine, EndsProof, Hears, IsFirst}
 use Rattle.sessions.specs.declared.known.Known.{Known}
 use Rattle.sessions.specs.declared.proof_side.Phase.{Phase}
 use Rattle.sessions.specs.declared.proof_side.Phase.TheVariants as phase

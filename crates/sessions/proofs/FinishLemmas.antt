@@ -10,7 +10,8 @@ use Rattle.sessions.specs.Check.{Finishes, HasTaken, ReadsBy, coming_by, front, 
 use Rattle.sessions.specs.Events.{events_of}
 use Rattle.sessions.specs.Follows.{Follows, Right}
 use Rattle.sessions.specs.Texts.{Outcome, behind, session_of}
-use Rattle.sessions.specs.inner.Sides.{Ends, IsBroken, fault_at, later_by}
+use Rattle.sessions.specs.Sides.{Ends, IsBroken, later_by}
+use Rattle.sessions.specs.inner.Sides.{fault_at}
 use Rattle.sessions.specs.declared.check.SessionCheck.{SessionCheck}
 use Rattle.sessions.specs.declared.check.SessionFault.TheVariants as fault
 use Rattle.sessions.specs.declared.check.Wants.TheVariants as wants

@@ -13,7 +13,8 @@ use Rattle.sessions.specs.Check.{HasTaken, ReadsBy, coming_by, front}
 use Rattle.sessions.specs.Follows.{Follows}
 use Rattle.sessions.specs.Events.{Progress, Row, events_of, read_lines, read_row, start, with_event}
 use Rattle.sessions.specs.inner.Feeding.{EndsRow, HearsRow, closing}
-use Rattle.sessions.specs.inner.Sides.{Ends, EndsEvents, IsFirst, IsHigh}
+use Rattle.sessions.specs.Sides.{Ends, IsHigh}
+use Rattle.sessions.specs.inner.Sides.{EndsEvents, IsFirst}
 use Rattle.sessions.specs.declared.check.SessionCheck.{SessionCheck}
 use Rattle.sessions.specs.declared.proof_side.Phase.{Phase}
 use Rattle.sessions.specs.declared.proof_side.ProofSide.{ProofSide}

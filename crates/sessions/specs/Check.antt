@@ -10,7 +10,7 @@ use Rattle.sessions.specs.Answers.{Event, tally}
 use Rattle.sessions.specs.Events.{events_of, read_lines}
 use Rattle.sessions.specs.Texts.{session_of}
 use Rattle.sessions.specs.Follows.{Follows}
-use Rattle.sessions.specs.inner.Sides.{Ends}
+use Rattle.sessions.specs.Sides.{Ends}
 use Rattle.sessions.specs.declared.check.SessionCheck.{SessionCheck}
 use Rattle.sessions.specs.declared.check.SessionFault.{SessionFault}
 use Rattle.sessions.specs.declared.check.SessionFault.TheVariants as fault

@@ -4,7 +4,7 @@ use Rattle.dimacs.specs.text.Words.{lines}
 use Rattle.lrat_text.specs.Lines.{IsOpen}
 use Rattle.sessions.specs.Answers.{Event, Answer, tally}
 use Rattle.sessions.specs.Texts.{behind, session_of}
-use Rattle.sessions.specs.inner.Sides.{Ends, IsBroken, IsHigh, IsResting, later}
+use Rattle.sessions.specs.Sides.{Ends, IsBroken, IsHigh, IsResting, later}
 use Rattle.sessions.specs.declared.proof_side.ProofSide.{ProofSide}
 
 -- these bytes of the proof, where these events were heard: whatever follows, the text answers what was told, and then what is still to come

@@ -4,6 +4,7 @@ pub mod Events
 pub mod Follows
 pub mod Lines
 pub mod Reports
+pub mod Sides
 pub mod Texts
 pub mod View
 pub mod inner

@@ -6,7 +6,8 @@ ghost use Rattle.lrat_text.specs.Lines.{IsOpen};
 ghost use Rattle.sessions.specs.Answers.{Event};
 ghost use Rattle.sessions.specs.Follows.{Follows};
 ghost use Rattle.sessions.specs.inner.Faults.{refusal_of};
-ghost use Rattle.sessions.specs.inner.Sides.{EndsEvents, EndsLine, EndsProof, Gives, Hears, IsEvent, IsFirst, IsHigh, Moves, MovesOn, awaiting, fault_at};
+ghost use Rattle.sessions.specs.Sides.{IsHigh};
+ghost use Rattle.sessions.specs.inner.Sides.{EndsEvents, EndsLine, EndsProof, Gives, Hears, IsEvent, IsFirst, Moves, MovesOn, awaiting, fault_at};
 
 use crate::event_lines::Sent;
 use crate::fault::LineFault;

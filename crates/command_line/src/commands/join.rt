@@ -5,8 +5,8 @@ ghost use Rattle.command_line.specs.CommandLine.{IsInRange, Makes, NamesFiles};
 ghost use Rattle.command_line.specs.declared.request.Request.{Request};
 
 use crate::commands::leaf_words::CUBES;
-use crate::commands::run_words::{NO_WITNESS, QUIET, STATUS, printing_of};
-use crate::commands::words::{INPUT, file_of, files_of};
+use crate::commands::run_words::{BINARY, NO_WITNESS, QUIET, STATUS, printing_of};
+use crate::commands::words::{INPUT, file_of, files_of, is_given};
 use crate::request::Request;
 use std::alloc::{AllocError, Global};
 use word_rules::{CommandRules, Found, Word};
@@ -18,6 +18,7 @@ pub(crate) const RULES: CommandRules<'static> = CommandRules {
     after_help: STATUS,
     words: &[
         CUBES,
+        BINARY,
         QUIET,
         NO_WITNESS,
         INPUT,
@@ -49,6 +50,7 @@ fn joining<'a>(given: &Found<'a>, fragments: Vec<&'a str>) -> Option<Request<'a>
         proof,
         fragments,
         printing: printing_of(given),
+        binary: is_given(given, "binary"),
     })
 }
 

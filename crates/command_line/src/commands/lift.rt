@@ -5,6 +5,7 @@ ghost use Rattle.command_line.specs.CommandLine.{IsInRange, Makes};
 ghost use Rattle.command_line.specs.declared.request.Request.{Request};
 
 use crate::commands::leaf_words::{CUBES, LAST_LEAF, leaf_or_none};
+use crate::commands::run_words::BINARY;
 use crate::commands::words::{INPUT, file_of, is_given};
 use crate::request::Request;
 use word_rules::{CommandRules, Found, Need, Word};
@@ -27,6 +28,7 @@ pub(crate) const RULES: CommandRules<'static> = CommandRules {
             name: "lidrup",
             help: "In place of a leaf: PROOF is a LIDRUP text for all of them",
         },
+        BINARY,
         INPUT,
         Word::File {
             name: "PROOF",
@@ -59,5 +61,6 @@ pub(crate) fn asked<'a>(given: &Found<'a>) -> Option<Request<'a>>
         lidrup: is_given(given, "lidrup"),
         proof,
         fragment,
+        binary: is_given(given, "binary"),
     })
 }

@@ -5,8 +5,8 @@ ghost use Rattle.command_line.specs.CommandLine.{IsInRange, Makes};
 ghost use Rattle.command_line.specs.declared.request.Request.{Request};
 
 use crate::commands::leaf_words::{CUBES, LAST_LEAF, LEAF, leaf_of, leaf_or_none};
-use crate::commands::run_words::{NO_WITNESS, QUIET, printing_of};
-use crate::commands::words::{INPUT, file_of, number_of};
+use crate::commands::run_words::{BINARY, NO_WITNESS, QUIET, printing_of};
+use crate::commands::words::{INPUT, file_of, is_given, number_of};
 use crate::request::Request;
 use word_rules::{CommandRules, Found, Need, Word};
 
@@ -35,6 +35,7 @@ pub(crate) const RULES: CommandRules<'static> = CommandRules {
             need: Need::Usual("140737488355328"),
             help: "How many lemmas may be learnt under a cube, from 1 to 140737488355328",
         },
+        BINARY,
         QUIET,
         NO_WITNESS,
         INPUT,
@@ -65,5 +66,6 @@ pub(crate) fn asked<'a>(given: &Found<'a>) -> Option<Request<'a>>
         limit,
         fragment: file_of(given, "FRAGMENT"),
         printing: printing_of(given),
+        binary: is_given(given, "binary"),
     })
 }

@@ -70,6 +70,12 @@ pub(crate) const NO_WITNESS: Word<'static> = Word::Flag {
     help: "Print no v lines",
 };
 
+/// Whether the proof is written in binary form.
+pub(crate) const BINARY: Word<'static> = Word::LongFlag {
+    name: "binary",
+    help: "Write the proof in binary form",
+};
+
 /// The proof.
 pub(crate) const PROOF: Word<'static> = Word::File {
     name: "PROOF",
@@ -162,6 +168,7 @@ pub(crate) fn options_of(given: &Found, place: Place) -> Option<Options>
         patience,
         progress: given.flag("progress"),
         rounds: given.flag("rounds"),
+        binary: given.flag("binary"),
         quiet: printing.quiet,
         witness: printing.witness,
     })

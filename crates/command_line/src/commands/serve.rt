@@ -5,7 +5,8 @@ ghost use Rattle.command_line.specs.CommandLine.{IsInRange, Makes};
 ghost use Rattle.command_line.specs.declared.request.Request.{Request};
 
 use crate::commands::run_words::{
-    CUBES, DEFS, NO_WITNESS, PATIENCE, PROGRESS, PROOF, Place, QUIET, STATUS, WORKERS, options_of,
+    BINARY, CUBES, DEFS, NO_WITNESS, PATIENCE, PROGRESS, PROOF, Place, QUIET, STATUS, WORKERS,
+    options_of,
 };
 use crate::commands::words::{INPUT, PORT, file_of, number_of};
 use crate::request::Request;
@@ -48,6 +49,7 @@ pub(crate) const RULES: CommandRules<'static> = CommandRules {
         },
         CUBES,
         DEFS,
+        BINARY,
         QUIET,
         NO_WITNESS,
         INPUT,

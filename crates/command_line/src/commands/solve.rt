@@ -5,7 +5,7 @@ ghost use Rattle.command_line.specs.CommandLine.{IsInRange, Makes};
 ghost use Rattle.command_line.specs.declared.request.Request.{Request};
 
 use crate::commands::run_words::{
-    CUBES, DEFS, DEPTH, LIMIT, NO_WITNESS, PROGRESS, PROOF, Place, QUIET, STATUS, WORKERS,
+    BINARY, CUBES, DEFS, DEPTH, LIMIT, NO_WITNESS, PROGRESS, PROOF, Place, QUIET, STATUS, WORKERS,
     options_of,
 };
 use crate::commands::words::{INPUT, file_of};
@@ -18,7 +18,7 @@ pub(crate) const RULES: CommandRules<'static> = CommandRules {
     about: "Decides a DIMACS formula, with an LRAT proof where nothing satisfies it",
     after_help: STATUS,
     words: &[
-        PROGRESS, WORKERS, DEPTH, LIMIT, CUBES, DEFS, QUIET, NO_WITNESS, INPUT, PROOF,
+        PROGRESS, WORKERS, DEPTH, LIMIT, CUBES, DEFS, BINARY, QUIET, NO_WITNESS, INPUT, PROOF,
     ],
 };
 

@@ -4,7 +4,8 @@ ghost use Rattle.std.specs.Prelude.{◌≡◌, IfSome, IfNone, codes};
 ghost use Rattle.command_line.specs.CommandLine.{IsInRange, Makes};
 ghost use Rattle.command_line.specs.declared.request.Request.{Request};
 
-use crate::commands::words::{INPUT, file_of};
+use crate::commands::run_words::BINARY;
+use crate::commands::words::{INPUT, file_of, is_given};
 use crate::request::Request;
 use word_rules::{CommandRules, Found, Word};
 
@@ -14,6 +15,7 @@ pub(crate) const RULES: CommandRules<'static> = CommandRules {
     about: "Checks an LRAT proof of a DIMACS formula, and writes what its empty clause needs",
     after_help: "Status: 0 the proof is right and OUT is written, 1 it is not, or an error",
     words: &[
+        BINARY,
         INPUT,
         Word::File {
             name: "PROOF",
@@ -37,5 +39,10 @@ pub(crate) fn asked<'a>(given: &Found<'a>) -> Option<Request<'a>>
     let input = file_of(given, "INPUT")?;
     let proof = file_of(given, "PROOF")?;
     let out = file_of(given, "OUT")?;
-    Some(Request::Trim { input, proof, out })
+    Some(Request::Trim {
+        input,
+        proof,
+        out,
+        binary: is_given(given, "binary"),
+    })
 }

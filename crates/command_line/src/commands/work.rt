@@ -4,7 +4,9 @@ ghost use Rattle.std.specs.Prelude.{◌≡◌, IfSome, IfNone, codes};
 ghost use Rattle.command_line.specs.CommandLine.{IsInRange, Makes};
 ghost use Rattle.command_line.specs.declared.request.Request.{Request};
 
-use crate::commands::run_words::{DEFS, NO_WITNESS, PROOF, Place, QUIET, STATUS, options_of};
+use crate::commands::run_words::{
+    BINARY, DEFS, NO_WITNESS, PROOF, Place, QUIET, STATUS, options_of,
+};
 use crate::commands::words::{INPUT, PORT, file_of, number_of};
 use crate::request::Request;
 use word_rules::{CommandRules, Found, Need, Word};
@@ -35,6 +37,7 @@ pub(crate) const RULES: CommandRules<'static> = CommandRules {
             help: "Send before working, so that other workers have their tasks meanwhile",
         },
         DEFS,
+        BINARY,
         QUIET,
         NO_WITNESS,
         INPUT,

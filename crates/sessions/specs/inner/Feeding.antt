@@ -7,7 +7,8 @@ use Rattle.icnf.specs.declared.fault.IcnfFault.{IcnfFault}
 use Rattle.icnf.specs.declared.fault.Kind.TheVariants.{NoHeader}
 use Rattle.sessions.specs.Answers.{Event}
 use Rattle.sessions.specs.Events.{read_row}
-use Rattle.sessions.specs.inner.Sides.{Hears, IsHigh}
+use Rattle.sessions.specs.Sides.{IsHigh}
+use Rattle.sessions.specs.inner.Sides.{Hears}
 use Rattle.sessions.specs.declared.check.SessionCheck.{SessionCheck}
 use Rattle.sessions.specs.declared.proof_side.ProofSide.{ProofSide}
 

@@ -27,6 +27,7 @@ returns-clause-found c =
     let ahead = c.flag.ensures in
     let progress = c.flag-2.ensures in
     let rounds = c.flag-3.ensures in
+    let binary = c.flag-4.ensures in
     let printing = c.printing_of-printing.ensures in
     record {
       workers_is = c.in_ok-workers.ensures.found;
@@ -40,6 +41,7 @@ returns-clause-found c =
       patience_is = c.in_ok-patience.ensures.found;
       progress_is = read_flag c.args.given.now.rows (codes "progress") c.flag-2.result progress.none progress.yes progress.no;
       rounds_is = read_flag c.args.given.now.rows (codes "rounds") c.flag-3.result rounds.none rounds.yes rounds.no;
+      binary_is = read_flag c.args.given.now.rows (codes "binary") c.flag-4.result binary.none binary.yes binary.no;
       quiet_is = printing.quiet_is;
       witness_is = printing.witness_is;
     }
