@@ -3,8 +3,8 @@
 
     tools/conquer.py [--program PATH] [--solver satcluster|cadical|kissat|COMMAND]
                      [--engine local|make|parallel|slurm] [--jobs N] [--depth D | --cubes-from FILE]
-                     [--limit L] [--seconds S] [--no-race] [--no-cuts] [--folder DIR] [-q] [-n]
-                     INPUT [PROOF]
+                     [--limit L] [--seconds S] [--no-race] [--no-cuts] [--pipe] [--compress]
+                     [--folder DIR] [-q] [-n] INPUT [PROOF]
 
 INPUT may be packed by gzip, xz, bzip2 or zstd, if that is installed: it is unpacked to the folder.
 Prints the `s` and `v` lines of `satcluster solve`, and ends with its statuses: 10, 20, 0 and 1.
@@ -77,6 +77,8 @@ def words() -> Namespace:
     option("--seconds", metavar="S", type=number(1, most), help="the same in seconds of a search")
     option("--no-race", action="store_true", help="no job searches the whole formula unsplit")
     option("--no-cuts", action="store_true", help="no leaf is cut in two since a core is idle")
+    option("--pipe", action="store_true", help="a solver's proof goes to lift by a FIFO")
+    option("--compress", action="store_true", help="logs are kept packed by zstd")
     option("--folder", metavar="DIR", help="where the files of the run stand; INPUT.conquer")
     option("-q", action="store_true", dest="quiet", help="no c lines")
     option("-n", action="store_true", dest="no_values", help="no v lines")
@@ -97,6 +99,8 @@ def found(word: str) -> str:
 def solver_of(asked: Namespace) -> Optional[List[List[str]]]:
     """The commands of another solver; None for our own search."""
     if asked.solver == "satcluster":
+        if asked.pipe:
+            raise Fault("c usage", "--pipe is for another solver: ours writes a log at once")
         return None
     line = SOLVERS.get(asked.solver, asked.solver)
     commands = [shlex.split(command) for command in line.split("&&")]
@@ -118,12 +122,15 @@ def wrong_solver(asked: Namespace, line: str, commands: List[List[str]]) -> Opti
         return "the command line of --solver has nothing beside &&"
     if asked.limit:
         return "--limit counts the lemmas of our own search: with another solver use --seconds"
+    if asked.pipe and len(commands) > 1:
+        return "--pipe is for a solver that writes LRAT itself, in one command"
     return None
 
 
 def plan_of(asked: Namespace) -> Plan:
     program = found(places.word_of_program(asked.program))
-    return Plan(program, os.path.abspath(asked.INPUT), solver_of(asked), asked.limit, asked.seconds)
+    return Plan(program, os.path.abspath(asked.INPUT), solver_of(asked), asked.limit, asked.seconds,
+                compress=asked.compress, pipe=asked.pipe)
 
 
 def test_places(proof: Optional[str], formula: str) -> None:
@@ -157,6 +164,14 @@ def unpack(folder: Folder, formula: str) -> str:
         raise Fault("c cannot read input", "%s ends with %d." % (tool, status))
     publish(part, folder.at("formula.cnf"))
     return str(folder.at("formula.cnf"))
+
+
+def test_packing(folder: Folder, compress: bool) -> None:
+    """Tells if `zstd` is needed, for new logs or for those that stand, and not installed."""
+    if not compress and not any(map(folder.is_packed, folder.names("logs"))):
+        return
+    if not shutil.which("zstd"):
+        raise Fault("c zstd is not installed")
 
 
 def words_of_split(asked: Namespace) -> List[str]:
@@ -248,6 +263,7 @@ def conquer(asked: Namespace, screen: Screen) -> int:
     folder = Folder(asked.folder or asked.INPUT + ".conquer")
     folder.lock()
     plan.input = unpack(folder, plan.input)
+    test_packing(folder, asked.compress)
     before = plan_before(folder)
     if folder.newest_tree():
         take_over(folder, plan, asked, screen)

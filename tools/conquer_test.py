@@ -25,13 +25,14 @@ from typing import Callable, Dict, List, NamedTuple
 sys.dont_write_bytecode = True
 
 from cases import EXAMPLES, pigeons, run, satisfies
-from conquering import files, report, screen
+from conquering import files, processes, report, screen
 from conquering.cuts import to_cut
 from conquering.figures import State, state_of
 from conquering.files import Fault, answer_of, closed_by, log_of, name_of, read_cubes
 from conquering.leaf import CLOSED, ENDED, LIMIT, Leaf, Plan, Record
 from conquering.race import WHOLE
 from conquering.run import Run
+from conquering.unpacking import Unpacking
 from simulate import Measured, Play, uncut
 
 SCRIPT = Path(__file__).resolve().parent / "conquer.py"
@@ -176,6 +177,72 @@ class Answers(Case):
             self.at("cut").write_bytes(self.at(name).read_bytes()[:-20])
             self.ends(1, ["c cannot read input"], "cut")
             self.tells("%s ends with" % tool)
+
+    @unittest.skipUnless(shutil.which("zstd"), "zstd is not installed")
+    def test_packed_logs(self) -> None:
+        """They are kept packed and are joined so, beside others. One that is spoiled is made again,
+        whether `zstd` refuses it, `join`, or it is cut so that a part is unpacked."""
+        formula = "schur_3_14.cnf"
+        words = ["-q", "--compress", "--no-race", "--depth", "4", formula, "f.lrat"]
+        self.ends(20, ["s UNSATISFIABLE"], *words)
+        self.verifies(formula, "f.lrat")
+        first = self.at("f.lrat").read_bytes()
+        logs = self.logs(formula)
+        self.assertEqual({".zst"}, {path.suffix for path in logs})
+        before = self.moments(formula)
+        self.ends(20, ["s UNSATISFIABLE"], *words[:1], *words[2:])
+        self.assertEqual((before, first), (self.moments(formula), self.at("f.lrat").read_bytes()))
+        subprocess.run(["zstd", "-q", "-d", "--rm", str(logs[0])], check=True)
+        self.ends(20, ["s UNSATISFIABLE"], *words)
+        self.assertEqual(first, self.at("f.lrat").read_bytes(), "one log is not packed")
+        for what, spoil in (
+                ("no frame", lambda data: b"spoiled"), ("nothing", lambda data: b""),
+                ("a cut frame", lambda data: data[:-9]), ("two", lambda data: data + data)):
+            path = self.logs(formula)[1]
+            path.write_bytes(spoil(path.read_bytes()))
+            self.ends(20, ["s UNSATISFIABLE"], *words)
+            self.verifies(formula, "f.lrat")
+            self.assertEqual([], self.running(formula), what)
+
+    @unittest.skipUnless(shutil.which("zstd"), "zstd is not installed")
+    def test_packed_logs_refused(self) -> None:
+        """A line of `join` names the log, and not the FIFO through which it came."""
+        formula, bad = "schur_3_14.cnf", "logs/bad.lrat"
+        words = ["--no-race", "--depth", "3", formula, "f.lrat"]
+        self.ends(20, ["s UNSATISFIABLE"], "-q", *words)
+        self.at(formula + ".conquer", bad).write_text("no log\n" * 100000)
+        subprocess.run(["zstd", "-q", "--rm", str(self.at(formula + ".conquer", bad))], check=True)
+        status, lines = self.conquer(*words)
+        told = [line for line in lines if line.startswith("c file")]
+        self.assertEqual((20, 1), (status, len(told)), lines)
+        self.assertTrue(told[0].endswith("line 1 fault 1 " + bad), told)
+
+    @unittest.skipUnless(shutil.which("zstd"), "zstd is not installed")
+    def test_unpacking_that_is_killed(self) -> None:
+        """Whoever reads, be it later, reads an empty log, and does not wait for ever."""
+        folder = files.Folder(str(self.at("run")))
+        files.packed(folder.at("logs/a")).write_bytes(b"")
+        for is_late in (False, True):
+            unpacking = Unpacking(folder)
+            unpacking.begin("logs/a", "scratch/pipe.%d" % is_late)
+            words = ["cat", str(unpacking.pipe)]
+            if is_late:
+                processes.kill(unpacking.process)
+                self.assertFalse(unpacking.runs())
+            reader = subprocess.Popen(words, stdout=subprocess.PIPE)
+            if not is_late:
+                processes.kill(unpacking.process)
+            self.wait_for("the reader", lambda: unpacking.runs() or reader.poll() is not None, 20)
+            self.assertEqual(b"", reader.communicate()[0])
+
+    def test_without_zstd(self) -> None:
+        """It is told before anything is run."""
+        folder = self.at("bare")
+        folder.mkdir()
+        before = os.environ["PATH"]
+        self.addCleanup(os.environ.__setitem__, "PATH", before)
+        os.environ["PATH"] = str(folder)
+        self.ends(1, ["c zstd is not installed"], "--compress", FOUR)
 
     def test_listed_cubes(self) -> None:
         """Cubes that another splitter lists."""
@@ -341,6 +408,35 @@ class Solvers(Case):
             solver = self.script("odd", "printf '%s' > $2; exit 20" % octal)
             status, lines = self.conquer("--depth", "0", "--solver", solver, FOUR)
             self.assertEqual((0, True), (status, any(what in line for line in lines)), lines)
+
+    PIPED = {  # what a solver does with its FIFO, and whether that is a proof
+        "a proof": ("exec PROGRAM solve -q --depth 0 $1 $2", True),
+        "a file in its place": ("PROGRAM solve -q --depth 0 $1 $2.new; mv $2.new $2; exit 20", True),
+        "what is printed": ("PROGRAM solve -q --depth 0 $1 $2.new; cat $2.new > $2; exit 20", True),
+        "a proof, and no end": ("PROGRAM solve -q --depth 0 $1 $2; sleep 100", True),
+        "nothing": ("exit 20", False),
+        "an end before a proof": ("kill -9 $$", False),
+        "an end within a proof": ("(echo '5 2 0 1 2 0'; kill -9 $$) > $2", False),
+        "a cut proof": ("printf '5 2 0 1' > $2; exit 20", False),
+        "an endless proof": ("exec timeout 1 yes > $2", False),
+        "an endless right proof": ("exec timeout 1 yes '5 d 0' > $2", False),
+        "a proof that nobody ends": ("exec 3> $2; sleep 1; exit 20", False),
+        "no answer": ("exec 3> $2; exit 0", False),
+    }
+
+    def test_pipes(self) -> None:
+        """Whatever a solver does with the FIFO for its proof, nobody waits for ever, and the proof
+        is taken if it is one."""
+        for what, (script, is_right) in self.PIPED.items():
+            self.forget(FOUR)
+            solver = self.script("piped", script.replace("PROGRAM", self.program))
+            began = time.monotonic()
+            end = self.conquer("-q", "--pipe", "--depth", "0", "--solver", solver, FOUR)
+            status = 20 if is_right else 0
+            self.assertEqual((status, True), (end.status, time.monotonic() - began < 60), what)
+            self.assertEqual([], self.running(FOUR), what)
+        for word in (["--solver", "kissat"], []):
+            self.ends(1, ["c usage"], "--pipe", *word, FOUR)
 
     def test_late(self) -> None:
         """A search whose time is up is ended, and its leaf is cut in two, or runs until it ends."""

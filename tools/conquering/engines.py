@@ -261,9 +261,9 @@ def work(path: str, mark: str, task: str) -> int:
         leaf = Leaf(tuple(cube), *rest)
         if folder.names("answers"):
             break
-        if folder.at(log_of(leaf.cube)).exists() or folder.covered(leaf.cube).exists():
+        if folder.has(log_of(leaf.cube)) or folder.covered(leaf.cube).exists():
             continue
         job = Job(folder, plan, leaf, mark)
         while not job.ended():
-            bell.wait(min(60, job.end - time.monotonic()))
+            bell.wait(min(1, job.end - time.monotonic()))
     return 0

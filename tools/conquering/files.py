@@ -2,7 +2,7 @@
 
     trees/N.icnf     the splitting tree; a leaf that is cut in two makes a new file
     whole.icnf       a tree of no levels, for the search of the whole formula
-    logs/LEAF.lrat   a log that closes a leaf
+    logs/LEAF.lrat   a log that closes a leaf; LEAF.lrat.zst if it is packed
     answers/LEAF     `v` lines that a job has brought
     records/..       how long each job took, and how it ended, for the report
     rounds/N         what an engine was asked to run; it stays as it is, since queued jobs name it
@@ -14,11 +14,14 @@ import fcntl
 import hashlib
 import os
 import shutil
+import subprocess
 import time
 from pathlib import Path
 from typing import FrozenSet, List, Optional, Tuple
 
 Cube = Tuple[int, ...]  # the literals of a path of the splitting tree
+PACKED = ".zst"  # behind the name of a log that is packed
+END = 1 << 14  # bytes of a log in which its last lemma is looked for
 
 
 class Fault(Exception):
@@ -76,16 +79,36 @@ def answer_of(cube: Cube) -> str:
     return "answers/" + name_of(cube)
 
 
+def packed(path: Path) -> Path:
+    """Where a log stands if it is packed."""
+    return Path(str(path) + PACKED)
+
+
+def end_of(path: Path) -> Tuple[bytes, bool]:
+    """The last bytes of a log, and whether others stand before them."""
+    if path.exists():
+        with path.open("rb") as file:
+            begin = max(0, path.stat().st_size - END)
+            file.seek(begin)
+            return file.read(), begin > 0
+    end, is_cut = b"", False
+    words = ["zstd", "-q", "-dc", str(packed(path))]
+    with subprocess.Popen(words, stdout=subprocess.PIPE, stderr=subprocess.DEVNULL) as process:
+        for piece in iter(lambda: process.stdout.read(1 << 20), b""):
+            end += piece
+            is_cut = is_cut or len(end) > END
+            end = end[-END:]
+    return end, is_cut
+
+
 def closed_by(path: Path) -> Optional[FrozenSet[int]]:
     """The literals whose cube the last lemma of a log closes, None where it cannot be told here."""
     try:
-        with path.open("rb") as file:
-            begin = max(0, path.stat().st_size - (1 << 14))
-            file.seek(begin)
-            lines = [line.split() for line in file.read().split(b"\n")]
+        end, is_cut = end_of(path)
     except OSError:
         return None
-    for words in reversed(lines[1:] if begin else lines):
+    lines = [line.split() for line in end.split(b"\n")]
+    for words in reversed(lines[1:] if is_cut else lines):
         if len(words) > 1 and words[1] != b"d" and b"0" in words:
             literals = words[1:words.index(b"0")]
             return frozenset(-int(word) for word in literals if word.lstrip(b"-").isdigit())
@@ -143,13 +166,24 @@ class Folder:
 
     def set_aside(self, name: str) -> None:
         """Takes away what `join` has refused, whatever it is; the next start removes it."""
-        if os.path.lexists(self.at(name)):
-            self.at(name).replace(self.at("scratch", "refused.%d" % time.time_ns()))
+        for path in (self.at(name), packed(self.at(name))):
+            if os.path.lexists(path):
+                path.replace(self.at("scratch", "refused.%d" % time.time_ns()))
 
     def names(self, kind: str) -> List[str]:
-        """Names for `join`, one a line. It runs in this folder, whatever that is called."""
-        names = sorted(name for name in os.listdir(self.at(kind)) if "\n" not in name)
-        return [kind + "/" + name for name in names]
+        """Names for `join`, one a line. It runs in this folder, whatever that is called. A packed
+        log has the name that it has unpacked."""
+        names = {name for name in os.listdir(self.at(kind)) if "\n" not in name}
+        if kind == "logs":
+            names = {name[:-len(PACKED)] if name.endswith(PACKED) else name for name in names}
+        return [kind + "/" + name for name in sorted(names)]
+
+    def has(self, log: str) -> bool:
+        return self.at(log).exists() or self.is_packed(log)
+
+    def is_packed(self, log: str) -> bool:
+        """Whether a log stands here packed alone."""
+        return not os.path.lexists(self.at(log)) and packed(self.at(log)).exists()
 
     def covered(self, cube: Cube) -> Path:
         """A file that tells jobs elsewhere that another leaf's log closes this one."""

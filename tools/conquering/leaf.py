@@ -12,8 +12,9 @@ from dataclasses import asdict, dataclass
 from pathlib import Path
 from typing import Dict, Generator, List, Optional, Tuple, Union
 
-from conquering.files import Cube, Folder, answer_of, last_line, log_of, name_of, publish
-from conquering.processes import Command, Process, Word, kill, start
+from conquering.files import (Cube, Folder, answer_of, last_line, log_of, name_of, packed,
+                              publish)
+from conquering.processes import REFUSED, Command, Pair, Process, Reader, Word, kill, start
 from telling.words import of_foreign_proof
 
 CLOSED, MODEL, LIMIT, FAILED = "closed", "model", "limit", "failed"  # how a job ends
@@ -43,6 +44,8 @@ class Plan:
     limit: Optional[int] = None
     seconds: Optional[int] = None
     split: str = ""  # by which words the first tree was made
+    compress: bool = False  # whether logs are kept packed
+    pipe: bool = False  # whether a solver's proof goes to `lift` by a FIFO
 
 
 @dataclass(frozen=True)
@@ -75,8 +78,12 @@ def conquer_leaf(folder: Folder, plan: Plan, leaf: Leaf) -> Steps:
         search = by_refute if plan.solver is None else by_solver
         outcome = yield from search(plan, words, here, leaf.limited)
         if outcome == CLOSED:
-            size = (here / "log").stat().st_size
-            publish(here / "log", folder.at(log_of(leaf.cube)))
+            log, place = here / "log", folder.at(log_of(leaf.cube))
+            if plan.compress:
+                yield from pack(log, here / "packing")
+                log, place = packed(log), packed(place)
+            size = log.stat().st_size
+            publish(log, place)
         elif outcome == MODEL:
             publish(here / "answer", folder.at(answer_of(leaf.cube)))
     except (Failed, OSError) as why:
@@ -84,6 +91,13 @@ def conquer_leaf(folder: Folder, plan: Plan, leaf: Leaf) -> Steps:
     finally:
         shutil.rmtree(str(here), ignore_errors=True)
     return outcome, note, size
+
+
+def pack(log: Path, output: Path) -> Generator[Command, Status, None]:
+    """Packs a log, to the same name with `.zst` behind it."""
+    status = yield Command(["zstd", "-q", "-1", log, "-o", packed(log)], output)
+    if status != 0:
+        raise Failed("zstd ends with %s: %s" % (status, last_line(output)))
 
 
 def read_record(path: Path) -> Optional[Record]:
@@ -131,22 +145,30 @@ def by_solver(plan: Plan, words: List[Word], here: Path, limited: bool) -> Searc
         raise Failed("leaf ends with %s: %s" % (status, last_line(cnf)))
     files = {"{cnf}": str(cnf), "{lrat}": str(lrat), "{drat}": str(here / "drat")}
     search, *translate = [[filled(word, files) for word in command] for command in plan.solver]
-    status = yield Command(search, out, plan.seconds if limited else None)
+    lift = [plan.program, "lift", *words, plan.input, lrat, here / "log"]
+    reader, lifted = None, here / "lifted"
+    if plan.pipe:
+        os.mkfifo(str(lrat))
+        reader = Reader(Command(lift, lifted), lrat)
+    status = yield Command(search, out, plan.seconds if limited else None, reader)
     if status == LATE or (status == 0 and limited):
         return LIMIT
+    if status == REFUSED:
+        raise Failed("lift refuses what came by a pipe: " + last_line(lifted))
     if status == 10:
         keep_values(out, here / "answer")
         return MODEL
     if status != 20:
         raise Failed("the solver ends with %s: %s" % (status, last_line(out)))
+    if lrat.is_fifo():
+        return CLOSED
     for command in translate:
         yield Command(command, out)
     # Where units alone refute a leaf some write no proof at all; `lift` takes an empty one.
     lrat.open("ab").close()
-    command = [plan.program, "lift", *words, plan.input, lrat, here / "log"]
-    status = yield Command(command, out)
+    status = yield Command(lift, lifted)
     if status != 0:
-        line = last_line(out)
+        line = last_line(lifted)
         why = " ".join(of_foreign_proof(line, str(lrat)))
         raise Failed("lift ends with %s: %s" % (status, line) + (". " + why if why else ""))
     return CLOSED
@@ -171,7 +193,7 @@ class Job:
     def __init__(self, folder: Folder, plan: Plan, leaf: Leaf, mark: str) -> None:
         self.folder, self.leaf, self.mark = folder, leaf, mark
         self.steps = conquer_leaf(folder, plan, leaf)
-        self.process: Optional[Process] = None
+        self.process: Union[Process, Pair, None] = None
         self.result: Optional[Tuple[str, str]] = None  # how it has ended, and why
         self.memory = 0
         self.began, self.begin = time.monotonic(), time.time()
@@ -187,7 +209,7 @@ class Job:
             return
         self.end = time.monotonic() + (command.seconds or float("inf"))
         try:
-            self.process = start(command)
+            self.process = Pair(command) if command.reader else start(command)
         except OSError as why:
             command.output.write_text(str(why))
             self.next("no start")

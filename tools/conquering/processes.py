@@ -17,6 +17,15 @@ class Command:
     words: List[Word]
     output: Path  # where its output goes
     seconds: Optional[float] = None  # after how many it is ended; None: never
+    reader: Optional["Reader"] = None  # what reads meanwhile what it writes
+
+
+@dataclass(frozen=True)
+class Reader:
+    """A command that reads from a FIFO what another one writes to it."""
+
+    command: Command
+    pipe: Path
 
 
 DIE_WITH_PARENT = 1  # PR_SET_PDEATHSIG
@@ -73,6 +82,53 @@ def start(command: Command, **more: Any) -> Process:
                        preexec_fn=lambda: die_with(parent), **more)
 
 
+def opens(pipe: Path) -> bool:
+    """Opens a FIFO to write, and closes it, if somebody has opened it to read: whoever waits for one
+    that writes, and which has ended before it did, reads nothing."""
+    try:
+        os.close(os.open(str(pipe), os.O_WRONLY | os.O_NONBLOCK))
+    except OSError:
+        return False
+    return True
+
+
+READ = 20  # the status of a pair whose reader has taken all
+REFUSED = "refused"  # that of one whose reader has refused it
+
+
+class Pair:
+    """A command, and the reader of what it writes: as one process. Neither waits for one that has
+    ended. If the reader has taken all the status is READ, whatever the writer's is."""
+
+    def __init__(self, command: Command) -> None:
+        self.pipe = command.reader.pipe
+        self.reader = start(command.reader.command)
+        try:
+            self.writer = start(command)
+        except OSError:
+            kill(self.reader)
+            raise
+
+    def poll(self) -> Union[int, str, None]:
+        written, read = self.writer.poll(), self.reader.poll()
+        if read == 0:
+            return READ
+        if read is not None and written in (None, READ, -signal.SIGPIPE):
+            return REFUSED
+        if written == READ and self.pipe.is_fifo():
+            opens(self.pipe)
+            return None
+        return written
+
+    @property
+    def memory(self) -> int:
+        return max(self.writer.memory, self.reader.memory)
+
+    def kill(self) -> None:
+        kill(self.writer)
+        kill(self.reader)
+
+
 def status_of(words: List[Word], output: Path) -> int:
     """Runs a short command, which ends with this process, and writes what it prints to a file."""
     parent = os.getpid()
@@ -81,7 +137,10 @@ def status_of(words: List[Word], output: Path) -> int:
                                preexec_fn=lambda: die_with(parent))
 
 
-def kill(process: subprocess.Popen) -> None:
+def kill(process: Union[subprocess.Popen, Pair]) -> None:
+    if isinstance(process, Pair):
+        process.kill()
+        return
     try:
         os.killpg(process.pid, signal.SIGKILL)
     except ProcessLookupError:

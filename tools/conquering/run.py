@@ -9,6 +9,7 @@ from conquering.files import Cube, Folder, answer_of, closed_by, log_of, publish
 from conquering.leaf import CLOSED, LIMIT, MODEL, Leaf, Plan
 from conquering.processes import Bell, Command, kill, output_of, start, status_of
 from conquering.screen import Screen, clock
+from conquering.unpacking import Unpacking
 
 TRIES = 3  # how often a leaf is run in one start before it is given up
 HOPELESS = 20  # how many jobs may fail before any leaf is closed
@@ -16,11 +17,15 @@ CALM = 5  # seconds
 
 
 class Join:
-    """The program's `join`, told names of logs as they come: it reads while leaves still run."""
+    """The program's `join`, told names of logs as they come: it reads while leaves still run. In
+    the place of a packed log it is told a FIFO, and the next name when all of it was read."""
 
     def __init__(self, folder: Folder, plan: Plan, tree: str) -> None:
         self.output, self.waiting = folder.at("scratch", "joined"), b""
         self.names: List[str] = []
+        self.told = 0  # how many of them were handed on
+        self.folder, self.unpacking = folder, Unpacking(folder)
+        self.pipes: Dict[str, str] = {}  # of each FIFO, which log it was
         words = [plan.program, "join", "--cubes", tree, plan.input, "scratch/proof.lrat", "-"]
         self.process = start(Command(words, self.output), stdin=subprocess.PIPE,
                              cwd=str(folder.path))
@@ -28,29 +33,52 @@ class Join:
 
     def add(self, *names: str) -> None:
         self.names += names
-        self.waiting += b"".join(os.fsencode(name) + b"\n" for name in names)
+
+    def next(self) -> bool:
+        """Takes the next name that may be handed on."""
+        if self.unpacking.runs() or self.told == len(self.names):
+            return False
+        name = self.names[self.told]
+        self.told += 1
+        if self.folder.is_packed(name):
+            pipe = "scratch/pipe.%d.%d" % (self.process.pid, self.told)
+            self.pipes[pipe] = name
+            self.unpacking.begin(name, pipe)
+            name = pipe
+        self.waiting = os.fsencode(name) + b"\n"
+        return True
 
     def feed(self) -> bool:
         """Hands on what the pipe takes. Answers whether `join` still runs."""
         pipe = self.process.stdin.fileno()
         try:
-            while self.waiting:
-                self.waiting = self.waiting[os.write(pipe, self.waiting[:4096]):]
+            while self.waiting or self.next():
+                self.waiting = self.waiting[os.write(pipe, self.waiting):]
         except BlockingIOError:
             pass
         except BrokenPipeError:  # it has ended
-            self.waiting = b""
-        return self.process.poll() is None
+            self.waiting, self.told = b"", len(self.names)
+        if self.process.poll() is None:
+            return True
+        self.unpacking.end()
+        return False
 
     def answer(self, bell: Bell) -> Tuple[int, List[str]]:
         """Its status and lines, when it has read all that it was told."""
-        while self.feed() and self.waiting:
+        while self.feed() and (self.waiting or self.told < len(self.names) or self.unpacking.runs()):
             bell.wait(0.05)
         self.process.stdin.close()
         while self.process.poll() is None:
-            bell.wait(1)
+            self.unpacking.runs()
+            bell.wait(0.05 if self.unpacking.left else 1)
+        self.unpacking.end()
         text = self.output.read_text(encoding="ascii", errors="replace")
-        return self.process.returncode, text.split("\n")[:-1]
+        return self.process.returncode, [self.named(line) for line in text.split("\n")[:-1]]
+
+    def named(self, line: str) -> str:
+        """A line of its output, with a log's name in the place of its FIFO's."""
+        rest, _, name = line.rpartition(" ")
+        return rest + " " + self.pipes[name] if name in self.pipes else line
 
     def refused(self, lines: List[str]) -> Tuple[List[str], List[int]]:
         """The names of files that it refuses, and the places of leaves that nothing closes."""
@@ -344,5 +372,6 @@ class Run:
     def end_join(self) -> None:
         if self.join:
             kill(self.join.process)
+            self.join.unpacking.end()
             self.join.process.stdin.close()
         self.join = None

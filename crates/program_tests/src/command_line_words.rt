@@ -268,6 +268,7 @@ fn a_leaf_and_a_model(rt: HostRuntime) {
         input: "f.cnf",
         proof: "f.lrat",
         out: "g.lrat",
+        binary: false,
     };
     asks(&rt, alloc, "satcluster trim f.cnf f.lrat g.lrat", trim);
 }
@@ -282,6 +283,7 @@ fn a_lift_of_a_leaf_or_of_all(rt: HostRuntime) {
         lidrup: false,
         proof: "l.lrat",
         fragment: "l.frag",
+        binary: false,
     };
     asks(
         &rt,
@@ -296,6 +298,7 @@ fn a_lift_of_a_leaf_or_of_all(rt: HostRuntime) {
         lidrup: true,
         proof: "f.lidrup",
         fragment: "f.frag",
+        binary: false,
     };
     asks(
         &rt,
@@ -311,6 +314,7 @@ fn a_lift_of_a_leaf_or_of_all(rt: HostRuntime) {
         lidrup: true,
         proof: "f.lidrup",
         fragment: "f.frag",
+        binary: false,
     };
     asks(
         &rt,
@@ -330,6 +334,7 @@ fn a_refutation_with_its_defaults_and_with_all_its_words(rt: HostRuntime) {
         limit: 140_737_488_355_328,
         fragment: None,
         printing: PRINTED,
+        binary: false,
     };
     asks(
         &rt,
@@ -348,6 +353,7 @@ fn a_refutation_with_its_defaults_and_with_all_its_words(rt: HostRuntime) {
             quiet: true,
             witness: false,
         },
+        binary: false,
     };
     let words = "satcluster refute --cubes f.icnf --leaf 3 --to 9 --limit 1 -q -n f.cnf l.frag";
     asks(&rt, rt.alloc(), words, full);
@@ -363,6 +369,7 @@ fn fragments_by_their_names(rt: HostRuntime) {
         proof: "f.lrat",
         fragments: vec![in alloc; "a"].expect(&rt, "memory"),
         printing: PRINTED,
+        binary: false,
     };
     asks(
         &rt,
@@ -379,6 +386,7 @@ fn fragments_by_their_names(rt: HostRuntime) {
             quiet: true,
             ..PRINTED
         },
+        binary: false,
     };
     let words = "satcluster join f.cnf f.lrat b -q - --cubes f.icnf a";
     asks(&rt, alloc, words, three);

@@ -5,40 +5,37 @@ ghost use Rattle.std.specs.Prelude.{◌≤◌};
 ghost use Rattle.command_line.specs.CommandLine.{IsInRange};
 
 mod accepting;
-mod check;
 mod complete;
 mod files;
 mod join;
 mod leaf_runs;
 mod lift;
 mod linked_runs;
-mod model;
 mod proof_file;
 mod session;
 mod showing;
 mod standard_input;
 mod trim;
 
-use check::check;
+use commands::{check_files, deliver, print_leaf, refused, split_leaf, test_model};
 use complete::complete;
-use files::{no_memory, read, refused};
+use files::{Machine, no_memory, read};
 use join::{JoinFiles, join};
-use leaf_runs::{LeafFiles, LeafRange, leaf, refute, split};
+use leaf_runs::{LeafFiles, LeafRange, refute};
 use leaves::Search;
 use lift::{LiftFiles, lift};
-use linked_runs::{Files, print, serve, solve, work};
-use model::model;
+use linked_runs::{Files, serve, solve, work};
 use node_main::{Refusal, Report, Request, UsageFault, command, run_cubes};
 use proof_file::Target;
 use session::session;
 use showing::Showing;
 use standard_input::is_sound;
 use std::alloc::AllocError;
-use std::env;
 use std::io::IsTerminal;
 use std::net::Net;
 use std::process::ExitCode;
 use std::rt::Runtime;
+use std::{env, io};
 use trim::trim;
 
 fn cubes<R: Runtime + AllocGlobal>(rt: &R, input: &str, depth: u32) -> Result<Report, Refusal>
@@ -89,7 +86,7 @@ fn answer<R: Runtime + AllocGlobal + Net>(
             if is_session {
                 session(rt, input, proof)
             } else {
-                check(rt, input, proof)
+                check_files(&Machine { rt }, input, proof)
             }
         }
         Request::Cubes { input, depth } => cubes(rt, input, depth),
@@ -128,13 +125,13 @@ fn answer<R: Runtime + AllocGlobal + Net>(
             cubes,
             leaf,
             on,
-        } => split(rt, input, cubes, u64::from(leaf), on),
+        } => split_leaf(&Machine { rt }, (input, cubes), u64::from(leaf), on),
         Request::Complete { input, list } => complete(rt, input, list),
         Request::Leaf {
             input,
             cubes,
             leaf: number,
-        } => leaf(rt, input, cubes, u64::from(number)),
+        } => print_leaf(&Machine { rt }, input, cubes, u64::from(number)),
         Request::Refute {
             input,
             cubes,
@@ -196,7 +193,7 @@ fn answer<R: Runtime + AllocGlobal + Net>(
             };
             lift(rt, &files, leaf, lidrup)
         }
-        Request::Model { input, output } => model(rt, input, output),
+        Request::Model { input, output } => test_model(&Machine { rt }, input, output),
         Request::Trim {
             input,
             proof,
@@ -262,12 +259,9 @@ fn main(rt: HostRuntime) -> ExitCode {
     } else {
         Showing::Lines
     };
-    let (printed, status) = match run(&rt, showing) {
-        Ok(report) => (print(&rt, report.stdout.as_slice()), report.status),
-        Err(line) => (print(&rt, line.as_bytes()), 1),
-    };
-    match printed {
-        Ok(()) => ExitCode::from(status),
+    let found = run(&rt, showing);
+    match deliver(&mut io::writer(&rt), &found) {
+        Ok(status) => ExitCode::from(status),
         Err(_) => ExitCode::from(1),
     }
 }
