@@ -2,7 +2,8 @@
 use Rattle.std.specs.Prelude.{◌≡◌, ◌++◌, ℕ, List, [], Option, Some, None, refl}
 use Rattle.std.specs.Io.KnownBytes.{Keeps, Consumes, IsAtEnd}
 use Rattle.std.proofs.Common.{sym, ◌∙◌, ap, subst, append_assoc, append-nil}
-use Rattle.commands.specs.Feeding.{HasFed, IsFed}
+use Rattle.commands.specs.Feeding.{IsFed}
+use Rattle.commands.specs.inner.Feeding.{HasFed}
 
 pub keeps_same : (k : Option (List ℕ)) → Keeps k k
 keeps_same None = tt

@@ -1,16 +1,14 @@
 -- What a command over leaves begins with, and what is told of an input and cubes that are refused.
 use Rattle.std.specs.Prelude.{◌≡◌, ◌⊎◌, ℕ, Bool, List, [], Result, Ok, Err, if◌then◌else◌}
 use Rattle.dimacs.specs.logic.Cnf.{Cnf}
-use Rattle.dimacs.specs.text.Reading.{parse, no_memory}
-use Rattle.dimacs.specs.text.Rows.{Fails}
+use Rattle.dimacs.specs.text.Reading.{parse}
 use Rattle.dimacs.specs.declared.fault.DimacsFault.{DimacsFault}
 use Rattle.icnf.specs.Pieces.{Tells}
 use Rattle.icnf.specs.Reading.{parse as parse_cubes}
 use Rattle.icnf.specs.declared.cubes_fault.CubesFault.{CubesFault}
 use Rattle.icnf.specs.declared.cubes_fault.CubesFault.TheVariants.{Faulty, OtherFormula}
 use Rattle.leaves.specs.Leaf.{Prints}
-use Rattle.leaves.specs.Reading.{HasReadText, SplitsAs}
-use Rattle.leaves.specs.declared.split.SplitReader.{SplitReader}
+use Rattle.leaves.specs.Reading.{SplitsAs}
 use Rattle.commands.specs.declared.beginning.Begun.{Begun}
 use Rattle.commands.specs.declared.beginning.Begun.TheVariants.{With, Refused}
 use Rattle.reports.specs.Faults.{cubes_fault_text, input_fault_text, other_formula_text}
@@ -37,11 +35,6 @@ OfFormula input P = (F : Cnf) × (parse input ≡ Ok F) × P F
 abbrev pub Begins : List ℕ → List ℕ → Begun → Type 0
 Begins input cubes (With s) = OfFormula input (λ F. SplitsAs F cubes s)
 Begins input cubes (Refused r) = RefusesInput input r ⊎ OfFormula input (λ F. RefusesCubes F cubes r)
-
--- the cubes of a formula that was read are compared with it so far; those of an input with a fault are passed over
-abbrev pub ReadsTree : List ℕ → List ℕ → Result SplitReader DimacsFault → Type 0
-ReadsTree input cubes (Ok r) = OfFormula input (λ F. HasReadText F cubes r)
-ReadsTree input cubes (Err fault) = Fails no_memory fault (parse input)
 
 -- the report, without its text if it is quiet
 pub record IsHushed (quiet : Bool) (report shown : Report) : Type 0 where

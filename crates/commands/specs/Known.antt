@@ -1,13 +1,7 @@
--- Bytes of sources and files that are known, or not.
-use Rattle.std.specs.Prelude.{◌≡◌, ℕ, Bool, true, false, List, Option, Some, None, ⊤}
+-- Bytes of sources that are known, or not.
+use Rattle.std.specs.Prelude.{ℕ, List, Option, Some, None}
 
 -- P is so for the bytes of a source; if they are not known, for some bytes
 abbrev pub Of : Option (List ℕ) → (List ℕ → Type 0) → Type 0
 Of None P = (bytes : List ℕ) × P bytes
 Of (Some bytes) P = P bytes
-
--- a file that tells its bytes has these
-abbrev pub HasText : Bool → Option (List ℕ) → List ℕ → Type 0
-HasText false known bytes = ⊤
-HasText true None bytes = ⊥
-HasText true (Some known) bytes = known ≡ bytes

@@ -1,8 +1,9 @@
 //! What a command over leaves begins with: a formula, and the tree of its cubes.
 
 ghost use Rattle.std.specs.Prelude.{◌≡◌, ◌≢◌, ℕ, List, Ok, Err, [], ◌++◌, IfOk, OnOk};
-ghost use Rattle.commands.specs.Beginning.{Begins, IsHushed, ReadsTree, cubes_text};
-ghost use Rattle.commands.specs.Feeding.{Extends};
+ghost use Rattle.commands.specs.Beginning.{Begins, IsHushed, cubes_text};
+ghost use Rattle.commands.specs.inner.Beginning.{ReadsTree};
+ghost use Rattle.commands.specs.inner.Feeding.{Extends};
 ghost use Rattle.commands.specs.Known.{Of};
 ghost use Rattle.dimacs.specs.text.Reading.{GivesFormula, parse, no_memory};
 ghost use Rattle.icnf.specs.Reading.{no_memory as no_cubes_memory};

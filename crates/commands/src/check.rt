@@ -2,7 +2,7 @@
 
 ghost use Rattle.std.specs.Prelude.{◌≡◌, ◌++◌, ℕ, List, [], IfOk};
 ghost use Rattle.commands.specs.Checking.{Checks};
-ghost use Rattle.commands.specs.Feeding.{Extends};
+ghost use Rattle.commands.specs.inner.Feeding.{Extends};
 ghost use Rattle.commands.specs.Known.{Of};
 ghost use Rattle.node_main.specs.ProofChecks.{HasTaken};
 

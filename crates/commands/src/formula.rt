@@ -3,7 +3,7 @@
 ghost use Rattle.std.specs.Prelude.{◌≡◌, IfOk};
 ghost use Rattle.dimacs.specs.text.Pieces.{HasRead};
 ghost use Rattle.dimacs.specs.text.Reading.{GivesFormula, parse};
-ghost use Rattle.commands.specs.Feeding.{Extends};
+ghost use Rattle.commands.specs.inner.Feeding.{Extends};
 ghost use Rattle.commands.specs.Known.{Of};
 
 use crate::feeding::{Feeds, feed_all};
@@ -57,7 +57,7 @@ struct Bytes {
 
 impl Feeds for Bytes {
     ghost use Rattle.commands.specs.inner.Feeding.{grows_nothing, grows_more};
-    ghost use Rattle.commands.specs.Feeding.{Grows};
+    ghost use Rattle.commands.specs.inner.Feeding.{Grows};
 
     ghost took = { λ old new more. Grows old.items.items new.items.items more };
 

@@ -9,8 +9,6 @@ mod check;
 mod disk;
 mod feeding;
 mod formula;
-mod leaf;
-mod model;
 mod pieces;
 mod printing;
 
@@ -19,7 +17,5 @@ pub use check::check_files;
 pub use disk::Disk;
 pub use feeding::{Fed, Feeds, feed_all, feed_on};
 pub use formula::{read_bytes, read_formula};
-pub use leaf::{print_leaf, split_leaf};
-pub use model::test_model;
 pub use pieces::{Pieces, refused};
 pub use printing::{deliver, print};

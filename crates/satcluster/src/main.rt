@@ -11,20 +11,22 @@ mod join;
 mod leaf_runs;
 mod lift;
 mod linked_runs;
+mod model;
 mod proof_file;
 mod session;
 mod showing;
 mod standard_input;
 mod trim;
 
-use commands::{check_files, deliver, print_leaf, refused, split_leaf, test_model};
+use commands::{check_files, deliver, refused};
 use complete::complete;
 use files::{Machine, no_memory, read};
 use join::{JoinFiles, join};
-use leaf_runs::{LeafFiles, LeafRange, refute};
+use leaf_runs::{LeafFiles, LeafRange, leaf, refute, split};
 use leaves::Search;
 use lift::{LiftFiles, lift};
 use linked_runs::{Files, serve, solve, work};
+use model::model;
 use node_main::{Refusal, Report, Request, UsageFault, command, run_cubes};
 use proof_file::Target;
 use session::session;
@@ -125,13 +127,13 @@ fn answer<R: Runtime + AllocGlobal + Net>(
             cubes,
             leaf,
             on,
-        } => split_leaf(&Machine { rt }, (input, cubes), u64::from(leaf), on),
+        } => split(rt, input, cubes, u64::from(leaf), on),
         Request::Complete { input, list } => complete(rt, input, list),
         Request::Leaf {
             input,
             cubes,
             leaf: number,
-        } => print_leaf(&Machine { rt }, input, cubes, u64::from(number)),
+        } => leaf(rt, input, cubes, u64::from(number)),
         Request::Refute {
             input,
             cubes,
@@ -193,7 +195,7 @@ fn answer<R: Runtime + AllocGlobal + Net>(
             };
             lift(rt, &files, leaf, lidrup)
         }
-        Request::Model { input, output } => test_model(&Machine { rt }, input, output),
+        Request::Model { input, output } => model(rt, input, output),
         Request::Trim {
             input,
             proof,

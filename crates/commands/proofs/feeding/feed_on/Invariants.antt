@@ -1,4 +1,4 @@
-use Rattle.commands.specs.Feeding.{HasFed}
+use Rattle.commands.specs.inner.Feeding.{HasFed}
 use Rattle.commands.proofs.feeding.feed_on.Given as goal
 
 abbrev pub invariant-loop : goal.invariant-loop
