@@ -21,8 +21,9 @@ HEAD = """# What a fault means, and what to do
 *`tools/faults.py` makes this page of the table in `tools/telling/faults.py`.*
 
 `tools/satcluster-solver` and `tools/conquer.py` tell these sentences by themselves. The program
-prints the number and the line. [DIMACS.md](DIMACS.md#faults), [LRAT.md](LRAT.md#steps) and
-[ICNF.md](ICNF.md#faults) have what exactly each number stands for. In examples `/` is a line end.
+prints the number and the line. [DIMACS.md](DIMACS.md#faults), [LRAT.md](LRAT.md#steps),
+[ICNF.md](ICNF.md#faults) and [SESSIONS.md](SESSIONS.md#events) have what exactly each number stands
+for. In examples `/` is a line end.
 """
 BYTES = """## What a file is by its bytes
 
