@@ -134,7 +134,7 @@ class Case(unittest.TestCase):
                 pass
         return found
 
-    def wait_for(self, what: str, holds: Callable[[], object], seconds: float = SECONDS) -> None:
+    def wait_for(self, what: object, holds: Callable[[], object], seconds: float = SECONDS) -> None:
         end = time.monotonic() + seconds
         while not holds():
             self.assertLess(time.monotonic(), end, what)
@@ -437,6 +437,18 @@ class Solvers(Case):
             self.assertEqual([], self.running(FOUR), what)
         for word in (["--solver", "kissat"], []):
             self.ends(1, ["c usage"], "--pipe", *word, FOUR)
+
+    def test_pipe_of_a_killed_script(self) -> None:
+        """Neither end outlives the script, whichever waits for the other then."""
+        for script in ("exec tail -f $1", "exec tail -f $1 > $2", "exec cat /dev/zero $1 > $2"):
+            for how in (signal.SIGKILL, signal.SIGTERM):
+                self.forget(FOUR)
+                solver = self.script("piped", script)
+                run = self.start("-q", "--pipe", "--depth", "0", "--solver", solver, FOUR)
+                self.wait_for("lift", lambda: len(self.running(FOUR)) > 1)
+                run.send_signal(how)
+                run.communicate()
+                self.wait_for((script, how), lambda: not self.running(FOUR), 20)
 
     def test_late(self) -> None:
         """A search whose time is up is ended, and its leaf is cut in two, or runs until it ends."""
