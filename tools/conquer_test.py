@@ -421,7 +421,8 @@ class Solvers(Case):
         "an endless proof": ("exec timeout 1 yes > $2", False),
         "an endless right proof": ("exec timeout 1 yes '5 d 0' > $2", False),
         "a proof that nobody ends": ("exec 3> $2; sleep 1; exit 20", False),
-        "no answer": ("exec 3> $2; exit 0", False),
+        "no answer": ("exit 0", False),
+        "no answer, and an empty proof": ("exec 3> $2; exit 0", None),  # which is one of a half
     }
 
     def test_pipes(self) -> None:
@@ -432,8 +433,9 @@ class Solvers(Case):
             solver = self.script("piped", script.replace("PROGRAM", self.program))
             began = time.monotonic()
             end = self.conquer("-q", "--pipe", "--depth", "0", "--solver", solver, FOUR)
-            status = 20 if is_right else 0
-            self.assertEqual((status, True), (end.status, time.monotonic() - began < 60), what)
+            statuses = {True: [20], False: [0], None: [0, 20]}[is_right]
+            self.assertIn(end.status, statuses, what)
+            self.assertLess(time.monotonic() - began, 60, what)
             self.assertEqual([], self.running(FOUR), what)
         for word in (["--solver", "kissat"], []):
             self.ends(1, ["c usage"], "--pipe", *word, FOUR)
