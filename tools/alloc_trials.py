@@ -71,6 +71,9 @@ FILES = {
     "right.lrat": "5 1 0 1 3 0\n",
     "leaf.lrat": "6 0 5 2 4 0\n",
     "answer": "c a comment\ns SATISFIABLE\nv 1 -2 0\n",
+    "session.icnf": "p inccnf\n1 2 0\n-1 2 0\na -2 0\na 1 0\n",
+    "session.lidrup": "i 1 1 2 0\ni 2 -1 2 0\nq -2 0\nl 3 2 0 1 2 0\ns UNSATISFIABLE\nu -2 0 3 0\nd 3 0\n"
+    "q 1 0\ns SATISFIABLE\nm 1 2 0\n",
     "kept": "what a file held before\n",
 }
 
@@ -86,6 +89,9 @@ RUNS = [
     ("check four.cnf four.lrat", "s VERIFIED", 0),
     ("check four.cnf groups.lrat", "s VERIFIED", 0),
     ("check four.cnf unfinished.lrat", "s NOT VERIFIED", 1),
+    ("check --session session.icnf session.lidrup", "s VERIFIED", 0),
+    ("check --session session.icnf four.lrat", "s NOT VERIFIED", 1),
+    ("check --session four.cnf session.lidrup", "c input line 1 fault 2", 1),
     ("cubes --depth 2 four.cnf", "p inccnf", 0),
     ("solve --workers 1 --depth 0 units.cnf", "s SATISFIABLE", 10),
     ("solve --workers 2 --depth 1 -q -n units.cnf", "s SATISFIABLE", 10),

@@ -1,11 +1,12 @@
 #!/usr/bin/env bash
-# Fetches CBMC, yosys and ABC as Debian packages of the unstable suite, with the C library that they
+# Fetches CBMC, yosys, ABC and CaDiCaL's library as Debian packages of the unstable suite, with the C library that they
 # want, and makes of them programs that run on this machine.
 #
 #     tools/clients.sh FOLDER      makes FOLDER/cbmc, FOLDER/yosys, FOLDER/yosys-abc
 #     SATCLUSTER_CLIENTS=FOLDER tools/solver_test.py PATH-OF-satcluster Clients
 #
-# With g++ it makes FOLDER/satcluster.so, too: yosys takes other solvers as plugins.
+# With g++ it makes FOLDER/satcluster.so, too: yosys takes other solvers as plugins; and
+# FOLDER/cadical_session, by which tools/session_test.py has CaDiCaL prove sessions.
 set -eu
 here=$(cd "$(dirname "$0")" && pwd)
 mkdir -p "${1:?FOLDER}/lists/partial" "$1/cache/archives/partial"
@@ -18,7 +19,7 @@ apt="-o Dir::Etc::sourcelist=$to/sid.list -o Dir::Etc::sourceparts=- -o Dir::Sta
     -o Dir::Cache=$to/cache"
 apt-get $apt update > log 2>&1 || { cat log; exit 1; }
 for package in cbmc minisat yosys yosys-abc yosys-dev libc6 libstdc++6 libgcc-s1 libffi8 \
-    libbz2-1.0 libreadline8t64 libtcl8.6 libtinfo6 tzdata zlib1g; do
+    libbz2-1.0 libreadline8t64 libtcl8.6 libtinfo6 tzdata zlib1g libcadical-dev; do
     apt-get $apt download "$package" >> log 2>&1 || { cat log; exit 1; }
 done
 for package in *.deb; do dpkg-deb -x "$package" all; done
@@ -32,6 +33,8 @@ done
 if command -v g++ > log; then
     g++ -std=c++20 -O1 -fPIC -shared -D_YOSYS_ -DYOSYS_ENABLE_PLUGINS \
         -I all/usr/share/yosys/include -o satcluster.so "$here/clients/yosys_solver.cc"
+    g++ -std=c++17 -O1 -I all/usr/include -o cadical_session "$here/clients/cadical_session.cc" \
+        all/usr/lib/x86_64-linux-gnu/libcadical.a
 fi
 ./cbmc --version
 ./yosys -V

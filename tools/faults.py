@@ -14,7 +14,8 @@ from telling import looks
 from telling.faults import LINES, TABLES, Table
 
 PAGE = Path(__file__).resolve().parent.parent / "docs" / "FAULTS.md"
-TITLES = {"input": "A formula", "proof": "A proof", "cubes": "Cubes", "answer": "An answer"}
+TITLES = {"input": "A formula", "proof": "A proof", "cubes": "Cubes", "answer": "An answer",
+          "events": "The events of a session", "session": "The proof of a session"}
 HEAD = """# What a fault means, and what to do
 
 *`tools/faults.py` makes this page of the table in `tools/telling/faults.py`.*

@@ -572,7 +572,10 @@ class Table(Case):
         formula, name = self.example("four_clauses.cnf"), "example"
         commands = {"input": ["solve", "--depth", "0", name], "proof": ["check", formula, name],
                     "cubes": ["leaf", "--cubes", name, "--leaf", "1", formula],
-                    "answer": ["model", formula, name]}
+                    "answer": ["model", formula, name],
+                    "events": ["check", "--session", name, name],
+                    "session": ["check", "--session", "events", name]}
+        self.write("events", "p inccnf\n1 2 0\na 1 0\n")
         for table in TABLES.values():
             for row in table.rows:
                 if row.example:

@@ -39,6 +39,7 @@ SAME = "Run the solver again, on this very file."
 RAT = "Ask the solver for a proof without such steps (Kissat: `--no-factor`)."
 MEMORY = "Give the process more memory (`ulimit -v`, the limit of the job or of the container)."
 CUT = "The file was cut: make it anew."
+WRONG = "The proof is wrong: run the session again."
 
 INPUT = Table(
     "input",
@@ -153,7 +154,69 @@ ANSWER = Table(
         Row(14, "There was not memory enough for the answer.", "", MEMORY),
     ))
 
-TABLES: Dict[str, Table] = {table.name: table for table in (INPUT, PROOF, CUBES, ANSWER)}
+SESSION_EVENTS = Table(
+    "events",
+    "What was sent in a session, printed as `c input line L fault N` by `check --session` "
+    "([SESSIONS.md](SESSIONS.md#events)).",
+    (
+        Row(1, "The text has no header: its first token is not `p`.", "1 2 0\n",
+            "Put the line `p inccnf` before the events."),
+        Row(2, "The header is not `p inccnf`.", "p cnf 2 1\n",
+            "EVENTS comes first, and PROOF second. A header tells no number here."),
+        Row(3, "A token is no number; an `a` begins a query, and stands nowhere else.",
+            "p inccnf\n1 2 0\n1 a 2 0\n",
+            "Write one event a line: the literals of a clause and `0`, or `a`, the literals of a "
+            "query and `0`."),
+        Row(5, "A line has no `0`, or a token behind it.", "p inccnf\n1 2 0 -1 0\n",
+            "One line is one event here, other than in a formula. If it is the last line, the file "
+            "was cut."),
+        Row(8, "The events are above the limits: 1,000,000 variables, 4,000,000 clauses, 50,000,000 "
+            "literals of clauses, 1,000,000 literals of a query.", "p inccnf\n1000001 0\n",
+            "The program takes no greater ones."),
+        Row(9, "There was not memory enough for the events.", "", MEMORY),
+    ))
+
+SESSION_PROOF = Table(
+    "session",
+    "The proof of a session, a LIDRUP text, printed as `c line L fault N` by `check --session`; the "
+    "answers before it stand. In examples the events are `p inccnf`, `1 2 0`, `a 1 0`.",
+    (
+        Row(1, "The line is none of LIDRUP, or the text ends within it.", "i 1 1 2 0\nq 1\n",
+            "Ask the solver for LIDRUP as text (CaDiCaL's interface: `lidrup=1`, `binary=0`). If it "
+            "is the last one, the session was killed."),
+        Row(2, "The number of a clause or a lemma is not above all before it.",
+            "i 1 1 2 0\nl 1 1 2 0 1 0\n", "The file has the proofs of two sessions, or is wrong."),
+        Row(3, "A hint names a clause that is not there, or no more.",
+            "i 1 1 2 0\nl 2 1 0 9 0\n", WRONG),
+        Row(4, "The lemma has a literal and its negation.", "i 1 1 2 0\nl 2 1 -1 0 1 0\n",
+            "Ask the solver not to write such lemmas: nothing needs them."),
+        Row(5, "A hint's clause is true already.",
+            "i 1 1 2 0\nq 1 0\ns UNSATISFIABLE\nu 1 0 1 0\n", WRONG),
+        Row(6, "A hint's clause has two literals or more that are open: nothing follows from it.",
+            "i 1 1 2 0\nl 2 0 1 0\n", WRONG),
+        Row(7, "A hint's clause is false, and further hints follow.",
+            "i 1 1 2 0\nl 2 1 2 0 1 1 0\n", "The hints after the conflict have to go."),
+        Row(14, "There was not memory enough for the proof.", "", MEMORY),
+        Row(15, "The lemma, or the core, does not follow by its hints.",
+            "i 1 1 2 0\nl 2 1 0 1 0\n", WRONG),
+        Row(18, "A clause or a query is not the next event: it has other literals, or another "
+            "order, or no event is left.", "i 1 2 1 0\n",
+            "EVENTS has to be what the solver was sent, line by line. CaDiCaL's program "
+            "(`--lidrup`) adds clauses of its own; its interface does not."),
+        Row(19, "The line cannot stand here: a clause or a query within a query, or an answer that "
+            "was not asked for.", "i 1 1 2 0\nm 1 0\n", WRONG),
+        Row(20, "The model has a literal and its negation, or no literal of a clause that was given, "
+            "or not all of the query.", "i 1 1 2 0\nq 1 0\ns SATISFIABLE\nm 2 0\n",
+            "The solver is wrong; or it leaves out variables: a clause such as `3 -3` wants one of "
+            "its literals, too."),
+        Row(21, "The core has a literal that the query has not.",
+            "i 1 1 2 0\nq 1 0\ns UNSATISFIABLE\nu 2 -2 0 0\n", WRONG),
+        Row(22, "The text ends where a query is open, or where events are left.",
+            "i 1 1 2 0\n", "The session was killed, or more was sent than it answered."),
+    ))
+
+TABLES: Dict[str, Table] = {table.name: table for table in (
+    INPUT, PROOF, CUBES, ANSWER, SESSION_EVENTS, SESSION_PROOF)}
 
 LINES = (
     Line("c usage", "The words are not those of a command.",

@@ -10,6 +10,8 @@ mod check_deletions;
 #[cfg(test)]
 mod check_pieces;
 #[cfg(test)]
+mod check_sessions;
+#[cfg(test)]
 mod command_line_words;
 #[cfg(test)]
 mod cubes;

@@ -1,6 +1,7 @@
 //! Accepts the connections of workers that are taken in turns.
 
-use crate::files::{no_memory, refused};
+use crate::files::no_memory;
+use commands::refused;
 use frames::{Frame, FrameFault, Reader};
 use links::Served;
 use node_main::Refusal;

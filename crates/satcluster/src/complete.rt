@@ -1,7 +1,7 @@
 //! `cubes --complete`: a list of cubes is read, and completed to a splitting tree.
 
 use crate::files::{no_memory, read, read_formula};
-use crate::leaf_runs::refused_input;
+use commands::refused_input;
 use completing::run_complete;
 use node_main::{Refusal, Report};
 use std::rt::Runtime;
@@ -16,6 +16,6 @@ pub(crate) fn complete<R: Runtime + AllocGlobal>(
     let text = read(rt, list, Refusal::Cubes)?;
     match formula {
         Ok(formula) => run_complete(rt.alloc(), &formula, text.as_slice()).map_err(no_memory),
-        Err(fault) => refused_input(rt, fault),
+        Err(fault) => refused_input(rt.alloc(), fault),
     }
 }

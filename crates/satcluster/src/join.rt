@@ -1,13 +1,14 @@
 //! `join`: the files of any machines are read, and become one proof.
 
-use crate::files::{Pieces, no_memory, open, refused};
-use crate::leaf_runs::{Start, begin, hushed};
+use crate::files::{no_memory, open};
+use crate::leaf_runs::begin;
 use crate::proof_file::{
     Part, Place, append, is_part, is_printed_to, is_same_file, keep, leads_to, make_part, place_of,
     remove,
 };
 use crate::standard_input::is_dash;
 use command_line::Printing;
+use commands::{Begun, Pieces, hushed, refused};
 use dimacs::{Answer, Assignment, answer_lines};
 use either_form::FormJoin;
 use gathering::GatherFault;
@@ -87,7 +88,7 @@ fn note<F>(run: &mut Run<F>, note: Note, name: &[u8]) -> Result<(), Refusal> {
 }
 
 /// Reads a file piece by piece, and tells whether it could be read to its end.
-fn feed<F: Read + Write>(run: &mut Run<F>, pieces: &mut Pieces<F>) -> Result<bool, Refusal> {
+fn feed<F: Read + Write + Drop>(run: &mut Run<F>, pieces: &mut Pieces<F>) -> Result<bool, Refusal> {
     for _ in 0..u64::MAX {
         let piece = match pieces.next() {
             Ok(piece) => piece,
@@ -348,7 +349,7 @@ pub(crate) fn join<R: Runtime + AllocGlobal>(
     printing: Printing,
 ) -> Result<Report, Refusal> {
     match begin(rt, files.input, files.cubes)? {
-        Start::With(split) => gathered(rt, split, files, names, printing),
-        Start::Refused(report) => Ok(hushed(report, printing.quiet)),
+        Begun::With(split) => gathered(rt, split, files, names, printing),
+        Begun::Refused(report) => Ok(hushed(report, printing.quiet)),
     }
 }

@@ -1,90 +1,21 @@
 //! `leaf`, `refute` and `cubes --split`: a formula and a tree of cubes are read, and a leaf is worked on.
 
-use crate::files::{no_memory, open, read_formula};
+use crate::files::{Machine, no_memory};
 use crate::join::stopped;
 use crate::proof_file::{Target, write_proof};
-use dimacs::{DimacsFault, Kind};
-use icnf::{CubesFault, Kind as CubesKind};
-use leaves::{Search, Split, SplitReader, run_leaf, run_refute, run_refute_all, run_split};
+use commands::{Begun, begin_files, hushed};
+use leaves::{Search, Split, run_leaf, run_refute, run_refute_all, run_split};
 use node_main::{Refusal, Report};
-use reports::{faulty_cubes, faulty_input, other_formula};
 use std::alloc::Global;
 use std::rt::Runtime;
 
-/// What a command over leaves begins with.
-#[derive(Drop)]
-pub(crate) enum Start {
-    /// The formula of the input, with the tree of the cubes.
-    With(Split),
-    /// The input or the cubes are refused: what is reported of them.
-    Refused(Report),
-}
-
-/// Reads a file of cubes to its end, and feeds it to the reader of the formula's tree, where there is a formula.
-fn feed<R: Runtime + AllocGlobal>(
-    rt: &R,
-    path: &str,
-    reader: &mut Result<SplitReader, DimacsFault>,
-) -> Result<(), Refusal> {
-    let mut pieces = open(rt, path, Refusal::Cubes)?;
-    for _ in 0..u64::MAX {
-        let piece = pieces.next()?;
-        if piece.is_empty() {
-            return Ok(());
-        }
-        if let Ok(reader) = reader {
-            reader.feed(piece);
-        }
-    }
-    Err(Refusal::Cubes)
-}
-
-/// The report of cubes that are refused.
-fn refused_cubes<R: AllocGlobal>(rt: &R, fault: CubesFault) -> Result<Report, Refusal> {
-    let report = match fault {
-        CubesFault::Faulty(fault) if fault.kind == CubesKind::NoMemory => {
-            return Err(Refusal::NoMemory);
-        }
-        CubesFault::Faulty(fault) => faulty_cubes(rt.alloc(), fault),
-        CubesFault::OtherFormula => other_formula(rt.alloc()),
-    };
-    report.map_err(no_memory)
-}
-
-/// The report of an input that is refused.
-pub(crate) fn refused_input<R: AllocGlobal>(rt: &R, fault: DimacsFault) -> Result<Report, Refusal> {
-    if fault.kind == Kind::NoMemory {
-        return Err(Refusal::NoMemory);
-    }
-    faulty_input(rt.alloc(), fault).map_err(no_memory)
-}
-
-/// Reads a formula, and the tree of its cubes. A file that cannot be read is told before a fault of the other one.
+/// Reads a formula, and the tree of its cubes.
 pub(crate) fn begin<R: Runtime + AllocGlobal>(
     rt: &R,
     input: &str,
     cubes: &str,
-) -> Result<Start, Refusal> {
-    let mut reader = match read_formula(rt, input)? {
-        Ok(formula) => Ok(SplitReader::new(rt.alloc(), formula).map_err(no_memory)?),
-        Err(fault) => Err(fault),
-    };
-    feed(rt, cubes, &mut reader)?;
-    match reader {
-        Ok(reader) => match reader.finish() {
-            Ok(split) => Ok(Start::With(split)),
-            Err(fault) => Ok(Start::Refused(refused_cubes(rt, fault)?)),
-        },
-        Err(fault) => Ok(Start::Refused(refused_input(rt, fault)?)),
-    }
-}
-
-/// The report without its text, where `-q` leaves it out.
-pub(crate) fn hushed(mut report: Report, quiet: bool) -> Report {
-    if quiet {
-        report.stdout.clear();
-    }
-    report
+) -> Result<Begun, Refusal> {
+    begin_files(&Machine { rt }, input, cubes)
 }
 
 /// A leaf as a formula of its own.
@@ -95,8 +26,8 @@ pub(crate) fn leaf<R: Runtime + AllocGlobal>(
     leaf: u64,
 ) -> Result<Report, Refusal> {
     match begin(rt, input, cubes)? {
-        Start::With(split) => run_leaf(rt.alloc(), &split, leaf).map_err(no_memory),
-        Start::Refused(report) => Ok(report),
+        Begun::With(split) => run_leaf(rt.alloc(), &split, leaf).map_err(no_memory),
+        Begun::Refused(report) => Ok(report),
     }
 }
 
@@ -109,8 +40,8 @@ pub(crate) fn split<R: Runtime + AllocGlobal>(
     on: Option<u32>,
 ) -> Result<Report, Refusal> {
     match begin(rt, input, cubes)? {
-        Start::With(split) => run_split(rt.alloc(), split, leaf, on).map_err(no_memory),
-        Start::Refused(report) => Ok(report),
+        Begun::With(split) => run_split(rt.alloc(), split, leaf, on).map_err(no_memory),
+        Begun::Refused(report) => Ok(report),
     }
 }
 
@@ -152,8 +83,8 @@ pub(crate) fn refute<R: Runtime + AllocGlobal>(
     search: &Search,
 ) -> Result<Report, Refusal> {
     let split = match begin(rt, files.input, files.cubes)? {
-        Start::With(split) => split,
-        Start::Refused(report) => return Ok(hushed(report, search.quiet)),
+        Begun::With(split) => split,
+        Begun::Refused(report) => return Ok(hushed(report, search.quiet)),
     };
     let report = searched(rt.alloc(), &split, leaves, search)?;
     match (files.fragment, &report.proof) {

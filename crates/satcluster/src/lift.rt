@@ -1,11 +1,12 @@
 //! `lift`: a foreign proof of the formula of a leaf, or what a solver wrote for all leaves, is read, and the log that it comes to is
 //! written meanwhile.
 
-use crate::files::{Pieces, no_memory, open, refused};
-use crate::leaf_runs::{Start, begin};
+use crate::files::{no_memory, open};
+use crate::leaf_runs::begin;
 use crate::proof_file::{
     Part, Place, append, is_printed_to, is_same_file, keep, make_part, place_of, remove,
 };
+use commands::{Begun, Pieces, refused};
 use either_form::FormLift;
 use leaves::{LiftAll, LiftEnd, Split, lift_report};
 use lrat_check::CheckFault;
@@ -63,7 +64,7 @@ impl Task {
 }
 
 /// Reads a proof to its end, also behind a fault, and writes what it is lifted to.
-fn feed<F: Read + Write>(
+fn feed<F: Read + Write + Drop>(
     pieces: &mut Pieces<F>,
     task: &mut Task,
     part: &mut Part<F>,
@@ -215,8 +216,8 @@ pub(crate) fn lift<R: Runtime + AllocGlobal>(
 ) -> Result<Report, Refusal> {
     let leaf = lifted_leaf(leaf, lidrup)?;
     let split = match begin(rt, files.input, files.cubes)? {
-        Start::With(split) => split,
-        Start::Refused(report) => return Ok(report),
+        Begun::With(split) => split,
+        Begun::Refused(report) => return Ok(report),
     };
     match task_of(rt.alloc(), split, leaf)? {
         Some(task) => lift_proof(rt, files, task),

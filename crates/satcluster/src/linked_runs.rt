@@ -5,9 +5,10 @@ ghost use Rattle.command_line.specs.Options.{AreOptions};
 ghost use Rattle.node_main.specs.Starting.{IsStart};
 
 use crate::accepting::accept_workers;
-use crate::files::{no_memory, read_cubes, read_formula, refused};
+use crate::files::{no_memory, read_cubes, read_formula};
 use crate::proof_file::{Target, write_proof};
 use crate::showing::{Showing, Shown};
+use commands::{print, refused};
 use hub::Hub;
 use links::{Counted, Joined, Loopback, Observed, Station};
 use node_main::{
@@ -15,7 +16,6 @@ use node_main::{
 };
 use std::alloc::Global;
 use std::io;
-use std::io::Write;
 use std::net::{Ipv4Addr, Net, SocketAddr, TcpListener};
 use std::rt::Runtime;
 
@@ -136,7 +136,7 @@ fn serve_over<R: Runtime + AllocGlobal, S: Station>(
         };
         write_proof(rt, target, proof, files.input, files.cubes)?;
     }
-    let status = match print(rt, service.text()) {
+    let status = match print(&mut io::writer(rt), service.text()) {
         Ok(()) => service.status(),
         Err(_) => 1,
     };
@@ -203,13 +203,6 @@ pub(crate) fn serve<R: Runtime + AllocGlobal + Net>(
     } else {
         serve_by_arrivals(rt, port, files, options, showing)
     }
-}
-
-/// Prints a text on standard output.
-pub(crate) fn print<R: Runtime + AllocGlobal>(rt: &R, text: &[u8]) -> io::Result<()> {
-    let mut out = io::writer(rt);
-    out.write_all(text)?;
-    out.flush()
 }
 
 /// Works for whoever serves the formula at a port.

@@ -5,7 +5,6 @@ ghost use Rattle.std.specs.Prelude.{◌≤◌};
 ghost use Rattle.command_line.specs.CommandLine.{IsInRange};
 
 mod accepting;
-mod check;
 mod complete;
 mod files;
 mod join;
@@ -19,14 +18,14 @@ mod showing;
 mod standard_input;
 mod trim;
 
-use check::check;
+use commands::{check_files, deliver, refused};
 use complete::complete;
-use files::{no_memory, read, refused};
+use files::{Machine, no_memory, read};
 use join::{JoinFiles, join};
 use leaf_runs::{LeafFiles, LeafRange, leaf, refute, split};
 use leaves::Search;
 use lift::{LiftFiles, lift};
-use linked_runs::{Files, print, serve, solve, work};
+use linked_runs::{Files, serve, solve, work};
 use model::model;
 use node_main::{Refusal, Report, Request, UsageFault, command, run_cubes};
 use proof_file::Target;
@@ -34,11 +33,11 @@ use session::session;
 use showing::Showing;
 use standard_input::is_sound;
 use std::alloc::AllocError;
-use std::env;
 use std::io::IsTerminal;
 use std::net::Net;
 use std::process::ExitCode;
 use std::rt::Runtime;
+use std::{env, io};
 use trim::trim;
 
 fn cubes<R: Runtime + AllocGlobal>(rt: &R, input: &str, depth: u32) -> Result<Report, Refusal>
@@ -89,7 +88,7 @@ fn answer<R: Runtime + AllocGlobal + Net>(
             if is_session {
                 session(rt, input, proof)
             } else {
-                check(rt, input, proof)
+                check_files(&Machine { rt }, input, proof)
             }
         }
         Request::Cubes { input, depth } => cubes(rt, input, depth),
@@ -262,12 +261,9 @@ fn main(rt: HostRuntime) -> ExitCode {
     } else {
         Showing::Lines
     };
-    let (printed, status) = match run(&rt, showing) {
-        Ok(report) => (print(&rt, report.stdout.as_slice()), report.status),
-        Err(line) => (print(&rt, line.as_bytes()), 1),
-    };
-    match printed {
-        Ok(()) => ExitCode::from(status),
+    let found = run(&rt, showing);
+    match deliver(&mut io::writer(&rt), &found) {
+        Ok(status) => ExitCode::from(status),
         Err(_) => ExitCode::from(1),
     }
 }

@@ -1,8 +1,8 @@
 //! `model`: a formula is read, and a solver's answer tested against it, while their files are read.
 
 use crate::files::{no_memory, open, read_formula};
-use crate::leaf_runs::refused_input;
 use answers::ModelCheck;
+use commands::refused_input;
 use node_main::{Refusal, Report};
 use std::rt::Runtime;
 
@@ -42,7 +42,7 @@ pub(crate) fn model<R: Runtime + AllocGlobal>(
 ) -> Result<Report, Refusal> {
     let formula = match read_formula(rt, input)? {
         Ok(formula) => formula,
-        Err(fault) => return refused_input(rt, fault),
+        Err(fault) => return refused_input(rt.alloc(), fault),
     };
     let mut check = ModelCheck::of(rt.alloc(), formula);
     match feed(rt, output, &mut check) {

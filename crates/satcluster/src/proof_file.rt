@@ -1,6 +1,7 @@
 //! Writes a proof to its file, whole or not at all wherever a file can be made beside it.
 
-use crate::files::{path_of, refused};
+use crate::files::path_of;
+use commands::refused;
 use lrat_forms::BinaryForm;
 use lrat_text::TextFault;
 use node_main::Refusal;

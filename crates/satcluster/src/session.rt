@@ -1,6 +1,7 @@
 //! `check --session`: the proof of a session is checked beside its events, while their files are read.
 
-use crate::files::{path_of, refused};
+use crate::files::path_of;
+use commands::refused;
 use node_main::{Refusal, Report};
 use sessions::check_session;
 use std::fs::File;

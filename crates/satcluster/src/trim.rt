@@ -1,8 +1,8 @@
 //! `trim`: a formula is read, a proof of it checked while its file is read, and what stays of it is written.
 
 use crate::files::{no_memory, open, read_formula};
-use crate::leaf_runs::refused_input;
 use crate::proof_file::{Target, is_same_file, write_proof};
+use commands::refused_input;
 use either_form::FormTrimming;
 use node_main::{Refusal, Report};
 use std::rt::Runtime;
@@ -16,7 +16,7 @@ fn feed<R: Runtime + AllocGlobal>(
     trimming: &mut FormTrimming,
 ) -> Result<(), Refusal> {
     let mut pieces = open(rt, path, Refusal::Proof)?;
-    let has_size = pieces.has_size();
+    let has_size = pieces.has_end();
     for _ in 0..u64::MAX {
         let piece = pieces.next()?;
         if piece.is_empty() {
@@ -40,7 +40,7 @@ pub(crate) fn trim<R: Runtime + AllocGlobal>(
 ) -> Result<Report, Refusal> {
     let formula = match read_formula(rt, input)? {
         Ok(formula) => formula,
-        Err(fault) => return refused_input(rt, fault),
+        Err(fault) => return refused_input(rt.alloc(), fault),
     };
     if is_same_file(rt, target.path, proof) || is_same_file(rt, target.path, input) {
         return Err(Refusal::Writing);

@@ -1,0 +1,21 @@
+-- What is so for the bytes of a source.
+use Rattle.std.specs.Prelude.{◌≡◌, ℕ, List, Option, Some, None, Result, Ok, Err, IfOk}
+use Rattle.std.proofs.Common.{subst}
+use Rattle.commands.specs.Known.{Of}
+
+pub of_map : (P Q : List ℕ → Type 0) (k : Option (List ℕ)) → ((bytes : List ℕ) → P bytes → Q bytes) → Of k P → Of k Q
+of_map P Q None f h = (h.0, f h.0 h.1)
+of_map P Q (Some bytes) f h = f bytes h
+
+-- a source that was opened has the bytes of its file left
+pub of_opened : (P : List ℕ → Type 0) (left holds : Option (List ℕ)) → left ≡ holds → Of left P → Of holds P
+of_opened P left holds e h =
+    let Q : Option (List ℕ) → Type 0 = λ k. Of k P in
+    subst Q e h
+
+-- what comes of whatever the bytes are
+pub of_ok : {T E : Type 0} (P : List ℕ → Type 0) (Q : List ℕ → T → Type 0) (k : Option (List ℕ)) (r : Result T E)
+    → Of k P → ((bytes : List ℕ) → P bytes → IfOk r (Q bytes)) → IfOk r (λ x. Of k (λ bytes. Q bytes x))
+of_ok P Q None (Ok x) h f = (h.0, f h.0 h.1)
+of_ok P Q (Some bytes) (Ok x) h f = f bytes h
+of_ok P Q k (Err e) h f = tt

@@ -1,0 +1,6 @@
+pub mod Beginning
+pub mod Checking
+pub mod Feeding
+pub mod Known
+pub mod Printing
+pub mod inner

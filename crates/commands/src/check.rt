@@ -1,0 +1,47 @@
+//! `check`: an input is read, and a proof checked, while their files are read.
+
+ghost use Rattle.std.specs.Prelude.{◌≡◌, ◌++◌, ℕ, List, [], IfOk};
+ghost use Rattle.commands.specs.Checking.{Checks};
+ghost use Rattle.commands.specs.inner.Feeding.{Extends};
+ghost use Rattle.commands.specs.Known.{Of};
+ghost use Rattle.node_main.specs.ProofChecks.{HasTaken};
+
+use crate::disk::Disk;
+use crate::feeding::{Feeds, feed_all};
+use crate::formula::read_formula;
+use node_main::ProofCheck;
+use reports::{Refusal, Report};
+
+impl Feeds for ProofCheck {
+    ghost use Rattle.commands.specs.inner.Feeding.{extends_nothing, extends_more};
+
+    ghost took = { λ old new more. (input : List ℕ) → Extends (λ proof c. HasTaken input c proof) old new more };
+
+    ghost nothing = { λ s input. extends_nothing (λ proof c. HasTaken input c proof) s };
+
+    ghost more = { λ a b c xs ys h k input. extends_more (λ proof c. HasTaken input c proof) a b c xs ys (h input) (k input) };
+
+    fn feed(&mut self, piece: &[u8]) -> Result<(), Refusal> {
+        ProofCheck::feed(self, piece);
+        Ok(())
+    }
+
+    fn is_settled(&self) -> bool {
+        ProofCheck::is_settled(self)
+    }
+}
+
+/// Checks the proof in a file, of the formula in another.
+pub fn check_files<D: Disk>(disk: &D, input: &str, proof: &str) -> Result<Report, Refusal>
+    ensures { IfOk result (λ r. Of (D.holds disk.now input.now) (λ text. Of (D.holds disk.now proof.now) (λ bytes. Checks text bytes r))) }
+{
+    let mut text = disk.open(input, Refusal::Input)?;
+    let found = read_formula(disk.alloc(), &mut text)?;
+    let mut check = ProofCheck::of(disk.alloc(), found);
+    let mut bytes = disk.open(proof, Refusal::Proof)?;
+    feed_all(&mut bytes, &mut check)?;
+    match check.finish() {
+        Ok(report) => Ok(report),
+        Err(_) => Err(Refusal::NoMemory),
+    }
+}

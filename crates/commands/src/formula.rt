@@ -1,0 +1,91 @@
+//! A formula, or all bytes, of a source.
+
+ghost use Rattle.std.specs.Prelude.{◌≡◌, IfOk};
+ghost use Rattle.dimacs.specs.text.Pieces.{HasRead};
+ghost use Rattle.dimacs.specs.text.Reading.{GivesFormula, parse};
+ghost use Rattle.commands.specs.inner.Feeding.{Extends};
+ghost use Rattle.commands.specs.Known.{Of};
+
+use crate::feeding::{Feeds, feed_all};
+use crate::pieces::Pieces;
+use dimacs::{DimacsFault, Formula, FormulaReader};
+use reports::Refusal;
+use std::alloc::Global;
+use std::io::Read;
+
+/// The refusal of a growth.
+pub(crate) fn out_of_memory<E: Drop>(_error: E) -> Refusal {
+    Refusal::NoMemory
+}
+
+impl Feeds for FormulaReader {
+    ghost use Rattle.commands.specs.inner.Feeding.{extends_nothing, extends_more};
+
+    ghost took = { Extends (λ bytes r. HasRead r bytes) };
+
+    ghost nothing = { extends_nothing (λ bytes r. HasRead r bytes) };
+
+    ghost more = { extends_more (λ bytes r. HasRead r bytes) };
+
+    fn feed(&mut self, piece: &[u8]) -> Result<(), Refusal> {
+        FormulaReader::feed(self, piece);
+        Ok(())
+    }
+
+    fn is_settled(&self) -> bool {
+        FormulaReader::is_settled(self)
+    }
+}
+
+/// The formula of a source, or the first fault of its text. It is read while the source is, so that its text takes no memory.
+pub fn read_formula<S: Read + Drop>(
+    alloc: Global,
+    pieces: &mut Pieces<S>,
+) -> Result<Result<Formula, DimacsFault>, Refusal>
+    ensures { IfOk result (λ found. Of (S.remaining pieces.old.source) (λ text. GivesFormula found (parse text))) }
+{
+    let mut reader = FormulaReader::new(alloc);
+    feed_all(pieces, &mut reader)?;
+    Ok(reader.finish())
+}
+
+/// Bytes as they come.
+#[derive(Drop)]
+struct Bytes {
+    items: Vec<u8>,
+}
+
+impl Feeds for Bytes {
+    ghost use Rattle.commands.specs.inner.Feeding.{grows_nothing, grows_more};
+    ghost use Rattle.commands.specs.inner.Feeding.{Grows};
+
+    ghost took = { λ old new more. Grows old.items.items new.items.items more };
+
+    ghost nothing = { λ s. grows_nothing s.items.items };
+
+    ghost more = { λ a b c. grows_more a.items.items b.items.items c.items.items };
+
+    fn feed(&mut self, piece: &[u8]) -> Result<(), Refusal> {
+        self.items.extend_from_slice(piece).map_err(out_of_memory)
+    }
+
+    fn is_settled(&self) -> bool {
+        false
+    }
+}
+
+/// All bytes of a source. Room for `len` of them is taken at once: a vector that grows is copied.
+pub fn read_bytes<S: Read + Drop>(
+    alloc: Global,
+    pieces: &mut Pieces<S>,
+    len: usize,
+) -> Result<Vec<u8>, Refusal>
+    ensures { IfOk result (λ bytes. Of (S.remaining pieces.old.source) (λ all. bytes.items ≡ all)) }
+{
+    let mut bytes = Bytes {
+        items: Vec::with_capacity(alloc, len).map_err(out_of_memory)?,
+    };
+    feed_all(pieces, &mut bytes)?;
+    let Bytes { items } = bytes;
+    Ok(items)
+}

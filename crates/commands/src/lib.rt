@@ -1,0 +1,21 @@
+//! Commands over the files that they read, and what is printed at the end.
+//!
+//! The files are a type parameter, so a contract can name their bytes. What a layer above may rest on: what is told of a file is told of all
+//! its bytes, and what is printed, and the status, are those of the report.
+#![tactic(auto)]
+
+mod beginning;
+mod check;
+mod disk;
+mod feeding;
+mod formula;
+mod pieces;
+mod printing;
+
+pub use beginning::{Begun, begin_files, hushed, refused_input};
+pub use check::check_files;
+pub use disk::Disk;
+pub use feeding::{Fed, Feeds, feed_all, feed_on};
+pub use formula::{read_bytes, read_formula};
+pub use pieces::{Pieces, refused};
+pub use printing::{deliver, print};

@@ -1,0 +1,361 @@
+#!/usr/bin/env python3
+"""Runs `check --session` over proofs that are right, changed, cut, and written as they are read.
+
+    tools/session_test.py PATH-OF-satcluster [CASE ..]
+
+A CASE is Pipes, or Pipes.test_in_turn. Sessions are drawn and proved here, and by CaDiCaL's library
+where it is installed in version 2.1 or later (Debian: libcadical-dev), or where the program
+cadical_session stands on the path, or in the folder that SATCLUSTER_CLIENTS names (tools/clients.sh
+makes it there); if there is none, that is told.
+"""
+import fcntl
+import os
+import random
+import shutil
+import struct
+import subprocess
+import sys
+import tempfile
+import termios
+import time
+import unittest
+from pathlib import Path
+from typing import List, Optional, Tuple
+
+sys.dont_write_bytecode = True
+
+from cases import run
+from session_cases import Event, changes, drawn, events_text, expected, text_of
+from telling.faults import SESSION_EVENTS
+
+HERE = Path(__file__).resolve().parent
+SECONDS = 60  # how long a run may take
+SOON = 10  # how long what has to come may take to come
+LATER = 0.05  # how long is waited for what must not come
+
+EVENTS = [Event(False, [1, 2]), Event(False, [-1, 2]), Event(True, [-2]), Event(True, [1]),
+          Event(False, [-2, 3]), Event(True, [3, -3]), Event(True, [-3, -3, 9])]
+PROOF = """i 1 1 2 0
+i 2 -1 2 0
+q -2 0
+s UNSATISFIABLE
+l 3 2 0 1 2 0
+u -2 0 3 0
+q 1 0
+s SATISFIABLE
+m 1 2 0
+i 4 -2 3 0
+q 3 -3 0
+s UNSATISFIABLE
+u 3 -3 0 0
+q -3 -3 9 0
+s UNSATISFIABLE
+u -3 0 3 4 0
+""".split("\n")[:-1]
+VERIFIED = ["s VERIFIED", "c 4 queries: 1 satisfiable, 3 unsatisfiable, 0 unknown"]
+
+TWO = [Event(False, [1, 2]), Event(True, [1])]
+FAULTS = (  # beside TWO: a proof, its fault and the line, by the page's table and behind it
+    ("i 1 1 2\n", 1, 1), ("i 1 1 2 0\n\n", 1, 2), ("i 1 1 2 0\nx\n", 1, 2),
+    ("i 1 1 2 0\ns SATISFIED\n", 1, 2), ("i 1 1 2 0\nq 1", 1, 2),
+    ("i 1 1 2 0\nl 1 1 0 1 0\n", 2, 2), ("i -1 1 2 0\n", 1, 1), ("i 0 1 2 0\n", 1, 1),
+    ("i 1 2 1 0\n", 18, 1), ("i 1 1 2 0\nq 0\n", 18, 2), ("q 1 0\n", 18, 1),
+    ("i 1 1 2 0\nq 1 0\ns UNKNOWN\nq 1 0\n", 18, 4), ("i 1 1 2 0\nm 1 0\n", 19, 2),
+    ("i 1 1 2 0\nq 1 0\ni 2 1 0\n", 19, 3), ("i 1 1 2 0\nq 1 0\ns SATISFIABLE\ns UNKNOWN\n", 19, 4),
+    ("i 1 1 2 0\nq 1 0\nu 1 0 1 0\n", 19, 3), ("i 1 1 2 0\nq 1 0\ns SATISFIABLE\nm 2 0\n", 20, 4),
+    ("i 1 1 2 0\nq 1 0\ns SATISFIABLE\nm 1 2 -2 0\n", 20, 4),
+    ("i 1 1 2 0\nl 2 1 -1 0 1 0\n", 4, 2), ("i 1 1 2 0\nl 2 1 0 9 0\n", 3, 2),
+    ("i 1 1 2 0\nl 2 1 0 1 0\n", 15, 2), ("i 1 1 2 0\nl 2 0 1 0\n", 6, 2),
+    ("i 1 1 2 0\nl 2 1 2 0 1 1 0\n", 7, 2), ("i 1 1 2 0\nl 2 1 0 -1 1 0\n", 1, 2),
+    ("i 1 1 2 0\nq 1 0\ns UNSATISFIABLE\nu 1 0 1 0\n", 5, 4),
+    ("i 1 1 2 0\nq 1 0\ns UNSATISFIABLE\nu 1 0 0\n", 15, 4),
+    ("i 1 1 2 0\nq 1 0\ns UNSATISFIABLE\nu 2 -2 0 0\n", 21, 4),
+    ("i 1 1 2 0\nq 1 0\n", 22, 3), ("i 1 1 2 0\n", 22, 2), ("", 22, 1))
+
+RIGHT = (  # events and a proof of which a lesser reading would think otherwise
+    ([Event(False, [1]), Event(True, [1])],  # what was given stays, whatever is deleted
+     "i 1 1 0\nd 1 9 0\nl 2 1 0 1 0\nq 1 0\ns SATISFIABLE\nm 1 0\n"),
+    ([Event(True, [])], "c a comment\np lidrup\nq 0\nw 1 0\nr 1 0\ns SATISFIABLE\nm 0\nf 0\ne 0\n"),
+    ([Event(True, [-1]), Event(True, [])], "q -1 0\ns UNKNOWN\nq 0\ns SATISFIABLE\nm 0\n"),
+    ([Event(False, []), Event(True, []), Event(False, [5]), Event(True, [-5])],
+     "i 3 0\nq 0\ns UNSATISFIABLE\nu 0 3 0\ni 4 5 0\nq -5 0\ns UNSATISFIABLE\nu 0 3 0\n"))
+WRONG = (  # and proofs that must not pass: the fault and its line
+    ([Event(True, [-1]), Event(False, [1])],  # a lemma that rests on what is given later
+     "q -1 0\ns UNSATISFIABLE\nu -1 0 1 0\ni 1 1 0\n", 3, 3),
+    ([Event(False, [1]), Event(True, [])], "i 1 1 0\nd 1 0\nq 0\ns SATISFIABLE\nm 0\n", 20, 5),
+    ([Event(False, [1, -1]), Event(True, [])], "i 1 1 -1 0\nq 0\ns SATISFIABLE\nm 0\n", 20, 4),
+    ([Event(False, [1]), Event(True, [-1]), Event(True, [])],  # false under one query alone
+     "i 1 1 0\nq -1 0\ns UNSATISFIABLE\nu -1 0 1 0\nq 0\ns UNSATISFIABLE\nu -1 0 1 0\n", 21, 7),
+    ([Event(True, [1, 1])], "q 1 0\n", 18, 1), ([Event(True, [1, 2])], "q 2 1 0\n", 18, 1))
+
+
+class Case(unittest.TestCase):
+    """A folder of its own, in which the program runs."""
+
+    def setUp(self) -> None:
+        self.folder = Path(os.path.realpath(tempfile.mkdtemp()))
+        self.addCleanup(shutil.rmtree, str(self.folder), ignore_errors=True)
+
+    def at(self, name: str) -> str:
+        return str(self.folder / name)
+
+    def start(self, *words: str) -> subprocess.Popen:
+        return subprocess.Popen([os.environ["SATCLUSTER"], "check", "--session", *words],
+                                cwd=str(self.folder), stdout=subprocess.PIPE)
+
+    def ends(self, process: subprocess.Popen) -> Tuple[int, List[str]]:
+        try:
+            out, _ = process.communicate(timeout=SECONDS)
+        except subprocess.TimeoutExpired:
+            process.kill()
+            process.communicate()
+            self.fail("a check does not end")
+        return process.returncode, out.decode().split("\n")[:-1]
+
+    def check(self, events: str, proof: str) -> Tuple[int, List[str]]:
+        (self.folder / "events").write_text(events)
+        (self.folder / "proof").write_text(proof)
+        return self.ends(self.start("events", "proof"))
+
+    def agrees(self, events: List[Event], proof: str) -> None:
+        """The program prints what the rules say."""
+        wanted = expected(events, proof)
+        self.assertEqual(wanted, self.check(events_text(events), proof), (events, proof))
+
+    def refuses(self, events: List[Event], proof: str, fault: int, line: int) -> None:
+        self.agrees(events, proof)
+        status, lines = expected(events, proof)
+        self.assertEqual((1, "c line %d fault %d" % (line, fault)), (status, lines[1]), proof)
+
+    def faulty(self, events: str, proof: str, line: int, fault: int) -> None:
+        wanted = (1, ["c input line %d fault %d" % (line, fault)])
+        self.assertEqual(wanted, self.check(events, proof), (events, proof))
+
+
+class Texts(Case):
+    def test_right(self) -> None:
+        self.assertEqual((0, VERIFIED), self.check(events_text(EVENTS), text_of(PROOF)))
+        for events, proof in RIGHT:
+            self.agrees(events, proof)
+            self.assertEqual(0, expected(events, proof)[0], proof)
+
+    def test_faults(self) -> None:
+        for proof, fault, line in FAULTS:
+            self.refuses(TWO, proof, fault, line)
+        for events, proof, fault, line in WRONG:
+            self.refuses(events, proof, fault, line)
+
+    def test_cut(self) -> None:
+        """At each line, and at each byte: the answers before the cut stand."""
+        text = text_of(PROOF)
+        for end in range(len(text)):
+            status, lines = self.check(events_text(EVENTS), text[:end])
+            self.assertEqual(expected(EVENTS, text[:end]), (status, lines))
+            cut = text[:end].split("\n")
+            fault = 22 if cut[-1] == "" else 1
+            before = sum(line[:1] in ("m", "u") for line in cut[:-1])
+            told = ["c line %d fault %d" % (len(cut), fault), "c %d queries before" % before]
+            self.assertEqual((1, ["s NOT VERIFIED", *told]), (status, lines))
+
+    def test_events(self) -> None:
+        spelled = ("c a comment\n\n  p  inccnf \n1 2 0\nc -5 0\n -1\t2 0\r\na -2 0\na 1 0\n"
+                   "-2 3 0\n\na 3 -3 0\na -3 -3 9 0")
+        self.assertEqual((0, VERIFIED), self.check(spelled, text_of(PROOF)))
+        self.assertEqual(22, int(self.check(events_text(EVENTS[:-1]) + "a -3 -3 0\n",
+                                            text_of(PROOF[:-3]))[1][1].split()[-1]))
+        for row in SESSION_EVENTS.rows:
+            if row.example:
+                line = max(row.example.count("\n"), 1)
+                self.faulty(row.example, text_of(PROOF), line, row.number)
+        for line, fault in (("1 x 0", 3), ("1 a 0", 3), ("+1 0", 3), ("1 2", 5), ("a 1", 5), ("a", 5),
+                            ("1 0 2 0", 5), ("a 0 0", 5), ("1000001 0", 8), ("a -1000001 0", 8),
+                            ("1 x 1000001", 3), ("1000001 x", 8), ("a a 1 0", 3), ("p inccnf", 3)):
+            self.faulty("p inccnf\n1 2 0\n%s\n" % line, "", 3, fault)
+            self.faulty("p inccnf\n1 2 0\n" + line, "", 3, fault)
+
+    def test_fault_of_events_is_told_first(self) -> None:
+        """It may stand behind the proof's fault, which is in its first line here."""
+        for proof in ("x\n", "i 1 2 1 0\n", "i 1 1 2 0\nq 1 0\n"):
+            for count in (1, 2000):
+                events = events_text([Event(False, [1, 2])] * count) + "1 x 0\n"
+                self.faulty(events, proof, count + 2, 3)
+
+    def test_files(self) -> None:
+        (self.folder / "there").write_text("")
+        for words, line in ((("none", "there"), "c cannot read input"),
+                            (("there", "none"), "c cannot read proof"), (("there",), "c usage")):
+            status, lines = self.ends(self.start(*words))
+            self.assertEqual((1, line), (status, lines[0]), words)
+
+
+class Drawn(Case):
+    def test_changed(self) -> None:
+        """Drawn sessions, and each line of their proofs changed in three ways."""
+        for seed in range(40):
+            session = drawn(seed)
+            self.agrees(session.events, text_of(session.proof))
+            self.assertEqual(0, expected(session.events, text_of(session.proof))[0])
+            for proof in changes(session.proof, random.Random(seed)):
+                self.agrees(session.events, text_of(proof))
+
+    def test_other_events(self) -> None:
+        """One event fewer, one twice, one with another literal, and two that are exchanged."""
+        for seed in range(40):
+            session, proof = drawn(seed), text_of(drawn(seed).proof)
+            for at, event in enumerate(session.events):
+                other = Event(event.asks, [*event.literals, 3])
+                flipped = Event(not event.asks, event.literals)
+                for instead in ([], [event, event], [other], [flipped]):
+                    self.agrees([*session.events[:at], *instead, *session.events[at + 1:]], proof)
+
+
+class Pipes(Case):
+    """Both texts come from pipes, which a session writes as it goes on."""
+
+    def setUp(self) -> None:
+        super().setUp()
+        self.ends_of = {}
+        for name in ("events", "proof"):
+            os.mkfifo(self.at(name))
+            self.ends_of[name] = os.open(self.at(name), os.O_RDWR)  # so nobody waits for nobody
+        self.process = self.start("events", "proof")
+        self.addCleanup(self.stop)
+
+    def stop(self) -> None:
+        self.process.kill()
+        self.process.stdout.close()
+        self.process.wait()
+        for descriptor in self.ends_of.values():
+            os.close(descriptor)
+
+    def write(self, name: str, text: str) -> None:
+        os.write(self.ends_of[name], text.encode())
+
+    def close(self, name: str) -> None:
+        os.close(self.ends_of.pop(name))
+
+    def unread(self, name: str) -> int:
+        room = fcntl.ioctl(self.ends_of[name], termios.FIONREAD, b"\0" * 4)
+        return struct.unpack("i", room)[0]
+
+    def is_read(self, name: str) -> None:
+        end = time.monotonic() + SOON
+        while self.unread(name):
+            self.assertLess(time.monotonic(), end, "the text of %s is not read" % name)
+            time.sleep(0.001)
+
+    def test_in_turn(self) -> None:
+        """An event is read where a line of the proof awaits it, and not before."""
+        self.write("events", "p inccnf\n")
+        events = [line + "\n" for line in events_text(EVENTS).split("\n")[1:-1]]
+        for line in PROOF:
+            if line[0] in "iq":
+                event = events.pop(0)
+                self.write("events", event)
+                time.sleep(LATER)
+                self.assertGreaterEqual(self.unread("events"), len(event))
+            self.write("proof", line + "\n")
+            self.is_read("proof")
+            if line[0] in "iq":
+                self.is_read("events")
+            self.assertIsNone(self.process.poll())
+        self.close("proof")
+        time.sleep(LATER)
+        self.assertIsNone(self.process.poll(), "the events have not ended")
+        self.close("events")
+        self.assertEqual((0, VERIFIED), self.ends(self.process))
+
+    def test_killed(self) -> None:
+        """The session ends within a query."""
+        self.write("events", events_text(EVENTS[:4]))
+        self.write("proof", text_of(PROOF[:7]))
+        self.is_read("proof")
+        self.close("proof")
+        self.close("events")
+        wanted = ["s NOT VERIFIED", "c line 8 fault 22", "c 1 queries before"]
+        self.assertEqual((1, wanted), self.ends(self.process))
+
+    def test_fault_of_events(self) -> None:
+        """It ends the check, while more of the proof may come."""
+        self.write("events", "p inccnf\n1 x 0\n")
+        time.sleep(LATER)
+        self.assertIsNone(self.process.poll(), "nothing awaits an event")
+        self.write("proof", "i 1 1 2 0\n")
+        self.assertEqual((1, ["c input line 2 fault 3"]), self.ends(self.process))
+
+    def test_fault_of_proof(self) -> None:
+        """Behind it the events are read to their end."""
+        self.write("proof", "x\n")
+        self.is_read("proof")
+        self.write("events", events_text(EVENTS))
+        self.is_read("events")
+        self.assertIsNone(self.process.poll())
+        self.write("events", "1 x 0\n")
+        self.assertEqual((1, ["c input line 9 fault 3"]), self.ends(self.process))
+
+
+def library(folder: str) -> Tuple[Optional[str], str]:
+    """The program over CaDiCaL's library, which may be made in this folder, or why there is none."""
+    path = os.pathsep.join(filter(None, (os.environ.get("SATCLUSTER_CLIENTS"), os.environ["PATH"])))
+    found, compiler = shutil.which("cadical_session", path=path), shutil.which("c++")
+    if found or not compiler:
+        return found, "neither cadical_session nor a compiler of C++ is installed"
+    made = os.path.join(folder, "cadical_session")
+    words = [compiler, "-std=c++17", "-O1", "-o", made, str(HERE / "clients" / "cadical_session.cc")]
+    done = subprocess.run([*words, "-lcadical"], stdout=subprocess.DEVNULL,
+                          stderr=subprocess.DEVNULL)
+    return (made if done.returncode == 0 else None), "CaDiCaL's library is not installed"
+
+
+class Cadical(Case):
+    """Proofs that CaDiCaL's library writes."""
+
+    @classmethod
+    def setUpClass(cls) -> None:
+        folder = tempfile.mkdtemp()
+        cls.addClassCleanup(shutil.rmtree, folder)
+        cls.solver, why = library(folder)
+        if cls.solver is None:
+            raise unittest.SkipTest(why)
+        (Path(folder) / "events").write_text("p inccnf\n")
+        if subprocess.run([cls.solver, "events", "proof"], cwd=folder).returncode == 3:
+            raise unittest.SkipTest("CaDiCaL's library is older than 2.1")
+
+    def prove(self, events: List[Event], *more: str) -> str:
+        (self.folder / "events").write_text(events_text(events))
+        words = [self.solver, "events", "proof", *more]
+        subprocess.run(words, cwd=str(self.folder), check=True, stdout=subprocess.DEVNULL)
+        return (self.folder / "proof").read_text()
+
+    def session(self, seed: int) -> List[Event]:
+        """As `drawn`, but larger."""
+        draw = random.Random(seed)
+        variables, events = draw.randrange(5, 60), []
+        literal = lambda: draw.choice((1, -1)) * draw.randrange(1, variables + 1)
+        for _ in range(draw.randrange(2, 10)):
+            for _ in range(draw.randrange(variables * draw.choice((1, 2, 3)))):
+                variables += draw.random() < 0.1
+                size = draw.choice((2, 2, 3, 3, 3, 3, 3, 4, 1 if draw.random() < 0.3 else 5))
+                events.append(Event(False, [literal() for _ in range(size)]))
+            events.append(Event(True, [literal() for _ in range(draw.choice((0, 1, 2, 4, 8)))]))
+        return events
+
+    def test_right(self) -> None:
+        for seed in range(40):
+            events = self.session(seed)
+            for more in ((), ("3",)):
+                proof = self.prove(events, *more)
+                self.agrees(events, proof)
+                self.assertEqual(0, expected(events, proof)[0], proof)
+
+    def test_changed(self) -> None:
+        """Of long proofs some lines are changed."""
+        for seed in range(30):
+            events, draw = self.session(seed), random.Random(seed)
+            proofs = list(changes(self.prove(events).split("\n")[:-1], draw))
+            for proof in draw.sample(proofs, min(20, len(proofs))):
+                self.agrees(events, text_of(proof))
+
+
+if __name__ == "__main__":
+    run(__doc__)
