@@ -134,7 +134,7 @@ class Case(unittest.TestCase):
                 pass
         return found
 
-    def wait_for(self, what: str, holds: Callable[[], object], seconds: float = SECONDS) -> None:
+    def wait_for(self, what: object, holds: Callable[[], object], seconds: float = SECONDS) -> None:
         end = time.monotonic() + seconds
         while not holds():
             self.assertLess(time.monotonic(), end, what)
@@ -421,7 +421,8 @@ class Solvers(Case):
         "an endless proof": ("exec timeout 1 yes > $2", False),
         "an endless right proof": ("exec timeout 1 yes '5 d 0' > $2", False),
         "a proof that nobody ends": ("exec 3> $2; sleep 1; exit 20", False),
-        "no answer": ("exec 3> $2; exit 0", False),
+        "no answer": ("exit 0", False),
+        "no answer, and an empty proof": ("exec 3> $2; exit 0", None),  # which is one of a half
     }
 
     def test_pipes(self) -> None:
@@ -432,11 +433,24 @@ class Solvers(Case):
             solver = self.script("piped", script.replace("PROGRAM", self.program))
             began = time.monotonic()
             end = self.conquer("-q", "--pipe", "--depth", "0", "--solver", solver, FOUR)
-            status = 20 if is_right else 0
-            self.assertEqual((status, True), (end.status, time.monotonic() - began < 60), what)
+            statuses = {True: [20], False: [0], None: [0, 20]}[is_right]
+            self.assertIn(end.status, statuses, what)
+            self.assertLess(time.monotonic() - began, 60, what)
             self.assertEqual([], self.running(FOUR), what)
         for word in (["--solver", "kissat"], []):
             self.ends(1, ["c usage"], "--pipe", *word, FOUR)
+
+    def test_pipe_of_a_killed_script(self) -> None:
+        """Neither end outlives the script, whichever waits for the other then."""
+        for script in ("exec tail -f $1", "exec tail -f $1 > $2", "exec cat /dev/zero $1 > $2"):
+            for how in (signal.SIGKILL, signal.SIGTERM):
+                self.forget(FOUR)
+                solver = self.script("piped", script)
+                run = self.start("-q", "--pipe", "--depth", "0", "--solver", solver, FOUR)
+                self.wait_for("lift", lambda: len(self.running(FOUR)) > 1)
+                run.send_signal(how)
+                run.communicate()
+                self.wait_for((script, how), lambda: not self.running(FOUR), 20)
 
     def test_late(self) -> None:
         """A search whose time is up is ended, and its leaf is cut in two, or runs until it ends."""

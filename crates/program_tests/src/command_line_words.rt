@@ -75,11 +75,12 @@ fn a_solve_with_its_defaults_and_with_all_its_words(rt: HostRuntime) {
             progress: true,
             quiet: true,
             witness: false,
+            binary: true,
             ..USUAL
         },
     };
     let words =
-        "satcluster solve --progress --workers 64 --depth 16 --limit 1000000000 --cubes f.icnf -q -n f.cnf f.lrat";
+        "satcluster solve --binary --progress --workers 64 --depth 16 --limit 1000000000 --cubes f.icnf -q -n f.cnf f.lrat";
     asks(&rt, rt.alloc(), words, full);
 }
 
@@ -130,11 +131,12 @@ fn a_service_with_its_defaults_and_with_all_its_words(rt: HostRuntime) {
             rounds: true,
             quiet: true,
             witness: false,
+            binary: true,
             ..USUAL
         },
     };
     let words =
-        "satcluster serve --port 65535 --session 18446744073709551615 --patience 1000000000 --progress --rounds --workers 1 --depth 0 --limit 1 --cubes f.icnf -qn f.cnf f.lrat";
+        "satcluster serve --port 65535 --session 18446744073709551615 --patience 1000000000 --progress --rounds --workers 1 --depth 0 --limit 1 --cubes f.icnf -qn f.cnf f.lrat --binary";
     asks(&rt, rt.alloc(), words, full);
 }
 
@@ -158,11 +160,12 @@ fn a_worker_with_its_defaults_and_with_all_its_words(rt: HostRuntime) {
             ahead: true,
             quiet: true,
             witness: false,
+            binary: true,
             ..USUAL
         },
     };
     let words =
-        "satcluster work --ahead --defs 64 --incarnation 0 --number 64 --port 7000 -q -n f.cnf f.lrat";
+        "satcluster work --ahead --binary --defs 64 --incarnation 0 --number 64 --port 7000 -q -n f.cnf f.lrat";
     asks(&rt, rt.alloc(), words, full);
 }
 
@@ -268,9 +271,10 @@ fn a_leaf_and_a_model(rt: HostRuntime) {
         input: "f.cnf",
         proof: "f.lrat",
         out: "g.lrat",
-        binary: false,
+        binary: true,
     };
-    asks(&rt, alloc, "satcluster trim f.cnf f.lrat g.lrat", trim);
+    let words = "satcluster trim f.cnf --binary f.lrat g.lrat";
+    asks(&rt, alloc, words, trim);
 }
 
 #[test]
@@ -298,12 +302,12 @@ fn a_lift_of_a_leaf_or_of_all(rt: HostRuntime) {
         lidrup: true,
         proof: "f.lidrup",
         fragment: "f.frag",
-        binary: false,
+        binary: true,
     };
     asks(
         &rt,
         alloc,
-        "satcluster lift --lidrup --cubes f.icnf f.cnf f.lidrup f.frag",
+        "satcluster lift --lidrup --binary --cubes f.icnf f.cnf f.lidrup f.frag",
         all,
     );
     // The program refuses what names both, or neither.
@@ -353,9 +357,10 @@ fn a_refutation_with_its_defaults_and_with_all_its_words(rt: HostRuntime) {
             quiet: true,
             witness: false,
         },
-        binary: false,
+        binary: true,
     };
-    let words = "satcluster refute --cubes f.icnf --leaf 3 --to 9 --limit 1 -q -n f.cnf l.frag";
+    let words =
+        "satcluster refute --binary --cubes f.icnf --leaf 3 --to 9 --limit 1 -q -n f.cnf l.frag";
     asks(&rt, rt.alloc(), words, full);
 }
 
@@ -386,9 +391,9 @@ fn fragments_by_their_names(rt: HostRuntime) {
             quiet: true,
             ..PRINTED
         },
-        binary: false,
+        binary: true,
     };
-    let words = "satcluster join f.cnf f.lrat b -q - --cubes f.icnf a";
+    let words = "satcluster join f.cnf f.lrat b -q - --cubes f.icnf --binary a";
     asks(&rt, alloc, words, three);
 }
 
@@ -420,6 +425,7 @@ const REFUSED: &[&'static str] = &[
     "satcluster work --port 7000 --progress f.cnf",
     "satcluster work --port 7000 --rounds f.cnf",
     "satcluster solve --rounds f.cnf",
+    "satcluster check --binary f.cnf f.lrat",
     "satcluster work f.cnf",
     "satcluster work --port 7000",
     "satcluster work --port 7000 --number 0 f.cnf",
