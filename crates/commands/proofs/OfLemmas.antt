@@ -1,5 +1,5 @@
 -- What is so for the bytes of a source.
-use Rattle.std.specs.Prelude.{◌≡◌, ℕ, List, Option, Some, None, Result, Ok, Err, IfOk}
+use Rattle.std.specs.Prelude.{◌≡◌, ℕ, List, Option, Some, None, Result, Ok, Err, IfOk, IfSome}
 use Rattle.std.proofs.Common.{subst}
 use Rattle.commands.specs.Known.{Of}
 
@@ -7,9 +7,11 @@ pub of_map : (P Q : List ℕ → Type 0) (k : Option (List ℕ)) → ((bytes : L
 of_map P Q None f h = (h.0, f h.0 h.1)
 of_map P Q (Some bytes) f h = f bytes h
 
--- a source that was opened has the bytes of its file left
-pub of_opened : (P : List ℕ → Type 0) (left holds : Option (List ℕ)) → left ≡ holds → Of left P → Of holds P
-of_opened P left holds e h =
+-- a source that was opened has the bytes of its file left, if these are known
+pub of_opened : (P : List ℕ → Type 0) (left holds : Option (List ℕ)) → IfSome holds (λ bytes. left ≡ Some bytes) → Of left P → Of holds P
+of_opened P None None e h = h
+of_opened P (Some bytes) None e h = (bytes, h)
+of_opened P left (Some bytes) e h =
     let Q : Option (List ℕ) → Type 0 = λ k. Of k P in
     subst Q e h
 
@@ -19,3 +21,8 @@ pub of_ok : {T E : Type 0} (P : List ℕ → Type 0) (Q : List ℕ → T → Typ
 of_ok P Q None (Ok x) h f = (h.0, f h.0 h.1)
 of_ok P Q (Some bytes) (Ok x) h f = f bytes h
 of_ok P Q k (Err e) h f = tt
+
+pub of_opened_ok : {T E : Type 0} (P : List ℕ → T → Type 0) (left holds : Option (List ℕ)) (r : Result T E)
+    → IfSome holds (λ bytes. left ≡ Some bytes) → IfOk r (λ x. Of left (λ bytes. P bytes x)) → IfOk r (λ x. Of holds (λ bytes. P bytes x))
+of_opened_ok P left holds (Ok x) e h = of_opened (λ bytes. P bytes x) left holds e h
+of_opened_ok P left holds (Err f) e h = tt

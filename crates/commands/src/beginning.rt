@@ -128,8 +128,10 @@ fn begin<S: Read + Drop>(
 pub fn begin_files<D: Disk>(disk: &D, input: &str, cubes: &str) -> Result<Begun, Refusal>
     ensures { IfOk result (λ b. Of (D.holds disk.now input.now) (λ text. Of (D.holds disk.now cubes.now) (λ tree. Begins text tree b))) }
 {
-    let found = read_formula(disk.alloc(), &mut disk.open(input, Refusal::Input)?)?;
-    begin(disk.alloc(), found, &mut disk.open(cubes, Refusal::Cubes)?)
+    let mut text = disk.open(input, Refusal::Input)?;
+    let found = read_formula(disk.alloc(), &mut text)?;
+    let mut tree = disk.open(cubes, Refusal::Cubes)?;
+    begin(disk.alloc(), found, &mut tree)
 }
 
 /// The report without its text, if `-q` leaves it out.

@@ -1,6 +1,6 @@
 //! Files by their paths.
 
-ghost use Rattle.std.specs.Prelude.{◌≡◌, ℕ, List, Option, None, IfOk};
+ghost use Rattle.std.specs.Prelude.{◌≡◌, ℕ, List, Option, Some, None, IfOk, IfSome};
 
 use crate::pieces::Pieces;
 use reports::Refusal;
@@ -20,5 +20,5 @@ pub trait Disk {
 
     /// Opens a file, to be read from its first byte; else it is refused so.
     fn open(&self, path: &str, refusal: Refusal) -> Result<Pieces<Self::Source>, Refusal>
-        ensures { IfOk result (λ p. Self.Source.remaining p.source ≡ holds self.now path.now) };
+        ensures { IfOk result (λ p. IfSome (holds self.now path.now) (λ bytes. Self.Source.remaining p.source ≡ Some bytes)) };
 }
