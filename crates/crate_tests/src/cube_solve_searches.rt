@@ -132,15 +132,11 @@ fn a_lemma_loses_what_follows_from_others(rt: HostRuntime) -> Result<(), Fail> {
 /// conflict names it alone.
 #[test]
 fn a_literal_of_level_0_gets_a_lemma_of_its_own(rt: HostRuntime) -> Result<(), Fail> {
-    let text = b"p cnf 7 8\n1 0\n-1 2 0\n-2 3 4 0\n-2 3 -4 0\n-2 5 6 0\n-2 5 -6 0\n-3 -5 7 0\n-3 -5 -7 0\n";
+    let text =
+        b"p cnf 7 8\n1 0\n-1 2 0\n-2 3 4 0\n-2 3 -4 0\n-2 5 6 0\n-2 5 -6 0\n-3 -5 7 0\n-3 -5 -7 0\n";
     let rows: [Row; 3] = [
         (text, 0, 1, Want::Limit(b"9 3 0 1 2 3 4 0\n")),
-        (
-            text,
-            0,
-            2,
-            Want::Limit(b"9 3 0 1 2 3 4 0\n10 2 0 1 2 0\n"),
-        ),
+        (text, 0, 2, Want::Limit(b"9 3 0 1 2 3 4 0\n10 2 0 1 2 0\n")),
         (
             text,
             0,

@@ -76,7 +76,11 @@ fn test_rup(
 }
 
 /// The same, with room made for the lemma, under a new stamp.
-pub(crate) fn test_own(clauses: &LiveClauses, marks: &mut Marks, lemma: Lemma<'_>) -> Result<(), LogFault>
+pub(crate) fn test_own(
+    clauses: &LiveClauses,
+    marks: &mut Marks,
+    lemma: Lemma<'_>,
+) -> Result<(), LogFault>
     requires { AllFit (vec_len marks.old.table) clauses.now }
     ensures took { OnOk result (own_lemma_fault clauses.now lemma.entry.lits.now lemma.entry.hints.now lemma.entry.groups.now ≡ None) }
     ensures refused { IfErr result (λ f. (f ≡ LogFault.OfStep NoMemory) ⊎ (own_lemma_fault clauses.now lemma.entry.lits.now lemma.entry.hints.now lemma.entry.groups.now ≡ Some (log_fault_number f))) }

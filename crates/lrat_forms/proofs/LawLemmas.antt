@@ -24,8 +24,7 @@ numbered top (Delete ids) h is = h
 text_spells : (steps : List Step) (top : ℕ) (bytes : List ℕ) → IsClauseNumber top → Spells bytes steps → LineSpells (text_of top steps) steps
 text_spells [] top bytes h none = refl
 text_spells (step ∷ steps) top bytes h (front, rest, splits, first, later) =
-    let is : IsStep step = limits front step first in
-    (
+    let is : IsStep step = limits front step first in (
       line_text top step,
       text_of (top_after top step) steps,
       append_assoc (line_text top step) (10 ∷ []) (text_of (top_after top step) steps),

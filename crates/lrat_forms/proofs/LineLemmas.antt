@@ -37,8 +37,7 @@ written (step ∷ steps) s t (m, (out, top), later) =
 module _ (s : LineWriter) (begun : Begun) (piece : List ℕ) (t : LineWriter) where
   pub hands_lines : (next : Begun) → HandsOn Writes s begun piece t next [] → Appends begun s piece Binary next t
   hands_lines next h =
-      let w : Written s h.steps t = written h.steps s t h.taken in
-      (
+      let w : Written s h.steps t = written h.steps s t h.taken in (
         text_of s.top h.steps,
         w.out,
         λ more. ap (reading_text s.top) (h.reads more) ∙ reading_behind s.top h.steps (read next more) ∙ ap (λ (n : ℕ). text_of s.top h.steps ++ reading_text n (read next more)) (sym w.top),
@@ -46,8 +45,7 @@ module _ (s : LineWriter) (begun : Begun) (piece : List ℕ) (t : LineWriter) wh
 
   pub breaks_lines : (fault : TextFault) (next : Begun) (u : LineWriter) → fault ≢ NoMemory → Breaks Writes s begun piece t fault → u.out.items ≡ t.out.items ++ fault_line fault → Appends begun s piece Ended next u
   breaks_lines fault next u other h put =
-      let w : Written s h.steps t = written h.steps s t h.taken in
-      (
+      let w : Written s h.steps t = written h.steps s t h.taken in (
         text_of s.top h.steps ++ fault_line fault,
         put ∙ ap (λ (xs : List ℕ). xs ++ fault_line fault) w.out ∙ append_assoc s.out.items (text_of s.top h.steps) (fault_line fault),
         λ more. ap (reading_text s.top) (h.reads other more) ∙ sym (append-nil (text_of s.top h.steps ++ fault_line fault)),

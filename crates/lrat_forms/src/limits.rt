@@ -20,7 +20,9 @@ fn is_number(number: u64) -> bool
 fn are_numbers(numbers: &[u64]) -> bool
     ensures { IsTrue result → All IsClauseNumber numbers.now }
 {
-    numbers.iter().all(|number| 1 <= *number && *number < 1 << 48)
+    numbers
+        .iter()
+        .all(|number| 1 <= *number && *number < 1 << 48)
 }
 
 fn are_literals(lits: &[Lit]) -> bool

@@ -120,12 +120,7 @@ fn stage_at(stage: Stage, first: u8) -> Stage
 }
 
 /// Reads a piece on where the proof is in binary form, and tells what is known then.
-fn read_at(
-    stage: Stage,
-    reader: &mut BinaryReader,
-    writer: &mut LineWriter,
-    piece: &[u8],
-) -> Stage
+fn read_at(stage: Stage, reader: &mut BinaryReader, writer: &mut LineWriter, piece: &[u8]) -> Stage
     ensures { ReadsAt stage reader.old writer.old piece.now result reader.new writer.new }
 {
     match stage {

@@ -22,12 +22,7 @@ fn put_lemmas(out: &mut Vec<u8>, kept: u64, all: u64) -> Result<(), AllocError>
 }
 
 /// Appends a fault, by its step where the proof is in binary form, else by its line.
-fn put_refusal(
-    out: &mut Vec<u8>,
-    is_binary: bool,
-    place: u64,
-    number: u8,
-) -> Result<(), AllocError>
+fn put_refusal(out: &mut Vec<u8>, is_binary: bool, place: u64, number: u8) -> Result<(), AllocError>
     ensures { OnOk result (out.new.items ≡ out.old.items ++ (if is_binary then step_fault_text place number else fault_text place number)) }
 {
     if is_binary {
