@@ -1,9 +1,9 @@
 -- Which requests the words behind a command's name make.
-use Rattle.std.proofs.Common.{◌≡◌, ◌∙◌, ℕ, Bool, true, false, List, Option, Some, Vec, Global, ap, codes, refl, subst, sym}
+use Rattle.std.proofs.Common.{◌≡◌, ◌∙◌, ℕ, Bool, true, false, List, ◌∷◌, Option, Some, None, Vec, Global, ap, codes, refl, subst, sym}
 use Rattle.std.specs.Borrow.{Bor}
 use Rattle.std.specs.Str.{bytes_eq}
 use Rattle.clap.specs.Words.{Row, Text, subcommand_of}
-use Rattle.command_line.specs.CommandLine.{AsksFor, Makes}
+use Rattle.command_line.specs.CommandLine.{AsksFor, Makes, NamesFiles, NamesJoined}
 use Rattle.command_line.specs.Program.{program}
 use Rattle.command_line.specs.declared.options.Options.{Options}
 use Rattle.command_line.specs.declared.printing.Printing.{Printing}
@@ -81,9 +81,15 @@ pub only_refute : (rows : List Row) → ((input : Bor Text) (cubes : Bor Text) (
 only_refute rows none (Refute input cubes leaf to limit fragment printing binary) makes = none input cubes leaf to limit fragment printing binary makes
 only_refute rows none other makes = differ (codes "refute") (name_of other) refl refl (is_named (codes "refute") rows other makes)
 
-pub only_join : (rows : List Row) → ((input : Bor Text) (cubes : Bor Text) (proof : Bor Text) (fragments : Vec (Bor Text) Global) (printing : Printing) (binary : Bool) → Makes (codes "join") rows (Join input cubes proof fragments printing binary) → ⊥) → (r : Request) → Makes (codes "join") rows r → ⊥
+pub only_join : (rows : List Row) → ((input : Bor Text) (cubes : Bor Text) (proof : Option (Bor Text)) (fragments : Vec (Bor Text) Global) (printing : Printing) (binary : Bool) → Makes (codes "join") rows (Join input cubes proof fragments printing binary) → ⊥) → (r : Request) → Makes (codes "join") rows r → ⊥
 only_join rows none (Join input cubes proof fragments printing binary) makes = none input cubes proof fragments printing binary makes
 only_join rows none other makes = differ (codes "join") (name_of other) refl refl (is_named (codes "join") rows other makes)
+
+-- each request of `join` names a file
+pub joins_some : (rows : List Row) (proof : Option (Bor Text)) (files : List (Bor Text)) → ((names : List (Bor Text)) → NamesFiles rows (codes "NAME") names → ⊥)
+    → NamesJoined rows proof files → ⊥
+joins_some rows None files none joined = none files joined.1
+joins_some rows (Some proof) files none joined = none (proof ∷ files) joined.1
 
 pub only_lift : (rows : List Row) → ((input : Bor Text) (cubes : Bor Text) (leaf : Option ℕ) (lidrup : Bool) (proof : Bor Text) (fragment : Bor Text) (binary : Bool) → Makes (codes "lift") rows (Lift input cubes leaf lidrup proof fragment binary) → ⊥) → (r : Request) → Makes (codes "lift") rows r → ⊥
 only_lift rows none (Lift input cubes leaf lidrup proof fragment binary) makes = none input cubes leaf lidrup proof fragment binary makes

@@ -58,6 +58,15 @@ pub record NamesFiles (rows : List Row) (name : Text) (files : List (Bor Text)) 
   pub given : all_of name rows ≡ Some (map (λ t. t.now) files)
   pub some : 1 ≤ length files
 
+-- the words ask that nothing be written
+abbrev pub IsDry : List Row → Type 0
+IsDry rows = first_of (codes "dry") rows ≡ Some (codes "true")
+
+-- the files to be joined, one at least: all that the words name with `--dry`, and else those behind the first one, to which a proof goes
+abbrev pub NamesJoined : List Row → Option (Bor Text) → List (Bor Text) → Type 0
+NamesJoined rows None files = IsDry rows × NamesFiles rows (codes "NAME") files
+NamesJoined rows (Some proof) files = (IsDry rows → ⊥) × NamesFiles rows (codes "NAME") (proof ∷ files) × (1 ≤ length files)
+
 -- which leaf the words name, by its number
 abbrev pub NamesLeaf : List Row → ℕ → Type 0
 NamesLeaf rows leaf = NamesNumber rows (codes "leaf") 1 (2 ^ 32 - 1) leaf
@@ -124,8 +133,7 @@ Makes name rows (Refute input cubes leaf to limit fragment printing binary) =
     × NamesFlag rows (codes "binary") binary
 Makes name rows (Join input cubes proof fragments printing binary) =
     (name ≡ codes "join") × NamesFile rows (codes "INPUT") (Some input) × NamesFile rows (codes "cubes") (Some cubes)
-    × NamesFile rows (codes "PROOF") (Some proof) × NamesFiles rows (codes "NAME") fragments.items × NamesPrinting rows printing
-    × NamesFlag rows (codes "binary") binary
+    × NamesJoined rows proof fragments.items × NamesPrinting rows printing × NamesFlag rows (codes "binary") binary
 Makes name rows (Lift input cubes leaf lidrup proof fragment binary) =
     (name ≡ codes "lift") × NamesFile rows (codes "INPUT") (Some input) × NamesFile rows (codes "cubes") (Some cubes)
     × NamesAnyNumber rows (codes "leaf") 1 (2 ^ 32 - 1) leaf × NamesFlag rows (codes "lidrup") lidrup × NamesFile rows (codes "PROOF") (Some proof)

@@ -83,11 +83,11 @@ refute_app =
     (number_rule (codes "limit") 1 (2 ^ 47) (codes "140737488355328")))))
     (file_rule (codes "INPUT") true)) (file_rule (codes "FRAGMENT") false)
 
--- `join --cubes FILE [--binary] [-q] [-n] INPUT PROOF NAME..`, of one name or more
+-- `join [--dry] --cubes FILE [--binary] [-q] [-n] INPUT NAME..`, of one name or more
 abbrev pub join_app : App
 join_app =
-    with_rule (with_rule (with_rule (with_printing (with_binary (with_rule (new_app (codes "join")) (needed_file_rule (codes "cubes"))))) (file_rule (codes "INPUT") true))
-    (file_rule (codes "PROOF") true)) (files_rule (codes "NAME"))
+    with_rule (with_rule (with_printing (with_binary (with_rule (with_rule (new_app (codes "join")) (long_flag_rule (codes "dry"))) (needed_file_rule (codes "cubes")))))
+    (file_rule (codes "INPUT") true)) (files_rule (codes "NAME"))
 
 -- `lift --cubes FILE [--leaf I] [--lidrup] [--binary] INPUT PROOF FRAGMENT`: I from 1 to 4,294,967,295
 abbrev pub lift_app : App

@@ -82,12 +82,12 @@ pub enum Request<'a> {
         printing: Printing,
         binary: bool,
     },
-    /// Join the fragments of all leaves, one file of them at least, into a proof, and write it to a file. A name `-` stands for the
-    /// names that standard input lists.
+    /// Join the fragments of all leaves, one file of them at least, into a proof. It is written to a file if one is named. A name `-`
+    /// stands for the names that standard input lists.
     Join {
         input: &'a str,
         cubes: &'a str,
-        proof: &'a str,
+        proof: Option<&'a str>,
         fragments: Vec<&'a str>,
         printing: Printing,
         binary: bool,

@@ -371,7 +371,7 @@ fn fragments_by_their_names(rt: HostRuntime) {
     let one = Request::Join {
         input: "f.cnf",
         cubes: "f.icnf",
-        proof: "f.lrat",
+        proof: Some("f.lrat"),
         fragments: vec![in alloc; "a"].expect(&rt, "memory"),
         printing: PRINTED,
         binary: false,
@@ -385,7 +385,7 @@ fn fragments_by_their_names(rt: HostRuntime) {
     let three = Request::Join {
         input: "f.cnf",
         cubes: "f.icnf",
-        proof: "f.lrat",
+        proof: Some("f.lrat"),
         fragments: vec![in alloc; "b", "-", "a"].expect(&rt, "memory"),
         printing: Printing {
             quiet: true,
@@ -395,6 +395,22 @@ fn fragments_by_their_names(rt: HostRuntime) {
     };
     let words = "satcluster join f.cnf f.lrat b -q - --cubes f.icnf --binary a";
     asks(&rt, alloc, words, three);
+}
+
+/// With `--dry` no name is that of a proof.
+#[test]
+fn fragments_alone(rt: HostRuntime) {
+    let alloc = rt.alloc();
+    let two = Request::Join {
+        input: "f.cnf",
+        cubes: "f.icnf",
+        proof: None,
+        fragments: vec![in alloc; "f.lrat", "a"].expect(&rt, "memory"),
+        printing: PRINTED,
+        binary: false,
+    };
+    let words = "satcluster join --cubes f.icnf f.cnf f.lrat a --dry";
+    asks(&rt, alloc, words, two);
 }
 
 /// Each line goes past a bound, lacks a word, names one twice, or names one that its command has not got.
@@ -459,6 +475,8 @@ const REFUSED: &[&'static str] = &[
     "satcluster refute --cubes f.icnf --leaf 1 --limit 140737488355329 f.cnf",
     "satcluster join --cubes f.icnf f.cnf f.lrat",
     "satcluster join f.cnf f.lrat l.frag",
+    "satcluster join --dry --cubes f.icnf f.cnf",
+    "satcluster join --dry --dry --cubes f.icnf f.cnf l.frag",
     "satcluster lift --cubes f.icnf --leaf 1 f.cnf l.lrat",
     "satcluster lift --cubes f.icnf --lidrup f.cnf l.lidrup",
     "satcluster lift --cubes f.icnf --leaf 0 f.cnf l.lrat l.frag",
@@ -487,6 +505,7 @@ const HELPS: &[(&'static str, &'static str)] = &[
     ("satcluster leaf -h", "--cubes <cubes>"),
     ("satcluster refute -h", "[default: 140737488355328]"),
     ("satcluster join -h", "<NAME>..."),
+    ("satcluster join -h", "--dry"),
     ("satcluster lift -h", "<FRAGMENT>"),
     ("satcluster model -h", "<FILE>"),
 ];

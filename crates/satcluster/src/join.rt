@@ -19,20 +19,41 @@ use std::io::{Read, Write};
 use std::rt::Runtime;
 use std::str::from_utf8;
 
-/// The formula, the tree, and where the proof goes.
+/// The formula, the tree, and where the proof goes, if it is to be written.
 #[derive(Clone, Copy)]
 pub(crate) struct JoinFiles<'a> {
     pub(crate) input: &'a str,
     pub(crate) cubes: &'a str,
-    pub(crate) proof: &'a str,
+    pub(crate) proof: Option<&'a str>,
     /// Whether it is written in binary form.
     pub(crate) binary: bool,
+}
+
+/// A proof that is being written, and its place.
+struct Draft<F> {
+    part: Part<F>,
+    place: Place,
+}
+
+impl<F: Drop> Drop for Draft<F> {
+    fn drop(self) {
+        let Draft { part: _, place: _ } = self;
+    }
+}
+
+impl<F> Draft<F> {
+    /// What is written, and its place.
+    fn into_parts(self) -> (Part<F>, Place) {
+        let Draft { part, place } = self;
+        (part, place)
+    }
 }
 
 /// A join, and what was printed and written of it so far.
 struct Run<F> {
     join: FormJoin,
-    part: Part<F>,
+    /// None if nothing is to be written.
+    draft: Option<Draft<F>>,
     /// The lines of the files.
     notes: Vec<u8>,
     /// How many names were read.
@@ -45,7 +66,7 @@ impl<F: Drop> Drop for Run<F> {
     fn drop(self) {
         let Run {
             join: _,
-            part: _,
+            draft: _,
             notes: _,
             count: _,
             printing: _,
@@ -54,16 +75,16 @@ impl<F: Drop> Drop for Run<F> {
 }
 
 impl<F> Run<F> {
-    /// What it wrote to.
-    fn into_part(self) -> Part<F> {
+    /// What it wrote.
+    fn into_draft(self) -> Option<Draft<F>> {
         let Run {
             join: _,
-            part,
+            draft,
             notes: _,
             count: _,
             printing: _,
         } = self;
-        part
+        draft
     }
 }
 
@@ -75,9 +96,12 @@ pub(crate) fn stopped(fault: GatherFault) -> Refusal {
     }
 }
 
-/// Writes what is joined behind what the part has.
+/// Writes what is joined behind what the draft has. Without one it is forgotten.
 fn write<F: Write>(run: &mut Run<F>) -> Result<(), Refusal> {
-    append(&mut run.part, run.join.written()).map_err(|error| refused(error, Refusal::Writing))?;
+    if let Some(draft) = &mut run.draft {
+        let written = append(&mut draft.part, run.join.written());
+        written.map_err(|error| refused(error, Refusal::Writing))?;
+    }
     run.join.forget();
     Ok(())
 }
@@ -149,15 +173,22 @@ fn end<R: Runtime + AllocGlobal>(
     }
 }
 
+/// Whether a name leads to the draft, or to its place.
+fn leads_to_own<R: Runtime>(rt: &R, run: &Run<R::File>, name: &str) -> bool {
+    match &run.draft {
+        Some(draft) => leads_to(rt, &draft.place, name) || is_part(rt, &draft.part, name),
+        None => false,
+    }
+}
+
 /// Reads the file of a name: the report, where it is an answer that satisfies the formula.
 fn take<R: Runtime + AllocGlobal>(
     rt: &R,
     run: &mut Run<R::File>,
-    place: &Place,
     name: &str,
 ) -> Result<Option<Report>, Refusal> {
     run.count = run.count.saturating_add(1);
-    if leads_to(rt, place, name) || is_part(rt, &run.part, name) {
+    if leads_to_own(rt, run, name) {
         return Err(Refusal::Writing);
     }
     let mut pieces = match open(rt, name, Refusal::Proof) {
@@ -181,11 +212,10 @@ fn take<R: Runtime + AllocGlobal>(
 fn take_all<R: Runtime + AllocGlobal>(
     rt: &R,
     run: &mut Run<R::File>,
-    place: &Place,
     names: &[&str],
 ) -> Result<Option<Report>, Refusal> {
     for name in names {
-        if let Some(report) = take(rt, run, place, name)? {
+        if let Some(report) = take(rt, run, name)? {
             return Ok(Some(report));
         }
     }
@@ -196,11 +226,10 @@ fn take_all<R: Runtime + AllocGlobal>(
 fn take_named<R: Runtime + AllocGlobal>(
     rt: &R,
     run: &mut Run<R::File>,
-    place: &Place,
     name: &[u8],
 ) -> Result<Option<Report>, Refusal> {
     match from_utf8(name) {
-        Ok(name) if !is_dash(name) => take(rt, run, place, name),
+        Ok(name) if !is_dash(name) => take(rt, run, name),
         _ => {
             run.count = run.count.saturating_add(1);
             note(run, Note::Unread, name)?;
@@ -213,7 +242,6 @@ fn take_named<R: Runtime + AllocGlobal>(
 fn take_names<R: Runtime + AllocGlobal>(
     rt: &R,
     run: &mut Run<R::File>,
-    place: &Place,
     begun: &mut Vec<u8>,
     piece: &[u8],
 ) -> Result<Option<Report>, Refusal> {
@@ -223,7 +251,7 @@ fn take_names<R: Runtime + AllocGlobal>(
             break;
         };
         begun.extend_from_slice(name).map_err(no_memory)?;
-        if let Some(report) = take_named(rt, run, place, begun)? {
+        if let Some(report) = take_named(rt, run, begun)? {
             return Ok(Some(report));
         }
         begun.clear();
@@ -237,7 +265,6 @@ fn take_names<R: Runtime + AllocGlobal>(
 fn take_listed<R: Runtime + AllocGlobal>(
     rt: &R,
     run: &mut Run<R::File>,
-    place: &Place,
 ) -> Result<Option<Report>, Refusal> {
     let mut names = open(rt, "-", Refusal::Proof)?;
     let mut begun = Vec::new(rt.alloc());
@@ -247,9 +274,9 @@ fn take_listed<R: Runtime + AllocGlobal>(
             if begun.is_empty() {
                 return Ok(None);
             }
-            return take_named(rt, run, place, &begun);
+            return take_named(rt, run, &begun);
         }
-        if let Some(report) = take_names(rt, run, place, &mut begun, piece)? {
+        if let Some(report) = take_names(rt, run, &mut begun, piece)? {
             return Ok(Some(report));
         }
     }
@@ -260,13 +287,12 @@ fn take_listed<R: Runtime + AllocGlobal>(
 fn joined<R: Runtime + AllocGlobal>(
     rt: &R,
     run: &mut Run<R::File>,
-    place: &Place,
     names: &[&str],
 ) -> Result<Report, Refusal> {
     let found = if names.len() == 1 && names[0] == "-" {
-        take_listed(rt, run, place)?
+        take_listed(rt, run)?
     } else {
-        take_all(rt, run, place, names)?
+        take_all(rt, run, names)?
     };
     if let Some(report) = found {
         return Ok(report);
@@ -277,13 +303,13 @@ fn joined<R: Runtime + AllocGlobal>(
     Ok(report)
 }
 
-/// Lets the part take its place where the report has a proof; else it is gone.
+/// Lets the draft take its place where the report has a proof; else it is gone.
 fn settle<R: Runtime>(
     rt: &R,
-    part: Part<R::File>,
-    place: &Place,
+    draft: Draft<R::File>,
     report: Result<Report, Refusal>,
 ) -> Result<Report, Refusal> {
+    let (part, place) = draft.into_parts();
     let report = match report {
         Ok(report) if report.status == 20 => report,
         other => {
@@ -291,22 +317,23 @@ fn settle<R: Runtime>(
             return other;
         }
     };
-    match keep(rt, part, place) {
+    match keep(rt, part, &place) {
         Ok(true) => Ok(report),
         Ok(false) => Err(Refusal::Writing),
         Err(error) => Err(refused(error, Refusal::Writing)),
     }
 }
 
-/// Where the proof goes: a file that is none of those that are read, and beside which another can be made.
-fn beside<R: Runtime + AllocGlobal>(
+/// A draft of the proof: its place is a file that is none of those that are read, and beside which another can be made.
+fn begin_draft<R: Runtime + AllocGlobal>(
     rt: &R,
     files: &JoinFiles,
-) -> Result<(Place, Part<R::File>), Refusal> {
-    if is_same_file(rt, files.proof, files.input) || is_same_file(rt, files.proof, files.cubes) {
+    proof: &str,
+) -> Result<Draft<R::File>, Refusal> {
+    if is_same_file(rt, proof, files.input) || is_same_file(rt, proof, files.cubes) {
         return Err(Refusal::Writing);
     }
-    let place = place_of(rt, files.proof).map_err(|error| refused(error, Refusal::Writing))?;
+    let place = place_of(rt, proof).map_err(|error| refused(error, Refusal::Writing))?;
     let Some(place) = place else {
         return Err(Refusal::Writing);
     };
@@ -314,7 +341,7 @@ fn beside<R: Runtime + AllocGlobal>(
         return Err(Refusal::Writing);
     }
     match make_part(rt, &place, files.binary) {
-        Ok(Some(part)) => Ok((place, part)),
+        Ok(Some(part)) => Ok(Draft { part, place }),
         Ok(None) => Err(Refusal::Writing),
         Err(error) => Err(refused(error, Refusal::Writing)),
     }
@@ -329,16 +356,22 @@ fn gathered<R: Runtime + AllocGlobal>(
     printing: Printing,
 ) -> Result<Report, Refusal> {
     let join = FormJoin::of(rt.alloc(), split).map_err(no_memory)?;
-    let (place, part) = beside(rt, files)?;
+    let draft = match files.proof {
+        Some(proof) => Some(begin_draft(rt, files, proof)?),
+        None => None,
+    };
     let mut run = Run {
         join,
-        part,
+        draft,
         notes: Vec::new(rt.alloc()),
         count: 0,
         printing,
     };
-    let report = joined(rt, &mut run, &place, names);
-    settle(rt, run.into_part(), &place, report)
+    let report = joined(rt, &mut run, names);
+    match run.into_draft() {
+        Some(draft) => settle(rt, draft, report),
+        None => report,
+    }
 }
 
 /// Joins the files of these names, or of those that standard input lists, where `-` is the only one.

@@ -63,7 +63,7 @@ fn is_written(request: &Request) -> bool {
         Request::Serve { proof, .. } => is_some_dash(proof),
         Request::Work { proof, .. } => is_some_dash(proof),
         Request::Refute { fragment, .. } => is_some_dash(fragment),
-        Request::Join { proof, .. } => is_dash(proof),
+        Request::Join { proof, .. } => is_some_dash(proof),
         Request::Lift { fragment, .. } => is_dash(fragment),
         Request::Trim { out, .. } => is_dash(out),
         _ => false,

@@ -1,7 +1,7 @@
 //! The words of `join`.
 
-ghost use Rattle.std.specs.Prelude.{◌≡◌, IfOk, IfSome, IfNone, codes};
-ghost use Rattle.command_line.specs.CommandLine.{IsInRange, Makes, NamesFiles};
+ghost use Rattle.std.specs.Prelude.{◌≡◌, IfOk, IfSome, IfNone, codes, false, true};
+ghost use Rattle.command_line.specs.CommandLine.{IsDry, IsInRange, Makes, NamesFiles, NamesJoined};
 ghost use Rattle.command_line.specs.declared.request.Request.{Request};
 
 use crate::commands::leaf_words::CUBES;
@@ -17,33 +17,46 @@ pub(crate) const RULES: CommandRules<'static> = CommandRules {
     about: "Joins the fragments of all leaves of a DIMACS formula into one LRAT proof",
     after_help: STATUS,
     words: &[
+        Word::LongFlag {
+            name: "dry",
+            help: "Write nothing: each NAME is a fragment",
+        },
         CUBES,
         BINARY,
         QUIET,
         NO_WITNESS,
         INPUT,
-        Word::File {
-            name: "PROOF",
-            required: true,
-            help: "The file to which an LRAT proof is written, where every leaf is closed",
-        },
         Word::Files {
             name: "NAME",
-            help: "The fragments, files that are read; - for those that standard input names",
+            help: "PROOF, which is written, but with --dry; then the fragments, or - for names on standard input",
         },
     ],
 };
 
-/// What the words ask for beside these fragments.
-fn joining<'a>(given: &Found<'a>, fragments: Vec<&'a str>) -> Option<Request<'a>>
-    requires { NamesFiles given.now.rows (codes "NAME") fragments.items }
+/// Whether the words ask that nothing be written.
+fn is_dry(given: &Found) -> bool
+    ensures yes { result ≡ true → IsDry given.now.rows }
+    ensures no { result ≡ false → IsDry given.now.rows → ⊥ }
+{
+    match given.text("dry") {
+        Some(text) => text == "true",
+        None => false,
+    }
+}
+
+/// What the words ask for beside this proof and these fragments.
+fn joining<'a>(
+    given: &Found<'a>,
+    proof: Option<&'a str>,
+    fragments: Vec<&'a str>,
+) -> Option<Request<'a>>
+    requires { NamesJoined given.now.rows proof fragments.items }
     ensures found { IfSome result (Makes (codes "join") given.now.rows) }
     ensures none { IfNone result ((request : Request) → Makes (codes "join") given.now.rows request → ⊥) }
     ensures range { IfSome result IsInRange }
 {
     let input = file_of(given, "INPUT")?;
     let cubes = file_of(given, "cubes")?;
-    let proof = file_of(given, "PROOF")?;
     Some(Request::Join {
         input,
         cubes,
@@ -54,6 +67,24 @@ fn joining<'a>(given: &Found<'a>, fragments: Vec<&'a str>) -> Option<Request<'a>
     })
 }
 
+/// What the words ask for that name these files.
+fn naming<'a>(given: &Found<'a>, names: Vec<&'a str>) -> Option<Request<'a>>
+    requires { NamesFiles given.now.rows (codes "NAME") names.items }
+    ensures found { IfSome result (Makes (codes "join") given.now.rows) }
+    ensures none { IfNone result ((request : Request) → Makes (codes "join") given.now.rows request → ⊥) }
+    ensures range { IfSome result IsInRange }
+{
+    if is_dry(given) {
+        return joining(given, None, names);
+    }
+    if names.len() < 2 {
+        return None;
+    }
+    let mut fragments = names;
+    let proof = fragments.remove(0);
+    joining(given, Some(proof), fragments)
+}
+
 /// What its words ask for.
 pub(crate) fn asked<'a>(alloc: Global, given: &Found<'a>) -> Result<Option<Request<'a>>, AllocError>
     ensures found { IfOk result (λ found. IfSome found (Makes (codes "join") given.now.rows)) }
@@ -61,7 +92,7 @@ pub(crate) fn asked<'a>(alloc: Global, given: &Found<'a>) -> Result<Option<Reque
     ensures range { IfOk result (λ found. IfSome found IsInRange) }
 {
     match files_of(alloc, given, "NAME")? {
-        Some(fragments) => Ok(joining(given, fragments)),
+        Some(names) => Ok(naming(given, names)),
         None => Ok(None),
     }
 }

@@ -9,7 +9,3 @@ returns-in_err-input-clause-none c =
 pub returns-in_err-cubes-clause-none : goal.returns-in_err-cubes-clause-none
 returns-in_err-cubes-clause-none c =
     if_none _ _ (only_join c.args.given.now.rows (λ input cubes proof fragments printing binary makes. unnamed _ cubes.now c.in_err-cubes.ensures makes.2))
-
-pub returns-in_err-proof-clause-none : goal.returns-in_err-proof-clause-none
-returns-in_err-proof-clause-none c =
-    if_none _ _ (only_join c.args.given.now.rows (λ input cubes proof fragments printing binary makes. unnamed _ proof.now c.in_err-proof.ensures makes.3))
