@@ -37,7 +37,8 @@ LINKS = {"bin/satcluster-solver": "../lib/satcluster/satcluster-solver",
 
 
 def git(*words: str) -> str:
-    return subprocess.run(["git", *words], cwd=ROOT, stdout=subprocess.PIPE, check=True,
+    """What git prints; nothing where this is no clone."""
+    return subprocess.run(["git", *words], cwd=ROOT, stdout=subprocess.PIPE,
                           encoding="utf-8").stdout.strip()
 
 
@@ -57,15 +58,17 @@ def layout(program: Path) -> Dict[str, Path]:
 
 def is_gated(note: List[str], program: Path) -> bool:
     """Whether the note is of this program, and of the commit as it stands here."""
-    return (note[:1] == [git("rev-parse", "HEAD")] and note[3:] == [digest(program)]
-            and not git("status", "--porcelain") and ", 0 failed" in note[2])
+    commit = git("rev-parse", "HEAD")
+    return (len(note) == 4 and note[0] == commit != "" and ", 0 failed" in note[2]
+            and note[3] == digest(program) and not git("status", "--porcelain"))
 
 
 def statement(program: Path, note: List[str]) -> str:
     """What the program was proved by."""
     libc = max(map(int, re.findall(rb"GLIBC_2\.(\d+)", program.read_bytes())), default=0)
     found = manual.program()
-    lines = ["satcluster %s (%s), commit %s" % (found.version, found.kits, git("rev-parse", "HEAD"))]
+    commit = git("rev-parse", "HEAD") or "unknown"
+    lines = ["satcluster %s (%s), commit %s" % (found.version, found.kits, commit)]
     if is_gated(note, program):
         lines += ["proved by the gate of `%s`, whose last line is: %s" % (note[1], note[2])]
     else:
@@ -76,6 +79,7 @@ def statement(program: Path, note: List[str]) -> str:
 
 
 def make_tree(tree: Path, program: Path, note: List[str]) -> None:
+    os.umask(0o022)
     shutil.rmtree(tree, ignore_errors=True)
     places = layout(program)
     for place, path in places.items():
@@ -98,7 +102,6 @@ def pack(tree: Path, archive: Path) -> None:
         entry.uid = entry.gid = 0
         entry.uname = entry.gname = "root"
         entry.mtime = moment
-        entry.mode = 0o755 if entry.isdir() else entry.mode
         return entry
 
     with tarfile.open(archive, "w:xz", format=tarfile.USTAR_FORMAT, preset=9) as file:

@@ -17,16 +17,18 @@ import tempfile
 import unittest
 from pathlib import Path
 from typing import Dict, Iterable, List, Optional
+from unittest import mock
 
 sys.dont_write_bytecode = True
 
+import dist
 import manual
 from cases import EXAMPLES, ROOT, pigeons, run
 
 NAME = "satcluster-%s-linux-x86_64" % manual.program().version
 ARCHIVE = ROOT.parent / "out" / (NAME + ".tar.xz")
 SUMS = "share/doc/satcluster/SHA256SUMS"
-PLAIN = {"PATH": "/usr/bin:/bin", "HOME": "/nonexistent", "LC_ALL": "C.UTF-8"}
+PLAIN = {"PATH": "/usr/bin:/bin:/usr/sbin:/sbin", "HOME": "/nonexistent", "LC_ALL": "C.UTF-8"}
 SECONDS = 60
 
 
@@ -47,7 +49,7 @@ def make(**env: str) -> bytes:
     return ARCHIVE.read_bytes()
 
 
-def libraries(paths: Iterable[Path]) -> List[str]:
+def libraries(paths: Iterable[object]) -> List[str]:
     """The shared libraries that programs want, and what loads them."""
     lines = output("ldd", *paths)
     return sorted(set(re.findall(r"(/\S+) \(0x", lines)))
@@ -63,9 +65,9 @@ def enter(root: Path) -> List[str]:
     """The words by which a command runs in another root; none where that is not allowed."""
     for words in (["chroot"], ["unshare", "-r", "chroot"]):
         try:
-            if not subprocess.run(words + ["/", "true"], stderr=subprocess.DEVNULL).returncode:
-                return words + [str(root)]
-        except FileNotFoundError:
+            output(*words, "/", "true")
+            return words + [str(root)]
+        except (AssertionError, FileNotFoundError):
             pass
     return []
 
@@ -105,7 +107,7 @@ class Archive(unittest.TestCase):
     def test_same_bytes(self) -> None:
         before = os.umask(0o077)
         self.addCleanup(os.umask, before)
-        self.assertEqual(self.made, make(TZ="Asia/Tokyo", LC_ALL="C"))
+        self.assertTrue(self.made == make(TZ="Asia/Tokyo", LC_ALL="C"))
 
     def test_sums_and_statement(self) -> None:
         lines = (self.tree / SUMS).read_text().splitlines()
@@ -116,9 +118,22 @@ class Archive(unittest.TestCase):
         self.assertIn(manual.program().kits, said)
         self.assertRegex(said, "GNU C library, 2[.][0-9]+")
 
+    def test_note(self) -> None:
+        program = Path(os.environ["SATCLUSTER"])
+        note = ["c0ffee", "a kit", "9 passed, 0 failed (1 s)", dist.digest(program)]
+        spoiled = [note[:at] + [line] + note[at + 1:] for at, line in
+                   ((0, "decade"), (2, "9 passed, 10 failed (1 s)"), (3, "0" * 64))]
+        tells = {"rev-parse": "c0ffee", "status": ""}
+        with mock.patch.object(dist, "git", lambda *words: tells[words[0]]):
+            self.assertIn("gate of `a kit`", dist.statement(program, note))
+            for bad in spoiled + [[], note[:3]]:
+                self.assertIn("Not known to be proved", dist.statement(program, bad))
+            tells["status"] = " M crates.txt"
+            self.assertIn("Not known to be proved", dist.statement(program, note))
+
     def test_wants_libc_alone(self) -> None:
-        names = [Path(name).name for name in libraries([self.tree / "bin" / "satcluster"])]
-        self.assertEqual(["ld-linux-x86-64.so.2", "libc.so.6"], sorted(names))
+        names = {Path(name).name for name in libraries([self.tree / "bin" / "satcluster"])}
+        self.assertEqual({"ld-linux-x86-64.so.2", "libc.so.6"}, names)
 
     def test_install_and_uninstall(self) -> None:
         prefix = self.installed("a prefix")
@@ -152,10 +167,12 @@ class Archive(unittest.TestCase):
         skipped = shutil.ignore_patterns("site-packages", "dist-packages", "test", "__pycache__")
         shutil.copytree(library, str(root) + library, ignore=skipped)
         into(root, python)
-        parts = [Path(python), root / "bin" / "satcluster", *Path(library).rglob("*.so")]
+        into(root, "/usr/bin/env")
+        (root / "usr" / "bin" / "python3").symlink_to(python)
+        parts = [python, "/usr/bin/env", root / "bin" / "satcluster", *Path(library).rglob("*.so")]
         for path in libraries(parts):
             into(root, path)
-        self.decides(begin + ["/bin/satcluster"][:0], "/bin", room, "/tmp")
+        self.decides(begin, "/bin", room, "/tmp")
 
     @unittest.skipUnless(shutil.which("man"), "man is not installed")
     def test_man(self) -> None:
