@@ -46,9 +46,18 @@ def digest(path: Path) -> str:
     return hashlib.sha256(path.read_bytes()).hexdigest()
 
 
+def licences() -> Dict[str, Path]:
+    """Those of the kit's crates that are in the program, if the kit is on the path."""
+    names = re.findall(r"\w+", (ROOT / "crates.txt").read_text(encoding="utf-8"))
+    kit = Path(shutil.which("rt") or os.devnull).resolve().parent.parent / "rattle"
+    return {"%s/licences/%s/%s" % (DOC, path.parent.name, path.name): path
+            for path in kit.glob("*/LICENSE*") if path.parent.name in names + ["strsim"]}
+
+
 def layout(program: Path) -> Dict[str, Path]:
     """Which file stands at which place below PREFIX."""
-    places = {"bin/satcluster": program, "install.sh": ROOT / "tools" / "install.sh"}
+    places = licences()
+    places.update({"bin/satcluster": program, "install.sh": ROOT / "tools" / "install.sh"})
     for base, names, to in ((ROOT / "tools", TOOLS, "lib/satcluster"), (ROOT, PAGES, DOC),
                             (ROOT / "share", ("*/**/*",), "share")):
         for path in (path for name in names for path in base.glob(name) if path.is_file()):
@@ -59,8 +68,9 @@ def layout(program: Path) -> Dict[str, Path]:
 def is_gated(note: List[str], program: Path) -> bool:
     """Whether the note is of this program, and of the commit as it stands here."""
     commit = git("rev-parse", "HEAD")
-    return (len(note) == 4 and note[0] == commit != "" and ", 0 failed" in note[2]
-            and note[3] == digest(program) and not git("status", "--porcelain"))
+    return (len(note) == 4 and note[0] == commit != "" and note[2].endswith(", 0 failed")
+            and note[1].split()[-1] in manual.program().kits and note[3] == digest(program)
+            and not git("status", "--porcelain"))
 
 
 def statement(program: Path, note: List[str]) -> str:

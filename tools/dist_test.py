@@ -120,12 +120,14 @@ class Archive(unittest.TestCase):
 
     def test_note(self) -> None:
         program = Path(os.environ["SATCLUSTER"])
-        note = ["c0ffee", "a kit", "9 passed, 0 failed (1 s)", dist.digest(program)]
+        kit = "a kit, logic " + manual.program().kits.split()[-1]
+        note = ["c0ffee", kit, "9 passed, 0 failed", dist.digest(program)]
         spoiled = [note[:at] + [line] + note[at + 1:] for at, line in
-                   ((0, "decade"), (2, "9 passed, 10 failed (1 s)"), (3, "0" * 64))]
+                   ((0, "decade"), (1, "a kit, logic 0123456789abcdef"), (2, "9 passed, 10 failed"), (3, "0" * 64),
+                    (2, "9 passed, 0 failed (dimacs and the crates below alone: not the gate)"))]
         tells = {"rev-parse": "c0ffee", "status": ""}
         with mock.patch.object(dist, "git", lambda *words: tells[words[0]]):
-            self.assertIn("gate of `a kit`", dist.statement(program, note))
+            self.assertIn("gate of `%s`" % kit, dist.statement(program, note))
             for bad in spoiled + [[], note[:3]]:
                 self.assertIn("Not known to be proved", dist.statement(program, bad))
             tells["status"] = " M crates.txt"
