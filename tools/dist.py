@@ -84,8 +84,8 @@ def statement(program: Path, note: List[str]) -> str:
     else:
         lines += ["Not known to be proved: no gate was noted for this program and commit."]
     lines += ["SHA-256 of the program: " + digest(program),
-              "It wants Linux, a processor of x86-64-v2 and the GNU C library, 2.%d or later." % libc,
-              "The tools want Python 3.8 or later."]
+              "It wants Linux, a processor of x86-64-v2 and the GNU C library, 2.%d or later;" % libc,
+              "the tools want Python 3.8 or later."]
     return "\n".join(lines) + "\n"
 
 

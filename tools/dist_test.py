@@ -111,8 +111,9 @@ class Archive(unittest.TestCase):
 
     def test_sums_and_statement(self) -> None:
         lines = (self.tree / SUMS).read_text().splitlines()
-        there = {str(path.relative_to(self.tree)) for path in self.tree.rglob("*") if path.is_file()}
-        self.assertEqual({line[66:] for line in lines} | {SUMS, "install.sh"}, there)
+        files = {path for path in self.tree.rglob("*") if path.is_file()}
+        names = {line[66:] for line in lines} | {SUMS, "install.sh"}
+        self.assertEqual({self.tree / name for name in names}, files)
         subprocess.run(["sha256sum", "--quiet", "-c", SUMS], cwd=self.tree, check=True)
         said = (self.tree / "share/doc/satcluster/PROVED").read_text()
         self.assertIn(manual.program().kits, said)
@@ -123,7 +124,8 @@ class Archive(unittest.TestCase):
         kit = "a kit, logic " + manual.program().kits.split()[-1]
         note = ["c0ffee", kit, "9 passed, 0 failed", dist.digest(program)]
         spoiled = [note[:at] + [line] + note[at + 1:] for at, line in
-                   ((0, "decade"), (1, "a kit, logic 0123456789abcdef"), (2, "9 passed, 10 failed"), (3, "0" * 64),
+                   ((0, "decade"), (1, "a kit, logic 0123456789abcdef"), (3, "0" * 64),
+                    (2, "9 passed, 10 failed"),
                     (2, "9 passed, 0 failed (dimacs and the crates below alone: not the gate)"))]
         tells = {"rev-parse": "c0ffee", "status": ""}
         with mock.patch.object(dist, "git", lambda *words: tells[words[0]]):
@@ -143,6 +145,7 @@ class Archive(unittest.TestCase):
         other.write_text("of someone else")
         self.decides([], str(prefix / "bin"), self.room, str(self.room))
         output(self.tree / "install.sh", prefix)  # over what is there
+        output(self.tree / "install.sh", self.tree, status=1)
         output(self.tree / "install.sh", "--remove", prefix)
         self.assertEqual([other], [path for path in prefix.rglob("*") if not path.is_dir()])
 

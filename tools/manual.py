@@ -113,11 +113,16 @@ class Module:
 
 def word_of(fields: Dict[str, Any]) -> Word:
     kind, name = fields["kind"], fields["name"]
-    text = {"File": name, "Files": name, "Flag": "-" + fields.get("letter", "")}.get(kind, "--" + name)
+    text = "--" + name
+    if kind in ("File", "Files"):
+        text = name
+    if kind == "Flag":
+        text = "-" + fields["letter"]
     value = {"NamedFile": "FILE", "Number": "N"}.get(kind, "")
-    is_needed = fields.get("required") == "true" or fields.get("need") == "Need::Required"
-    usual = "; else " + fields["need"][0] if isinstance(fields.get("need"), list) else ""
-    return Word(text, value, is_needed or kind == "Files", kind == "Files", fields["help"] + usual)
+    need = fields.get("need")
+    usual = "; else " + need[0] if isinstance(need, list) else ""
+    is_needed = kind == "Files" or need == "Need::Required" or fields.get("required") == "true"
+    return Word(text, value, is_needed, kind == "Files", fields["help"] + usual)
 
 
 def program() -> Program:
@@ -147,10 +152,10 @@ def man(p: Program) -> Iterator[str]:
         for word in command.words:
             yield ".TP\n.B %s\n%s" % (roff((word.text + " " + word.value).strip()), roff(word.help))
         yield ".PP\n" + roff(command.status)
-    yield ".SS help, \\-\\-help, \\-\\-version\nHelp, also behind a command, or the version.\n.PP\n" + roff(p.status)
-    yield ".SH TOOLS"
+    yield ".SS help, \\-\\-help, \\-\\-version\nHelp, also behind a command, or the version."
+    yield ".PP\n%s\n.SH TOOLS" % roff(p.status)
     yield from (".TP\n.B %s\n%s" % (roff(line), roff(text)) for line, text in TOOLS)
-    yield ".SH SEE ALSO\nshare/doc/satcluster: README.md, and docs/COMMANDS.md on each line printed."
+    yield ".SH SEE ALSO\nshare/doc/satcluster: README.md, and docs/COMMANDS.md on each line."
 
 
 def bash(p: Program) -> Iterator[str]:
@@ -179,7 +184,8 @@ def zsh(p: Program) -> Iterator[str]:
     yield "    compadd -- --help --version\n    return\nfi"
     yield "local command=$words[2]\nshift words\n((CURRENT--))\ncase $command in"
     for c in p.commands:
-        yield "    %s) _arguments %s '*:file:_files' ;;" % (c.name, " ".join(map(option, c.options)))
+        words = " ".join(map(option, c.options))
+        yield "    %s) _arguments %s '*:file:_files' ;;" % (c.name, words)
     yield "esac"
 
 
@@ -189,7 +195,8 @@ def fish(p: Program) -> Iterator[str]:
 
     yield "# " + MADE
     for c in p.commands:
-        yield "complete -c satcluster -n __fish_use_subcommand -f -a %s -d %s" % (c.name, quoted(c.about))
+        yield "complete -c satcluster -n __fish_use_subcommand -f -a %s -d %s" % (
+            c.name, quoted(c.about))
         for w in c.options:
             name = "-l " + w.text[2:] if w.text.startswith("--") else "-s " + w.text[1:]
             behind = {"FILE": " -r", "N": " -x"}.get(w.value, "")
