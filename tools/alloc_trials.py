@@ -83,6 +83,7 @@ PROOF = "kept"
 # The words of a run, the first line of what it prints with ample memory, and its status then.
 RUNS = [
     ("--help", None, 0),
+    ("--version", None, 0),
     ("solve --depth 17 four.cnf", "c usage", 1),
     ("solve nothing.cnf", "c cannot read input", 1),
     ("solve not_ended.cnf", "c input line 3 fault 5", 1),

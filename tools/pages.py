@@ -1,16 +1,24 @@
 #!/usr/bin/env python3
-"""Checks the Markdown pages of the repository.
+"""Checks the Markdown pages of the repository, and writes the man page and the completions.
 
     tools/pages.py --check
+    tools/pages.py --man      writes share/, of the tables of words (tools/manual.py)
 
 Prints each fault with its page and line, and ends with status 1 if there is one:
 a link to a file, or to a heading, that is not there; a path of a crate in code quotes that is not
 there; a line of more than 100 characters outside of code blocks and tables; a README of more than
-90 lines, or with a longer line anywhere.
+90 lines, or with a longer line anywhere; a file of share/ that is not what would be written; a
+CHANGELOG that does not begin with the program's version, or gives one another day than its tag.
 """
 import re
+import subprocess
 import sys
 from pathlib import Path
+from typing import Iterator
+
+sys.dont_write_bytecode = True
+
+import manual
 
 ROOT = Path(__file__).resolve().parent.parent
 WIDTH = 100
@@ -90,10 +98,32 @@ def faults(page):
         yield last, f"{last} lines"
 
 
+def stale() -> Iterator[str]:
+    """What is not made of the tables as they stand."""
+    for path, text in manual.files().items():
+        if not path.is_file() or path.read_text(encoding="utf-8") != text:
+            yield f"{path.relative_to(ROOT)}: stale, tools/pages.py --man writes it"
+    text = (ROOT / "CHANGELOG.md").read_text(encoding="utf-8")
+    days = dict(re.findall(r"^## (\d\S*), (\d{4}-\d\d-\d\d)$", text, re.M))
+    if next(iter(days), None) != manual.program().version:
+        yield f"CHANGELOG.md: does not begin with version {manual.program().version} and its day"
+    git = ["git", "for-each-ref", "--format=%(refname:short) %(creatordate:short)", "refs/tags/v*"]
+    tags = subprocess.run(git, cwd=ROOT, stdout=subprocess.PIPE, encoding="utf-8").stdout
+    for tag, day in map(str.split, tags.splitlines()):
+        if days.get(tag[1:]) != day:
+            yield f"CHANGELOG.md: has no version {tag[1:]} of {day}, as the tag {tag} says"
+
+
 def main():
+    if sys.argv[1:] == ["--man"]:
+        for path, text in manual.files().items():
+            path.parent.mkdir(parents=True, exist_ok=True)
+            path.write_text(text, encoding="utf-8")
+        return
     if sys.argv[1:] != ["--check"]:
         raise SystemExit(__doc__)
     found = [f"{page.relative_to(ROOT)}:{n}: {why}" for page in pages() for n, why in faults(page)]
+    found += stale()
     if found:
         raise SystemExit("\n".join(found))
 

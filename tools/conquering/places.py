@@ -4,15 +4,17 @@ import shutil
 from pathlib import Path
 from typing import Optional
 
-BUILT = Path(__file__).resolve().parents[2] / "crates" / "satcluster" / "out" / "satcluster"
+HERE = Path(__file__).resolve()
+BUILT = HERE.parents[2] / "crates" / "satcluster" / "out" / "satcluster"
+INSTALLED = HERE.parents[3] / "bin" / "satcluster"  # where this is PREFIX/lib/satcluster/conquering
 VARIABLE = "SATCLUSTER"  # of the environment, for those who cannot give a word
 HOW_TO = "build it, name it with --program or in %s, or put it on the path" % VARIABLE
 
 
 def word_of_program(word: Optional[str]) -> str:
-    """How the program is called: as it was named, as it was built here, or as it is on the path."""
-    built = str(BUILT) if BUILT.exists() else "satcluster"
-    return word or os.environ.get(VARIABLE) or built
+    """How the program is called: as it was named, built or installed here, or is on the path."""
+    here = [str(path) for path in (BUILT, INSTALLED) if path.exists()]
+    return word or os.environ.get(VARIABLE) or (here + ["satcluster"])[0]
 
 
 def found(word: str) -> Optional[str]:

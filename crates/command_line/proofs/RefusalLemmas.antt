@@ -5,7 +5,7 @@ use Rattle.clap.specs.declared.error.kind.ErrorKind.TheVariants as kind
 use Rattle.word_rules.specs.Parsing.{IsRefusalOf}
 use Rattle.word_rules.specs.declared.parsing.Refusal.{Refusal}
 use Rattle.word_rules.specs.declared.parsing.Refusal.TheVariants as refusal
-use Rattle.command_line.specs.CommandLine.{AsksForHelp, IsParsed, IsRefusal}
+use Rattle.command_line.specs.CommandLine.{AsksForHelp, AsksForVersion, IsParsed, IsRefusal}
 use Rattle.command_line.specs.inner.Refusing.{fault_of_refusal}
 use Rattle.command_line.specs.Program.{program}
 use Rattle.command_line.specs.declared.request.UsageFault.TheVariants.{NoMemory}
@@ -20,6 +20,12 @@ refusal_is words refusal.NoMemory is = tt
 pub no_memory_is : (r : Refusal) → r ≡ refusal.NoMemory → fault_of_refusal r ≡ NoMemory
 no_memory_is r is = ap fault_of_refusal is
 
--- words that are parsed ask for no help
-pub asks_no_help : (words : List Text) → IsParsed words → AsksForHelp words → ⊥
+asks_no_help : (words : List Text) → IsParsed words → AsksForHelp words → ⊥
 asks_no_help words none asks = let both : [] ≡ kind.DisplayHelp ∷ [] = sym none ∙ asks in cc
+
+asks_no_version : (words : List Text) → IsParsed words → AsksForVersion words → ⊥
+asks_no_version words none asks = let both : [] ≡ kind.DisplayVersion ∷ [] = sym none ∙ asks in cc
+
+-- words that are parsed ask for no help and for no version
+pub asks_nothing : (words : List Text) → IsParsed words → (AsksForHelp words → ⊥) × (AsksForVersion words → ⊥)
+asks_nothing words none = (asks_no_help words none, asks_no_version words none)

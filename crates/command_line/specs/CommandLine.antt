@@ -1,5 +1,5 @@
 -- What the words of a command line ask for, by the rules of `clap`.
-use Rattle.std.specs.Prelude.{◌≡◌, ℕ, ◌-◌, ◌^◌, ◌≤◌, nat_le, List, [], ◌∷◌, length, map, Bool, true, false, not, Option, Some, None, option_map, codes, IfSome, if◌then◌else◌, ⊤}
+use Rattle.std.specs.Prelude.{◌≡◌, ◌⊎◌, ℕ, ◌-◌, ◌^◌, ◌≤◌, nat_le, List, [], ◌∷◌, length, map, Bool, true, false, not, Option, Some, None, option_map, codes, IfSome, if◌then◌else◌, ⊤}
 use Rattle.std.specs.Borrow.{Bor}
 use Rattle.std.specs.Str.Parse.{IsNumeral, digits_value, without_leading_plus}
 use Rattle.clap.specs.Kinds.{IsAmong}
@@ -163,10 +163,14 @@ pub record AsksFor (words : List Text) (request : Request) : Type 0 where
 abbrev pub AsksForHelp : List Text → Type 0
 AsksForHelp words = fault_of program words ≡ kind.DisplayHelp ∷ []
 
+-- the words ask for the version, in the same way
+abbrev pub AsksForVersion : List Text → Type 0
+AsksForVersion words = fault_of program words ≡ kind.DisplayVersion ∷ []
+
 -- why words give no request
 abbrev pub IsRefusal : List Text → UsageFault → Type 0
-IsRefusal words (Help text) = IsAmong kind.DisplayHelp (fault_of program words)
-IsRefusal words Usage = AsksForHelp words → ⊥
+IsRefusal words (Help text) = IsAmong kind.DisplayHelp (fault_of program words) ⊎ IsAmong kind.DisplayVersion (fault_of program words)
+IsRefusal words Usage = (AsksForHelp words → ⊥) × (AsksForVersion words → ⊥)
 IsRefusal words NoMemory = ⊤
 
 -- the number is one of a port

@@ -105,9 +105,9 @@ abbrev pub trim_app : App
 trim_app =
     with_rule (with_rule (with_rule (with_binary (new_app (codes "trim"))) (file_rule (codes "INPUT") true)) (file_rule (codes "PROOF") true)) (file_rule (codes "OUT") true)
 
--- the program, of which a command has to be named
+-- the program: it has a version, and a command has to be named
 abbrev pub bare_program : App
-bare_program = on_top (λ s. record s { subcommand_required = true }) (new_app (codes "satcluster"))
+bare_program = on_top (λ s. record s { has_version = true; subcommand_required = true }) (new_app (codes "satcluster"))
 
 -- the commands on whole formulas
 abbrev pub with_formulas : App → App

@@ -12,10 +12,22 @@ use crate::request::{Request, UsageFault};
 use std::alloc::{AllocError, Global};
 use word_rules::{Found, ProgramRules, Refusal, parse};
 
+/// The version, and the kits that prove it.
+const VERSION: &str = "0.1.0 (rattle-kit-13b or 13f, logic dac8208d650f15bf)";
+
+/// What the program does, and three examples.
+const ABOUT: &str = concat!(
+    "Decides propositional formulas, with proofs that anyone can check\n\n",
+    "  satcluster solve f.cnf f.lrat    decide f.cnf; a proof is written if nothing satisfies it\n",
+    "  satcluster check f.cnf f.lrat    check the proof of any solver\n",
+    "  satcluster model f.cnf answer    check the assignment that a solver printed",
+);
+
 /// The program with its commands.
 const PROGRAM: ProgramRules<'static> = ProgramRules {
     name: "satcluster",
-    about: "Decides propositional formulas, with proofs that anyone can check",
+    version: VERSION,
+    about: ABOUT,
     after_help: "Status: that of the command; 0 for help, 1 where the words are refused",
     commands: &[
         solve::RULES,
@@ -78,7 +90,7 @@ pub fn command<'a>(alloc: Global, words: &'a [&'a str]) -> Result<Request<'a>, U
     // Words that ask for something are refused for want of memory alone.
     ensures complete { (request : Request) → AreTaken (map (λ w. w.now) words.now)
         → AsksFor (map (λ w. w.now) words.now) request → IfErr result (λ f. f ≡ UsageFault.NoMemory) }
-    // Help is handed out where the words ask for it, memory aside, and nowhere else.
+    // Help, or the version, is handed out where the words ask for it, memory aside, and nowhere else.
     ensures refused { IfErr result (IsRefusal (map (λ w. w.now) words.now)) }
 {
     let given = match parse(alloc, &PROGRAM, words) {

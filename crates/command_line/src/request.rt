@@ -120,7 +120,7 @@ pub enum Request<'a> {
 /// Why a command line gives no request.
 #[derive(Debug, Drop, Error)]
 pub enum UsageFault {
-    /// Help was asked for: the text to print.
+    /// Help was asked for, or the version: the text to print.
     #[error("{0}")]
     Help(String),
     /// The words are refused.

@@ -44,7 +44,7 @@ fn is_no_answer(text: &str) -> bool {
     true
 }
 
-/// Words that ask for help: it has this text, no line that begins as an answer does, and no blank at a line's end.
+/// Words that ask for help or the version: it has this text, no line that begins as an answer does, and no blank at a line's end.
 fn helps(rt: &impl Abort, alloc: Global, line: &str, part: &str) {
     match command(alloc, &words_of(rt, alloc, line)) {
         Err(UsageFault::Help(text)) => {
@@ -481,6 +481,7 @@ const REFUSED: &[&'static str] = &[
     "satcluster lift --cubes f.icnf --lidrup f.cnf l.lidrup",
     "satcluster lift --cubes f.icnf --leaf 0 f.cnf l.lrat l.frag",
     "satcluster model f.cnf",
+    "satcluster solve --version",
 ];
 
 #[test]
@@ -490,9 +491,12 @@ fn words_that_are_refused(rt: HostRuntime) {
     }
 }
 
-/// A line that asks for help, and what the help has.
+/// A line that asks for help, or for the version, and what the text has.
 const HELPS: &[(&'static str, &'static str)] = &[
     ("satcluster --help", "<COMMAND>"),
+    ("satcluster --help", "satcluster model f.cnf answer"),
+    ("satcluster --version", "logic "),
+    ("satcluster -V", "satcluster "),
     ("satcluster help solve", "[PROOF]"),
     ("satcluster solve --help", "<INPUT>"),
     ("satcluster check -h", "<PROOF>"),

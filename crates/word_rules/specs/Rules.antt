@@ -90,6 +90,6 @@ abbrev pub with_commands : App → List CommandRules → App
 with_commands a [] = a
 with_commands a (command ∷ commands) = with_commands (with_subcommand a (app_of_command command).top) commands
 
--- a program, of which a command has to be named
+-- a program that has a version, and of which a command has to be named
 abbrev pub app_of_program : ProgramRules → App
-app_of_program rules = with_commands (on_top (λ s. record s { subcommand_required = true }) (new_app rules.name.now)) rules.commands.now
+app_of_program rules = with_commands (on_top (λ s. record s { has_version = true; subcommand_required = true }) (new_app rules.name.now)) rules.commands.now

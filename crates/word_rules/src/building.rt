@@ -111,6 +111,7 @@ pub(crate) fn program_of<'a>(
     ensures { IfOk result (λ c. app_of c ≡ app_of_program rules.now) }
 {
     let mut program = Command::new(alloc, rules.name)
+        .version(rules.version)
         .about(rules.about)
         .after_help(rules.after_help)
         .subcommand_required(true);

@@ -16,7 +16,7 @@ use std::alloc::{AllocError, Global};
 /// Why words are refused.
 #[derive(Debug, Drop)]
 pub enum Refusal {
-    /// Help was asked for: the text to print.
+    /// Help was asked for, or the version: the text to print.
     Help(String),
     /// The rules do not take the words.
     Refused,
@@ -39,7 +39,7 @@ fn refusal_of(alloc: Global, error: &Error) -> Refusal
     ensures { StandsFor (kind_of error.now) result }
 {
     match error.kind() {
-        ErrorKind::DisplayHelp => match error.to_string(alloc) {
+        ErrorKind::DisplayHelp | ErrorKind::DisplayVersion => match error.to_string(alloc) {
             Ok(text) => Refusal::Help(text),
             Err(_) => Refusal::NoMemory,
         },

@@ -61,10 +61,11 @@ pub struct CommandRules<'a> {
     pub words: &'a [Word<'a>],
 }
 
-/// A program, of which one of its commands has to be named.
+/// A program, of which one of its commands has to be named. Its version is what `--version` says behind its name.
 #[derive(Clone, Copy)]
 pub struct ProgramRules<'a> {
     pub name: &'a str,
+    pub version: &'a str,
     pub about: &'a str,
     pub after_help: &'a str,
     pub commands: &'a [CommandRules<'a>],

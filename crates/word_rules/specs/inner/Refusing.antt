@@ -7,6 +7,6 @@ use Rattle.word_rules.specs.declared.parsing.Refusal.TheVariants.{Help, NoMemory
 
 -- why an error of a parse refuses words, by its kind
 abbrev pub StandsFor : ErrorKind → Refusal → Type 0
-StandsFor k (Help text) = k ≡ kind.DisplayHelp
-StandsFor k Refused = (k ≢ kind.DisplayHelp) × (k ≢ kind.OutOfMemory)
-StandsFor k NoMemory = (k ≡ kind.DisplayHelp) ⊎ (k ≡ kind.OutOfMemory)
+StandsFor k (Help text) = (k ≡ kind.DisplayHelp) ⊎ (k ≡ kind.DisplayVersion)
+StandsFor k Refused = (k ≢ kind.DisplayHelp) × (k ≢ kind.DisplayVersion) × (k ≢ kind.OutOfMemory)
+StandsFor k NoMemory = (k ≡ kind.DisplayHelp) ⊎ (k ≡ kind.DisplayVersion) ⊎ (k ≡ kind.OutOfMemory)

@@ -1,5 +1,5 @@
 use Rattle.std.proofs.Common.{◌∙◌, map}
-use Rattle.command_line.proofs.RefusalLemmas.{asks_no_help, no_memory_is, refusal_is}
+use Rattle.command_line.proofs.RefusalLemmas.{asks_nothing, no_memory_is, refusal_is}
 use Rattle.command_line.proofs.RequestLemmas.{asks_of}
 use Rattle.command_line.proofs.WordLemmas.{none_is, some_is}
 use Rattle.std.proofs.Common.{subst, sym}
@@ -24,9 +24,9 @@ returns-in-Some-clause-asks c = record {
   makes = some_is _ _ _ c.in-Some.is c.in_ok-request.ensures.found;
 }
 
--- words that were parsed ask for no help
+-- words that were parsed ask for no help and for no version
 pub returns-clause-refused : goal.returns-clause-refused
-returns-clause-refused c = asks_no_help (map (λ w. w.now) c.args.words.now) c.in-Ok.ensures.taken
+returns-clause-refused c = asks_nothing (map (λ w. w.now) c.args.words.now) c.in-Ok.ensures.taken
 
 -- where the name's rows make no request, the words ask for none
 pub returns-clause-complete : goal.returns-clause-complete

@@ -9,7 +9,9 @@ pub loop-command-init : goal.loop-command-init
 loop-command-init c =
     ap (λ (a : App). with_commands a c.args.rules.now.commands.now)
     (ap app_of_fields c.subcommand_required-program.ensures
-    ∙ ap (on_top (λ s. record s { subcommand_required = true })) (ap app_of_fields c.after_help.ensures ∙ ap app_of_fields c.about.ensures ∙ c.new.ensures.app))
+    ∙ ap (on_top (λ s. record s { subcommand_required = true }))
+    (ap app_of_fields c.after_help.ensures ∙ ap app_of_fields c.about.ensures ∙ ap app_of_fields c.version.ensures
+    ∙ ap (on_top (λ s. record s { has_version = true })) c.new.ensures.app))
 
 pub loop-command-preserved : goal.loop-command-preserved
 loop-command-preserved c =

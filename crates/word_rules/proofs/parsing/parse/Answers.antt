@@ -1,7 +1,7 @@
 use Rattle.std.proofs.Common.{◌∙◌, sym, ap, subst, map, option_map, Some}
 use Rattle.clap.specs.Words.{App, HasKind, Kinds, fault_of, is_simple_and_free, subcommand_of, takes}
 use Rattle.word_rules.proofs.FoundLemmas.{met_is, names_none}
-use Rattle.word_rules.proofs.RefusalLemmas.{asks_no_help, finds_no_fault, no_memory_is, refusal_is}
+use Rattle.word_rules.proofs.RefusalLemmas.{asks_nothing, finds_no_fault, no_memory_is, refusal_is}
 use Rattle.word_rules.proofs.RulesLemmas.{first_holds}
 use Rattle.word_rules.specs.Rules.{app_of_program}
 use Rattle.word_rules.proofs.parsing.parse.Goals as goal
@@ -37,4 +37,4 @@ pub returns-in-Some-clause-taken : goal.returns-in-Some-clause-taken
 returns-in-Some-clause-taken c = finds_no_fault _ _ _ c.in_ok-program_of.ensures c.requires c.in-Ok.ensures.kinds
 
 pub returns-clause-refused : goal.returns-clause-refused
-returns-clause-refused c = asks_no_help _ (finds_no_fault _ _ _ c.in_ok-program_of.ensures c.requires c.in-Ok.ensures.kinds)
+returns-clause-refused c = asks_nothing _ (finds_no_fault _ _ _ c.in_ok-program_of.ensures c.requires c.in-Ok.ensures.kinds)

@@ -1,0 +1,206 @@
+#!/usr/bin/env python3
+"""Makes the archive, installs what is in it, and runs that without the kit and without this tree.
+
+    tools/dist_test.py PATH-OF-satcluster [CASE ..]
+
+A CASE is Archive, or Archive.test_empty_root; they run alone, and in any order. What needs root (or
+`unshare`), man, zsh or fish is skipped, and told, where that is not to be had.
+"""
+import os
+import re
+import shutil
+import subprocess
+import sys
+import sysconfig
+import tarfile
+import tempfile
+import unittest
+from pathlib import Path
+from typing import Dict, Iterable, List, Optional
+from unittest import mock
+
+sys.dont_write_bytecode = True
+
+import dist
+import manual
+from cases import EXAMPLES, ROOT, pigeons, run
+
+NAME = "satcluster-%s-linux-x86_64" % manual.program().version
+ARCHIVE = ROOT.parent / "out" / (NAME + ".tar.xz")
+SUMS = "share/doc/satcluster/SHA256SUMS"
+PLAIN = {"PATH": "/usr/bin:/bin:/usr/sbin:/sbin", "HOME": "/nonexistent", "LC_ALL": "C.UTF-8"}
+SECONDS = 60
+
+
+def output(*words: object, status: int = 0, env: Optional[Dict[str, str]] = None) -> str:
+    """What a command prints; it has to end with this status."""
+    done = subprocess.run([str(word) for word in words], stdin=subprocess.DEVNULL, cwd="/",
+                          stdout=subprocess.PIPE, stderr=subprocess.STDOUT, encoding="utf-8",
+                          timeout=SECONDS, env=dict(PLAIN, **(env or {})))
+    if done.returncode != status:
+        raise AssertionError("%s ended with %d\n%s" % (words, done.returncode, done.stdout))
+    return done.stdout
+
+
+def make(**env: str) -> bytes:
+    script = ROOT / "dist.py"
+    words = [sys.executable, str(script), "--ungated", os.environ["SATCLUSTER"]]
+    subprocess.run(words, check=True, stdout=subprocess.DEVNULL, env=dict(os.environ, **env))
+    return ARCHIVE.read_bytes()
+
+
+def libraries(paths: Iterable[object]) -> List[str]:
+    """The shared libraries that programs want, and what loads them."""
+    lines = output("ldd", *paths)
+    return sorted(set(re.findall(r"(/\S+) \(0x", lines)))
+
+
+def into(root: Path, path: str) -> None:
+    to = Path(str(root) + path)
+    to.parent.mkdir(parents=True, exist_ok=True)
+    shutil.copy(path, to)
+
+
+def enter(root: Path) -> List[str]:
+    """The words by which a command runs in another root; none where that is not allowed."""
+    for words in (["chroot"], ["unshare", "-r", "chroot"]):
+        try:
+            output(*words, "/", "true")
+            return words + [str(root)]
+        except (AssertionError, FileNotFoundError):
+            pass
+    return []
+
+
+class Archive(unittest.TestCase):
+    @classmethod
+    def setUpClass(cls) -> None:
+        cls.made = make()
+        cls.room = Path(tempfile.mkdtemp(prefix="an archive "))
+        with tarfile.open(ARCHIVE) as file:
+            file.extractall(cls.room)
+        cls.tree = cls.room / NAME
+
+    @classmethod
+    def tearDownClass(cls) -> None:
+        shutil.rmtree(cls.room)
+
+    def installed(self, name: str) -> Path:
+        prefix = self.room / name
+        output(self.tree / "install.sh", prefix)
+        self.addCleanup(shutil.rmtree, prefix, ignore_errors=True)
+        return prefix
+
+    def decides(self, begin: List[object], tools: str, room: Path, inside: str) -> None:
+        """Runs each tool over a formula in a room, which has this name for them."""
+        (room / "f.cnf").write_text(pigeons(4))
+        f, proof = inside + "/f.cnf", inside + "/f.lrat"
+        program = tools + "/satcluster"
+        for tool in ("/satcluster-solver", "/satcluster-conquer"):
+            more = [] if tool.endswith("solver") else ["--folder", inside + "/run", "--jobs", "1"]
+            lines = output(*begin, tools + tool, "-q", *more, f, proof, status=20)
+            self.assertEqual("s UNSATISFIABLE\n", lines)
+            self.assertEqual("s VERIFIED\n", output(*begin, program, "check", f, proof))
+        version = output(*begin, program, "--version")
+        self.assertEqual("satcluster %s (%s)\n" % manual.program()[:2], version)
+
+    def test_same_bytes(self) -> None:
+        before = os.umask(0o077)
+        self.addCleanup(os.umask, before)
+        self.assertTrue(self.made == make(TZ="Asia/Tokyo", LC_ALL="C"))
+
+    def test_sums_and_statement(self) -> None:
+        lines = (self.tree / SUMS).read_text().splitlines()
+        files = {path for path in self.tree.rglob("*") if path.is_file()}
+        names = {line[66:] for line in lines} | {SUMS, "install.sh"}
+        self.assertEqual({self.tree / name for name in names}, files)
+        subprocess.run(["sha256sum", "--quiet", "-c", SUMS], cwd=self.tree, check=True)
+        said = (self.tree / "share/doc/satcluster/PROVED").read_text()
+        self.assertIn(manual.program().kits, said)
+        self.assertRegex(said, "GNU C library, 2[.][0-9]+")
+
+    def test_note(self) -> None:
+        program = Path(os.environ["SATCLUSTER"])
+        kit = "a kit, logic " + manual.program().kits.split()[-1]
+        note = ["c0ffee", kit, "9 passed, 0 failed", dist.digest(program)]
+        spoiled = [note[:at] + [line] + note[at + 1:] for at, line in
+                   ((0, "decade"), (1, "a kit, logic 0123456789abcdef"), (3, "0" * 64),
+                    (2, "9 passed, 10 failed"),
+                    (2, "9 passed, 0 failed (dimacs and the crates below alone: not the gate)"))]
+        tells = {"rev-parse": "c0ffee", "status": ""}
+        with mock.patch.object(dist, "git", lambda *words: tells[words[0]]):
+            self.assertIn("gate of `%s`" % kit, dist.statement(program, note))
+            for bad in spoiled + [[], note[:3]]:
+                self.assertIn("Not known to be proved", dist.statement(program, bad))
+            tells["status"] = " M crates.txt"
+            self.assertIn("Not known to be proved", dist.statement(program, note))
+
+    def test_wants_libc_alone(self) -> None:
+        names = {Path(name).name for name in libraries([self.tree / "bin" / "satcluster"])}
+        self.assertEqual({"ld-linux-x86-64.so.2", "libc.so.6"}, names)
+
+    def test_install_and_uninstall(self) -> None:
+        prefix = self.installed("a prefix")
+        other = prefix / "lib" / "other"
+        other.write_text("of someone else")
+        self.decides([], str(prefix / "bin"), self.room, str(self.room))
+        output(self.tree / "install.sh", prefix)  # over what is there
+        output(self.tree / "install.sh", self.tree, status=1)
+        output(self.tree / "install.sh", "--remove", prefix)
+        self.assertEqual([other], [path for path in prefix.rglob("*") if not path.is_dir()])
+
+    def test_make(self) -> None:
+        prefix, words = self.room / "made", ["make", "-s", "-C", ROOT.parent]
+        output(*words, "install", "PREFIX=/opt/x", "DESTDIR=%s" % prefix,
+               "PROGRAM=" + os.environ["SATCLUSTER"])
+        self.assertTrue((prefix / "opt/x/bin/satcluster-solver").exists())
+        output(*words, "uninstall", "PREFIX=/opt/x", "DESTDIR=%s" % prefix)
+        self.assertFalse(any(path for path in prefix.rglob("*") if not path.is_dir()))
+
+    def test_empty_root(self) -> None:
+        """A root of the program, the C library and Python: no shell, no kit, no tree."""
+        root = self.installed("root")
+        begin = enter(root)
+        if not begin:
+            self.skipTest("neither chroot nor unshare is allowed")
+        room = root / "tmp"
+        room.mkdir()
+        (root / "dev").mkdir()
+        (root / "dev" / "null").touch()
+        python = os.path.realpath(sys.executable)
+        library = sysconfig.get_path("stdlib")
+        skipped = shutil.ignore_patterns("site-packages", "dist-packages", "test", "__pycache__")
+        shutil.copytree(library, str(root) + library, ignore=skipped)
+        into(root, python)
+        into(root, "/usr/bin/env")
+        (root / "usr" / "bin" / "python3").symlink_to(python)
+        parts = [python, "/usr/bin/env", root / "bin" / "satcluster", *Path(library).rglob("*.so")]
+        for path in libraries(parts):
+            into(root, path)
+        self.decides(begin, "/bin", room, "/tmp")
+
+    @unittest.skipUnless(shutil.which("man"), "man is not installed")
+    def test_man(self) -> None:
+        page = self.tree / "share" / "man"
+        told = output("man", "--warnings", "-M", page, "satcluster", env={"MANWIDTH": "80"})
+        self.assertIn("--patience N", told)
+        self.assertNotIn("warning", told)
+
+    def test_bash(self) -> None:
+        file = self.tree / "share/bash-completion/completions/satcluster"
+        for words, first in (("satcluster dr", "drill"), ("satcluster solve --de", "--depth")):
+            line = '. "$0"; COMP_WORDS=(%s) COMP_CWORD=%d; _satcluster x %s y; echo "$COMPREPLY"'
+            count, last = len(words.split()) - 1, words.split()[-1]
+            self.assertEqual(first + "\n", output("bash", "-c", line % (words, count, last), file))
+
+    def test_zsh_and_fish(self) -> None:
+        for shell, file in (("zsh", "zsh/site-functions/_satcluster"),
+                            ("fish", "fish/vendor_completions.d/satcluster.fish")):
+            with self.subTest(shell):
+                if not shutil.which(shell):
+                    self.skipTest(shell + " is not installed")
+                output(shell, "-n", self.tree / "share" / file)
+
+
+if __name__ == "__main__":
+    run(__doc__)
