@@ -94,6 +94,8 @@ RUNS = [
     ("check --session session.icnf four.lrat", "s NOT VERIFIED", 1),
     ("check --session four.cnf session.lidrup", "c input line 1 fault 2", 1),
     ("cubes --depth 2 four.cnf", "p inccnf", 0),
+    ("cubes --look 3 eight.cnf", "p inccnf", 0),
+    ("cubes --cubes halves.icnf --split 1 --look 2 four.cnf", "c cannot split", 1),
     ("solve --workers 1 --depth 0 units.cnf", "s SATISFIABLE", 10),
     ("solve --workers 2 --depth 1 -q -n units.cnf", "s SATISFIABLE", 10),
     ("solve --workers 2 --depth 1 four.cnf kept", "s UNSATISFIABLE", 20),

@@ -2,7 +2,8 @@
 """Refutes the leaves of a formula's splitting tree side by side, and joins one proof of all.
 
     tools/conquer.py [--program PATH] [--solver satcluster|cadical|kissat|COMMAND]
-                     [--engine local|make|parallel|slurm] [--jobs N] [--depth D | --cubes-from FILE]
+                     [--engine local|make|parallel|slurm] [--jobs N]
+                     [--depth D | --look N | --cubes-from FILE]
                      [--limit L] [--seconds S] [--no-race] [--no-cuts] [--pipe] [--compress]
                      [--folder DIR] [-q] [-n] INPUT [PROOF]
 
@@ -72,6 +73,7 @@ def words() -> Namespace:
     option("--engine", default="local", choices=sorted(ENGINES), help="who starts the jobs")
     option("--jobs", metavar="N", type=number(1, most), help="how many at a time; as many as cores")
     option("--depth", metavar="D", type=number(0, 16), help="how deep to split; %d" % DEPTH)
+    option("--look", metavar="N", type=number(1, 65536), help="look ahead, for about N leaves")
     option("--cubes-from", metavar="FILE", help="complete the cubes that this file lists")
     option("--limit", metavar="L", type=number(1, most), help="lemmas before a leaf is cut in two")
     option("--seconds", metavar="S", type=number(1, most), help="the same in seconds of a search")
@@ -177,6 +179,8 @@ def test_packing(folder: Folder, compress: bool) -> None:
 def words_of_split(asked: Namespace) -> List[str]:
     if asked.cubes_from:
         return ["--complete", asked.cubes_from]
+    if asked.look is not None:
+        return ["--look", str(asked.look)]
     return ["--depth", str(DEPTH if asked.depth is None else asked.depth)]
 
 
@@ -194,9 +198,9 @@ def take_over(folder: Folder, plan: Plan, asked: Namespace, screen: Screen) -> N
     """Where there is a tree it stands, so that logs keep their leaves. Tells if words ask for
     another one."""
     plan.split = plan_before(folder).get("split", "")
-    is_asked = asked.depth is not None or asked.cubes_from
-    if is_asked and plan.split != " ".join(words_of_split(asked)):
-        word = "--cubes-from" if asked.cubes_from else "--depth"
+    given = {"--cubes-from": asked.cubes_from, "--look": asked.look, "--depth": asked.depth}
+    word = next((word for word, value in given.items() if value is not None), None)
+    if word and plan.split != " ".join(words_of_split(asked)):
         screen.say("c %s is not used: a tree stands in the folder; %s" % (word, anew(folder)))
 
 

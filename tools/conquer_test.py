@@ -311,12 +311,17 @@ class Faults(Case):
 
     def test_depth_that_is_not_used(self) -> None:
         """It is told if a tree stands that was made by other words."""
-        unused = "c --depth is not used"
         for words, is_told in ((["--depth", "1"], False), (["--depth", "1"], False), ([], False),
-                               (["--depth", "2"], True)):
+                               (["--depth", "2"], True), (["--look", "2"], True)):
             status, lines = self.conquer(*words, FOUR)
-            found = any(unused in line for line in lines)
+            found = any("c %s is not used" % "".join(words[:1]) in line for line in lines)
             self.assertEqual((20, is_told), (status, found), lines)
+
+    def test_looking_ahead(self) -> None:
+        """Trees of looks ahead, among whose leaves are some that propagation closes."""
+        for leaves, name in (("8", "urquhart_24.cnf"), ("6", "schur_3_14.cnf")):
+            words = ["-q", "--no-race", "--look", leaves, name, "f.lrat"]
+            self.ends(20, ["s UNSATISFIABLE"], *words)
 
 
 class Folder(Case):

@@ -8,7 +8,7 @@ use Rattle.command_line.specs.Program.{program}
 use Rattle.command_line.specs.declared.options.Options.{Options}
 use Rattle.command_line.specs.declared.printing.Printing.{Printing}
 use Rattle.command_line.specs.declared.request.Request.{Request}
-use Rattle.command_line.specs.declared.request.Request.TheVariants.{Check, Complete, Cubes, Drill, Join, Leaf, Lift, Model, Refute, Serve, Solve, Split, Trim, Work}
+use Rattle.command_line.specs.declared.request.Request.TheVariants.{Check, Complete, Cubes, Drill, Join, Leaf, Lift, Look, Model, Refute, Serve, Solve, Split, SplitByLook, Trim, Work}
 
 -- two names that a test tells apart
 pub differ : (a b : Text) → bytes_eq a b ≡ false → bytes_eq b b ≡ true → a ≡ b → ⊥
@@ -19,6 +19,8 @@ abbrev name_of : Request → Text
 name_of (Check input proof session) = codes "check"
 name_of (Cubes input depth) = codes "cubes"
 name_of (Split input cubes leaf on) = codes "cubes"
+name_of (Look input leaves) = codes "cubes"
+name_of (SplitByLook input cubes leaf) = codes "cubes"
 name_of (Complete input list) = codes "cubes"
 name_of (Solve input cubes proof options) = codes "solve"
 name_of (Serve port input cubes proof options) = codes "serve"
@@ -35,6 +37,8 @@ is_named : (name : Text) (rows : List Row) (r : Request) → Makes name rows r �
 is_named name rows (Check input proof session) makes = makes.0
 is_named name rows (Cubes input depth) makes = makes.0
 is_named name rows (Split input cubes leaf on) makes = makes.0
+is_named name rows (Look input leaves) makes = makes.0
+is_named name rows (SplitByLook input cubes leaf) makes = makes.0
 is_named name rows (Complete input list) makes = makes.0
 is_named name rows (Solve input cubes proof options) makes = makes.0
 is_named name rows (Serve port input cubes proof options) makes = makes.0
@@ -51,11 +55,21 @@ pub only_check : (rows : List Row) → ((input : Bor Text) (proof : Bor Text) (s
 only_check rows none (Check input proof session) makes = none input proof session makes
 only_check rows none other makes = differ (codes "check") (name_of other) refl refl (is_named (codes "check") rows other makes)
 
-pub only_cubes : (rows : List Row) → ((input : Bor Text) (depth : ℕ) → Makes (codes "cubes") rows (Cubes input depth) → ⊥) → ((input : Bor Text) (cubes : Bor Text) (leaf : ℕ) (on : Option ℕ) → Makes (codes "cubes") rows (Split input cubes leaf on) → ⊥) → ((input : Bor Text) (list : Bor Text) → Makes (codes "cubes") rows (Complete input list) → ⊥) → (r : Request) → Makes (codes "cubes") rows r → ⊥
-only_cubes rows none uncut whole (Cubes input depth) makes = none input depth makes
-only_cubes rows none uncut whole (Split input cubes leaf on) makes = uncut input cubes leaf on makes
-only_cubes rows none uncut whole (Complete input list) makes = whole input list makes
-only_cubes rows none uncut whole other makes = differ (codes "cubes") (name_of other) refl refl (is_named (codes "cubes") rows other makes)
+-- none of the requests of `cubes` is made
+pub record MakesNoCubes (rows : List Row) : Type 0 where
+  pub cubing : (input : Bor Text) (depth : ℕ) → Makes (codes "cubes") rows (Cubes input depth) → ⊥
+  pub looking : (input : Bor Text) (leaves : ℕ) → Makes (codes "cubes") rows (Look input leaves) → ⊥
+  pub splitting : (input cubes : Bor Text) (leaf : ℕ) (on : Option ℕ) → Makes (codes "cubes") rows (Split input cubes leaf on) → ⊥
+  pub by_look : (input cubes : Bor Text) (leaf : ℕ) → Makes (codes "cubes") rows (SplitByLook input cubes leaf) → ⊥
+  pub completing : (input list : Bor Text) → Makes (codes "cubes") rows (Complete input list) → ⊥
+
+pub only_cubes : (rows : List Row) → MakesNoCubes rows → (r : Request) → Makes (codes "cubes") rows r → ⊥
+only_cubes rows none (Cubes input depth) makes = none.cubing input depth makes
+only_cubes rows none (Look input leaves) makes = none.looking input leaves makes
+only_cubes rows none (Split input cubes leaf on) makes = none.splitting input cubes leaf on makes
+only_cubes rows none (SplitByLook input cubes leaf) makes = none.by_look input cubes leaf makes
+only_cubes rows none (Complete input list) makes = none.completing input list makes
+only_cubes rows none other makes = differ (codes "cubes") (name_of other) refl refl (is_named (codes "cubes") rows other makes)
 
 pub only_solve : (rows : List Row) → ((input : Bor Text) (cubes : Option (Bor Text)) (proof : Option (Bor Text)) (options : Options) → Makes (codes "solve") rows (Solve input cubes proof options) → ⊥) → (r : Request) → Makes (codes "solve") rows r → ⊥
 only_solve rows none (Solve input cubes proof options) makes = none input cubes proof options makes

@@ -12,7 +12,7 @@ use Rattle.command_line.specs.declared.commands.run_words.Place.TheVariants.{AtP
 use Rattle.command_line.specs.declared.options.Options.{Options}
 use Rattle.command_line.specs.declared.printing.Printing.{Printing}
 use Rattle.command_line.specs.declared.request.Request.{Request}
-use Rattle.command_line.specs.declared.request.Request.TheVariants.{Check, Complete, Cubes, Drill, Join, Leaf, Lift, Model, Refute, Serve, Solve, Split, Trim, Work}
+use Rattle.command_line.specs.declared.request.Request.TheVariants.{Check, Complete, Cubes, Drill, Join, Leaf, Lift, Look, Model, Refute, Serve, Solve, Split, SplitByLook, Trim, Work}
 use Rattle.command_line.specs.declared.request.UsageFault.{UsageFault}
 use Rattle.command_line.specs.declared.request.UsageFault.TheVariants.{Help, NoMemory, Usage}
 
@@ -106,13 +106,23 @@ Makes name rows (Check input proof session) =
 Makes name rows (Cubes input depth) =
     (name ≡ codes "cubes") × NamesFile rows (codes "INPUT") (Some input) × NamesNumberOr rows (codes "depth") 0 16 4 depth
     × NamesNothing rows (codes "cubes") × NamesNothing rows (codes "split") × NamesNothing rows (codes "on") × NamesNothing rows (codes "complete")
+    × NamesNothing rows (codes "look")
+Makes name rows (Look input leaves) =
+    (name ≡ codes "cubes") × NamesFile rows (codes "INPUT") (Some input) × NamesNumber rows (codes "look") 1 65536 leaves
+    × NamesNothing rows (codes "cubes") × NamesNothing rows (codes "split") × NamesNothing rows (codes "on") × NamesNothing rows (codes "complete")
+    × NamesNothing rows (codes "depth")
 Makes name rows (Split input cubes leaf on) =
     (name ≡ codes "cubes") × NamesFile rows (codes "INPUT") (Some input) × NamesFile rows (codes "cubes") (Some cubes)
     × NamesNumber rows (codes "split") 1 (2 ^ 32 - 1) leaf × NamesAnyNumber rows (codes "on") 1 (2 ^ 31 - 1) on × NamesNothing rows (codes "depth")
-    × NamesNothing rows (codes "complete")
+    × NamesNothing rows (codes "complete") × NamesNothing rows (codes "look")
+Makes name rows (SplitByLook input cubes leaf) =
+    (name ≡ codes "cubes") × NamesFile rows (codes "INPUT") (Some input) × NamesFile rows (codes "cubes") (Some cubes)
+    × NamesNumber rows (codes "split") 1 (2 ^ 32 - 1) leaf × NamesNumber rows (codes "look") 1 65536 2 × NamesNothing rows (codes "on")
+    × NamesNothing rows (codes "depth") × NamesNothing rows (codes "complete")
 Makes name rows (Complete input list) =
     (name ≡ codes "cubes") × NamesFile rows (codes "INPUT") (Some input) × NamesFile rows (codes "complete") (Some list)
     × NamesNothing rows (codes "depth") × NamesNothing rows (codes "cubes") × NamesNothing rows (codes "split") × NamesNothing rows (codes "on")
+    × NamesNothing rows (codes "look")
 Makes name rows (Solve input cubes proof options) =
     (name ≡ codes "solve") × NamesFile rows (codes "INPUT") (Some input) × NamesFile rows (codes "cubes") cubes
     × NamesFile rows (codes "PROOF") proof × NamesOptions Here rows options
@@ -189,7 +199,9 @@ IsVariable variable = (1 ≤ variable) × (variable ≤ 2 ^ 31 - 1)
 abbrev pub IsInRange : Request → Type 0
 IsInRange (Check input proof session) = ⊤
 IsInRange (Cubes input depth) = depth ≤ 16
+IsInRange (Look input leaves) = (1 ≤ leaves) × (leaves ≤ 65536)
 IsInRange (Split input cubes leaf on) = IsLeafNumber leaf × IfSome on IsVariable
+IsInRange (SplitByLook input cubes leaf) = IsLeafNumber leaf
 IsInRange (Complete input list) = ⊤
 IsInRange (Solve input cubes proof options) = AreOptions options
 IsInRange (Serve port input cubes proof options) = IsPort port × AreOptions options

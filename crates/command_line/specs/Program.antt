@@ -36,13 +36,13 @@ check_app =
     with_rule (with_rule (with_rule (new_app (codes "check")) (long_flag_rule (codes "session"))) (file_rule (codes "INPUT") true))
     (file_rule (codes "PROOF") true)
 
--- `cubes [--depth D] [--cubes FILE] [--split I] [--on V] [--complete FILE] INPUT`: D from 0 to 16, I from 1 to 4,294,967,295, and V
--- from 1 to 2 ^ 31 - 1
+-- `cubes [--depth D] [--look N] [--cubes FILE] [--split I] [--on V] [--complete FILE] INPUT`: D from 0 to 16, N from 1 to 65,536, I from
+-- 1 to 4,294,967,295, and V from 1 to 2 ^ 31 - 1
 abbrev pub cubes_app : App
 cubes_app =
-    with_rule (with_rule (with_rule (with_rule (with_rule (with_rule (new_app (codes "cubes")) (any_number_rule (codes "depth") 0 16))
-    (named_file_rule (codes "cubes"))) (any_number_rule (codes "split") 1 (2 ^ 32 - 1))) (any_number_rule (codes "on") 1 (2 ^ 31 - 1)))
-    (named_file_rule (codes "complete"))) (file_rule (codes "INPUT") true)
+    with_rule (with_rule (with_rule (with_rule (with_rule (with_rule (with_rule (new_app (codes "cubes")) (any_number_rule (codes "depth") 0 16))
+    (any_number_rule (codes "look") 1 65536)) (named_file_rule (codes "cubes"))) (any_number_rule (codes "split") 1 (2 ^ 32 - 1)))
+    (any_number_rule (codes "on") 1 (2 ^ 31 - 1))) (named_file_rule (codes "complete"))) (file_rule (codes "INPUT") true)
 
 -- `solve [--progress]`, a search: D from 0 to 16, else 4, and L else 100,000
 abbrev pub solve_app : App

@@ -29,6 +29,11 @@ pub enum Request<'a> {
         input: &'a str,
         depth: u32,
     },
+    /// Split a formula by looks ahead into about so many leaves, from 1 to 65,536.
+    Look {
+        input: &'a str,
+        leaves: u32,
+    },
     /// Cut a leaf in two, by its number among the cubes of a file, from 1 to 4,294,967,295, on this variable, from 1 to 2 ^ 31 - 1, or
     /// on one that is chosen.
     Split {
@@ -36,6 +41,12 @@ pub enum Request<'a> {
         cubes: &'a str,
         leaf: u32,
         on: Option<u32>,
+    },
+    /// Cut a leaf in two, by its number among the cubes of a file, from 1 to 4,294,967,295, by a look ahead.
+    SplitByLook {
+        input: &'a str,
+        cubes: &'a str,
+        leaf: u32,
     },
     /// Complete the cubes that a file lists, in any order, to a splitting tree.
     Complete {

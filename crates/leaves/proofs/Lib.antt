@@ -5,6 +5,7 @@ pub mod JoinLemmas
 pub mod LeafLemmas
 pub mod LiftLemmas
 pub mod LineLemmas
+pub mod LookLemmas
 pub mod ReadingLemmas
 pub mod SplitLemmas
 pub mod UnitLemmas

@@ -14,22 +14,8 @@ use Rattle.cube_split.proofs.SplitLemmas.{split_within}
 use Rattle.leaves.specs.Leaf.{Prints, no_leaf_text}
 use Rattle.leaves.specs.Splitting.{PrintsBranches, PrintsSplit, PrintsSplitOf, SplitsOn}
 use Rattle.leaves.specs.inner.Splitting.{IsSound}
+use Rattle.look_ahead.proofs.GrownLemmas.{branched_within}
 use Rattle.reports.specs.declared.report.Report.{Report}
-
-one_more : (n : ℕ) (q : Cube) (l : Literal) → All (IsWithin n) q → IsWithin n l → All (IsWithin n) (q ++ l ∷ [])
-one_more n q l h here = All-append (IsWithin n) q (l ∷ []) h (All-cons (IsWithin n) l [] here (All-nil (IsWithin n)))
-
--- the branches of a variable within the limit are within it
-pub branched_within : (n : ℕ) (xs : List Cube) (i v : ℕ) → AreWithin n xs → 0 < v → v ≤ n → AreWithin n (branched i v xs)
-branched_within n [] i v w some most = All-nil (All (IsWithin n))
-branched_within n (c ∷ xs) zero v w some most =
-    let head = All-head (All (IsWithin n)) c xs w in
-    let tail = All-tail (All (IsWithin n)) c xs w in
-    All-cons (All (IsWithin n)) (c ++ Pos v ∷ []) ((c ++ Neg v ∷ []) ∷ xs) (one_more n c (Pos v) head (some, most))
-    (All-cons (All (IsWithin n)) (c ++ Neg v ∷ []) xs (one_more n c (Neg v) head (some, most)) tail)
-branched_within n (c ∷ xs) (suc i) v w some most =
-    All-cons (All (IsWithin n)) c (branched i v xs) (All-head (All (IsWithin n)) c xs w)
-    (branched_within n xs i v (All-tail (All (IsWithin n)) c xs w) some most)
 
 -- the chosen variable is one of the clauses'
 pub choice_within : (F : Cnf) (S : List Literal) (v : ℕ) → AreWithin F.vars F.clauses → Choice F S (Some v) → (0 < v) × (v ≤ greatest_in F.clauses)

@@ -3,6 +3,7 @@ pub mod Joining
 pub mod Leaf
 pub mod Lifting
 pub mod Lines
+pub mod Looking
 pub mod Notes
 pub mod Reading
 pub mod Refuting

@@ -18,9 +18,9 @@ use reports::Report;
 use std::alloc::{AllocError, Global};
 
 /// The most leaves of a tree, and the most literals of a cube.
-const LEAVES: usize = 65_536;
+pub(crate) const LEAVES: usize = 65_536;
 
-const LITERALS: usize = 64;
+pub(crate) const LITERALS: usize = 64;
 
 /// Whether no literal of the cube is of the variable.
 fn is_free(cube: &[Lit], variable: u32) -> bool
@@ -70,7 +70,7 @@ fn variable(
 }
 
 /// The report of a leaf that cannot be split.
-fn stuck(alloc: Global) -> Result<Report, AllocError>
+pub(crate) fn stuck(alloc: Global) -> Result<Report, AllocError>
     ensures { IfOk result (Prints 1 cannot_split_text) }
 {
     Report::of(alloc, b"c cannot split\n", 1)

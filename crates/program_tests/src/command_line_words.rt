@@ -236,6 +236,22 @@ fn a_leaf_is_cut_in_two(rt: HostRuntime) {
     };
     let words = "satcluster cubes --on 2147483647 --split 1 f.cnf --cubes f.icnf";
     asks(&rt, rt.alloc(), words, named);
+    let by_look = Request::SplitByLook {
+        input: "f.cnf",
+        cubes: "f.icnf",
+        leaf: 7,
+    };
+    let words = "satcluster cubes --split 7 --look 2 --cubes f.icnf f.cnf";
+    asks(&rt, rt.alloc(), words, by_look);
+}
+
+#[test]
+fn cubes_look_ahead(rt: HostRuntime) {
+    let look = Request::Look {
+        input: "f.cnf",
+        leaves: 65_536,
+    };
+    asks(&rt, rt.alloc(), "satcluster cubes --look 65536 f.cnf", look);
 }
 
 #[test]
@@ -464,6 +480,14 @@ const REFUSED: &[&'static str] = &[
     "satcluster cubes --cubes f.icnf --split 1 --on 2147483648 f.cnf",
     "satcluster cubes --complete march.cubes --depth 4 f.cnf",
     "satcluster cubes --complete march.cubes --cubes f.icnf f.cnf",
+    "satcluster cubes --look 0 f.cnf",
+    "satcluster cubes --look 65537 f.cnf",
+    "satcluster cubes --look 2 --depth 3 f.cnf",
+    "satcluster cubes --look 2 --split 1 f.cnf",
+    "satcluster cubes --cubes f.icnf --look 2 f.cnf",
+    "satcluster cubes --cubes f.icnf --split 1 --look 3 f.cnf",
+    "satcluster cubes --cubes f.icnf --split 1 --look 2 --on 1 f.cnf",
+    "satcluster cubes --complete march.cubes --look 2 f.cnf",
     "satcluster cubes --complete march.cubes --split 1 f.cnf",
     "satcluster cubes --complete march.cubes --on 1 f.cnf",
     "satcluster cubes --complete march.cubes",

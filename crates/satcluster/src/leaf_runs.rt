@@ -4,7 +4,9 @@ use crate::files::{Machine, no_memory};
 use crate::join::stopped;
 use crate::proof_file::{Target, write_proof};
 use commands::{Begun, begin_files, hushed};
-use leaves::{Search, Split, run_leaf, run_refute, run_refute_all, run_split};
+use leaves::{
+    Search, Split, run_leaf, run_refute, run_refute_all, run_split, run_split_by_look,
+};
 use node_main::{Refusal, Report};
 use std::alloc::Global;
 use std::rt::Runtime;
@@ -41,6 +43,19 @@ pub(crate) fn split<R: Runtime + AllocGlobal>(
 ) -> Result<Report, Refusal> {
     match begin(rt, input, cubes)? {
         Begun::With(split) => run_split(rt.alloc(), split, leaf, on).map_err(no_memory),
+        Begun::Refused(report) => Ok(report),
+    }
+}
+
+/// The tree with a leaf cut in two by a look ahead.
+pub(crate) fn split_by_look<R: Runtime + AllocGlobal>(
+    rt: &R,
+    input: &str,
+    cubes: &str,
+    leaf: u64,
+) -> Result<Report, Refusal> {
+    match begin(rt, input, cubes)? {
+        Begun::With(split) => run_split_by_look(rt.alloc(), split, leaf).map_err(no_memory),
         Begun::Refused(report) => Ok(report),
     }
 }

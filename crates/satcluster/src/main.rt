@@ -22,8 +22,8 @@ use commands::{check_files, deliver, refused};
 use complete::complete;
 use files::{Machine, no_memory, read};
 use join::{JoinFiles, join};
-use leaf_runs::{LeafFiles, LeafRange, leaf, refute, split};
-use leaves::Search;
+use leaf_runs::{LeafFiles, LeafRange, leaf, refute, split, split_by_look};
+use leaves::{Search, run_look};
 use lift::{LiftFiles, lift};
 use linked_runs::{Files, serve, solve, work};
 use model::model;
@@ -45,6 +45,11 @@ fn cubes<R: Runtime + AllocGlobal>(rt: &R, input: &str, depth: u32) -> Result<Re
 {
     let input = read(rt, input, Refusal::Input)?;
     run_cubes(rt.alloc(), input.as_slice(), depth).map_err(no_memory)
+}
+
+fn look<R: Runtime + AllocGlobal>(rt: &R, input: &str, leaves: u32) -> Result<Report, Refusal> {
+    let input = read(rt, input, Refusal::Input)?;
+    run_look(rt.alloc(), input.as_slice(), leaves).map_err(no_memory)
 }
 
 fn drill<R: Runtime + AllocGlobal>(
@@ -92,6 +97,7 @@ fn answer<R: Runtime + AllocGlobal + Net>(
             }
         }
         Request::Cubes { input, depth } => cubes(rt, input, depth),
+        Request::Look { input, leaves } => look(rt, input, leaves),
         Request::Serve {
             port,
             input,
@@ -128,6 +134,9 @@ fn answer<R: Runtime + AllocGlobal + Net>(
             leaf,
             on,
         } => split(rt, input, cubes, u64::from(leaf), on),
+        Request::SplitByLook { input, cubes, leaf } => {
+            split_by_look(rt, input, cubes, u64::from(leaf))
+        }
         Request::Complete { input, list } => complete(rt, input, list),
         Request::Leaf {
             input,

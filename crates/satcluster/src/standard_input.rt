@@ -33,6 +33,7 @@ fn is_read_twice(request: &Request) -> bool {
         Request::Check { input, proof, .. } => is_dash(input) && is_dash(proof),
         Request::Trim { input, proof, .. } => is_dash(input) && is_dash(proof),
         Request::Split { input, cubes, .. } => is_dash(input) && is_dash(cubes),
+        Request::SplitByLook { input, cubes, .. } => is_dash(input) && is_dash(cubes),
         Request::Leaf { input, cubes, .. } => is_dash(input) && is_dash(cubes),
         Request::Refute { input, cubes, .. } => is_dash(input) && is_dash(cubes),
         Request::Complete { input, list } => is_dash(input) && is_dash(list),

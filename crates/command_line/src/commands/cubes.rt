@@ -12,6 +12,9 @@ use word_rules::{CommandRules, Found, Need, Word};
 /// The greatest number of a variable.
 const LAST_VARIABLE: u64 = 2_147_483_647;
 
+/// The most leaves of a tree.
+const LAST_LEAVES: u64 = 65_536;
+
 /// The words.
 pub(crate) const RULES: CommandRules<'static> = CommandRules {
     name: "cubes",
@@ -24,6 +27,13 @@ pub(crate) const RULES: CommandRules<'static> = CommandRules {
             high: 16,
             need: Need::Optional,
             help: "How many variables a cube has at most, from 0 to 16; else 4",
+        },
+        Word::Number {
+            name: "look",
+            low: 1,
+            high: LAST_LEAVES,
+            need: Need::Optional,
+            help: "Look ahead, for about so many leaves, from 1 to 65536; with --split 2",
         },
         Word::NamedFile {
             name: "cubes",
@@ -66,11 +76,12 @@ fn on_of(given: &Found) -> Option<Option<u32>>
     Some(Some(variable as u32))
 }
 
-/// What the words ask for where they name these cubes.
-fn splitting<'a>(given: &Found<'a>, input: &'a str, cubes: &'a str) -> Option<Request<'a>>
+/// What the words ask for where they name these cubes and no look ahead.
+fn splitting_by_rule<'a>(given: &Found<'a>, input: &'a str, cubes: &'a str) -> Option<Request<'a>>
     requires input { NamesFile given.now.rows (codes "INPUT") (Some input) }
     requires list { NamesNothing given.now.rows (codes "complete") }
     requires cubes { NamesFile given.now.rows (codes "cubes") (Some cubes) }
+    requires look { NamesNothing given.now.rows (codes "look") }
     ensures found { IfSome result (Makes (codes "cubes") given.now.rows) }
     ensures none { IfNone result ((request : Request) → Makes (codes "cubes") given.now.rows request → ⊥) }
     ensures range { IfSome result IsInRange }
@@ -88,6 +99,66 @@ fn splitting<'a>(given: &Found<'a>, input: &'a str, cubes: &'a str) -> Option<Re
     })
 }
 
+/// What the words ask for where they name these cubes and a look ahead.
+fn splitting_by_look<'a>(given: &Found<'a>, input: &'a str, cubes: &'a str) -> Option<Request<'a>>
+    requires input { NamesFile given.now.rows (codes "INPUT") (Some input) }
+    requires list { NamesNothing given.now.rows (codes "complete") }
+    requires cubes { NamesFile given.now.rows (codes "cubes") (Some cubes) }
+    requires look { NamesNothing given.now.rows (codes "look") → ⊥ }
+    ensures found { IfSome result (Makes (codes "cubes") given.now.rows) }
+    ensures none { IfNone result ((request : Request) → Makes (codes "cubes") given.now.rows request → ⊥) }
+    ensures range { IfSome result IsInRange }
+{
+    if is_named(given, "depth") || is_named(given, "on") {
+        return None;
+    }
+    let leaf = number_of(given, "split", 1, LAST_LEAF)?;
+    // A leaf is cut in two.
+    let _two = number_of(given, "look", 2, 2)?;
+    Some(Request::SplitByLook {
+        input,
+        cubes,
+        leaf: leaf as u32,
+    })
+}
+
+/// What the words ask for where they name these cubes.
+fn splitting<'a>(given: &Found<'a>, input: &'a str, cubes: &'a str) -> Option<Request<'a>>
+    requires input { NamesFile given.now.rows (codes "INPUT") (Some input) }
+    requires list { NamesNothing given.now.rows (codes "complete") }
+    requires cubes { NamesFile given.now.rows (codes "cubes") (Some cubes) }
+    ensures found { IfSome result (Makes (codes "cubes") given.now.rows) }
+    ensures none { IfNone result ((request : Request) → Makes (codes "cubes") given.now.rows request → ⊥) }
+    ensures range { IfSome result IsInRange }
+{
+    if is_named(given, "look") {
+        return splitting_by_look(given, input, cubes);
+    }
+    splitting_by_rule(given, input, cubes)
+}
+
+/// What the words ask for where they name no cubes and a look ahead.
+fn looking<'a>(given: &Found<'a>, input: &'a str) -> Option<Request<'a>>
+    requires input { NamesFile given.now.rows (codes "INPUT") (Some input) }
+    requires list { NamesNothing given.now.rows (codes "complete") }
+    requires cubes { NamesNothing given.now.rows (codes "cubes") }
+    requires cut { NamesNothing given.now.rows (codes "split") }
+    requires on { NamesNothing given.now.rows (codes "on") }
+    requires look { NamesNothing given.now.rows (codes "look") → ⊥ }
+    ensures found { IfSome result (Makes (codes "cubes") given.now.rows) }
+    ensures none { IfNone result ((request : Request) → Makes (codes "cubes") given.now.rows request → ⊥) }
+    ensures range { IfSome result IsInRange }
+{
+    if is_named(given, "depth") {
+        return None;
+    }
+    let leaves = number_of(given, "look", 1, LAST_LEAVES)?;
+    Some(Request::Look {
+        input,
+        leaves: leaves as u32,
+    })
+}
+
 /// What the words ask for where they name no cubes.
 fn cubing<'a>(given: &Found<'a>, input: &'a str) -> Option<Request<'a>>
     requires input { NamesFile given.now.rows (codes "INPUT") (Some input) }
@@ -99,6 +170,9 @@ fn cubing<'a>(given: &Found<'a>, input: &'a str) -> Option<Request<'a>>
 {
     if is_named(given, "split") || is_named(given, "on") {
         return None;
+    }
+    if is_named(given, "look") {
+        return looking(given, input);
     }
     let depth = number_or(given, "depth", 0, 16, 4)?;
     Some(Request::Cubes {
@@ -118,7 +192,7 @@ fn completing<'a>(given: &Found<'a>, input: &'a str, list: &'a str) -> Option<Re
     if is_named(given, "depth") || is_named(given, "cubes") {
         return None;
     }
-    if is_named(given, "split") || is_named(given, "on") {
+    if is_named(given, "split") || is_named(given, "on") || is_named(given, "look") {
         return None;
     }
     Some(Request::Complete { input, list })

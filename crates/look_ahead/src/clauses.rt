@@ -1,0 +1,89 @@
+//! A formula's clauses as they are counted.
+
+ghost use Rattle.std.specs.Prelude.{◌≤◌, vec_len};
+
+use dimacs::{Formula, Lit};
+use std::alloc::{AllocError, Global};
+
+/// A formula's clauses, each literal once, without those that hold a literal and its negation. A literal is named by its code, which is its
+/// place in a table of all literals.
+pub(crate) struct Clauses {
+    /// The codes, clause behind clause.
+    codes: Vec<u32>,
+    /// By clause, its first code; and behind the last clause the number of codes.
+    starts: Vec<usize>,
+    ghost few: { vec_len starts ≤ 4000001 },
+}
+
+// By hand, so that whoever owns one drops it by one call, and no proof there goes through its parts.
+impl Drop for Clauses {
+    fn drop(self) {
+        let Clauses {
+            codes: _,
+            starts: _,
+        } = self;
+    }
+}
+
+/// Appends the codes of a clause, each once, and tells whether it holds no literal with its negation. `last` says by code in which clause
+/// it stood last.
+fn append(
+    codes: &mut Vec<u32>,
+    last: &mut [u32],
+    clause: &[Lit],
+    number: u32,
+) -> Result<bool, AllocError> {
+    for literal in clause {
+        let code = literal.index() as u32;
+        if last.get(code as usize ^ 1) == Some(&number) {
+            return Ok(false);
+        }
+        if let Some(place) = last.get_mut(code as usize)
+            && *place != number
+        {
+            *place = number;
+            codes.push(code)?;
+        }
+    }
+    Ok(true)
+}
+
+impl Clauses {
+    /// The clauses of a formula.
+    pub(crate) fn of(alloc: Global, formula: &Formula) -> Result<Clauses, AllocError> {
+        let rows = formula.vars() as usize + 1;
+        let mut last = vec![in alloc; 0; 2 * rows]?;
+        let mut codes = Vec::new(alloc);
+        let mut starts = vec![in alloc; 0]?;
+        for i in 0..formula.len() {
+            let begin = codes.len();
+            if append(&mut codes, &mut last, formula.clause(i), i as u32 + 1)? {
+                starts.push(codes.len())?;
+            } else {
+                codes.truncate(begin);
+            }
+        }
+        Ok(Clauses { codes, starts })
+    }
+
+    /// How many these are.
+    pub(crate) fn len(&self) -> usize
+        ensures { result ≤ 4000000 }
+    {
+        self.starts.len().saturating_sub(1)
+    }
+
+    /// All codes, clause behind clause.
+    pub(crate) fn codes(&self) -> &[u32] {
+        &self.codes
+    }
+
+    /// The codes of the clause of this number, from 0.
+    pub(crate) fn clause(&self, i: usize) -> &[u32] {
+        let (Some(&from), Some(&to)) = (self.starts.get(i), self.starts.get(i.wrapping_add(1)))
+        else {
+            return &[];
+        };
+        self.codes.get(from..to).unwrap_or(&[])
+    }
+}
