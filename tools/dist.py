@@ -107,7 +107,7 @@ def make_tree(tree: Path, program: Path, note: List[str]) -> None:
 
 
 def pack(tree: Path, archive: Path) -> None:
-    moment = int(os.environ.get("SOURCE_DATE_EPOCH") or git("log", "-1", "--format=%ct"))
+    moment = int(os.environ.get("SOURCE_DATE_EPOCH") or git("log", "-1", "--format=%ct") or 0)
 
     def plain(entry: tarfile.TarInfo) -> tarfile.TarInfo:
         entry.uid = entry.gid = 0
