@@ -110,6 +110,7 @@ RUNS = [
     ("refute --cubes halves.icnf --leaf 1 four.cnf kept", "c leaf 1 closed", 20),
     ("lift --cubes halves.icnf --leaf 1 four.cnf leaf.lrat kept", "c leaf 1 lifted", 0),
     ("join --cubes halves.icnf four.cnf kept left.lrat right.lrat", "s UNSATISFIABLE", 20),
+    ("join --dry --cubes halves.icnf four.cnf left.lrat right.lrat", "s UNSATISFIABLE", 20),
     ("join --cubes halves.icnf units.cnf kept left.lrat", "c cubes of another formula", 1),
     ("model units.cnf answer", "s VERIFIED", 0),
     ("trim four.cnf groups.lrat kept", "s VERIFIED", 0),

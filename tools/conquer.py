@@ -5,7 +5,8 @@
                      [--engine local|make|parallel|slurm] [--jobs N]
                      [--depth D | --look N | --cubes-from FILE]
                      [--limit L] [--seconds S] [--no-race] [--no-cuts] [--pipe] [--compress]
-                     [--folder DIR] [-q] [-n] INPUT [PROOF]
+                     [--memory M] [--minutes T] [--scratch DIR] [--folder DIR] [-q] [-n]
+                     INPUT [PROOF]
 
 INPUT may be packed by gzip, xz, bzip2 or zstd, if that is installed: it is unpacked to the folder.
 Prints the `s` and `v` lines of `satcluster solve`, and ends with its statuses: 10, 20, 0 and 1.
@@ -33,7 +34,7 @@ from typing import Any, Callable, Dict, List, NoReturn, Optional, Tuple
 sys.dont_write_bytecode = True
 
 from conquering import places, report
-from conquering.engines import ENGINES, Engine, work
+from conquering.engines import ENGINES, Engine, Limits, work
 from conquering.files import Fault, Folder, last_line, publish
 from conquering.leaf import Plan
 from conquering.processes import Bell, status_of
@@ -43,6 +44,7 @@ from telling.looks import head_of, packing
 from telling.words import Named, explain, unwritable
 
 DEPTH = 6  # if none is asked for
+DRAFT = "scratch/proof.lrat"  # of a run's folder
 FOREIGN = "c cubes of another formula"
 SOLVERS = {
     "cadical": "cadical -q --lrat --no-binary {cnf} {lrat}",
@@ -81,12 +83,18 @@ def words() -> Namespace:
     option("--no-cuts", action="store_true", help="no leaf is cut in two since a core is idle")
     option("--pipe", action="store_true", help="a solver's proof goes to lift by a FIFO")
     option("--compress", action="store_true", help="logs are kept packed by zstd")
+    option("--memory", metavar="M", type=number(1, most), help="slurm: megabytes of a task")
+    option("--minutes", metavar="T", type=number(1, most), help="slurm: minutes of a task")
+    option("--scratch", metavar="DIR", help="where jobs write what is unfinished: a node's own disk")
     option("--folder", metavar="DIR", help="where the files of the run stand; INPUT.conquer")
     option("-q", action="store_true", dest="quiet", help="no c lines")
     option("-n", action="store_true", dest="no_values", help="no v lines")
     option("INPUT", help="a DIMACS formula")
-    option("PROOF", nargs="?", help="where the proof is written; proof.lrat in the folder")
-    return parser.parse_args()
+    option("PROOF", nargs="?", help="where the proof is written; none is, if left out")
+    asked = parser.parse_args()
+    if asked.engine != "slurm" and (asked.memory or asked.minutes):
+        raise Fault("c usage", "--memory and --minutes are what a task of --engine slurm may take")
+    return asked
 
 
 def found(word: str) -> str:
@@ -132,7 +140,8 @@ def wrong_solver(asked: Namespace, line: str, commands: List[List[str]]) -> Opti
 def plan_of(asked: Namespace) -> Plan:
     program = found(places.word_of_program(asked.program))
     return Plan(program, os.path.abspath(asked.INPUT), solver_of(asked), asked.limit, asked.seconds,
-                compress=asked.compress, pipe=asked.pipe)
+                compress=asked.compress, pipe=asked.pipe,
+                scratch=asked.scratch and os.path.abspath(asked.scratch))
 
 
 def test_places(proof: Optional[str], formula: str) -> None:
@@ -217,10 +226,9 @@ def plan_before(folder: Folder) -> Dict[str, Any]:
     return plan if isinstance(plan, dict) else {}
 
 
-def put_proof(folder: Folder, proof: Optional[str]) -> None:
+def put_proof(folder: Folder, proof: str) -> None:
     """Moves the joined proof to its place, whole or not at all, be that on another disk."""
-    made = folder.at("scratch", "proof.lrat")
-    target = Path(os.path.realpath(proof)) if proof else folder.at("proof.lrat")
+    made, target = folder.at(DRAFT), Path(os.path.realpath(proof))
     try:
         if target.parent.stat().st_dev != made.stat().st_dev:
             made = copied(made, Path(str(target) + ".part"))
@@ -275,8 +283,9 @@ def conquer(asked: Namespace, screen: Screen) -> int:
         plant(folder, plan, asked)
     jobs = asked.jobs or (None if asked.engine == "slurm" else cores())
     bell = Bell()
-    engine = engine_of(folder, plan, screen, bell, jobs, not asked.no_race, not asked.no_cuts)
-    run = Run(folder, plan, screen, bell)
+    limits = Limits(asked.memory, asked.minutes)
+    engine = engine_of(folder, plan, screen, bell, jobs, not asked.no_race, not asked.no_cuts, limits)
+    run = Run(folder, plan, screen, bell, DRAFT if asked.PROOF else None)
     run.renew = report.Live(run, screen).renew
     try:
         engine.settle()
@@ -290,7 +299,7 @@ def conquer(asked: Namespace, screen: Screen) -> int:
         run.end_join()
     if status not in (0, 10, 20):
         fail(run, screen, before, lines[-1] if lines else "c join ends with %d" % status)
-    if status == 20:
+    if status == 20 and asked.PROOF:
         put_proof(folder, asked.PROOF)
     for line in lines:
         if line.startswith("s ") or (line.startswith("v ") and not asked.no_values):
@@ -345,7 +354,8 @@ def main() -> int:
         return work(*sys.argv[2:])
     asked, screen = None, Screen(True)
     for ending in (signal.SIGINT, signal.SIGTERM, signal.SIGHUP):
-        signal.signal(ending, lambda *_: sys.exit(1))  # which ends the jobs on its way out
+        if ending != signal.SIGHUP or signal.getsignal(ending) != signal.SIG_IGN:  # as by nohup
+            signal.signal(ending, lambda *_: sys.exit(1))  # which ends the jobs on its way out
     try:
         asked = words()
         screen = Screen(asked.quiet)

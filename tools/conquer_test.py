@@ -24,6 +24,7 @@ from typing import Callable, Dict, List, NamedTuple
 
 sys.dont_write_bytecode = True
 
+import small_slurm
 from cases import EXAMPLES, pigeons, run, satisfies
 from conquering import files, processes, report, screen
 from conquering.cuts import to_cut
@@ -164,6 +165,36 @@ class Answers(Case):
             self.ends(10, ["s SATISFIABLE"], "-q", "-n", name)
         self.assertEqual("what stood\n", self.at("f.lrat").read_text())
 
+    def test_verdict_alone(self) -> None:
+        """Without PROOF none is written, be it in the folder; with it the logs that stand are
+        joined."""
+        words = ["-q", "--no-race", "--depth", "3", "schur_3_14.cnf"]
+        self.ends(20, ["s UNSATISFIABLE"], *words)
+        self.assertEqual([], list(self.folder.rglob("*proof*")))
+        before = self.moments("schur_3_14.cnf")
+        self.ends(20, ["s UNSATISFIABLE"], *words, "f.lrat")
+        self.verifies("schur_3_14.cnf", "f.lrat")
+        self.assertEqual(before, self.moments("schur_3_14.cnf"), "a leaf was run again")
+
+    def test_dry_join(self) -> None:
+        """It prints what a join prints, and writes nothing: not the first name either, which is the
+        place of a proof without the word."""
+        self.conquer("-q", "--no-race", "--depth", "1", FOUR)
+        run, tree = self.at(FOUR + ".conquer"), "trees/1.icnf"
+        names = [str(path.relative_to(run)) for path in self.logs(FOUR)]
+        dry = [self.program, "join", "--dry", "--cubes", tree, str(self.at(FOUR))]
+        wet = [self.program, "join", "--cubes", tree, str(self.at(FOUR)), "f.lrat"]
+        files = {path: path.read_bytes() for path in run.rglob("*") if path.is_file()}
+        for given in (names, names[:1], names[::-1], [*names, "none"], ["-"]):
+            text = "\n".join(names).encode()
+            ended = [subprocess.run([*words, *given], cwd=str(run), input=text, check=False,
+                                    stdout=subprocess.PIPE) for words in (dry, wet)]
+            self.assertEqual(*[(done.returncode, done.stdout) for done in ended], given)
+            run.joinpath("f.lrat").unlink(missing_ok=True)
+            self.assertEqual(files, {path: path.read_bytes() for path in files}, given)
+        left = {path for path in run.rglob("*") if path.is_file()}
+        self.assertEqual(set(files), left)
+
     def test_packed_formula(self) -> None:
         """It is unpacked to the folder; one that is cut is refused."""
         formula = "schur_3_14.cnf"
@@ -184,8 +215,9 @@ class Answers(Case):
         whether `zstd` refuses it, `join`, or it is cut so that a part is unpacked."""
         formula = "schur_3_14.cnf"
         words = ["-q", "--compress", "--no-race", "--depth", "4", formula, "f.lrat"]
-        self.ends(20, ["s UNSATISFIABLE"], *words)
-        self.verifies(formula, "f.lrat")
+        for _ in range(2):  # the first one joins logs as they come, later ones by their names
+            self.ends(20, ["s UNSATISFIABLE"], *words)
+            self.verifies(formula, "f.lrat")
         first = self.at("f.lrat").read_bytes()
         logs = self.logs(formula)
         self.assertEqual({".zst"}, {path.suffix for path in logs})
@@ -376,6 +408,22 @@ class Folder(Case):
                      "<td>ended<td class=cube>"):
             self.assertIn(part, text)
         self.assertNotIn("http-equiv", text, "a page that is renewed no more")
+
+
+    def test_scratch_of_a_node(self) -> None:
+        """Jobs write what is unfinished to another folder, and leave nothing there."""
+        self.at("near").mkdir()
+        near, solve = str(self.at("near")), "exec %s solve -q --depth 0 $1 $2" % self.program
+        solver = self.script("here", 'case $1 in %s/*) %s;; esac' % (near, solve))
+        for words in (["--solver", solver], ["--compress"] * bool(shutil.which("zstd"))):
+            self.forget(FOUR)
+            words += ["-q", "--no-race", "--depth", "1", "--scratch", near, FOUR, "f.lrat"]
+            self.ends(20, ["s UNSATISFIABLE"], *words)
+            self.verifies(FOUR, "f.lrat")
+            self.assertEqual([], list(self.at("near").iterdir()))
+        self.forget(FOUR)
+        status, lines = self.conquer("--scratch", "none", FOUR)
+        self.assertEqual((0, True), (status, any("failed" in line for line in lines)), lines)
 
 
 class Solvers(Case):
@@ -582,11 +630,6 @@ class Cuts(Case):
         self.verifies(self.NAME, "c.lrat")
 
 
-def succeeds(*words: str) -> bool:
-    done = subprocess.run(words, stdout=subprocess.DEVNULL, stderr=subprocess.DEVNULL)
-    return done.returncode == 0
-
-
 class Engines(Case):
     """An engine of others gives the same answers."""
 
@@ -604,15 +647,103 @@ class Engines(Case):
     def test_parallel(self) -> None:
         self.answers("parallel", "parallel")
 
-    def test_slurm(self) -> None:
-        if not shutil.which("sinfo") or not succeeds("sinfo", "-h"):
-            self.skipTest("slurm is not installed")
-        self.answers("slurm", "sbatch")
-
     def test_engine_that_is_not_there(self) -> None:
         if shutil.which("parallel"):
             self.skipTest("parallel is installed")
         self.ends(1, ["c parallel is not installed"], "--engine", "parallel", FOUR)
+
+
+class Slurm(Case):
+    """Arrays on three nodes, all of them this machine; an array has eight tasks at most."""
+
+    NAME = "schur_3_14.cnf"
+    WORDS = ["--engine", "slurm", "--depth", "4"]
+    SOLVE = "exec %s solve -q --depth 0 $1 $2"
+
+    @classmethod
+    def setUpClass(cls) -> None:
+        if not small_slurm.is_installed():
+            raise unittest.SkipTest("slurm is not installed")
+        folder = Path(tempfile.mkdtemp())
+        cls.addClassCleanup(shutil.rmtree, str(folder), ignore_errors=True)
+        cls.slurm = small_slurm.SmallSlurm(folder, 3, 9)
+        cls.addClassCleanup(cls.slurm.stop)
+        before = os.environ.get("SLURM_CONF")
+        os.environ["SLURM_CONF"] = cls.slurm.environment["SLURM_CONF"]
+        if before is not None:
+            cls.addClassCleanup(os.environ.__setitem__, "SLURM_CONF", before)
+
+    def solver(self, name: str, text: str) -> str:
+        return self.script(name, text + "\n" + self.SOLVE % self.program)
+
+    def tasks(self) -> List[str]:
+        return sorted(path.name for path in self.at(self.NAME + ".conquer", "tasks").iterdir())
+
+    def is_idle(self) -> bool:
+        return self.slurm.says("squeue", "-h").strip() == ""
+
+    def test_answers(self) -> None:
+        """All nodes have leaves, and each task has a log; that it has several leaves is told."""
+        solver = self.solver("tells", "echo $SLURMD_NODENAME >> %s; sleep 0.5" % self.at("nodes"))
+        status, lines = self.conquer(*self.WORDS, "--solver", solver, self.NAME, "s.lrat")
+        self.assertEqual((20, True), (status, "s UNSATISFIABLE" in lines), lines)
+        self.verifies(self.NAME, "s.lrat")
+        self.assertEqual({"n1", "n2", "n3"}, set(self.at("nodes").read_text().split()))
+        told = [line for line in lines if "leaves in 8 tasks" in line]
+        self.assertEqual((8, 1), (len(self.tasks()), len(told)), lines)
+        self.ends(10, ["s SATISFIABLE"], "-q", "-n", *self.WORDS, "schur_3_13.cnf")
+        self.wait_for("the tasks that are ended", self.is_idle)
+
+    def test_limits(self) -> None:
+        """What a task may take is asked for; what jobs have taken is told by the next start."""
+        asks = 'squeue -h -j $SLURM_JOB_ID -o "%%m %%l" >> %s' % self.at("asked")
+        words = [*self.WORDS, "--memory", "300", "--minutes", "7"]
+        words += ["--solver", self.solver("asks", asks), self.NAME]
+        self.assertEqual(20, self.conquer(*words).status)
+        self.assertEqual({"300M 7:00"}, set(self.at("asked").read_text().split("\n")[:-1]))
+        told = [line for line in self.conquer(*words).lines if line.startswith("c the longest of ")]
+        self.assertEqual((1, True), (len(told), " MB" in told[0]))
+        self.ends(1, ["c usage"], "--minutes", "7", self.NAME)
+
+    def test_task_that_is_ended(self) -> None:
+        """One that takes more memory than it may. Its leaf is told failed, and not closed."""
+        greedy = "python3 -c 'import time; text = bytes(1) * (400 << 20); time.sleep(60)'"
+        words = ["--engine", "slurm", "--depth", "0", "--memory", "100"]
+        words += ["--solver", self.script("greedy", greedy), self.NAME]
+        status, lines = self.conquer(*words)
+        self.assertEqual((0, True), (status, "c leaf 1 missing" in lines), lines)
+        self.assertIn("its task has met its memory limit", "\n".join(lines))
+        self.assertEqual([], self.logs(self.NAME))
+
+    def test_end_of_the_script(self) -> None:
+        """SIGTERM ends the array. One that was killed has it run on, and the next start waits for
+        it; under nohup a script goes on when the login ends."""
+        solver = self.solver("slow", "sleep 2")
+        words = ["-q", *self.WORDS, "--jobs", "4", "--solver", solver, self.NAME, "s.lrat"]
+        for ending in (signal.SIGTERM, signal.SIGHUP):
+            run = self.start(*words)
+            self.wait_for("a job", lambda: "R" in self.slurm.says("squeue", "-h", "-o", "%t"))
+            run.send_signal(ending)
+            self.assertEqual((1, []), self.end(run, ending))
+            self.wait_for("the array's end", self.is_idle, 20)
+            scratch = self.at(self.NAME + ".conquer", "scratch")
+            self.assertEqual([], list(scratch.glob("leaf*")), "what tasks have left")
+        run = self.start(*words)
+        self.wait_for("a job", lambda: "R" in self.slurm.says("squeue", "-h", "-o", "%t"))
+        kill(run.pid)
+        run.communicate()
+        status, lines = self.conquer(*words[1:])
+        self.assertEqual(20, status, lines)
+        self.assertTrue(any("of an earlier start" in line for line in lines), lines)
+        self.assertTrue(any(line.endswith(" leaves, 0 to run") for line in lines), lines)
+        self.forget(self.NAME)
+        before = signal.signal(signal.SIGHUP, signal.SIG_IGN)  # as nohup does
+        self.addCleanup(signal.signal, signal.SIGHUP, before)
+        run = self.start(*words)
+        self.wait_for("a job", lambda: "R" in self.slurm.says("squeue", "-h", "-o", "%t"))
+        run.send_signal(signal.SIGHUP)
+        self.assertEqual(20, self.end(run, "a login that ends").status)
+        self.verifies(self.NAME, "s.lrat")
 
 
 class Kills(Case):

@@ -3,12 +3,14 @@
 `Local` is a pool of its own. The others are given rounds: all leaves that wait are written to a
 file, `rounds/N`, and each task of the engine is `conquer.py --work FOLDER N TASK`, which runs its
 share of them. Such a task ends with status 0 whatever it has found: 10 and 20, with which solvers
-end, are failures for make, GNU parallel and Slurm.
+end, are failures for make, GNU parallel and Slurm. By SIGTERM it ends its job, which leaves nothing.
 """
 import json
 import os
+import re
 import shlex
 import shutil
+import signal
 import subprocess
 import sys
 import time
@@ -17,15 +19,27 @@ from pathlib import Path
 from typing import Dict, List, Optional, Tuple, Type
 
 from conquering.cuts import to_cut
+from conquering.figures import megabytes, spent, told
 from conquering.files import Fault, Folder, log_of
-from conquering.leaf import CLOSED, FAILED, Job, Leaf, Plan, Records
+from conquering.leaf import CLOSED, ENDED, FAILED, Job, Leaf, Plan, Records
 from conquering.processes import Bell, Command, Word, die_with, kill, output_of, start
 from conquering.race import Race
 from conquering.run import Run
 from conquering.screen import Screen
 
 COMMAND = Path(__file__).resolve().parent.parent / "conquer.py"
-ARRAY = 1000  # tasks of a Slurm array, which ends there by default
+
+
+@dataclass(frozen=True)
+class Limits:
+    """What a task of Slurm may take; None: as much as the site gives it."""
+
+    memory: Optional[int] = None  # megabytes
+    minutes: Optional[int] = None
+
+    def words(self) -> List[str]:
+        words = ["--mem=%dM" % self.memory] if self.memory else []
+        return words + (["--time=%d" % self.minutes] if self.minutes else [])
 
 
 @dataclass
@@ -39,6 +53,7 @@ class Engine:
     jobs: Optional[int]  # how many at a time
     races: bool = False  # whether one of them searches the whole formula
     cuts: bool = False  # whether a long leaf is cut in two if a core is idle
+    limits: Limits = Limits()
 
     @classmethod
     def test(cls) -> None:
@@ -129,18 +144,18 @@ class Rounds(Engine):
             leaves = run.take_all()
             self.mark = str(time.time_ns())
             tasks = min(len(leaves), self.most or len(leaves))
-            told = dict(tasks=tasks, leaves=list(map(astuple, leaves)), outlives=self.outlives)
-            self.folder.write("rounds/" + self.mark, json.dumps(told))
-            self.begin(tasks)
+            asked = dict(tasks=tasks, leaves=list(map(astuple, leaves)), outlives=self.outlives)
+            self.folder.write("rounds/" + self.mark, json.dumps(asked))
+            self.begin(tasks, len(leaves))
             try:
-                while self.runs() and not run.over():
+                while self.runs() and not all(map(run.is_closed, leaves)) and not run.over():
                     self.bell.wait(1)
                     self.look(run, leaves)
             finally:
                 self.stop()
             self.look(run, leaves)
             if not run.over():
-                self.gather(run, leaves)
+                self.gather(run, leaves, tasks)
 
     def look(self, run: Run, leaves: List[Leaf]) -> None:
         """Sees which leaves were closed meanwhile, and whether a model was brought."""
@@ -152,14 +167,24 @@ class Rounds(Engine):
         names = os.listdir(self.folder.at("scratch"))
         run.tick(sum(name.startswith("leaf") for name in names))
 
-    def gather(self, run: Run, leaves: List[Leaf]) -> None:
-        """What became of the round's other leaves; of a job that was lost there is no record."""
+    def gather(self, run: Run, leaves: List[Leaf], tasks: int) -> None:
+        """What became of the round's other leaves; of a job that was lost there is no record, or
+        one that it was ended. What such jobs have left is removed."""
+        for path in self.folder.at("scratch").glob("leaf*"):
+            shutil.rmtree(str(path), ignore_errors=True)
         ends = {}
         for record in Records(self.folder).all(".%s." % self.mark):
-            ends[record.cube] = record.outcome, record.note
-        for leaf in leaves:
-            if not run.is_closed(leaf):
-                run.ended(leaf, *ends.get(leaf.cube, (FAILED, "its job was lost")))
+            if record.outcome != ENDED:
+                ends[record.cube] = record.outcome, record.note
+        for place, leaf in enumerate(leaves):
+            if run.is_closed(leaf):
+                continue
+            end = ends.get(leaf.cube)
+            run.ended(leaf, *(end or (FAILED, "its job was lost" + self.why(place % tasks + 1))))
+
+    def why(self, task: int) -> str:
+        """What is known of a task that was lost."""
+        return ""
 
     def words(self) -> List[str]:
         return [sys.executable, str(COMMAND), "--work", str(self.folder.path), self.mark]
@@ -168,7 +193,7 @@ class Rounds(Engine):
         """How it is started, and what it reads then."""
         raise NotImplementedError
 
-    def begin(self, tasks: int) -> None:
+    def begin(self, tasks: int, leaves: int) -> None:
         words, text = self.command(tasks)
         output = self.folder.at("scratch", self.tool)
         self.process = start(Command(words, output), stdin=subprocess.PIPE)
@@ -207,41 +232,84 @@ class Parallel(Rounds):
         return words, "".join("%d\n" % task for task in range(1, tasks + 1))
 
 
+ASK = 10  # seconds between two questions to the controller of Slurm, which others ask too
+ARRAY = 1001  # `MaxArraySize` as it comes: one more than the tasks of an array
+LOST = {  # what Slurm writes of a task that it has ended, and what that means
+    "DUE TO TIME LIMIT": ": its task has met its time limit",
+    "exceeded memory limit": ": its task has met its memory limit",
+    "oom": ": its task has met its memory limit",
+}
+
+
 class Slurm(Rounds):
     """Arrays, whose tasks have leaves from all over the tree; they outlive a killed script."""
 
-    tool, most, outlives = "sbatch", ARRAY, True
+    tool, outlives = "sbatch", True
+    next = 0.0  # when the controller is asked again
 
     def settle(self) -> None:
         """Waits for the arrays of earlier starts, which would else run the same leaves."""
+        self.most = most_tasks()
+        self.tell_figures()
         for name in [name for name in self.folder.names("rounds") if name.endswith(".slurm")]:
             self.number = self.folder.at(name).read_text()
-            if self.runs():
+            if self.is_queued():
                 self.screen.say("c waiting for array %s of an earlier start" % self.number)
-            while self.runs():
-                time.sleep(2)
+            while self.is_queued():
+                time.sleep(ASK)
             self.folder.at(name).unlink()
 
-    def begin(self, tasks: int) -> None:
+    def tell_figures(self) -> None:
+        """What jobs in this folder have taken, be it a trial of some minutes on one machine."""
+        records = Records(self.folder).all()
+        memory = megabytes(max((record.memory for record in records), default=0))
+        if records:
+            self.screen.say("c the longest of %d jobs took %s%s" % (
+                len(records), told(max(map(spent, records))), memory and ", the largest " + memory))
+
+    def begin(self, tasks: int, leaves: int) -> None:
         path = self.folder.at("scratch", "array")
         task = " ".join(map(shlex.quote, self.words()))
         path.write_text("#!/bin/sh\nexec %s $SLURM_ARRAY_TASK_ID\n" % task)
         array = "--array=1-%d" % tasks + ("%%%d" % self.jobs if self.jobs else "")
-        words = ["sbatch", "--parsable", "--job-name=conquer", "--output=/dev/null"]
-        status, text = output_of(words + ["--cpus-per-task=1", array, path])
+        output = str(self.folder.at("tasks")).replace("%", "%%") + "/%A_%a.out"
+        words = ["sbatch", "--parsable", "--job-name=conquer", "--output=" + output]
+        words += ["--cpus-per-task=1", *self.limits.words(), array, path]
+        status, text = output_of(words)
         if status != 0:
             raise Fault("c sbatch ends with %d: %s" % (status, " ".join(text.split())))
         self.number = text.split(";")[0].strip()
         self.folder.write("rounds/%s.slurm" % self.mark, self.number)
+        self.next = time.monotonic() + ASK
+        if leaves > tasks:
+            self.screen.say("c %d leaves in %d tasks: the time limit of a task is for all that it "
+                            "runs in turn, up to %d" % (leaves, tasks, -(-leaves // tasks)))
 
     def runs(self) -> bool:
+        if time.monotonic() < self.next:
+            return True
+        self.next = time.monotonic() + ASK
+        return self.is_queued()
+
+    def is_queued(self) -> bool:
         """Where the controller does not answer, the array is taken to be under way."""
         status, text = output_of(["squeue", "-h", "-u", str(os.getuid()), "-o", "%F"])
         return status != 0 or self.number in text.split()
 
     def stop(self) -> None:
-        if self.runs():
-            output_of(["scancel", self.number])
+        output_of(["scancel", "-Q", self.number])
+
+    def why(self, task: int) -> str:
+        path = self.folder.at("tasks", "%s_%d.out" % (self.number, task))
+        text = path.read_text(errors="replace") if path.exists() else ""
+        return next((why for mark, why in LOST.items() if mark in text), "")
+
+
+def most_tasks() -> int:
+    """How many tasks an array may have here."""
+    status, text = output_of(["scontrol", "show", "config"])
+    found = re.search(r"^MaxArraySize\s*=\s*([0-9]+)", text, re.M) if status == 0 else None
+    return max(1, int(found.group(1) if found else ARRAY) - 1)
 
 
 ENGINES: Dict[str, Type[Engine]] = {
@@ -251,19 +319,23 @@ ENGINES: Dict[str, Type[Engine]] = {
 
 def work(path: str, mark: str, task: str) -> int:
     """A task of a round, in a process that an engine has started: its leaves in turn."""
+    signal.signal(signal.SIGTERM, lambda *_: sys.exit(1))
     die_with(os.getppid())
     folder, bell = Folder(path), Bell()
     plan = Plan(**json.loads(folder.at("plan.json").read_text()))
-    told = json.loads(folder.at("rounds", mark).read_text())
-    if not told["outlives"] and not folder.is_locked():  # the script ended before this job began
+    asked = json.loads(folder.at("rounds", mark).read_text())
+    if not asked["outlives"] and not folder.is_locked():  # the script ended before this job began
         return 0
-    for cube, *rest in told["leaves"][int(task) - 1::told["tasks"]]:
+    for cube, *rest in asked["leaves"][int(task) - 1::asked["tasks"]]:
         leaf = Leaf(tuple(cube), *rest)
         if folder.names("answers"):
             break
         if folder.has(log_of(leaf.cube)) or folder.covered(leaf.cube).exists():
             continue
         job = Job(folder, plan, leaf, mark)
-        while not job.ended():
-            bell.wait(min(1, job.end - time.monotonic()))
+        try:
+            while not job.ended():
+                bell.wait(min(1, job.end - time.monotonic()))
+        finally:
+            job.stop()
     return 0

@@ -6,6 +6,7 @@
     answers/LEAF     `v` lines that a job has brought
     records/..       how long each job took, and how it ended, for the report
     rounds/N         what an engine was asked to run; it stays as it is, since queued jobs name it
+    tasks/A_T.out    what Slurm has told of task T of array A
     formula.cnf      the formula, unpacked, where INPUT is packed
     plan.json        the program, the solver and the limits, for jobs that run elsewhere
     scratch/         what is unfinished; each start empties it
@@ -126,7 +127,7 @@ def takes(handle: int, lock: int) -> bool:
 class Folder:
     def __init__(self, path: str) -> None:
         self.path = Path(os.path.abspath(path))
-        for kind in ("trees", "logs", "answers", "records", "rounds", "scratch"):
+        for kind in ("trees", "logs", "answers", "records", "rounds", "tasks", "scratch"):
             self.at(kind).mkdir(parents=True, exist_ok=True)
 
     def at(self, *names: str) -> Path:

@@ -7,6 +7,7 @@ import json
 import os
 import shutil
 import socket
+import tempfile
 import time
 from dataclasses import asdict, dataclass
 from pathlib import Path
@@ -46,6 +47,7 @@ class Plan:
     split: str = ""  # by which words the first tree was made
     compress: bool = False  # whether logs are kept packed
     pipe: bool = False  # whether a solver's proof goes to `lift` by a FIFO
+    scratch: Optional[str] = None  # where a job writes, if not in the folder
 
 
 @dataclass(frozen=True)
@@ -72,25 +74,35 @@ def conquer_leaf(folder: Folder, plan: Plan, leaf: Leaf) -> Steps:
     many bytes its log has."""
     here = folder.at("scratch", "%s.%d" % (name_of(leaf.cube), os.getpid()))
     here.mkdir(parents=True, exist_ok=True)
-    note, size = "", 0
+    near, note, size = here, "", 0
     words = ["--cubes", folder.at(leaf.tree), "--leaf", str(leaf.place)]
     try:
+        if plan.scratch:
+            near = Path(tempfile.mkdtemp(prefix="conquer.", dir=plan.scratch))
         search = by_refute if plan.solver is None else by_solver
-        outcome = yield from search(plan, words, here, leaf.limited)
+        outcome = yield from search(plan, words, near, leaf.limited)
         if outcome == CLOSED:
-            log, place = here / "log", folder.at(log_of(leaf.cube))
+            log, place = near / "log", folder.at(log_of(leaf.cube))
             if plan.compress:
-                yield from pack(log, here / "packing")
+                yield from pack(log, near / "packing")
                 log, place = packed(log), packed(place)
             size = log.stat().st_size
-            publish(log, place)
+            publish(brought(log, here), place)
         elif outcome == MODEL:
-            publish(here / "answer", folder.at(answer_of(leaf.cube)))
+            publish(brought(near / "answer", here), folder.at(answer_of(leaf.cube)))
     except (Failed, OSError) as why:
         outcome, note = FAILED, str(why)
     finally:
-        shutil.rmtree(str(here), ignore_errors=True)
+        for place in (near, here):
+            shutil.rmtree(str(place), ignore_errors=True)
     return outcome, note, size
+
+
+def brought(file: Path, here: Path) -> Path:
+    """The file on the disk of the run's folder, to which it is copied from a node's own."""
+    if file.parent == here:
+        return file
+    return Path(shutil.copyfile(str(file), str(here / file.name)))
 
 
 def pack(log: Path, output: Path) -> Generator[Command, Status, None]:
@@ -195,7 +207,7 @@ class Job:
         self.steps = conquer_leaf(folder, plan, leaf)
         self.process: Union[Process, Pair, None] = None
         self.result: Optional[Tuple[str, str]] = None  # how it has ended, and why
-        self.memory = 0
+        self.memory, self.end = 0, float("inf")
         self.began, self.begin = time.monotonic(), time.time()
         self.next(None)
 

@@ -18,15 +18,17 @@ CALM = 5  # seconds
 
 class Join:
     """The program's `join`, told names of logs as they come: it reads while leaves still run. In
-    the place of a packed log it is told a FIFO, and the next name when all of it was read."""
+    the place of a packed log it is told a FIFO, and the next name when all of it was read. Without
+    a proof it writes nothing."""
 
-    def __init__(self, folder: Folder, plan: Plan, tree: str) -> None:
+    def __init__(self, folder: Folder, plan: Plan, tree: str, proof: Optional[str] = None) -> None:
         self.output, self.waiting = folder.at("scratch", "joined"), b""
         self.names: List[str] = []
         self.told = 0  # how many of them were handed on
         self.folder, self.unpacking = folder, Unpacking(folder)
         self.pipes: Dict[str, str] = {}  # of each FIFO, which log it was
-        words = [plan.program, "join", "--cubes", tree, plan.input, "scratch/proof.lrat", "-"]
+        words = [plan.program, "join", *["--dry"] * (proof is None), "--cubes", tree, plan.input]
+        words += [proof] * (proof is not None) + ["-"]
         self.process = start(Command(words, self.output), stdin=subprocess.PIPE,
                              cwd=str(folder.path))
         os.set_blocking(self.process.stdin.fileno(), False)
@@ -91,7 +93,9 @@ class Join:
 class Run:
     """The leaves that wait, that run and that are closed. Engines tell it which job has ended."""
 
-    def __init__(self, folder: Folder, plan: Plan, screen: Screen, bell: Bell) -> None:
+    def __init__(self, folder: Folder, plan: Plan, screen: Screen, bell: Bell,
+                 proof: Optional[str] = None) -> None:
+        self.proof = proof  # where `join` writes one, if it is asked for
         self.folder, self.plan, self.screen, self.bell = folder, plan, screen, bell
         self.tries: Counter[Cube] = collections.Counter()
         self.reasons: Counter[str] = collections.Counter()  # why jobs have failed, and how often
@@ -139,8 +143,7 @@ class Run:
         # so these are the longest, and a long leaf that begins late has all others wait for it.
         waiting = [cube for cube in reversed(self.cubes) if cube not in self.done]
         self.queue.extend(cube for cube in waiting if self.tries[cube] < TRIES)
-        self.join = Join(self.folder, self.plan, self.tree)
-        self.join.add(*sorted(have))
+        self.begin_join(*sorted(have))
         for cube in self.queue:  # what an earlier pass has told of it may have been wrong
             if self.folder.covered(cube).exists():
                 self.folder.covered(cube).unlink()
@@ -304,6 +307,10 @@ class Run:
         self.forget_trees()
         return True
 
+    def begin_join(self, *names: str) -> None:
+        self.join = Join(self.folder, self.plan, self.tree, self.proof)
+        self.join.add(*names)
+
     def put_off_join(self) -> None:
         """A join is one of the tree with which it was begun, so it is begun anew: when no leaf was
         cut for a while, or in the end. The while is doubled each time, so that however many leaves
@@ -315,8 +322,7 @@ class Run:
 
     def join_anew(self) -> None:
         if self.join is None and time.monotonic() >= self.calm:
-            self.join = Join(self.folder, self.plan, self.tree)
-            self.join.add(*self.folder.names("logs"))
+            self.begin_join(*self.folder.names("logs"))
             self.calm = float("inf")
 
     def forget_trees(self) -> None:
@@ -345,8 +351,7 @@ class Run:
         if self.model:
             self.end_join()
         if self.join is None:
-            self.join = Join(self.folder, self.plan, self.tree)
-            self.join.add(*self.folder.names("answers" if self.model else "logs"))
+            self.begin_join(*self.folder.names("answers" if self.model else "logs"))
         self.screen.progress("c joining")
         return self.join.answer(self.bell)
 
