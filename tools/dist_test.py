@@ -141,6 +141,15 @@ class Archive(unittest.TestCase):
         names = {Path(name).name for name in libraries([self.tree / "bin" / "satcluster"])}
         self.assertEqual({"ld-linux-x86-64.so.2", "libc.so.6"}, names)
 
+    def test_words(self) -> None:
+        """The man page and the completions have the words that the program's help has."""
+        for command in manual.program().commands:
+            told = output(self.tree / "bin" / "satcluster", command.name, "--help")
+            options = re.findall(r"^ +(?:-\w, )?(-[-\w]+)", told, re.M)
+            self.assertEqual(sorted(w.text for w in command.options), sorted(options[:-1]))
+            files = [w.text for w in command.words if not w.is_option]
+            self.assertEqual(files, re.findall(r"^ +[<[](\w+)[>\]]", told, re.M))
+
     def test_install_and_uninstall(self) -> None:
         prefix = self.installed("a prefix")
         other = prefix / "lib" / "other"
