@@ -3,8 +3,8 @@
 
     tools/dist_test.py PATH-OF-satcluster [CASE ..]
 
-A CASE is Archive, or Archive.test_empty_root; they run alone, and in any order. What needs root (or
-`unshare`), man, zsh or fish is skipped, and told, where that is not to be had.
+A CASE is Archive, or Archive.test_empty_root; they run alone, and in any order. What needs chroot
+(by root, or by `unshare -r`), man, zsh or fish is skipped, and told, where that is not to be had.
 """
 import os
 import re
@@ -63,13 +63,13 @@ def into(root: Path, path: str) -> None:
 
 def enter(root: Path) -> List[str]:
     """The words by which a command runs in another root; none where that is not allowed."""
-    for words in (["chroot"], ["unshare", "-r", "chroot"]):
-        try:
-            output(*words, "/", "true")
-            return words + [str(root)]
-        except (AssertionError, FileNotFoundError):
-            pass
-    return []
+    script = 'mount --rbind /proc "$0/proc" && mount --rbind /dev "$0/dev" && exec chroot "$0" "$@"'
+    words = ["unshare", "-m" if os.geteuid() == 0 else "-rm", "sh", "-c", script, str(root)]
+    try:
+        output(*words, "/usr/bin/env")
+        return words
+    except (AssertionError, FileNotFoundError):
+        return []
 
 
 class Archive(unittest.TestCase):
@@ -97,7 +97,9 @@ class Archive(unittest.TestCase):
         f, proof = inside + "/f.cnf", inside + "/f.lrat"
         program = tools + "/satcluster"
         for tool in ("/satcluster-solver", "/satcluster-conquer"):
-            more = [] if tool.endswith("solver") else ["--folder", inside + "/run", "--jobs", "1"]
+            more = ["--folder", inside + "/run", "--jobs", "1", "--depth", "1"]
+            if tool.endswith("solver"):
+                more = []
             lines = output(*begin, tools + tool, "-q", *more, f, proof, status=20)
             self.assertEqual("s UNSATISFIABLE\n", lines)
             self.assertEqual("s VERIFIED\n", output(*begin, program, "check", f, proof))
@@ -139,6 +141,15 @@ class Archive(unittest.TestCase):
         names = {Path(name).name for name in libraries([self.tree / "bin" / "satcluster"])}
         self.assertEqual({"ld-linux-x86-64.so.2", "libc.so.6"}, names)
 
+    def test_words(self) -> None:
+        """The man page and the completions have the words that the program's help has."""
+        for command in manual.program().commands:
+            told = output(self.tree / "bin" / "satcluster", command.name, "--help")
+            options = re.findall(r"^ +(?:-\w, )?(-[-\w]+)", told, re.M)
+            self.assertEqual(sorted(w.text for w in command.options), sorted(options[:-1]))
+            files = [w.text for w in command.words if not w.is_option]
+            self.assertEqual(files, re.findall(r"^ +[<[](\w+)[>\]]", told, re.M))
+
     def test_install_and_uninstall(self) -> None:
         prefix = self.installed("a prefix")
         other = prefix / "lib" / "other"
@@ -158,18 +169,13 @@ class Archive(unittest.TestCase):
         self.assertFalse(any(path for path in prefix.rglob("*") if not path.is_dir()))
 
     def test_empty_root(self) -> None:
-        """A root of the program, the C library and Python: no shell, no kit, no tree."""
+        """A root of the program, the C library, Python, /proc and /dev: no shell, no kit."""
         root = self.installed("root")
-        begin = enter(root)
-        if not begin:
-            self.skipTest("neither chroot nor unshare is allowed")
-        room = root / "tmp"
-        room.mkdir()
-        (root / "dev").mkdir()
-        (root / "dev" / "null").touch()
+        for name in ("tmp", "proc", "dev"):
+            (root / name).mkdir()
         python = os.path.realpath(sys.executable)
         library = sysconfig.get_path("stdlib")
-        skipped = shutil.ignore_patterns("site-packages", "dist-packages", "test", "__pycache__")
+        skipped = shutil.ignore_patterns("*-packages", "test", "config-*", "__pycache__")
         shutil.copytree(library, str(root) + library, ignore=skipped)
         into(root, python)
         into(root, "/usr/bin/env")
@@ -177,7 +183,10 @@ class Archive(unittest.TestCase):
         parts = [python, "/usr/bin/env", root / "bin" / "satcluster", *Path(library).rglob("*.so")]
         for path in libraries(parts):
             into(root, path)
-        self.decides(begin, "/bin", room, "/tmp")
+        begin = enter(root)
+        if not begin:
+            self.skipTest("chroot is not allowed here, by unshare neither")
+        self.decides(begin, "/bin", root / "tmp", "/tmp")
 
     @unittest.skipUnless(shutil.which("man"), "man is not installed")
     def test_man(self) -> None:

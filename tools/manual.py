@@ -113,12 +113,12 @@ class Module:
 
 def word_of(fields: Dict[str, Any]) -> Word:
     kind, name = fields["kind"], fields["name"]
-    text = "--" + name
     if kind in ("File", "Files"):
-        text = name
-    if kind == "Flag":
-        text = "-" + fields["letter"]
-    value = {"NamedFile": "FILE", "Number": "N"}.get(kind, "")
+        text, value = name, ""
+    elif kind == "Flag":
+        text, value = "-" + fields["letter"], ""
+    else:
+        text, value = "--" + name, {"LongFlag": "", "NamedFile": "FILE", "Number": "N"}[kind]
     need = fields.get("need")
     usual = "; else " + need[0] if isinstance(need, list) else ""
     is_needed = kind == "Files" or need == "Need::Required" or fields.get("required") == "true"
