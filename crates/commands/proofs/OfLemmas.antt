@@ -26,3 +26,14 @@ pub of_opened_ok : {T E : Type 0} (P : List ℕ → T → Type 0) (left holds : 
     → IfSome holds (λ bytes. left ≡ Some bytes) → IfOk r (λ x. Of left (λ bytes. P bytes x)) → IfOk r (λ x. Of holds (λ bytes. P bytes x))
 of_opened_ok P left holds (Ok x) e h = of_opened (λ bytes. P bytes x) left holds e h
 of_opened_ok P left holds (Err f) e h = tt
+
+-- the same of two sources, which two values hold
+pub both_opened_ok : {T E : Type 0} (P : List ℕ → List ℕ → T → Type 0) (r : Result T E) (l k holds m j others : Option (List ℕ))
+    → l ≡ k → IfSome holds (λ bytes. k ≡ Some bytes) → m ≡ j → IfSome others (λ bytes. j ≡ Some bytes)
+    → IfOk r (λ x. Of l (λ text. Of m (λ bytes. P text bytes x))) → IfOk r (λ x. Of holds (λ text. Of others (λ bytes. P text bytes x)))
+both_opened_ok P (Ok x) l k holds m j others le he me ge h =
+    let Q : List ℕ → List ℕ → Type 0 = λ text bytes. P text bytes x in
+    let first : Of l (λ text. Of others (Q text)) =
+    of_map (λ text. Of m (Q text)) (λ text. Of others (Q text)) l (λ text g. of_opened (Q text) j others ge (subst (λ (o : Option (List ℕ)). Of o (Q text)) me g)) h in
+    of_opened (λ text. Of others (Q text)) k holds he (subst (λ (o : Option (List ℕ)). Of o (λ text. Of others (Q text))) le first)
+both_opened_ok P (Err f) l k holds m j others le he me ge h = tt

@@ -3,4 +3,5 @@ pub mod Checking
 pub mod Feeding
 pub mod Known
 pub mod Printing
+pub mod Refusals
 pub mod inner

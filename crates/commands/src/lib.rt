@@ -11,6 +11,8 @@ mod feeding;
 mod formula;
 mod pieces;
 mod printing;
+mod session;
+mod text;
 
 pub use beginning::{Begun, begin_files, hushed, refused_input};
 pub use check::check_files;
@@ -19,3 +21,4 @@ pub use feeding::{Fed, Feeds, feed_all, feed_on};
 pub use formula::{read_bytes, read_formula};
 pub use pieces::{Pieces, refused};
 pub use printing::{deliver, print};
+pub use session::check_session_files;

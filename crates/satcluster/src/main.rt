@@ -13,12 +13,11 @@ mod lift;
 mod linked_runs;
 mod model;
 mod proof_file;
-mod session;
 mod showing;
 mod standard_input;
 mod trim;
 
-use commands::{check_files, deliver, refused};
+use commands::{check_files, check_session_files, deliver, refused};
 use complete::complete;
 use files::{Machine, no_memory, read};
 use join::{JoinFiles, join};
@@ -29,7 +28,6 @@ use linked_runs::{Files, serve, solve, work};
 use model::model;
 use node_main::{Refusal, Report, Request, UsageFault, command, run_cubes};
 use proof_file::Target;
-use session::session;
 use showing::Showing;
 use standard_input::is_sound;
 use std::alloc::AllocError;
@@ -91,7 +89,7 @@ fn answer<R: Runtime + AllocGlobal + Net>(
             session: is_session,
         } => {
             if is_session {
-                session(rt, input, proof)
+                check_session_files(&Machine { rt }, input, proof)
             } else {
                 check_files(&Machine { rt }, input, proof)
             }

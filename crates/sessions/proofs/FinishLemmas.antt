@@ -6,7 +6,7 @@ use Rattle.icnf.specs.declared.fault.IcnfFault.{IcnfFault}
 use Rattle.lrat_check.specs.Checking.{no_memory}
 use Rattle.lrat_check.specs.declared.checking.CheckFault.{CheckFault}
 use Rattle.sessions.specs.Answers.{Event, tally}
-use Rattle.sessions.specs.Check.{Finishes, HasTaken, ReadsBy, coming_by, front, still, wanted_by}
+use Rattle.sessions.specs.Check.{Finishes, HasOutcome, HasTaken, OfTexts, ReadsBy, coming_by, front, still, wanted_by}
 use Rattle.sessions.specs.Events.{events_of}
 use Rattle.sessions.specs.Follows.{Follows, Right}
 use Rattle.sessions.specs.Texts.{Outcome, behind, session_of}
@@ -48,21 +48,17 @@ pub no_events : (o : Option IcnfFault) (p : Phase) (b : Bool) → b ≡ true →
 no_events o p b e h = let none : false ≡ true = sym (events_wanted o p b h).1 ∙ e in cc
 
 -- ---- the end
+-- the events that were heard are all
+all_events : (e d : List ℕ) (E : List Event) (x : SessionCheck) → x.proof.no_event ≡ true → ReadsBy None e E x → Ends x.proof.no_event d → events_of (e ++ d) ≡ Ok E
+all_events e d E x ended r ends = r.1 d ends ∙ ap (λ b. front E (coming_by b x d)) ended ∙ ap Ok (append-nil E)
+
 ends_nil : (X : Type 0) (b : Bool) → Ends {X = X} b []
 ends_nil X true = refl
 ends_nil X false = tt
 
--- the events that were heard are all
-all_events : (e : List ℕ) (E : List Event) (x : SessionCheck) → x.proof.no_event ≡ true → ReadsBy None e E x → events_of e ≡ Ok E
-all_events e E x ended r =
-    ap events_of (sym (append-nil e))
-    ∙ r.1 [] (ends_nil ℕ x.proof.no_event)
-    ∙ ap (λ b. front E (coming_by b x [])) ended
-    ∙ ap Ok (append-nil E)
-
 module _ (e p : List ℕ) (x : SessionCheck) (fine : x.fault ≡ None) (ended : x.proof.no_event ≡ true) (h : HasTaken e p x) where
-  events_are : events_of e ≡ Ok h.events
-  events_are = all_events e h.events x ended (subst (λ (o : Option IcnfFault). ReadsBy o e h.events x) fine h.reads)
+  events_are : (d : List ℕ) → Ends x.proof.no_event d → events_of (e ++ d) ≡ Ok h.events
+  events_are d = all_events e d h.events x ended (subst (λ (o : Option IcnfFault). ReadsBy o e h.events x) fine h.reads)
 
   session_is : (r : Right h.events p x.proof) (q : Phase) → x.proof.phase ≡ q → (more : List ℕ) → Ends x.proof.no_byte more
       → session_of h.events (p ++ more) ≡ behind r.told (later_by q x.proof.lines.known x.proof.line [] (lines (x.proof.begun.items ++ more)))
@@ -71,18 +67,22 @@ module _ (e p : List ℕ) (x : SessionCheck) (fine : x.fault ≡ None) (ended : 
       ∙ r.is [] more (ends_nil Event x.proof.no_event) rest
       ∙ ap (λ (s : Phase). behind r.told (later_by s x.proof.lines.known x.proof.line [] (lines (x.proof.begun.items ++ more)))) is
 
+  -- whatever follows, the proof has this outcome
+  outcome : (f : Option CheckFault) (r : Right h.events p x.proof) → ((more : List ℕ) → Ends x.proof.no_byte more → session_of h.events (p ++ more) ≡ record { answers = r.told ++ []; fault = f })
+      → OfTexts e p x (HasOutcome f x.proof.lines.known.tally)
+  outcome f r each = λ d b ends rest. (
+    h.events,
+    events_are d ends,
+    ap (λ (o : Outcome). o.fault) (each b rest),
+    r.counts ∙ ap tally (sym (append-nil r.told)) ∙ ap (λ (o : Outcome). tally o.answers) (sym (each b rest)),
+  )
+
   pub finishes_right : x.proof.phase ≡ phase.Ended → Finishes e p x (Ok x.proof.lines.known.tally)
   finishes_right is = at h.follows
     where
       at : Follows h.events p x.proof → Finishes e p x (Ok x.proof.lines.known.tally)
       at (inl broken) = absurd (let s : phase.Ended ≡ phase.Stopped no_memory = sym is ∙ broken in cc)
-      at (inr r) =
-          let same : session_of h.events p ≡ record { answers = r.told ++ []; fault = None } = ap (session_of h.events) (sym (append-nil p)) ∙ session_is r phase.Ended is [] (ends_nil ℕ x.proof.no_byte) in (
-            h.events,
-            events_are,
-            ap (λ (o : Outcome). o.fault) same,
-            r.counts ∙ ap tally (sym (append-nil r.told)) ∙ ap (λ (o : Outcome). tally o.answers) (sym same),
-          )
+      at (inr r) = outcome None r (λ more rest. session_is r phase.Ended is more rest)
 
   -- the proof has a fault
   stops : (f : CheckFault) → ((r : Right h.events p x.proof) (more : List ℕ) → Ends x.proof.no_byte more → session_of h.events (p ++ more) ≡ record { answers = r.told ++ []; fault = Some f })
@@ -91,14 +91,7 @@ module _ (e p : List ℕ) (x : SessionCheck) (fine : x.fault ≡ None) (ended : 
     where
       at : Follows h.events p x.proof → Finishes e p x (Err (fault.Proof f x.proof.lines.known.tally))
       at (inl b) = inl (broken b)
-      at (inr r) = inr (
-        h.events,
-        events_are,
-        λ more rest. (
-          ap (λ (o : Outcome). o.fault) (each r more rest),
-          r.counts ∙ ap tally (sym (append-nil r.told)) ∙ ap (λ (o : Outcome). tally o.answers) (sym (each r more rest)),
-        ),
-      )
+      at (inr r) = inr (outcome (Some f) r (each r))
 
   pub finishes_stopped : (f : CheckFault) → x.proof.phase ≡ phase.Stopped f → Finishes e p x (Err (fault.Proof f x.proof.lines.known.tally))
   finishes_stopped f is = stops f (λ r more rest. session_is r (phase.Stopped f) is more rest) (λ b. let s : phase.Stopped f ≡ phase.Stopped no_memory = sym is ∙ b in cc)
@@ -110,7 +103,11 @@ module _ (e p : List ℕ) (x : SessionCheck) (fine : x.fault ≡ None) (ended : 
   finishes_query is = stops (fault_at x.proof.line 18 0) (λ r more rest. session_is r phase.Query is more rest) (λ b. absurd (let s : phase.Query ≡ phase.Stopped no_memory = sym is ∙ b in cc))
 
 pub finishes_events : (e p : List ℕ) (x : SessionCheck) (f : IcnfFault) → x.fault ≡ Some f → HasTaken e p x → Finishes e p x (Err (fault.Events f))
-finishes_events e p x f is h = subst (λ (o : Option IcnfFault). ReadsBy o e h.events x) is h.reads
+finishes_events e p x f is h = at (subst (λ (o : Option IcnfFault). ReadsBy o e h.events x) is h.reads)
+  where
+    at : ReadsBy (Some f) e h.events x → Finishes e p x (Err (fault.Events f))
+    at (inl none) = inl none
+    at (inr fails) = inr (λ d b ends rest. fails d ends)
 
 pub finishes_early : (o : Option IcnfFault) (p : Phase) (b : Bool) → o ≡ None → b ≡ false → wanted_by o p b ≡ wants.Nothing → ⊥
 finishes_early o p b fine more e = at p (subst (λ (c : Bool). wanted_by None p c ≡ wants.Nothing) more (subst (λ (r : Option IcnfFault). wanted_by r p b ≡ wants.Nothing) fine e))

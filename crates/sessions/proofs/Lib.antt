@@ -10,3 +10,4 @@ pub mod SoundLemmas
 pub mod SpellingLemmas
 pub mod TextLemmas
 pub mod TokenLemmas
+pub mod VerdictLemmas

@@ -5,6 +5,7 @@ use Rattle.dimacs.specs.text.Words.{lines}
 use Rattle.icnf.specs.Reading as icnf
 use Rattle.icnf.specs.declared.fault.IcnfFault.{IcnfFault}
 use Rattle.lrat_check.specs.Checking.{no_memory}
+use Rattle.lrat_check.specs.declared.checking.CheckFault.{CheckFault}
 use Rattle.lrat_text.specs.Lines.{IsOpen}
 use Rattle.sessions.specs.Answers.{Event, tally}
 use Rattle.sessions.specs.Events.{events_of, read_lines}
@@ -57,18 +58,29 @@ abbrev pub wanted : SessionCheck → Wants
 wanted x = wanted_by x.fault x.proof.phase x.proof.no_event
 
 -- ---- the end
--- whatever follows where the proof was not read to its end
-abbrev pub Unread : SessionCheck → List ℕ → Type 0
-Unread x more = Ends x.proof.no_byte more
+-- whether nothing is left of the events, and of the proof
+abbrev pub events_ended : SessionCheck → Bool
+events_ended x = x.proof.no_event
 
--- the events have a fault; whatever follows, where they were not read to their end
-abbrev pub HasFault : List ℕ → SessionCheck → IcnfFault → Type 0
-HasFault e x f = (f ≡ icnf.no_memory) ⊎ ((more : List ℕ) → Ends x.proof.no_event more → events_of (e ++ more) ≡ Err f)
+abbrev pub proof_ended : SessionCheck → Bool
+proof_ended x = x.proof.no_byte
+
+-- neither text comes to its end
+pub record KeepsEnds (old new : SessionCheck) : Type 0 where
+  pub events : events_ended new ≡ events_ended old
+  pub proof : proof_ended new ≡ proof_ended old
+
+-- P of both texts of which these bytes have been taken, whatever is left where they were not read to their ends
+abbrev pub OfTexts : List ℕ → List ℕ → SessionCheck → (List ℕ → List ℕ → Type 0) → Type 0
+OfTexts e p x P = (d b : List ℕ) → Ends (events_ended x) d → Ends (proof_ended x) b → P (e ++ d) (p ++ b)
+
+-- the events have no fault, and beside them the proof has this one, or none, behind answers of these counts
+abbrev pub HasOutcome : Option CheckFault → Tally → List ℕ → List ℕ → Type 0
+HasOutcome f counts events proof = (E : List Event) × (events_of events ≡ Ok E) × ((session_of E proof).fault ≡ f) × (counts ≡ tally (session_of E proof).answers)
 
 -- what the texts answer, which are read as far as they matter
 abbrev pub Finishes : List ℕ → List ℕ → SessionCheck → Result Tally SessionFault → Type 0
-Finishes e p x (Ok counts) = (E : List Event) × (events_of e ≡ Ok E) × ((session_of E p).fault ≡ None) × (counts ≡ tally (session_of E p).answers)
-Finishes e p x (Err (fault.Events f)) = HasFault e x f
-Finishes e p x (Err (fault.Proof f before)) = (f ≡ no_memory) ⊎ ((E : List Event) × (events_of e ≡ Ok E)
-    × ((more : List ℕ) → Unread x more → ((session_of E (p ++ more)).fault ≡ Some f) × (before ≡ tally (session_of E (p ++ more)).answers)))
+Finishes e p x (Ok counts) = OfTexts e p x (HasOutcome None counts)
+Finishes e p x (Err (fault.Events f)) = (f ≡ icnf.no_memory) ⊎ OfTexts e p x (λ events proof. events_of events ≡ Err f)
+Finishes e p x (Err (fault.Proof f before)) = (f ≡ no_memory) ⊎ OfTexts e p x (HasOutcome (Some f) before)
 Finishes e p x (Err fault.Unfinished) = ¬ (wanted x ≡ wants.Nothing)

@@ -1,5 +1,5 @@
 -- What is printed of a check of a session.
-use Rattle.std.specs.Prelude.{◌≡◌, ◌≢◌, ℕ, ◌+◌, List, ◌++◌, None, Result, Ok, Err, OnOk, codes, decimal}
+use Rattle.std.specs.Prelude.{◌≡◌, ◌≢◌, ◌⊎◌, ℕ, ◌+◌, List, [], ◌++◌, Option, Some, None, Result, Ok, Err, OnOk, codes, decimal, length}
 use Rattle.icnf.specs.Faults.{number_of_kind}
 use Rattle.icnf.specs.declared.fault.IcnfFault.{IcnfFault}
 use Rattle.icnf.specs.declared.fault.Kind.TheVariants as kind
@@ -9,8 +9,14 @@ use Rattle.reports.specs.Faults.{fault_text}
 use Rattle.reports.specs.declared.refusal.Refusal.{Refusal}
 use Rattle.reports.specs.declared.refusal.Refusal.TheVariants as refusal
 use Rattle.reports.specs.declared.report.Report.{Report}
+use Rattle.sessions.specs.Answers.{AreRight, Event, queries, tally}
+use Rattle.sessions.specs.Check.{wanted}
+use Rattle.sessions.specs.Events.{Spells, events_of}
+use Rattle.sessions.specs.Texts.{session_of}
+use Rattle.sessions.specs.declared.check.SessionCheck.{SessionCheck}
 use Rattle.sessions.specs.declared.check.SessionFault.{SessionFault}
 use Rattle.sessions.specs.declared.check.SessionFault.TheVariants as fault
+use Rattle.sessions.specs.declared.check.Wants.TheVariants as wants
 use Rattle.sessions.specs.declared.tally.Tally.{Tally}
 
 abbrev pub total : Tally → ℕ
@@ -52,3 +58,28 @@ ReportsFault fault.Unfinished r = r ≡ Err refusal.Proof
 abbrev pub Reports : Result Tally SessionFault → Result Report Refusal → Type 0
 Reports (Ok t) r = Printed (verified_text t) 0 r
 Reports (Err f) r = ReportsFault f r
+
+-- ---- the report of both texts
+-- of a proof with this fault first, or with none, behind answers of these counts
+abbrev pub IsVerdict : Option CheckFault → Tally → Report → Type 0
+IsVerdict None counts r = Printed (verified_text counts) 0 (Ok r)
+IsVerdict (Some f) before r = Printed (refused_text f before) 1 (Ok r)
+
+-- of a proof beside these events; or of the first fault of the events, which is told before any of the proof's
+abbrev pub IsReport : Result (List Event) IcnfFault → List ℕ → Report → Type 0
+IsReport (Ok E) proof r = IsVerdict (session_of E proof).fault (tally (session_of E proof).answers) r
+IsReport (Err f) proof r = Printed (events_text f) 1 (Ok r)
+
+-- the text spells events, and the proof answers each of their queries, right for the clauses that are given before it
+abbrev pub AnswersRight : List ℕ → List ℕ → Type 0
+AnswersRight events proof = (E : List Event) × Spells events E × AreRight [] E (session_of E proof).answers × (length (session_of E proof).answers ≡ queries E)
+
+-- the report of both texts; status 0 if and only if the text spells events and the proof has no fault beside them, and then its answers are
+-- right
+pub record ChecksSession (events proof : List ℕ) (r : Report) : Type 0 where
+  pub report : IsReport (events_of events) proof r
+  pub truth : r.status ≡ 0 → AnswersRight events proof
+
+-- why a check has no report: memory ran out, or something is wanted still
+abbrev pub HasNoReport : SessionCheck → Refusal → Type 0
+HasNoReport x f = (f ≡ refusal.NoMemory) ⊎ ((f ≡ refusal.Proof) × ¬ (wanted x ≡ wants.Nothing))

@@ -2,7 +2,7 @@
 
 ghost use Rattle.std.specs.Prelude.{◌≡◌, ◌≢◌, ◌<◌, ◌≤◌, ℕ, List, [], ◌∷◌, ◌++◌, None, true, false, IfOk, length, take};
 ghost use Rattle.lrat_text.specs.Lines.{IsOpen};
-ghost use Rattle.sessions.specs.Check.{Finishes, HasTaken, wanted};
+ghost use Rattle.sessions.specs.Check.{Finishes, HasTaken, KeepsEnds, events_ended, proof_ended, wanted};
 ghost use Rattle.sessions.specs.inner.Feeding.{EndsRow, HearsRow, closing};
 ghost use Rattle.sessions.specs.inner.Rows.{event_of};
 ghost use Rattle.sessions.specs.inner.Sides.{fault_at};
@@ -65,7 +65,9 @@ impl Drop for SessionCheck {
 impl SessionCheck {
     /// No byte was taken.
     pub fn new(alloc: Global) -> Result<SessionCheck, AllocError>
-        ensures { IfOk result (HasTaken [] []) }
+        ensures taken { IfOk result (HasTaken [] []) }
+        ensures events { IfOk result (λ x. events_ended x ≡ false) }
+        ensures proof { IfOk result (λ x. proof_ended x ≡ false) }
     {
         let proof = ProofSide::new(alloc)?;
         Ok(SessionCheck {
@@ -100,6 +102,7 @@ impl SessionCheck {
     pub fn feed_proof(&mut self, piece: &[u8]) -> usize
         ensures few { result ≤ length piece.now }
         ensures some { wanted self.old ≡ Wants.Proof → 0 < length piece.now → 0 < result }
+        ensures ends { KeepsEnds self.old self.new }
         ensures taken { (e p : List ℕ) → HasTaken e p self.old → HasTaken e (p ++ take result piece.now) self.new }
     {
         match self.wants() {
@@ -113,6 +116,7 @@ impl SessionCheck {
         requires { wanted self.old ≡ Wants.Proof }
         ensures few { result ≤ length piece.now }
         ensures some { 0 < length piece.now → 0 < result }
+        ensures ends { KeepsEnds self.old self.new }
         ensures taken { (e p : List ℕ) → HasTaken e p self.old → HasTaken e (p ++ take result piece.now) self.new }
     {
         self.proof.feed(piece)
@@ -121,6 +125,7 @@ impl SessionCheck {
     /// The proof has ended, where its bytes are wanted.
     pub fn end_proof(&mut self)
         ensures ended { ¬ (wanted self.new ≡ Wants.Proof) }
+        ensures events { events_ended self.new ≡ events_ended self.old }
         ensures taken { (e p : List ℕ) → HasTaken e p self.old → HasTaken e p self.new }
     {
         match self.wants() {
@@ -135,6 +140,7 @@ impl SessionCheck {
         ensures hears { HearsRow (event_of sent self.old.events.read.literals) self.old.proof self.new.proof }
         ensures same { self.new ≡ record self.old { proof = self.new.proof } }
         ensures flag { self.new.proof.no_event ≡ self.old.proof.no_event }
+        ensures byte { self.new.proof.no_byte ≡ self.old.proof.no_byte }
     {
         match sent {
             Sent::Nothing => {}
@@ -149,6 +155,7 @@ impl SessionCheck {
         requires fine { self.old.fault ≡ None }
         ensures row { EndsRow self.old self.new }
         ensures flag { self.new.proof.no_event ≡ self.old.proof.no_event }
+        ensures byte { self.new.proof.no_byte ≡ self.old.proof.no_byte }
     {
         let Some(line) = self.read.checked_add(1) else {
             self.fault = Some(IcnfFault::from(AllocError));
@@ -168,7 +175,8 @@ impl SessionCheck {
     fn begin_with(&mut self, piece: &[u8])
         requires fine { self.old.fault ≡ None }
         requires more { self.old.proof.no_event ≡ false }
-        ensures { (e p : List ℕ) → IsOpen piece.now → HasTaken e p self.old → HasTaken (e ++ piece.now) p self.new }
+        ensures taken { (e p : List ℕ) → IsOpen piece.now → HasTaken e p self.old → HasTaken (e ++ piece.now) p self.new }
+        ensures ends { KeepsEnds self.old self.new }
     {
         match self.begun.extend_from_slice(piece) {
             Ok(()) => {}
@@ -181,7 +189,8 @@ impl SessionCheck {
         requires waits { self.old.proof.phase ≢ Phase.Reading }
         requires fine { self.old.fault ≡ None }
         requires more { self.old.proof.no_event ≡ false }
-        ensures { (e p : List ℕ) → IsOpen text.now → HasTaken e p self.old → HasTaken (e ++ (text.now ++ 10 ∷ [])) p self.new }
+        ensures taken { (e p : List ℕ) → IsOpen text.now → HasTaken e p self.old → HasTaken (e ++ (text.now ++ 10 ∷ [])) p self.new }
+        ensures ends { KeepsEnds self.old self.new }
     {
         match self.begun.extend_from_slice(text) {
             Ok(()) => self.end_row(),
@@ -193,6 +202,7 @@ impl SessionCheck {
     pub fn feed_events(&mut self, piece: &[u8]) -> usize
         ensures few { result ≤ length piece.now }
         ensures some { wanted self.old ≡ Wants.Events → 0 < length piece.now → 0 < result }
+        ensures ends { KeepsEnds self.old self.new }
         ensures taken { (e p : List ℕ) → HasTaken e p self.old → HasTaken (e ++ take result piece.now) p self.new }
     {
         match self.wants() {
@@ -206,6 +216,7 @@ impl SessionCheck {
         requires { wanted self.old ≡ Wants.Events }
         ensures few { result ≤ length piece.now }
         ensures some { 0 < length piece.now → 0 < result }
+        ensures ends { KeepsEnds self.old self.new }
         ensures taken { (e p : List ℕ) → HasTaken e p self.old → HasTaken (e ++ take result piece.now) p self.new }
     {
         match cut_line(piece) {
@@ -241,6 +252,7 @@ impl SessionCheck {
     fn end_waiting(&mut self)
         requires { wanted self.old ≡ Wants.Events }
         ensures ended { self.new.proof.no_event ≡ true }
+        ensures byte { self.new.proof.no_byte ≡ self.old.proof.no_byte }
         ensures taken { (e p : List ℕ) → HasTaken e p self.old → HasTaken e p self.new }
     {
         self.end_row();
@@ -251,6 +263,7 @@ impl SessionCheck {
     /// The events have ended, where their bytes are wanted.
     pub fn end_events(&mut self)
         ensures ended { ¬ (wanted self.new ≡ Wants.Events) }
+        ensures proof { proof_ended self.new ≡ proof_ended self.old }
         ensures taken { (e p : List ℕ) → HasTaken e p self.old → HasTaken e p self.new }
     {
         match self.wants() {

@@ -13,12 +13,10 @@ mod numbers;
 mod proof_lines;
 mod proof_side;
 mod report;
-mod run;
 mod stage;
 mod tally;
 
 pub use check::{SessionCheck, SessionFault, Wants};
 pub use laws::{accepted_sessions_are_right, events_are_spelled};
-pub use report::session_report;
-pub use run::check_session;
+pub use report::{check_report, session_report};
 pub use tally::Tally;

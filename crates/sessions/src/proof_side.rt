@@ -128,6 +128,7 @@ impl ProofSide {
     fn next_line(&mut self)
         ensures moves { MovesOn self.old self.new }
         ensures flag { self.new.no_event ≡ self.old.no_event }
+        ensures byte { self.new.no_byte ≡ self.old.no_byte }
     {
         match self.line.checked_add(1) {
             Some(next) => {
@@ -142,6 +143,7 @@ impl ProofSide {
     fn go_on(&mut self, came: Came)
         ensures moves { Moves came self.old self.new }
         ensures flag { self.new.no_event ≡ self.old.no_event }
+        ensures byte { self.new.no_byte ≡ self.old.no_byte }
     {
         match came {
             Came::Goes => self.next_line(),
@@ -154,6 +156,7 @@ impl ProofSide {
     fn end_line(&mut self)
         ensures ends { EndsLine self.old self.new }
         ensures flag { self.new.no_event ≡ self.old.no_event }
+        ensures byte { self.new.no_byte ≡ self.old.no_byte }
     {
         let taken = self.lines.take(&self.begun);
         self.begun.clear();
@@ -167,6 +170,7 @@ impl ProofSide {
     fn begin_with(&mut self, piece: &[u8])
         ensures follows { (E : List Event) (p : List ℕ) → self.old.phase ≡ Phase.Reading → IsOpen piece.now → Follows E p self.old → Follows E (p ++ piece.now) self.new }
         ensures flag { self.new.no_event ≡ self.old.no_event }
+        ensures byte { self.new.no_byte ≡ self.old.no_byte }
     {
         match self.begun.extend_from_slice(piece) {
             Ok(()) => {}
@@ -178,6 +182,7 @@ impl ProofSide {
     fn end_with(&mut self, text: &[u8])
         ensures follows { (E : List Event) (p : List ℕ) → self.old.phase ≡ Phase.Reading → IsOpen text.now → Follows E p self.old → Follows E (p ++ (text.now ++ 10 ∷ [])) self.new }
         ensures flag { self.new.no_event ≡ self.old.no_event }
+        ensures byte { self.new.no_byte ≡ self.old.no_byte }
     {
         match self.begun.extend_from_slice(text) {
             Ok(()) => self.end_line(),
@@ -192,6 +197,7 @@ impl ProofSide {
         ensures some { 0 < length piece.now → 0 < result }
         ensures follows { (E : List Event) (p : List ℕ) → Follows E p self.old → Follows E (p ++ take result piece.now) self.new }
         ensures flag { self.new.no_event ≡ self.old.no_event }
+        ensures byte { self.new.no_byte ≡ self.old.no_byte }
     {
         match cut_line(piece) {
             Some((text, _)) => {
@@ -209,6 +215,7 @@ impl ProofSide {
     fn give(&mut self)
         ensures gives { IsHigh Phase.Clause self.old.lines.known → Gives self.old self.new }
         ensures flag { self.new.no_event ≡ self.old.no_event }
+        ensures byte { self.new.no_byte ≡ self.old.no_byte }
     {
         match self.lines.known.give() {
             Ok(()) => self.next_line(),
@@ -221,6 +228,7 @@ impl ProofSide {
         requires { self.old.phase ≡ Phase.Clause }
         ensures hears { (e : Event) → IsHigh Phase.Clause self.old.lines.known → IsEvent sent lits.now e → Hears self.old e self.new }
         ensures flag { self.new.no_event ≡ self.old.no_event }
+        ensures byte { self.new.no_byte ≡ self.old.no_byte }
     {
         match sent {
             Sent::Clause => {
@@ -239,6 +247,7 @@ impl ProofSide {
         requires { self.old.phase ≡ Phase.Query }
         ensures hears { (e : Event) → IsEvent sent lits.now e → Hears self.old e self.new }
         ensures flag { self.new.no_event ≡ self.old.no_event }
+        ensures byte { self.new.no_byte ≡ self.old.no_byte }
     {
         match sent {
             Sent::Query => {
@@ -258,6 +267,7 @@ impl ProofSide {
         requires { self.old.phase ≢ Phase.Reading }
         ensures hears { (e : Event) → IsHigh self.old.phase self.old.lines.known → IsEvent sent lits.now e → Hears self.old e self.new }
         ensures flag { self.new.no_event ≡ self.old.no_event }
+        ensures byte { self.new.no_byte ≡ self.old.no_byte }
     {
         match self.phase {
             Phase::Clause => self.hear_clause(sent, lits),
@@ -271,6 +281,7 @@ impl ProofSide {
     pub(crate) fn end_events(&mut self)
         ensures ends { IsHigh self.old.phase self.old.lines.known → EndsEvents self.old self.new }
         ensures flag { self.new.no_event ≡ true }
+        ensures byte { self.new.no_byte ≡ self.old.no_byte }
     {
         self.no_event = true;
         match self.phase {

@@ -1,9 +1,10 @@
 //! What is printed of a check of a session.
 
-ghost use Rattle.std.specs.Prelude.{◌≡◌, ◌++◌, Ok, OnOk, IfOk, MatchResult, None};
-ghost use Rattle.sessions.specs.Reports.{Reports, ReportsFault, count_text, events_text, refused_tail, refused_text, total, verified_tail, verified_text};
+ghost use Rattle.std.specs.Prelude.{◌≡◌, ◌++◌, ℕ, List, Ok, OnOk, IfOk, IfErr, MatchResult, None};
+ghost use Rattle.sessions.specs.Check.{HasTaken, OfTexts};
+ghost use Rattle.sessions.specs.Reports.{ChecksSession, HasNoReport, Reports, ReportsFault, count_text, events_text, refused_tail, refused_text, total, verified_tail, verified_text};
 
-use crate::check::SessionFault;
+use crate::check::{SessionCheck, SessionFault};
 use crate::tally::Tally;
 use icnf::{IcnfFault, Kind};
 use lrat_check::CheckFault;
@@ -122,4 +123,12 @@ pub fn session_report(alloc: Global, answer: Result<Tally, SessionFault>) -> Res
         Ok(tally) => printed(verified(alloc, tally)),
         Err(fault) => fault_report(alloc, fault),
     }
+}
+
+/// What is printed of both texts, whatever is left of one that was not read to its end; the refusal of a check that has no report.
+pub fn check_report(alloc: Global, check: &SessionCheck) -> Result<Report, Refusal>
+    ensures texts { (e p : List ℕ) → HasTaken e p check.now → OfTexts e p check.now (λ events proof. IfOk result (ChecksSession events proof)) }
+    ensures refusal { (e p : List ℕ) → HasTaken e p check.now → IfErr result (HasNoReport check.now) }
+{
+    session_report(alloc, check.finish())
 }
