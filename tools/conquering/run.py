@@ -26,8 +26,10 @@ class Join:
         self.told = 0  # how many of them were handed on
         self.folder, self.unpacking = folder, Unpacking(folder)
         self.pipes: Dict[str, str] = {}  # of each FIFO, which log it was
-        words = [plan.program, "join", "--cubes", tree, plan.input, "scratch/proof.lrat", "-"]
-        self.process = start(Command(words, self.output), stdin=subprocess.PIPE,
+        words = [plan.program, "join", "--explain", "--cubes", tree, plan.input,
+                 "scratch/proof.lrat", "-"]
+        with folder.at("scratch", "errors").open("wb") as errors:
+            self.process = start(Command(words, self.output), stdin=subprocess.PIPE, stderr=errors,
                              cwd=str(folder.path))
         os.set_blocking(self.process.stdin.fileno(), False)
 

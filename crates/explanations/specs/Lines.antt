@@ -50,7 +50,7 @@ IsFault fault line = (first_word line ≡ codes "c") × IsOf fault.file fault (b
 pub record IsUnread (number : ℕ) (line : List ℕ) : Type 0 where
   pub mark : first_word line ≡ codes "c"
   pub file : first_word (behind_word line) ≡ codes "file"
-  pub number : IsSpelled number (first_word (behind_word (behind_word line)))
+  pub place : IsSpelled number (first_word (behind_word (behind_word line)))
   pub cannot : first_word (behind_word (behind_word (behind_word line))) ≡ codes "cannot"
 
 -- another line

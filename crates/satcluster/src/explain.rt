@@ -68,10 +68,10 @@ fn tell_of<R: Runtime>(rt: &R, told: Told, path: &str) {
 
 /// A path as it is told.
 fn name_of(path: &str) -> &str {
-    if is_dash(path) {
-        "standard input"
-    } else {
-        shown(path, "the file")
+    match path {
+        "-" => "standard input",
+        "" => "the file",
+        _ => shown(path, "the file"),
     }
 }
 
@@ -222,12 +222,12 @@ fn faulty<'a>(paths: &Paths<'a>, file: File) -> Option<(&'a str, Subject)> {
     }
 }
 
-/// The name of one of the files that are joined; where standard input lists them it is not known.
+/// The name of one of the files that are joined; none where standard input lists them.
 fn joined_name<'a>(paths: &Paths<'a>, number: u64) -> &'a str {
     let place = (number as usize).saturating_sub(1);
     match paths.joined.get(place) {
-        Some(name) => name,
-        None => "-",
+        Some(name) if !is_dash(name) => name,
+        _ => "",
     }
 }
 
