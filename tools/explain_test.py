@@ -1,5 +1,5 @@
 #!/usr/bin/env python3
-"""Runs the program with `--explain` and without it: it prints the same, and ends with the same status,
+"""Runs the program with `--explain` and without it: it prints the same, ends with the same status,
 and tells on standard error what is wrong, in the sentences of the table.
 
     tools/explain_test.py PATH-OF-satcluster [CASE ..]
@@ -108,8 +108,8 @@ class Faults(Case):
             for number, example in table.examples.items():
                 self.write("example", example)
                 words = COMMANDS[table.name]
-                fault = self.explained(*words).lines[1 if table.name in ("proof", "answer", "session")
-                                                     else 0]
+                is_second = table.name in ("proof", "answer", "session")
+                fault = self.explained(*words).lines[1 if is_second else 0]
                 self.assertRegex(fault, r"line \d+ fault %d$" % number, (table.name, example))
                 place = fault.split("line ")[1].split()[0]
                 sentence = rows[str(number)].sentence
@@ -148,9 +148,10 @@ class Faults(Case):
     def test_other_lines(self) -> None:
         lines = {line.text: line for line in other_lines()}
         self.write("other.icnf", "p inccnf\n1 0\na 0\n")
+        leaf = ["leaf", FOUR, "--leaf", "9", "--cubes"]
         for text, *words in (
-                ("c cubes of another formula", "leaf", "--cubes", "other.icnf", "--leaf", "1", FOUR),
-                ("c no such leaf", "leaf", "--cubes", self.tree(), "--leaf", "9", FOUR),
+                ("c cubes of another formula", *leaf, "other.icnf"),
+                ("c no such leaf", *leaf, self.tree()),
                 ("c cannot open links", "work", "--port", "1", FOUR)):
             self.assertEqual([text], self.explained(*words).lines)
             self.tells([lines[text].sentence, lines[text].remedy], *words)
@@ -163,8 +164,8 @@ class Faults(Case):
         self.write("bad", "5 2 0 1 2\n")
         self.write("answer", "v 1 x 0\n")
         words = ["join", "--cubes", self.tree(), FOUR, "f.lrat"]
-        self.tells(["bad, line 1: The line", "There is no file none.", "answer, line 1: A value is no"],
-                   *words, "bad", "none", "answer")
+        sentences = ["bad, line 1: The line", "no file none.", "answer, line 1: A value is no"]
+        self.tells(sentences, *words, "bad", "none", "answer")
         self.tells(["the file, line 1: The line"], *words, "-", given=b"bad\n")
 
     def test_lidrup(self) -> None:
@@ -239,7 +240,8 @@ class Words(Case):
     def test_many_words(self) -> None:
         """The refused word is found among many without reading all again for each."""
         names = ["x%d" % number for number in range(20000)]
-        self.reason("OtherWord", "--odd", "join", "--cubes", "f", FOUR, "g", *names, "--odd", *names)
+        words = ["join", "--cubes", "f", FOUR, "g", *names, "--odd", *names]
+        self.reason("OtherWord", "--odd", *words)
 
     def test_places(self) -> None:
         for words in (["--explain", "solve", "none"], ["solve", "--explain", "none"],
@@ -257,7 +259,8 @@ class Words(Case):
         for words in (["solve", "--depth", "0", FOUR], ["--help"], ["solve", "--help"],
                       ["cubes", FOUR], ["solve", str(EXAMPLES / "random_100_sat.cnf")]):
             self.assertEqual([], self.explained(*words).told, words)
-        self.assertTrue(any("--explain" in line for line in self.run_program("trim", "--help").lines))
+        help_lines = self.run_program("trim", "--help").lines
+        self.assertTrue(any("--explain" in line for line in help_lines))
 
     def test_nobody_reads(self) -> None:
         for line in ("%s solve --explain none 2>&-", "%s solve --explain none 2>/dev/full"):

@@ -506,7 +506,7 @@ fn explain_lines<R: Runtime + AllocGlobal>(rt: &R, paths: &Paths, text: &str) {
 }
 
 /// The part of a report's text that can be explained: an assignment or a tree may be long, and is no text of ours.
-fn text_of(found: &Result<Report, &'static str>) -> &str {
+fn text_of<'a>(found: &'a Result<Report, &'static str>) -> &'a str {
     match found {
         Ok(report) => match from_utf8(report.stdout.as_slice()) {
             Ok(text) => text,
