@@ -5,6 +5,7 @@ Nothing here is an answer by itself: an `s` line is passed on only if the progra
 put in the place of this process: if it refuses, `s UNKNOWN` has to follow.
 """
 import os
+import re
 import select
 import subprocess
 import sys
@@ -215,8 +216,11 @@ def of_head(program: str, source: Source, line: str) -> List[str]:
         done = subprocess.run([program, "cubes", "--explain", "--depth", "0", file.name],
                               stdout=subprocess.PIPE, stderr=subprocess.PIPE)
         text = done.stderr.decode("utf-8", "replace")
-        is_there = done.stdout.decode("ascii", "replace") == line + "\n"
-        return words.told(text, {file.name: "standard input"}) if is_there else []
+        if done.stdout.decode("ascii", "replace") != line + "\n":
+            return []
+        # A command that helps is one for a file.
+        text = re.sub("`.*`", lambda found: found.group(0).replace(file.name, "FILE"), text)
+        return words.told(text, {file.name: "standard input"})
 
 
 def told_in(path: str, shown: Dict[str, str]) -> List[str]:

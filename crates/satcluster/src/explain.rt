@@ -347,6 +347,42 @@ fn tell_line<R: Runtime>(rt: &R, line: &[u8]) {
     let _ = eprintln!(rt; "c The line is: {text}");
 }
 
+/// Whether a token is a number.
+fn is_number(token: &str) -> bool {
+    let digits = match token.strip_prefix('-') {
+        Some(digits) => digits,
+        None => token,
+    };
+    let are_digits = digits.bytes().all(|byte| byte.is_ascii_digit());
+    are_digits && (token == "0" || !(digits.is_empty() || digits.starts_with('0')))
+}
+
+/// Tells which token of a line is no number, where that is the fault; an `a` may begin a line.
+fn tell_token<R: Runtime>(rt: &R, line: &[u8]) {
+    let Ok(text) = from_utf8(line) else {
+        return;
+    };
+    let text = match text.strip_prefix("a ") {
+        Some(rest) => rest,
+        None => text,
+    };
+    for token in text.split_ascii_whitespace() {
+        if !is_number(token) {
+            let token = shown(token, "one with bytes of no text");
+            let _ = eprintln!(rt; "c The token is: {token}");
+            return;
+        }
+    }
+}
+
+/// Whether a fault of a file is that a token is no number.
+fn is_of_token(subject: Subject, found: &Fault) -> bool {
+    match subject {
+        Subject::Input | Subject::Cubes | Subject::Events => found.number == 3,
+        _ => false,
+    }
+}
+
 /// As what a file is read that is joined: as an answer if it begins as one.
 fn joined_subject(file: File, subject: Subject, head: &[u8]) -> Subject {
     match (file, head.first()) {
@@ -373,6 +409,9 @@ fn explain_fault<R: Runtime + AllocGlobal>(rt: &R, paths: &Paths, found: &Fault)
     tell_place(rt, path, found, told.sentence);
     if let Unit::Line = found.unit {
         tell_line(rt, view.line.as_slice());
+        if is_of_token(subject, found) {
+            tell_token(rt, view.line.as_slice());
+        }
     }
     let look = look_of(subject, view.head.as_slice(), view.line.as_slice());
     match look {
