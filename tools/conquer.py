@@ -41,7 +41,7 @@ from conquering.processes import Bell, status_of
 from conquering.run import Run
 from conquering.screen import Screen, plain
 from telling.looks import head_of, packing
-from telling.words import Named, explain, unwritable
+from telling.words import told, unreadable, unwritable
 
 DEPTH = 6  # if none is asked for
 DRAFT = "scratch/proof.lrat"  # of a run's folder
@@ -148,7 +148,8 @@ def test_places(proof: Optional[str], formula: str) -> None:
     """Tells at once, and not after hours, what cannot be read or written."""
     if not os.path.isfile(formula) or not os.access(formula, os.R_OK):
         is_other = os.path.exists(formula) and not os.path.isdir(formula)
-        raise Fault("c cannot read input", *["It is no regular file."] * is_other)
+        why = "It is no regular file." if is_other else unreadable(formula)
+        raise Fault("c cannot read input", why)
     if proof is None:
         return
     right = os.access(os.path.dirname(os.path.realpath(proof)), os.W_OK)
@@ -195,12 +196,17 @@ def words_of_split(asked: Namespace) -> List[str]:
 
 def plant(folder: Folder, plan: Plan, asked: Namespace) -> None:
     """Makes the first tree."""
-    part = folder.at("scratch", "tree")
+    part, errors = folder.at("scratch", "tree"), folder.at("scratch", "errors")
     how = words_of_split(asked)
-    if status_of([plan.program, "cubes", *how, plan.input], part) != 0:
-        raise Fault(last_line(part))
+    if status_of([plan.program, "cubes", "--explain", *how, plan.input], part, errors) != 0:
+        raise Fault(last_line(part), *explained(errors))
     publish(part, folder.at("trees", "1.icnf"))
     plan.split = " ".join(how)
+
+
+def explained(errors: Path) -> List[str]:
+    """What the program has told of its last line."""
+    return told(errors.read_text("utf-8", "replace")) if errors.exists() else []
 
 
 def take_over(folder: Folder, plan: Plan, asked: Namespace, screen: Screen) -> None:
@@ -314,7 +320,7 @@ def fail(run: Run, screen: Screen, before: Dict[str, Any], line: str) -> NoRetur
     if line == FOREIGN:  # the report is one of the other run
         raise Fault(line, *foreign(run.folder, before))
     draw(run, screen, report.NONE)
-    raise Fault(line)
+    raise Fault(line, *explained(run.folder.at("scratch", "errors")))
 
 
 def foreign(folder: Folder, before: Dict[str, Any]) -> List[str]:
@@ -342,17 +348,10 @@ def tell(lines: List[str]) -> None:
         pass
 
 
-def reasons_of(fault: Fault, asked: Optional[Namespace]) -> List[str]:
-    """Why there is no answer: what is known here, or else what the program's line means."""
-    if fault.reasons or asked is None:
-        return fault.reasons
-    return explain(str(fault), Named(asked.INPUT, asked.PROOF, asked.cubes_from))
-
-
 def main() -> int:
     if sys.argv[1:2] == ["--work"] and len(sys.argv) == 5:
         return work(*sys.argv[2:])
-    asked, screen = None, Screen(True)
+    screen = Screen(True)
     for ending in (signal.SIGINT, signal.SIGTERM, signal.SIGHUP):
         if ending != signal.SIGHUP or signal.getsignal(ending) != signal.SIG_IGN:  # as by nohup
             signal.signal(ending, lambda *_: sys.exit(1))  # which ends the jobs on its way out
@@ -361,7 +360,7 @@ def main() -> int:
         screen = Screen(asked.quiet)
         return conquer(asked, screen)
     except Fault as fault:
-        line, reasons = str(fault), reasons_of(fault, asked)
+        line, reasons = str(fault), fault.reasons
     except OSError as why:
         line, reasons = "c %s" % why, []
     try:

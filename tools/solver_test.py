@@ -26,8 +26,6 @@ from typing import Callable, Dict, Iterator, List, NamedTuple, Optional, Set
 sys.dont_write_bytecode = True
 
 from cases import EXAMPLES, dimacs, pigeons, run, satisfies
-from telling import looks
-from telling.faults import TABLES
 
 HERE = Path(__file__).resolve().parent
 SOLVER = HERE / "satcluster-solver"
@@ -320,7 +318,8 @@ class Refusals(Case):
         formula = self.example("four_clauses.cnf")
         for more in ([], ["--jobs", "2"]):
             self.refuses("no program none", "--program", "none", *more, formula)
-        self.env["SATCLUSTER"] = self.script("no", "echo c no memory; exit 1\n")
+        told = "echo c no memory; echo c There was not memory enough. >&2; exit 1\n"
+        self.env["SATCLUSTER"] = self.script("no", told)
         self.refuses("no memory(.|\n)*memory enough", formula)
         self.env["SATCLUSTER"] = self.script("no", "kill -9 $$\n")
         self.refuses("signal 9", formula)
@@ -558,44 +557,6 @@ class Readers(Case):
             self.assertEqual((10, b""), (done.returncode, done.stderr), line)
             if ">&-" not in line.replace("2>&-", ""):
                 self.whole(done.stdout)
-
-
-class Table(Case):
-    """The table of faults says what the program prints."""
-
-    def fault(self, *words: str) -> str:
-        done = subprocess.run([self.program, *words], cwd=str(self.folder), stdout=subprocess.PIPE)
-        found = re.search(r"line \d+ fault (\d+)", done.stdout.decode())
-        return found.group(1) if found else done.stdout.decode()
-
-    def test_examples(self) -> None:
-        formula, name = self.example("four_clauses.cnf"), "example"
-        commands = {"input": ["solve", "--depth", "0", name], "proof": ["check", formula, name],
-                    "cubes": ["leaf", "--cubes", name, "--leaf", "1", formula],
-                    "answer": ["model", formula, name],
-                    "events": ["check", "--session", name, name],
-                    "session": ["check", "--session", "events", name]}
-        self.write("events", "p inccnf\n1 2 0\na 1 0\n")
-        for table in TABLES.values():
-            for row in table.rows:
-                if row.example:
-                    self.write(name, row.example)
-                    found = self.fault(*commands[table.name])
-                    self.assertEqual(str(row.number), found, (table.name, row.example))
-
-    def test_looks(self) -> None:
-        for head, wanted in ((b"a\x04\x00a\x06\x00a\x08\x00", "binary DRAT"),
-                             (b"a\x81\x02\x00d\x81\x02\x00a\x06\x00", "binary DRAT"),
-                             (b"a\x0a\x05\x00\x06\x08\x00a\x0c\x02\x00\x0a\x02\x00", None),
-                             (b"1 2 0\nd 1 2 0\n0\n", "DRAT as text"), (b"0\n", "DRAT as text"),
-                             (b"5 2 0 1 2 0\r\n", "CR LF"), (b"\x1f\x8b\x08\x00", "gzip"),
-                             (b"\xfd7zXZ\x00", "xz"), (b"\x28\xb5\x2f\xfd", "zstd"),
-                             (b"\xef\xbb\xbf5 2 0 1 2 0\n", "byte order mark"),
-                             (b"o 1  1 2 0\n", "FRAT"), (b"c x\n5 2 0 1 0\n", "comments"),
-                             (b"5 2 0 1 2 0\n6 0 5 3 4 0\n", None), (b"5 d 1 0\n", None),
-                             (b"", None), (b"5 -1 0 2 4 0\n5 d 1 2 0\n", None)):
-            found = "".join(look.sentence for look in looks.look("proof", "f", head))
-            self.assertTrue(wanted in found if wanted else not found, (head, found))
 
 
 def client(name: str) -> Optional[str]:

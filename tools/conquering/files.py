@@ -20,6 +20,8 @@ import time
 from pathlib import Path
 from typing import FrozenSet, List, Optional, Tuple
 
+from telling.words import FOLDER_IN_USE
+
 Cube = Tuple[int, ...]  # the literals of a path of the splitting tree
 PACKED = ".zst"  # behind the name of a log that is packed
 END = 1 << 14  # bytes of a log in which its last lemma is looked for
@@ -140,7 +142,7 @@ class Folder:
             if takes(self.held, fcntl.LOCK_EX):
                 return
             time.sleep(0.03)
-        raise Fault("c folder in use")
+        raise Fault("c folder in use", *FOLDER_IN_USE)
 
     def is_locked(self) -> bool:
         handle = os.open(self.at("lock"), os.O_RDONLY)

@@ -157,7 +157,7 @@ def by_solver(plan: Plan, words: List[Word], here: Path, limited: bool) -> Searc
         raise Failed("leaf ends with %s: %s" % (status, last_line(cnf)))
     files = {"{cnf}": str(cnf), "{lrat}": str(lrat), "{drat}": str(here / "drat")}
     search, *translate = [[filled(word, files) for word in command] for command in plan.solver]
-    lift = [plan.program, "lift", *words, plan.input, lrat, here / "log"]
+    lift = [plan.program, "lift", "--explain", *words, plan.input, lrat, here / "log"]
     reader, lifted = None, here / "lifted"
     if plan.pipe:
         os.mkfifo(str(lrat))
@@ -166,7 +166,7 @@ def by_solver(plan: Plan, words: List[Word], here: Path, limited: bool) -> Searc
     if status == LATE or (status == 0 and limited):
         return LIMIT
     if status == REFUSED:
-        raise Failed("lift refuses what came by a pipe: " + last_line(lifted))
+        raise Failed("lift refuses what came by a pipe: " + why_not_lifted(lifted, lrat))
     if status == 10:
         keep_values(out, here / "answer")
         return MODEL
@@ -180,10 +180,13 @@ def by_solver(plan: Plan, words: List[Word], here: Path, limited: bool) -> Searc
     lrat.open("ab").close()
     status = yield Command(lift, lifted)
     if status != 0:
-        line = last_line(lifted)
-        why = " ".join(of_foreign_proof(line, str(lrat)))
-        raise Failed("lift ends with %s: %s" % (status, line) + (". " + why if why else ""))
+        raise Failed("lift ends with %s: %s" % (status, why_not_lifted(lifted, lrat)))
     return CLOSED
+
+
+def why_not_lifted(lifted: Path, lrat: Path) -> str:
+    line, *why = of_foreign_proof(lifted.read_text("utf-8", "replace"), str(lrat))
+    return ". ".join([line] + [" ".join(why)] * bool(why))
 
 
 def filled(word: str, files: Dict[str, str]) -> str:

@@ -129,11 +129,12 @@ class Pair:
         kill(self.reader)
 
 
-def status_of(words: List[Word], output: Path) -> int:
-    """Runs a short command, which ends with this process, and writes what it prints to a file."""
+def status_of(words: List[Word], output: Path, errors: Optional[Path] = None) -> int:
+    """Runs a short command, which ends with this process, and writes what it prints to a file, and
+    what it explains to another one."""
     parent = os.getpid()
-    with output.open("wb") as file:
-        return subprocess.call(words, stdin=subprocess.DEVNULL, stdout=file,
+    with output.open("wb") as file, (errors or Path(os.devnull)).open("wb") as told:
+        return subprocess.call(words, stdin=subprocess.DEVNULL, stdout=file, stderr=told,
                                preexec_fn=lambda: die_with(parent))
 
 

@@ -27,10 +27,11 @@ class Join:
         self.told = 0  # how many of them were handed on
         self.folder, self.unpacking = folder, Unpacking(folder)
         self.pipes: Dict[str, str] = {}  # of each FIFO, which log it was
-        words = [plan.program, "join", *["--dry"] * (proof is None), "--cubes", tree, plan.input]
-        words += [proof] * (proof is not None) + ["-"]
-        self.process = start(Command(words, self.output), stdin=subprocess.PIPE,
-                             cwd=str(folder.path))
+        words = [plan.program, "join", "--explain", *["--dry"] * (proof is None), "--cubes", tree]
+        words += [plan.input, *[proof] * (proof is not None), "-"]
+        with folder.at("scratch", "errors").open("wb") as errors:
+            self.process = start(Command(words, self.output), stdin=subprocess.PIPE, stderr=errors,
+                                 cwd=str(folder.path))
         os.set_blocking(self.process.stdin.fileno(), False)
 
     def add(self, *names: str) -> None:

@@ -5,6 +5,7 @@ Nothing here is an answer by itself: an `s` line is passed on only if the progra
 put in the place of this process: if it refuses, `s UNKNOWN` has to follow.
 """
 import os
+import re
 import select
 import subprocess
 import sys
@@ -122,18 +123,19 @@ class Solver:
     def alone(self, program: str) -> None:
         """One process. Not split: what is learnt under one cube would be lost under the next."""
         source = self.source()
-        command = [program, "solve", "--depth", str(self.asked.depth or 0)] + self.more()
-        process = start(command + [source.path] + self.proof(), stdin=source.pipe,
-                        stdout=subprocess.PIPE)
+        command = [program, "solve", "--explain", "--depth", str(self.asked.depth or 0)]
+        process = start(command + self.more() + [source.path] + self.proof(), stdin=source.pipe,
+                        stdout=subprocess.PIPE, stderr=subprocess.PIPE)
         source.close()
         lines = Lines(self.output)
         try:
             listen(process, lines)
         finally:
             kill_with_parts(process, self.proof())
-        head = looks.head_of(source.path) if self.keep else source.head
-        named = words.Named(self.asked.formula, head=head)
-        self.tell(process, source, lines, lambda line: words.explain(line, named))
+        text = process.stderr.read().decode("utf-8", "replace")  # it is short: nothing waits for it
+        shown = {source.path: words.shown(self.asked.formula)}
+        self.tell(process, source, lines, lambda line: of_head(program, source, line)
+                  or words.told(text, shown))
 
     def by_jobs(self, program: str) -> None:
         """`conquer.py` in a folder of its own, which goes with this process however it ends."""
@@ -201,14 +203,30 @@ def why_not(status: int, lines: Lines, reasons: List[str]) -> List[str]:
     return ["the program ended with status %d, and without the answer of that" % status] + reasons
 
 
+def of_head(program: str, source: Source, line: str) -> List[str]:
+    """What a fault means that stands in the first bytes of what came by a pipe, of which the program
+    sees nothing any more: it is told of these bytes as a file."""
+    if not source.head or not line.startswith("c input "):
+        return []
+    from tempfile import NamedTemporaryFile  # slow to load, and seldom wanted
+
+    with NamedTemporaryFile(prefix="satcluster-") as file:
+        file.write(source.head)
+        file.flush()
+        done = subprocess.run([program, "cubes", "--explain", "--depth", "0", file.name],
+                              stdout=subprocess.PIPE, stderr=subprocess.PIPE)
+        text = done.stderr.decode("utf-8", "replace")
+        if done.stdout.decode("ascii", "replace") != line + "\n":
+            return []
+        # A command that helps is one for a file.
+        text = re.sub("`.*`", lambda found: found.group(0).replace(file.name, "FILE"), text)
+        return words.told(text, {file.name: "standard input"})
+
+
 def told_in(path: str, shown: Dict[str, str]) -> List[str]:
     """What a command has written to standard error, its last lines."""
-    with open(path, encoding="ascii", errors="replace") as file:
-        text = file.read()
-    for name, told in shown.items():
-        text = text.replace(name, told)
-    lines = [line for line in text.split("\n")[-10:] if line.strip()]
-    return [line[2:] if line.startswith("c ") else line for line in lines]
+    with open(path, encoding="utf-8", errors="replace") as file:
+        return words.told(file.read(), shown)[-10:]
 
 
 HELP = """satcluster-solver [words] [FILE [PROOF]]

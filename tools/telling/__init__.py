@@ -1,3 +1,4 @@
-"""What is wrong, in words: `faults` has a sentence for each fault of the program, `looks` tells
-what a file is by its bytes, and `words` puts both together for a line that the program has printed.
-No answer rests on any of it. Once the program tells this by itself, `words` is to ask it."""
+"""What is wrong, in words. The program tells it by itself (`--explain`): `words` takes over what it
+has told, and tells what scripts find by themselves; `looks` knows packed files by their bytes.
+`faults` reads the program's sentences from its source, for the page of faults and for tests.
+No answer rests on any of it."""

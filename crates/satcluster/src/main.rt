@@ -6,6 +6,8 @@ ghost use Rattle.command_line.specs.CommandLine.{IsInRange};
 
 mod accepting;
 mod complete;
+mod explain;
+mod explain_words;
 mod files;
 mod join;
 mod leaf_runs;
@@ -19,6 +21,8 @@ mod trim;
 
 use commands::{check_files, check_session_files, deliver, refused};
 use complete::complete;
+use explain::explain;
+use explanations::Asked;
 use files::{Machine, no_memory, read};
 use join::{JoinFiles, join};
 use leaf_runs::{LeafFiles, LeafRange, leaf, refute, split, split_by_look};
@@ -226,6 +230,17 @@ fn is_quiet(request: &Request) -> bool {
     }
 }
 
+/// What every command has beside its own words.
+const COMMON: &[u8] =
+    b"\nEvery command takes --explain: in words, on standard error, what a c line means, and what to do\n";
+
+/// The report of a help.
+fn help<R: Runtime + AllocGlobal>(rt: &R, text: &String) -> Result<Report, AllocError> {
+    let mut report = Report::of(rt.alloc(), text.as_str().as_bytes(), 0)?;
+    report.stdout.extend_from_slice(COMMON)?;
+    Ok(report)
+}
+
 /// The report of the words, or the line of a run without one.
 fn respond<R: Runtime + AllocGlobal + Net>(
     rt: &R,
@@ -239,10 +254,7 @@ fn respond<R: Runtime + AllocGlobal + Net>(
             }
             answer(rt, &request, showing).map_err(|refusal| refusal.line(is_quiet(&request)))
         }
-        Err(UsageFault::Help(text)) => {
-            let report = Report::of(rt.alloc(), text.as_str().as_bytes(), 0);
-            report.map_err(|_| Refusal::NoMemory.line(false))
-        }
+        Err(UsageFault::Help(text)) => help(rt, &text).map_err(|_| Refusal::NoMemory.line(false)),
         Err(UsageFault::Usage) => Err(Refusal::Usage.line(false)),
         Err(UsageFault::NoMemory) => Err(Refusal::NoMemory.line(false)),
     }
@@ -254,12 +266,41 @@ fn words<R: Runtime + AllocGlobal>(rt: &R) -> Result<Vec<String>, Refusal> {
     words.collect(rt.alloc()).map_err(no_memory)
 }
 
-/// The report of the program's words. Where they cannot be copied it is not known whether they have `-q`.
-fn run<R: Runtime + AllocGlobal + Net>(rt: &R, showing: Showing) -> Result<Report, &'static str> {
-    let owned = words(rt).map_err(|refusal| refusal.line(false))?;
-    let lent: Result<Vec<&str>, AllocError> = owned.iter().map(|w| w.as_str()).collect(rt.alloc());
-    let lent = lent.map_err(|_| Refusal::NoMemory.line(false))?;
-    respond(rt, lent.as_slice(), showing)
+/// Prints a report, or the line of a run without one: the status.
+fn ended<R: Runtime>(rt: &R, found: &Result<Report, &'static str>) -> u8 {
+    match deliver(&mut io::writer(rt), found) {
+        Ok(status) => status,
+        Err(_) => 1,
+    }
+}
+
+/// Runs by the words, and explains what was printed if they ask for it: the status. `--explain` is taken out of them first, so the
+/// report and the status are those of the same words without it.
+fn run<R: Runtime + AllocGlobal + Net>(
+    rt: &R,
+    owned: &[String],
+    showing: Showing,
+) -> Result<u8, AllocError> {
+    let asked = Asked::of(rt.alloc(), owned)?;
+    let words = asked.words.as_slice();
+    let found = respond(rt, words, showing);
+    let status = ended(rt, &found);
+    if asked.explains {
+        explain(rt, words, &found);
+    }
+    Ok(status)
+}
+
+/// The status of a run by the program's words. Where they cannot be copied it is not known whether they have `-q`.
+fn status_of<R: Runtime + AllocGlobal + Net>(rt: &R, showing: Showing) -> u8 {
+    let owned = match words(rt) {
+        Ok(owned) => owned,
+        Err(refusal) => return ended(rt, &Err(refusal.line(false))),
+    };
+    match run(rt, owned.as_slice(), showing) {
+        Ok(status) => status,
+        Err(_) => ended(rt, &Err(Refusal::NoMemory.line(false))),
+    }
 }
 
 fn main(rt: HostRuntime) -> ExitCode {
@@ -268,9 +309,5 @@ fn main(rt: HostRuntime) -> ExitCode {
     } else {
         Showing::Lines
     };
-    let found = run(&rt, showing);
-    match deliver(&mut io::writer(&rt), &found) {
-        Ok(status) => ExitCode::from(status),
-        Err(_) => ExitCode::from(1),
-    }
+    ExitCode::from(status_of(&rt, showing))
 }

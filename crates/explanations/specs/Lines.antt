@@ -1,0 +1,70 @@
+-- What a line of a report tells.
+use Rattle.std.specs.Prelude.{◌==◌, ◌≡◌, ℕ, ◌+◌, List, codes}
+use Rattle.std.specs.List.{before_first, after_first}
+use Rattle.core.specs.Str.Parse.{digits_value, without_leading_plus}
+use Rattle.explanations.specs.declared.lines.File.{File}
+use Rattle.explanations.specs.declared.lines.File.TheVariants.{Own, Input, Cubes, Proof, Joined}
+use Rattle.explanations.specs.declared.lines.Unit.{Unit}
+use Rattle.explanations.specs.declared.lines.Unit.TheVariants.{Line, Step}
+use Rattle.explanations.specs.declared.lines.Fault.{Fault}
+use Rattle.explanations.specs.declared.other.Other.{Other}
+use Rattle.explanations.specs.declared.other.Other.TheVariants.{Usage, InputUnread, CubesUnread, ProofUnread, AnswerUnread, OtherFormula, CubesAboveLimit, NoLeaf, NoSplit, LeafAboveLimit, NoLinks, ProofUnwritten, NoMemory}
+
+-- the first word of a text, and what stands behind the space that ends it
+abbrev pub first_word : List ℕ → List ℕ
+first_word text = before_first (λ byte. byte == 32) text
+
+abbrev pub behind_word : List ℕ → List ℕ
+behind_word text = after_first (λ byte. byte == 32) text
+
+-- a word spells a number
+abbrev pub IsSpelled : ℕ → List ℕ → Type 0
+IsSpelled number word = number ≡ digits_value 10 (without_leading_plus word)
+
+-- what is counted
+abbrev pub unit_word : Unit → List ℕ
+unit_word Line = codes "line"
+unit_word Step = codes "step"
+
+-- where a fault is, and its number, as `line L fault N`
+pub record IsPlace (fault : Fault) (text : List ℕ) : Type 0 where
+  pub unit : first_word text ≡ unit_word fault.unit
+  pub at : IsSpelled fault.at (first_word (behind_word text))
+  pub mark : first_word (behind_word (behind_word text)) ≡ codes "fault"
+  pub number : IsSpelled fault.number (first_word (behind_word (behind_word (behind_word text))))
+
+-- which file has it
+abbrev pub IsOf : File → Fault → List ℕ → Type 0
+IsOf Own fault text = IsPlace fault text
+IsOf Input fault text = (first_word text ≡ codes "input") × IsPlace fault (behind_word text)
+IsOf Cubes fault text = (first_word text ≡ codes "cubes") × IsPlace fault (behind_word text)
+IsOf Proof fault text = (first_word text ≡ codes "proof") × IsPlace fault (behind_word text)
+IsOf (Joined number) fault text =
+    (first_word text ≡ codes "file") × IsSpelled number (first_word (behind_word text)) × IsPlace fault (behind_word (behind_word text))
+
+-- the line of a fault: `c line L fault N`, `c input line L fault N`, `c file K step L fault N NAME` and their like
+abbrev pub IsFault : Fault → List ℕ → Type 0
+IsFault fault line = (first_word line ≡ codes "c") × IsOf fault.file fault (behind_word line)
+
+-- the line of the file of this number that cannot be read: `c file K cannot be read NAME`
+pub record IsUnread (number : ℕ) (line : List ℕ) : Type 0 where
+  pub mark : first_word line ≡ codes "c"
+  pub file : first_word (behind_word line) ≡ codes "file"
+  pub place : IsSpelled number (first_word (behind_word (behind_word line)))
+  pub cannot : first_word (behind_word (behind_word (behind_word line))) ≡ codes "cannot"
+
+-- another line
+abbrev pub line_of : Other → List ℕ
+line_of Usage = codes "c usage"
+line_of InputUnread = codes "c cannot read input"
+line_of CubesUnread = codes "c cannot read cubes"
+line_of ProofUnread = codes "c cannot read proof"
+line_of AnswerUnread = codes "c cannot read answer"
+line_of OtherFormula = codes "c cubes of another formula"
+line_of CubesAboveLimit = codes "c cubes above limit"
+line_of NoLeaf = codes "c no such leaf"
+line_of NoSplit = codes "c cannot split"
+line_of LeafAboveLimit = codes "c leaf above limit"
+line_of NoLinks = codes "c cannot open links"
+line_of ProofUnwritten = codes "c cannot write proof"
+line_of NoMemory = codes "c no memory"

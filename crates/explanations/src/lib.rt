@@ -1,0 +1,24 @@
+//! What the lines of a report mean, in words: what is wrong, where, and what to do.
+//!
+//! No answer rests on any of it. What a layer above may rest on: each number that a fault can have has a sentence, and no other number has;
+//! what a file is said to be follows from its first bytes and from one line by a written definition; and the words of a command
+//! line without `--explain` are all others, in their order.
+#![tactic(auto)]
+
+mod asked;
+mod lines;
+mod looks;
+mod names;
+mod other;
+mod reasons;
+mod table;
+mod telling;
+
+pub use asked::Asked;
+pub use lines::{Fault, File, Unit, is_of_clause, unread_number};
+pub use looks::{Look, look_of};
+pub use names::{in_command, shown};
+pub use other::Other;
+pub use reasons::Reason;
+pub use table::{Subject, fault};
+pub use telling::Told;

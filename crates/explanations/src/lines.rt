@@ -1,0 +1,134 @@
+//! The line of a report that tells a fault of a file.
+
+ghost use Rattle.std.specs.Prelude.{◌≡◌, IfSome, codes, nat_eq};
+ghost use Rattle.std.specs.List.{starts_with};
+ghost use Rattle.explanations.specs.Lines.{IsFault, IsPlace, IsSpelled, IsUnread, behind_word, first_word, unit_word};
+
+/// Which file has a fault.
+#[derive(Clone, Copy)]
+pub enum File {
+    /// The one that the command tests, as a proof or an answer.
+    Own,
+    /// The input.
+    Input,
+    /// The cubes.
+    Cubes,
+    /// A foreign proof.
+    Proof,
+    /// The one of this number of those that are joined.
+    Joined(u64),
+}
+
+/// What is counted up to a fault.
+#[derive(Clone, Copy)]
+pub enum Unit {
+    /// Lines of a text.
+    Line,
+    /// Steps of a proof in binary form.
+    Step,
+}
+
+/// The fault of a file.
+#[derive(Clone, Copy)]
+pub struct Fault {
+    pub file: File,
+    pub unit: Unit,
+    /// The line or the step, from 1; 0 where there is none.
+    pub at: u64,
+    pub number: u64,
+}
+
+/// The first word of a text, and what stands behind the space that ends it.
+fn cut_word(text: &str) -> (&str, &str)
+    ensures word { result.0.now ≡ first_word text.now }
+    ensures rest { result.1.now ≡ behind_word text.now }
+{
+    match text.split_once(' ') {
+        Some((word, rest)) => (word, rest),
+        None => (text, ""),
+    }
+}
+
+/// The number that a word spells.
+fn number_of(word: &str) -> Option<u64>
+    ensures { IfSome result (λ n. IsSpelled n word.now) }
+{
+    word.parse::<u64>().ok()
+}
+
+fn unit_of(word: &str) -> Option<Unit>
+    ensures { IfSome result (λ u. word.now ≡ unit_word u) }
+{
+    match word {
+        "line" => Some(Unit::Line),
+        "step" => Some(Unit::Step),
+        _ => None,
+    }
+}
+
+/// Where the fault of a file is, and its number.
+fn fault_at(file: File, text: &str) -> Option<Fault>
+    ensures place { IfSome result (λ f. IsPlace f text.now) }
+    ensures file { IfSome result (λ f. f.file ≡ file) }
+{
+    let (unit, rest) = cut_word(text);
+    let unit = unit_of(unit)?;
+    let (at, rest) = cut_word(rest);
+    let at = number_of(at)?;
+    let (mark, rest) = cut_word(rest);
+    if mark != "fault" {
+        return None;
+    }
+    let (number, _) = cut_word(rest);
+    let number = number_of(number)?;
+    Some(Fault {
+        file,
+        unit,
+        at,
+        number,
+    })
+}
+
+impl Fault {
+    /// The fault that a line tells: its file, where it is, and its number. None is found in a line of another kind.
+    pub fn of(line: &str) -> Option<Fault>
+        ensures { IfSome result (λ f. IsFault f line.now) }
+    {
+        let (mark, text) = cut_word(line);
+        if mark != "c" {
+            return None;
+        }
+        let (name, rest) = cut_word(text);
+        match name {
+            "input" => fault_at(File::Input, rest),
+            "cubes" => fault_at(File::Cubes, rest),
+            "proof" => fault_at(File::Proof, rest),
+            "file" => {
+                let (number, rest) = cut_word(rest);
+                fault_at(File::Joined(number_of(number)?), rest)
+            }
+            _ => fault_at(File::Own, text),
+        }
+    }
+}
+
+/// The number of the file that cannot be read, if a line tells one.
+pub fn unread_number(line: &str) -> Option<u64>
+    ensures { IfSome result (λ n. IsUnread n line.now) }
+{
+    let (mark, rest) = cut_word(line);
+    let (file, rest) = cut_word(rest);
+    let (number, rest) = cut_word(rest);
+    let (cannot, _) = cut_word(rest);
+    if mark != "c" || file != "file" || cannot != "cannot" {
+        return None;
+    }
+    number_of(number)
+}
+
+/// Whether a line tells a clause of which an answer names no literal.
+pub fn is_of_clause(line: &str) -> bool
+    ensures { result ≡ starts_with nat_eq line.now (codes "c clause ") }
+{
+    line.as_bytes().starts_with(b"c clause ")
+}

@@ -1,0 +1,58 @@
+//! Names of files, as they are told.
+
+ghost use Rattle.std.specs.Prelude.{◌≡◌, codes, nat_eq, if◌then◌else◌};
+ghost use Rattle.std.specs.List.{list_all, starts_with};
+ghost use Rattle.explanations.specs.Names.{command_word, is_bare_lem, is_printed_lem};
+
+/// Whether a byte is printed as it is: no control character, and none that may begin one.
+fn is_printed(byte: u8) -> bool
+    ensures { result ≡ is_printed_lem byte }
+{
+    byte >= b' ' && byte != 127 && byte != 194
+}
+
+/// Whether no byte of a name does anything to a terminal.
+fn is_harmless(name: &str) -> bool
+    ensures { result ≡ list_all is_printed_lem name.now }
+{
+    name.as_bytes().iter().all(|byte| is_printed(*byte))
+}
+
+/// A name as it is told: itself if no byte of it does anything to a terminal, else this other text.
+pub fn shown<'a>(name: &'a str, other: &'a str) -> &'a str
+    ensures { result.now ≡ (if list_all is_printed_lem name.now then name.now else other.now) }
+{
+    if is_harmless(name) { name } else { other }
+}
+
+/// Whether a byte stands for itself in a command line.
+fn is_bare(byte: u8) -> bool
+    ensures { result ≡ is_bare_lem byte }
+{
+    byte.is_ascii_alphanumeric() || byte == b'/' || byte == b'.' || byte == b'_' || byte == b'-'
+}
+
+/// Whether a name has such bytes alone.
+fn has_bare_bytes(name: &str) -> bool
+    ensures { result ≡ list_all is_bare_lem name.now }
+{
+    name.as_bytes().iter().all(|byte| is_bare(*byte))
+}
+
+/// Whether a name would be an option of a command.
+fn begins_as_option(name: &str) -> bool
+    ensures { result ≡ starts_with nat_eq name.now (codes "-") }
+{
+    name.as_bytes().starts_with(b"-")
+}
+
+/// A name as it stands in a command: itself if a shell takes it as it is, else `FILE`.
+pub fn in_command(name: &str) -> &str
+    ensures { result.now ≡ command_word name.now }
+{
+    if has_bare_bytes(name) && !begins_as_option(name) {
+        name
+    } else {
+        "FILE"
+    }
+}

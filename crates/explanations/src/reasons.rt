@@ -1,0 +1,113 @@
+//! Why words are refused, and why a file cannot be read or written.
+
+use crate::telling::Told;
+
+/// Such a reason. `WORD` in what is told of it is the word, and `FILE` the file.
+#[derive(Clone, Copy)]
+pub enum Reason {
+    /// There are no words.
+    NoCommand,
+    /// The first word is no command.
+    OtherCommand,
+    /// A word that the command does not have.
+    OtherWord,
+    /// A word that it has, but not so.
+    WrongWord,
+    /// A name too many.
+    OtherName,
+    /// Each word can stand here, but not all of them.
+    NotTogether,
+    /// Standard input is named where it cannot be.
+    StandardInput,
+    /// Neither a leaf nor `--lidrup`, or both.
+    LeafOrLidrup,
+    /// The file is not there.
+    Absent,
+    /// It is a folder.
+    Folder,
+    /// It may not be read.
+    Forbidden,
+    /// It is no regular file, and was read once.
+    Passing,
+    /// It is there, and cannot be read.
+    Broken,
+    /// The folder of a file that is to be written is not there.
+    NoFolder,
+    /// A folder is there.
+    InFolder,
+    /// A file that is read is there.
+    Read,
+    /// It cannot be written.
+    Unwritten,
+    /// The answer names no literal of a clause.
+    NoLiteral,
+}
+
+impl Reason {
+    /// What it is, and what to do.
+    pub fn told(self) -> Told {
+        let (sentence, remedy) = match self {
+            Reason::NoCommand => (
+                "No command is named.",
+                "`satcluster --help` has the commands.",
+            ),
+            Reason::OtherCommand => (
+                "There is no command WORD.",
+                "`satcluster --help` has the commands.",
+            ),
+            Reason::OtherWord => (
+                "The command has no word WORD.",
+                "`satcluster COMMAND --help` has its words.",
+            ),
+            Reason::WrongWord => (
+                "The word WORD stands twice, or what follows it is no value that it takes.",
+                "`satcluster COMMAND --help` has the values of each word.",
+            ),
+            Reason::OtherName => (
+                "WORD is one name too many.",
+                "`satcluster COMMAND --help` has the names of files, in their order.",
+            ),
+            Reason::NotTogether => (
+                "A word or a name is missing, or two words do not go together.",
+                "`satcluster COMMAND --help` has what the command needs.",
+            ),
+            Reason::StandardInput => (
+                "`-` is standard input: one file at most is read from it, and none is written to it.",
+                "Name a file; `./-` is one of that name.",
+            ),
+            Reason::LeafOrLidrup => (
+                "PROOF is one of a leaf or one of all leaves.",
+                "Name either `--leaf I` or `--lidrup`.",
+            ),
+            Reason::Absent => ("There is no file FILE.", "Name a file that is there."),
+            Reason::Folder => ("FILE is a folder.", "Name a file in it."),
+            Reason::Forbidden => ("FILE may not be read.", "`chmod u+r FILE`, if it is yours."),
+            Reason::Passing => (
+                "FILE is no regular file, and cannot be read to its end.",
+                "Make a file of what comes from it, and name that.",
+            ),
+            Reason::Broken => (
+                "FILE cannot be read to its end.",
+                "Copy it, and look whether its disk has errors.",
+            ),
+            Reason::NoFolder => (
+                "The folder in which FILE is to be written is not there.",
+                "Make it (`mkdir -p`), or name another file.",
+            ),
+            Reason::InFolder => ("FILE is a folder.", "Name a file to be written in it."),
+            Reason::Read => (
+                "FILE is a file that is read, so it is not written.",
+                "Name another file.",
+            ),
+            Reason::Unwritten => (
+                "FILE cannot be written: it may not be, its disk is full, or standard output goes to it.",
+                "Name another file, in a folder in which you may write.",
+            ),
+            Reason::NoLiteral => (
+                "The answer has no literal of this clause of INPUT, the first such clause.",
+                "The solver is wrong, or has answered another formula.",
+            ),
+        };
+        Told { sentence, remedy }
+    }
+}

@@ -1,0 +1,143 @@
+//! Which word of a command line is refused.
+//!
+//! The parser is asked: a front of the words with `--help` behind it is answered by help if nothing in that front is refused. So no rule of the
+//! words stands twice.
+
+use crate::explain::tell;
+use crate::standard_input::is_sound;
+use explanations::{Reason, shown};
+use node_main::{UsageFault, command};
+use std::alloc::AllocError;
+use std::rt::Runtime;
+
+/// The help that the first words are answered, if none of them is refused.
+fn help_of<R: Runtime + AllocGlobal>(
+    rt: &R,
+    words: &[&str],
+    count: usize,
+) -> Result<Option<String>, AllocError> {
+    let mut front = Vec::with_capacity(rt.alloc(), count.saturating_add(1))?;
+    for word in words.iter().take(count) {
+        front.push(*word)?;
+    }
+    front.push("--help")?;
+    match command(rt.alloc(), front.as_slice()) {
+        Err(UsageFault::Help(text)) => Ok(Some(text)),
+        Err(UsageFault::NoMemory) => Err(AllocError),
+        _ => Ok(None),
+    }
+}
+
+/// Whether nothing in a front is refused. The value of its last word may stand behind it.
+fn are_taken<R: Runtime + AllocGlobal>(
+    rt: &R,
+    words: &[&str],
+    count: usize,
+) -> Result<bool, AllocError> {
+    if help_of(rt, words, count)?.is_some() {
+        return Ok(true);
+    }
+    Ok(count < words.len() && help_of(rt, words, count + 1)?.is_some())
+}
+
+/// How many words are taken before one is refused: by halves, since there may be many, and each question reads them all.
+fn taken<R: Runtime + AllocGlobal>(rt: &R, words: &[&str]) -> Result<usize, AllocError> {
+    let mut low = 0usize;
+    let mut high = words.len();
+    for _ in 0..64 {
+        if low >= high {
+            break;
+        }
+        let middle = high - (high - low) / 2;
+        if are_taken(rt, words, middle)? {
+            low = middle;
+        } else {
+            high = middle - 1;
+        }
+    }
+    Ok(low)
+}
+
+/// The line of a help that begins with this word.
+fn line_of<'a>(help: &'a str, word: &str) -> Option<&'a str> {
+    for line in help.lines() {
+        let text = line.trim_start();
+        if let Some((first, _)) = text.split_once(' ')
+            && first == word
+        {
+            return Some(text);
+        }
+    }
+    None
+}
+
+/// Why a word is refused at its place, if its command has this help.
+fn reason_of(place: usize, word: &str, line: Option<&str>) -> Reason {
+    if place == 1 {
+        Reason::OtherCommand
+    } else if word == "--" {
+        Reason::NotTogether
+    } else if word.len() < 2 || !word.starts_with('-') {
+        Reason::OtherName
+    } else if line.is_some() {
+        Reason::WrongWord
+    } else {
+        Reason::OtherWord
+    }
+}
+
+/// Tells a reason, and lines of the help that show what is right.
+fn tell_reason<R: Runtime>(rt: &R, reason: Reason, word: &str, lines: [Option<&str>; 2]) {
+    let told = reason.told();
+    tell(rt, told.sentence, "WORD", shown(word, "that stands there"));
+    for line in lines.into_iter().flatten() {
+        tell(rt, line, "WORD", "WORD");
+    }
+    tell(rt, told.remedy, "WORD", "WORD");
+}
+
+/// The command's name, or nothing.
+fn command_of<'a>(words: &[&'a str]) -> &'a str {
+    match words.get(1) {
+        Some(word) => word,
+        None => "",
+    }
+}
+
+/// Tells which word is refused, or that none is, by itself.
+fn tell_refused<R: Runtime + AllocGlobal>(rt: &R, words: &[&str]) -> Result<(), AllocError> {
+    let place = taken(rt, words)?;
+    let front = if place == 1 { 1 } else { 2 };
+    let help = help_of(rt, words, front)?;
+    let help = match &help {
+        Some(text) => text.as_str(),
+        None => "",
+    };
+    let usage = line_of(help, "Usage:");
+    match words.get(place) {
+        Some(word) => {
+            let line = line_of(help, word);
+            tell_reason(rt, reason_of(place, word, line), word, [line, usage]);
+        }
+        None if words.len() < 2 => tell_reason(rt, Reason::NoCommand, "", [usage, None]),
+        None => tell_reason(rt, Reason::NotTogether, command_of(words), [usage, None]),
+    }
+    Ok(())
+}
+
+/// Tells why words are refused.
+pub(crate) fn explain_words<R: Runtime + AllocGlobal>(rt: &R, words: &[&str]) {
+    match command(rt.alloc(), words) {
+        Ok(request) => {
+            let reason = if is_sound(&request) {
+                Reason::LeafOrLidrup
+            } else {
+                Reason::StandardInput
+            };
+            tell_reason(rt, reason, "", [None, None]);
+        }
+        Err(_) => {
+            let _ = tell_refused(rt, words);
+        }
+    }
+}
