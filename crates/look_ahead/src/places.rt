@@ -40,6 +40,16 @@ fn ends(starts: &mut [usize], codes: &[u32]) {
     }
 }
 
+/// Writes a clause at a place.
+fn put(clauses: &mut [u32], at: usize, number: u32)
+    requires { All (λ c. c ≤ number) clauses.old }
+    ensures { All (λ c. c ≤ number) clauses.new }
+{
+    if at < clauses.len() {
+        clauses[at] = number;
+    }
+}
+
 /// Puts a clause in front of the places that its literals have so far.
 fn put_clause(clauses: &mut [u32], starts: &mut [usize], codes: &[u32], number: u32)
     requires { All (λ c. c ≤ number) clauses.old }
@@ -48,9 +58,7 @@ fn put_clause(clauses: &mut [u32], starts: &mut [usize], codes: &[u32], number: 
     for &code in codes {
         if let Some(start) = starts.get_mut(code as usize) {
             *start = start.wrapping_sub(1);
-            if let Some(place) = clauses.get_mut(*start) {
-                *place = number;
-            }
+            put(clauses, *start, number);
         }
     }
 }
@@ -64,13 +72,14 @@ impl Places {
         let mut starts = vec![in alloc; 0; codes + 1]?;
         ends(&mut starts, clauses.codes());
         let mut places = vec![in alloc; 0; clauses.codes().len()]?;
-        for i in 0..clauses.len() {
+        let count = clauses.len();
+        for i in 0..count {
             put_clause(&mut places, &mut starts, clauses.clause(i), i as u32);
         }
         Ok(Places {
             clauses: places,
             starts,
-            bound: clauses.len() + 1,
+            bound: count + 1,
         })
     }
 

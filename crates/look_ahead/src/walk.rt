@@ -1,5 +1,7 @@
 //! A walk from node to node.
 
+ghost use Rattle.std.specs.Prelude.{◌≤◌, length};
+
 use crate::board::Board;
 use crate::choosing::{Choice, Chooser};
 use dimacs::{Formula, Lit, Var};
@@ -49,7 +51,9 @@ impl Walk {
     }
 
     /// How many literals the path and a cube have in common, from the root on.
-    fn common(&self, cube: &[Lit]) -> usize {
+    fn common(&self, cube: &[Lit]) -> usize
+        ensures { result ≤ length cube.now }
+    {
         for (i, &literal) in cube.iter().enumerate() {
             match self.path.get(i) {
                 Some(step) if step.literal == literal => {}
