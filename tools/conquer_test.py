@@ -28,6 +28,7 @@ import small_slurm
 from cases import EXAMPLES, pigeons, run, satisfies
 from conquering import files, processes, report, screen
 from conquering.cuts import to_cut
+from conquering.engines import late_leaves
 from conquering.figures import State, state_of
 from conquering.files import Fault, answer_of, closed_by, log_of, name_of, read_cubes
 from conquering.leaf import CLOSED, ENDED, LIMIT, Leaf, Plan, Record
@@ -683,14 +684,15 @@ class Slurm(Case):
         return self.slurm.says("squeue", "-h").strip() == ""
 
     def test_answers(self) -> None:
-        """All nodes have leaves, and each task has a log; that it has several leaves is told."""
+        """All nodes have leaves, and tasks have logs; that each has several leaves is told."""
         solver = self.solver("tells", "echo $SLURMD_NODENAME >> %s; sleep 0.5" % self.at("nodes"))
         status, lines = self.conquer(*self.WORDS, "--solver", solver, self.NAME, "s.lrat")
         self.assertEqual((20, True), (status, "s UNSATISFIABLE" in lines), lines)
         self.verifies(self.NAME, "s.lrat")
         self.assertEqual({"n1", "n2", "n3"}, set(self.at("nodes").read_text().split()))
         told = [line for line in lines if "leaves in 8 tasks" in line]
-        self.assertEqual((8, 1), (len(self.tasks()), len(told)), lines)
+        self.assertEqual(1, len(told), lines)
+        self.assertLessEqual(3, len(self.tasks()), "logs of tasks that have begun")
         self.ends(10, ["s SATISFIABLE"], "-q", "-n", *self.WORDS, "schur_3_13.cnf")
         self.wait_for("the tasks that are ended", self.is_idle)
 
@@ -714,6 +716,19 @@ class Slurm(Case):
         self.assertEqual((0, True), (status, "c leaf 1 missing" in lines), lines)
         self.assertIn("its task has met its memory limit", "\n".join(lines))
         self.assertEqual([], self.logs(self.NAME))
+
+    def test_long_leaf(self) -> None:
+        """The halves of a leaf that takes long are a second array; when they are closed its job is
+        ended, and has closed nothing."""
+        whole = "grep -q '%s' $1 && exec sleep 200" % Cuts.HEADER
+        words = ["--engine", "slurm", "--depth", "0", "--solver", self.solver("cutter", whole)]
+        status, lines = self.conquer(*words, self.NAME, "c.lrat")
+        self.assertEqual((20, True), (status, "s UNSATISFIABLE" in lines), lines)
+        self.verifies(self.NAME, "c.lrat")
+        self.assertEqual(2, len({name.split("_")[0] for name in self.tasks()}))
+        self.assertEqual(2, len(self.logs(self.NAME)))
+        self.assertIn("as one leaf ended after", self.report(self.NAME))
+        self.wait_for("the tasks that are ended", self.is_idle)
 
     def test_end_of_the_script(self) -> None:
         """SIGTERM ends the array. One that was killed has it run on, and the next start waits for
@@ -944,6 +959,17 @@ class Runs(unittest.TestCase):
         self.assertIs(jobs[0], to_cut(run, jobs))
         run.closed, run.spent = 0, 0.0
         self.assertIsNone(to_cut(run, [job((1, 2), 1.9)]))
+
+    def test_leaf_that_is_cut_by_an_array(self) -> None:
+        """Those that have run thirty seconds and twice the mean, the longest first."""
+        run, now = self.run_of(), time.monotonic()
+        leaves = [Leaf(cube, run.tree, 1, False) for cube in [*self.CUBES, (9,)]]
+        seen = {name_of(leaf.cube): now - seconds
+                for leaf, seconds in zip(leaves, (31, 90, 29, 50, 99))}
+        cuts = [leaf.cube for leaf in late_leaves(run, leaves, seen)]
+        self.assertEqual([(1, -2), (-1, -2), (1, 2)], cuts, "(9,) is no leaf any more")
+        run.closed, run.spent = 2, 60.0
+        self.assertEqual([leaves[1]], late_leaves(run, leaves, seen))
 
     def test_leaf_whose_halves_are_closed(self) -> None:
         """Its job is of no use only then, be the halves cut in turn."""

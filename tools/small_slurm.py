@@ -33,7 +33,7 @@ SelectType=select/cons_tres
 SelectTypeParameters=CR_CPU_Memory
 DefMemPerCPU=400
 SchedulerParameters=batch_sched_delay=0
-KillWait=3
+KillWait=20
 MinJobAge=5
 MaxArraySize={array}
 NodeName=n[1-{nodes}] NodeHostname=localhost Port=[{first}-{last}] CPUs=2 RealMemory=1000

@@ -3,7 +3,7 @@
 `Local` is a pool of its own. The others are given rounds: all leaves that wait are written to a
 file, `rounds/N`, and each task of the engine is `conquer.py --work FOLDER N TASK`, which runs its
 share of them. Such a task ends with status 0 whatever it has found: 10 and 20, with which solvers
-end, are failures for make, GNU parallel and Slurm. By SIGTERM it ends its job, which leaves nothing.
+end, are failures for make, GNU parallel and Slurm. SIGTERM ends its job, which leaves nothing.
 """
 import json
 import os
@@ -16,13 +16,14 @@ import sys
 import time
 from dataclasses import astuple, dataclass
 from pathlib import Path
-from typing import Dict, List, Optional, Tuple, Type
+from typing import Dict, List, Optional, Set, Tuple, Type
 
-from conquering.cuts import to_cut
+from conquering.cuts import MEANS, to_cut
 from conquering.figures import megabytes, spent, told
-from conquering.files import Fault, Folder, log_of
+from conquering.files import Fault, Folder, log_of, name_of
 from conquering.leaf import CLOSED, ENDED, FAILED, Job, Leaf, Plan, Records
-from conquering.processes import Bell, Command, Word, die_with, kill, output_of, start
+from conquering.processes import (Bell, Command, Process, Word, die_with, kill, output_of,
+                                  start)
 from conquering.race import Race
 from conquering.run import Run
 from conquering.screen import Screen
@@ -127,12 +128,27 @@ class Local(Engine):
             self.screen.say("c the leaves are ahead: the search of the whole formula is ended")
 
 
+@dataclass
+class Round:
+    """Leaves that were handed to an engine of others."""
+
+    mark: str
+    leaves: List[Leaf]
+    tasks: int  # each runs every so-manieth of them
+    process: Optional[Process] = None
+    number: str = ""  # of an array of Slurm
+
+    def task_of(self, place: int) -> int:
+        return place % self.tasks + 1
+
+
 class Rounds(Engine):
     """An engine of others."""
 
     tool = ""
     most: Optional[int] = None  # tasks of a round
     outlives = False  # whether its jobs outlive the script
+    together = False  # whether a round may begin while another is under way
 
     @classmethod
     def test(cls) -> None:
@@ -140,74 +156,105 @@ class Rounds(Engine):
             raise Fault("c %s is not installed" % cls.tool)
 
     def work(self, run: Run) -> None:
-        while run.waits() and not run.over():
-            leaves = run.take_all()
-            self.mark = str(time.time_ns())
-            tasks = min(len(leaves), self.most or len(leaves))
-            asked = dict(tasks=tasks, leaves=list(map(astuple, leaves)), outlives=self.outlives)
-            self.folder.write("rounds/" + self.mark, json.dumps(asked))
-            self.begin(tasks, len(leaves))
-            try:
-                while self.runs() and not all(map(run.is_closed, leaves)) and not run.over():
-                    self.bell.wait(1)
-                    self.look(run, leaves)
-            finally:
-                self.stop()
-            self.look(run, leaves)
-            if not run.over():
-                self.gather(run, leaves, tasks)
+        rounds: List[Round] = []
+        self.seen: Dict[str, float] = {}  # since when a leaf's job is seen to run, by its name
+        try:
+            while (run.waits() or rounds) and not run.over():
+                if run.waits() and (self.together or not rounds):
+                    rounds.append(self.hand_out(run.take_all()))
+                self.bell.wait(1)
+                self.look(run, rounds)
+                for done in [done for done in rounds if self.is_done(run, done)]:
+                    rounds.remove(done)
+                    self.stop(done)
+                    self.look(run, [done])
+                    if not run.over():
+                        self.gather(run, done)
+                if self.cuts and self.together:
+                    self.cut(run, rounds)
+        finally:
+            for left in rounds:
+                self.stop(left)
+        self.look(run, rounds)
 
-    def look(self, run: Run, leaves: List[Leaf]) -> None:
-        """Sees which leaves were closed meanwhile, and whether a model was brought."""
-        have = set(self.folder.names("logs"))
-        for leaf in leaves:
+    def hand_out(self, leaves: List[Leaf]) -> Round:
+        begun = Round(str(time.time_ns()), leaves, min(len(leaves), self.most or len(leaves)))
+        asked = dict(tasks=begun.tasks, leaves=list(map(astuple, leaves)), outlives=self.outlives)
+        self.folder.write("rounds/" + begun.mark, json.dumps(asked))
+        self.begin(begun)
+        return begun
+
+    def is_done(self, run: Run, asked: Round) -> bool:
+        return not self.runs(asked) or all(run.is_settled(leaf.cube) for leaf in asked.leaves)
+
+    def look(self, run: Run, rounds: List[Round]) -> None:
+        """Sees which leaves were closed meanwhile, which run, and whether a model was brought."""
+        have, now = set(self.folder.names("logs")), time.monotonic()
+        for leaf in [leaf for asked in rounds for leaf in asked.leaves]:
             if not run.is_closed(leaf) and log_of(leaf.cube) in have:
+                run.took(now - self.seen.get(name_of(leaf.cube), now), CLOSED)
                 run.ended(leaf, CLOSED, "")
         run.look_for_answers()
         names = os.listdir(self.folder.at("scratch"))
-        run.tick(sum(name.startswith("leaf") for name in names))
+        running = {name.rsplit(".", 1)[0] for name in names if name.startswith("leaf")}
+        self.seen = {name: self.seen.get(name, now) for name in running}
+        run.tick(len(running))
 
-    def gather(self, run: Run, leaves: List[Leaf], tasks: int) -> None:
+    def cut(self, run: Run, rounds: List[Round]) -> None:
+        """Cuts the longest leaves if none waits. Their halves make a round of their own."""
+        leaves = [leaf for asked in rounds for leaf in asked.leaves
+                  if not run.is_settled(leaf.cube)]
+        if run.waits() or any(name_of(leaf.cube) not in self.seen for leaf in leaves):
+            return
+        for leaf in late_leaves(run, leaves, self.seen)[:MOST][:self.room()]:
+            run.cut(leaf)
+
+    def room(self) -> Optional[int]:
+        """How many more jobs may run; None: as many as the engine lets."""
+        return None if self.jobs is None else max(0, self.jobs - len(self.seen))
+
+    def gather(self, run: Run, done: Round) -> None:
         """What became of the round's other leaves; of a job that was lost there is no record, or
         one that it was ended. What such jobs have left is removed."""
-        for path in self.folder.at("scratch").glob("leaf*"):
-            shutil.rmtree(str(path), ignore_errors=True)
         ends = {}
-        for record in Records(self.folder).all(".%s." % self.mark):
+        for record in Records(self.folder).all(".%s." % done.mark):
             if record.outcome != ENDED:
                 ends[record.cube] = record.outcome, record.note
-        for place, leaf in enumerate(leaves):
-            if run.is_closed(leaf):
+        for place, leaf in enumerate(done.leaves):
+            for path in self.folder.at("scratch").glob(name_of(leaf.cube) + ".*"):
+                shutil.rmtree(str(path), ignore_errors=True)
+            if run.is_settled(leaf.cube):
+                run.let_go(leaf)
                 continue
-            end = ends.get(leaf.cube)
-            run.ended(leaf, *(end or (FAILED, "its job was lost" + self.why(place % tasks + 1))))
+            lost = FAILED, "its job was lost" + self.why(done, done.task_of(place))
+            run.ended(leaf, *ends.get(leaf.cube, lost))
 
-    def why(self, task: int) -> str:
+    def why(self, done: Round, task: int) -> str:
         """What is known of a task that was lost."""
         return ""
 
-    def words(self) -> List[str]:
-        return [sys.executable, str(COMMAND), "--work", str(self.folder.path), self.mark]
+    def words(self, asked: Round) -> List[str]:
+        return [sys.executable, str(COMMAND), "--work", str(self.folder.path), asked.mark]
 
-    def command(self, tasks: int) -> Tuple[List[Word], str]:
+    def command(self, asked: Round) -> Tuple[List[Word], str]:
         """How it is started, and what it reads then."""
         raise NotImplementedError
 
-    def begin(self, tasks: int, leaves: int) -> None:
-        words, text = self.command(tasks)
+    def begin(self, asked: Round) -> None:
+        words, text = self.command(asked)
         output = self.folder.at("scratch", self.tool)
-        self.process = start(Command(words, output), stdin=subprocess.PIPE)
+        asked.process = start(Command(words, output), stdin=subprocess.PIPE)
         try:
-            self.process.stdin.write(text.encode())
-            self.process.stdin.close()
+            asked.process.stdin.write(text.encode())
+            asked.process.stdin.close()
         except BrokenPipeError:
             pass
 
-    def runs(self) -> bool:
-        return self.process.poll() is None
+    def runs(self, asked: Round) -> bool:
+        return asked.process.poll() is None
 
-    def stop(self) -> None:
-        kill(self.process)
+    def stop(self, asked: Round) -> None:
+        kill(asked.process)
 
 
 class Make(Rounds):
@@ -215,9 +262,9 @@ class Make(Rounds):
 
     tool = "make"
 
-    def command(self, tasks: int) -> Tuple[List[Word], str]:
-        recipe = " ".join(map(shlex.quote, self.words())).replace("$", "$$")
-        targets = " ".join(map(str, range(1, tasks + 1)))
+    def command(self, asked: Round) -> Tuple[List[Word], str]:
+        recipe = " ".join(map(shlex.quote, self.words(asked))).replace("$", "$$")
+        targets = " ".join(map(str, range(1, asked.tasks + 1)))
         text = "all: {0}\n.PHONY: all {0}\n{0}:\n\t-@{1} $@\n".format(targets, recipe)
         return ["make", "-s", "-k", "-j", str(self.jobs), "-f", "-"], text
 
@@ -227,11 +274,14 @@ class Parallel(Rounds):
 
     tool = "parallel"
 
-    def command(self, tasks: int) -> Tuple[List[Word], str]:
-        words = ["parallel", "--will-cite", "-q", "-j", str(self.jobs)] + self.words() + ["{}"]
-        return words, "".join("%d\n" % task for task in range(1, tasks + 1))
+    def command(self, asked: Round) -> Tuple[List[Word], str]:
+        words = ["parallel", "--will-cite", "-q", "-j", str(self.jobs)]
+        numbers = "".join("%d\n" % task for task in range(1, asked.tasks + 1))
+        return words + self.words(asked) + ["{}"], numbers
 
 
+SLOW = 30  # seconds after which a leaf is cut at the earliest: that takes another array
+MOST = 16  # leaves that are cut in a second, where nobody says how many jobs may run
 ASK = 10  # seconds between two questions to the controller of Slurm, which others ask too
 ARRAY = 1001  # `MaxArraySize` as it comes: one more than the tasks of an array
 LOST = {  # what Slurm writes of a task that it has ended, and what that means
@@ -244,19 +294,21 @@ LOST = {  # what Slurm writes of a task that it has ended, and what that means
 class Slurm(Rounds):
     """Arrays, whose tasks have leaves from all over the tree; they outlive a killed script."""
 
-    tool, outlives = "sbatch", True
-    next = 0.0  # when the controller is asked again
+    tool, outlives, together = "sbatch", True, True
 
     def settle(self) -> None:
         """Waits for the arrays of earlier starts, which would else run the same leaves."""
         self.most = most_tasks()
         self.tell_figures()
+        self.queued: Set[str] = set()  # arrays that the controller knew when it was asked
+        self.next = 0.0  # when it is asked again
         for name in [name for name in self.folder.names("rounds") if name.endswith(".slurm")]:
-            self.number = self.folder.at(name).read_text()
-            if self.is_queued():
-                self.screen.say("c waiting for array %s of an earlier start" % self.number)
-            while self.is_queued():
-                time.sleep(ASK)
+            number = self.folder.at(name).read_text()
+            self.queued.add(number)
+            if self.is_queued(number):
+                self.screen.say("c waiting for array %s of an earlier start" % number)
+            while self.is_queued(number):
+                time.sleep(1)
             self.folder.at(name).unlink()
 
     def tell_figures(self) -> None:
@@ -267,42 +319,63 @@ class Slurm(Rounds):
             self.screen.say("c the longest of %d jobs took %s%s" % (
                 len(records), told(max(map(spent, records))), memory and ", the largest " + memory))
 
-    def begin(self, tasks: int, leaves: int) -> None:
+    def begin(self, asked: Round) -> None:
         path = self.folder.at("scratch", "array")
-        task = " ".join(map(shlex.quote, self.words()))
+        task = " ".join(map(shlex.quote, self.words(asked)))
         path.write_text("#!/bin/sh\nexec %s $SLURM_ARRAY_TASK_ID\n" % task)
-        array = "--array=1-%d" % tasks + ("%%%d" % self.jobs if self.jobs else "")
+        array = "--array=1-%d" % asked.tasks
+        array += "%%%d" % max(1, self.room()) if self.jobs else ""
         output = str(self.folder.at("tasks")).replace("%", "%%") + "/%A_%a.out"
         words = ["sbatch", "--parsable", "--job-name=conquer", "--output=" + output]
         words += ["--cpus-per-task=1", *self.limits.words(), array, path]
         status, text = output_of(words)
         if status != 0:
             raise Fault("c sbatch ends with %d: %s" % (status, " ".join(text.split())))
-        self.number = text.split(";")[0].strip()
-        self.folder.write("rounds/%s.slurm" % self.mark, self.number)
-        self.next = time.monotonic() + ASK
-        if leaves > tasks:
+        asked.number = text.split(";")[0].strip()
+        self.folder.write("rounds/%s.slurm" % asked.mark, asked.number)
+        self.queued.add(asked.number)
+        leaves = len(asked.leaves)
+        if leaves > asked.tasks:
+            most = -(-leaves // asked.tasks)
             self.screen.say("c %d leaves in %d tasks: the time limit of a task is for all that it "
-                            "runs in turn, up to %d" % (leaves, tasks, -(-leaves // tasks)))
+                            "runs in turn, up to %d" % (leaves, asked.tasks, most))
 
-    def runs(self) -> bool:
-        if time.monotonic() < self.next:
-            return True
-        self.next = time.monotonic() + ASK
-        return self.is_queued()
+    def runs(self, asked: Round) -> bool:
+        return self.is_queued(asked.number)
 
-    def is_queued(self) -> bool:
-        """Where the controller does not answer, the array is taken to be under way."""
-        status, text = output_of(["squeue", "-h", "-u", str(os.getuid()), "-o", "%F"])
-        return status != 0 or self.number in text.split()
+    def is_queued(self, number: str) -> bool:
+        """Where the controller does not answer, what was under way is taken to be so still."""
+        if time.monotonic() >= self.next:
+            status, text = output_of(["squeue", "-h", "-u", str(os.getuid()), "-o", "%F"])
+            if status == 0:
+                self.queued = set(text.split())
+            self.next = time.monotonic() + ASK
+        return number in self.queued
 
-    def stop(self) -> None:
-        output_of(["scancel", "-Q", self.number])
+    def stop(self, asked: Round) -> None:
+        output_of(["scancel", "-Q", asked.number])
 
-    def why(self, task: int) -> str:
-        path = self.folder.at("tasks", "%s_%d.out" % (self.number, task))
+    def cut(self, run: Run, rounds: List[Round]) -> None:
+        """A task whose only leaf was cut is ended when both halves are closed."""
+        for asked in rounds:
+            for place, leaf in enumerate(asked.leaves):
+                is_needless = leaf.cube in run.halves and run.is_settled(leaf.cube)
+                is_alone = asked.tasks == len(asked.leaves)
+                if is_needless and is_alone and name_of(leaf.cube) in self.seen:
+                    output_of(["scancel", "-Q", "%s_%d" % (asked.number, asked.task_of(place))])
+        super().cut(run, rounds)
+
+    def why(self, done: Round, task: int) -> str:
+        path = self.folder.at("tasks", "%s_%d.out" % (done.number, task))
         text = path.read_text(errors="replace") if path.exists() else ""
         return next((why for mark, why in LOST.items() if mark in text), "")
+
+
+def late_leaves(run: Run, leaves: List[Leaf], seen: Dict[str, float]) -> List[Leaf]:
+    """Those that are worth a cut, which is an array of two tasks: the longest first."""
+    late = time.monotonic() - max(SLOW, MEANS * run.mean())
+    began = lambda leaf: seen[name_of(leaf.cube)]
+    return sorted((leaf for leaf in leaves if began(leaf) <= late and run.may_cut(leaf)), key=began)
 
 
 def most_tasks() -> int:
@@ -319,7 +392,8 @@ ENGINES: Dict[str, Type[Engine]] = {
 
 def work(path: str, mark: str, task: str) -> int:
     """A task of a round, in a process that an engine has started: its leaves in turn."""
-    signal.signal(signal.SIGTERM, lambda *_: sys.exit(1))
+    endings: List[int] = []  # a signal raises nothing, so that a job is ended whole
+    signal.signal(signal.SIGTERM, lambda number, _: endings.append(number))
     die_with(os.getppid())
     folder, bell = Folder(path), Bell()
     plan = Plan(**json.loads(folder.at("plan.json").read_text()))
@@ -328,14 +402,12 @@ def work(path: str, mark: str, task: str) -> int:
         return 0
     for cube, *rest in asked["leaves"][int(task) - 1::asked["tasks"]]:
         leaf = Leaf(tuple(cube), *rest)
-        if folder.names("answers"):
+        if endings or folder.names("answers"):
             break
         if folder.has(log_of(leaf.cube)) or folder.covered(leaf.cube).exists():
             continue
         job = Job(folder, plan, leaf, mark)
-        try:
-            while not job.ended():
-                bell.wait(min(1, job.end - time.monotonic()))
-        finally:
-            job.stop()
-    return 0
+        while not endings and not job.ended():
+            bell.wait(min(1, job.end - time.monotonic()))
+        job.stop()
+    return len(endings)
