@@ -1,6 +1,7 @@
 -- Texts that are taken as far as they are wanted.
-use Rattle.std.proofs.Common.{◌≡◌, inl, inr, ◌≤◌, ℕ, ◌+◌, ◌-◌, Bool, true, false, List, [], ◌∷◌, ◌++◌, Option, Some, None, Result, Ok, Err, IfOk, IfErr, refl, sym, ◌∙◌, ap, subst, append_assoc, append-nil, take, drop, length, arith}
-use Rattle.std.proofs.lemmas.List.{drop-drop, drop-take, length-take, take-append-drop}
+use Rattle.std.proofs.Common.{◌≡◌, inl, inr, ◌≤◌, ℕ, ◌+◌, ◌-◌, Bool, true, false, List, [], ◌∷◌, ◌++◌, Option, Some, None, Result, Ok, Err, IfOk, IfErr, refl, sym, ◌∙◌, ap, subst, append_assoc, append-nil, take, drop, length, eqb, arith}
+use Rattle.std.proofs.lemmas.Bool.{eqb-true}
+use Rattle.std.proofs.lemmas.List.{drop-drop, drop-take, length-take, nil_from_length, take-append-drop}
 use Rattle.std.specs.Io.KnownBytes.{Consumes, IsAtEnd, Keeps, prepend_known}
 use Rattle.commands.specs.Known.{Of}
 use Rattle.commands.specs.Refusals.{IsUnread}
@@ -130,6 +131,9 @@ pub unread_as : (r : Result Report Refusal) (one other : Refusal) → one ≡ re
 unread_as r one other i j h = subst (λ (f : Refusal). IfErr r (IsUnread f refusal.Proof)) i (subst (λ (f : Refusal). IfErr r (IsUnread one f)) j h)
 
 -- ---- a piece
+pub none_held : (xs : List ℕ) → eqb (length xs) 0 ≡ true → xs ≡ []
+none_held xs e = nil_from_length xs (eqb-true (length xs) 0 e)
+
 -- so many bytes are held
 pub held_within : (xs : List ℕ) (at end n : ℕ) → at ≤ end → n ≤ length (take (end - at) (drop at xs)) → at + n ≤ end
 held_within xs at end n ordered some = let e = length-take (end - at) (drop at xs) in omega (arith, e)
