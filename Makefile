@@ -12,9 +12,10 @@ all:
 # Decides a formula and checks the proof by the program as it stands, which is not proved yet.
 try:
 	@echo "builds the program without a proof: two or three minutes" >&2
-	@t=$$(mktemp -d) && trap 'rm -r "$$t"' EXIT && mkdir $$t/runs && cd $$t/runs && touch 1 2 && \
-	printf '%s\n' solve --depth 0 "$(FORMULA)" $$t/f.lrat > 1.args && \
-	printf '%s\n' check "$(FORMULA)" $$t/f.lrat > 2.args && \
+	@t=$$(mktemp -d) && trap 'rm -r "$$t"' EXIT && mkdir $$t/runs && cd $$t/runs && \
+	touch 1-solve 2-check && \
+	printf '%s\n' solve --depth 0 "$(FORMULA)" $$t/f.lrat > 1-solve.args && \
+	printf '%s\n' check "$(FORMULA)" $$t/f.lrat > 2-check.args && \
 	cd "$(CURDIR)/crates/satcluster" && rt try --cases $$t/runs | tee $$t/told && \
 	grep -q '^s VERIFIED$$' $$t/told
 
