@@ -3,7 +3,7 @@ use Rattle.std.proofs.Common.{◌≡◌, ◌∙◌, List, codes}
 use Rattle.clap.specs.Words.{Row, Text}
 use Rattle.command_line.specs.CommandLine.{Makes}
 use Rattle.command_line.specs.declared.request.Request.{Request}
-use Rattle.command_line.specs.declared.request.Request.TheVariants.{Check, Complete, Cubes, Drill, Join, Leaf, Lift, Model, Refute, Serve, Solve, Split, Trim, Work}
+use Rattle.command_line.specs.declared.request.Request.TheVariants.{Check, Complete, Cubes, Drill, Join, Leaf, Lift, Look, Model, Refute, Serve, Solve, Split, SplitByLook, Trim, Work}
 
 -- the name is that of no command
 pub record IsNoCommand (name : Text) : Type 0 where
@@ -26,6 +26,8 @@ makes_none read name rows is none (Solve input cubes proof options) makes = none
 makes_none read name rows is none (Check input proof session) makes = none.no_check (is ∙ makes.0)
 makes_none read name rows is none (Cubes input depth) makes = none.no_cubes (is ∙ makes.0)
 makes_none read name rows is none (Split input cubes leaf on) makes = none.no_cubes (is ∙ makes.0)
+makes_none read name rows is none (Look input leaves) makes = none.no_cubes (is ∙ makes.0)
+makes_none read name rows is none (SplitByLook input cubes leaf) makes = none.no_cubes (is ∙ makes.0)
 makes_none read name rows is none (Complete input list) makes = none.no_cubes (is ∙ makes.0)
 makes_none read name rows is none (Serve port input cubes proof options) makes = none.no_serve (is ∙ makes.0)
 makes_none read name rows is none (Work port input proof options) makes = none.no_work (is ∙ makes.0)

@@ -117,7 +117,7 @@ Makes name rows (Split input cubes leaf on) =
     × NamesNothing rows (codes "complete") × NamesNothing rows (codes "look")
 Makes name rows (SplitByLook input cubes leaf) =
     (name ≡ codes "cubes") × NamesFile rows (codes "INPUT") (Some input) × NamesFile rows (codes "cubes") (Some cubes)
-    × NamesNumber rows (codes "split") 1 (2 ^ 32 - 1) leaf × NamesNumber rows (codes "look") 1 65536 2 × NamesNothing rows (codes "on")
+    × NamesNumber rows (codes "split") 1 (2 ^ 32 - 1) leaf × NamesNumber rows (codes "look") 2 2 2 × NamesNothing rows (codes "on")
     × NamesNothing rows (codes "depth") × NamesNothing rows (codes "complete")
 Makes name rows (Complete input list) =
     (name ≡ codes "cubes") × NamesFile rows (codes "INPUT") (Some input) × NamesFile rows (codes "complete") (Some list)
