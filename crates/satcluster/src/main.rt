@@ -234,10 +234,24 @@ fn is_quiet(request: &Request) -> bool {
 const COMMON: &[u8] =
     b"\nEvery command takes --explain: in words, on standard error, what a c line means, and what to do\n";
 
-/// The report of a help.
-fn help<R: Runtime + AllocGlobal>(rt: &R, text: &String) -> Result<Report, AllocError> {
+/// Whether the words ask for the version, which is a line by itself.
+fn asks_for_version(words: &[&str]) -> bool {
+    match words.first() {
+        Some(word) => *word == "--version" || *word == "-V",
+        None => false,
+    }
+}
+
+/// The report of a help, or of the version.
+fn help<R: Runtime + AllocGlobal>(
+    rt: &R,
+    words: &[&str],
+    text: &String,
+) -> Result<Report, AllocError> {
     let mut report = Report::of(rt.alloc(), text.as_str().as_bytes(), 0)?;
-    report.stdout.extend_from_slice(COMMON)?;
+    if !asks_for_version(words) {
+        report.stdout.extend_from_slice(COMMON)?;
+    }
     Ok(report)
 }
 
@@ -254,7 +268,9 @@ fn respond<R: Runtime + AllocGlobal + Net>(
             }
             answer(rt, &request, showing).map_err(|refusal| refusal.line(is_quiet(&request)))
         }
-        Err(UsageFault::Help(text)) => help(rt, &text).map_err(|_| Refusal::NoMemory.line(false)),
+        Err(UsageFault::Help(text)) => {
+            help(rt, words, &text).map_err(|_| Refusal::NoMemory.line(false))
+        }
         Err(UsageFault::Usage) => Err(Refusal::Usage.line(false)),
         Err(UsageFault::NoMemory) => Err(Refusal::NoMemory.line(false)),
     }
