@@ -180,7 +180,7 @@ class Answers(Case):
     def test_dry_join(self) -> None:
         """It prints what a join prints, and writes nothing: not the first name either, which is the
         place of a proof without the word."""
-        self.conquer("-q", "--no-race", "--depth", "1", FOUR)
+        self.conquer("-q", "--no-race", "--depth", "1", FOUR, "g.lrat")
         run, tree = self.at(FOUR + ".conquer"), "trees/1.icnf"
         names = [str(path.relative_to(run)) for path in self.logs(FOUR)]
         dry = [self.program, "join", "--dry", "--cubes", tree, str(self.at(FOUR))]
