@@ -87,6 +87,12 @@ CLAIMS = [
         ],
         "Lifts",
     ),
+    (
+        "Each answer that `check --session` verifies is right",
+        "If `check --session` ends with status 0, all bytes of the events spell clauses and queries, each query has an answer that is right for the clauses that "
+        "are given before it, and how many there are of each kind is printed. Nothing of proofs has to be read for that.",
+        [("commands", "check_session_files", ["truth"])],
+    ),
 ]
 
 HEAD = """# What has to be believed

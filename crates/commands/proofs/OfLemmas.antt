@@ -37,3 +37,13 @@ both_opened_ok P (Ok x) l k holds m j others le he me ge h =
     of_map (λ text. Of m (Q text)) (λ text. Of others (Q text)) l (λ text g. of_opened (Q text) j others ge (subst (λ (o : Option (List ℕ)). Of o (Q text)) me g)) h in
     of_opened (λ text. Of others (Q text)) k holds he (subst (λ (o : Option (List ℕ)). Of o (λ text. Of others (Q text))) le first)
 both_opened_ok P (Err f) l k holds m j others le he me ge h = tt
+
+-- what follows of the first source whatever the bytes of the second are
+pub of_first_ok : {T E : Type 0} (P : List ℕ → List ℕ → T → Type 0) (Q : List ℕ → T → Type 0) (r : Result T E) (k j : Option (List ℕ)) → ((text bytes : List ℕ) (x : T) → P text bytes x → Q text x)
+    → IfOk r (λ x. Of k (λ text. Of j (λ bytes. P text bytes x))) → IfOk r (λ x. Of k (λ text. Q text x))
+of_first_ok P Q (Ok x) k j f h = of_map (λ text. Of j (λ bytes. P text bytes x)) (λ text. Q text x) k (λ text g. any text j g) h
+  where
+    any : (text : List ℕ) (o : Option (List ℕ)) → Of o (λ bytes. P text bytes x) → Q text x
+    any text None g = f text g.0 x g.1
+    any text (Some bytes) g = f text bytes x g
+of_first_ok P Q (Err e) k j f h = tt

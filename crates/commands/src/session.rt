@@ -5,7 +5,7 @@ ghost use Rattle.commands.specs.Known.{Of};
 ghost use Rattle.commands.specs.Refusals.{IsRefusedAs, IsUnread};
 ghost use Rattle.commands.specs.inner.Texts.{IsRead, left};
 ghost use Rattle.sessions.specs.Check.{wanted};
-ghost use Rattle.sessions.specs.Reports.{ChecksSession};
+ghost use Rattle.sessions.specs.Reports.{AnswersRight, ChecksSession};
 
 use crate::disk::Disk;
 use crate::text::Text;
@@ -92,6 +92,7 @@ fn check_texts<E: Read + Drop, P: Read + Drop>(
 /// runs.
 pub fn check_session_files<D: Disk>(disk: &D, events: &str, proof: &str) -> Result<Report, Refusal>
     ensures report { IfOk result (λ r. Of (D.holds disk.now events.now) (λ text. Of (D.holds disk.now proof.now) (λ bytes. ChecksSession text bytes r))) }
+    ensures truth { IfOk result (λ r. Of (D.holds disk.now events.now) (λ text. r.status ≡ 0 → AnswersRight text r)) }
     ensures refused { IfErr result (IsUnread Refusal.Input Refusal.Proof) }
 {
     let text = disk.open(events, Refusal::Input)?;

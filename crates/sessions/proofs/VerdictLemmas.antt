@@ -25,12 +25,13 @@ module _ (events proof : List ℕ) (r : Report) where
   no_status : r.status ≡ 1 → r.status ≡ 0 → ⊥
   no_status one zero = absurd (omega arith)
 
-  verdict_truth : (E : List Event) → events_of events ≡ Ok E → (g : Option CheckFault) → (session_of E proof).fault ≡ g → (t : Tally) → IsVerdict g t r → r.status ≡ 0 → AnswersRight events proof
-  verdict_truth E is None none t v zero = (E, read_is_spelled events E is, fronts_right E proof, all_answered E proof none)
-  verdict_truth E is (Some f) some t v zero = absurd (no_status v.1 zero)
+  verdict_truth : (E : List Event) → events_of events ≡ Ok E → (g : Option CheckFault) → (session_of E proof).fault ≡ g → IsVerdict g (tally (session_of E proof).answers) r → r.status ≡ 0
+      → AnswersRight events r
+  verdict_truth E is None none v zero = (E, read_is_spelled events E is, ((session_of E proof).answers, (fronts_right E proof, all_answered E proof none, v.0)))
+  verdict_truth E is (Some f) some v zero = absurd (no_status v.1 zero)
 
-  report_truth : (o : Result (List Event) IcnfFault) → events_of events ≡ o → IsReport o proof r → r.status ≡ 0 → AnswersRight events proof
-  report_truth (Ok E) is v zero = verdict_truth E is (session_of E proof).fault refl (tally (session_of E proof).answers) v zero
+  report_truth : (o : Result (List Event) IcnfFault) → events_of events ≡ o → IsReport o proof r → r.status ≡ 0 → AnswersRight events r
+  report_truth (Ok E) is v zero = verdict_truth E is (session_of E proof).fault refl v zero
   report_truth (Err f) is v zero = absurd (no_status v.1 zero)
 
   checks : IsReport (events_of events) proof r → ChecksSession events proof r

@@ -9,7 +9,7 @@ use Rattle.reports.specs.Faults.{fault_text}
 use Rattle.reports.specs.declared.refusal.Refusal.{Refusal}
 use Rattle.reports.specs.declared.refusal.Refusal.TheVariants as refusal
 use Rattle.reports.specs.declared.report.Report.{Report}
-use Rattle.sessions.specs.Answers.{AreRight, Event, queries, tally}
+use Rattle.sessions.specs.Answers.{Answer, AreRight, Event, queries, tally}
 use Rattle.sessions.specs.Check.{wanted}
 use Rattle.sessions.specs.Events.{Spells, events_of}
 use Rattle.sessions.specs.Texts.{session_of}
@@ -70,15 +70,19 @@ abbrev pub IsReport : Result (List Event) IcnfFault → List ℕ → Report → 
 IsReport (Ok E) proof r = IsVerdict (session_of E proof).fault (tally (session_of E proof).answers) r
 IsReport (Err f) proof r = Printed (events_text f) 1 (Ok r)
 
--- the text spells events, and the proof answers each of their queries, right for the clauses that are given before it
-abbrev pub AnswersRight : List ℕ → List ℕ → Type 0
-AnswersRight events proof = (E : List Event) × Spells events E × AreRight [] E (session_of E proof).answers × (length (session_of E proof).answers ≡ queries E)
+-- each of these queries has an answer, which is right for the clauses that are given before it, and how many there are of each kind is printed
+abbrev pub AreAnswered : List Event → List Answer → Report → Type 0
+AreAnswered E answers r = AreRight [] E answers × (length answers ≡ queries E) × (r.stdout.items ≡ verified_text (tally answers))
+
+-- the text spells events, whose queries are answered so
+abbrev pub AnswersRight : List ℕ → Report → Type 0
+AnswersRight events r = (E : List Event) × Spells events E × ((answers : List Answer) × AreAnswered E answers r)
 
 -- the report of both texts; status 0 if and only if the text spells events and the proof has no fault beside them, and then its answers are
 -- right
 pub record ChecksSession (events proof : List ℕ) (r : Report) : Type 0 where
   pub report : IsReport (events_of events) proof r
-  pub truth : r.status ≡ 0 → AnswersRight events proof
+  pub truth : r.status ≡ 0 → AnswersRight events r
 
 -- why a check has no report: memory ran out, or something is wanted still
 abbrev pub HasNoReport : SessionCheck → Refusal → Type 0
