@@ -1,2 +1,7 @@
 mod FeedLemmas
+mod KnownLemmas
+mod ModelLemmas
 mod OfLemmas
+mod PartLemmas
+mod TreeLemmas
+mod WritingLemmas

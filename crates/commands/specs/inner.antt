@@ -1,2 +1,4 @@
 pub mod Beginning
 pub mod Feeding
+pub mod Parts
+pub mod Testing

@@ -1,6 +1,7 @@
 //! Files by their paths.
 
-ghost use Rattle.std.specs.Prelude.{◌≡◌, ℕ, List, Option, Some, None, IfOk, IfSome};
+ghost use Rattle.std.specs.Prelude.{◌≡◌, ℕ, List, Option, Some, None, IfOk, IfErr, IfSome};
+ghost use Rattle.commands.specs.Refusals.{IsRefusedAs};
 
 use crate::pieces::Pieces;
 use reports::Refusal;
@@ -20,5 +21,7 @@ pub trait Disk {
 
     /// Opens a file, to be read from its first byte; else it is refused so.
     fn open(&self, path: &str, refusal: Refusal) -> Result<Pieces<Self::Source>, Refusal>
-        ensures { IfOk result (λ p. IfSome (holds self.now path.now) (λ bytes. Self.Source.remaining p.source ≡ Some bytes)) };
+        ensures bytes { IfOk result (λ p. IfSome (holds self.now path.now) (λ bytes. Self.Source.remaining p.source ≡ Some bytes)) }
+        ensures refusal { IfOk result (λ p. p.refusal ≡ refusal) }
+        ensures refused { IfErr result (IsRefusedAs refusal) };
 }

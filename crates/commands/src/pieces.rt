@@ -1,7 +1,8 @@
 //! A source that is read piece by piece.
 
-ghost use Rattle.std.specs.Prelude.{◌≡◌, ◌<◌, ◌≤◌, take, vec_len, IfOk};
+ghost use Rattle.std.specs.Prelude.{◌≡◌, ◌<◌, ◌≤◌, take, vec_len, IfOk, IfErr};
 ghost use Rattle.std.specs.Io.KnownBytes.{Consumes, IsAtEnd};
+ghost use Rattle.commands.specs.Refusals.{IsRefusedAs};
 
 use reports::Refusal;
 use std::alloc::{AllocError, Global};
@@ -13,7 +14,9 @@ use std::io::{ErrorKind, Read};
 const PIECE: usize = 16_384;
 
 /// The refusal that an error of the system stands for.
-pub fn refused(error: io::Error, refusal: Refusal) -> Refusal {
+pub fn refused(error: io::Error, refusal: Refusal) -> Refusal
+    ensures { IsRefusedAs refusal result }
+{
     match error.kind() {
         ErrorKind::OutOfMemory => Refusal::NoMemory,
         _ => refusal,
@@ -52,7 +55,8 @@ impl<S: Read + Drop> Pieces<S> {
         has_end: bool,
         refusal: Refusal,
     ) -> Result<Pieces<S>, AllocError>
-        ensures { IfOk result (λ p. p.source ≡ source) }
+        ensures source { IfOk result (λ p. p.source ≡ source) }
+        ensures refusal { IfOk result (λ p. p.refusal ≡ refusal) }
     {
         let room = vec![in alloc; 0; PIECE]?;
         Ok(Pieces {
@@ -68,6 +72,8 @@ impl<S: Read + Drop> Pieces<S> {
         ensures within { IfOk result (λ n. n ≤ vec_len self.new.room) }
         ensures consumed { IfOk result (λ n. Consumes (S.remaining self.old.source) (S.remaining self.new.source) (take n self.new.room.items)) }
         ensures ended { IfOk result (λ n. n ≡ 0 → IsAtEnd (S.remaining self.new.source)) }
+        ensures refused { IfErr result (IsRefusedAs self.old.refusal) }
+        ensures refusal { self.new.refusal ≡ self.old.refusal }
     {
         for _ in 0..u64::MAX {
             match self.source.read(&mut self.room) {

@@ -6,29 +6,27 @@ ghost use Rattle.command_line.specs.CommandLine.{IsInRange};
 
 mod accepting;
 mod complete;
+mod drafts;
 mod files;
 mod join;
 mod leaf_runs;
 mod lift;
 mod linked_runs;
-mod model;
 mod proof_file;
 mod session;
 mod showing;
 mod standard_input;
 mod trim;
 
-use commands::{check_files, deliver, refused};
+use commands::{Target, check_files, deliver, leaf_files, refused, split_files, test_files};
 use complete::complete;
 use files::{Machine, no_memory, read};
 use join::{JoinFiles, join};
-use leaf_runs::{LeafFiles, LeafRange, leaf, refute, split};
+use leaf_runs::{LeafFiles, LeafRange, refute};
 use leaves::Search;
 use lift::{LiftFiles, lift};
 use linked_runs::{Files, serve, solve, work};
-use model::model;
 use node_main::{Refusal, Report, Request, UsageFault, command, run_cubes};
-use proof_file::Target;
 use session::session;
 use showing::Showing;
 use standard_input::is_sound;
@@ -127,13 +125,11 @@ fn answer<R: Runtime + AllocGlobal + Net>(
             cubes,
             leaf,
             on,
-        } => split(rt, input, cubes, u64::from(leaf), on),
+        } => split_files(&Machine { rt }, input, cubes, u64::from(leaf), on),
         Request::Complete { input, list } => complete(rt, input, list),
-        Request::Leaf {
-            input,
-            cubes,
-            leaf: number,
-        } => leaf(rt, input, cubes, u64::from(number)),
+        Request::Leaf { input, cubes, leaf } => {
+            leaf_files(&Machine { rt }, input, cubes, u64::from(leaf))
+        }
         Request::Refute {
             input,
             cubes,
@@ -195,7 +191,7 @@ fn answer<R: Runtime + AllocGlobal + Net>(
             };
             lift(rt, &files, leaf, lidrup)
         }
-        Request::Model { input, output } => model(rt, input, output),
+        Request::Model { input, output } => test_files(&Machine { rt }, input, output),
         Request::Trim {
             input,
             proof,

@@ -10,5 +10,5 @@ returns g c =
     let Reads : List ℕ → Type 0 = λ text. GivesFormula c.in_ok-found.found (parse text) in
     let holds : List ℕ → _ = g.D.Disk.holds c.args.disk.now in
     of_ok Reads (λ text b. Of (holds c.args.cubes.now) (λ tree. Begins text tree b)) _ c.begin.result
-    (of_opened Reads _ _ c.in_ok-text.ensures c.in_ok-found.ensures)
-    (λ text gives. of_opened_ok (Begins text) _ _ c.begin.result c.in_ok-tree.ensures (c.begin.ensures text gives))
+    (of_opened Reads _ _ c.in_ok-text.ensures.bytes c.in_ok-found.ensures)
+    (λ text gives. of_opened_ok (Begins text) _ _ c.begin.result c.in_ok-tree.ensures.bytes (c.begin.ensures text gives))
