@@ -1,3 +1,8 @@
 mod FeedLemmas
+mod KnownLemmas
+mod ModelLemmas
 mod OfLemmas
+mod PartLemmas
 mod TextLemmas
+mod TreeLemmas
+mod WritingLemmas

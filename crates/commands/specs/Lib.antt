@@ -4,4 +4,7 @@ pub mod Feeding
 pub mod Known
 pub mod Printing
 pub mod Refusals
+pub mod Testing
+pub mod Trees
+pub mod Written
 pub mod inner

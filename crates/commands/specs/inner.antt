@@ -1,3 +1,5 @@
 pub mod Beginning
 pub mod Feeding
+pub mod Parts
+pub mod Testing
 pub mod Texts

@@ -7,18 +7,27 @@
 mod beginning;
 mod check;
 mod disk;
+mod drafts;
 mod feeding;
 mod formula;
+mod leaf;
+mod model;
+mod parts;
 mod pieces;
 mod printing;
 mod session;
 mod text;
+mod writing;
 
 pub use beginning::{Begun, begin_files, hushed, refused_input};
 pub use check::check_files;
 pub use disk::Disk;
+pub use drafts::{Drafts, Target, Way};
 pub use feeding::{Fed, Feeds, feed_all, feed_on};
 pub use formula::{read_bytes, read_formula};
+pub use leaf::{leaf_files, split_by_look_files, split_files};
+pub use model::test_files;
 pub use pieces::{Pieces, refused};
 pub use printing::{deliver, print};
 pub use session::check_session_files;
+pub use writing::write_text;

@@ -1,12 +1,10 @@
-//! `leaf`, `refute` and `cubes --split`: a formula and a tree of cubes are read, and a leaf is worked on.
+//! `refute`: a formula and a tree of cubes are read, and a leaf is searched under.
 
+use crate::drafts::write_proof;
 use crate::files::{Machine, no_memory};
 use crate::join::stopped;
-use crate::proof_file::{Target, write_proof};
-use commands::{Begun, begin_files, hushed};
-use leaves::{
-    Search, Split, run_leaf, run_refute, run_refute_all, run_split, run_split_by_look,
-};
+use commands::{Begun, Target, begin_files, hushed};
+use leaves::{Search, Split, run_refute, run_refute_all};
 use node_main::{Refusal, Report};
 use std::alloc::Global;
 use std::rt::Runtime;
@@ -18,46 +16,6 @@ pub(crate) fn begin<R: Runtime + AllocGlobal>(
     cubes: &str,
 ) -> Result<Begun, Refusal> {
     begin_files(&Machine { rt }, input, cubes)
-}
-
-/// A leaf as a formula of its own.
-pub(crate) fn leaf<R: Runtime + AllocGlobal>(
-    rt: &R,
-    input: &str,
-    cubes: &str,
-    leaf: u64,
-) -> Result<Report, Refusal> {
-    match begin(rt, input, cubes)? {
-        Begun::With(split) => run_leaf(rt.alloc(), &split, leaf).map_err(no_memory),
-        Begun::Refused(report) => Ok(report),
-    }
-}
-
-/// The tree with a leaf cut in two.
-pub(crate) fn split<R: Runtime + AllocGlobal>(
-    rt: &R,
-    input: &str,
-    cubes: &str,
-    leaf: u64,
-    on: Option<u32>,
-) -> Result<Report, Refusal> {
-    match begin(rt, input, cubes)? {
-        Begun::With(split) => run_split(rt.alloc(), split, leaf, on).map_err(no_memory),
-        Begun::Refused(report) => Ok(report),
-    }
-}
-
-/// The tree with a leaf cut in two by a look ahead.
-pub(crate) fn split_by_look<R: Runtime + AllocGlobal>(
-    rt: &R,
-    input: &str,
-    cubes: &str,
-    leaf: u64,
-) -> Result<Report, Refusal> {
-    match begin(rt, input, cubes)? {
-        Begun::With(split) => run_split_by_look(rt.alloc(), split, leaf).map_err(no_memory),
-        Begun::Refused(report) => Ok(report),
-    }
 }
 
 /// The files of a search under a leaf.

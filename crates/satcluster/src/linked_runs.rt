@@ -5,10 +5,10 @@ ghost use Rattle.command_line.specs.Options.{AreOptions};
 ghost use Rattle.node_main.specs.Starting.{IsStart};
 
 use crate::accepting::accept_workers;
+use crate::drafts::write_proof;
 use crate::files::{no_memory, read_cubes, read_formula};
-use crate::proof_file::{Target, write_proof};
 use crate::showing::{Showing, Shown};
-use commands::{print, refused};
+use commands::{Target, print, refused};
 use hub::Hub;
 use links::{Counted, Joined, Loopback, Observed, Station};
 use node_main::{

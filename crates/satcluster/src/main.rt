@@ -6,6 +6,7 @@ ghost use Rattle.command_line.specs.CommandLine.{IsInRange};
 
 mod accepting;
 mod complete;
+mod drafts;
 mod explain;
 mod explain_words;
 mod files;
@@ -13,25 +14,25 @@ mod join;
 mod leaf_runs;
 mod lift;
 mod linked_runs;
-mod model;
 mod proof_file;
 mod showing;
 mod standard_input;
 mod trim;
 
-use commands::{check_files, check_session_files, deliver, refused};
+use commands::{
+    Target, check_files, check_session_files, deliver, leaf_files, refused, split_by_look_files,
+    split_files, test_files,
+};
 use complete::complete;
 use explain::explain;
 use explanations::Asked;
 use files::{Machine, no_memory, read};
 use join::{JoinFiles, join};
-use leaf_runs::{LeafFiles, LeafRange, leaf, refute, split, split_by_look};
+use leaf_runs::{LeafFiles, LeafRange, refute};
 use leaves::{Search, run_look};
 use lift::{LiftFiles, lift};
 use linked_runs::{Files, serve, solve, work};
-use model::model;
 use node_main::{Refusal, Report, Request, UsageFault, command, run_cubes};
-use proof_file::Target;
 use showing::Showing;
 use standard_input::is_sound;
 use std::alloc::AllocError;
@@ -135,16 +136,14 @@ fn answer<R: Runtime + AllocGlobal + Net>(
             cubes,
             leaf,
             on,
-        } => split(rt, input, cubes, u64::from(leaf), on),
+        } => split_files(&Machine { rt }, input, cubes, u64::from(leaf), on),
         Request::SplitByLook { input, cubes, leaf } => {
-            split_by_look(rt, input, cubes, u64::from(leaf))
+            split_by_look_files(&Machine { rt }, input, cubes, u64::from(leaf))
         }
         Request::Complete { input, list } => complete(rt, input, list),
-        Request::Leaf {
-            input,
-            cubes,
-            leaf: number,
-        } => leaf(rt, input, cubes, u64::from(number)),
+        Request::Leaf { input, cubes, leaf } => {
+            leaf_files(&Machine { rt }, input, cubes, u64::from(leaf))
+        }
         Request::Refute {
             input,
             cubes,
@@ -206,7 +205,7 @@ fn answer<R: Runtime + AllocGlobal + Net>(
             };
             lift(rt, &files, leaf, lidrup)
         }
-        Request::Model { input, output } => model(rt, input, output),
+        Request::Model { input, output } => test_files(&Machine { rt }, input, output),
         Request::Trim {
             input,
             proof,

@@ -1,11 +1,8 @@
-//! Writes a proof to its file, whole or not at all wherever a file can be made beside it.
+//! A proof in the making, in a file beside its place.
 
 use crate::files::path_of;
-use commands::refused;
 use lrat_forms::BinaryForm;
 use lrat_text::TextFault;
-use node_main::Refusal;
-use packed_text::PackedText;
 use std::alloc::Global;
 use std::fs::{File, Metadata, OpenFile, OpenOptions};
 use std::io::{ErrorKind, Write};
@@ -15,9 +12,6 @@ use std::{fs, io};
 
 /// What the system calls standard output.
 const STANDARD_OUTPUT: &str = "/dev/stdout";
-
-/// So many bytes of a proof are unpacked and written at once.
-const PIECE: usize = 65_536;
 
 /// How many names are tried for the file beside the proof's.
 const NAMES: u32 = 100;
@@ -215,83 +209,4 @@ pub(crate) fn keep<R: Runtime>(rt: &R, part: Part<R::File>, place: &Place) -> io
 /// Removes the part.
 pub(crate) fn remove<R: Runtime>(rt: &R, part: Part<R::File>) {
     let _ = fs::remove_file(rt, part.name.as_str());
-}
-
-/// Writes a proof to a file, piece by piece, since it stands packed.
-fn write_text<R: Runtime + AllocGlobal>(
-    rt: &R,
-    file: &mut R::File,
-    proof: &PackedText,
-    writer: &mut Writer,
-) -> io::Result<()> {
-    for i in 0..proof.len() / PIECE + 1 {
-        let piece = proof.read(rt.alloc(), PIECE * i, PIECE)?;
-        writer.write(file, piece.as_slice())?;
-    }
-    writer.finish()
-}
-
-/// Writes a proof to what stands at the path, in place.
-fn write_in_place<R: Runtime + AllocGlobal>(
-    rt: &R,
-    path: &str,
-    proof: &PackedText,
-    binary: bool,
-) -> io::Result<()> {
-    let mut file = File::create(rt, path)?;
-    let mut writer = Writer::new(rt.alloc(), binary);
-    write_text(rt, &mut file, proof, &mut writer)
-}
-
-/// Writes the proof beside its place, where no file is left; in place where none can be made beside it or put there.
-fn write_beside<R: Runtime + AllocGlobal>(
-    rt: &R,
-    place: &Place,
-    proof: &PackedText,
-    binary: bool,
-) -> io::Result<()> {
-    let Some(mut part) = make_part(rt, place, binary)? else {
-        return write_in_place(rt, place.path.as_str(), proof, binary);
-    };
-    if let Err(error) = write_text(rt, &mut part.file, proof, &mut part.writer) {
-        remove(rt, part);
-        return Err(error);
-    }
-    if keep(rt, part, place)? {
-        return Ok(());
-    }
-    write_in_place(rt, place.path.as_str(), proof, binary)
-}
-
-/// Where a proof is written, and in which form.
-#[derive(Clone, Copy)]
-pub(crate) struct Target<'a> {
-    pub(crate) path: &'a str,
-    pub(crate) binary: bool,
-}
-
-/// Writes a proof to the file at a path, unless it is one of the files that were read.
-pub(crate) fn write_proof<R: Runtime + AllocGlobal>(
-    rt: &R,
-    target: Target<'_>,
-    proof: &PackedText,
-    input: &str,
-    cubes: Option<&str>,
-) -> Result<(), Refusal> {
-    let Target { path, binary } = target;
-    let was_read = is_same_file(rt, path, input)
-        || match cubes {
-            Some(cubes) => is_same_file(rt, path, cubes),
-            None => false,
-        };
-    if was_read {
-        return Err(Refusal::Writing);
-    }
-    let written = match place_of(rt, path) {
-        Ok(Some(place)) if is_printed_to(rt, &place) => return Err(Refusal::Writing),
-        Ok(Some(place)) => write_beside(rt, &place, proof, binary),
-        Ok(None) => write_in_place(rt, path, proof, binary),
-        Err(error) => Err(error),
-    };
-    written.map_err(|error| refused(error, Refusal::Writing))
 }

@@ -1,8 +1,9 @@
 //! `trim`: a formula is read, a proof of it checked while its file is read, and what stays of it is written.
 
+use crate::drafts::write_proof;
 use crate::files::{no_memory, open, read_formula};
-use crate::proof_file::{Target, is_same_file, write_proof};
-use commands::refused_input;
+use crate::proof_file::is_same_file;
+use commands::{Target, refused_input};
 use either_form::FormTrimming;
 use node_main::{Refusal, Report};
 use std::rt::Runtime;

@@ -1,0 +1,45 @@
+-- What is told of a solver's answer.
+use Rattle.std.specs.Prelude.{◌≡◌, ◌≢◌, ◌⊎◌, ◌↔◌, ℕ, List, Option, None, Result, Ok, Err, IfOk, OnOk}
+use Rattle.std.proofs.Common.{sym, ◌∙◌, ap, subst, inl, inr}
+use Rattle.answers.specs.Grammar.{Verifies}
+use Rattle.answers.specs.Reports.{IsModelReport}
+use Rattle.answers.specs.declared.report.ModelReport.{ModelReport}
+use Rattle.commands.specs.Beginning.{RefusesInput}
+use Rattle.commands.specs.Known.{Of}
+use Rattle.commands.specs.Testing.{Tests, TestsAnswer}
+use Rattle.commands.proofs.OfLemmas.{of_map}
+use Rattle.dimacs.specs.logic.Cnf.{Cnf}
+use Rattle.dimacs.specs.text.Reading.{no_memory, parse}
+use Rattle.dimacs.specs.text.Rows.{Fails}
+use Rattle.dimacs.specs.declared.fault.DimacsFault.{DimacsFault}
+use Rattle.leaves.specs.Leaf.{Prints}
+use Rattle.reports.specs.Faults.{input_fault_text}
+use Rattle.reports.specs.declared.refusal.Refusal.{Refusal}
+use Rattle.reports.specs.declared.report.Report.{Report}
+
+tests_so : (F : Cnf) (answer : List ℕ) (m : ModelReport) (r : Report) → IsModelReport F answer m
+    → r.stdout.items ≡ m.text.items → r.status ≡ m.status → r.proof ≡ None → Tests F answer r
+tests_so F answer m r h text status proof =
+    let Verified : ℕ → Type 0 = λ s. (s ≡ 0) ↔ Verifies answer F in
+    record {
+      prints = record { status_is = status ∙ h.is_report.status; text_is = text ∙ h.is_report.text; no_proof = proof };
+      verified = subst Verified (sym status) h.verified;
+      satisfied = λ e. h.satisfied (sym status ∙ e);
+    }
+
+pub tests_of : (F G : Cnf) (answer : List ℕ) (m : ModelReport) (r : Report) → G ≡ F → IsModelReport G answer m
+    → r.stdout.items ≡ m.text.items → r.status ≡ m.status → r.proof ≡ None → Tests F answer r
+tests_of F G answer m r e h text status proof =
+    let Told : Cnf → Type 0 = λ H. IsModelReport H answer m in
+    tests_so F answer m r (subst Told e h) text status proof
+
+fails_is : (fault : DimacsFault) (text : List ℕ) → Fails no_memory fault (parse text) → fault ≢ no_memory → parse text ≡ Err fault
+fails_is fault text (inl e) other = absurd (other e)
+fails_is fault text (inr e) other = e
+
+pub input_refused : (known answer : Option (List ℕ)) (fault : DimacsFault) (result : Result Report Refusal) → Of known (λ text. Fails no_memory fault (parse text))
+    → IfOk result (Prints 1 (input_fault_text fault)) → OnOk result (fault ≢ no_memory) → IfOk result (λ r. Of known (λ text. TestsAnswer text answer r))
+input_refused known answer fault (Ok r) h prints other =
+    of_map (λ text. Fails no_memory fault (parse text)) (λ text. TestsAnswer text answer r) known
+    (λ text fails. inl (fault, fails_is fault text fails other, prints)) h
+input_refused known answer fault (Err e) h prints other = tt

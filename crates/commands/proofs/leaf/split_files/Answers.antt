@@ -1,0 +1,22 @@
+use Rattle.std.proofs.Common.{rules, ℕ, List, Option}
+use Rattle.std.proofs.lemmas.Result.{IfOk-weaker}
+use Rattle.commands.specs.Known.{Of}
+use Rattle.commands.specs.Trees.{OfTree}
+use Rattle.commands.proofs.TreeLemmas.{of_refused, of_tree}
+use Rattle.commands.proofs.leaf.split_files.Goals as goal
+use Rattle.leaves.specs.Splitting.{PrintsSplit}
+use Rattle.reports.specs.declared.report.Report.{Report}
+
+pub returns-in-With : goal.returns-in-With
+returns-in-With g c =
+    let holds : List ℕ → Option (List ℕ) = g.D.Disk.holds c.args.disk.now in
+    let s = c.in-With.split in
+    IfOk-weaker c.map_err.result (PrintsSplit s.formula s.tree c.args.leaf c.args.on)
+    (λ (r : Report). Of (holds c.args.input.now) (λ text. Of (holds c.args.cubes.now) (λ lines. OfTree text lines (λ F tree. PrintsSplit F tree c.args.leaf c.args.on r) r)))
+    (λ r prints. of_tree (λ F tree. PrintsSplit F tree c.args.leaf c.args.on r) r (holds c.args.input.now) (holds c.args.cubes.now) c.in_ok-begun.begun s c.in-With.is prints c.in_ok-begun.ensures) (search rules)
+
+pub returns-in-Refused : goal.returns-in-Refused
+returns-in-Refused g c =
+    let holds : List ℕ → Option (List ℕ) = g.D.Disk.holds c.args.disk.now in
+    let r = c.in-Refused.report in
+    of_refused (λ F tree. PrintsSplit F tree c.args.leaf c.args.on r) r (holds c.args.input.now) (holds c.args.cubes.now) c.in_ok-begun.begun c.in-Refused.is c.in_ok-begun.ensures

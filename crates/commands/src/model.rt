@@ -1,0 +1,91 @@
+//! `model`: a formula is read, and a solver's answer tested against it, while their files are read.
+
+ghost use Rattle.std.specs.Prelude.{◌≡◌, ◌++◌, ℕ, List, [], IfOk};
+ghost use Rattle.commands.specs.inner.Feeding.{Extends};
+ghost use Rattle.commands.specs.inner.Testing.{IsTesting};
+ghost use Rattle.commands.specs.Known.{Of};
+ghost use Rattle.commands.specs.Testing.{TellsAnswer, Tests, TestsAnswer, cannot_read_answer_text};
+ghost use Rattle.dimacs.specs.logic.Cnf.{Cnf};
+ghost use Rattle.leaves.specs.Leaf.{Prints};
+
+use crate::beginning::refused_input;
+use crate::disk::Disk;
+use crate::feeding::{Feeds, feed_all};
+use crate::formula::{out_of_memory, read_formula};
+use answers::ModelCheck;
+use reports::{Refusal, Report};
+use std::alloc::Global;
+
+impl Feeds for ModelCheck {
+    ghost use Rattle.commands.specs.inner.Feeding.{extends_nothing, extends_more};
+
+    ghost took = { λ old new more. (F : Cnf) → Extends (IsTesting F) old new more };
+
+    ghost nothing = { λ s F. extends_nothing (IsTesting F) s };
+
+    ghost more = { λ a b c xs ys h k F. extends_more (IsTesting F) a b c xs ys (h F) (k F) };
+
+    fn feed(&mut self, piece: &[u8]) -> Result<(), Refusal> {
+        ModelCheck::feed(self, piece);
+        Ok(())
+    }
+
+    fn is_settled(&self) -> bool {
+        false
+    }
+}
+
+/// The report of an answer that cannot be read; any other refusal stays.
+fn unread(alloc: Global, refusal: Refusal) -> Result<Report, Refusal>
+    ensures { IfOk result (Prints 1 cannot_read_answer_text) }
+{
+    match refusal {
+        Refusal::Proof => Report::of(alloc, b"c cannot read answer\n", 1).map_err(out_of_memory),
+        other => Err(other),
+    }
+}
+
+/// The report of an answer that was read to its end.
+fn finished(check: ModelCheck) -> Result<Report, Refusal>
+    ensures { (F : Cnf) (bytes : List ℕ) → IsTesting F bytes check → IfOk result (Tests F bytes) }
+{
+    match check.finish() {
+        Ok(found) => Ok(Report {
+            stdout: found.text,
+            status: found.status,
+            proof: None,
+        }),
+        Err(_) => Err(Refusal::NoMemory),
+    }
+}
+
+/// Reads an answer to its end, also behind a fault, and reports it.
+fn tested<D: Disk>(disk: &D, mut check: ModelCheck, answer: &str) -> Result<Report, Refusal>
+    ensures { (F : Cnf) → IsTesting F [] check → IfOk result (λ r. Of (D.holds disk.now answer.now) (λ bytes. Tests F bytes r)) }
+{
+    let mut bytes = disk.open(answer, Refusal::Proof)?;
+    feed_all(&mut bytes, &mut check)?;
+    finished(check)
+}
+
+/// The report of an answer, also of one that cannot be read.
+fn told<D: Disk>(disk: &D, check: ModelCheck, answer: &str) -> Result<Report, Refusal>
+    ensures { (F : Cnf) → IsTesting F [] check → IfOk result (TellsAnswer F (D.holds disk.now answer.now)) }
+{
+    match tested(disk, check, answer) {
+        Ok(report) => Ok(report),
+        Err(refusal) => unread(disk.alloc(), refusal),
+    }
+}
+
+/// Tests the answer in a file against the formula in another. Of a faulty formula nothing more is read.
+pub fn test_files<D: Disk>(disk: &D, input: &str, answer: &str) -> Result<Report, Refusal>
+    ensures { IfOk result (λ r. Of (D.holds disk.now input.now) (λ text. TestsAnswer text (D.holds disk.now answer.now) r)) }
+{
+    let mut text = disk.open(input, Refusal::Input)?;
+    let found = read_formula(disk.alloc(), &mut text)?;
+    match found {
+        Ok(formula) => told(disk, ModelCheck::of(disk.alloc(), formula), answer),
+        Err(fault) => refused_input(disk.alloc(), fault),
+    }
+}

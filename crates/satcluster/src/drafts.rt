@@ -1,0 +1,102 @@
+//! The files that a run writes.
+
+use crate::files::Machine;
+use crate::proof_file::{
+    Part, Place, append, is_printed_to, is_same_file, keep, make_part, place_of, remove,
+};
+use commands::{Drafts, Target, Way, refused, write_text};
+use node_main::Refusal;
+use packed_text::PackedText;
+use std::fs::{File, OpenFile};
+use std::io;
+use std::io::Write;
+use std::rt::Runtime;
+
+/// A file in the making.
+#[derive(Drop)]
+pub(crate) enum Draft<F> {
+    /// Beside its place.
+    Beside(Part<F>, Place),
+    /// In its place.
+    InPlace(F),
+}
+
+fn not_written(error: io::Error) -> Refusal {
+    refused(error, Refusal::Writing)
+}
+
+/// A new file beside the place to which the path leads; none where none can be made there.
+fn begin_beside<R: Runtime + AllocGlobal>(
+    rt: &R,
+    path: &str,
+) -> Result<Option<Draft<R::File>>, Refusal> {
+    let Some(place) = place_of(rt, path).map_err(not_written)? else {
+        return Ok(None);
+    };
+    if is_printed_to(rt, &place) {
+        return Err(Refusal::Writing);
+    }
+    match make_part(rt, &place, false).map_err(not_written)? {
+        Some(part) => Ok(Some(Draft::Beside(part, place))),
+        None => Ok(None),
+    }
+}
+
+impl<R: Runtime + AllocGlobal> Drafts for Machine<'_, R> {
+    type Draft = Draft<R::File>;
+
+    fn is_same(&self, path: &str, other: &str) -> bool {
+        is_same_file(self.rt, path, other)
+    }
+
+    fn begin(&self, path: &str, way: Way) -> Result<Option<Draft<R::File>>, Refusal> {
+        match way {
+            Way::Beside => begin_beside(self.rt, path),
+            Way::InPlace => {
+                let file = File::create(self.rt, path).map_err(not_written)?;
+                Ok(Some(Draft::InPlace(file)))
+            }
+        }
+    }
+
+    fn append(&self, draft: &mut Draft<R::File>, bytes: &[u8]) -> Result<(), Refusal> {
+        let written = match draft {
+            Draft::Beside(part, _) => append(part, bytes),
+            Draft::InPlace(file) => file.write_all(bytes),
+        };
+        written.map_err(not_written)
+    }
+
+    fn keep(&mut self, draft: Draft<R::File>) -> Result<bool, Refusal> {
+        match draft {
+            Draft::Beside(part, place) => keep(self.rt, part, &place).map_err(not_written),
+            Draft::InPlace(_) => Ok(true),
+        }
+    }
+
+    fn remove(&self, draft: Draft<R::File>) {
+        match draft {
+            Draft::Beside(part, _) => remove(self.rt, part),
+            Draft::InPlace(_) => {}
+        }
+    }
+}
+
+/// Writes a proof to the file at a path, unless it is one of the files that were read.
+pub(crate) fn write_proof<R: Runtime + AllocGlobal>(
+    rt: &R,
+    target: Target<'_>,
+    proof: &PackedText,
+    input: &str,
+    cubes: Option<&str>,
+) -> Result<(), Refusal> {
+    let was_read = is_same_file(rt, target.path, input)
+        || match cubes {
+            Some(cubes) => is_same_file(rt, target.path, cubes),
+            None => false,
+        };
+    if was_read {
+        return Err(Refusal::Writing);
+    }
+    write_text(&mut Machine { rt }, target, proof)
+}
