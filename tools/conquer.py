@@ -277,7 +277,7 @@ def cores() -> Optional[int]:
 def conquer(asked: Namespace, screen: Screen) -> int:
     plan, engine_of = plan_of(asked), ENGINES[asked.engine]
     engine_of.test()
-    test_places(asked.PROOF, plan.input)
+    test_places(asked.PROOF, asked.INPUT)
     folder = Folder(asked.folder or asked.INPUT + ".conquer")
     folder.lock()
     plan.input = unpack(folder, plan.input)

@@ -102,6 +102,7 @@ class Case(unittest.TestCase):
 
 class Faults(Case):
     def test_examples(self) -> None:
+        looks = {row.sentence: row.key for row in variants("looks", "Look")}
         for table in TABLES:
             rows = {row.key: row for row in table.rows()}
             self.assertLessEqual(set(map(str, table.examples)), set(rows))
@@ -113,7 +114,10 @@ class Faults(Case):
                 self.assertRegex(fault, r"line \d+ fault %d$" % number, (table.name, example))
                 place = fault.split("line ")[1].split()[0]
                 sentence = rows[str(number)].sentence
-                self.tells(["example, line %s: %s" % (place, sentence)], *words)
+                told = self.tells(["example, line %s: %s" % (place, sentence)], *words)
+                found = [looks[line[2:]] for line in told if line[2:] in looks]
+                is_bare = (table.name, number) == ("input", 1)
+                self.assertEqual(["Clauses"] if is_bare else [], found, (table.name, example))
 
     def test_line(self) -> None:
         self.write("f.cnf", "p cnf 9 3000\n" + "1 2 0\n" * 2000 + "1 x 0\n")

@@ -163,7 +163,7 @@ class Solver:
             listen(process, lines)
         finally:
             end(process, PATIENCE)
-        shown = {source.path: words.shown(self.asked.formula)}
+        shown = {os.path.abspath(source.path): words.shown(self.asked.formula)}
         self.tell(process, source, lines, lambda _: told_in(errors, shown))
 
     def more(self) -> List[str]:

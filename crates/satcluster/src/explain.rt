@@ -396,6 +396,14 @@ fn is_early(found: &Fault) -> bool {
     found.number <= 3 || found.at <= 2
 }
 
+/// The line by which it is told what a file is: a fault of a greater number is none of its form.
+fn telling_line<'a>(view: &'a View, found: &Fault) -> &'a [u8] {
+    match found.unit {
+        Unit::Line if found.number > 2 => &[],
+        _ => view.line.as_slice(),
+    }
+}
+
 /// Tells what a fault means, where it is, and what to do.
 fn explain_fault<R: Runtime + AllocGlobal>(rt: &R, paths: &Paths, found: &Fault) {
     let Some((path, subject)) = faulty(paths, found.file) else {
@@ -413,7 +421,7 @@ fn explain_fault<R: Runtime + AllocGlobal>(rt: &R, paths: &Paths, found: &Fault)
             tell_token(rt, view.line.as_slice());
         }
     }
-    let look = look_of(subject, view.head.as_slice(), view.line.as_slice());
+    let look = look_of(subject, view.head.as_slice(), telling_line(&view, found));
     match look {
         Some(look) if is_early(found) => tell_of(rt, look.told(), path),
         _ => tell(rt, told.remedy, "FILE", in_command(path)),
