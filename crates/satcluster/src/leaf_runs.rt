@@ -4,9 +4,7 @@ use crate::files::{Machine, no_memory};
 use crate::join::stopped;
 use crate::proof_file::{Target, write_proof};
 use commands::{Begun, begin_files, hushed};
-use leaves::{
-    Search, Split, run_leaf, run_refute, run_refute_all, run_split, run_split_by_look,
-};
+use leaves::{Search, Split, run_leaf, run_refute, run_refute_all, run_split, run_split_by_look};
 use node_main::{Refusal, Report};
 use std::alloc::Global;
 use std::rt::Runtime;
