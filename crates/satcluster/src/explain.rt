@@ -332,12 +332,8 @@ fn view_of<R: Runtime + AllocGlobal>(rt: &R, path: &str, found: &Fault) -> View 
 
 /// Tells a line, if it is a text and not empty; a long one is cut.
 fn tell_line<R: Runtime>(rt: &R, line: &[u8]) {
-    let text = if line.len() > WIDTH {
-        &line[..WIDTH]
-    } else {
-        line
-    };
     let is_cut = line.len() > WIDTH;
+    let text = &line[..WIDTH.min(line.len())];
     let is_text = text.iter().all(|byte| *byte >= b' ' && *byte < 127);
     if !is_text || text.is_empty() {
         return;
