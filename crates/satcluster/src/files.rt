@@ -36,13 +36,19 @@ impl<R: Runtime + AllocGlobal> Disk for Machine<'_, R> {
     }
 
     fn open(&self, path: &str, refusal: Refusal) -> Result<Pieces<R::File>, Refusal> {
-        let file = File::open(self.rt, path_of(path)).map_err(|error| refused(error, refusal))?;
+        let file = match File::open(self.rt, path_of(path)) {
+            Ok(file) => file,
+            Err(error) => return Err(refused(error, refusal)),
+        };
         // A pipe, a terminal or a device may have no end.
         let has_end = match file.metadata() {
             Ok(metadata) => metadata.is_file(),
             Err(_) => false,
         };
-        Pieces::of(self.rt.alloc(), file, has_end, refusal).map_err(no_memory)
+        match Pieces::of(self.rt.alloc(), file, has_end, refusal) {
+            Ok(pieces) => Ok(pieces),
+            Err(_) => Err(Refusal::NoMemory),
+        }
     }
 }
 
