@@ -160,8 +160,10 @@ fn paths_of<'a>(request: &'a Request<'_>) -> Paths<'a> {
             Paths::of(input, None, None).reading(proof, Subject::Proof)
         }
         Request::Cubes { input, .. } => Paths::of(input, None, None),
+        Request::Look { input, .. } => Paths::of(input, None, None),
         Request::Drill { input, .. } => Paths::of(input, None, None),
         Request::Split { input, cubes, .. } => Paths::of(input, Some(cubes), None),
+        Request::SplitByLook { input, cubes, .. } => Paths::of(input, Some(cubes), None),
         Request::Complete { input, list } => Paths::of(input, Some(list), None),
         Request::Leaf { input, cubes, .. } => Paths::of(input, Some(cubes), None),
         Request::Refute {
@@ -182,7 +184,7 @@ fn paths_of<'a>(request: &'a Request<'_>) -> Paths<'a> {
             cubes: Some(cubes),
             read: None,
             read_as: Subject::Proof,
-            written: Some(proof),
+            written: proof,
             joined: fragments.as_slice(),
         },
         Request::Lift {

@@ -233,9 +233,9 @@ fn is_quiet(request: &Request) -> bool {
 const COMMON: &[u8] =
     b"\nEvery command takes --explain: in words, on standard error, what a c line means, and what to do\n";
 
-/// Whether the words ask for the version, which is a line by itself.
+/// Whether the words, of which the first names the program, ask for the version, which is a line by itself.
 fn asks_for_version(words: &[&str]) -> bool {
-    match words.first() {
+    match words.get(1) {
         Some(word) => *word == "--version" || *word == "-V",
         None => false,
     }
