@@ -26,7 +26,7 @@ sys.dont_write_bytecode = True
 
 from cases import run
 from session_cases import Event, changes, drawn, events_text, expected, text_of
-from telling.faults import SESSION_EVENTS
+from telling.faults import TABLES
 
 HERE = Path(__file__).resolve().parent
 SECONDS = 60  # how long a run may take
@@ -163,10 +163,9 @@ class Texts(Case):
         self.assertEqual((0, VERIFIED), self.check(spelled, text_of(PROOF)))
         self.assertEqual(22, int(self.check(events_text(EVENTS[:-1]) + "a -3 -3 0\n",
                                             text_of(PROOF[:-3]))[1][1].split()[-1]))
-        for row in SESSION_EVENTS.rows:
-            if row.example:
-                line = max(row.example.count("\n"), 1)
-                self.faulty(row.example, text_of(PROOF), line, row.number)
+        examples = next(table.examples for table in TABLES if table.name == "events")
+        for fault, example in examples.items():
+            self.faulty(example, text_of(PROOF), max(example.count("\n"), 1), fault)
         for line, fault in (("1 x 0", 3), ("1 a 0", 3), ("+1 0", 3), ("1 2", 5), ("a 1", 5), ("a", 5),
                             ("1 0 2 0", 5), ("a 0 0", 5), ("1000001 0", 8), ("a -1000001 0", 8),
                             ("1 x 1000001", 3), ("1000001 x", 8), ("a a 1 0", 3), ("p inccnf", 3)):
