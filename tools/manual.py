@@ -43,6 +43,11 @@ class Word(NamedTuple):
         return (word if self.is_needed else "[%s]" % word) + (".." if self.is_many else "")
 
 
+# A word of every command, which the program takes out before it looks at the others.
+EXPLAIN = Word("--explain", "", False, False,
+               "Tell on standard error, in words, what a c line means, and what to do")
+
+
 class Command(NamedTuple):
     name: str
     about: str
@@ -153,7 +158,9 @@ def man(p: Program) -> Iterator[str]:
             yield ".TP\n.B %s\n%s" % (roff((word.text + " " + word.value).strip()), roff(word.help))
         yield ".PP\n" + roff(command.status)
     yield ".SS help, \\-\\-help, \\-\\-version\nHelp, also behind a command, or the version."
-    yield ".PP\n%s\n.SH TOOLS" % roff(p.status)
+    yield ".PP\n%s\n.SS \\-\\-explain\nA word of every command. %s." % (
+        roff(p.status), roff(EXPLAIN.help))
+    yield ".SH TOOLS"
     yield from (".TP\n.B %s\n%s" % (roff(line), roff(text)) for line, text in TOOLS)
     yield ".SH SEE ALSO\nshare/doc/satcluster: README.md, and docs/COMMANDS.md on each line."
 
@@ -163,7 +170,7 @@ def bash(p: Program) -> Iterator[str]:
     yield "_satcluster() {\n    local words=\n    case $COMP_CWORD,${COMP_WORDS[1]},$2 in"
     yield "        1,*) words='%s --help --version' ;;" % " ".join(c.name for c in p.commands)
     for c in p.commands:
-        words = [w.text for w in c.options] + ["--help"]
+        words = [w.text for w in c.options + [EXPLAIN]] + ["--help"]
         yield "        *,%s,-*) words='%s' ;;" % (c.name, " ".join(words))
     yield "    esac\n    COMPREPLY=($(compgen -W \"$words\" -- \"$2\"))\n}"
     yield "complete -o default -F _satcluster satcluster"
@@ -184,7 +191,7 @@ def zsh(p: Program) -> Iterator[str]:
     yield "    compadd -- --help --version\n    return\nfi"
     yield "local command=$words[2]\nshift words\n((CURRENT--))\ncase $command in"
     for c in p.commands:
-        words = " ".join(map(option, c.options))
+        words = " ".join(map(option, c.options + [EXPLAIN]))
         yield "    %s) _arguments %s '*:file:_files' ;;" % (c.name, words)
     yield "esac"
 
@@ -197,7 +204,7 @@ def fish(p: Program) -> Iterator[str]:
     for c in p.commands:
         yield "complete -c satcluster -n __fish_use_subcommand -f -a %s -d %s" % (
             c.name, quoted(c.about))
-        for w in c.options:
+        for w in c.options + [EXPLAIN]:
             name = "-l " + w.text[2:] if w.text.startswith("--") else "-s " + w.text[1:]
             behind = {"FILE": " -r", "N": " -x"}.get(w.value, "")
             yield "complete -c satcluster -n '__fish_seen_subcommand_from %s' %s%s -d %s" % (
