@@ -1,8 +1,11 @@
 mod FeedLemmas
 mod KnownLemmas
+mod LiftLemmas
 mod ModelLemmas
+mod NextLemmas
 mod OfLemmas
 mod PartLemmas
 mod TextLemmas
 mod TreeLemmas
+mod TrimLemmas
 mod WritingLemmas

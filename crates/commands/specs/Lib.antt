@@ -2,9 +2,11 @@ pub mod Beginning
 pub mod Checking
 pub mod Feeding
 pub mod Known
+pub mod Lifting
 pub mod Printing
 pub mod Refusals
 pub mod Testing
 pub mod Trees
+pub mod Trimming
 pub mod Written
 pub mod inner

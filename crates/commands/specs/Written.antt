@@ -1,5 +1,5 @@
 -- Files that are made, and the form of what is written.
-use Rattle.std.specs.Prelude.{◌≡◌, ℕ, Bool, true, false, List, Result, Ok, Err}
+use Rattle.std.specs.Prelude.{◌≡◌, ℕ, Bool, true, false, List, Option, Some, None, Result, Ok, Err}
 use Rattle.lrat_forms.specs.Spelling.{SpellTheSame}
 use Rattle.reports.specs.declared.refusal.Refusal.{Refusal}
 
@@ -18,3 +18,8 @@ pub record Keeps {D : Type 0} (kept : D → D → List ℕ → List ℕ → Type
   pub bytes : List ℕ
   pub form : IsIn binary text bytes
   pub stands : kept old new path bytes
+
+-- a text, where there is one, is kept; else the disk is as it was
+abbrev pub IsWritten : {D : Type 0} → (D → D → List ℕ → List ℕ → Type 0) → D → D → Bool → List ℕ → Option (List ℕ) → Type 0
+IsWritten kept old new binary path None = new ≡ old
+IsWritten kept old new binary path (Some text) = Keeps kept old new binary path text

@@ -1,5 +1,9 @@
 pub mod Beginning
 pub mod Feeding
+pub mod Lifting
+pub mod Moving
 pub mod Parts
+pub mod Pouring
 pub mod Testing
 pub mod Texts
+pub mod Trimming

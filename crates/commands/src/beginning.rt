@@ -1,10 +1,11 @@
 //! What a command over leaves begins with: a formula, and the tree of its cubes.
 
-ghost use Rattle.std.specs.Prelude.{◌≡◌, ◌≢◌, ℕ, List, Ok, Err, [], ◌++◌, IfOk, OnOk};
+ghost use Rattle.std.specs.Prelude.{◌≡◌, ◌≢◌, ℕ, List, Ok, Err, [], ◌++◌, IfOk, IfErr, OnOk};
 ghost use Rattle.commands.specs.Beginning.{Begins, IsHushed, cubes_text};
 ghost use Rattle.commands.specs.inner.Beginning.{ReadsTree};
 ghost use Rattle.commands.specs.inner.Feeding.{Extends};
 ghost use Rattle.commands.specs.Known.{Of};
+ghost use Rattle.commands.specs.Refusals.{IsRefusedAs, IsUnread, IsWanting};
 ghost use Rattle.dimacs.specs.text.Reading.{GivesFormula, parse, no_memory};
 ghost use Rattle.icnf.specs.Reading.{no_memory as no_cubes_memory};
 ghost use Rattle.icnf.specs.declared.cubes_fault.CubesFault.TheVariants.{Faulty};
@@ -63,6 +64,7 @@ impl Feeds for TreeText {
 fn refused_cubes(alloc: Global, fault: CubesFault) -> Result<Report, Refusal>
     ensures text { IfOk result (Prints 1 (cubes_text fault)) }
     ensures memory { OnOk result (fault ≢ Faulty no_cubes_memory) }
+    ensures refused { IfErr result IsWanting }
 {
     let report = match fault {
         CubesFault::Faulty(fault) if fault.kind == CubesKind::NoMemory => {
@@ -78,6 +80,7 @@ fn refused_cubes(alloc: Global, fault: CubesFault) -> Result<Report, Refusal>
 pub fn refused_input(alloc: Global, fault: DimacsFault) -> Result<Report, Refusal>
     ensures text { IfOk result (Prints 1 (input_fault_text fault)) }
     ensures memory { OnOk result (fault ≢ no_memory) }
+    ensures refused { IfErr result IsWanting }
 {
     if fault.kind == Kind::NoMemory {
         return Err(Refusal::NoMemory);
@@ -87,7 +90,8 @@ pub fn refused_input(alloc: Global, fault: DimacsFault) -> Result<Report, Refusa
 
 /// What was read of the cubes of an input, once no further byte comes.
 fn ended(alloc: Global, text: TreeText) -> Result<Begun, Refusal>
-    ensures { (input cubes : List ℕ) → ReadsTree input cubes text.reader → IfOk result (Begins input cubes) }
+    ensures begins { (input cubes : List ℕ) → ReadsTree input cubes text.reader → IfOk result (Begins input cubes) }
+    ensures refused { IfErr result IsWanting }
 {
     let TreeText { reader } = text;
     match reader {
@@ -101,7 +105,8 @@ fn ended(alloc: Global, text: TreeText) -> Result<Begun, Refusal>
 
 /// What reads the cubes of an input that was read, or has a fault; it has read no byte.
 fn opened(alloc: Global, found: Result<Formula, DimacsFault>) -> Result<TreeText, Refusal>
-    ensures { IfOk result (λ t. (input : List ℕ) → GivesFormula found (parse input) → ReadsTree input [] t.reader) }
+    ensures reads { IfOk result (λ t. (input : List ℕ) → GivesFormula found (parse input) → ReadsTree input [] t.reader) }
+    ensures refused { IfErr result IsWanting }
 {
     let reader = match found {
         Ok(formula) => SplitReader::new(alloc, formula).map_err(out_of_memory)?,
@@ -116,8 +121,9 @@ fn begin<S: Read + Drop>(
     found: Result<Formula, DimacsFault>,
     cubes: &mut Pieces<S>,
 ) -> Result<Begun, Refusal>
-    ensures { (input : List ℕ) → GivesFormula found (parse input)
+    ensures begins { (input : List ℕ) → GivesFormula found (parse input)
         → IfOk result (λ b. Of (S.remaining cubes.old.source) (λ text. Begins input text b)) }
+    ensures refused { IfErr result (IsRefusedAs cubes.old.refusal) }
 {
     let mut text = opened(alloc, found)?;
     feed_all(cubes, &mut text)?;
@@ -126,7 +132,8 @@ fn begin<S: Read + Drop>(
 
 /// Reads a formula, and the tree of its cubes. A file that cannot be read is told before a fault of the other one.
 pub fn begin_files<D: Disk>(disk: &D, input: &str, cubes: &str) -> Result<Begun, Refusal>
-    ensures { IfOk result (λ b. Of (D.holds disk.now input.now) (λ text. Of (D.holds disk.now cubes.now) (λ tree. Begins text tree b))) }
+    ensures begins { IfOk result (λ b. Of (D.holds disk.now input.now) (λ text. Of (D.holds disk.now cubes.now) (λ tree. Begins text tree b))) }
+    ensures refused { IfErr result (IsUnread Refusal.Input Refusal.Cubes) }
 {
     let mut text = disk.open(input, Refusal::Input)?;
     let found = read_formula(disk.alloc(), &mut text)?;

@@ -1,9 +1,10 @@
 //! `check`: an input is read, and a proof checked, while their files are read.
 
-ghost use Rattle.std.specs.Prelude.{◌≡◌, ◌++◌, ℕ, List, [], IfOk};
+ghost use Rattle.std.specs.Prelude.{◌≡◌, ◌++◌, ℕ, List, [], IfOk, IfErr};
 ghost use Rattle.commands.specs.Checking.{Checks};
 ghost use Rattle.commands.specs.inner.Feeding.{Extends};
 ghost use Rattle.commands.specs.Known.{Of};
+ghost use Rattle.commands.specs.Refusals.{IsUnread};
 ghost use Rattle.node_main.specs.ProofChecks.{HasTaken};
 
 use crate::disk::Disk;
@@ -33,7 +34,8 @@ impl Feeds for ProofCheck {
 
 /// Checks the proof in a file, of the formula in another.
 pub fn check_files<D: Disk>(disk: &D, input: &str, proof: &str) -> Result<Report, Refusal>
-    ensures { IfOk result (λ r. Of (D.holds disk.now input.now) (λ text. Of (D.holds disk.now proof.now) (λ bytes. Checks text bytes r))) }
+    ensures report { IfOk result (λ r. Of (D.holds disk.now input.now) (λ text. Of (D.holds disk.now proof.now) (λ bytes. Checks text bytes r))) }
+    ensures refused { IfErr result (IsUnread Refusal.Input Refusal.Proof) }
 {
     let mut text = disk.open(input, Refusal::Input)?;
     let found = read_formula(disk.alloc(), &mut text)?;

@@ -1,6 +1,7 @@
 //! Files that are made.
 
-ghost use Rattle.std.specs.Prelude.{◌≡◌, ◌++◌, ℕ, Bool, false, List, [], IfOk, IfSome, IsTrue, OnOk};
+ghost use Rattle.std.specs.Prelude.{◌≡◌, ◌++◌, ℕ, Bool, false, List, [], IfOk, IfErr, IfSome, IsTrue, OnOk};
+ghost use Rattle.commands.specs.Refusals.{IsRefusedAs};
 ghost use Rattle.commands.specs.Written.{IsLeft};
 
 use crate::disk::Disk;
@@ -44,16 +45,19 @@ pub trait Drafts: Disk {
 
     /// Begins a file that comes to its place in this way; none where it cannot.
     fn begin(&self, path: &str, way: Way) -> Result<Option<Self::Draft>, Refusal>
-        ensures { IfOk result (λ found. IfSome found (λ draft. made draft path.now [])) };
+        ensures begun { IfOk result (λ found. IfSome found (λ draft. made draft path.now [])) }
+        ensures refused { IfErr result (IsRefusedAs Refusal.Writing) };
 
     /// Writes behind what the file has.
     fn append(&self, draft: &mut Self::Draft, bytes: &[u8]) -> Result<(), Refusal>
-        ensures { OnOk result ((path before : List ℕ) → made draft.old path before → made draft.new path (before ++ bytes.now)) };
+        ensures written { OnOk result ((path before : List ℕ) → made draft.old path before → made draft.new path (before ++ bytes.now)) }
+        ensures refused { IfErr result (IsRefusedAs Refusal.Writing) };
 
     /// Lets the file take its place, and tells whether it could; else it is gone.
     fn keep(&mut self, draft: Self::Draft) -> Result<bool, Refusal>
         ensures kept { IfOk result (λ b. IsTrue b → (path bytes : List ℕ) → made draft path bytes → kept self.old self.new path bytes) }
-        ensures left { IsLeft self.old self.new result };
+        ensures left { IsLeft self.old self.new result }
+        ensures refused { IfErr result (IsRefusedAs Refusal.Writing) };
 
     /// The file is gone.
     fn remove(&self, draft: Self::Draft);

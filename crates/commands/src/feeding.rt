@@ -1,7 +1,9 @@
 //! The loop that feeds what is read.
 
-ghost use Rattle.std.specs.Prelude.{◌≡◌, ◌++◌, [], ℕ, List, OnOk, IsTrue, IfOk};
-ghost use Rattle.commands.specs.Feeding.{IsFed, IsFedSo};
+ghost use Rattle.std.specs.Prelude.{◌≡◌, ◌⊎◌, ◌++◌, [], ℕ, List, OnOk, IsTrue, IfOk, IfErr};
+ghost use Rattle.commands.specs.Feeding.{IsFed, IsFedSo, IsToldAs};
+ghost use Rattle.commands.specs.Refusals.{IsRefusedAs, IsWanting};
+ghost use Rattle.reports.specs.declared.refusal.Refusal.{Refusal};
 
 use crate::pieces::Pieces;
 use reports::Refusal;
@@ -12,13 +14,17 @@ pub trait Feeds {
     // from the one state to the other by these bytes
     ghost took: { Self → Self → List ℕ → Type 0 };
 
+    // what an error may be
+    ghost fails: { Refusal → Type 0 } = { IsWanting };
+
     ghost nothing: { (s : Self) → took s s [] };
 
     ghost more: { (a b c : Self) (xs ys : List ℕ) → took a b xs → took b c ys → took a c (xs ++ ys) };
 
     /// Takes the next piece. An error ends the run.
     fn feed(&mut self, piece: &[u8]) -> Result<(), Refusal>
-        ensures { OnOk result (took self.old self.new piece.now) };
+        ensures taken { OnOk result (took self.old self.new piece.now) }
+        ensures refused { IfErr result fails };
 
     /// Whether no further byte changes anything.
     fn is_settled(&self) -> bool
@@ -40,7 +46,9 @@ pub fn feed_on<S: Read + Drop, T: Feeds>(
     pieces: &mut Pieces<S>,
     taker: &mut T,
 ) -> Result<Fed, Refusal>
-    ensures { IfOk result (IsFedSo T.took (S.remaining pieces.old.source) taker.old taker.new) }
+    ensures fed { IfOk result (IsFedSo T.took (S.remaining pieces.old.source) taker.old taker.new) }
+    ensures told { IfOk result (IsToldAs pieces.old.refusal) }
+    ensures refused { IfErr result T.fails }
 {
     for _ in 0..u64::MAX {
         if taker.is_settled() && !pieces.has_end {
@@ -61,7 +69,8 @@ pub fn feed_all<S: Read + Drop, T: Feeds>(
     pieces: &mut Pieces<S>,
     taker: &mut T,
 ) -> Result<(), Refusal>
-    ensures { OnOk result (IsFed T.took (S.remaining pieces.old.source) taker.old taker.new) }
+    ensures fed { OnOk result (IsFed T.took (S.remaining pieces.old.source) taker.old taker.new) }
+    ensures refused { IfErr result (λ f. IsRefusedAs pieces.old.refusal f ⊎ T.fails f) }
 {
     match feed_on(pieces, taker)? {
         Fed::Whole => Ok(()),

@@ -1,10 +1,11 @@
 //! A formula, or all bytes, of a source.
 
-ghost use Rattle.std.specs.Prelude.{◌≡◌, IfOk};
+ghost use Rattle.std.specs.Prelude.{◌≡◌, IfOk, IfErr};
 ghost use Rattle.dimacs.specs.text.Pieces.{HasRead};
 ghost use Rattle.dimacs.specs.text.Reading.{GivesFormula, parse};
 ghost use Rattle.commands.specs.inner.Feeding.{Extends};
 ghost use Rattle.commands.specs.Known.{Of};
+ghost use Rattle.commands.specs.Refusals.{IsRefusedAs};
 
 use crate::feeding::{Feeds, feed_all};
 use crate::pieces::Pieces;
@@ -14,7 +15,9 @@ use std::alloc::Global;
 use std::io::Read;
 
 /// The refusal of a growth.
-pub(crate) fn out_of_memory<E: Drop>(_error: E) -> Refusal {
+pub(crate) fn out_of_memory<E: Drop>(_error: E) -> Refusal
+    ensures { result ≡ Refusal.NoMemory }
+{
     Refusal::NoMemory
 }
 
@@ -42,7 +45,8 @@ pub fn read_formula<S: Read + Drop>(
     alloc: Global,
     pieces: &mut Pieces<S>,
 ) -> Result<Result<Formula, DimacsFault>, Refusal>
-    ensures { IfOk result (λ found. Of (S.remaining pieces.old.source) (λ text. GivesFormula found (parse text))) }
+    ensures found { IfOk result (λ found. Of (S.remaining pieces.old.source) (λ text. GivesFormula found (parse text))) }
+    ensures refused { IfErr result (IsRefusedAs pieces.old.refusal) }
 {
     let mut reader = FormulaReader::new(alloc);
     feed_all(pieces, &mut reader)?;
@@ -80,7 +84,8 @@ pub fn read_bytes<S: Read + Drop>(
     pieces: &mut Pieces<S>,
     len: usize,
 ) -> Result<Vec<u8>, Refusal>
-    ensures { IfOk result (λ bytes. Of (S.remaining pieces.old.source) (λ all. bytes.items ≡ all)) }
+    ensures whole { IfOk result (λ bytes. Of (S.remaining pieces.old.source) (λ all. bytes.items ≡ all)) }
+    ensures refused { IfErr result (IsRefusedAs pieces.old.refusal) }
 {
     let mut bytes = Bytes {
         items: Vec::with_capacity(alloc, len).map_err(out_of_memory)?,

@@ -1,7 +1,8 @@
 //! `leaf` and `cubes --split`: a formula and the tree of its cubes are read, and a leaf is worked on.
 
-ghost use Rattle.std.specs.Prelude.{◌≡◌, ℕ, List, IfOk};
+ghost use Rattle.std.specs.Prelude.{◌≡◌, ℕ, List, IfOk, IfErr};
 ghost use Rattle.commands.specs.Known.{Of};
+ghost use Rattle.commands.specs.Refusals.{IsUnread};
 ghost use Rattle.commands.specs.Trees.{OfTree};
 ghost use Rattle.leaves.specs.Leaf.{PrintsLeaf};
 ghost use Rattle.leaves.specs.Looking.{PrintsCut};
@@ -15,7 +16,8 @@ use reports::{Refusal, Report};
 
 /// The leaf of a number as a formula of its own.
 pub fn leaf_files<D: Disk>(disk: &D, input: &str, cubes: &str, leaf: u64) -> Result<Report, Refusal>
-    ensures { IfOk result (λ r. Of (D.holds disk.now input.now) (λ text. Of (D.holds disk.now cubes.now) (λ lines. OfTree text lines (λ F tree. PrintsLeaf F tree leaf r) r))) }
+    ensures report { IfOk result (λ r. Of (D.holds disk.now input.now) (λ text. Of (D.holds disk.now cubes.now) (λ lines. OfTree text lines (λ F tree. PrintsLeaf F tree leaf r) r))) }
+    ensures refused { IfErr result (IsUnread Refusal.Input Refusal.Cubes) }
 {
     let begun = begin_files(disk, input, cubes)?;
     match begun {
@@ -32,7 +34,8 @@ pub fn split_files<D: Disk>(
     leaf: u64,
     on: Option<u32>,
 ) -> Result<Report, Refusal>
-    ensures { IfOk result (λ r. Of (D.holds disk.now input.now) (λ text. Of (D.holds disk.now cubes.now) (λ lines. OfTree text lines (λ F tree. PrintsSplit F tree leaf on r) r))) }
+    ensures report { IfOk result (λ r. Of (D.holds disk.now input.now) (λ text. Of (D.holds disk.now cubes.now) (λ lines. OfTree text lines (λ F tree. PrintsSplit F tree leaf on r) r))) }
+    ensures refused { IfErr result (IsUnread Refusal.Input Refusal.Cubes) }
 {
     let begun = begin_files(disk, input, cubes)?;
     match begun {
@@ -48,7 +51,8 @@ pub fn split_by_look_files<D: Disk>(
     cubes: &str,
     leaf: u64,
 ) -> Result<Report, Refusal>
-    ensures { IfOk result (λ r. Of (D.holds disk.now input.now) (λ text. Of (D.holds disk.now cubes.now) (λ lines. OfTree text lines (λ F tree. PrintsCut F tree leaf r) r))) }
+    ensures report { IfOk result (λ r. Of (D.holds disk.now input.now) (λ text. Of (D.holds disk.now cubes.now) (λ lines. OfTree text lines (λ F tree. PrintsCut F tree leaf r) r))) }
+    ensures refused { IfErr result (IsUnread Refusal.Input Refusal.Cubes) }
 {
     let begun = begin_files(disk, input, cubes)?;
     match begun {

@@ -1,9 +1,10 @@
 //! `model`: a formula is read, and a solver's answer tested against it, while their files are read.
 
-ghost use Rattle.std.specs.Prelude.{◌≡◌, ◌++◌, ℕ, List, [], IfOk};
+ghost use Rattle.std.specs.Prelude.{◌≡◌, ◌++◌, ℕ, List, [], IfOk, IfErr};
 ghost use Rattle.commands.specs.inner.Feeding.{Extends};
 ghost use Rattle.commands.specs.inner.Testing.{IsTesting};
 ghost use Rattle.commands.specs.Known.{Of};
+ghost use Rattle.commands.specs.Refusals.{IsRefusedAs, IsWanting};
 ghost use Rattle.commands.specs.Testing.{TellsAnswer, Tests, TestsAnswer, cannot_read_answer_text};
 ghost use Rattle.dimacs.specs.logic.Cnf.{Cnf};
 ghost use Rattle.leaves.specs.Leaf.{Prints};
@@ -35,9 +36,10 @@ impl Feeds for ModelCheck {
     }
 }
 
-/// The report of an answer that cannot be read; any other refusal stays.
+/// The report of an answer that cannot be read; want of memory stays.
 fn unread(alloc: Global, refusal: Refusal) -> Result<Report, Refusal>
-    ensures { IfOk result (Prints 1 cannot_read_answer_text) }
+    ensures text { IfOk result (Prints 1 cannot_read_answer_text) }
+    ensures refused { IsRefusedAs Refusal.Proof refusal → IfErr result IsWanting }
 {
     match refusal {
         Refusal::Proof => Report::of(alloc, b"c cannot read answer\n", 1).map_err(out_of_memory),
@@ -47,7 +49,8 @@ fn unread(alloc: Global, refusal: Refusal) -> Result<Report, Refusal>
 
 /// The report of an answer that was read to its end.
 fn finished(check: ModelCheck) -> Result<Report, Refusal>
-    ensures { (F : Cnf) (bytes : List ℕ) → IsTesting F bytes check → IfOk result (Tests F bytes) }
+    ensures tests { (F : Cnf) (bytes : List ℕ) → IsTesting F bytes check → IfOk result (Tests F bytes) }
+    ensures refused { IfErr result IsWanting }
 {
     match check.finish() {
         Ok(found) => Ok(Report {
@@ -61,7 +64,8 @@ fn finished(check: ModelCheck) -> Result<Report, Refusal>
 
 /// Reads an answer to its end, also behind a fault, and reports it.
 fn tested<D: Disk>(disk: &D, mut check: ModelCheck, answer: &str) -> Result<Report, Refusal>
-    ensures { (F : Cnf) → IsTesting F [] check → IfOk result (λ r. Of (D.holds disk.now answer.now) (λ bytes. Tests F bytes r)) }
+    ensures tests { (F : Cnf) → IsTesting F [] check → IfOk result (λ r. Of (D.holds disk.now answer.now) (λ bytes. Tests F bytes r)) }
+    ensures refused { IfErr result (IsRefusedAs Refusal.Proof) }
 {
     let mut bytes = disk.open(answer, Refusal::Proof)?;
     feed_all(&mut bytes, &mut check)?;
@@ -70,7 +74,8 @@ fn tested<D: Disk>(disk: &D, mut check: ModelCheck, answer: &str) -> Result<Repo
 
 /// The report of an answer, also of one that cannot be read.
 fn told<D: Disk>(disk: &D, check: ModelCheck, answer: &str) -> Result<Report, Refusal>
-    ensures { (F : Cnf) → IsTesting F [] check → IfOk result (TellsAnswer F (D.holds disk.now answer.now)) }
+    ensures tells { (F : Cnf) → IsTesting F [] check → IfOk result (TellsAnswer F (D.holds disk.now answer.now)) }
+    ensures refused { IfErr result IsWanting }
 {
     match tested(disk, check, answer) {
         Ok(report) => Ok(report),
@@ -80,7 +85,8 @@ fn told<D: Disk>(disk: &D, check: ModelCheck, answer: &str) -> Result<Report, Re
 
 /// Tests the answer in a file against the formula in another. Of a faulty formula nothing more is read.
 pub fn test_files<D: Disk>(disk: &D, input: &str, answer: &str) -> Result<Report, Refusal>
-    ensures { IfOk result (λ r. Of (D.holds disk.now input.now) (λ text. TestsAnswer text (D.holds disk.now answer.now) r)) }
+    ensures report { IfOk result (λ r. Of (D.holds disk.now input.now) (λ text. TestsAnswer text (D.holds disk.now answer.now) r)) }
+    ensures refused { IfErr result (IsRefusedAs Refusal.Input) }
 {
     let mut text = disk.open(input, Refusal::Input)?;
     let found = read_formula(disk.alloc(), &mut text)?;

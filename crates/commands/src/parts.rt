@@ -1,6 +1,7 @@
 //! A file in the making, to which a text is written in the form that was asked for.
 
-ghost use Rattle.std.specs.Prelude.{◌≡◌, ◌++◌, ℕ, Bool, List, [], IfOk, IsTrue, OnOk};
+ghost use Rattle.std.specs.Prelude.{◌≡◌, ◌++◌, ℕ, Bool, List, [], IfOk, IfErr, IsTrue, OnOk};
+ghost use Rattle.commands.specs.Refusals.{IsRefusedAs};
 ghost use Rattle.commands.specs.Written.{IsLeft, Keeps};
 ghost use Rattle.commands.specs.inner.Parts.{IsPart, IsEnded};
 
@@ -17,7 +18,9 @@ pub(crate) struct Part<F> {
 }
 
 /// What a text is told as that spells no steps, or for which there is no memory.
-fn unspelled(fault: TextFault) -> Refusal {
+fn unspelled(fault: TextFault) -> Refusal
+    ensures { IsRefusedAs Refusal.Writing result }
+{
     match fault {
         TextFault::NoMemory => Refusal::NoMemory,
         _ => Refusal::Writing,
@@ -44,7 +47,8 @@ pub(crate) fn append<D: Drafts>(
     part: &mut Part<D::Draft>,
     text: &[u8],
 ) -> Result<(), Refusal>
-    ensures { OnOk result ((binary : Bool) (path before : List ℕ) → IsPart D.made binary path before part.old → IsPart D.made binary path (before ++ text.now) part.new) }
+    ensures written { OnOk result ((binary : Bool) (path before : List ℕ) → IsPart D.made binary path before part.old → IsPart D.made binary path (before ++ text.now) part.new) }
+    ensures refused { IfErr result (IsRefusedAs Refusal.Writing) }
 {
     match &mut part.form {
         None => disk.append(&mut part.draft, text),
@@ -59,7 +63,8 @@ pub(crate) fn append<D: Drafts>(
 
 /// Nothing of a text is left to be written.
 fn end(form: &Option<BinaryForm>) -> Result<(), Refusal>
-    ensures { OnOk result (IsEnded form.now) }
+    ensures ended { OnOk result (IsEnded form.now) }
+    ensures refused { IfErr result (IsRefusedAs Refusal.Writing) }
 {
     match form {
         None => Ok(()),
@@ -80,6 +85,7 @@ pub(crate) fn remove<D: Drafts>(disk: &D, part: Part<D::Draft>) {
 pub(crate) fn keep<D: Drafts>(disk: &mut D, part: Part<D::Draft>) -> Result<bool, Refusal>
     ensures kept { IfOk result (λ b. IsTrue b → (binary : Bool) (path text : List ℕ) → IsPart D.made binary path text part → Keeps D.kept disk.old disk.new binary path text) }
     ensures left { IsLeft disk.old disk.new result }
+    ensures refused { IfErr result (IsRefusedAs Refusal.Writing) }
 {
     let Part { draft, form } = part;
     match end(&form) {

@@ -2,6 +2,7 @@
 
 ghost use Rattle.std.specs.Prelude.{◌≡◌, ◌<◌, ◌≤◌, take, vec_len, IfOk, IfErr};
 ghost use Rattle.std.specs.Io.KnownBytes.{Consumes, IsAtEnd};
+ghost use Rattle.commands.specs.Known.{IsNext};
 ghost use Rattle.commands.specs.Refusals.{IsRefusedAs};
 
 use reports::Refusal;
@@ -93,7 +94,10 @@ impl<S: Read + Drop> Pieces<S> {
     }
 
     /// The next bytes; none at the end.
-    pub fn next(&mut self) -> Result<&[u8], Refusal> {
+    pub fn next(&mut self) -> Result<&[u8], Refusal>
+        ensures next { IfOk result (λ piece. IsNext (S.remaining self.old.source) piece.now) }
+        ensures refused { IfErr result (IsRefusedAs self.old.refusal) }
+    {
         let len = self.read()?;
         Ok(&self.room[..len])
     }

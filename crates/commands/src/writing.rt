@@ -1,6 +1,7 @@
 //! A text is written to a file, whole or not at all wherever a file can be made beside it.
 
-ghost use Rattle.std.specs.Prelude.{◌≡◌, ◌++◌, ℕ, Bool, List, [], IfOk, IsTrue, OnOk, OnErr};
+ghost use Rattle.std.specs.Prelude.{◌≡◌, ◌++◌, ℕ, Bool, List, [], IfOk, IfErr, IsTrue, OnOk, OnErr};
+ghost use Rattle.commands.specs.Refusals.{IsRefusedAs};
 ghost use Rattle.commands.specs.Written.{IsLeft, Keeps};
 ghost use Rattle.commands.specs.inner.Parts.{IsPart};
 
@@ -18,7 +19,8 @@ fn append_packed<D: Drafts>(
     part: &mut Part<D::Draft>,
     text: &PackedText,
 ) -> Result<(), Refusal>
-    ensures { OnOk result ((binary : Bool) (path : List ℕ) → IsPart D.made binary path [] part.old → IsPart D.made binary path text.now part.new) }
+    ensures written { OnOk result ((binary : Bool) (path : List ℕ) → IsPart D.made binary path [] part.old → IsPart D.made binary path text.now part.new) }
+    ensures refused { IfErr result (IsRefusedAs Refusal.Writing) }
 {
     for i in 0..text.len() / PIECE + 1 {
         let piece = match text.read(disk.alloc(), PIECE * i, PIECE) {
@@ -38,6 +40,7 @@ fn fill<D: Drafts>(
 ) -> Result<bool, Refusal>
     ensures kept { IfOk result (λ b. IsTrue b → (binary : Bool) (path : List ℕ) → IsPart D.made binary path [] part → Keeps D.kept disk.old disk.new binary path text.now) }
     ensures left { IsLeft disk.old disk.new result }
+    ensures refused { IfErr result (IsRefusedAs Refusal.Writing) }
 {
     match append_packed(disk, &mut part, text) {
         Ok(()) => keep(disk, part),
@@ -57,6 +60,7 @@ fn write_by<D: Drafts>(
 ) -> Result<bool, Refusal>
     ensures kept { IfOk result (λ b. IsTrue b → Keeps D.kept disk.old disk.new target.entry.binary target.entry.path.now text.now) }
     ensures left { IsLeft disk.old disk.new result }
+    ensures refused { IfErr result (IsRefusedAs Refusal.Writing) }
 {
     match disk.begin(target.path, way)? {
         Some(draft) => {
@@ -75,6 +79,7 @@ pub fn write_text<D: Drafts>(
 ) -> Result<(), Refusal>
     ensures kept { OnOk result (Keeps D.kept disk.old disk.new target.entry.binary target.entry.path.now text.now) }
     ensures left { OnErr result (disk.new ≡ disk.old) }
+    ensures refused { IfErr result (IsRefusedAs Refusal.Writing) }
 {
     if write_by(disk, target, Way::Beside, text)? {
         return Ok(());

@@ -72,6 +72,7 @@ impl FormJoin {
             → Holds F cubes files bytes written self.old → Holds F cubes (files ++ bytes ∷ []) [] written self.new) }
         ensures tells { IfOk result (λ e. (F : Cnf) (cubes : List Cube) (files : List (List ℕ)) (bytes written : List ℕ)
             → Holds F cubes files bytes written self.old → TellsFile F cubes (map text_form files) (text_form bytes) e) }
+        ensures whole { OnOk result (is_cut self.old.form.stage ≡ false) }
     {
         if self.form.is_cut() {
             return Err(GatherFault::NoMemory);

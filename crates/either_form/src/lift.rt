@@ -1,6 +1,6 @@
 //! A foreign proof of the formula of a leaf, in either form, becomes a log over the formula.
 
-ghost use Rattle.std.specs.Prelude.{◌≡◌, ◌⊎◌, ◌++◌, ℕ, List, [], false, IfOk, IfErr};
+ghost use Rattle.std.specs.Prelude.{◌≡◌, ◌⊎◌, ◌++◌, ℕ, List, [], false, true, Err, IfOk, IfErr};
 ghost use Rattle.dimacs.specs.logic.Cnf.{Cnf};
 ghost use Rattle.either_form.specs.Lifting.{BeginsAt, FormLifts};
 ghost use Rattle.icnf.specs.Leaves.{Cube};
@@ -86,6 +86,7 @@ impl FormLift {
         ensures complete { (F : Cnf) (q : Cube) (bytes written : List ℕ) → FormLifts F q bytes written self → IsRefutation (leaf_of q F) (text_form bytes) → EndsAs result }
         // the first fault, and its line or step
         ensures exact { IfErr result (λ fault. (F : Cnf) (q : Cube) (bytes written : List ℕ) → FormLifts F q bytes written self → (fault ≡ no_memory) ⊎ IsFaultOf F q (text_form bytes) fault) }
+        ensures wanting { is_cut self.form.stage ≡ true → result ≡ Err no_memory }
     {
         let FormLift { form, mut lift } = self;
         if form.is_cut() {

@@ -1,8 +1,9 @@
 //! A proof in either form is checked, trimmed, and what stays is tested.
 
-ghost use Rattle.std.specs.Prelude.{◌≡◌, ◌++◌, ℕ, List, [], false, IfOk};
+ghost use Rattle.std.specs.Prelude.{◌≡◌, ◌++◌, ℕ, List, [], false, true, Err, IfOk};
 ghost use Rattle.dimacs.specs.logic.Cnf.{Cnf};
 ghost use Rattle.either_form.specs.Trimming.{HasTaken};
+ghost use Rattle.lrat_check.specs.Checking.{no_memory};
 ghost use Rattle.lrat_check.specs.Stream.{answer_in};
 ghost use Rattle.lrat_forms.specs.Forms.{is_binary, text_form};
 ghost use Rattle.lrat_forms.specs.Pieces.{is_cut};
@@ -44,6 +45,7 @@ impl FormTrimming {
     /// Takes the next piece, or tells the first fault of the lines or steps that are whole by now. A fault is answered from then on.
     pub fn feed(&mut self, piece: &[u8]) -> Result<(), CheckFault>
         ensures answers { is_cut self.new.form.stage ≡ false → result ≡ answer_in self.new.trimming.progress }
+        ensures wanting { is_cut self.new.form.stage ≡ true → result ≡ Err no_memory }
         ensures taken { (F : Cnf) (bytes : List ℕ) → HasTaken F self.old bytes → HasTaken F self.new (bytes ++ piece.now) }
     {
         self.form.feed(piece);
@@ -63,7 +65,8 @@ impl FormTrimming {
 
     /// The proof without what its empty clause does not need, where no further byte comes; or the first fault of a proof that is not accepted.
     pub fn finish(self) -> Result<Trimmed, CheckFault>
-        ensures { (F : Cnf) (proof : List ℕ) → HasTaken F self proof → Trims F (text_form proof) result }
+        ensures trims { (F : Cnf) (proof : List ℕ) → HasTaken F self proof → Trims F (text_form proof) result }
+        ensures wanting { is_cut self.form.stage ≡ true → result ≡ Err no_memory }
     {
         let FormTrimming { form, mut trimming } = self;
         if form.is_cut() {

@@ -1,5 +1,8 @@
 //! The files that a run writes.
 
+ghost use Rattle.std.specs.Prelude.{◌≡◌, IfErr};
+ghost use Rattle.commands.specs.Refusals.{IsRefusedAs};
+
 use crate::files::Machine;
 use crate::proof_file::{
     Part, Place, append, is_printed_to, is_same_file, keep, make_part, place_of, remove,
@@ -21,7 +24,9 @@ pub(crate) enum Draft<F> {
     InPlace(F),
 }
 
-fn not_written(error: io::Error) -> Refusal {
+fn not_written(error: io::Error) -> Refusal
+    ensures { IsRefusedAs Refusal.Writing result }
+{
     refused(error, Refusal::Writing)
 }
 
@@ -29,7 +34,9 @@ fn not_written(error: io::Error) -> Refusal {
 fn begin_beside<R: Runtime + AllocGlobal>(
     rt: &R,
     path: &str,
-) -> Result<Option<Draft<R::File>>, Refusal> {
+) -> Result<Option<Draft<R::File>>, Refusal>
+    ensures { IfErr result (IsRefusedAs Refusal.Writing) }
+{
     let Some(place) = place_of(rt, path).map_err(not_written)? else {
         return Ok(None);
     };

@@ -12,16 +12,14 @@ mod explain_words;
 mod files;
 mod join;
 mod leaf_runs;
-mod lift;
 mod linked_runs;
 mod proof_file;
 mod showing;
 mod standard_input;
-mod trim;
 
 use commands::{
-    Target, check_files, check_session_files, deliver, leaf_files, refused, split_by_look_files,
-    split_files, test_files,
+    LiftFiles, Target, TrimFiles, check_files, check_session_files, deliver, leaf_files, lift_files,
+    refused, split_by_look_files, split_files, test_files, trim_files,
 };
 use complete::complete;
 use explain::explain;
@@ -30,7 +28,6 @@ use files::{Machine, no_memory, read};
 use join::{JoinFiles, join};
 use leaf_runs::{LeafFiles, LeafRange, refute};
 use leaves::{Search, run_look};
-use lift::{LiftFiles, lift};
 use linked_runs::{Files, serve, solve, work};
 use node_main::{Refusal, Report, Request, UsageFault, command, run_cubes};
 use showing::Showing;
@@ -41,7 +38,6 @@ use std::net::Net;
 use std::process::ExitCode;
 use std::rt::Runtime;
 use std::{env, io};
-use trim::trim;
 
 fn cubes<R: Runtime + AllocGlobal>(rt: &R, input: &str, depth: u32) -> Result<Report, Refusal>
     requires { depth ≤ 16 }
@@ -63,6 +59,15 @@ fn drill<R: Runtime + AllocGlobal>(
 ) -> Result<Report, Refusal> {
     let input = read(rt, input, Refusal::Input)?;
     node_main::drill(rt.alloc(), input.as_slice(), seed, turns).map_err(no_memory)
+}
+
+/// The leaf whose proof is lifted, or none where a text for all leaves is; the words name one of both.
+fn lifted_leaf(leaf: Option<u32>, lidrup: bool) -> Result<Option<u64>, Refusal> {
+    match (leaf, lidrup) {
+        (Some(leaf), false) => Ok(Some(u64::from(leaf))),
+        (None, true) => Ok(None),
+        _ => Err(Refusal::Usage),
+    }
 }
 
 /// The report of a request, or why it has none. How far a run has come is told so, where the words ask for it.
@@ -196,14 +201,17 @@ fn answer<R: Runtime + AllocGlobal + Net>(
             fragment,
             binary,
         } => {
+            let log = Target {
+                path: fragment,
+                binary,
+            };
             let files = LiftFiles {
                 input,
                 cubes,
                 proof,
-                fragment,
-                binary,
+                log,
             };
-            lift(rt, &files, leaf, lidrup)
+            lift_files(&mut Machine { rt }, &files, lifted_leaf(leaf, lidrup)?)
         }
         Request::Model { input, output } => test_files(&Machine { rt }, input, output),
         Request::Trim {
@@ -212,8 +220,9 @@ fn answer<R: Runtime + AllocGlobal + Net>(
             out,
             binary,
         } => {
-            let target = Target { path: out, binary };
-            trim(rt, input, proof, target)
+            let out = Target { path: out, binary };
+            let files = TrimFiles { input, proof, out };
+            trim_files(&mut Machine { rt }, &files)
         }
     }
 }

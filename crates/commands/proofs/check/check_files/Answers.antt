@@ -7,14 +7,14 @@ use Rattle.node_main.specs.ProofChecks.{HasTaken}
 use Rattle.commands.specs.inner.Feeding.{Extends}
 use Rattle.commands.proofs.check.check_files.Goals as goal
 
-pub returns-in-Ok : goal.returns-in-Ok
-returns-in-Ok g c =
+pub returns-in-Ok-clause-report : goal.returns-in-Ok-clause-report
+returns-in-Ok-clause-report g c =
     let holds : List ℕ → _ = g.D.Disk.holds c.args.disk.now in
     let Reads : List ℕ → Type 0 = λ text. GivesFormula c.in_ok-found.found (parse text) in
     let Feds : List ℕ → Type 0 = λ bytes. (input : List ℕ) → Extends (λ proof k. HasTaken input k proof) c.of-check.result c.feed_all.new.taker bytes in
     let Told : List ℕ → List ℕ → Type 0 = λ text bytes. Checks text bytes c.in-Ok.report in
-    let read : Of (holds c.args.input.now) Reads = of_opened Reads _ _ c.in_ok-text.ensures.bytes c.in_ok-found.ensures in
-    let fed : Of (holds c.args.proof.now) Feds = of_opened Feds _ _ c.in_ok-bytes.ensures.bytes c.in_ok-feed_all.ensures in
+    let read : Of (holds c.args.input.now) Reads = of_opened Reads _ _ c.in_ok-text.ensures.bytes c.in_ok-found.ensures.found in
+    let fed : Of (holds c.args.proof.now) Feds = of_opened Feds _ _ c.in_ok-bytes.ensures.bytes c.in_ok-feed_all.ensures.fed in
     of_map Reads (λ text. Of (holds c.args.proof.now) (Told text)) _ (λ text gives.
     of_map Feds (Told text) _ (λ bytes more. let taken = more text [] (c.of-check.ensures.taken text gives) in record {
       report = c.in-Ok.ensures.report text bytes taken;

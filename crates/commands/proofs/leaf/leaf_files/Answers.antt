@@ -7,16 +7,16 @@ use Rattle.commands.proofs.leaf.leaf_files.Goals as goal
 use Rattle.leaves.specs.Leaf.{PrintsLeaf}
 use Rattle.reports.specs.declared.report.Report.{Report}
 
-pub returns-in-With : goal.returns-in-With
-returns-in-With g c =
+pub returns-in-With-clause-report : goal.returns-in-With-clause-report
+returns-in-With-clause-report g c =
     let holds : List ℕ → Option (List ℕ) = g.D.Disk.holds c.args.disk.now in
     let s = c.in-With.split in
     IfOk-weaker c.map_err.result (PrintsLeaf s.formula s.tree c.args.leaf)
     (λ (r : Report). Of (holds c.args.input.now) (λ text. Of (holds c.args.cubes.now) (λ lines. OfTree text lines (λ F tree. PrintsLeaf F tree c.args.leaf r) r)))
-    (λ r prints. of_tree (λ F tree. PrintsLeaf F tree c.args.leaf r) r (holds c.args.input.now) (holds c.args.cubes.now) c.in_ok-begun.begun s c.in-With.is prints c.in_ok-begun.ensures) (search rules)
+    (λ r prints. of_tree (λ F tree. PrintsLeaf F tree c.args.leaf r) r (holds c.args.input.now) (holds c.args.cubes.now) c.in_ok-begun.begun s c.in-With.is prints c.in_ok-begun.ensures.begins) (search rules)
 
-pub returns-in-Refused : goal.returns-in-Refused
-returns-in-Refused g c =
+pub returns-in-Refused-clause-report : goal.returns-in-Refused-clause-report
+returns-in-Refused-clause-report g c =
     let holds : List ℕ → Option (List ℕ) = g.D.Disk.holds c.args.disk.now in
     let r = c.in-Refused.report in
-    of_refused (λ F tree. PrintsLeaf F tree c.args.leaf r) r (holds c.args.input.now) (holds c.args.cubes.now) c.in_ok-begun.begun c.in-Refused.is c.in_ok-begun.ensures
+    of_refused (λ F tree. PrintsLeaf F tree c.args.leaf r) r (holds c.args.input.now) (holds c.args.cubes.now) c.in_ok-begun.begun c.in-Refused.is c.in_ok-begun.ensures.begins

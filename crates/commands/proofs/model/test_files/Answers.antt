@@ -10,22 +10,22 @@ use Rattle.dimacs.specs.logic.Cnf.{Cnf}
 use Rattle.dimacs.specs.text.Reading.{GivesFormula, parse}
 use Rattle.dimacs.specs.declared.fault.DimacsFault.{DimacsFault}
 
-pub returns-in-Ok : goal.returns-in-Ok
-returns-in-Ok g c =
+pub returns-in-Ok-clause-report : goal.returns-in-Ok-clause-report
+returns-in-Ok-clause-report g c =
     let answer = g.D.Disk.holds c.args.disk.now c.args.answer.now in
     let Reads : Result Cnf DimacsFault → List ℕ → Type 0 = λ found text. GivesFormula found (parse text) in
     let P : Result Cnf DimacsFault → Type 0 = λ found. Of (g.D.Disk.holds c.args.disk.now c.args.input.now) (Reads found) in
     let F = c.in-Ok.formula in
     let begun : IsTesting F [] c.of.result = record { formula = c.of.ensures.formula; read = c.of.ensures.read } in
     of_ok (Reads (Ok F)) (λ text r. TestsAnswer text answer r) _ c.told.result
-    (subst P c.in-Ok.is (of_opened (Reads c.in_ok-found.found) _ _ c.in_ok-text.ensures.bytes c.in_ok-found.ensures))
-    (λ text gives. IfOk-weaker c.told.result (TellsAnswer F answer) (λ r. TestsAnswer text answer r) (λ r h. inr (F, gives, h)) (c.told.ensures F begun))
+    (subst P c.in-Ok.is (of_opened (Reads c.in_ok-found.found) _ _ c.in_ok-text.ensures.bytes c.in_ok-found.ensures.found))
+    (λ text gives. IfOk-weaker c.told.result (TellsAnswer F answer) (λ r. TestsAnswer text answer r) (λ r h. inr (F, gives, h)) (c.told.ensures.tells F begun))
 
-pub returns : goal.returns
-returns g c =
+pub returns-clause-report : goal.returns-clause-report
+returns-clause-report g c =
     let answer = g.D.Disk.holds c.args.disk.now c.args.answer.now in
     let Reads : Result Cnf DimacsFault → List ℕ → Type 0 = λ found text. GivesFormula found (parse text) in
     let P : Result Cnf DimacsFault → Type 0 = λ found. Of (g.D.Disk.holds c.args.disk.now c.args.input.now) (Reads found) in
     input_refused _ answer c.in-Err.fault c.refused_input.result
-    (subst P c.in-Err.is (of_opened (Reads c.in_ok-found.found) _ _ c.in_ok-text.ensures.bytes c.in_ok-found.ensures))
+    (subst P c.in-Err.is (of_opened (Reads c.in_ok-found.found) _ _ c.in_ok-text.ensures.bytes c.in_ok-found.ensures.found))
     c.refused_input.ensures.text c.refused_input.ensures.memory

@@ -4,9 +4,9 @@ use Rattle.commands.specs.Testing.{TellsAnswer, cannot_read_answer_text}
 use Rattle.commands.proofs.model.told.Goals as goal
 use Rattle.leaves.specs.Leaf.{Prints}
 
-pub returns-in-Ok : goal.returns-in-Ok
-returns-in-Ok g c = λ F h. inr (c.in-Ok.ensures F h)
+pub returns-in-Ok-clause-tells : goal.returns-in-Ok-clause-tells
+returns-in-Ok-clause-tells g c = λ F h. inr (c.in-Ok.ensures.tests F h)
 
-pub returns-in-Err : goal.returns-in-Err
-returns-in-Err g c = λ F h.
-    IfOk-weaker c.unread.result (Prints 1 cannot_read_answer_text) (TellsAnswer F (g.D.Disk.holds c.args.disk.now c.args.answer.now)) (λ r prints. inl prints) c.unread.ensures
+pub returns-in-Err-clause-tells : goal.returns-in-Err-clause-tells
+returns-in-Err-clause-tells g c = λ F h.
+    IfOk-weaker c.unread.result (Prints 1 cannot_read_answer_text) (TellsAnswer F (g.D.Disk.holds c.args.disk.now c.args.answer.now)) (λ r prints. inl prints) c.unread.ensures.text

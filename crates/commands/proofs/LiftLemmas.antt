@@ -1,0 +1,117 @@
+-- What a lift comes to.
+use Rattle.std.specs.Prelude.{◌≡◌, ◌≢◌, ◌⊎◌, ◌++◌, ℕ, Bool, true, false, List, [], Option, Some, None, Result, Ok, Err, refl, if◌then◌else◌}
+use Rattle.std.specs.Global.{Vec}
+use Rattle.std.proofs.Common.{sym, ◌∙◌, subst, inl, inr, arith}
+use Rattle.commands.specs.Known.{Of}
+use Rattle.commands.specs.Lifting.{LiftsAt, LiftsEach, LiftsLeaf, fault_lines, lifts, lifts_all, refuses, refuses_all}
+use Rattle.commands.specs.Written.{Keeps}
+use Rattle.commands.specs.declared.lift.LeafLift.{LeafLift}
+use Rattle.commands.specs.inner.Lifting.{EndsEach, EndsLeaf, IsRefused, each_moves, leaf_moves}
+use Rattle.commands.specs.inner.Pouring.{IsPoured, drops, keeps}
+use Rattle.dimacs.specs.logic.Cnf.{Cnf}
+use Rattle.either_form.specs.Lifting.{Begins, FormLifts}
+use Rattle.either_form.specs.declared.lift.FormLift.{FormLift}
+use Rattle.icnf.specs.Leaves.{Cube}
+use Rattle.leaves.specs.Closing.{LiftsAll, are_closed}
+use Rattle.leaves.specs.Leaf.{Prints, leaf_at, leaf_of, no_leaf_text}
+use Rattle.leaves.specs.Lifting.{lifted_text}
+use Rattle.leaves.specs.declared.closing.LiftAll.{LiftAll}
+use Rattle.lrat_check.specs.Checking.{no_memory}
+use Rattle.lrat_check.specs.declared.checking.CheckFault.{CheckFault}
+use Rattle.lrat_forms.specs.Forms.{is_binary, text_form}
+use Rattle.lrat_forms.specs.Pieces.{is_cut}
+use Rattle.proof_lift.specs.Leaves.{IsRefutation}
+use Rattle.proof_lift.specs.Stream.{IsFaultOf}
+use Rattle.reports.specs.declared.report.Report.{Report}
+
+err_is : {T : Type 0} (a b : CheckFault) (x y : Result T CheckFault) → x ≡ Err a → y ≡ Err b → x ≡ y → a ≡ b
+err_is a b x y h k e = cc
+
+pub uncut_of : {T : Type 0} (cut : Bool) (fault : CheckFault) (r : Result T CheckFault) → r ≡ Err fault → (cut ≡ true → r ≡ Err no_memory) → fault ≢ no_memory → cut ≡ false
+uncut_of true fault r e wanting other = absurd (other (err_is fault no_memory r (Err no_memory) e refl (wanting refl)))
+uncut_of false fault r e wanting other = refl
+
+pub other_is : {A : Type 0} (fault : CheckFault) → (fault ≡ no_memory) ⊎ A → fault ≢ no_memory → A
+other_is fault (inl e) other = absurd (other e)
+other_is fault (inr h) other = h
+
+pub refused_of : (l : FormLift) (fault : CheckFault) (b : Bool) (r : Report)
+    → ((F : Cnf) (q : Cube) (bytes written : List ℕ) → FormLifts F q bytes written l → IsRefutation (leaf_of q F) (text_form bytes) → fault ≡ no_memory)
+    → ((F : Cnf) (q : Cube) (bytes written : List ℕ) → FormLifts F q bytes written l → (fault ≡ no_memory) ⊎ IsFaultOf F q (text_form bytes) fault)
+    → is_cut l.form.stage ≡ false
+    → ((F : Cnf) (q : Cube) (bytes written : List ℕ) → FormLifts F q bytes written l → is_cut l.form.stage ≡ false → b ≡ is_binary bytes)
+    → fault ≢ no_memory → Prints 1 (fault_lines b fault) r
+    → (F : Cnf) (q : Cube) (bytes written : List ℕ) → FormLifts F q bytes written l → IsRefused F q bytes r
+refused_of l fault b r complete exact uncut form other prints F q bytes written h =
+    let P : Bool → Type 0 = λ x. Prints 1 (fault_lines x fault) r in
+    record {
+      fault = fault;
+      first = other_is fault (exact F q bytes written h) other;
+      wrong = λ refutes. other (complete F q bytes written h refutes);
+      prints = subst P (form F q bytes written h uncut) prints;
+    }
+
+pub leaf_lifts : {D : Type 0} (kept : D → D → List ℕ → List ℕ → Type 0) (old new : D) (binary : Bool) (path : List ℕ)
+    (F : Cnf) (q : Cube) (l : LeafLift) (proof : List ℕ) (r : Report)
+    → FormLifts F q [] [] l.lift → IsPoured leaf_moves EndsLeaf kept old new binary path l proof r
+    → LiftsLeaf (Keeps kept old new binary path) (new ≡ old) F q l.leaf proof r
+leaf_lifts kept old new binary path F q l proof r start (keeps s out rest moves ends stays) =
+    let at = moves.1 F q [] [] start in
+    let P : ℕ → Type 0 = λ n. Prints 0 (lifted_text n) r in
+    lifts (out ++ rest.items) (ends.0 F q proof out at) stays (subst P moves.0 ends.1)
+leaf_lifts kept old new binary path F q l proof r start (drops s out moves ends same) =
+    let refusal = ends F q proof out (moves.1 F q [] [] start) in
+    refuses refusal.fault refusal.first refusal.wrong same refusal.prints
+
+pub each_lifts : {D : Type 0} (kept : D → D → List ℕ → List ℕ → Type 0) (old new : D) (binary : Bool) (path : List ℕ)
+    (F : Cnf) (cubes : List Cube) (l : LiftAll) (text : List ℕ) (r : Report)
+    → LiftsAll F cubes [] [] l → IsPoured each_moves EndsEach kept old new binary path l text r
+    → LiftsEach (Keeps kept old new binary path) (new ≡ old) F cubes text r
+each_lifts kept old new binary path F cubes l text r start (keeps s out rest moves ends stays) =
+    let told = ends F cubes text out (moves F cubes [] [] start) in
+    lifts_all (out ++ rest.items) _ told.0 told.1 stays
+each_lifts kept old new binary path F cubes l text r start (drops s out moves ends same) =
+    let refusal = ends F cubes text out (moves F cubes [] [] start) in
+    refuses_all refusal.fault refusal.first same refusal.prints
+
+-- ---- status 1 is that of a run that keeps nothing
+zero_status : (n : ℕ) → n ≡ 0 → n ≡ 1 → ⊥
+zero_status n h e = omega arith
+
+other_status : (b : Bool) (n : ℕ) → n ≡ (if b then 20 else 0) → n ≡ 1 → ⊥
+other_status true n h e = let is : n ≡ 20 = h in omega arith
+other_status false n h e = zero_status n h e
+
+leaf_left : (stays : List ℕ → Type 0) (left : Type 0) (F : Cnf) (q : Cube) (leaf : ℕ) (proof : List ℕ) (r : Report) → LiftsLeaf stays left F q leaf proof r → r.status ≡ 1 → left
+leaf_left stays left F q leaf proof r (lifts log closes stay prints) e = absurd (zero_status r.status prints.status_is e)
+leaf_left stays left F q leaf proof r (refuses fault first wrong h prints) e = h
+
+each_left : (stays : List ℕ → Type 0) (left : Type 0) (F : Cnf) (cubes : List Cube) (text : List ℕ) (r : Report) → LiftsEach stays left F cubes text r → r.status ≡ 1 → left
+each_left stays left F cubes text r (lifts_all log s comes told stay) e = absurd (other_status (are_closed told.told) r.status told.prints.status_is e)
+each_left stays left F cubes text r (refuses_all fault first h prints) e = h
+
+at_left : (stays : List ℕ → Type 0) (left : Type 0) (F : Cnf) (q : Option Cube) (leaf : ℕ) (proof : List ℕ) (r : Report) → LiftsAt stays left F q leaf proof r → r.status ≡ 1 → left
+at_left stays left F None leaf proof r h e = h.0
+at_left stays left F (Some q) leaf proof r h e = leaf_left stays left F q leaf proof r h e
+
+pub of_leaf_left : (stays : List ℕ → Type 0) (left : Type 0) (F : Cnf) (cubes : List Cube) (leaf : ℕ) (known : Option (List ℕ)) (r : Report)
+    → Of known (λ proof. LiftsAt stays left F (leaf_at cubes leaf) leaf proof r) → r.status ≡ 1 → left
+of_leaf_left stays left F cubes leaf None r h e = at_left stays left F (leaf_at cubes leaf) leaf h.0 r h.1 e
+of_leaf_left stays left F cubes leaf (Some proof) r h e = at_left stays left F (leaf_at cubes leaf) leaf proof r h e
+
+pub of_each_left : (stays : List ℕ → Type 0) (left : Type 0) (F : Cnf) (cubes : List Cube) (known : Option (List ℕ)) (r : Report)
+    → Of known (λ text. LiftsEach stays left F cubes text r) → r.status ≡ 1 → left
+of_each_left stays left F cubes None r h e = each_left stays left F cubes h.0 r h.1 e
+of_each_left stays left F cubes (Some text) r h e = each_left stays left F cubes text r h e
+
+pub at_lifts : {D : Type 0} (kept : D → D → List ℕ → List ℕ → Type 0) (old new : D) (binary : Bool) (path : List ℕ)
+    (F : Cnf) (q : Option Cube) (l : FormLift) (leaf : ℕ) (proof : List ℕ) (r : Report)
+    → Begins F q (Some l) → IsPoured leaf_moves EndsLeaf kept old new binary path (record { lift = l; leaf = leaf }) proof r
+    → LiftsAt (Keeps kept old new binary path) (new ≡ old) F q leaf proof r
+at_lifts kept old new binary path F None l leaf proof r start poured = absurd (cc)
+at_lifts kept old new binary path F (Some q) l leaf proof r start poured = leaf_lifts kept old new binary path F q (record { lift = l; leaf = leaf }) proof r start poured
+
+pub none_lifts : (stays : List ℕ → Type 0) (left : Type 0) (F : Cnf) (q : Option Cube) (leaf : ℕ) (proof : List ℕ) (r : Report)
+    → Begins F q None → left → Prints 1 no_leaf_text r → LiftsAt stays left F q leaf proof r
+none_lifts stays left F None leaf proof r start h prints = (h, prints)
+none_lifts stays left F (Some q) leaf proof r start h prints = absurd start
