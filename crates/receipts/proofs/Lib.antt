@@ -1,0 +1,13 @@
+pub mod CoverageLemmas
+pub mod CoversLemmas
+pub mod EndLemmas
+pub mod HandingLemmas
+pub mod HeadLemmas
+pub mod LawLemmas
+pub mod LeavesLemmas
+pub mod PartLemmas
+pub mod ReceivingLemmas
+pub mod StepLemmas
+pub mod TakenLemmas
+pub mod TextLemmas
+pub mod WrittenLemmas
