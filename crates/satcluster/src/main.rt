@@ -18,8 +18,8 @@ mod showing;
 mod standard_input;
 
 use commands::{
-    LiftFiles, Target, TrimFiles, check_files, check_session_files, deliver, leaf_files, lift_files,
-    refused, split_by_look_files, split_files, test_files, trim_files,
+    LiftFiles, Target, TrimFiles, check_files, check_session_files, deliver, leaf_files,
+    lift_files, refused, split_by_look_files, split_files, test_files, trim_files,
 };
 use complete::complete;
 use explain::explain;
