@@ -5,8 +5,10 @@
                      [--engine local|make|parallel|slurm] [--jobs N]
                      [--depth D | --look N | --cubes-from FILE]
                      [--limit L] [--seconds S] [--no-race] [--no-cuts] [--pipe] [--compress]
+                     [--receipts] [--drop-logs]
                      [--memory M] [--minutes T] [--scratch DIR] [--folder DIR] [-q] [-n]
                      INPUT [PROOF]
+    tools/conquer.py --recheck FOLDER [--engine ..] [--jobs N] [-q]
 
 INPUT may be packed by gzip, xz, bzip2 or zstd, if that is installed: it is unpacked to the folder.
 Prints the `s` and `v` lines of `satcluster solve`, and ends with its statuses: 10, 20, 0 and 1.
@@ -33,12 +35,12 @@ from typing import Any, Callable, Dict, List, NoReturn, Optional, Tuple
 
 sys.dont_write_bytecode = True
 
-from conquering import places, report
+from conquering import places, receipts, report
 from conquering.engines import ENGINES, Engine, Limits, work
 from conquering.files import Fault, Folder, last_line, publish
 from conquering.leaf import Plan
 from conquering.processes import Bell, status_of
-from conquering.run import Run
+from conquering.run import ALL_COVERED, NOT_COVERED, Run
 from conquering.screen import Screen, plain
 from telling.looks import head_of, packing
 from telling.words import told, unreadable, unwritable
@@ -83,18 +85,35 @@ def words() -> Namespace:
     option("--no-cuts", action="store_true", help="no leaf is cut in two since a core is idle")
     option("--pipe", action="store_true", help="a solver's proof goes to lift by a FIFO")
     option("--compress", action="store_true", help="logs are kept packed by zstd")
+    option("--receipts", action="store_true", help="each job checks its log; the end is `cover`")
+    option("--drop-logs", action="store_true", help="a log is removed when its receipt stands")
+    option("--recheck", metavar="FOLDER", help="make the receipts of a run anew, of its logs")
     option("--memory", metavar="M", type=number(1, most), help="slurm: megabytes of a task")
     option("--minutes", metavar="T", type=number(1, most), help="slurm: minutes of a task")
     option("--scratch", metavar="DIR", help="where jobs write what is unfinished: a node's own disk")
     option("--folder", metavar="DIR", help="where the files of the run stand; INPUT.conquer")
     option("-q", action="store_true", dest="quiet", help="no c lines")
     option("-n", action="store_true", dest="no_values", help="no v lines")
-    option("INPUT", help="a DIMACS formula")
+    option("INPUT", nargs="?", help="a DIMACS formula")
     option("PROOF", nargs="?", help="where the proof is written; none is, if left out")
     asked = parser.parse_args()
-    if asked.engine != "slurm" and (asked.memory or asked.minutes):
-        raise Fault("c usage", "--memory and --minutes are what a task of --engine slurm may take")
+    why = wrong_words(asked)
+    if why:
+        raise Fault("c usage", why)
     return asked
+
+
+def wrong_words(asked: Namespace) -> Optional[str]:
+    """Why words are refused that say nothing together."""
+    if asked.engine != "slurm" and (asked.memory or asked.minutes):
+        return "--memory and --minutes are what a task of --engine slurm may take"
+    if asked.recheck is not None and asked.INPUT is not None:
+        return "--recheck FOLDER reads the formula of that run: no other one is named"
+    if asked.recheck is None and asked.INPUT is None:
+        return "no formula is named"
+    if asked.drop_logs and (not asked.receipts or asked.PROOF is not None):
+        return "--drop-logs is for --receipts without PROOF: a proof is made of logs"
+    return None
 
 
 def found(word: str) -> str:
@@ -141,7 +160,8 @@ def plan_of(asked: Namespace) -> Plan:
     program = found(places.word_of_program(asked.program))
     return Plan(program, os.path.abspath(asked.INPUT), solver_of(asked), asked.limit, asked.seconds,
                 compress=asked.compress, pipe=asked.pipe,
-                scratch=asked.scratch and os.path.abspath(asked.scratch))
+                scratch=asked.scratch and os.path.abspath(asked.scratch),
+                receipts=asked.receipts, drops_logs=asked.drop_logs)
 
 
 def test_places(proof: Optional[str], formula: str) -> None:
@@ -265,7 +285,7 @@ def answer_of(run: Run, engine: Engine) -> Tuple[int, List[str]]:
         for line in [line for line in lines if line.startswith("c file")]:
             if " closes nothing " not in line:
                 run.screen.say(line)
-        if status != 0 or not run.learn(lines):
+        if status not in (0, NOT_COVERED) or not run.learn(lines):
             return status, lines
 
 
@@ -274,19 +294,43 @@ def cores() -> Optional[int]:
     return len(os.sched_getaffinity(0)) if hasattr(os, "sched_getaffinity") else os.cpu_count()
 
 
-def conquer(asked: Namespace, screen: Screen) -> int:
-    plan, engine_of = plan_of(asked), ENGINES[asked.engine]
-    engine_of.test()
+def begun(asked: Namespace, screen: Screen) -> Tuple[Folder, Plan]:
+    """The folder of a run, with a tree in it."""
     test_places(asked.PROOF, asked.INPUT)
-    folder = Folder(asked.folder or asked.INPUT + ".conquer")
+    plan, folder = plan_of(asked), Folder(asked.folder or asked.INPUT + ".conquer")
     folder.lock()
     plan.input = unpack(folder, plan.input)
     test_packing(folder, asked.compress)
-    before = plan_before(folder)
+    receipts.take_back(folder)
     if folder.newest_tree():
         take_over(folder, plan, asked, screen)
     else:
         plant(folder, plan, asked)
+    return folder, plan
+
+
+def begun_again(asked: Namespace, screen: Screen) -> Tuple[Folder, Plan]:
+    """The folder of a run whose receipts are made anew."""
+    if not os.path.isfile(os.path.join(asked.recheck, "plan.json")):
+        raise Fault("c cannot read " + asked.recheck, "It is no folder of a run.")
+    folder = Folder(asked.recheck)
+    folder.lock()
+    plan = dataclasses.replace(Plan(**plan_before(folder)), receipts=True, rechecks=True)
+    plan.program = found(places.word_of_program(asked.program))
+    test_packing(folder, False)
+    receipts.set_aside(folder)
+    gone, count = receipts.without_log(folder)
+    if gone:
+        screen.say("c %d of %d receipts have no log that could be read again" % (gone, count))
+    asked.no_race = asked.no_cuts = True
+    return folder, plan
+
+
+def conquer(asked: Namespace, screen: Screen) -> int:
+    engine_of, is_again = ENGINES[asked.engine], asked.recheck is not None
+    engine_of.test()
+    folder, plan = (begun_again if is_again else begun)(asked, screen)
+    before = plan_before(folder)
     jobs = asked.jobs or (None if asked.engine == "slurm" else cores())
     bell = Bell()
     limits = Limits(asked.memory, asked.minutes)
@@ -297,13 +341,17 @@ def conquer(asked: Namespace, screen: Screen) -> int:
         engine.settle()
         folder.clean()
         folder.write("plan.json", json.dumps(dataclasses.asdict(plan)))
+        if plan.receipts:
+            receipts.acknowledge_others(run, jobs or cores() or 1)
         status, lines = answer_of(run, engine)
     except BaseException:  # a signal, too
         draw(run, screen, report.NONE)
         raise
     finally:
         run.end_join()
-    if status not in (0, 10, 20):
+        if is_again:
+            tell_others(receipts.take_back(folder), screen)
+    if status not in (0, 10, 20, ALL_COVERED, NOT_COVERED):
         fail(run, screen, before, lines[-1] if lines else "c join ends with %d" % status)
     if status == 20 and asked.PROOF:
         put_proof(folder, asked.PROOF)
@@ -312,8 +360,17 @@ def conquer(asked: Namespace, screen: Screen) -> int:
             screen.print(line)
         elif line.startswith("c leaf"):
             screen.say(line)
+    if status == ALL_COVERED:
+        count = len(folder.names("receipts"))
+        screen.say("c covered by %d receipt%s" % (count, "s" * (count != 1)))
     draw(run, screen, status)
-    return status
+    return {ALL_COVERED: 0, NOT_COVERED: 1}.get(status, status)
+
+
+def tell_others(names: List[str], screen: Screen) -> None:
+    """The receipts that had told of another log than the one that stands."""
+    for name in names:
+        screen.say("c the receipt of %s was one of another log" % name)
 
 
 def fail(run: Run, screen: Screen, before: Dict[str, Any], line: str) -> NoReturn:

@@ -1001,6 +1001,112 @@ class Runs(unittest.TestCase):
         self.assertEqual([0, 0, 4], self.sums(run))
 
 
+class Receipts(Case):
+    """Each job checks its own log, and receipts alone are read in the end."""
+
+    def receipts(self, formula: str) -> List[Path]:
+        return sorted(self.at(formula + ".conquer", "receipts").iterdir())
+
+    def covered(self, formula: str, *words: str) -> None:
+        status, lines = self.conquer("--receipts", *words, formula)
+        self.assertEqual((0, True), (status, "s COVERED" in lines), lines)
+        number = len(self.receipts(formula))
+        self.assertIn("c covered by %d receipt%s" % (number, "s" * (number != 1)), lines)
+        self.assertIn("s COVERED", self.report(formula))
+        self.assertNotIn("s UNSATISFIABLE", lines)
+
+    def test_engines(self) -> None:
+        for engine in ("local", "make", "parallel"):
+            if engine != "local" and not shutil.which(engine):
+                print("%s is not installed" % engine)
+                continue
+            with self.subTest(engine):
+                self.covered(PIGEONS, "--engine", engine, "--depth", "3", "--no-race")
+                self.assertFalse(self.at(PIGEONS + ".conquer", "scratch", "proof.lrat").exists())
+                self.forget(PIGEONS)
+
+    def test_recheck(self) -> None:
+        """Of logs alone, packed ones too; what they tell now is what their receipts told."""
+        self.covered(PIGEONS, "--depth", "3", "--compress", "--no-race")
+        self.assertTrue(self.logs(PIGEONS)[0].name.endswith(".zst"))
+        before = {path.name: path.read_bytes() for path in self.receipts(PIGEONS)}
+        folder = str(self.at(PIGEONS + ".conquer"))
+        status, lines = self.conquer("--recheck", folder)
+        self.assertEqual((0, True), (status, "s COVERED" in lines), lines)
+        self.assertEqual(before, {path.name: path.read_bytes() for path in self.receipts(PIGEONS)})
+        self.logs(PIGEONS)[0].unlink()
+        status, lines = self.conquer("--recheck", folder)
+        self.assertRegex(lines[0], "^c [0-9]+ of %d receipts have no log" % len(before))
+        self.assertEqual((1, True), (status, "s NOT COVERED" in lines), lines)
+        self.assertEqual(sorted(before), [path.name for path in self.receipts(PIGEONS)])
+
+    def test_receipt_of_another_log(self) -> None:
+        self.covered(FOUR, "--depth", "1", "--no-race")
+        path = self.receipts(FOUR)[0]
+        path.write_text(path.read_text().replace("\nlemmas ", "\nlemmas 1"))
+        status, lines = self.conquer("--recheck", str(self.at(FOUR + ".conquer")))
+        self.assertEqual(0, status)
+        self.assertIn("c the receipt of %s was one of another log" % path.name, lines)
+
+    def test_spoiled_receipts(self) -> None:
+        """Cut, of another formula, or lost: the log that stands gets its receipt again."""
+        self.covered(PIGEONS, "--depth", "3", "--no-race")
+        moments = self.moments(PIGEONS)
+        for spoil in (lambda text: text[:-4], lambda text: text.replace("\nformula ", "\nformula 0"),
+                      lambda text: ""):
+            path = self.receipts(PIGEONS)[0]
+            path.write_text(spoil(path.read_text()))
+            self.covered(PIGEONS)
+        self.receipts(PIGEONS)[0].unlink()
+        self.covered(PIGEONS)
+        self.assertEqual(moments, self.moments(PIGEONS), "a leaf was searched again")
+
+    def test_folder_of_logs(self) -> None:
+        """Logs of a start without receipts get theirs, those of no leaf too; and logs with receipts
+        are joined if a proof is asked for."""
+        self.assertEqual(20, self.conquer("--depth", "3", PIGEONS)[0])
+        moments = self.moments(PIGEONS)
+        self.covered(PIGEONS)
+        self.assertEqual(moments, self.moments(PIGEONS))
+        self.assertEqual(20, self.conquer("--receipts", PIGEONS, "p.lrat")[0])
+        self.verifies(PIGEONS, "p.lrat")
+
+    def test_dropped_logs(self) -> None:
+        self.covered(PIGEONS, "--depth", "3", "--drop-logs")
+        self.assertEqual([], self.logs(PIGEONS))
+        self.covered(PIGEONS)
+
+    def test_model(self) -> None:
+        """It is tested by `join` as ever."""
+        status, lines = self.conquer("--receipts", "random_100_sat.cnf")
+        self.assertEqual((10, True), (status, "s SATISFIABLE" in lines))
+
+    def test_log_of_another_formula(self) -> None:
+        """No receipt is made of it, and its leaf is run again."""
+        self.assertEqual(20, self.conquer("--depth", "3", "--no-race", PIGEONS)[0])
+        log = self.logs(PIGEONS)[0]
+        log.write_text("500 1 0 1 2 0\n501 0 500 0\n")
+        self.covered(PIGEONS)
+        self.assertFalse(log.exists() and log.read_text().startswith("500"))
+
+    def test_kills(self) -> None:
+        """Killed at random moments, and begun again."""
+        draw = random.Random(int(os.environ.get("SEED", 1)))
+        for _ in range(int(os.environ.get("KILLS", 6))):
+            self.forget(PIGEONS)
+            process = self.start("--receipts", "--depth", "4", PIGEONS)
+            time.sleep(draw.uniform(0.1, 1.2))
+            process.kill()
+            process.communicate()
+            self.covered(PIGEONS)
+
+    def test_usage(self) -> None:
+        for words in (["--recheck", "x", FOUR], ["--drop-logs", FOUR], [],
+                      ["--receipts", "--drop-logs", FOUR, "p.lrat"]):
+            self.ends(1, ["c usage"], *words)
+        self.ends(1, ["c cannot read nowhere"], "--recheck", "nowhere")
+
+
 class Plays(unittest.TestCase):
     """Simulated runs of leaves whose times are given."""
 

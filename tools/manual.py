@@ -1,5 +1,6 @@
 """The man page and the completions of `satcluster`, made of the tables of words that the program
-itself reads: PROGRAM in crates/command_line/src/parsing.rt, and what it names.
+itself reads: RULES in each of crates/command_line/src/commands, and what they name; parsing.rt has their
+order.
 
 `tools/pages.py --man` writes them to share/, and `--check` compares them.
 """
@@ -10,7 +11,9 @@ from typing import Any, Dict, Iterator, List, NamedTuple
 
 ROOT = Path(__file__).resolve().parent.parent
 SOURCES = ROOT / "crates" / "command_line" / "src"
-CONSTANT = re.compile(r"const (\w+): [^=]+ =\s+(.*?);\n", re.S)
+CONSTANT = re.compile(r"(?:const|static) (\w+): [^=]+ =\s+(.*?);\n", re.S)
+COMMAND = re.compile(r"(\w+)::rules\(\),")
+STATUS = re.compile(r"after_help: (\"[^\"]*\"),")
 IMPORT = re.compile(r"use crate::commands::(\w+)::(\w+|\{.*?\});", re.S)
 TOKEN = re.compile(r'''"(?:[^"\\]|\\.)*"|'.'|[\w:]+(?:!?\(| \{)?|&?[\[\](){},]''')
 MADE = "tools/pages.py --man makes this of the tables of words in crates/command_line/src."
@@ -130,14 +133,20 @@ def word_of(fields: Dict[str, Any]) -> Word:
     return Word(text, value, is_needed, kind == "Files", fields["help"] + usual)
 
 
+def command(name: str) -> Command:
+    rules = Module(SOURCES / "commands" / (name + ".rt")).constant("RULES")
+    return Command(rules["name"], rules["about"], rules["after_help"],
+                   [word_of(word) for word in rules["words"]])
+
+
 def program() -> Program:
-    fields = Module(SOURCES / "parsing.rt").constant("PROGRAM")
-    version, _, kits = fields["version"].partition(" ")
-    about, *examples = fields["about"].split("\n")
-    commands = [Command(each["name"], each["about"], each["after_help"],
-                        [word_of(word) for word in each["words"]]) for each in fields["commands"]]
-    return Program(version, kits.strip("()"), about, [line for line in examples if line],
-                   fields["after_help"], commands)
+    path = SOURCES / "parsing.rt"
+    module, text = Module(path), path.read_text(encoding="utf-8")
+    version, _, kits = module.constant("VERSION").partition(" ")
+    about, *examples = module.constant("ABOUT").split("\n")
+    status = ast.literal_eval(STATUS.search(text).group(1))
+    return Program(version, kits.strip("()"), about, [line for line in examples if line], status,
+                   [command(name) for name in COMMAND.findall(text)])
 
 
 def roff(text: str) -> str:

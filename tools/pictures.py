@@ -28,7 +28,7 @@ KINDS = {
     ),
     "search": (
         "#dff0d8",
-        ["cube_solve", "conflict_analysis", "decide_heap", "watches", "clause_arena", "proof_trim"],
+        ["cube_solve", "incremental", "conflict_analysis", "decide_heap", "watches", "clause_arena", "proof_trim"],
     ),
     "splitting and joining": ("#f7f0c8", ["cube_split", "look_ahead", "icnf", "proof_join", "trimming"]),
     "formulas and proofs": ("#f6d9dc", ["lrat_check", "binary_check", "packed_text", "lrat_text", "lrat_binary", "lrat_forms", "dimacs"]),

@@ -1,19 +1,20 @@
 #!/usr/bin/env python3
 """Plays the measured leaves of a run on 1 to 1,024 cores, to tell how many of them it could use.
 
-    tools/simulate.py [--no-cuts] [--starts S] [--join MB] [--check MB] FOLDER
+    tools/simulate.py [--no-cuts] [--starts S] [--join MB] [--check MB] [--receipt MB] FOLDER
 
 FOLDER is one of `conquer.py`. Prints a table: when the last leaf ends, when `join` does, which reads
-logs as they come, and when `check` of the joined proof does, in seconds. S is what starting a leaf
-takes, MB are millions of bytes a second. A leaf that another's log has closed takes as long as that
-one if it is begun before; a half of a leaf takes 1.15 times the half of its time, and has as much
-more of its log. The job that searches the whole formula is left out.
+logs as they come, and when `check` of the joined proof does, in seconds; and when `cover` does if
+each job checks its own log (`--receipts`). S is what starting a leaf takes, MB are millions of bytes
+a second. A leaf that another's log has closed takes as long as that one if it is begun before; a
+half of a leaf takes 1.15 times the half of its time, and has as much more of its log. The job that
+searches the whole formula is left out.
 """
 import argparse
 import heapq
 import os
 import sys
-from dataclasses import dataclass, field
+from dataclasses import dataclass, field, replace
 from typing import Dict, List, Optional, Tuple
 
 sys.dont_write_bytecode = True
@@ -25,6 +26,7 @@ from conquering.leaf import CLOSED, Record, Records
 
 CORES = (1, 2, 4, 8, 16, 32, 64, 128, 256, 512, 1024)
 LOSS = 1.15  # what the halves of a leaf take together, for what it takes
+COVER = 25e-6  # seconds that `cover` takes for a leaf and its receipt
 
 
 @dataclass(frozen=True)
@@ -178,13 +180,22 @@ def joined(play: Play, rate: float) -> float:
     return moment
 
 
+def covered(leaves: List[Measured], cores: int, asked: argparse.Namespace) -> float:
+    """When `cover` has told it, if each job checks its log behind its search."""
+    longer = [replace(leaf, seconds=leaf.seconds + leaf.bytes / (asked.receipt * 1e6))
+              for leaf in leaves]
+    play = Play(longer, cores, not asked.no_cuts, asked.starts)
+    return play.run() + COVER * (len(leaves) + play.count)
+
+
 def row(leaves: List[Measured], cores: int, asked: argparse.Namespace) -> str:
     play = Play(leaves, cores, not asked.no_cuts, asked.starts)
     search = play.run()
     join = joined(play, asked.join * 1e6)
     check = join + sum(size for _, size in play.logs) / (asked.check * 1e6)
-    cells = [str(cores), "%.2f" % search, "%.2f" % join, "%.2f" % check, str(play.count)]
-    return "| %s |" % " | ".join(cells)
+    cover = covered(leaves, cores, asked)
+    cells = ["%.2f" % moment for moment in (search, join, check, cover)]
+    return "| %s |" % " | ".join([str(cores)] + cells + [str(play.count)])
 
 
 def main() -> int:
@@ -193,6 +204,7 @@ def main() -> int:
     parser.add_argument("--starts", metavar="S", type=float, default=0.006)
     parser.add_argument("--join", metavar="MB", type=float, default=90)
     parser.add_argument("--check", metavar="MB", type=float, default=140)
+    parser.add_argument("--receipt", metavar="MB", type=float, default=75)
     parser.add_argument("FOLDER")
     asked = parser.parse_args()
     try:
@@ -200,7 +212,7 @@ def main() -> int:
     except Fault as fault:
         print(fault, file=sys.stderr)
         return 1
-    print("| cores | leaves | join | check | cuts |\n|---|---|---|---|---|")
+    print("| cores | leaves | join | check | cover | cuts |\n|---|---|---|---|---|---|")
     for cores in CORES:
         print(row(leaves, cores, asked))
     return 0

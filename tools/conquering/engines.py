@@ -20,7 +20,7 @@ from typing import Dict, List, Optional, Set, Tuple, Type
 
 from conquering.cuts import MEANS, to_cut
 from conquering.figures import megabytes, spent, told
-from conquering.files import Fault, Folder, log_of, name_of
+from conquering.files import Fault, Folder, name_of
 from conquering.leaf import CLOSED, ENDED, FAILED, Job, Leaf, Plan, Records
 from conquering.processes import (Bell, Command, Process, Word, die_with, kill, output_of,
                                   start)
@@ -189,9 +189,9 @@ class Rounds(Engine):
 
     def look(self, run: Run, rounds: List[Round]) -> None:
         """Sees which leaves were closed meanwhile, which run, and whether a model was brought."""
-        have, now = set(self.folder.names("logs")), time.monotonic()
+        have, now = set(self.folder.names(self.plan.kind())), time.monotonic()
         for leaf in [leaf for asked in rounds for leaf in asked.leaves]:
-            if not run.is_closed(leaf) and log_of(leaf.cube) in have:
+            if not run.is_closed(leaf) and self.plan.closing(leaf.cube) in have:
                 run.took(now - self.seen.get(name_of(leaf.cube), now), CLOSED)
                 run.ended(leaf, CLOSED, "")
         run.look_for_answers()
@@ -404,7 +404,7 @@ def work(path: str, mark: str, task: str) -> int:
         leaf = Leaf(tuple(cube), *rest)
         if endings or folder.names("answers"):
             break
-        if folder.has(log_of(leaf.cube)) or folder.covered(leaf.cube).exists():
+        if folder.has(plan.closing(leaf.cube)) or folder.covered(leaf.cube).exists():
             continue
         job = Job(folder, plan, leaf, mark)
         while not endings and not job.ended():

@@ -3,6 +3,8 @@
     trees/N.icnf     the splitting tree; a leaf that is cut in two makes a new file
     whole.icnf       a tree of no levels, for the search of the whole formula
     logs/LEAF.lrat   a log that closes a leaf; LEAF.lrat.zst if it is packed
+    receipts/LEAF    what was told of a log that was checked where it was made
+    before/LEAF      receipts that are made anew
     answers/LEAF     `v` lines that a job has brought
     records/..       how long each job took, and how it ended, for the report
     rounds/N         what an engine was asked to run; it stays as it is, since queued jobs name it
@@ -78,6 +80,10 @@ def log_of(cube: Cube) -> str:
     return "logs/" + name_of(cube) + ".lrat"
 
 
+def receipt_of(cube: Cube) -> str:
+    return "receipts/" + name_of(cube)
+
+
 def answer_of(cube: Cube) -> str:
     return "answers/" + name_of(cube)
 
@@ -129,7 +135,7 @@ def takes(handle: int, lock: int) -> bool:
 class Folder:
     def __init__(self, path: str) -> None:
         self.path = Path(os.path.abspath(path))
-        for kind in ("trees", "logs", "answers", "records", "rounds", "tasks", "scratch"):
+        for kind in ("trees", "logs", "receipts", "answers", "records", "rounds", "tasks", "scratch"):
             self.at(kind).mkdir(parents=True, exist_ok=True)
 
     def at(self, *names: str) -> Path:

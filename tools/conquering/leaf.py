@@ -14,7 +14,7 @@ from pathlib import Path
 from typing import Dict, Generator, List, Optional, Tuple, Union
 
 from conquering.files import (Cube, Folder, answer_of, last_line, log_of, name_of, packed,
-                              publish)
+                              publish, receipt_of)
 from conquering.processes import REFUSED, Command, Pair, Process, Reader, Word, kill, start
 from telling.words import of_foreign_proof
 
@@ -48,6 +48,16 @@ class Plan:
     compress: bool = False  # whether logs are kept packed
     pipe: bool = False  # whether a solver's proof goes to `lift` by a FIFO
     scratch: Optional[str] = None  # where a job writes, if not in the folder
+    receipts: bool = False  # whether a job checks its own log, and leaves a receipt
+    drops_logs: bool = False  # whether a log is removed when its receipt stands
+    rechecks: bool = False  # whether logs alone are read, and nothing is searched
+
+    def kind(self) -> str:
+        """Which files tell that a leaf is closed."""
+        return "receipts" if self.receipts else "logs"
+
+    def closing(self, cube: Cube) -> str:
+        return receipt_of(cube) if self.receipts else log_of(cube)
 
 
 @dataclass(frozen=True)
@@ -79,15 +89,22 @@ def conquer_leaf(folder: Folder, plan: Plan, leaf: Leaf) -> Steps:
     try:
         if plan.scratch:
             near = Path(tempfile.mkdtemp(prefix="conquer.", dir=plan.scratch))
+        if plan.receipts and folder.has(log_of(leaf.cube)):  # of a start without receipts
+            yield from acknowledge(folder, plan, leaf.tree, log_of(leaf.cube), near)
+            return CLOSED, "", 0
         search = by_refute if plan.solver is None else by_solver
         outcome = yield from search(plan, words, near, leaf.limited)
         if outcome == CLOSED:
             log, place = near / "log", folder.at(log_of(leaf.cube))
+            if plan.receipts:
+                yield from receipt(plan, folder.at(leaf.tree), log, near)
+                publish(brought(near / "receipt", here), folder.at(receipt_of(leaf.cube)))
             if plan.compress:
                 yield from pack(log, near / "packing")
                 log, place = packed(log), packed(place)
             size = log.stat().st_size
-            publish(brought(log, here), place)
+            if not plan.drops_logs:
+                publish(brought(log, here), place)
         elif outcome == MODEL:
             publish(brought(near / "answer", here), folder.at(answer_of(leaf.cube)))
     except (Failed, OSError) as why:
@@ -110,6 +127,37 @@ def pack(log: Path, output: Path) -> Generator[Command, Status, None]:
     status = yield Command(["zstd", "-q", "-1", log, "-o", packed(log)], output)
     if status != 0:
         raise Failed("zstd ends with %s: %s" % (status, last_line(output)))
+
+
+def receipt(plan: Plan, tree: Path, log: Path, near: Path) -> Generator[Command, Status, None]:
+    """Has a log checked, and a receipt made of it."""
+    words = [plan.program, "receipt", "--explain", "--cubes", tree, plan.input, log, near / "receipt"]
+    status = yield Command(words, near / "told")
+    if status != 0:
+        raise Failed("receipt ends with %s: %s" % (status, last_line(near / "told")))
+
+
+def acknowledge(folder: Folder, plan: Plan, tree: str, name: str, near: Path) -> Generator[
+        Command, Status, None]:
+    """Makes the receipt of a log that stands. A log of which there is none is set aside, so that
+    its leaf is run again."""
+    log = folder.at(name)
+    if folder.is_packed(name):
+        log = near / "log"
+        status = yield Command(["zstd", "-q", "-d", packed(folder.at(name)), "-o", log],
+                               near / "unpacking")
+        if status != 0:
+            folder.set_aside(name)
+            raise Failed("zstd ends with %s: %s" % (status, last_line(near / "unpacking")))
+    try:
+        yield from receipt(plan, folder.at(tree), log, near)
+    except Failed:
+        if not plan.rechecks:
+            folder.set_aside(name)
+        raise
+    place = folder.at("receipts", Path(name).stem)
+    here = folder.at("scratch", "receipt.%s.%d" % (place.name, os.getpid()))
+    publish(Path(shutil.copyfile(str(near / "receipt"), str(here))), place)
 
 
 def read_record(path: Path) -> Optional[Record]:

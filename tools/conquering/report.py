@@ -16,7 +16,7 @@ from typing import Dict, List, Optional, Tuple
 from conquering.figures import State, megabytes, size, spent, state_of, told
 from conquering.files import Cube
 from conquering.leaf import CLOSED, LIMIT, Plan, Record, Records
-from conquering.run import Run
+from conquering.run import ALL_COVERED, NOT_COVERED, Run
 from conquering.screen import Screen
 
 WIDTH = 1160  # of each picture, in pixels
@@ -261,8 +261,8 @@ def table(state: State, last: Dict[Cube, Record]) -> str:
 
 
 NONE = 1  # the status of a run that was ended before it had an answer
-ANSWERS = {20: "s UNSATISFIABLE", 10: "s SATISFIABLE", 0: "s UNKNOWN", NONE: "ended without answer",
-           None: "under way"}
+ANSWERS = {20: "s UNSATISFIABLE", 10: "s SATISFIABLE", 0: "s UNKNOWN", ALL_COVERED: "s COVERED",
+           NOT_COVERED: "s NOT COVERED", NONE: "ended without answer", None: "under way"}
 RENEWED = '<meta http-equiv="refresh" content="5">'
 TREE = """<h2>The splitting tree</h2><p>From the whole formula down to the leaves: the lighter, the
 sooner closed (%s); the darker, the later (%s). Blue leaves are closed by another's log, grey ones
@@ -314,7 +314,7 @@ class Report:
     def write(self, status: Optional[int]) -> Path:
         """Writes it and answers its path. It is not synced: a crash that spoils it costs a picture."""
         run, now = self.run, time.strftime("; %d %B %Y, %H:%M:%S")
-        state = state_of(run, self.records.all(), status == 20)
+        state = state_of(run, self.records.all(), status in (20, ALL_COVERED))
         text = page(run.plan.input, how_of(run.plan, run.number - 1) + now, state, status)
         part, path = run.folder.at("scratch", "report.html"), run.folder.at("report.html")
         part.write_text(text, encoding="utf-8", errors="replace")

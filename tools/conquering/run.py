@@ -3,7 +3,7 @@ import collections
 import os
 import subprocess
 import time
-from typing import Callable, Counter, DefaultDict, Deque, Dict, FrozenSet, List, Optional, Set, Tuple
+from typing import Callable, Counter, DefaultDict, Deque, Dict, FrozenSet, List, Optional, Set, Tuple, Union
 
 from conquering.files import Cube, Folder, answer_of, closed_by, log_of, publish, read_cubes
 from conquering.leaf import CLOSED, LIMIT, MODEL, Leaf, Plan
@@ -14,9 +14,42 @@ from conquering.unpacking import Unpacking
 TRIES = 3  # how often a leaf is run in one start before it is given up
 HOPELESS = 20  # how many jobs may fail before any leaf is closed
 CALM = 5  # seconds
+ALL_COVERED, NOT_COVERED = 2, 3  # in the place of a status: what `cover` says of all receipts
 
 
-class Join:
+class Reading:
+    """A command that is told names of files, and what it says of them."""
+
+    names: List[str]
+
+    def refused(self, lines: List[str]) -> Tuple[List[str], List[int]]:
+        """The names of files that it refuses, and the places of leaves that nothing closes."""
+        words = [line.split() for line in lines]
+        files = [w for w in words if w[:2] == ["c", "file"] and w[3:5] != ["closes", "nothing"]]
+        missing = [w for w in words if w[:2] == ["c", "leaf"] and w[3:] == ["missing"]]
+        return [self.names[int(w[2]) - 1] for w in files], [int(w[2]) for w in missing]
+
+
+class Cover(Reading):
+    """The program's `cover`, told the names of all receipts."""
+
+    def __init__(self, folder: Folder, plan: Plan, tree: str) -> None:
+        self.folder, self.names = folder, folder.names("receipts")
+        self.words = [plan.program, "cover", "--explain", "--cubes", tree, plan.input, "-"]
+
+    def answer(self) -> Tuple[int, List[str]]:
+        """ALL_COVERED, NOT_COVERED, or its own status; and its lines."""
+        output, errors = self.folder.at("scratch", "joined"), self.folder.at("scratch", "errors")
+        with output.open("wb") as out, errors.open("wb") as err:
+            process = subprocess.Popen(self.words, stdin=subprocess.PIPE, stdout=out, stderr=err,
+                                       cwd=str(self.folder.path))
+            process.communicate(b"".join(os.fsencode(name) + b"\n" for name in self.names))
+        lines = output.read_text(encoding="ascii", errors="replace").split("\n")[:-1]
+        told = {"s COVERED": ALL_COVERED, "s NOT COVERED": NOT_COVERED}
+        return told.get(lines[-1] if lines else "", process.returncode), lines
+
+
+class Join(Reading):
     """The program's `join`, told names of logs as they come: it reads while leaves still run. In
     the place of a packed log it is told a FIFO, and the next name when all of it was read. Without
     a proof it writes nothing."""
@@ -83,13 +116,6 @@ class Join:
         rest, _, name = line.rpartition(" ")
         return rest + " " + self.pipes[name] if name in self.pipes else line
 
-    def refused(self, lines: List[str]) -> Tuple[List[str], List[int]]:
-        """The names of files that it refuses, and the places of leaves that nothing closes."""
-        words = [line.split() for line in lines]
-        files = [w for w in words if w[:2] == ["c", "file"] and w[3:5] != ["closes", "nothing"]]
-        missing = [w for w in words if w[:2] == ["c", "leaf"] and w[3:] == ["missing"]]
-        return [self.names[int(w[2]) - 1] for w in files], [int(w[2]) for w in missing]
-
 
 class Run:
     """The leaves that wait, that run and that are closed. Engines tell it which job has ended."""
@@ -97,6 +123,7 @@ class Run:
     def __init__(self, folder: Folder, plan: Plan, screen: Screen, bell: Bell,
                  proof: Optional[str] = None) -> None:
         self.proof = proof  # where `join` writes one, if it is asked for
+        self.covers = plan.receipts and proof is None  # whether receipts alone are read in the end
         self.folder, self.plan, self.screen, self.bell = folder, plan, screen, bell
         self.tries: Counter[Cube] = collections.Counter()
         self.reasons: Counter[str] = collections.Counter()  # why jobs have failed, and how often
@@ -116,6 +143,7 @@ class Run:
         self.covered: Set[Cube] = set()  # of these the ones that another's closes
         self.renew: Callable[[], None] = lambda: None  # the report, while leaves run
         self.join: Optional[Join] = None
+        self.read: Union[Join, Cover, None] = None  # what was asked last
         self.can_split: Optional[bool] = None
         self.take_tree(folder.newest_tree())
 
@@ -131,9 +159,9 @@ class Run:
 
     def begin(self) -> None:
         """Begins a pass over the leaves that have no log."""
-        have = set(self.folder.names("logs"))
+        have = set(self.folder.names(self.plan.kind()))
         self.look_for_answers()
-        self.done = {cube for cube in self.cubes if log_of(cube) in have}
+        self.done = {cube for cube in self.cubes if self.plan.closing(cube) in have}
         self.covered = set()
         self.closings: Set[FrozenSet[int]] = set()
         self.queue.clear()
@@ -143,8 +171,10 @@ class Run:
         # From the last leaf to the first: behind negations of what the rule has chosen less follows,
         # so these are the longest, and a long leaf that begins late has all others wait for it.
         waiting = [cube for cube in reversed(self.cubes) if cube not in self.done]
+        if self.plan.rechecks:
+            waiting = [cube for cube in waiting if self.folder.has(log_of(cube))]
         self.queue.extend(cube for cube in waiting if self.tries[cube] < TRIES)
-        self.begin_join(*sorted(have))
+        self.begin_join(*self.folder.names("logs"))
         for cube in self.queue:  # what an earlier pass has told of it may have been wrong
             if self.folder.covered(cube).exists():
                 self.folder.covered(cube).unlink()
@@ -207,7 +237,7 @@ class Run:
             self.closed += 1
             self.done.add(cube)
             self.covered.discard(cube)  # if another's log came before its own
-            self.cover(closed_by(self.folder.at(log_of(cube))))
+            self.cover(closed_by(self.folder.at(self.plan.closing(cube))))
             if cube in self.halves:
                 self.cover(frozenset(cube))
             if self.join:
@@ -226,7 +256,7 @@ class Run:
         if outcome == CLOSED:
             self.screen.say("c the whole formula was refuted unsplit")
             self.closed += 1
-            self.cover(closed_by(self.folder.at(log_of(()))))
+            self.cover(closed_by(self.folder.at(self.plan.closing(()))))
             if self.join:
                 self.join.add(log_of(()))
         elif outcome == MODEL:
@@ -309,7 +339,9 @@ class Run:
         return True
 
     def begin_join(self, *names: str) -> None:
-        self.join = Join(self.folder, self.plan, self.tree, self.proof)
+        if self.covers and not self.model:
+            return
+        self.read = self.join = Join(self.folder, self.plan, self.tree, self.proof)
         self.join.add(*names)
 
     def put_off_join(self) -> None:
@@ -351,6 +383,10 @@ class Run:
         self.tell_failures()
         if self.model:
             self.end_join()
+        elif self.covers:
+            self.screen.progress("c covering")
+            self.read = Cover(self.folder, self.plan, self.tree)
+            return self.read.answer()
         if self.join is None:
             self.begin_join(*self.folder.names("answers" if self.model else "logs"))
         self.screen.progress("c joining")
@@ -358,16 +394,23 @@ class Run:
 
     def learn(self, lines: List[str]) -> bool:
         """Takes away what was refused, so that its leaves are run again, and tells if any are."""
-        refused, missing = self.join.refused(lines)
+        if self.plan.rechecks:
+            return False
+        refused, missing = self.read.refused(lines)
         missing = [self.cubes[place - 1] for place in missing]
-        brought = set(self.join.names)
+        brought = set(self.read.names)
+        closing = self.plan.closing if self.covers else log_of
         for cube in missing:
-            name = answer_of(cube) if self.model else log_of(cube)
+            name = answer_of(cube) if self.model else closing(cube)
             self.tries[cube] += name in brought
         if self.model:  # none of them is one
             refused = brought
         else:  # a log that was not refused may close something else than its leaf
-            refused = set(refused).union(brought.intersection(map(log_of, missing)))
+            if self.covers:  # a receipt that is right tells of a log which does not close its leaf
+                for cube in missing:
+                    if closing(cube) in brought.difference(refused):
+                        self.folder.set_aside(log_of(cube))
+            refused = set(refused).union(brought.intersection(map(closing, missing)))
             self.alone.update(self.covered.intersection(missing))
             self.done.difference_update(missing)
             self.covered.difference_update(missing)

@@ -80,9 +80,9 @@ TABLES = (
     Table(
         "proof",
         "An LRAT proof, printed as `c line L fault N` by `check` and `trim`, as `c proof line"
-        " L fault N` by `lift`, and as `c file K line L fault N NAME` by `join`; if the proof"
-        " is binary, with `step` in the place of `line`. [LIDRUP.md](LIDRUP.md#faults) has "
-        "those of `lift --lidrup`.",
+        " L fault N` by `lift`, as `c log line L fault N` by `receipt`, and as `c file K line L"
+        " fault N NAME` by `join`; if the proof is binary, with `step` in the place of `line`."
+        " [LIDRUP.md](LIDRUP.md#faults) has those of `lift --lidrup`.",
         {
             1: "5 2 0 1 2\n",
             2: "4 2 0 1 2 0\n",

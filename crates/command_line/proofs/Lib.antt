@@ -1,4 +1,5 @@
 pub mod NameLemmas
+pub mod ProgramLemmas
 pub mod RefusalLemmas
 pub mod RequestLemmas
 pub mod WordLemmas

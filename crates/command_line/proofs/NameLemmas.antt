@@ -3,7 +3,7 @@ use Rattle.std.proofs.Common.{◌≡◌, ◌∙◌, List, codes}
 use Rattle.clap.specs.Words.{Row, Text}
 use Rattle.command_line.specs.CommandLine.{Makes}
 use Rattle.command_line.specs.declared.request.Request.{Request}
-use Rattle.command_line.specs.declared.request.Request.TheVariants.{Check, Complete, Cubes, Drill, Join, Leaf, Lift, Look, Model, Refute, Serve, Solve, Split, SplitByLook, Trim, Work}
+use Rattle.command_line.specs.declared.request.Request.TheVariants.{Check, Complete, Cover, Cubes, Drill, Join, Leaf, Lift, Look, Model, Receipt, Refute, Serve, Solve, Split, SplitByLook, Trim, Work}
 
 -- the name is that of no command
 pub record IsNoCommand (name : Text) : Type 0 where
@@ -19,6 +19,8 @@ pub record IsNoCommand (name : Text) : Type 0 where
   pub no_lift : name ≡ codes "lift" → ⊥
   pub no_model : name ≡ codes "model" → ⊥
   pub no_trim : name ≡ codes "trim" → ⊥
+  pub no_receipt : name ≡ codes "receipt" → ⊥
+  pub no_cover : name ≡ codes "cover" → ⊥
 
 -- such a name makes no request
 pub makes_none : (read name : Text) (rows : List Row) → read ≡ name → IsNoCommand read → (request : Request) → Makes name rows request → ⊥
@@ -38,3 +40,5 @@ makes_none read name rows is none (Join input cubes proof fragments printing bin
 makes_none read name rows is none (Lift input cubes leaf lidrup proof fragment binary) makes = none.no_lift (is ∙ makes.0)
 makes_none read name rows is none (Model input output) makes = none.no_model (is ∙ makes.0)
 makes_none read name rows is none (Trim input proof out binary) makes = none.no_trim (is ∙ makes.0)
+makes_none read name rows is none (Receipt input cubes log receipt) makes = none.no_receipt (is ∙ makes.0)
+makes_none read name rows is none (Cover input cubes receipts quiet) makes = none.no_cover (is ∙ makes.0)

@@ -8,7 +8,7 @@ use Rattle.command_line.specs.Program.{program}
 use Rattle.command_line.specs.declared.options.Options.{Options}
 use Rattle.command_line.specs.declared.printing.Printing.{Printing}
 use Rattle.command_line.specs.declared.request.Request.{Request}
-use Rattle.command_line.specs.declared.request.Request.TheVariants.{Check, Complete, Cubes, Drill, Join, Leaf, Lift, Look, Model, Refute, Serve, Solve, Split, SplitByLook, Trim, Work}
+use Rattle.command_line.specs.declared.request.Request.TheVariants.{Check, Complete, Cover, Cubes, Drill, Join, Leaf, Lift, Look, Model, Receipt, Refute, Serve, Solve, Split, SplitByLook, Trim, Work}
 
 -- two names that a test tells apart
 pub differ : (a b : Text) → bytes_eq a b ≡ false → bytes_eq b b ≡ true → a ≡ b → ⊥
@@ -32,6 +32,8 @@ name_of (Join input cubes proof fragments printing binary) = codes "join"
 name_of (Lift input cubes leaf lidrup proof fragment binary) = codes "lift"
 name_of (Model input output) = codes "model"
 name_of (Trim input proof out binary) = codes "trim"
+name_of (Receipt input cubes log receipt) = codes "receipt"
+name_of (Cover input cubes receipts quiet) = codes "cover"
 
 is_named : (name : Text) (rows : List Row) (r : Request) → Makes name rows r → name ≡ name_of r
 is_named name rows (Check input proof session) makes = makes.0
@@ -50,6 +52,8 @@ is_named name rows (Join input cubes proof fragments printing binary) makes = ma
 is_named name rows (Lift input cubes leaf lidrup proof fragment binary) makes = makes.0
 is_named name rows (Model input output) makes = makes.0
 is_named name rows (Trim input proof out binary) makes = makes.0
+is_named name rows (Receipt input cubes log receipt) makes = makes.0
+is_named name rows (Cover input cubes receipts quiet) makes = makes.0
 
 pub only_check : (rows : List Row) → ((input : Bor Text) (proof : Bor Text) (session : Bool) → Makes (codes "check") rows (Check input proof session) → ⊥) → (r : Request) → Makes (codes "check") rows r → ⊥
 only_check rows none (Check input proof session) makes = none input proof session makes
@@ -116,6 +120,14 @@ only_model rows none other makes = differ (codes "model") (name_of other) refl r
 pub only_trim : (rows : List Row) → ((input : Bor Text) (proof : Bor Text) (out : Bor Text) (binary : Bool) → Makes (codes "trim") rows (Trim input proof out binary) → ⊥) → (r : Request) → Makes (codes "trim") rows r → ⊥
 only_trim rows none (Trim input proof out binary) makes = none input proof out binary makes
 only_trim rows none other makes = differ (codes "trim") (name_of other) refl refl (is_named (codes "trim") rows other makes)
+
+pub only_receipt : (rows : List Row) → ((input : Bor Text) (cubes : Bor Text) (log : Bor Text) (receipt : Bor Text) → Makes (codes "receipt") rows (Receipt input cubes log receipt) → ⊥) → (r : Request) → Makes (codes "receipt") rows r → ⊥
+only_receipt rows none (Receipt input cubes log receipt) makes = none input cubes log receipt makes
+only_receipt rows none other makes = differ (codes "receipt") (name_of other) refl refl (is_named (codes "receipt") rows other makes)
+
+pub only_cover : (rows : List Row) → ((input : Bor Text) (cubes : Bor Text) (receipts : Vec (Bor Text) Global) (quiet : Bool) → Makes (codes "cover") rows (Cover input cubes receipts quiet) → ⊥) → (r : Request) → Makes (codes "cover") rows r → ⊥
+only_cover rows none (Cover input cubes receipts quiet) makes = none input cubes receipts quiet makes
+only_cover rows none other makes = differ (codes "cover") (name_of other) refl refl (is_named (codes "cover") rows other makes)
 
 some_same : {X : Type 0} (a b : X) → Some a ≡ Some b → a ≡ b
 some_same a b e = cc

@@ -12,7 +12,7 @@ use Rattle.command_line.specs.declared.commands.run_words.Place.TheVariants.{AtP
 use Rattle.command_line.specs.declared.options.Options.{Options}
 use Rattle.command_line.specs.declared.printing.Printing.{Printing}
 use Rattle.command_line.specs.declared.request.Request.{Request}
-use Rattle.command_line.specs.declared.request.Request.TheVariants.{Check, Complete, Cubes, Drill, Join, Leaf, Lift, Look, Model, Refute, Serve, Solve, Split, SplitByLook, Trim, Work}
+use Rattle.command_line.specs.declared.request.Request.TheVariants.{Check, Complete, Cover, Cubes, Drill, Join, Leaf, Lift, Look, Model, Receipt, Refute, Serve, Solve, Split, SplitByLook, Trim, Work}
 use Rattle.command_line.specs.declared.request.UsageFault.{UsageFault}
 use Rattle.command_line.specs.declared.request.UsageFault.TheVariants.{Help, NoMemory, Usage}
 
@@ -153,6 +153,12 @@ Makes name rows (Model input output) =
 Makes name rows (Trim input proof out binary) =
     (name ≡ codes "trim") × NamesFile rows (codes "INPUT") (Some input) × NamesFile rows (codes "PROOF") (Some proof) × NamesFile rows (codes "OUT") (Some out)
     × NamesFlag rows (codes "binary") binary
+Makes name rows (Receipt input cubes log receipt) =
+    (name ≡ codes "receipt") × NamesFile rows (codes "INPUT") (Some input) × NamesFile rows (codes "cubes") (Some cubes)
+    × NamesFile rows (codes "LOG") (Some log) × NamesFile rows (codes "RECEIPT") (Some receipt)
+Makes name rows (Cover input cubes receipts quiet) =
+    (name ≡ codes "cover") × NamesFile rows (codes "INPUT") (Some input) × NamesFile rows (codes "cubes") (Some cubes)
+    × NamesFiles rows (codes "NAME") receipts.items × NamesFlag rows (codes "quiet") quiet
 
 -- the words are right by the rules of the command line
 pub record AreTaken (words : List Text) : Type 0 where
@@ -213,3 +219,5 @@ IsInRange (Join input cubes proof fragments printing binary) = 1 ≤ length frag
 IsInRange (Lift input cubes leaf lidrup proof fragment binary) = IfSome leaf IsLeafNumber
 IsInRange (Model input output) = ⊤
 IsInRange (Trim input proof out binary) = ⊤
+IsInRange (Receipt input cubes log receipt) = ⊤
+IsInRange (Cover input cubes receipts quiet) = 1 ≤ length receipts.items

@@ -105,6 +105,18 @@ abbrev pub trim_app : App
 trim_app =
     with_rule (with_rule (with_rule (with_binary (new_app (codes "trim"))) (file_rule (codes "INPUT") true)) (file_rule (codes "PROOF") true)) (file_rule (codes "OUT") true)
 
+-- `receipt --cubes FILE INPUT LOG RECEIPT`
+abbrev pub receipt_app : App
+receipt_app =
+    with_rule (with_rule (with_rule (with_rule (new_app (codes "receipt")) (needed_file_rule (codes "cubes"))) (file_rule (codes "INPUT") true))
+    (file_rule (codes "LOG") true)) (file_rule (codes "RECEIPT") true)
+
+-- `cover --cubes FILE [-q] INPUT NAME..`, of one name or more
+abbrev pub cover_app : App
+cover_app =
+    with_rule (with_rule (with_rule (with_rule (new_app (codes "cover")) (needed_file_rule (codes "cubes"))) (flag_rule (codes "quiet") (byte "q")))
+    (file_rule (codes "INPUT") true)) (files_rule (codes "NAME"))
+
 -- the program: it has a version, and a command has to be named
 abbrev pub bare_program : App
 bare_program = on_top (λ s. record s { has_version = true; subcommand_required = true }) (new_app (codes "satcluster"))
@@ -121,5 +133,9 @@ with_leaves a =
     with_subcommand (with_subcommand (with_subcommand (with_subcommand (with_subcommand (with_subcommand a leaf_app.top) refute_app.top) join_app.top) lift_app.top)
     model_app.top) trim_app.top
 
+-- the commands on receipts
+abbrev pub with_receipts : App → App
+with_receipts a = with_subcommand (with_subcommand a receipt_app.top) cover_app.top
+
 abbrev pub program : App
-program = with_leaves (with_formulas bare_program)
+program = with_receipts (with_leaves (with_formulas bare_program))

@@ -1,6 +1,7 @@
 //! The words of the commands, a room each, and what they share.
 
 pub(crate) mod check;
+pub(crate) mod cover;
 pub(crate) mod cubes;
 pub(crate) mod drill;
 pub(crate) mod join;
@@ -8,6 +9,7 @@ pub(crate) mod leaf;
 mod leaf_words;
 pub(crate) mod lift;
 pub(crate) mod model;
+pub(crate) mod receipt;
 pub(crate) mod refute;
 mod run_words;
 pub(crate) mod serve;

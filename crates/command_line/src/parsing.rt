@@ -1,12 +1,16 @@
 //! Reads the words of a command line.
 
-ghost use Rattle.std.specs.Prelude.{◌≡◌, IfOk, IfErr, IfSome, IfNone, map};
+ghost use Rattle.std.specs.Prelude.{◌≡◌, IfOk, IfErr, IfSome, IfNone, List, Some, map, true};
+ghost use Rattle.clap.specs.Words.{Row, Text, subcommand_of, takes};
 ghost use Rattle.command_line.specs.CommandLine.{AreTaken, AsksFor, IsInRange, IsParsed, IsRefusal, Makes};
+ghost use Rattle.command_line.specs.Program.{program};
 ghost use Rattle.command_line.specs.inner.Refusing.{fault_of_refusal};
 ghost use Rattle.command_line.specs.declared.request.Request.{Request};
+ghost use Rattle.word_rules.specs.Parsing.{IsRefusalOf};
+ghost use Rattle.word_rules.specs.Rules.{app_of_program};
 
 use crate::commands::{
-    check, cubes, drill, join, leaf, lift, model, refute, serve, solve, trim, work,
+    check, cover, cubes, drill, join, leaf, lift, model, receipt, refute, serve, solve, trim, work,
 };
 use crate::request::{Request, UsageFault};
 use std::alloc::{AllocError, Global};
@@ -23,27 +27,55 @@ const ABOUT: &str = concat!(
     "  satcluster model f.cnf answer    check the assignment that a solver printed",
 );
 
-/// The program with its commands.
-const PROGRAM: ProgramRules<'static> = ProgramRules {
-    name: "satcluster",
-    version: VERSION,
-    about: ABOUT,
-    after_help: "Status: that of the command; 0 for help, 1 where the words are refused",
-    commands: &[
-        solve::RULES,
-        check::RULES,
-        cubes::RULES,
-        serve::RULES,
-        work::RULES,
-        drill::RULES,
-        leaf::RULES,
-        refute::RULES,
-        join::RULES,
-        lift::RULES,
-        model::RULES,
-        trim::RULES,
-    ],
-};
+/// What the words give to a command by these rules, which are the program's; the first word is the program's name.
+fn read_by<'a, 'r>(
+    alloc: Global,
+    rules: &ProgramRules<'a, 'r>,
+    words: &'a [&'a str],
+) -> Result<Found<'a>, Refusal>
+    requires { app_of_program rules.now ≡ program }
+    ensures met { IfOk result (λ found. subcommand_of program (map (λ w. w.now) words.now) ≡ Some (found.name, found.rows)) }
+    ensures taken { IfOk result (λ _. IsParsed (map (λ w. w.now) words.now)) }
+    ensures complete { (met : Text × List Row) → takes program (map (λ w. w.now) words.now) ≡ true
+        → subcommand_of program (map (λ w. w.now) words.now) ≡ Some met → IfErr result (λ f. f ≡ Refusal.NoMemory) }
+    ensures refused { IfErr result (IsRefusalOf program (map (λ w. w.now) words.now)) }
+{
+    parse(alloc, rules, words)
+}
+
+/// What the words give to a command.
+fn given_of<'a>(alloc: Global, words: &'a [&'a str]) -> Result<Found<'a>, Refusal>
+    ensures met { IfOk result (λ found. subcommand_of program (map (λ w. w.now) words.now) ≡ Some (found.name, found.rows)) }
+    ensures taken { IfOk result (λ _. IsParsed (map (λ w. w.now) words.now)) }
+    ensures complete { (met : Text × List Row) → takes program (map (λ w. w.now) words.now) ≡ true
+        → subcommand_of program (map (λ w. w.now) words.now) ≡ Some met → IfErr result (λ f. f ≡ Refusal.NoMemory) }
+    ensures refused { IfErr result (IsRefusalOf program (map (λ w. w.now) words.now)) }
+{
+    let commands = [
+        solve::rules(),
+        check::rules(),
+        cubes::rules(),
+        serve::rules(),
+        work::rules(),
+        drill::rules(),
+        leaf::rules(),
+        refute::rules(),
+        join::rules(),
+        lift::rules(),
+        model::rules(),
+        trim::rules(),
+        receipt::rules(),
+        cover::rules(),
+    ];
+    let rules = ProgramRules {
+        name: "satcluster",
+        version: VERSION,
+        about: ABOUT,
+        after_help: "Status: that of the command; 0 for help, 1 where the words are refused",
+        commands: &commands,
+    };
+    read_by(alloc, &rules, words)
+}
 
 /// The fault that a refusal of the words is.
 fn fault_of(refusal: Refusal) -> UsageFault
@@ -75,6 +107,8 @@ fn request_of<'a>(alloc: Global, given: &Found<'a>) -> Result<Option<Request<'a>
         "lift" => Ok(lift::asked(given)),
         "model" => Ok(model::asked(given)),
         "trim" => Ok(trim::asked(given)),
+        "receipt" => Ok(receipt::asked(given)),
+        "cover" => cover::asked(alloc, given),
         _ => Ok(None),
     }
 }
@@ -93,7 +127,7 @@ pub fn command<'a>(alloc: Global, words: &'a [&'a str]) -> Result<Request<'a>, U
     // Help, or the version, is handed out where the words ask for it, memory aside, and nowhere else.
     ensures refused { IfErr result (IsRefusal (map (λ w. w.now) words.now)) }
 {
-    let given = match parse(alloc, &PROGRAM, words) {
+    let given = match given_of(alloc, words) {
         Ok(given) => given,
         Err(refusal) => return Err(fault_of(refusal)),
     };

@@ -126,6 +126,21 @@ pub enum Request<'a> {
         out: &'a str,
         binary: bool,
     },
+    /// Check a log over the formula, and write to a file which of its clauses close leaves.
+    Receipt {
+        input: &'a str,
+        cubes: &'a str,
+        log: &'a str,
+        receipt: &'a str,
+    },
+    /// Tell whether receipts, one at least, close all leaves; `c` lines may be left out. A name `-` stands for the names that standard
+    /// input lists.
+    Cover {
+        input: &'a str,
+        cubes: &'a str,
+        receipts: Vec<&'a str>,
+        quiet: bool,
+    },
 }
 
 /// Why a command line gives no request.

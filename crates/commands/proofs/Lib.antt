@@ -1,10 +1,16 @@
+mod ClosedLemmas
+mod CoverLemmas
 mod FeedLemmas
+mod JoinLemmas
 mod KnownLemmas
 mod LiftLemmas
+mod ListedLemmas
+mod ListingLemmas
 mod ModelLemmas
 mod NextLemmas
 mod OfLemmas
 mod PartLemmas
+mod ReceiptLemmas
 mod TextLemmas
 mod TreeLemmas
 mod TrimLemmas

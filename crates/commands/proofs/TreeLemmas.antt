@@ -12,7 +12,7 @@ use Rattle.icnf.specs.Leaves.{Cube}
 use Rattle.leaves.specs.declared.split.Split.{Split}
 use Rattle.reports.specs.declared.report.Report.{Report}
 
-of_both : (P Q : List ℕ → List ℕ → Type 0) (a b : Option (List ℕ)) → ((text lines : List ℕ) → P text lines → Q text lines)
+pub of_both : (P Q : List ℕ → List ℕ → Type 0) (a b : Option (List ℕ)) → ((text lines : List ℕ) → P text lines → Q text lines)
     → Of a (λ text. Of b (λ lines. P text lines)) → Of a (λ text. Of b (λ lines. Q text lines))
 of_both P Q a b f h = of_map (λ text. Of b (P text)) (λ text. Of b (Q text)) a (λ text k. of_map (P text) (Q text) b (f text) k) h
 

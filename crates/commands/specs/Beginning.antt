@@ -1,9 +1,10 @@
 -- What a command over leaves begins with, and what is told of an input and cubes that are refused.
-use Rattle.std.specs.Prelude.{◌≡◌, ◌⊎◌, ℕ, Bool, List, [], Result, Ok, Err, if◌then◌else◌}
+use Rattle.std.specs.Prelude.{◌≡◌, ◌⊎◌, ℕ, Bool, List, [], Ok, Err, if◌then◌else◌}
 use Rattle.dimacs.specs.logic.Cnf.{Cnf}
 use Rattle.dimacs.specs.text.Reading.{parse}
 use Rattle.dimacs.specs.declared.fault.DimacsFault.{DimacsFault}
-use Rattle.icnf.specs.Pieces.{Tells}
+use Rattle.icnf.specs.Leaves.{Cube}
+use Rattle.icnf.specs.Pieces.{SpellsTree, Tells}
 use Rattle.icnf.specs.Reading.{parse as parse_cubes}
 use Rattle.icnf.specs.declared.cubes_fault.CubesFault.{CubesFault}
 use Rattle.icnf.specs.declared.cubes_fault.CubesFault.TheVariants.{Faulty, OtherFormula}
@@ -41,3 +42,9 @@ pub record IsHushed (quiet : Bool) (report shown : Report) : Type 0 where
   pub status : shown.status ≡ report.status
   pub proof : shown.proof ≡ report.proof
   pub text : shown.stdout.items ≡ (if quiet then [] else report.stdout.items)
+
+-- the first fault of the input, and then of the cubes, unless `-q` leaves it out; or P of the formula and the tree
+abbrev pub OfQuietTree : Bool → List ℕ → List ℕ → (Cnf → List Cube → Type 0) → Report → Type 0
+OfQuietTree quiet input cubes P r =
+    ((told : Report) × IsHushed quiet told r × (RefusesInput input told ⊎ OfFormula input (λ F. RefusesCubes F cubes told)))
+    ⊎ OfFormula input (λ F. (tree : List Cube) × SpellsTree F cubes tree × P F tree)

@@ -1,9 +1,13 @@
 pub mod Beginning
 pub mod Checking
+pub mod Covering
 pub mod Feeding
+pub mod Joining
 pub mod Known
 pub mod Lifting
+pub mod Names
 pub mod Printing
+pub mod Receipts
 pub mod Refusals
 pub mod Testing
 pub mod Trees

@@ -1,9 +1,12 @@
 pub mod Beginning
+pub mod Covering
 pub mod Feeding
+pub mod Joining
 pub mod Lifting
 pub mod Moving
 pub mod Parts
 pub mod Pouring
+pub mod Receipts
 pub mod Testing
 pub mod Texts
 pub mod Trimming

@@ -53,6 +53,9 @@ pub trait Drafts: Disk {
         ensures written { OnOk result ((path before : List ℕ) → made draft.old path before → made draft.new path (before ++ bytes.now)) }
         ensures refused { IfErr result (IsRefusedAs Refusal.Writing) };
 
+    /// Whether a path leads to the file in the making, or to its place.
+    fn leads_to(&self, draft: &Self::Draft, path: &str) -> bool;
+
     /// Lets the file take its place, and tells whether it could; else it is gone.
     fn keep(&mut self, draft: Self::Draft) -> Result<bool, Refusal>
         ensures kept { IfOk result (λ b. IsTrue b → (path bytes : List ℕ) → made draft path bytes → kept self.old self.new path bytes) }

@@ -106,7 +106,7 @@ map_less M ids = record {
   was = λ n C h. test_in ids n (list_any (nat_eq n) ids) refl (get M n) C (sym (get_without M ids n) ∙ h);
 }
 
-linked_less : (a b old new : Live) (ids : List ℕ) → AreLinked a old → AreLess a ids b → AreLess old ids new → AreLinked b new
+pub linked_less : (a b old new : Live) (ids : List ℕ) → AreLinked a old → AreLess a ids b → AreLess old ids new → AreLinked b new
 linked_less a b old new ids h f g = record {
   forth = λ n C i. let w = f.was n C i in let d = h.forth n C w.1 in (d.0, g.stays n d.0 d.1 w.0, d.2);
   back = λ n D i. let w = g.was n D i in let c = h.back n D w.1 in (c.0, f.stays n c.0 c.1 w.0, c.2);

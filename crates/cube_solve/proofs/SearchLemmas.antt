@@ -195,7 +195,7 @@ true_or_false t (x ∷ C) b h = elim (h x (b x (Contains-head x C))) [
   ]
 ]
 
-calm_is_true : (t : TrailValue) (C : Clause) → ((l : Literal) → Contains C l → IsWithin t.vars l) → IsTotal t → IsCalm (holds t.entries) C
+pub calm_is_true : (t : TrailValue) (C : Clause) → ((l : Literal) → Contains C l → IsWithin t.vars l) → IsTotal t → IsCalm (holds t.entries) C
     → (l : Literal) × Contains C l × (holds t.entries l ≡ true) × IsWithin t.vars l
 calm_is_true t C b h k = elim (true_or_false t C b h) [ inl y ↦ y | inr f ↦ absurd (k.0 f) ]
 

@@ -1,3 +1,5 @@
 pub mod Conflicts
 pub mod Outcome
+pub mod Session
+pub mod Telling
 pub mod inner

@@ -5,6 +5,7 @@ pub mod Levels
 pub mod Marks
 pub mod Order
 pub mod Pace
+pub mod Sessions
 pub mod State
 pub mod Steady
 pub mod Steps

@@ -2,15 +2,17 @@
 
 ghost use Rattle.std.specs.Prelude.{◌≡◌, ℕ, ◌+◌, ◌<◌, ◌≤◌, ◌^◌, [], ◌∷◌, ◌++◌, map, nat_eq, All, IfOk, OnOk};
 ghost use Rattle.std.specs.List.{IsDistinct};
-ghost use Rattle.dimacs.specs.logic.Literal.{Clause, IsWithin, var_of};
+ghost use Rattle.dimacs.specs.logic.ClauseMap.{map_of, live_in};
+ghost use Rattle.dimacs.specs.logic.Literal.{Clause, IsWithin, same, var_of};
 ghost use Rattle.clause_arena.specs.Clauses.{live_of};
 ghost use Rattle.lrat_text.specs.Grammar.{IsClauseNumber};
 ghost use Rattle.lrat_text.specs.Log.{Cube};
 ghost use Rattle.watches.specs.Law.{IsConflict};
 ghost use Rattle.watches.specs.Trails.{present};
 ghost use Rattle.conflict_analysis.specs.Lemmas.{IsClosing, NegatesAssumptions};
-ghost use Rattle.cube_solve.specs.inner.Forgetting.{AreRising, AreLemmas, MayForget};
+ghost use Rattle.cube_solve.specs.inner.Forgetting.{AreRising, AreLemmas, Drops, MayForget};
 ghost use Rattle.cube_solve.specs.inner.Learning.{AreBelow, IsWritten, Learns};
+ghost use Rattle.cube_solve.specs.inner.Levels.{AreLinked, IsAdded};
 ghost use Rattle.cube_solve.specs.Outcome.{IsRightOutcome};
 ghost use Rattle.cube_solve.specs.inner.State.{IsAssuming};
 ghost use Rattle.cube_solve.specs.inner.Steady.{IsSteady, IsSearching};
@@ -31,6 +33,7 @@ use conflict_analysis::{Analyser, Closing, Lemma, close_cube};
 use dimacs::{Base, Lit};
 use packed_text::PackedText;
 use std::alloc::{AllocError, Global};
+use std::mem::replace;
 use watches::{Propagator, add_clause};
 
 /// A search: what it works on, and what it has learnt.
@@ -80,6 +83,9 @@ impl<'a, P: Propagator> Search<'a, P> {
     ) -> Result<Search<'a, P>, AllocError>
         requires { P.attached propagator.old ≡ [] }
         ensures searching { IfOk result (IsSearching P.is_ready P.attached base.now 0) }
+        ensures linked { IfOk result (λ s. AreLinked (live_in (map_of base.now)) (live_of s.state.arena)) }
+        ensures lemmas { IfOk result (λ s. s.lemmas.items ≡ []) }
+        ensures log { IfOk result (λ s. s.log ≡ []) }
         ensures assuming { IfOk result (λ s. (q : Cube) → IsAssuming q s.state.trail.entries s.state.assumed) }
     {
         let vars = base.vars(); // with it comes the bound of the number of clauses
@@ -222,7 +228,7 @@ impl<'a, P: Propagator> Search<'a, P> {
     }
 
     /// Learns the lemma of a literal that wants one, or else that of the conflict: whether it was the conflict's.
-    fn learn(&mut self, conflict: u64, id: u64) -> Result<bool, AllocError>
+    pub(crate) fn learn(&mut self, conflict: u64, id: u64) -> Result<bool, AllocError>
         requires steady { IsSteady P.is_ready P.attached self.old.state }
         requires conflict { IsConflict (live_of self.old.state.arena) self.old.state.trail.entries conflict }
         requires above { 0 < present self.old.state.trail.entries }
@@ -258,7 +264,7 @@ impl<'a, P: Propagator> Search<'a, P> {
     }
 
     /// Halves the uses, restarts and forgets lemmas when it is time.
-    fn keep_pace(&mut self, top: u64) -> Result<(), AllocError>
+    pub(crate) fn keep_pace(&mut self, top: u64) -> Result<(), AllocError>
         requires steady { IsSteady P.is_ready P.attached self.old.state }
         requires rising { AreRising self.old.lemmas.items }
         requires top { IsClauseNumber top }
@@ -268,6 +274,7 @@ impl<'a, P: Propagator> Search<'a, P> {
         ensures assuming { OnOk result ((q : Cube) → IsAssuming q self.old.state.trail.entries self.old.state.assumed → IsAssuming q self.new.state.trail.entries self.new.state.assumed) }
         ensures lemmas { OnOk result ((first : ℕ) → AreLemmas first (live_of self.old.state.arena) self.old.lemmas.items → AreLemmas first (live_of self.new.state.arena) self.new.lemmas.items) }
         ensures kept { OnOk result ((first : ℕ) → AreLemmas first (live_of self.old.state.arena) self.old.lemmas.items → MayForget first (live_of self.old.state.arena) (live_of self.new.state.arena) self.old.log self.new.log) }
+        ensures drops { OnOk result (Drops top self.old.lemmas.items self.new.lemmas.items (live_of self.old.state.arena) (live_of self.new.state.arena) self.old.log self.new.log) }
         ensures units { self.new.units ≡ self.old.units }
     {
         self.uses.halve_if(self.phases.halves(), &self.lemmas);
@@ -279,6 +286,37 @@ impl<'a, P: Propagator> Search<'a, P> {
         self.state.go_back(0);
         self.forget(top)?;
         Ok(())
+    }
+
+    /// Takes in a clause that is no lemma, behind a return to level 0.
+    pub(crate) fn take_in(&mut self, id: u64, lits: &[Lit]) -> Result<(), AllocError>
+        requires steady { IsSteady P.is_ready P.attached self.old.state }
+        requires distinct { IsDistinct same lits.now }
+        requires within { All (IsWithin self.old.state.trail.vars) lits.now }
+        requires id { 0 < id }
+        requires numbers { AreBelow id (live_of self.old.state.arena) }
+        requires noted { AreNoted (live_of self.old.state.arena) self.old.units.numbers.items }
+        ensures steady { OnOk result (IsSteady P.is_ready P.attached self.new.state) }
+        ensures noted { OnOk result (AreNoted (live_of self.new.state.arena) self.new.units.numbers.items) }
+        ensures added { OnOk result (IsAdded (live_of self.old.state.arena) id lits.now (live_of self.new.state.arena)) }
+        ensures lemmas { OnOk result (self.new.lemmas.items ≡ self.old.lemmas.items) }
+        ensures vars { OnOk result (self.new.state.trail.vars ≡ self.old.state.trail.vars) }
+        ensures log { self.new.log ≡ self.old.log }
+    {
+        self.state.take_in(id, lits)?;
+        self.units.note(lits, id);
+        self.gaps.give(lits);
+        self.uses.learn(0)?; // a place among the counts, which are by number
+        Ok(())
+    }
+
+    /// The text of the log, which begins anew.
+    pub(crate) fn take_log(&mut self) -> PackedText
+        ensures text { result ≡ self.old.log }
+        ensures rest { self.new ≡ record self.old { log = [] } }
+    {
+        let log = replace(&mut self.log, Log::new(self.alloc));
+        log.into_packed()
     }
 
     /// Learns one lemma after others, and keeps pace where it is that of the conflict.

@@ -3,7 +3,8 @@
 ghost use Rattle.std.specs.Prelude.{◌≡◌, ◌<◌, ◌≤◌, true, List, [], ◌∷◌, ◌++◌, All, IfOk, OnOk};
 ghost use Rattle.clause_arena.specs.Clauses.{live_of};
 ghost use Rattle.dimacs.specs.logic.ClauseMap.{map_of, live_in};
-ghost use Rattle.dimacs.specs.logic.Literal.{IsWithin};
+ghost use Rattle.std.specs.List.{IsDistinct};
+ghost use Rattle.dimacs.specs.logic.Literal.{IsWithin, same};
 ghost use Rattle.lrat_text.specs.Log.{Cube};
 ghost use Rattle.watches.specs.Trails.{up_to};
 ghost use Rattle.watches.specs.declared.trail.Assigned.{Assigned};
@@ -86,6 +87,33 @@ impl<'a, P: Propagator> State<'a, P> {
     {
         self.order.put_back(&self.trail, level);
         self.propagator.undo(&mut self.trail, level);
+    }
+
+    /// Goes back to level 0, where nothing is assumed.
+    pub(crate) fn begin(&mut self)
+        requires { IsSteady P.is_ready P.attached self.old }
+        ensures steady { IsSteady P.is_ready P.attached self.new }
+        ensures arena { self.new.arena ≡ self.old.arena }
+        ensures vars { self.new.trail.vars ≡ self.old.trail.vars }
+        ensures assuming { (q : Cube) → IsAssuming q self.new.trail.entries self.new.assumed }
+    {
+        self.go_back(0);
+        self.assumed = 0;
+    }
+
+    /// Takes in a clause, behind a return to level 0.
+    pub(crate) fn take_in(&mut self, id: u64, lits: &[Lit]) -> Result<(), AllocError>
+        requires steady { IsSteady P.is_ready P.attached self.old }
+        requires distinct { IsDistinct same lits.now }
+        requires within { All (IsWithin self.old.trail.vars) lits.now }
+        requires numbers { AreBelow id (live_of self.old.arena) }
+        ensures steady { OnOk result (IsSteady P.is_ready P.attached self.new) }
+        ensures added { OnOk result (IsAdded (live_of self.old.arena) id lits.now (live_of self.new.arena)) }
+        ensures vars { OnOk result (self.new.trail.vars ≡ self.old.trail.vars) }
+    {
+        self.go_back(0);
+        add_clause(self.propagator, &mut self.arena, &self.trail, id, lits)?;
+        Ok(())
     }
 
     /// Takes in the lemma of a literal that is true at level 0, which is its reason from then on.

@@ -23,6 +23,9 @@ const MOST_LEMMAS: usize = 2000;
 
 const MORE_LEMMAS: usize = 20;
 
+/// How many more where a session keeps them from query to query.
+const MORE_LEMMAS_KEPT: usize = 300;
+
 /// How much the lemmas were used of late: each counts the analyses that met it, its own among them, and is halved from time to
 /// time. Beside it stand the fewest levels that its literals had in one of them.
 #[derive(Drop)]
@@ -34,6 +37,8 @@ pub(crate) struct Uses {
     /// The levels of each lemma, but the one on which it was learnt.
     levels: Vec<u8>,
     reductions: usize,
+    /// How many more lemmas may be live at each reduction.
+    more: usize,
     /// How many lemmas are live at the next reduction.
     most: usize,
 }
@@ -66,8 +71,14 @@ impl Uses {
             counts: Vec::new(alloc),
             levels: Vec::new(alloc),
             reductions: 0,
+            more: MORE_LEMMAS,
             most: MOST_LEMMAS,
         }
+    }
+
+    /// Lemmas are kept from query to query.
+    pub(crate) fn keep_more(&mut self) {
+        self.more = MORE_LEMMAS_KEPT;
     }
 
     /// The next lemma was learnt.
@@ -137,7 +148,7 @@ impl Uses {
     /// So many of the live lemmas are forgotten: what no candidate was stays, and the others may double again.
     pub(crate) fn reduce(&mut self, live: usize, gone: usize) {
         self.reductions = self.reductions.saturating_add(1);
-        let more = self.reductions.saturating_mul(MORE_LEMMAS);
+        let more = self.reductions.saturating_mul(self.more);
         self.most = live
             .saturating_sub(gone.saturating_mul(2))
             .saturating_add(MOST_LEMMAS)

@@ -1,7 +1,7 @@
--- What is printed of the files and the leaves of a join.
+-- What is printed of the files and the leaves of a join, or of a cover.
 use Rattle.std.specs.Prelude.{ℕ, ◌+◌, ◌/◌, ◌%◌, ◌==◌, nat_le, ◌&&◌, not, List, [], ◌∷◌, ◌++◌, flat_map, codes, decimal, slice_index_or, if◌then◌else◌}
 use Rattle.leaves.specs.declared.notes.Note.{Note}
-use Rattle.leaves.specs.declared.notes.Note.TheVariants.{Fault, StepFault, ClosesNothing, Unread}
+use Rattle.leaves.specs.declared.notes.Note.TheVariants.{Fault, StepFault, ClosesNothing, Unread, NoReceipt, OtherFormula, TooLong}
 
 abbrev pub hex_digit : ℕ → ℕ
 hex_digit n = slice_index_or (codes "0123456789ABCDEF") n 0
@@ -23,6 +23,9 @@ said (Fault line number) = fault_said (codes " line ") line number
 said (StepFault step number) = fault_said (codes " step ") step number
 said ClosesNothing = codes " closes nothing"
 said Unread = codes " cannot be read"
+said (NoReceipt line) = codes " no receipt at line " ++ decimal line
+said OtherFormula = codes " of another formula"
+said TooLong = codes " too long"
 
 -- the line of a file, by its number among the names, from 1
 abbrev pub note_text : ℕ → Note → List ℕ → List ℕ

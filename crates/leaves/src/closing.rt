@@ -28,8 +28,8 @@ impl Drop for LiftAll {
     }
 }
 
-/// Appends the line of a leaf, by its place, from 0.
-fn put_leaf(out: &mut Vec<u8>, place: usize, is_closed: bool) -> Result<(), AllocError>
+/// Appends the line of a leaf, by its place, from 0: that it is closed, or missing.
+pub fn put_leaf(out: &mut Vec<u8>, place: usize, is_closed: bool) -> Result<(), AllocError>
     requires { place < 2 ^ 62 }
     ensures { OnOk result (out.new.items ≡ out.old.items ++ leaf_line place is_closed) }
 {

@@ -18,14 +18,14 @@ mod split;
 mod splitting;
 mod turns;
 
-pub use closing::LiftAll;
+pub use closing::{LiftAll, put_leaf};
 pub use ending::FileEnd;
 pub use join::Join;
 pub use laws::joins_stand;
 pub use leaf::run_leaf;
 pub use lifting::{Lift, LiftEnd, lift_report};
 pub use looking::{run_look, run_split_by_look};
-pub use notes::{Note, put_note};
+pub use notes::{Note, put_missing, put_note};
 pub use refuting::{Search, run_refute};
 pub use split::{Split, SplitReader};
 pub use splitting::run_split;

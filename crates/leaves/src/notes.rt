@@ -1,4 +1,4 @@
-//! What `join` prints of its files and leaves.
+//! What `join` and `cover` print of their files and leaves.
 
 ghost use Rattle.std.specs.Prelude.{◌≡◌, ◌++◌, ◌+◌, ◌<◌, ◌^◌, OnOk, flat_map, All, codes, decimal};
 ghost use Rattle.leaves.specs.Notes.{fault_said, missing_line, missing_text, name_text, note_text, said, shown_byte};
@@ -19,6 +19,12 @@ pub enum Note {
     ClosesNothing,
     /// It cannot be opened, or not be read to its end.
     Unread,
+    /// It is no receipt: this line cannot stand there, or the file ends in it.
+    NoReceipt { line: u64 },
+    /// It is a receipt over another formula.
+    OtherFormula,
+    /// It has more bytes than are taken.
+    TooLong,
 }
 
 /// Appends a byte of a name: `%` and two digits, where it is not printed as it is.
@@ -55,6 +61,14 @@ fn put_fault(out: &mut Vec<u8>, place: &[u8], at: u64, number: u8) -> Result<(),
     put_number(out, u64::from(number))
 }
 
+/// Appends a number, behind the words for it.
+fn put_at(out: &mut Vec<u8>, words: &[u8], at: u64) -> Result<(), AllocError>
+    ensures { OnOk result (out.new.items ≡ out.old.items ++ (words.now ++ decimal at)) }
+{
+    out.extend_from_slice(words)?;
+    put_number(out, at)
+}
+
 /// Appends what is told of a file, in words.
 fn put_said(out: &mut Vec<u8>, note: Note) -> Result<(), AllocError>
     ensures { OnOk result (out.new.items ≡ out.old.items ++ said note) }
@@ -64,6 +78,9 @@ fn put_said(out: &mut Vec<u8>, note: Note) -> Result<(), AllocError>
         Note::StepFault { step, number } => put_fault(out, b" step ", step, number),
         Note::ClosesNothing => out.extend_from_slice(b" closes nothing"),
         Note::Unread => out.extend_from_slice(b" cannot be read"),
+        Note::NoReceipt { line } => put_at(out, b" no receipt at line ", line),
+        Note::OtherFormula => out.extend_from_slice(b" of another formula"),
+        Note::TooLong => out.extend_from_slice(b" too long"),
     }
 }
 
@@ -92,7 +109,7 @@ fn put_leaf(out: &mut Vec<u8>, place: usize) -> Result<(), AllocError>
 }
 
 /// Appends the lines of the leaves that nothing closes, by their places, from 0.
-pub(crate) fn put_missing(out: &mut Vec<u8>, places: &[usize]) -> Result<(), AllocError>
+pub fn put_missing(out: &mut Vec<u8>, places: &[usize]) -> Result<(), AllocError>
     ensures { OnOk result (All (λ p. p + 1 < 2 ^ 64) places.now → out.new.items ≡ out.old.items ++ missing_text places.now) }
 {
     for place in places {

@@ -1,6 +1,6 @@
 //! A formula, and the tree by which it is split.
 
-ghost use Rattle.std.specs.Prelude.{◌++◌, ℕ, List, [], IfOk};
+ghost use Rattle.std.specs.Prelude.{◌≡◌, ◌++◌, ℕ, List, [], IfOk};
 ghost use Rattle.dimacs.specs.logic.Cnf.{Cnf, AreWithin, greatest_in};
 ghost use Rattle.leaves.specs.inner.Reading.{IsReading};
 
@@ -15,6 +15,22 @@ pub struct Split {
     pub(crate) tree: Tree,
     ghost within: { AreWithin formula.vars tree },
     ghost among: { AreWithin (greatest_in formula.clauses) tree },
+}
+
+impl Split {
+    /// The formula.
+    pub fn formula(&self) -> &Formula
+        ensures { result.now ≡ self.now.formula }
+    {
+        &self.formula
+    }
+
+    /// The tree.
+    pub fn tree(&self) -> &Tree
+        ensures { result.now ≡ self.now.tree }
+    {
+        &self.tree
+    }
 }
 
 /// What reads the tree of a formula from an iCNF text that comes in pieces and has the formula's clauses.

@@ -1,9 +1,12 @@
 -- What a line comes to, and what the code does.
-use Rattle.std.proofs.Common.{◌≡◌, ◌⊎◌, inl, inr, ℕ, ◌+◌, ◌-◌, Bool, true, false, List, [], ◌∷◌, ◌++◌, Option, Some, None, Ok, Err, cond, refl, sym, ◌∙◌, ap, subst, length, take, eqb, arith, length-append}
-use Rattle.std.specs.Prelude.{option_map}
+use Rattle.std.proofs.Common.{◌≡◌, ◌⊎◌, inl, inr, ℕ, ◌+◌, ◌-◌, ◌<◌, ◌≤◌, Bool, true, false, List, [], ◌∷◌, ◌++◌, Option, Some, None, Ok, Err, cond, refl, sym, ◌∙◌, ap, subst, length, take, eqb, arith, length-append}
+use Rattle.std.specs.Prelude.{nat_lt, option_map}
+use Rattle.std.proofs.lemmas.Bool.{lt-leb, ne_eqb}
+use Rattle.std.proofs.lemmas.Bool.Decides.{nat_tests}
 use Rattle.std.proofs.lemmas.List.{append-nil, take_at}
 use Rattle.std.proofs.lemmas.List.Elements.{All-cons, All-nil}
 use Rattle.dimacs.specs.logic.ClauseMap.{ClauseMap}
+use Rattle.dimacs.specs.logic.Literal.{Clause}
 use Rattle.lrat_check.specs.Checking.{no_memory}
 use Rattle.lrat_check.specs.Logs.{LogState, TakesLogLine, RefusesLogLine, after_line, by_fault as by_log_fault, line_read, log_step_fault}
 use Rattle.lrat_check.specs.declared.checking.CheckFault.{CheckFault}
@@ -17,16 +20,20 @@ use Rattle.lrat_text.specs.Runs.{text_of}
 use Rattle.lrat_text.specs.Taking.{HandsOn}
 use Rattle.lrat_text.specs.Writing.{line_of, line_text}
 use Rattle.lrat_text.specs.declared.step.Step.{Step}
+use Rattle.lrat_text.specs.declared.step.Step.TheVariants.{Add}
 use Rattle.lrat_text.proofs.LineLemmas.{written_spells, written_one_line}
 use Rattle.lrat_text.proofs.SpellingLemmas.{spelled_found}
-use Rattle.lidrup.specs.Lidrup.{Names, State, Taken, after, by_fault, empty_after, going_on, logged, take_read}
-use Rattle.lidrup.specs.Lines.{line_in}
+use Rattle.lidrup.specs.Lidrup.{Names, State, Taken, after, by_fault, empty_after, given, going_on, logged, naming, take_line, take_read}
+use Rattle.lidrup.specs.Lines.{Given, line_in}
+use Rattle.lidrup.specs.Naming.{number_or_0}
 use Rattle.lidrup.specs.View.{state_of}
-use Rattle.lidrup.specs.inner.Acting.{Acts, Checked, Logs, LineStops, RefusesLog, Stays, Takes, fault_of_log}
+use Rattle.lidrup.specs.inner.Acting.{Acts, Logs, LineStops, Stays, Takes}
 use Rattle.lidrup.specs.inner.Faults.{line_refusal, numbers_of}
+use Rattle.lidrup.specs.inner.Refusing.{Checked, RefusesLog, fault_of_log}
 use Rattle.lidrup.specs.declared.fault.LineFault.{LineFault}
 use Rattle.lidrup.specs.declared.fault.LineFault.TheVariants.{NoMemory, OfLog}
 use Rattle.lidrup.specs.declared.known.Known.{Known}
+use Rattle.lidrup.specs.declared.log_number.LogNumber.{LogNumber}
 use Rattle.lidrup.specs.declared.lines.CubeLines.{CubeLines}
 use Rattle.lidrup.specs.declared.logging.CheckedLog.{CheckedLog}
 use Rattle.lidrup.proofs.StreamLemmas.{behind_none, hands_none}
@@ -119,7 +126,7 @@ state_same a b names last given closing closings empty live top =
 pub logged_acts : (s : State) (step : Step) (old new : Known) (before now : List ℕ)
     → s.live ≡ old.log.checker.live → s.top ≡ old.log.checker.top → s.empty ≡ old.log.empty
     → Logs old.log step new.log before now
-    → s.names ≡ (state_of new).names → s.last ≡ new.last → s.given ≡ new.given → s.closing ≡ new.closing → s.closings ≡ new.closings.items
+    → s.names ≡ (state_of new).names → s.last ≡ new.last → s.given ≡ new.given → s.closing ≡ (state_of new).closing → s.closings ≡ new.closings.items
     → Acts (logged old.log.checker.base s step) old new before now
 logged_acts s step old new before now live top empty l names last given closing closings = record {
   steps = step ∷ [];
@@ -147,6 +154,24 @@ acts_as a b old new before after e = subst (λ (t : Taken). Acts t old new befor
 
 pub stays_as : (a b : Taken) (f : LineFault) → b ≡ a → Stays a f → Stays b f
 stays_as a b f e = subst (λ (t : Taken). Stays t f) (sym e)
+
+-- a clause behind the formula's
+not_below : (a b : ℕ) → b ≤ a → nat_lt a b ≡ false
+not_below a b h = grind (arith, nat_tests)
+
+pub given_logged : (m : ℕ) (s : State) (id : ℕ) (C : Clause) (closing : Option LogNumber) (k : LogNumber)
+    → s.last < id → m ≤ s.given → closing ≡ Some k
+    → take_line m (record s { closing = number_or_0 closing }) (Given id C)
+    ≡ logged m (naming (record s { closing = number_or_0 closing }) id (s.top + 1)) (Add (s.top + 1) C (k.number ∷ []) [])
+given_logged m s id C closing k above behind is =
+    let t = record s { closing = number_or_0 closing } in
+    let Steps : ℕ → Taken = λ n. logged m (naming t id (s.top + 1)) (Add (s.top + 1) C (n ∷ []) []) in
+    let closes : ℕ → Taken = λ n. cond (eqb n 0) (Err (3, 0)) (Steps n) in
+    let low = k.numbered.0 in
+    ap (λ b. cond b (Err (2, 0)) (given m t id C)) (lt-leb id s.last above)
+    ∙ ap (λ b. cond b (Ok ([], record (naming t id (s.given + 1)) { given = s.given + 1 })) (closes (number_or_0 closing))) (not_below s.given m behind)
+    ∙ ap (λ (o : Option LogNumber). closes (number_or_0 o)) is
+    ∙ ap (λ b. cond b (Err (3, 0)) (Steps k.number)) (ne_eqb k.number 0 (λ e. absurd (omega arith)))
 
 -- ---- lines
 pub line_takes : (old new : CubeLines) (line : List ℕ) → old.known.log.empty ≡ 0 → Acts (take_read old.known.log.checker.base (state_of old.known) (line_in line)) old.known new.known old.out.items new.out.items

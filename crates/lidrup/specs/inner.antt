@@ -1,3 +1,4 @@
 -- What only private contracts, invariants and proofs name. Nothing here is to be believed.
 pub mod Acting
 pub mod Faults
+pub mod Refusing

@@ -13,9 +13,10 @@ ghost use Rattle.lidrup.specs.inner.Acting.{Acts, Stays};
 
 use crate::fault::LineFault;
 use crate::kind::StepKind;
+use crate::log_number::LogNumber;
 use crate::logging::CheckedLog;
 use crate::names::Names;
-use crate::numbers::{LIMIT, forget, translate};
+use crate::numbers::{forget, put, translate};
 use dimacs::{Formula, Lit};
 use lrat_text::{StepRef, TextFault};
 use std::alloc::{AllocError, Global};
@@ -28,8 +29,8 @@ pub(crate) struct Known {
     pub(crate) last: u64,
     /// How many clauses of the formula were given.
     pub(crate) given: u64,
-    /// The number of the lemma that closed a cube last; 0 if there is none.
-    pub(crate) closing: u64,
+    /// The number of the lemma that closed a cube last.
+    pub(crate) closing: Option<LogNumber>,
     /// The number of such a lemma, by the queries in turn; 0 if there is none.
     pub(crate) closings: Vec<u64>,
     /// The numbers of a line of the log, and its literals.
@@ -80,7 +81,7 @@ impl Known {
             names,
             last: 0,
             given: 0,
-            closing: 0,
+            closing: None,
             closings: Vec::new(alloc),
             numbers: Vec::new(alloc),
             literals: Vec::new(alloc),
@@ -107,8 +108,8 @@ impl Known {
         ensures took { OnOk result (Acts (logged self.old.log.checker.base (naming (state_of self.old) id (self.old.log.checker.top + 1)) (owned.Add (self.old.log.checker.top + 1) lits.now self.old.numbers.items [])) self.old self.new out.old.items out.new.items) }
         ensures refused { IfErr result (Stays (logged self.old.log.checker.base (naming (state_of self.old) id (self.old.log.checker.top + 1)) (owned.Add (self.old.log.checker.top + 1) lits.now self.old.numbers.items []))) }
     {
-        self.log.add(lits, &self.numbers, out)?;
-        self.names.put(id, self.log.checker.top())?;
+        let number = self.log.add(lits, &self.numbers, out)?;
+        self.names.put(id, number)?;
         self.last = id;
         Ok(())
     }
@@ -124,20 +125,19 @@ impl Known {
         }
         let clauses = self.log.checker.base();
         if self.given < clauses {
-            let number = self.given + 1;
+            let number = LogNumber {
+                number: self.given + 1,
+            };
             self.names.put(id, number)?;
-            self.given = number;
+            self.given = number.number;
             self.last = id;
             return Ok(());
         }
-        if self.closing == 0 {
+        let Some(closing) = self.closing else {
             return Err(LineFault::UnknownClause);
-        }
-        if self.closing >= LIMIT {
-            return Err(LineFault::NoMemory);
-        }
+        };
         self.numbers.clear();
-        self.numbers.push(self.closing)?;
+        put(closing, &mut self.numbers)?;
         self.add(id, lits, out)
     }
 
@@ -175,11 +175,10 @@ impl Known {
             return Err(LineFault::UnknownClause);
         }
         negate(lits, &mut self.literals)?;
-        self.log.add(&self.literals, &self.numbers, out)?;
-        let number = self.log.checker.top();
+        let number = self.log.add(&self.literals, &self.numbers, out)?;
         self.closings.pop();
-        self.closings.push(number)?;
-        self.closing = number;
+        self.closings.push(number.number)?;
+        self.closing = Some(number);
         Ok(())
     }
 

@@ -11,6 +11,7 @@ mod fault;
 mod kind;
 mod known;
 mod lines;
+mod log_number;
 mod logging;
 mod names;
 mod numbers;

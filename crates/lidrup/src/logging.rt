@@ -1,19 +1,23 @@
 //! A log that grows step by step, and is checked as it grows.
 
-ghost use Rattle.std.specs.Prelude.{◌≡◌, ◌+◌, [], All, OnOk, IfOk, IfErr};
+ghost use Rattle.std.specs.Prelude.{◌≡◌, ◌+◌, ◌<◌, [], All, OnOk, IfOk, IfErr, length};
+ghost use Rattle.dimacs.specs.logic.Cnf.{Cnf};
 ghost use Rattle.dimacs.specs.logic.Literal.{IsWithin};
-ghost use Rattle.lrat_check.specs.Logs.{IsBegun};
+ghost use Rattle.lrat_check.specs.Logs.{IsBegun, KeepsFormula, StandsOver};
 ghost use Rattle.lrat_text.specs.Grammar.{IsClauseNumber, IsStep};
 ghost use Rattle.lrat_text.specs.Steps.{step_of};
 ghost use Rattle.lrat_text.specs.declared.step.Step.TheVariants as owned;
-ghost use Rattle.lidrup.specs.inner.Acting.{Checked, Logs, RefusesLog, fault_of_log};
+ghost use Rattle.lidrup.specs.inner.Refusing.{Checked, RefusesLog, fault_of_log};
 
 use crate::fault::LineFault;
-use crate::numbers::LIMIT;
+use crate::log_number::{LogNumber, number_behind};
 use dimacs::{Formula, Lit};
 use lrat_check::{CheckFault, LogChecker};
 use lrat_text::{Groups, StepRef, put_ref};
 use std::alloc::{AllocError, Global};
+
+/// The fault of a deletion of what is not live.
+const NOT_LIVE: LineFault = LineFault::OfLog(3);
 
 /// What a refusal of the checker says of the line.
 fn of_log(fault: CheckFault) -> LineFault
@@ -36,6 +40,7 @@ fn check(
     requires numbered { IsClauseNumber front }
     ensures took { OnOk result (Checked front checker.old (step_of step.entry) checker.new made.new.items) }
     ensures refused { IfErr result (RefusesLog checker.old (step_of step.entry)) }
+    ensures stands { KeepsFormula checker.old checker.new }
 {
     made.clear();
     put_ref(step, front, made)?;
@@ -54,9 +59,12 @@ pub(crate) struct CheckedLog {
     pub(crate) empty: u64,
     /// The line that was made last.
     made: Vec<u8>,
+    ghost stands: { ∥ ((F : Cnf) × StandsOver F checker) ∥₁ },
 }
 
 impl CheckedLog {
+    ghost use Rattle.lidrup.specs.inner.Acting.{Logs};
+
     /// No step was taken.
     pub(crate) fn of(alloc: Global, formula: Formula) -> Result<CheckedLog, AllocError>
         ensures begun { IfOk result (λ x. IsBegun formula x.checker) }
@@ -70,22 +78,21 @@ impl CheckedLog {
         })
     }
 
-    /// Adds a lemma under the next number.
+    /// Adds a lemma under the next number, and tells it.
     pub(crate) fn add(
         &mut self,
         lits: &[Lit],
         hints: &[u64],
         out: &mut Vec<u8>,
-    ) -> Result<(), LineFault>
+    ) -> Result<LogNumber, LineFault>
         requires literals { All (IsWithin 2000000) lits.now }
         requires hints { All IsClauseNumber hints.now }
+        ensures number { IfOk result (λ n. n.number ≡ self.old.checker.top + 1) }
         ensures took { OnOk result (Logs self.old (owned.Add (self.old.checker.top + 1) lits.now hints.now []) self.new out.old.items out.new.items) }
         ensures refused { IfErr result (RefusesLog self.old.checker (owned.Add (self.old.checker.top + 1) lits.now hints.now [])) }
     {
-        let id = self.checker.top() + 1;
-        if id >= LIMIT {
-            return Err(LineFault::NoMemory);
-        }
+        let next = number_behind(self.checker.top())?;
+        let id = next.number;
         let no_group = Groups::new(*self.made.allocator());
         let step = StepRef::Add {
             id,
@@ -98,19 +105,20 @@ impl CheckedLog {
         if lits.is_empty() {
             self.empty = id;
         }
-        Ok(())
+        Ok(next)
     }
 
     /// Deletes lemmas.
     pub(crate) fn delete(&mut self, ids: &[u64], out: &mut Vec<u8>) -> Result<(), LineFault>
-        requires { All IsClauseNumber ids.now }
+        requires ids { All IsClauseNumber ids.now }
+        requires some { 0 < length ids.now }
         ensures took { OnOk result (Logs self.old (owned.Delete ids.now) self.new out.old.items out.new.items) }
         ensures refused { IfErr result (RefusesLog self.old.checker (owned.Delete ids.now)) }
     {
         let front = self.checker.top();
-        // A lemma that is deleted was added before.
+        // Nothing is live, neither a clause nor a lemma.
         if front == 0 {
-            return Err(LineFault::NoMemory);
+            return Err(NOT_LIVE);
         }
         let step = StepRef::Delete { ids };
         check(&mut self.checker, step, front, &mut self.made)?;

@@ -1,28 +1,22 @@
 //! Foreign numbers of hints and of deletions as numbers of the log.
 
-ghost use Rattle.std.specs.Prelude.{◌≡◌, ◌≤◌, ◌^◌, ◌⊎◌, ◌++◌, ◌∷◌, [], All, OnErr, OnOk, IfOk, Some, None, if◌then◌else◌, vec_capacity, vec_len};
+ghost use Rattle.std.specs.Prelude.{◌≡◌, ◌≤◌, ◌++◌, ◌∷◌, [], All, OnErr, OnOk, IfOk, Some, None, if◌then◌else◌, vec_capacity, vec_len};
 ghost use Rattle.lrat_text.specs.Grammar.{IsClauseNumber};
 ghost use Rattle.lidrup.specs.Lidrup.{forgotten, own_numbers};
 ghost use Rattle.lidrup.specs.View.{names_of};
 
+use crate::log_number::LogNumber;
 use crate::names::Names;
 use std::alloc::AllocError;
 
-/// The least number that no clause has.
-pub(crate) const LIMIT: u64 = 1 << 48;
-
-/// Puts a number of the log behind others. Each is one of a clause, so none is refused for what it is.
-fn put(number: u64, numbers: &mut Vec<u64>) -> Result<(), AllocError>
+/// Puts a number of the log behind others. Memory is wanting only if there was no room.
+pub(crate) fn put(number: LogNumber, numbers: &mut Vec<u64>) -> Result<(), AllocError>
     requires { All IsClauseNumber numbers.old.items }
-    ensures put { OnOk result (numbers.new.items ≡ numbers.old.items ++ number ∷ []) }
-    // Memory is wanting only if there was no room, or of a number that no clause has.
-    ensures only { OnErr result ((vec_capacity numbers.old ≤ vec_len numbers.old) ⊎ ((number ≡ 0) ⊎ (2 ^ 48 ≤ number))) }
+    ensures put { OnOk result (numbers.new.items ≡ numbers.old.items ++ number.number ∷ []) }
+    ensures only { OnErr result (vec_capacity numbers.old ≤ vec_len numbers.old) }
     ensures all { OnOk result (All IsClauseNumber numbers.new.items) }
 {
-    if number == 0 || number >= LIMIT {
-        return Err(AllocError);
-    }
-    numbers.push(number)?;
+    numbers.push(number.number)?;
     Ok(())
 }
 
@@ -59,7 +53,7 @@ pub(crate) fn forget(
     for id in ids {
         match names.get(*id) {
             Some(number) => {
-                if clauses < number {
+                if clauses < number.number {
                     put(number, numbers)?;
                 }
             }

@@ -429,6 +429,28 @@ fn fragments_alone(rt: HostRuntime) {
     asks(&rt, alloc, words, two);
 }
 
+/// A log and its receipt by their names; and receipts by theirs, between which a flag may stand.
+#[test]
+fn receipts_by_their_names(rt: HostRuntime) {
+    let alloc = rt.alloc();
+    let receipt = Request::Receipt {
+        input: "f.cnf",
+        cubes: "f.icnf",
+        log: "-",
+        receipt: "a",
+    };
+    let words = "satcluster receipt f.cnf --cubes f.icnf - a";
+    asks(&rt, alloc, words, receipt);
+    let cover = Request::Cover {
+        input: "f.cnf",
+        cubes: "f.icnf",
+        receipts: vec![in alloc; "b", "-"].expect(&rt, "memory"),
+        quiet: true,
+    };
+    let words = "satcluster cover --cubes f.icnf f.cnf b -q -";
+    asks(&rt, alloc, words, cover);
+}
+
 /// Each line goes past a bound, lacks a word, names one twice, or names one that its command has not got.
 const REFUSED: &[&'static str] = &[
     "satcluster",
@@ -505,6 +527,10 @@ const REFUSED: &[&'static str] = &[
     "satcluster lift --cubes f.icnf --lidrup f.cnf l.lidrup",
     "satcluster lift --cubes f.icnf --leaf 0 f.cnf l.lrat l.frag",
     "satcluster model f.cnf",
+    "satcluster receipt --cubes f.icnf f.cnf l.frag",
+    "satcluster receipt f.cnf l.frag l.receipt",
+    "satcluster cover --cubes f.icnf f.cnf",
+    "satcluster cover --cubes f.icnf -n f.cnf l.receipt",
     "satcluster solve --version",
 ];
 
@@ -536,6 +562,8 @@ const HELPS: &[(&'static str, &'static str)] = &[
     ("satcluster join -h", "--dry"),
     ("satcluster lift -h", "<FRAGMENT>"),
     ("satcluster model -h", "<FILE>"),
+    ("satcluster receipt -h", "<RECEIPT>"),
+    ("satcluster cover -h", "<NAME>..."),
 ];
 
 #[test]

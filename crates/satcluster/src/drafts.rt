@@ -5,7 +5,8 @@ ghost use Rattle.commands.specs.Refusals.{IsRefusedAs};
 
 use crate::files::Machine;
 use crate::proof_file::{
-    Part, Place, append, is_printed_to, is_same_file, keep, make_part, place_of, remove,
+    Part, Place, append, is_part, is_printed_to, is_same_file, keep, leads_to, make_part, place_of,
+    remove,
 };
 use commands::{Drafts, Target, Way, refused, write_text};
 use node_main::Refusal;
@@ -43,7 +44,7 @@ fn begin_beside<R: Runtime + AllocGlobal>(
     if is_printed_to(rt, &place) {
         return Err(Refusal::Writing);
     }
-    match make_part(rt, &place, false).map_err(not_written)? {
+    match make_part(rt, &place).map_err(not_written)? {
         Some(part) => Ok(Some(Draft::Beside(part, place))),
         None => Ok(None),
     }
@@ -72,6 +73,15 @@ impl<R: Runtime + AllocGlobal> Drafts for Machine<'_, R> {
             Draft::InPlace(file) => file.write_all(bytes),
         };
         written.map_err(not_written)
+    }
+
+    fn leads_to(&self, draft: &Draft<R::File>, path: &str) -> bool {
+        match draft {
+            Draft::Beside(part, place) => {
+                leads_to(self.rt, place, path) || is_part(self.rt, part, path)
+            }
+            Draft::InPlace(_) => false,
+        }
     }
 
     fn keep(&mut self, draft: Draft<R::File>) -> Result<bool, Refusal> {

@@ -211,6 +211,26 @@ fn paths_of<'a>(request: &'a Request<'_>) -> Paths<'a> {
             out,
             ..
         } => Paths::of(input, None, Some(out)).reading(proof, Subject::Proof),
+        Request::Receipt {
+            input,
+            cubes,
+            log,
+            receipt,
+        } => Paths::of(input, Some(cubes), Some(receipt)).reading(log, Subject::Proof),
+        Request::Cover {
+            input,
+            cubes,
+            ref receipts,
+            ..
+        } => Paths {
+            input,
+            input_as: Subject::Input,
+            cubes: Some(cubes),
+            read: None,
+            read_as: Subject::Proof,
+            written: None,
+            joined: receipts.as_slice(),
+        },
     }
 }
 

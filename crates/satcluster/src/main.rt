@@ -10,7 +10,6 @@ mod drafts;
 mod explain;
 mod explain_words;
 mod files;
-mod join;
 mod leaf_runs;
 mod linked_runs;
 mod proof_file;
@@ -18,14 +17,14 @@ mod showing;
 mod standard_input;
 
 use commands::{
-    LiftFiles, Target, TrimFiles, check_files, check_session_files, deliver, leaf_files,
-    lift_files, refused, split_by_look_files, split_files, test_files, trim_files,
+    CoverFiles, JoinFiles, JoinOptions, LiftFiles, ReceiptFiles, Target, TrimFiles, check_files,
+    check_session_files, cover_files, deliver, join_files, leaf_files, lift_files, receipt_files,
+    refused, split_by_look_files, split_files, test_files, trim_files,
 };
 use complete::complete;
 use explain::explain;
 use explanations::Asked;
 use files::{Machine, no_memory, read};
-use join::{JoinFiles, join};
 use leaf_runs::{LeafFiles, LeafRange, refute};
 use leaves::{Search, run_look};
 use linked_runs::{Files, serve, solve, work};
@@ -67,6 +66,14 @@ fn lifted_leaf(leaf: Option<u32>, lidrup: bool) -> Result<Option<u64>, Refusal> 
         (Some(leaf), false) => Ok(Some(u64::from(leaf))),
         (None, true) => Ok(None),
         _ => Err(Refusal::Usage),
+    }
+}
+
+/// Where a proof goes, if it is to be written.
+fn target(path: Option<&str>, binary: bool) -> Option<Target<'_>> {
+    match path {
+        Some(path) => Some(Target { path, binary }),
+        None => None,
     }
 }
 
@@ -184,13 +191,17 @@ fn answer<R: Runtime + AllocGlobal + Net>(
             printing,
             binary,
         } => {
+            let options = JoinOptions {
+                proof: target(proof, binary),
+                quiet: printing.quiet,
+                witness: printing.witness,
+            };
             let files = JoinFiles {
                 input,
                 cubes,
-                proof,
-                binary,
+                options,
             };
-            join(rt, &files, fragments, printing)
+            join_files(&mut Machine { rt }, &files, fragments)
         }
         Request::Lift {
             input,
@@ -224,6 +235,33 @@ fn answer<R: Runtime + AllocGlobal + Net>(
             let files = TrimFiles { input, proof, out };
             trim_files(&mut Machine { rt }, &files)
         }
+        Request::Receipt {
+            input,
+            cubes,
+            log,
+            receipt,
+        } => {
+            let files = ReceiptFiles {
+                input,
+                cubes,
+                log,
+                receipt,
+            };
+            receipt_files(&mut Machine { rt }, &files)
+        }
+        Request::Cover {
+            input,
+            cubes,
+            ref receipts,
+            quiet,
+        } => {
+            let files = CoverFiles {
+                input,
+                cubes,
+                quiet,
+            };
+            cover_files(&Machine { rt }, &files, receipts)
+        }
     }
 }
 
@@ -234,6 +272,7 @@ fn is_quiet(request: &Request) -> bool {
         | Request::Serve { options, .. }
         | Request::Work { options, .. } => options.quiet,
         Request::Refute { printing, .. } | Request::Join { printing, .. } => printing.quiet,
+        Request::Cover { quiet, .. } => *quiet,
         _ => false,
     }
 }

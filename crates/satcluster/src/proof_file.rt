@@ -1,9 +1,6 @@
-//! A proof in the making, in a file beside its place.
+//! A file in the making, beside its place.
 
 use crate::files::path_of;
-use lrat_forms::BinaryForm;
-use lrat_text::TextFault;
-use std::alloc::Global;
 use std::fs::{File, Metadata, OpenFile, OpenOptions};
 use std::io::{ErrorKind, Write};
 use std::os::unix::fs::MetadataExt;
@@ -13,10 +10,10 @@ use std::{fs, io};
 /// What the system calls standard output.
 const STANDARD_OUTPUT: &str = "/dev/stdout";
 
-/// How many names are tried for the file beside the proof's.
+/// How many names are tried for the file beside the place.
 const NAMES: u32 = 100;
 
-/// Where a proof goes: the file to which its path leads, through symbolic links, or where none is there yet.
+/// Where what is written goes: the file to which its path leads, through symbolic links, or where none is there yet.
 pub(crate) struct Place {
     path: String,
     /// What stands there, whose permissions the new file gets.
@@ -30,73 +27,15 @@ impl Drop for Place {
     }
 }
 
-/// In which form a proof is written, of which the text comes piece by piece.
-struct Writer {
-    /// What makes the binary form of it; none if it is written as it comes.
-    form: Option<BinaryForm>,
-}
-
-impl Drop for Writer {
-    fn drop(self) {
-        let Writer { form: _ } = self;
-    }
-}
-
-/// What a text is that spells no steps, or for which there is no memory.
-fn unspelled(fault: TextFault) -> io::Error {
-    match fault {
-        TextFault::NoMemory => io::Error::from(ErrorKind::OutOfMemory),
-        _ => io::Error::from(ErrorKind::InvalidData),
-    }
-}
-
-impl Writer {
-    fn new(alloc: Global, binary: bool) -> Writer {
-        if binary {
-            Writer {
-                form: Some(BinaryForm::new(alloc)),
-            }
-        } else {
-            Writer { form: None }
-        }
-    }
-
-    /// Writes the next piece of the text.
-    fn write<F: Write>(&mut self, file: &mut F, bytes: &[u8]) -> io::Result<()> {
-        match &mut self.form {
-            None => file.write_all(bytes),
-            Some(form) => {
-                form.feed(bytes).map_err(unspelled)?;
-                file.write_all(form.written())?;
-                form.forget();
-                Ok(())
-            }
-        }
-    }
-
-    /// Nothing of the text is left.
-    fn finish(&self) -> io::Result<()> {
-        match &self.form {
-            None => Ok(()),
-            Some(form) => form.finish().map_err(unspelled),
-        }
-    }
-}
-
-/// A proof in the making, in a file beside its place.
+/// A file in the making, beside its place.
 pub(crate) struct Part<F> {
     file: F,
     name: String,
-    writer: Writer,
 }
 
 impl<F: Drop> Drop for Part<F> {
     fn drop(self) {
-        let Part {
-            file: _,
-            name: _,
-            writer: _,
-        } = self;
+        let Part { file: _, name: _ } = self;
     }
 }
 
@@ -140,16 +79,13 @@ pub(crate) fn place_of<R: Runtime + AllocGlobal>(rt: &R, path: &str) -> io::Resu
 pub(crate) fn make_part<R: Runtime + AllocGlobal>(
     rt: &R,
     place: &Place,
-    binary: bool,
 ) -> io::Result<Option<Part<R::File>>> {
     let path = place.path.as_str();
     for number in 0..NAMES {
         let name = format!(in rt.alloc(); "{path}.part{number}")?;
         match File::create_new(rt, name.as_str()) {
             Ok(file) => {
-                let writer = Writer::new(rt.alloc(), binary);
-                let part = Part { file, name, writer };
-                return Ok(permitted(rt, part, place));
+                return Ok(permitted(rt, Part { file, name }, place));
             }
             Err(error) if error.kind() == ErrorKind::AlreadyExists => {}
             Err(_) => return Ok(None),
@@ -181,7 +117,7 @@ pub(crate) fn is_printed_to<R: Runtime>(rt: &R, place: &Place) -> bool {
 
 /// Writes behind what the part has.
 pub(crate) fn append<F: Write>(part: &mut Part<F>, bytes: &[u8]) -> io::Result<()> {
-    part.writer.write(&mut part.file, bytes)
+    part.file.write_all(bytes)
 }
 
 /// Whether a path leads to the part.
@@ -191,10 +127,6 @@ pub(crate) fn is_part<R: Runtime>(rt: &R, part: &Part<R::File>, path: &str) -> b
 
 /// Lets the part take its place, once all of it is on the disk, and tells whether it could; else it is gone.
 pub(crate) fn keep<R: Runtime>(rt: &R, part: Part<R::File>, place: &Place) -> io::Result<bool> {
-    if let Err(error) = part.writer.finish() {
-        remove(rt, part);
-        return Err(error);
-    }
     if let Err(error) = part.file.sync_all() {
         remove(rt, part);
         return Err(error);

@@ -25,6 +25,12 @@ fn is_one_of_several(names: &[&str]) -> bool {
     names.len() > 1 && names.iter().any(|name| *name == "-")
 }
 
+/// Whether it would be read twice by a command that reads a formula, cubes, and the files of names.
+fn are_read_twice(input: &str, cubes: &str, names: &[&str]) -> bool {
+    let lists = names.len() == 1 && is_dash(names[0]);
+    is_one_of_several(names) || are_two(is_dash(input), is_dash(cubes), lists)
+}
+
 /// Whether standard input would be read twice.
 fn is_read_twice(request: &Request) -> bool {
     match *request {
@@ -44,15 +50,24 @@ fn is_read_twice(request: &Request) -> bool {
             proof,
             ..
         } => are_two(is_dash(input), is_dash(cubes), is_dash(proof)),
+        Request::Receipt {
+            input,
+            cubes,
+            log,
+            ..
+        } => are_two(is_dash(input), is_dash(cubes), is_dash(log)),
         Request::Join {
             input,
             cubes,
             ref fragments,
             ..
-        } => {
-            let lists = fragments.len() == 1 && is_dash(fragments[0]);
-            is_one_of_several(fragments) || are_two(is_dash(input), is_dash(cubes), lists)
-        }
+        } => are_read_twice(input, cubes, fragments),
+        Request::Cover {
+            input,
+            cubes,
+            ref receipts,
+            ..
+        } => are_read_twice(input, cubes, receipts),
         _ => false,
     }
 }
@@ -67,6 +82,7 @@ fn is_written(request: &Request) -> bool {
         Request::Join { proof, .. } => is_some_dash(proof),
         Request::Lift { fragment, .. } => is_dash(fragment),
         Request::Trim { out, .. } => is_dash(out),
+        Request::Receipt { receipt, .. } => is_dash(receipt),
         _ => false,
     }
 }

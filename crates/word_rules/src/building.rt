@@ -104,9 +104,9 @@ fn with_command<'a>(
 }
 
 /// A program by its rules.
-pub(crate) fn program_of<'a>(
+pub(crate) fn program_of<'a, 'r>(
     alloc: Global,
-    rules: &ProgramRules<'a>,
+    rules: &ProgramRules<'a, 'r>,
 ) -> Result<Command<'a>, AllocError>
     ensures { IfOk result (λ c. app_of c ≡ app_of_program rules.now) }
 {

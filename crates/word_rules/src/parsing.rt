@@ -49,9 +49,9 @@ fn refusal_of(alloc: Global, error: &Error) -> Refusal
 }
 
 /// What the words give to a command of the program; the first word is the program's name.
-pub fn parse<'a>(
+pub fn parse<'a, 'r>(
     alloc: Global,
-    program: &ProgramRules<'a>,
+    program: &ProgramRules<'a, 'r>,
     words: &'a [&'a str],
 ) -> Result<Found<'a>, Refusal>
     requires { is_simple_and_free (app_of_program program.now) ≡ true }

@@ -61,12 +61,13 @@ pub struct CommandRules<'a> {
     pub words: &'a [Word<'a>],
 }
 
-/// A program, of which one of its commands has to be named. Its version is what `--version` says behind its name.
+/// A program, of which one of its commands has to be named. Its version is what `--version` says behind its name. What is found keeps texts
+/// of its rules, and not the table of its commands.
 #[derive(Clone, Copy)]
-pub struct ProgramRules<'a> {
+pub struct ProgramRules<'a, 'r> {
     pub name: &'a str,
     pub version: &'a str,
     pub about: &'a str,
     pub after_help: &'a str,
-    pub commands: &'a [CommandRules<'a>],
+    pub commands: &'r [CommandRules<'a>],
 }

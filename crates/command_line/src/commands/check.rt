@@ -3,13 +3,15 @@
 ghost use Rattle.std.specs.Prelude.{◌≡◌, IfSome, IfNone, codes};
 ghost use Rattle.command_line.specs.CommandLine.{IsInRange, Makes};
 ghost use Rattle.command_line.specs.declared.request.Request.{Request};
+ghost use Rattle.command_line.specs.Program.{check_app};
+ghost use Rattle.word_rules.specs.Rules.{app_of_command};
 
 use crate::commands::words::{INPUT, file_of, is_given};
 use crate::request::Request;
 use word_rules::{CommandRules, Found, Word};
 
 /// The words.
-pub(crate) const RULES: CommandRules<'static> = CommandRules {
+static RULES: CommandRules<'static> = CommandRules {
     name: "check",
     about: "Checks an LRAT proof of a DIMACS formula, or the LIDRUP proof of a session",
     after_help: "Status: 0 the proof is accepted, 1 it is not, or an error",
@@ -26,6 +28,13 @@ pub(crate) const RULES: CommandRules<'static> = CommandRules {
         },
     ],
 };
+
+/// The same, handed out: what has all of them has not their tables before it.
+pub(crate) fn rules() -> CommandRules<'static>
+    ensures { app_of_command result ≡ check_app }
+{
+    RULES
+}
 
 /// What its words ask for.
 pub(crate) fn asked<'a>(given: &Found<'a>) -> Option<Request<'a>>

@@ -3,6 +3,8 @@
 ghost use Rattle.std.specs.Prelude.{◌≡◌, ◌-◌, ◌^◌, ℕ, Option, Some, IfSome, IfNone, codes};
 ghost use Rattle.command_line.specs.CommandLine.{IsInRange, IsVariable, Makes, NamesAnyNumber, NamesFile, NamesNothing};
 ghost use Rattle.command_line.specs.declared.request.Request.{Request};
+ghost use Rattle.command_line.specs.Program.{cubes_app};
+ghost use Rattle.word_rules.specs.Rules.{app_of_command};
 
 use crate::commands::leaf_words::LAST_LEAF;
 use crate::commands::words::{INPUT, file_of, is_named, number_of, number_or};
@@ -16,7 +18,7 @@ const LAST_VARIABLE: u64 = 2_147_483_647;
 const LAST_LEAVES: u64 = 65_536;
 
 /// The words.
-pub(crate) const RULES: CommandRules<'static> = CommandRules {
+static RULES: CommandRules<'static> = CommandRules {
     name: "cubes",
     about: "Splits a DIMACS formula into cubes, as iCNF, cuts a leaf in two, or completes cubes",
     after_help: "Status: 0 the cubes are printed, 1 an error",
@@ -62,6 +64,13 @@ pub(crate) const RULES: CommandRules<'static> = CommandRules {
         INPUT,
     ],
 };
+
+/// The same, handed out: what has all of them has not their tables before it.
+pub(crate) fn rules() -> CommandRules<'static>
+    ensures { app_of_command result ≡ cubes_app }
+{
+    RULES
+}
 
 /// The variable that the words name, or that they name none.
 fn on_of(given: &Found) -> Option<Option<u32>>

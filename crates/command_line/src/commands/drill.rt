@@ -3,13 +3,15 @@
 ghost use Rattle.std.specs.Prelude.{◌≡◌, IfSome, IfNone, codes};
 ghost use Rattle.command_line.specs.CommandLine.{IsInRange, Makes};
 ghost use Rattle.command_line.specs.declared.request.Request.{Request};
+ghost use Rattle.command_line.specs.Program.{drill_app};
+ghost use Rattle.word_rules.specs.Rules.{app_of_command};
 
 use crate::commands::words::{INPUT, file_of, number_of};
 use crate::request::Request;
 use word_rules::{CommandRules, Found, Need, Word};
 
 /// The words.
-pub(crate) const RULES: CommandRules<'static> = CommandRules {
+static RULES: CommandRules<'static> = CommandRules {
     name: "drill",
     about: "Plays drawn turns of a cluster of a DIMACS formula, and counts what goes wrong",
     after_help: "Status: 0 nothing went wrong, 1 something did, or an error",
@@ -31,6 +33,13 @@ pub(crate) const RULES: CommandRules<'static> = CommandRules {
         INPUT,
     ],
 };
+
+/// The same, handed out: what has all of them has not their tables before it.
+pub(crate) fn rules() -> CommandRules<'static>
+    ensures { app_of_command result ≡ drill_app }
+{
+    RULES
+}
 
 /// What its words ask for.
 pub(crate) fn asked<'a>(given: &Found<'a>) -> Option<Request<'a>>

@@ -3,6 +3,8 @@
 ghost use Rattle.std.specs.Prelude.{◌≡◌, IfOk, IfSome, IfNone, codes, false, true};
 ghost use Rattle.command_line.specs.CommandLine.{IsDry, IsInRange, Makes, NamesFiles, NamesJoined};
 ghost use Rattle.command_line.specs.declared.request.Request.{Request};
+ghost use Rattle.command_line.specs.Program.{join_app};
+ghost use Rattle.word_rules.specs.Rules.{app_of_command};
 
 use crate::commands::leaf_words::CUBES;
 use crate::commands::run_words::{BINARY, NO_WITNESS, QUIET, STATUS, printing_of};
@@ -12,7 +14,7 @@ use std::alloc::{AllocError, Global};
 use word_rules::{CommandRules, Found, Word};
 
 /// The words.
-pub(crate) const RULES: CommandRules<'static> = CommandRules {
+static RULES: CommandRules<'static> = CommandRules {
     name: "join",
     about: "Joins the fragments of all leaves of a DIMACS formula into one LRAT proof",
     after_help: STATUS,
@@ -32,6 +34,13 @@ pub(crate) const RULES: CommandRules<'static> = CommandRules {
         },
     ],
 };
+
+/// The same, handed out: what has all of them has not their tables before it.
+pub(crate) fn rules() -> CommandRules<'static>
+    ensures { app_of_command result ≡ join_app }
+{
+    RULES
+}
 
 /// Whether the words ask that nothing be written.
 fn is_dry(given: &Found) -> bool

@@ -3,6 +3,8 @@
 ghost use Rattle.std.specs.Prelude.{◌≡◌, IfSome, IfNone, codes};
 ghost use Rattle.command_line.specs.CommandLine.{IsInRange, Makes};
 ghost use Rattle.command_line.specs.declared.request.Request.{Request};
+ghost use Rattle.command_line.specs.Program.{leaf_app};
+ghost use Rattle.word_rules.specs.Rules.{app_of_command};
 
 use crate::commands::leaf_words::{CUBES, LEAF, leaf_of};
 use crate::commands::words::{INPUT, file_of};
@@ -10,12 +12,19 @@ use crate::request::Request;
 use word_rules::{CommandRules, Found};
 
 /// The words.
-pub(crate) const RULES: CommandRules<'static> = CommandRules {
+static RULES: CommandRules<'static> = CommandRules {
     name: "leaf",
     about: "Prints the formula of a leaf as DIMACS: the clauses of INPUT and the literals of its cube",
     after_help: "Status: 0 the formula is printed, 1 an error",
     words: &[CUBES, LEAF, INPUT],
 };
+
+/// The same, handed out: what has all of them has not their tables before it.
+pub(crate) fn rules() -> CommandRules<'static>
+    ensures { app_of_command result ≡ leaf_app }
+{
+    RULES
+}
 
 /// What its words ask for.
 pub(crate) fn asked<'a>(given: &Found<'a>) -> Option<Request<'a>>

@@ -3,6 +3,8 @@
 ghost use Rattle.std.specs.Prelude.{◌≡◌, IfSome, IfNone, codes};
 ghost use Rattle.command_line.specs.CommandLine.{IsInRange, Makes};
 ghost use Rattle.command_line.specs.declared.request.Request.{Request};
+ghost use Rattle.command_line.specs.Program.{lift_app};
+ghost use Rattle.word_rules.specs.Rules.{app_of_command};
 
 use crate::commands::leaf_words::{CUBES, LAST_LEAF, leaf_or_none};
 use crate::commands::run_words::BINARY;
@@ -11,7 +13,7 @@ use crate::request::Request;
 use word_rules::{CommandRules, Found, Need, Word};
 
 /// The words.
-pub(crate) const RULES: CommandRules<'static> = CommandRules {
+static RULES: CommandRules<'static> = CommandRules {
     name: "lift",
     about: "Makes a fragment of INPUT of a proof of the formula of a leaf, or of a text for all leaves",
     after_help: "Status: 0 the fragment is written, 20 it closes all leaves, 1 it is not written, or an error",
@@ -42,6 +44,13 @@ pub(crate) const RULES: CommandRules<'static> = CommandRules {
         },
     ],
 };
+
+/// The same, handed out: what has all of them has not their tables before it.
+pub(crate) fn rules() -> CommandRules<'static>
+    ensures { app_of_command result ≡ lift_app }
+{
+    RULES
+}
 
 /// What its words ask for.
 pub(crate) fn asked<'a>(given: &Found<'a>) -> Option<Request<'a>>

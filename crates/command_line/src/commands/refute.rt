@@ -3,6 +3,8 @@
 ghost use Rattle.std.specs.Prelude.{◌≡◌, IfSome, IfNone, codes};
 ghost use Rattle.command_line.specs.CommandLine.{IsInRange, Makes};
 ghost use Rattle.command_line.specs.declared.request.Request.{Request};
+ghost use Rattle.command_line.specs.Program.{refute_app};
+ghost use Rattle.word_rules.specs.Rules.{app_of_command};
 
 use crate::commands::leaf_words::{CUBES, LAST_LEAF, LEAF, leaf_of, leaf_or_none};
 use crate::commands::run_words::{BINARY, NO_WITNESS, QUIET, printing_of};
@@ -14,7 +16,7 @@ use word_rules::{CommandRules, Found, Need, Word};
 const MOST_LEMMAS: u64 = 140_737_488_355_328;
 
 /// The words.
-pub(crate) const RULES: CommandRules<'static> = CommandRules {
+static RULES: CommandRules<'static> = CommandRules {
     name: "refute",
     about: "Searches under a leaf of a DIMACS formula, and makes a fragment of its proof",
     after_help: "Status: 20 the leaf is refuted, 10 satisfiable, 0 unknown, 1 an error",
@@ -46,6 +48,13 @@ pub(crate) const RULES: CommandRules<'static> = CommandRules {
         },
     ],
 };
+
+/// The same, handed out: what has all of them has not their tables before it.
+pub(crate) fn rules() -> CommandRules<'static>
+    ensures { app_of_command result ≡ refute_app }
+{
+    RULES
+}
 
 /// What its words ask for.
 pub(crate) fn asked<'a>(given: &Found<'a>) -> Option<Request<'a>>

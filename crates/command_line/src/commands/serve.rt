@@ -3,6 +3,8 @@
 ghost use Rattle.std.specs.Prelude.{◌≡◌, IfSome, IfNone, codes};
 ghost use Rattle.command_line.specs.CommandLine.{IsInRange, Makes};
 ghost use Rattle.command_line.specs.declared.request.Request.{Request};
+ghost use Rattle.command_line.specs.Program.{serve_app};
+ghost use Rattle.word_rules.specs.Rules.{app_of_command};
 
 use crate::commands::run_words::{
     BINARY, CUBES, DEFS, NO_WITNESS, PATIENCE, PROGRESS, PROOF, Place, QUIET, STATUS, WORKERS,
@@ -13,7 +15,7 @@ use crate::request::Request;
 use word_rules::{CommandRules, Found, Need, Word};
 
 /// The words.
-pub(crate) const RULES: CommandRules<'static> = CommandRules {
+static RULES: CommandRules<'static> = CommandRules {
     name: "serve",
     about: "Decides a DIMACS formula as solve does, by workers that connect to a port",
     after_help: STATUS,
@@ -56,6 +58,13 @@ pub(crate) const RULES: CommandRules<'static> = CommandRules {
         PROOF,
     ],
 };
+
+/// The same, handed out: what has all of them has not their tables before it.
+pub(crate) fn rules() -> CommandRules<'static>
+    ensures { app_of_command result ≡ serve_app }
+{
+    RULES
+}
 
 /// What its words ask for.
 pub(crate) fn asked<'a>(given: &Found<'a>) -> Option<Request<'a>>

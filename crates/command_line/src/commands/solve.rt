@@ -3,6 +3,8 @@
 ghost use Rattle.std.specs.Prelude.{◌≡◌, IfSome, IfNone, codes};
 ghost use Rattle.command_line.specs.CommandLine.{IsInRange, Makes};
 ghost use Rattle.command_line.specs.declared.request.Request.{Request};
+ghost use Rattle.command_line.specs.Program.{solve_app};
+ghost use Rattle.word_rules.specs.Rules.{app_of_command};
 
 use crate::commands::run_words::{
     BINARY, CUBES, DEFS, DEPTH, LIMIT, NO_WITNESS, PROGRESS, PROOF, Place, QUIET, STATUS, WORKERS,
@@ -13,7 +15,7 @@ use crate::request::Request;
 use word_rules::{CommandRules, Found};
 
 /// The words.
-pub(crate) const RULES: CommandRules<'static> = CommandRules {
+static RULES: CommandRules<'static> = CommandRules {
     name: "solve",
     about: "Decides a DIMACS formula, with an LRAT proof where nothing satisfies it",
     after_help: STATUS,
@@ -21,6 +23,13 @@ pub(crate) const RULES: CommandRules<'static> = CommandRules {
         PROGRESS, WORKERS, DEPTH, LIMIT, CUBES, DEFS, BINARY, QUIET, NO_WITNESS, INPUT, PROOF,
     ],
 };
+
+/// The same, handed out: what has all of them has not their tables before it.
+pub(crate) fn rules() -> CommandRules<'static>
+    ensures { app_of_command result ≡ solve_app }
+{
+    RULES
+}
 
 /// What its words ask for.
 pub(crate) fn asked<'a>(given: &Found<'a>) -> Option<Request<'a>>

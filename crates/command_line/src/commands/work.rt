@@ -3,6 +3,8 @@
 ghost use Rattle.std.specs.Prelude.{◌≡◌, IfSome, IfNone, codes};
 ghost use Rattle.command_line.specs.CommandLine.{IsInRange, Makes};
 ghost use Rattle.command_line.specs.declared.request.Request.{Request};
+ghost use Rattle.command_line.specs.Program.{work_app};
+ghost use Rattle.word_rules.specs.Rules.{app_of_command};
 
 use crate::commands::run_words::{
     BINARY, DEFS, NO_WITNESS, PROOF, Place, QUIET, STATUS, options_of,
@@ -12,7 +14,7 @@ use crate::request::Request;
 use word_rules::{CommandRules, Found, Need, Word};
 
 /// The words.
-pub(crate) const RULES: CommandRules<'static> = CommandRules {
+static RULES: CommandRules<'static> = CommandRules {
     name: "work",
     about: "Works for the one who serves this DIMACS formula at a port",
     after_help: STATUS,
@@ -44,6 +46,13 @@ pub(crate) const RULES: CommandRules<'static> = CommandRules {
         PROOF,
     ],
 };
+
+/// The same, handed out: what has all of them has not their tables before it.
+pub(crate) fn rules() -> CommandRules<'static>
+    ensures { app_of_command result ≡ work_app }
+{
+    RULES
+}
 
 /// What its words ask for.
 pub(crate) fn asked<'a>(given: &Found<'a>) -> Option<Request<'a>>

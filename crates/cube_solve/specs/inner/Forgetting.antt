@@ -51,3 +51,11 @@ pub record Forgets (first : ℕ) (old new : Live) (before text : List ℕ) : Typ
 -- all stayed as it was, or lemmas went out
 abbrev pub MayForget : ℕ → Live → Live → List ℕ → List ℕ → Type 0
 MayForget first old new before text = (AreLess old [] new × (text ≡ before)) ⊎ Forgets first old new before text
+
+-- of the lemmas before some went out, and one line tells it, which begins with this number; or none did
+pub record Drops (top : ℕ) (lemmas after : List ℕ) (old new : Live) (before text : List ℕ) : Type 0 where
+  pub ids : List ℕ
+  pub among : All (Contains lemmas) ids
+  pub kept : All (Contains lemmas) after
+  pub less : AreLess old ids new
+  pub told : ((ids ≡ []) × (text ≡ before)) ⊎ (IsStep (Delete ids) × (text ≡ before ++ line_of top (Delete ids)))

@@ -17,4 +17,6 @@ returns-in_default-clause-none c =
       no_lift = other.not-lift;
       no_model = other.not-model;
       no_trim = other.not-trim;
+      no_receipt = other.not-receipt;
+      no_cover = other.not-cover;
     })

@@ -2,7 +2,7 @@ use Rattle.std.proofs.Common.{◌≡◌, ◌++◌, ◌∙◌, ℕ, List, sym, ap
 use Rattle.lrat_check.specs.Logs.{RefusesLogLine, TakesLogLine}
 use Rattle.lrat_text.specs.Steps.{step_of}
 use Rattle.lrat_text.specs.Writing.{line_of, line_text}
-use Rattle.lidrup.specs.inner.Acting.{RefusesLog}
+use Rattle.lidrup.specs.inner.Refusing.{RefusesLog}
 use Rattle.lidrup.proofs.ActingLemmas.{checked_line, line_cut, refused_line}
 use Rattle.lidrup.proofs.logging.check.Goals as goal
 

@@ -1,14 +1,28 @@
-use Rattle.std.proofs.Common.{ℕ, List, inr, sym, subst, ap, ◌∙◌, ◌++◌, vec_len, arith}
+use Rattle.std.proofs.Common.{ℕ, List, [], inl, inr, refl, sym, subst, ap, ◌∙◌, ◌++◌, vec_len, arith}
 use Rattle.std.specs.List.{All, Contains}
 use Rattle.std.proofs.lemmas.Bool.{eqb-false}
+use Rattle.std.proofs.lemmas.List.Elements.{All-filter, All-nil, Contains-get_or}
 use Rattle.std.proofs.lemmas.Result.{on_ok_weaker}
 use Rattle.clause_arena.specs.Clauses.{live_of}
 use Rattle.lrat_text.specs.Grammar.{IsClauseNumber}
 use Rattle.lrat_text.specs.Writing.{line_of}
 use Rattle.lrat_text.specs.declared.step.Step.TheVariants.{Delete}
 use Rattle.cube_solve.specs.inner.Forgetting.{AreLess}
-use Rattle.cube_solve.proofs.ForgettingLemmas.{less_same, lemmas_among, lemmas_kept, lemmas_moved, numbers_limits}
+use Rattle.cube_solve.proofs.ForgettingLemmas.{less_none, less_same, lemmas_among, lemmas_kept, lemmas_moved, numbers_limits}
 use Rattle.cube_solve.proofs.search.Search.forget.Goals as goal
+
+-- each entry of a list stands in it
+all_there : (xs : List ℕ) → All (Contains xs) xs
+all_there xs i d l = Contains-get_or xs i d l
+
+pub returns-then-is_empty-clause-drops : goal.returns-then-is_empty-clause-drops
+returns-then-is_empty-clause-drops g c = record {
+  ids = [];
+  among = All-nil _;
+  kept = all_there c.args.self.now.lemmas.items;
+  less = less_none (live_of c.args.self.now.state.arena);
+  told = inl (refl, refl);
+}
 
 pub delete-requires-clause-limits : goal.delete-requires-clause-limits
 delete-requires-clause-limits g c =
@@ -36,4 +50,19 @@ returns-clause-kept g c = on_ok_weaker c.close_gaps.result
       less = less_same (live_of c.args.self.now.state.arena) (live_of c.take_out_all.new.arena) (live_of c.close_gaps.new.arena) c.in_ok-gone.gone.items
           (subst (λ (xs : List ℕ). AreLess (live_of c.args.self.now.state.arena) xs (live_of c.take_out_all.new.arena)) c.deref-4.ensures.value c.take_out_all.ensures.less) less;
     }))
+    c.close_gaps.ensures.less
+
+pub returns-clause-drops : goal.returns-clause-drops
+returns-clause-drops g c = on_ok_weaker c.close_gaps.result
+    (λ less. record {
+      ids = c.in_ok-gone.gone.items;
+      among = subst (λ (xs : List ℕ). All (Contains xs) c.in_ok-gone.gone.items) c.deref.ensures.value c.in_ok-gone.ensures.among;
+      kept = subst (All (Contains c.args.self.now.lemmas.items)) (sym c.keep_live.ensures) (All-filter _ (Contains c.args.self.now.lemmas.items) c.args.self.now.lemmas.items (all_there c.args.self.now.lemmas.items));
+      less = less_same (live_of c.args.self.now.state.arena) (live_of c.take_out_all.new.arena) (live_of c.close_gaps.new.arena) c.in_ok-gone.gone.items
+          (subst (λ (xs : List ℕ). AreLess (live_of c.args.self.now.state.arena) xs (live_of c.take_out_all.new.arena)) c.deref-4.ensures.value c.take_out_all.ensures.less) less;
+      told = inr (
+        numbers_limits (live_of c.args.self.now.state.arena) c.args.self.now.state.trail.entries c.args.top c.in_ok-gone.gone.items c.requires.top c.requires.numbers c.in_ok-gone.ensures.spare,
+        c.in_ok-delete.ensures ∙ ap (λ (xs : List ℕ). c.args.self.now.log ++ line_of c.args.top (Delete xs)) c.deref-2.ensures.value,
+      );
+    })
     c.close_gaps.ensures.less

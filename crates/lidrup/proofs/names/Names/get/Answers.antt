@@ -1,10 +1,7 @@
 use Rattle.std.proofs.Common.{◌∙◌, arith}
-use Rattle.lidrup.proofs.NameLemmas.{map_here, no_map}
+use Rattle.lidrup.proofs.NameLemmas.{map_here}
 use Rattle.lidrup.proofs.names.Names.get.Goals as goal
 
-pub returns-then-place-len : goal.returns-then-place-len
-returns-then-place-len c =
-    c.find.ensures ∙ map_here c.args.self.now.maps.items c.index.result.now c.place-place.result c.args.number c.place-place.ensures (omega (arith, c.if-place-len.true, c.len.ensures)) c.index.ensures
-
-pub returns-else-place-len : goal.returns-else-place-len
-returns-else-place-len c = no_map c.args.self.now.maps.items c.place-place.result c.args.number c.place-place.ensures (omega (arith, c.if-place-len.false, c.len.ensures))
+pub returns : goal.returns
+returns c =
+    c.find.ensures ∙ map_here c.args.self.now.maps.items c.index.result.now c.place.result c.args.number c.place.ensures.is (omega (arith, c.place.ensures.below, c.args.self.now.whole)) c.index.ensures

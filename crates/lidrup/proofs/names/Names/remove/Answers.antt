@@ -1,10 +1,8 @@
 use Rattle.std.proofs.Common.{None, arith}
-use Rattle.lidrup.proofs.NameLemmas.{maps_changed, maps_same}
+use Rattle.lidrup.proofs.NameLemmas.{maps_changed}
 use Rattle.lidrup.proofs.names.Names.remove.Goals as goal
 
-pub returns-then-place-len : goal.returns-then-place-len
-returns-then-place-len c =
-    maps_changed c.args.self.now.maps.items c.index_mut.result.now c.take.new.map c.place-place.result c.args.number None c.place-place.ensures (omega (arith, c.if-place-len.true, c.len.ensures)) c.index_mut.ensures.value c.take.ensures
-
-pub returns-else-place-len : goal.returns-else-place-len
-returns-else-place-len c = maps_same c.args.self.now.maps.items c.place-place.result c.args.number c.place-place.ensures (omega (arith, c.if-place-len.false, c.len.ensures))
+pub returns : goal.returns
+returns c =
+    maps_changed c.args.self.now.maps.items c.index_mut.result.now c.take.new.map c.place.result c.args.number None c.place.ensures.is (omega (arith, c.place.ensures.below, c.args.self.now.whole))
+    c.index_mut.ensures.value c.take.ensures

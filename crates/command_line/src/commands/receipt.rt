@@ -1,0 +1,58 @@
+//! The words of `receipt`.
+
+ghost use Rattle.std.specs.Prelude.{◌≡◌, IfSome, IfNone, codes};
+ghost use Rattle.command_line.specs.CommandLine.{IsInRange, Makes};
+ghost use Rattle.command_line.specs.declared.request.Request.{Request};
+ghost use Rattle.command_line.specs.Program.{receipt_app};
+ghost use Rattle.word_rules.specs.Rules.{app_of_command};
+
+use crate::commands::leaf_words::CUBES;
+use crate::commands::words::{INPUT, file_of};
+use crate::request::Request;
+use word_rules::{CommandRules, Found, Word};
+
+/// The words.
+static RULES: CommandRules<'static> = CommandRules {
+    name: "receipt",
+    about: "Checks a log of a DIMACS formula, and writes which clauses of it close leaves",
+    after_help: "Status: 0 the log closes a leaf and RECEIPT is written, 1 it does not, or an error",
+    words: &[
+        CUBES,
+        INPUT,
+        Word::File {
+            name: "LOG",
+            required: true,
+            help: "The log, an LRAT file that is read",
+        },
+        Word::File {
+            name: "RECEIPT",
+            required: true,
+            help: "The file to which the receipt is written",
+        },
+    ],
+};
+
+/// The same, handed out: what has all of them has not their tables before it.
+pub(crate) fn rules() -> CommandRules<'static>
+    ensures { app_of_command result ≡ receipt_app }
+{
+    RULES
+}
+
+/// What its words ask for.
+pub(crate) fn asked<'a>(given: &Found<'a>) -> Option<Request<'a>>
+    ensures found { IfSome result (Makes (codes "receipt") given.now.rows) }
+    ensures none { IfNone result ((request : Request) → Makes (codes "receipt") given.now.rows request → ⊥) }
+    ensures range { IfSome result IsInRange }
+{
+    let input = file_of(given, "INPUT")?;
+    let cubes = file_of(given, "cubes")?;
+    let log = file_of(given, "LOG")?;
+    let receipt = file_of(given, "RECEIPT")?;
+    Some(Request::Receipt {
+        input,
+        cubes,
+        log,
+        receipt,
+    })
+}

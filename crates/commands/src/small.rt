@@ -1,0 +1,106 @@
+//! A small file, taken whole.
+
+ghost use Rattle.std.specs.Prelude.{◌≡◌, ℕ, List, IfOk, IfErr};
+ghost use Rattle.commands.specs.Known.{Of};
+ghost use Rattle.commands.specs.Refusals.{IsRefusedAs, IsWanting};
+ghost use Rattle.commands.specs.inner.Covering.{IsSmall, IsText, IsTextOf};
+
+use crate::disk::Disk;
+use crate::feeding::{Feeds, feed_all};
+use crate::formula::out_of_memory;
+use reports::Refusal;
+
+/// As many bytes has a small file at most: 64 MiB.
+const MOST: usize = 67_108_864;
+
+/// The bytes of a file as they come; none once there are too many.
+#[derive(Drop)]
+struct Small {
+    items: Vec<u8>,
+    is_long: bool,
+}
+
+impl Feeds for Small {
+    ghost use Rattle.commands.specs.inner.Covering.{IsSmall};
+    ghost use Rattle.commands.specs.inner.Feeding.{Extends, extends_nothing, extends_more};
+
+    ghost took = { Extends (λ bytes s. IsSmall bytes s.items.items s.is_long) };
+
+    ghost nothing = { extends_nothing (λ bytes s. IsSmall bytes s.items.items s.is_long) };
+
+    ghost more = { extends_more (λ bytes s. IsSmall bytes s.items.items s.is_long) };
+
+    fn feed(&mut self, piece: &[u8]) -> Result<(), Refusal> {
+        if self.is_long {
+            return Ok(());
+        }
+        if self.items.len() > MOST || piece.len() > MOST - self.items.len() {
+            self.is_long = true;
+            self.items.clear();
+            return Ok(());
+        }
+        self.items.extend_from_slice(piece).map_err(out_of_memory)
+    }
+
+    fn is_settled(&self) -> bool {
+        self.is_long
+    }
+}
+
+/// What was read of a small file.
+#[derive(Drop)]
+pub(crate) enum SmallText {
+    /// All of its bytes.
+    Whole(Vec<u8>),
+    /// It has more bytes than are taken.
+    TooLong,
+    /// It cannot be opened, or not be read to its end.
+    Unread,
+}
+
+/// What was read of a file that was read to its end.
+fn ended(small: Small) -> SmallText
+    ensures { (bytes : List ℕ) → IsSmall bytes small.items.items small.is_long → IsTextOf bytes result }
+{
+    let Small { items, is_long } = small;
+    if is_long {
+        return SmallText::TooLong;
+    }
+    SmallText::Whole(items)
+}
+
+/// What is told of a file that cannot be read; want of memory stays.
+fn unread(refusal: Refusal) -> Result<SmallText, Refusal>
+    ensures unread { IfOk result (λ text. text ≡ SmallText.Unread) }
+    ensures refused { IsRefusedAs Refusal.Proof refusal → IfErr result IsWanting }
+{
+    match refusal {
+        Refusal::Proof => Ok(SmallText::Unread),
+        other => Err(other),
+    }
+}
+
+/// Reads a file to its end.
+fn whole<D: Disk>(disk: &D, path: &str) -> Result<SmallText, Refusal>
+    ensures reads { IfOk result (λ text. Of (D.holds disk.now path.now) (λ bytes. IsTextOf bytes text)) }
+    ensures refused { IfErr result (IsRefusedAs Refusal.Proof) }
+{
+    let mut small = Small {
+        items: Vec::new(disk.alloc()),
+        is_long: false,
+    };
+    let mut pieces = disk.open(path, Refusal::Proof)?;
+    feed_all(&mut pieces, &mut small)?;
+    Ok(ended(small))
+}
+
+/// Reads a file, also one that cannot be read.
+pub(crate) fn read_small<D: Disk>(disk: &D, path: &str) -> Result<SmallText, Refusal>
+    ensures reads { IfOk result (IsText (D.holds disk.now path.now)) }
+    ensures refused { IfErr result IsWanting }
+{
+    match whole(disk, path) {
+        Ok(text) => Ok(text),
+        Err(refusal) => unread(refusal),
+    }
+}

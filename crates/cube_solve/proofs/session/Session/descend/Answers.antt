@@ -1,0 +1,21 @@
+use Rattle.cube_solve.proofs.TellingLemmas.{tells_same}
+use Rattle.std.proofs.Common.{refl, sym, subst}
+use Rattle.cube_solve.specs.inner.Sessions.{AreStamped}
+use Rattle.cube_solve.proofs.SessionLemmas.{has_same, ready_same}
+use Rattle.cube_solve.proofs.session.Session.descend.Goals as goal
+
+pub returns-clause-ready : goal.returns-clause-ready
+returns-clause-ready g c =
+    let s = c.args.self.now in
+    ready_same g.P.Propagator.is_ready g.P.Propagator.attached s _ c.descend.ensures.clauses c.descend.ensures.vars refl refl refl c.descend.ensures.steady
+    (subst (λ v. AreStamped v s.marks) (sym c.descend.ensures.vars) (c.requires.ready).stamped) c.requires.ready
+
+pub returns-clause-given : goal.returns-clause-given
+returns-clause-given g c = λ F h.
+    let s = c.args.self.now in
+    has_same F s.search.state.arena c.descend.new.self.arena s.search.lemmas.items c.descend.ensures.clauses h
+
+pub returns-clause-tells : goal.returns-clause-tells
+returns-clause-tells g c =
+    let s = c.args.self.now in
+    tells_same s (record s { search = record s.search { state = c.descend.new.self } }) c.descend.ensures.clauses refl refl refl

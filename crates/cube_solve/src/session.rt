@@ -1,0 +1,121 @@
+//! Clauses that are given one after the other, and what was learnt of them.
+
+ghost use Rattle.std.specs.Prelude.{◌≡◌, ℕ, ◌+◌, ◌^◌, ◌≤◌, List, [], ◌∷◌, ◌++◌, length, All, Contains, IfOk, OnOk};
+ghost use Rattle.std.specs.FinMap.{insert};
+ghost use Rattle.clause_arena.specs.Clauses.{live_of};
+ghost use Rattle.dimacs.specs.logic.ClauseMap.{ClauseMap, map_of};
+ghost use Rattle.dimacs.specs.logic.Literal.{Clause, IsWithin};
+ghost use Rattle.lrat_text.specs.Grammar.{IsClauseNumber};
+ghost use Rattle.cube_solve.specs.inner.Learning.{AreBelow};
+ghost use Rattle.cube_solve.specs.inner.Levels.{IsAdded};
+ghost use Rattle.cube_solve.specs.inner.Units.{AreNoted};
+ghost use Rattle.cube_solve.specs.Session.{IsReady, AreGiven, vars_of, last_of, log_of};
+ghost use Rattle.cube_solve.specs.Telling.{IsKnown};
+
+use crate::marks::Marks;
+use crate::search::Search;
+use dimacs::{Base, Lit};
+use packed_text::PackedText;
+use std::alloc::{AllocError, Global};
+use watches::Propagator;
+
+/// Clauses, over a number of variables that does not change, and the lemmas that were learnt under the queries so far.
+pub struct Session<'a, P> {
+    pub(crate) search: Search<'a, P>,
+    /// The greatest number of a clause so far, be it given or a lemma.
+    pub(crate) top: u64,
+    pub(crate) marks: Marks,
+}
+
+impl<P> Drop for Session<'_, P> {
+    fn drop(self) {
+        let Session {
+            search: _,
+            top: _,
+            marks: _,
+        } = self;
+    }
+}
+
+/// The greatest number that a clause may have here.
+const LAST: u64 = 1 << 47;
+
+impl<'a, P: Propagator> Session<'a, P> {
+    /// A session whose first clauses are those of a base, over its variables, by a propagator that has no clause yet.
+    pub fn new(
+        alloc: Global,
+        propagator: &'a mut P,
+        base: &Base,
+    ) -> Result<Session<'a, P>, AllocError>
+        requires { P.attached propagator.old ≡ [] }
+        ensures ready { IfOk result (IsReady P.is_ready P.attached) }
+        ensures given { IfOk result (AreGiven base.now.clauses) }
+        ensures vars { IfOk result (λ s. vars_of s ≡ base.now.vars) }
+        ensures last { IfOk result (λ s. last_of s ≡ length base.now.clauses) }
+        ensures log { IfOk result (λ s. log_of s ≡ []) }
+        ensures known { IfOk result (λ s. (given : List ℕ) → ((n : ℕ) → Contains given n → n ≤ length base.now.clauses) → IsKnown given (map_of base.now) s) }
+    {
+        let vars = base.vars(); // with it comes the bound of the number of clauses
+        let mut search = Search::new(alloc, propagator, base)?;
+        search.uses.keep_more();
+        Ok(Session {
+            search,
+            top: base.len() as u64,
+            marks: Marks::new(alloc, vars)?,
+        })
+    }
+
+    /// The number of the next clause. There is an error if numbers have run out, behind 2^47.
+    pub(crate) fn next_number(&self) -> Result<u64, AllocError>
+        ensures next { IfOk result (λ id. id ≡ self.now.top + 1) }
+        ensures number { IfOk result IsClauseNumber }
+        ensures bounded { IfOk result (λ id. id ≤ 2 ^ 47) }
+    {
+        if self.top >= LAST {
+            return Err(AllocError);
+        }
+        Ok(self.top + 1)
+    }
+
+    /// Takes in a clause of the session's variables: literals may repeat, and a pair may stand in it. After an error nothing is
+    /// known of the session. There is one if memory was wanting, or 2^47 clauses and lemmas came before.
+    pub fn give(&mut self, clause: &[Lit]) -> Result<(), AllocError>
+        requires ready { IsReady P.is_ready P.attached self.old }
+        requires within { All (IsWithin (vars_of self.old)) clause.now }
+        ensures ready { OnOk result (IsReady P.is_ready P.attached self.new) }
+        ensures given { OnOk result ((F : List Clause) → AreGiven F self.old → AreGiven (F ++ clause.now ∷ []) self.new) }
+        ensures vars { OnOk result (vars_of self.new ≡ vars_of self.old) }
+        ensures last { OnOk result (last_of self.new ≡ last_of self.old + 1) }
+        ensures number { OnOk result (IsClauseNumber (last_of self.new)) }
+        ensures log { log_of self.new ≡ log_of self.old }
+        ensures known { OnOk result ((given : List ℕ) (M : ClauseMap) → IsKnown given M self.old → IsKnown (given ++ last_of self.new ∷ []) (insert M (last_of self.new) clause.now) self.new) }
+    {
+        let id = self.next_number()?;
+        let vars = self.search.state.trail.vars();
+        let mut kept = Vec::new(self.search.alloc);
+        self.marks.mark(vars, clause, &mut kept)?;
+        self.search.take_in(id, &kept)?;
+        self.top = id;
+        Ok(())
+    }
+
+    /// The greatest number of a clause so far, be it given or a lemma.
+    pub fn last(&self) -> u64
+        ensures { result ≡ last_of self.now }
+    {
+        self.top
+    }
+
+    /// The lemmas that were learnt, and deleted, since the beginning or the last call, as lines of LRAT text.
+    pub fn take_log(&mut self) -> PackedText
+        ensures text { result ≡ log_of self.old }
+        ensures empty { log_of self.new ≡ [] }
+        ensures ready { IsReady P.is_ready P.attached self.old → IsReady P.is_ready P.attached self.new }
+        ensures given { (F : List Clause) → AreGiven F self.old → AreGiven F self.new }
+        ensures vars { vars_of self.new ≡ vars_of self.old }
+        ensures last { last_of self.new ≡ last_of self.old }
+        ensures known { (given : List ℕ) (M : ClauseMap) → IsKnown given M self.old → IsKnown given M self.new }
+    {
+        self.search.take_log()
+    }
+}

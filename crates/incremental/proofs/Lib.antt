@@ -1,0 +1,5 @@
+pub mod LineLemmas
+pub mod LogLemmas
+pub mod ModelLemmas
+pub mod ReadingLemmas
+pub mod StandingLemmas

@@ -1,0 +1,65 @@
+-- A session that is answered: what has been given and asked, what was answered, and the text that tells it.
+use Rattle.std.specs.Prelude.{◌≡◌, ℕ, ◌+◌, Bool, true, false, List, [], ◌∷◌, ◌++◌, None, All, Contains}
+use Rattle.dimacs.specs.logic.ClauseMap.{live_in}
+use Rattle.dimacs.specs.logic.Literal.{Literal, Pos, Neg, Clause, IsWithin}
+use Rattle.dimacs.specs.text.Words.{lines}
+use Rattle.clause_arena.specs.Clauses.{Clauses}
+use Rattle.watches.specs.Trails.{TrailValue}
+use Rattle.cube_solve.specs.Session.{IsReady, AreGiven, last_of, log_of, vars_of}
+use Rattle.cube_solve.specs.Telling.{IsKnown}
+use Rattle.cube_solve.specs.declared.answer.Answer.TheVariants as answer
+use Rattle.cube_solve.specs.declared.answer.Answer as cube
+use Rattle.sessions.specs.Answers.{Event, Answer, Satisfied, Failed, Unknown}
+use Rattle.sessions.specs.Events.{clauses_of}
+use Rattle.sessions.specs.Texts.{State, behind, is_between, session_of, text_from}
+use Rattle.incremental.specs.declared.session.Session.{Session}
+
+-- ---- answers
+-- of each variable, in order from this one on, the literal that is true
+abbrev pub literal_of : ℕ → Bool → Literal
+literal_of v true = Pos v
+literal_of v false = Neg v
+
+abbrev pub literals_from : ℕ → List Bool → List Literal
+literals_from v [] = []
+literals_from v (value ∷ values) = literal_of v value ∷ literals_from (v + 1) values
+
+-- the answer as a text tells it
+abbrev pub told_of : cube.Answer → Answer
+told_of (answer.Satisfied values) = Satisfied (literals_from 1 values)
+told_of (answer.Failed failure) = Failed failure.core.items
+told_of answer.Unknown = Unknown
+
+-- the answers of a text
+abbrev pub Told : Type 0
+Told = List Answer
+
+-- a text is accepted beside these events, with these answers
+abbrev pub IsAccepted : List Event → List Answer → List ℕ → Type 0
+IsAccepted E told text = session_of E text ≡ record { answers = told; fault = None }
+
+module _ {P : Type 0} where
+  abbrev pub vars_in : Session P → ℕ
+  vars_in s = vars_of s.search
+
+  -- the greatest number so far of a clause or a lemma, each of which takes the next one
+  abbrev pub last_in : Session P → ℕ
+  last_in s = last_of s.search
+
+  -- what holds of a session between two calls
+  abbrev pub IsFit : (P → Clauses → TrailValue → Type 0) → (P → List ℕ) → Session P → Type 0
+  IsFit is_ready attached s = IsReady is_ready attached s.search
+
+  -- These events came, were answered so, and these bytes were handed out: whoever reads them, and those that are not handed out yet, beside
+  -- these events, knows these answers, and which clauses are live.
+  pub record Stands (E : List Event) (told : List Answer) (text : List ℕ) (s : Session P) : Type 0 where
+    pub given : AreGiven (clauses_of E) s.search
+    pub within : All (All (IsWithin (vars_in s))) (clauses_of E)
+    pub told_all : log_of s.search ≡ []
+    pub reader : State
+    pub line : ℕ
+    pub between : is_between reader.stage ≡ true
+    pub last : reader.last ≡ last_in s
+    pub known : IsKnown reader.given reader.live s.search
+    pub named : (n : ℕ) → Contains reader.given n → (C : Clause) × live_in reader.live n C × Contains (clauses_of E) C
+    pub reads : (D : List Event) (more : List ℕ) → session_of (E ++ D) (text ++ (s.out.items ++ more)) ≡ behind told (text_from reader line D (lines more))
