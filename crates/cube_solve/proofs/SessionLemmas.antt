@@ -32,6 +32,8 @@ use Rattle.cube_solve.specs.inner.Steady.{IsSteady}
 use Rattle.cube_solve.specs.inner.Units.{AreNoted}
 use Rattle.cube_solve.proofs.ClauseLemmas.{same_back, same_forth, twins_trans}
 use Rattle.cube_solve.proofs.ForgettingLemmas.{lemmas_same}
+use Rattle.cube_solve.specs.Parts.{IsPartOf}
+use Rattle.cube_solve.proofs.PartLemmas.{part_filter, part_trans}
 use Rattle.cube_solve.proofs.SearchLemmas.{calm_is_true}
 use Rattle.cube_solve.proofs.UnitLemmas.{noted_same}
 use Rattle.cube_solve.proofs.TruthLemmas.{not_both, true_twin, tautology_true, rup_true}
@@ -135,8 +137,9 @@ solution F A q att m t lemmas values h s calm all total twins within len reads =
 }
 
 pub core_fails : (F : List Clause) (A q : Cube) (live : Live) (vars : ℕ) (lemmas : List ℕ) (lemma : Lemma) (core : List Literal) → HasClauses F live lemmas → Fails live vars q lemma
-    → ArePicked q lemma.lits.items core → AreTwins A q → IsDistinct same q → IsCore F A core
-core_fails F A q live vars lemmas lemma core h f p twins distinct = record {
+    → ArePicked q lemma.lits.items core → AreTwins A q → IsPartOf q A → IsDistinct same q → IsCore F A core
+core_fails F A q live vars lemmas lemma core h f p twins part distinct = record {
+  ordered = part_trans core q A p.part part;
   within = λ l i. (twins l).1 (p.within l i);
   distinct = p.distinct distinct;
   fails = λ a sat all.
@@ -196,6 +199,7 @@ picked q lits others kept stamps stamp core e m is = record {
   all = λ l i j.
       let k = (m.stamped l).1 ((m.twins l).0 (subst (λ xs. Contains xs l) (sym e) (in_map lits l j))) in
       subst (λ xs. Contains xs l) (sym is) (kept_by (marked stamps stamp) q l i (eq-eqb (get_or stamps (index_of l) 0) stamp k));
+  part = subst (λ xs. IsPartOf xs q) (sym is) (part_filter (marked stamps stamp) q);
   distinct = λ d. subst (IsDistinct same) (sym is) (distinct_filter (marked stamps stamp) q d);
 }
 

@@ -1,5 +1,6 @@
 pub mod Conflicts
 pub mod Outcome
+pub mod Parts
 pub mod Session
 pub mod Telling
 pub mod inner

@@ -12,6 +12,7 @@ use Rattle.cube_solve.specs.inner.Learning.{AreBelow}
 use Rattle.cube_solve.specs.inner.Sessions.{AreStamped, HasClauses}
 use Rattle.cube_solve.specs.inner.Steady.{IsSteady}
 use Rattle.cube_solve.specs.inner.Units.{AreNoted}
+use Rattle.cube_solve.specs.Parts.{IsPartOf}
 use Rattle.cube_solve.specs.declared.answer.Answer.{Answer}
 use Rattle.cube_solve.specs.declared.answer.Answer.TheVariants as answer
 use Rattle.cube_solve.specs.declared.session.Session.{Session}
@@ -27,9 +28,10 @@ pub record IsSolution (vars : ℕ) (F : List Clause) (A : Cube) (values : List B
   pub clauses : All (IsTrueIn (assignment_of values)) F
   pub query : AllTrue (assignment_of values) A
 
--- literals of the query, none twice, that no assignment makes true which satisfies the clauses
+-- literals of the query, in its order and none twice, that no assignment makes true which satisfies the clauses
 pub record IsCore (F : List Clause) (A : Cube) (core : List Literal) : Type 0 where
   pub within : (l : Literal) → Contains core l → Contains A l
+  pub ordered : IsPartOf core A
   pub distinct : IsDistinct same core
   pub fails : (a : ℕ → Bool) → All (IsTrueIn a) F → ¬ (AllTrue a core)
 

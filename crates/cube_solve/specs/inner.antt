@@ -1,5 +1,6 @@
 -- What only private contracts, invariants and proofs name. Nothing here is to be believed.
 pub mod Forgetting
+pub mod Growing
 pub mod Learning
 pub mod Levels
 pub mod Marks

@@ -5,7 +5,7 @@ ghost use Rattle.dimacs.specs.logic.Literal.{Literal, IsWithin};
 ghost use Rattle.cube_solve.specs.Conflicts.{AllHold};
 ghost use Rattle.cube_solve.specs.inner.Order.{IsOrder, IsTaken};
 ghost use Rattle.cube_solve.specs.inner.State.{IsAssuming};
-ghost use Rattle.cube_solve.specs.inner.Steps.{IsNext};
+ghost use Rattle.cube_solve.specs.inner.Steps.{AreHeld, IsNext};
 
 use crate::order::Order;
 use dimacs::Lit;
@@ -36,20 +36,29 @@ fn decide(trail: &Trail, order: &mut Order) -> Next
 }
 
 /// The first literal of the cube that is not true, and then the best variable without a value. Above the levels of
-/// assumptions the cube is true, so that no decision there looks at it.
-pub(crate) fn pick(trail: &Trail, cube: &[Lit], assumed: u32, order: &mut Order) -> Next
+/// assumptions the cube is true, so that no decision there looks at it. Its first `held` literals are known to be true.
+pub(crate) fn pick(
+    trail: &Trail,
+    cube: &[Lit],
+    held: &mut usize,
+    assumed: u32,
+    order: &mut Order,
+) -> Next
     requires cube { All (IsWithin trail.now.vars) cube.now }
+    requires held { AreHeld held.old cube.now trail.now.entries }
     requires order { IsOrder trail.now order.old }
     requires assumed { IsAssuming cube.now trail.now.entries assumed }
     ensures next { IsNext trail.now cube.now result }
     ensures taken { IsTaken trail.now result order.new }
+    ensures held { AreHeld held.new cube.now trail.now.entries }
 {
     if trail.level() > assumed {
         return decide(trail, order);
     }
-    for &literal in cube {
+    while *held < cube.len() {
+        let literal = cube[*held];
         match trail.value(literal) {
-            Truth::True => {}
+            Truth::True => *held += 1,
             Truth::False => return Next::Fails(literal),
             Truth::Free => return Next::Assume(literal),
         }

@@ -1,6 +1,6 @@
 //! Propagation and decisions, down to a conflict or a model.
 
-ghost use Rattle.std.specs.Prelude.{◌≡◌, ◌+◌, ◌<◌, ◌≤◌, ◌∷◌, [], ◌++◌, length, All, IfSome, IfNone};
+ghost use Rattle.std.specs.Prelude.{◌≡◌, ◌+◌, ◌<◌, ◌≤◌, ◌∷◌, [], ◌++◌, List, length, All, IfSome, IfNone};
 ghost use Rattle.clause_arena.specs.Clauses.{live_of};
 ghost use Rattle.conflict_analysis.specs.Built.{IsDecided};
 ghost use Rattle.dimacs.specs.logic.Literal.{IsWithin};
@@ -58,6 +58,7 @@ impl<P: Propagator> State<'_, P> {
         ensures clauses { AreSame self.old.arena self.new.arena }
         ensures vars { self.new.trail.vars ≡ self.old.trail.vars }
         ensures longer { length self.old.trail.entries ≤ length self.new.trail.entries }
+        ensures grows { (more : List Assigned) × (self.new.trail.entries ≡ self.old.trail.entries ++ more) }
         ensures assuming { (q : Cube) → IsAssuming q self.old.trail.entries self.old.assumed → IsAssuming q self.new.trail.entries self.new.assumed }
         ensures conflict { IfSome result (IsConflict (live_of self.new.arena) self.new.trail.entries) }
         ensures quiet { IfNone result (IsQuiet (live_of self.new.arena) self.new.trail.entries) }
@@ -81,13 +82,14 @@ impl<P: Propagator> State<'_, P> {
         ensures vars { self.new.trail.vars ≡ self.old.trail.vars }
         ensures found { IsFound self.new.arena self.new.trail cube.now result }
     {
+        let mut held = 0; // so many of the cube's first literals are true: the trail only grows
         'descending: loop {
             match self.settle() {
                 Some(number) => return Found::Clause(number),
                 None => {}
             }
             let level = self.trail.level();
-            match pick(&self.trail, cube, self.assumed, &mut self.order) {
+            match pick(&self.trail, cube, &mut held, self.assumed, &mut self.order) {
                 Next::Assume(literal) => {
                     open_level(self.propagator, &self.arena, &mut self.trail, literal);
                     self.assumed = self.assumed.max(self.trail.level());

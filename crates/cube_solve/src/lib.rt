@@ -15,6 +15,7 @@ mod descent;
 mod fixing;
 mod forgetting;
 mod gaps;
+mod growing;
 mod levels;
 mod loading;
 mod log;

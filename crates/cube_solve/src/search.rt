@@ -310,6 +310,29 @@ impl<'a, P: Propagator> Search<'a, P> {
         Ok(())
     }
 
+    /// Takes over what another search has learnt and written, whose clauses it has.
+    pub(crate) fn learnt_by(&mut self, other: Search<'_, P>)
+        ensures { self.new ≡ record self.old { lemmas = other.entry.lemmas; uses = other.entry.uses; log = other.entry.log } }
+    {
+        let Search {
+            alloc: _,
+            state: _,
+            lemmas,
+            uses,
+            log,
+            gaps: _,
+            units: _,
+            wanted: _,
+            analyser: _,
+            lemma: _,
+            levels: _,
+            phases: _,
+        } = other;
+        self.lemmas = lemmas;
+        self.uses = uses;
+        self.log = log;
+    }
+
     /// The text of the log, which begins anew.
     pub(crate) fn take_log(&mut self) -> PackedText
         ensures text { result ≡ self.old.log }

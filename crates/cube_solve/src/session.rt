@@ -65,6 +65,18 @@ impl<'a, P: Propagator> Session<'a, P> {
         })
     }
 
+    /// The search, and the greatest number so far.
+    pub(crate) fn into_parts(self) -> (Search<'a, P>, u64)
+        ensures { result ≡ (self.entry.search, self.entry.top) }
+    {
+        let Session {
+            search,
+            top,
+            marks: _,
+        } = self;
+        (search, top)
+    }
+
     /// The number of the next clause. There is an error if numbers have run out, behind 2^47.
     pub(crate) fn next_number(&self) -> Result<u64, AllocError>
         ensures next { IfOk result (λ id. id ≡ self.now.top + 1) }

@@ -198,3 +198,21 @@ pub short : {P : Type 0} (s : Session P) (a : cube.Answer) → vars_in s ≤ 200
 short s (answer.Satisfied values) few h = omega arith
 short s (answer.Failed failure) few h = ((omega arith, omega arith), All-weaker (IsWithin (vars_in s)) (IsWithin 2000000) (λ l w. (w.0, (let u = w.1 in omega arith))) failure.core.items h.0, h.1, All-nil IsGroup)
 short s answer.Unknown few h = tt
+
+-- the same over more variables
+module _ {P : Type 0} (s u : Session P) (x : search.Session P) (out : List ℕ) (is : x ≡ s.search) (bytes : out ≡ s.out.items) (same : u.out.items ≡ out) (vars : vars_in s ≤ vars_in u) (last : last_in u ≡ last_of x) (log : log_of u.search ≡ log_of x)
+    (gives : (F : List Clause) → AreGiven F x → AreGiven F u.search) (knows : (given : List ℕ) (M : ClauseMap) → IsKnown given M x → IsKnown given M u.search) where
+  pub stands_grown : (E : List Event) (told : Told) (text : List ℕ) → Stands E told text s → Stands E told text u
+  stands_grown E told text h = record {
+    given = gives (clauses_of E) (subst (λ (y : search.Session P). AreGiven (clauses_of E) y) (sym is) h.given);
+    within = All-weaker (All (IsWithin (vars_in s))) (All (IsWithin (vars_in u)))
+        (λ C w. All-weaker (IsWithin (vars_in s)) (IsWithin (vars_in u)) (λ l v. (v.0, (let a = v.1 in omega arith))) C w) (clauses_of E) h.within;
+    told_all = log ∙ ap (λ (y : search.Session P). log_of y) is ∙ h.told_all;
+    reader = h.reader;
+    line = h.line;
+    between = h.between;
+    last = h.last ∙ sym (ap (λ (y : search.Session P). last_of y) is) ∙ sym last;
+    known = knows (h.reader).given (h.reader).live (subst (λ (y : search.Session P). IsKnown (h.reader).given (h.reader).live y) (sym is) h.known);
+    named = h.named;
+    reads = λ D more. ap (λ (t : List ℕ). session_of (E ++ D) (text ++ (t ++ more))) (same ∙ bytes) ∙ h.reads D more;
+  }

@@ -108,6 +108,40 @@ impl<'a, P: Propagator> Session<'a, P> {
         })
     }
 
+    /// The search, the bytes that are not handed out yet, and the scratch.
+    fn into_parts(self) -> (cube_solve::Session<'a, P>, Vec<u8>, Scratch)
+        ensures { result ≡ (self.entry.search, self.entry.out, self.entry.scratch) }
+    {
+        let Session {
+            alloc: _,
+            search,
+            out,
+            scratch,
+        } = self;
+        (search, out, scratch)
+    }
+
+    /// The session over the variables from 1 to `vars`, by a propagator that has no clause yet. It takes time in the greatest number of a
+    /// clause so far, so that a caller doubles the variables.
+    pub fn grown<'b>(self, propagator: &'b mut P, vars: u32) -> Result<Session<'b, P>, AllocError>
+        requires fit { IsFit P.is_ready P.attached self }
+        requires free { P.attached propagator.old ≡ [] }
+        requires more { vars_in self ≤ vars }
+        requires limit { vars ≤ 1000000 }
+        ensures fit { IfOk result (IsFit P.is_ready P.attached) }
+        ensures vars { IfOk result (λ s. vars_in s ≡ vars) }
+        ensures stands { IfOk result (λ s. (E : List Event) (told : Told) (text : List ℕ) → Stands E told text self.entry → Stands E told text s) }
+    {
+        let alloc = self.alloc;
+        let (search, out, scratch) = self.into_parts();
+        Ok(Session {
+            alloc,
+            search: search.grown(propagator, vars)?,
+            out,
+            scratch,
+        })
+    }
+
     /// Takes in a clause of the session's variables: literals may repeat, and a pair may stand in it. After an error nothing is known of
     /// the session. There is one if memory was wanting, or 2^47 clauses and lemmas came before.
     pub fn give(&mut self, clause: &[Lit]) -> Result<(), AllocError>

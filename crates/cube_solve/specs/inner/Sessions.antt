@@ -11,6 +11,7 @@ use Rattle.lrat_text.specs.Log.{Cube}
 use Rattle.watches.specs.Law.{AllCalm}
 use Rattle.watches.specs.Trails.{TrailValue, holds}
 use Rattle.cube_solve.specs.Conflicts.{AllHold}
+use Rattle.cube_solve.specs.Parts.{IsPartOf}
 use Rattle.cube_solve.specs.inner.Levels.{AreTwins}
 use Rattle.cube_solve.specs.inner.State.{IsTotal}
 use Rattle.cube_solve.specs.declared.asking.Sought.{Sought}
@@ -50,4 +51,5 @@ pub record ArePicked (q : Cube) (lits : Clause) (core : List Literal) : Type 0 w
   pub within : (l : Literal) → Contains core l → Contains q l
   pub only : (l : Literal) → Contains core l → Contains lits (negation l)
   pub all : (l : Literal) → Contains q l → Contains lits (negation l) → Contains core l
+  pub part : IsPartOf core q
   pub distinct : IsDistinct same q → IsDistinct same core

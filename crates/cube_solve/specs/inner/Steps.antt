@@ -1,15 +1,21 @@
 -- What a turn of the search does next, and what ends a descent.
-use Rattle.std.specs.Prelude.{◌≡◌, true, false, List, Contains}
+use Rattle.std.specs.Prelude.{◌≡◌, ℕ, ◌<◌, ◌≤◌, true, false, List, length, slice_index_or, Contains}
 use Rattle.dimacs.specs.logic.Literal.{Literal, IsWithin, negation}
 use Rattle.clause_arena.specs.Clauses.{Clauses, live_of}
 use Rattle.watches.specs.Law.{AllCalm, IsConflict}
 use Rattle.watches.specs.Trails.{TrailValue, holds}
+use Rattle.watches.specs.declared.trail.Assigned.{Assigned}
 use Rattle.cube_solve.specs.Conflicts.{AllHold}
 use Rattle.cube_solve.specs.inner.State.{IsTotal}
 use Rattle.cube_solve.specs.declared.decision.Next.{Next}
 use Rattle.cube_solve.specs.declared.decision.Next.TheVariants as next
 use Rattle.cube_solve.specs.declared.descent.Found.{Found}
 use Rattle.cube_solve.specs.declared.descent.Found.TheVariants as found
+
+-- so many of the cube's first literals are true
+pub record AreHeld (held : ℕ) (cube : List Literal) (entries : List Assigned) : Type 0 where
+  pub few : held ≤ length cube
+  pub true_all : (k : ℕ) (d : Literal) → k < held → holds entries (slice_index_or cube k d) ≡ true
 
 -- a literal without a value, of a variable that there is
 pub record IsUnassigned (t : TrailValue) (l : Literal) : Type 0 where

@@ -1,5 +1,6 @@
 use Rattle.std.proofs.Common.{arith}
-use Rattle.cube_solve.proofs.AssumingLemmas.{assuming_all, all_hold}
+use Rattle.cube_solve.proofs.AssumingLemmas.{assuming_all}
+use Rattle.cube_solve.proofs.HoldingLemmas.{held_all}
 use Rattle.cube_solve.proofs.decision.pick.Goals as goal
 
 pub returns-then-level-assumed-clause-next : goal.returns-then-level-assumed-clause-next
@@ -8,4 +9,4 @@ returns-then-level-assumed-clause-next c =
 
 pub returns-clause-next : goal.returns-clause-next
 returns-clause-next c =
-    c.decide-2.ensures.next c.args.cube.now (all_hold c.args.trail.now.entries c.args.cube.now c.loop-literal.literal-index c.loop-literal-test.false c.loop-literal.invariant)
+    c.decide-2.ensures.next c.args.cube.now (held_all c.loop-held.held c.args.cube.now c.args.trail.now.entries (let f = c.loop-held-test.false in omega arith) c.loop-held.invariant)

@@ -1,7 +1,9 @@
-use Rattle.std.proofs.Common.{◌≡◌, ℕ, ◌<◌, get_or, true}
-use Rattle.dimacs.specs.logic.Literal.{Literal}
-use Rattle.watches.specs.Trails.{holds}
+use Rattle.std.proofs.Common.{◌-◌, length}
+use Rattle.cube_solve.specs.inner.Steps.{AreHeld}
 use Rattle.cube_solve.proofs.decision.pick.Given as goal
 
-abbrev pub invariant-loop-literal : goal.invariant-loop-literal
-invariant-loop-literal l = (k : ℕ) (d : Literal) → k < l.literal-index → holds l.trail.entries (get_or l.cube k d) ≡ true
+abbrev pub invariant-loop-held : goal.invariant-loop-held
+invariant-loop-held l = AreHeld l.held l.cube l.trail.entries
+
+abbrev pub decreases-loop-held : goal.decreases-loop-held
+decreases-loop-held l = length l.cube - l.held

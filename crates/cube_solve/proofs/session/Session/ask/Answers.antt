@@ -42,7 +42,7 @@ returns-in-Failed-clause-answer g c = λ F h.
     core_fails F A k.kept.items (live_of s.state.arena) t.vars s.lemmas.items lemma core.core.items (e.given F (c.begin.ensures.given F (k.ensures.given F h)))
     (subst (λ (C : Clause). Fails (live_of s.state.arena) t.vars C lemma) c.deref.ensures.value f)
     (subst (λ (C : Clause). ArePicked C lemma.lits.items core.core.items) c.deref-in-Failed.ensures.value (subst (λ (C : Clause). ArePicked c.deref-in-Failed.result.now C core.core.items) c.deref-in-Failed-2.ensures.value core.ensures.picked))
-    (k.ensures.marks).twins (k.ensures.marks).distinct
+    (k.ensures.marks).twins (k.ensures.marks).part (k.ensures.marks).distinct
 
 pub returns-in-Model-clause-tells : goal.returns-in-Model-clause-tells
 returns-in-Model-clause-tells g c =

@@ -6,11 +6,17 @@ use Rattle.cube_solve.specs.inner.Order.{IsOrderBut}
 use Rattle.cube_solve.specs.inner.State.{IsAssuming}
 use Rattle.cube_solve.proofs.AssumingLemmas.{assuming_assumed, assuming_decided}
 use Rattle.cube_solve.proofs.ClauseLemmas.{same_trans}
+use Rattle.cube_solve.proofs.HoldingLemmas.{held_grows}
 use Rattle.cube_solve.proofs.OrderLemmas.{order_grows, order_decided}
 use Rattle.cube_solve.proofs.state.State.descend.Goals as goal
 
 pub pick-requires-clause-assumed : goal.pick-requires-clause-assumed
 pick-requires-clause-assumed g c = c.settle.ensures.assuming c.args.cube.now c.descending.invariant.assuming
+
+pub pick-requires-clause-held : goal.pick-requires-clause-held
+pick-requires-clause-held g c =
+    let m = c.settle.ensures.grows in
+    held_grows c.descending.held c.args.cube.now c.descending.self.trail.entries c.settle.new.self.trail.entries m.0 m.1 c.descending.invariant.held
 
 pub returns-in-Some-clause-assuming : goal.returns-in-Some-clause-assuming
 returns-in-Some-clause-assuming g c = c.settle.ensures.assuming c.args.cube.now c.descending.invariant.assuming
@@ -45,6 +51,7 @@ descending-preserved-in-Assume g c =
           (assuming_assumed c.args.cube.now s.trail.entries c.open_level.new.trail.entries e.0 s.assumed e.1 (subst (Contains c.args.cube.now) (sym e.2) c.in-Assume.ensures.next.0) e.3 a);
       clauses = same_trans c.args.self.now.arena c.descending.self.arena s.arena c.descending.invariant.clauses c.settle.ensures.clauses;
       vars = c.open_level.ensures.vars ∙ c.settle.ensures.vars ∙ c.descending.invariant.vars;
+      held = held_grows c.pick.new.held c.args.cube.now s.trail.entries c.open_level.new.trail.entries (e.0 ∷ []) e.1 c.pick.ensures.held;
     }
 
 pub descending-preserved : goal.descending-preserved
@@ -63,4 +70,5 @@ descending-preserved g c =
           (assuming_decided c.args.cube.now s.trail.entries c.open_level-in-Decide.new.trail.entries e.0 s.assumed e.1 c.in-Decide.ensures.next.0 e.3 a);
       clauses = same_trans c.args.self.now.arena c.descending.self.arena s.arena c.descending.invariant.clauses c.settle.ensures.clauses;
       vars = c.open_level-in-Decide.ensures.vars ∙ c.settle.ensures.vars ∙ c.descending.invariant.vars;
+      held = held_grows c.pick.new.held c.args.cube.now s.trail.entries c.open_level-in-Decide.new.trail.entries (e.0 ∷ []) e.1 c.pick.ensures.held;
     }

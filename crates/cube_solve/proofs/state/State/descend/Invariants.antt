@@ -2,6 +2,7 @@ use Rattle.std.proofs.Common.{◌≡◌, ◌-◌, length}
 use Rattle.watches.specs.Law.{AreSame}
 use Rattle.cube_solve.specs.inner.State.{IsAssuming}
 use Rattle.cube_solve.specs.inner.Steady.{IsSteady}
+use Rattle.cube_solve.specs.inner.Steps.{AreHeld}
 use Rattle.cube_solve.proofs.state.State.descend.Given as goal
 
 abbrev pub invariant-descending : goal.invariant-descending
@@ -10,6 +11,7 @@ invariant-descending g l = record {
   assuming : IsAssuming l.cube l.self.trail.entries l.self.assumed;
   clauses : AreSame l.fn.self.arena l.self.arena;
   vars : l.self.trail.vars ≡ l.fn.self.trail.vars;
+  held : AreHeld l.held l.cube l.self.trail.entries;
 }
 
 abbrev pub decreases-descending : goal.decreases-descending

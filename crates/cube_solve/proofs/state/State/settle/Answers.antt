@@ -25,6 +25,9 @@ returns-clause-steady g c =
 pub returns-clause-longer : goal.returns-clause-longer
 returns-clause-longer g c = omega (arith, length-append c.args.self.now.trail.entries c.propagate-found.ensures.trail.more, ap (length {A = Assigned}) c.propagate-found.ensures.trail.entries)
 
+pub returns-clause-grows : goal.returns-clause-grows
+returns-clause-grows g c = (c.propagate-found.ensures.trail.more, c.propagate-found.ensures.trail.entries)
+
 pub returns-clause-assuming : goal.returns-clause-assuming
 returns-clause-assuming g c = λ q h. assuming_grows _ c.args.self.now.arena c.args.self.now.trail c.propagate-found.new.trail q c.args.self.now.assumed c.propagate-found.ensures.trail h
 
