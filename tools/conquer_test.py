@@ -731,6 +731,24 @@ class Slurm(Case):
         self.assertIn("as one leaf ended after", self.report(self.NAME))
         self.wait_for("the tasks that are ended", self.is_idle)
 
+    def test_receipts_and_a_lost_node(self) -> None:
+        """A node is lost while leaves are searched; what is missing is run by the next start."""
+        solver = self.solver("slow", "sleep 1")
+        words = ["--receipts", *self.WORDS, "--no-race", "--solver", solver, self.NAME]
+        run = self.start(*words)
+        self.wait_for("a job", lambda: "R" in self.slurm.says("squeue", "-h", "-o", "%t"))
+        self.node("state=down", "reason=lost")
+        status, lines = self.end(run, "a node that is lost")
+        self.node("state=resume")
+        if status == 1:
+            self.assertIn("s NOT COVERED", lines)
+            status, lines = self.conquer(*words)
+        self.assertEqual((0, True), (status, "s COVERED" in lines), lines)
+        self.wait_for("the tasks that are ended", self.is_idle)
+
+    def node(self, *words: str) -> None:
+        self.slurm.says("scontrol", "update", "nodename=n1", *words)
+
     def test_end_of_the_script(self) -> None:
         """SIGTERM ends the array. One that was killed has it run on, and the next start waits for
         it; under nohup a script goes on when the login ends."""
