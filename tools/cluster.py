@@ -296,12 +296,17 @@ def slow_reader(cluster):
     coordinator = cluster.serve(port, "--workers", 2, "--depth", 0, "--limit", 1000000000, "pigeons.cnf", "served.lrat")
     worker = cluster.start("work", "--port", port, "pigeons.cnf")
     wait_for("it is linked", lambda: sockets_at(port, "01") == 1)
-    peer = socket.socket()
-    peer.setsockopt(socket.SOL_SOCKET, socket.SO_RCVBUF, 4096)
-    peer.settimeout(SECONDS)
-    peer.connect(("127.0.0.1", port))
-    peer.sendall(idle(2, 1))
-    same("the verdict is handed out", b"CC\x05", peer.recv(3))
+    found = b"CC\x01"
+    while found == b"CC\x01":  # the worker's task, if the peer was heard before it: it is given back
+        peer = socket.socket()
+        peer.setsockopt(socket.SOL_SOCKET, socket.SO_RCVBUF, 4096)
+        peer.settimeout(SECONDS)
+        peer.connect(("127.0.0.1", port))
+        peer.sendall(idle(2, 1))
+        found = peer.recv(3)
+        if found == b"CC\x01":
+            peer.close()
+    same("the verdict is handed out", b"CC\x05", found)
     try:
         while True:
             peer.sendall(want(2, 0) * 100)
