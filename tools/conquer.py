@@ -110,7 +110,7 @@ def wrong_words(asked: Namespace) -> Optional[str]:
     if asked.recheck is not None and asked.INPUT is not None:
         return "--recheck FOLDER reads the formula of that run: no other one is named"
     if asked.recheck is None and asked.INPUT is None:
-        return "no formula is named"
+        return "INPUT is missing: no formula is named"
     if asked.drop_logs and (not asked.receipts or asked.PROOF is not None):
         return "--drop-logs is for --receipts without PROOF: a proof is made of logs"
     return None
