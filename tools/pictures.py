@@ -21,7 +21,7 @@ TESTS = {"crate_tests", "program_tests", "trials"}
 # What each of the others is for, with its colour.
 KINDS = {
     "words and reports": ("#e8e3f5", ["word_rules", "command_line", "reports", "explanations", "node_main", "commands", "satcluster"]),
-    "leaves as files": ("#fbe5d0", ["leaves", "either_form", "completing", "gathering", "receipts", "proof_lift", "lidrup", "sessions", "answers"]),
+    "leaves as files": ("#fbe5d0", ["leaves", "either_form", "completing", "gathering", "receipts", "cover_laws", "proof_lift", "lidrup", "sessions", "answers"]),
     "machines and runs": (
         "#d8eaf7",
         ["runs", "arriving", "links", "hub", "cluster", "closed_schedules", "worker_core", "coordinator_core", "evidence", "frames"],
