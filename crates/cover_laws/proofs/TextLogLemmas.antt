@@ -1,85 +1,56 @@
 -- A log that is text is not taken for one in binary form.
-use Rattle.std.proofs.Common.{◌≡◌, inl, inr, ℕ, ◌<◌, ◌≤◌, ◌^◌, Bool, true, false, cond, List, [], ◌∷◌, ◌++◌, map, refl, sym, ap, subst, ◌∙◌, arith, eqb}
-use Rattle.std.specs.Prelude.{◌==◌, decimal}
-use Rattle.std.specs.List.{AllByRecursion, Contains, filter, onto_first, slice_split}
-use Rattle.std.proofs.lemmas.Bool.{true≢false, or_cases, eqb-true, ne_eqb}
-use Rattle.std.proofs.lemmas.List.Splits.{slice_split-cons_no}
+use Rattle.std.proofs.Common.{◌≡◌, ℕ, ◌<◌, ◌^◌, ◌==◌, ◌||◌, Bool, false, cond, List, [], ◌∷◌, ◌++◌, map, sym, ap, subst, ◌∙◌, arith, decimal}
+use Rattle.std.specs.List.{AllByRecursion, Contains, filter, slice_split, onto_first}
+use Rattle.std.proofs.lemmas.Bool.{ne_eqb}
 use Rattle.dimacs.specs.logic.Cnf.{Cnf}
 use Rattle.dimacs.specs.text.Words.{is_some_byte}
 use Rattle.icnf.specs.Leaves.{Cube}
 use Rattle.leaves.specs.Joining.{AreClosed}
+use Rattle.leaves.proofs.ClosingLemmas.{contains_map}
 use Rattle.lrat_binary.specs.Reading.{steps_in}
 use Rattle.lrat_forms.specs.Forms.{is_binary, is_letter, reading_text, text_form}
-use Rattle.lrat_text.specs.Grammar.{IsClauseNumber, IsStep, LineSpells, SpellsStep, space, step_tokens, tokens}
+use Rattle.lrat_text.specs.Grammar.{LineSpells, SpellsStep, tokens}
 use Rattle.lrat_text.specs.declared.step.Step.{Step}
 use Rattle.lrat_text.specs.declared.step.Step.TheVariants.{Add, Delete}
 use Rattle.lrat_text.proofs.NumberLemmas.{IsDigitByte, decimal_digits}
 use Rattle.receipts.specs.Receiving.{IsClosedByLog}
-use Rattle.leaves.proofs.ClosingLemmas.{contains_map}
 
--- the letters, as numbers
-letter_is : (b : ℕ) → is_letter b ≡ true → 58 ≤ b
-letter_is b e = elim (or_cases (eqb b 97) (eqb b 100) e) [
-  | inl a ↦ (let h = eqb-true b 97 a in omega arith)
-  | inr d ↦ (let h = eqb-true b 100 d in omega arith)
-]
+by_parts : (b : ℕ) (parts : List (List ℕ)) (w : List ℕ) (ws : List (List ℕ)) → filter is_some_byte (onto_first b parts) ≡ w ∷ ws → (rest : List ℕ) × (w ≡ b ∷ rest)
+by_parts b [] w ws e = ([], (let h : w ≡ b ∷ [] = cc in h))
+by_parts b (part ∷ parts) w ws e = (part, (let h : w ≡ b ∷ part = cc in h))
 
-first_piece : (p : ℕ → Bool) (text : List ℕ) → (piece : List ℕ) × (pieces : List (List ℕ)) × (slice_split p text ≡ piece ∷ pieces)
-first_piece p [] = ([], [], refl)
-first_piece p (x ∷ text) = at (p x) refl (first_piece p text)
-  where
-    at : (b : Bool) → p x ≡ b → (piece : List ℕ) × (pieces : List (List ℕ)) × (slice_split p text ≡ piece ∷ pieces)
-        → (piece : List ℕ) × (pieces : List (List ℕ)) × (slice_split p (x ∷ text) ≡ piece ∷ pieces)
-    at true e (piece, pieces, is) = ([], slice_split p text, ap (λ b. cond b ([] ∷ slice_split p text) (onto_first x (slice_split p text))) e)
-    at false e (piece, pieces, is) = (x ∷ piece, pieces, ap (λ b. cond b ([] ∷ slice_split p text) (onto_first x (slice_split p text))) e ∙ ap (onto_first x) is)
+-- the first token of a line begins with its first byte
+first_token : (b : ℕ) (bs : List ℕ) (w : List ℕ) (ws : List (List ℕ)) → (b == 32) ≡ false → tokens (b ∷ bs) ≡ w ∷ ws → (rest : List ℕ) × (w ≡ b ∷ rest)
+first_token b bs w ws e is =
+    by_parts b (slice_split (λ x. x == 32) bs) w ws
+    (sym (ap (λ (t : Bool). filter is_some_byte (cond t ([] ∷ slice_split (λ x. x == 32) bs) (onto_first b (slice_split (λ x. x == 32) bs)))) e) ∙ is)
 
--- a line that begins with no space has a token that begins so
-first_token : (b : ℕ) (bs : List ℕ) → (b == space) ≡ false → (word : List ℕ) × (words : List (List ℕ)) × (tokens (b ∷ bs) ≡ (b ∷ word) ∷ words)
-first_token b bs e =
-    let r = first_piece (λ c. c == space) bs in (
-      r.0,
-      filter is_some_byte r.1,
-      ap (filter is_some_byte) (slice_split-cons_no (λ c. c == space) b bs e ∙ ap (onto_first b) r.2),
-    )
+digit_first : (n b : ℕ) (rest : List ℕ) → n < 2 ^ 48 → decimal n ≡ b ∷ rest → IsDigitByte b
+digit_first n b rest small e = let all : AllByRecursion IsDigitByte (b ∷ rest) = subst (AllByRecursion IsDigitByte) e (decimal_digits n (omega (arith, small))) in all.0
 
--- the first token of a step is a number
-first_number : (top : ℕ) (step : Step) → IsClauseNumber top → IsStep step → (n : ℕ) × (words : List (List ℕ)) × (n < 2 ^ 64) × (step_tokens top step ≡ decimal n ∷ words)
-first_number top (Add id lits hints groups) t h = (id, _, (let u = h.0.1 in omega arith), refl)
-first_number top (Delete ids) t h = (top, _, (let u = t.1 in omega arith), refl)
+no_letter : (b : ℕ) → IsDigitByte b → is_letter b ≡ false
+no_letter b h = ap (λ (x : Bool). x || b == 100) (ne_eqb b 97 (λ e. omega (arith, h.1))) ∙ ne_eqb b 100 (λ e. omega (arith, h.1))
 
-same_first : (v w : List ℕ) (vs ws : List (List ℕ)) → ◌≡◌ {A = List (List ℕ)} (v ∷ vs) (w ∷ ws) → v ≡ w
-same_first v w vs ws e = cc
+line_begins : (b : ℕ) (bs : List ℕ) (step : Step) → SpellsStep (b ∷ bs) step → is_letter b ≡ false
+line_begins b bs (Add id lits hints groups) h =
+    let r = first_token b bs (decimal id) _ (ne_eqb b 32 h.trimmed.first) h.spelled in
+    no_letter b (digit_first id b r.0 h.limits.0.1 r.1)
+line_begins b bs (Delete ids) h =
+    let r = first_token b bs (decimal h.top) _ (ne_eqb b 32 h.trimmed.first) h.spelled in
+    no_letter b (digit_first h.top b r.0 h.numbered.1 r.1)
 
-begins_number : (b : ℕ) (bs : List ℕ) (top : ℕ) (step : Step) → is_letter b ≡ true → IsClauseNumber top → IsStep step → tokens (b ∷ bs) ≡ step_tokens top step → ⊥
-begins_number b bs top step letter numbered limits spelled =
-    let high : 58 ≤ b = letter_is b letter in
-    let t = first_token b bs (ne_eqb b 32 (λ e. omega arith)) in
-    let n = first_number top step numbered limits in
-    let same : b ∷ t.0 ≡ decimal n.0 = same_first (b ∷ t.0) (decimal n.0) t.1 n.1 (sym t.2 ∙ spelled ∙ n.3) in
-    let digits : AllByRecursion IsDigitByte (b ∷ t.0) = subst (AllByRecursion IsDigitByte) (sym same) (decimal_digits n.0 n.2) in
-    let low : b ≤ 57 = digits.0.1 in
-    omega arith
+line_form : (line rest : List ℕ) (step : Step) → SpellsStep line step → is_binary (line ++ 10 ∷ rest) ≡ false
+line_form [] rest step h = absurd (omega (arith, h.trimmed.some))
+line_form (b ∷ bs) rest step h = line_begins b bs step h
 
-same_byte : (b c : ℕ) (bs cs : List ℕ) → ◌≡◌ {A = List ℕ} (b ∷ bs) (c ∷ cs) → b ≡ c
-same_byte b c bs cs e = cc
-
-not_binary : (text : List ℕ) (steps : List Step) → LineSpells text steps → is_binary text ≡ true → ⊥
-not_binary [] steps h e = true≢false (sym e)
-not_binary (b ∷ bs) [] h e = let no : ⊥ = cc in no
-not_binary (b ∷ bs) (step ∷ steps) (line, rest, is, one, spells, more) e = at line is spells
-  where
-    at : (l : List ℕ) → (b ∷ bs) ≡ l ++ 10 ∷ rest → SpellsStep l step → ⊥
-    at [] f s = (let some = s.trimmed.some in omega arith)
-    at (c ∷ l) f s = begins_number c l s.top step (subst (λ x. is_letter x ≡ true) (same_byte b c bs (l ++ 10 ∷ rest) f) e) s.numbered s.limits s.spelled
+not_binary : (text : List ℕ) (steps : List Step) → LineSpells text steps → is_binary text ≡ false
+not_binary text [] h = ap is_binary h
+not_binary text (step ∷ steps) (line, rest, splits, no_lf, spells, more) = ap is_binary splits ∙ line_form line rest step spells
 
 -- so it comes to itself
 form_same : (text : List ℕ) (steps : List Step) → LineSpells text steps → text_form text ≡ text
 unfolding text_form
-form_same text steps h = at (is_binary text) refl
-  where
-    at : (b : Bool) → is_binary text ≡ b → cond (is_binary text) (reading_text 1 (steps_in text)) text ≡ text
-    at true e = absurd (not_binary text steps h e)
-    at false e = ap (λ (x : Bool). cond x (reading_text 1 (steps_in text)) text) e
+form_same text steps h = ap (λ (x : Bool). cond x (reading_text 1 (steps_in text)) text) (not_binary text steps h)
 
 pub joined : (F : Cnf) (cubes : List Cube) (files : List (List ℕ)) → ((q : Cube) → Contains cubes q → IsClosedByLog F files q) → AreClosed F cubes (map text_form files)
 joined F cubes files closed q i =
