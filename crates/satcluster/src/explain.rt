@@ -239,7 +239,7 @@ fn faulty<'a>(paths: &Paths<'a>, file: File) -> Option<(&'a str, Subject)> {
     match file {
         File::Input => Some((paths.input, paths.input_as)),
         File::Cubes => Some((paths.cubes?, Subject::Cubes)),
-        File::Own | File::Proof => Some((paths.read?, paths.read_as)),
+        File::Own | File::Proof | File::Log => Some((paths.read?, paths.read_as)),
         File::Joined(number) => Some((joined_name(paths, number), Subject::Proof)),
     }
 }
