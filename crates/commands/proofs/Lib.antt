@@ -1,5 +1,8 @@
+mod AnsweringLemmas
 mod ClosedLemmas
 mod CoverLemmas
+mod CutLemmas
+mod EventLemmas
 mod FeedLemmas
 mod JoinLemmas
 mod KnownLemmas
@@ -11,6 +14,7 @@ mod NextLemmas
 mod OfLemmas
 mod PartLemmas
 mod ReceiptLemmas
+mod SessionLemmas
 mod TextLemmas
 mod TreeLemmas
 mod TrimLemmas

@@ -4,7 +4,7 @@ ghost use Rattle.std.specs.Prelude.{◌≡◌, ℕ, ◌+◌, List, ◌∷◌, If
 ghost use Rattle.dimacs.specs.text.Words.{words, words_of};
 ghost use Rattle.icnf.specs.Reading.{read_header};
 ghost use Rattle.sessions.specs.Events.{put_clause, put_query, read_event, read_row, start};
-ghost use Rattle.sessions.specs.inner.Rows.{GivesRow};
+ghost use Rattle.sessions.specs.Rows.{GivesRow};
 
 use crate::line_literals::{LineLiterals, fault};
 use dimacs::Lit;
@@ -22,7 +22,8 @@ const QUERY: usize = 1_000_000;
 
 /// What a line says.
 #[derive(Clone, Copy)]
-pub(crate) enum Sent {
+pub enum Sent {
+    /// Neither: it is empty, a comment, or the header.
     Nothing,
     /// A clause is given.
     Clause,
@@ -30,8 +31,8 @@ pub(crate) enum Sent {
     Query,
 }
 
-/// What was read of the lines so far.
-pub(crate) struct EventLines {
+/// What was read of the lines so far, and the literals of the last one that had an event. The room is used again from line to line.
+pub struct EventLines {
     /// Whether the header was there.
     headed: bool,
     /// How many clauses, and how many literals of clauses.
@@ -42,7 +43,7 @@ pub(crate) struct EventLines {
 }
 
 impl Model for EventLines {
-    ghost use Rattle.sessions.specs.inner.Rows.{Held};
+    ghost use Rattle.sessions.specs.Rows.{Held};
     ghost use Rattle.std.specs.Prelude.{◌≤◌};
 
     ghost Value = { Held };
@@ -73,7 +74,7 @@ fn is_mark(word: &[u8]) -> bool
 
 impl EventLines {
     /// No line was read.
-    pub(crate) fn new(alloc: Global) -> EventLines
+    pub fn new(alloc: Global) -> EventLines
         ensures { result.progress ≡ start }
     {
         EventLines {
@@ -85,14 +86,14 @@ impl EventLines {
     }
 
     /// The literals of the last event.
-    pub(crate) fn literals(&self) -> &[Lit]
+    pub fn literals(&self) -> &[Lit]
         ensures { result.now ≡ self.now.read.literals }
     {
         self.literals.as_slice()
     }
 
     /// Whether the header was there.
-    pub(crate) fn is_headed(&self) -> bool
+    pub fn is_headed(&self) -> bool
         ensures { result ≡ self.now.progress.headed }
     {
         self.headed
@@ -140,9 +141,10 @@ impl EventLines {
         self.put_clause(line)
     }
 
-    /// Reads the line of this number.
+    /// Reads the line of this number, of which `text` are the bytes without the LF: what it says, or the first fault. Behind a fault nothing
+    /// is promised of what was read.
     #[tactic(auto, unfolding(crate::specs::Events::read_row))]
-    pub(crate) fn read(&mut self, line: u64, text: &[u8]) -> Result<Sent, IcnfFault>
+    pub fn read(&mut self, line: u64, text: &[u8]) -> Result<Sent, IcnfFault>
         ensures { GivesRow self.new result (read_row line (words_of text.now) self.old.progress) }
     {
         if is_comment(text) {
