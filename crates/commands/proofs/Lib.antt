@@ -1,5 +1,6 @@
 mod AnsweringLemmas
 mod ClosedLemmas
+mod CoreLemmas
 mod CoverLemmas
 mod CutLemmas
 mod EventLemmas
