@@ -10,8 +10,8 @@ ghost use Rattle.word_rules.specs.Parsing.{IsRefusalOf};
 ghost use Rattle.word_rules.specs.Rules.{app_of_program};
 
 use crate::commands::{
-    check, cover, cubes, drill, join, leaf, lift, model, receipt, refute, serve, session, solve, trim,
-    work,
+    check, cover, cubes, drill, join, leaf, lift, model, receipt, refute, serve, session, solve,
+    trim, work,
 };
 use crate::request::{Request, UsageFault};
 use std::alloc::{AllocError, Global};

@@ -1,6 +1,6 @@
 //! The lines of a text of events, read one after the other.
 
-ghost use Rattle.std.specs.Prelude.{◌≡◌, ℕ, ◌+◌, List, ◌∷◌, IfOk, OnOk, IfErr, None, Some, Ok, bytes_eq, codes};
+ghost use Rattle.std.specs.Prelude.{◌≡◌, ◌≢◌, ℕ, ◌+◌, List, [], ◌∷◌, IfOk, OnOk, IfErr, None, Some, Ok, bytes_eq, codes};
 ghost use Rattle.dimacs.specs.text.Words.{words, words_of};
 ghost use Rattle.icnf.specs.Reading.{read_header};
 ghost use Rattle.sessions.specs.Events.{put_clause, put_query, read_event, read_row, start};
@@ -75,7 +75,8 @@ fn is_mark(word: &[u8]) -> bool
 impl EventLines {
     /// No line was read.
     pub fn new(alloc: Global) -> EventLines
-        ensures { result.progress ≡ start }
+        ensures progress { result.progress ≡ start }
+        ensures literals { result.read.literals ≡ [] }
     {
         EventLines {
             headed: false,
@@ -101,7 +102,8 @@ impl EventLines {
 
     /// A clause was read.
     fn put_clause(&mut self, line: u64) -> Result<Sent, IcnfFault>
-        ensures { GivesRow self.new result (put_clause line self.old.progress self.old.read.literals) }
+        ensures row { GivesRow self.new result (put_clause line self.old.progress self.old.read.literals) }
+        ensures says { IfOk result (λ sent. sent ≡ Sent.Clause) }
     {
         let count = self.literals.as_slice().len();
         if self.clauses >= CLAUSES || count > LITERALS - self.total as usize {
@@ -114,7 +116,8 @@ impl EventLines {
 
     /// A query was read.
     fn put_query(&self, line: u64) -> Result<Sent, IcnfFault>
-        ensures { GivesRow self.now result (put_query line self.now.progress self.now.read.literals) }
+        ensures row { GivesRow self.now result (put_query line self.now.progress self.now.read.literals) }
+        ensures says { IfOk result (λ sent. sent ≡ Sent.Query) }
     {
         if self.literals.as_slice().len() > QUERY {
             return Err(fault(Kind::AboveLimit, line));
@@ -131,7 +134,8 @@ impl EventLines {
         text: &[u8],
     ) -> Result<Sent, IcnfFault>
         requires { words text.now ≡ word.now ∷ words after.now }
-        ensures { GivesRow self.new result (read_event line word.now (words after.now) self.old.progress) }
+        ensures row { GivesRow self.new result (read_event line word.now (words after.now) self.old.progress) }
+        ensures says { IfOk result (λ sent. sent ≢ Sent.Nothing) }
     {
         if is_mark(word) {
             self.literals.read(line, after)?;
@@ -145,7 +149,9 @@ impl EventLines {
     /// is promised of what was read.
     #[tactic(auto, unfolding(crate::specs::Events::read_row))]
     pub fn read(&mut self, line: u64, text: &[u8]) -> Result<Sent, IcnfFault>
-        ensures { GivesRow self.new result (read_row line (words_of text.now) self.old.progress) }
+        ensures row { GivesRow self.new result (read_row line (words_of text.now) self.old.progress) }
+        // a line without an event leaves the literals of the last one
+        ensures kept { IfOk result (λ sent. sent ≡ Sent.Nothing → self.new.read.literals ≡ self.old.read.literals) }
     {
         if is_comment(text) {
             return Ok(Sent::Nothing);
