@@ -1,5 +1,5 @@
 -- Events that are heard line by line.
-use Rattle.std.proofs.Common.{◌≡◌, ◌≢◌, ◌⊎◌, inl, inr, ℕ, ◌+◌, ◌≤◌, max, true, false, Bool, List, [], ◌∷◌, ◌++◌, Option, Some, None, Result, Ok, Err, IfOk, MatchResult, refl, sym, ◌∙◌, ap, subst, arith, append_assoc, append-nil}
+use Rattle.std.proofs.Common.{◌≡◌, ◌≢◌, inl, inr, ℕ, ◌+◌, ◌≤◌, max, true, false, Bool, List, [], ◌∷◌, ◌++◌, Option, Some, None, Result, Ok, Err, IfOk, MatchResult, refl, sym, ◌∙◌, ap, subst, arith, append_assoc, append-nil}
 use Rattle.std.specs.List.{All}
 use Rattle.std.specs.Prelude.{if◌then◌else◌}
 use Rattle.std.proofs.Math.Nat.{le-max_left}
@@ -107,9 +107,10 @@ line_within n ws p q sent.Clause ls h = row_within n ws p q (Given ls) h
 line_within n ws p q sent.Query ls h = row_within n ws p q (Asked ls) h
 
 -- so the greatest variable stays within them
-pub greatest_few : (says : Sent) (ls read : List Literal) (n m : ℕ) → (says ≡ sent.Clause) ⊎ (says ≡ sent.Query) → AreWithin says ls → read ≡ ls → m ≡ max (greatest_of read) n → n ≤ 1000000 → m ≤ 1000000
-greatest_few says ls read n m (inl e) h same is few = omega (arith, is, few, ap greatest_of same, greatest_within ls (subst (λ (s : Sent). AreWithin s ls) e h))
-greatest_few says ls read n m (inr e) h same is few = omega (arith, is, few, ap greatest_of same, greatest_within ls (subst (λ (s : Sent). AreWithin s ls) e h))
+pub greatest_few : (says : Sent) (ls read : List Literal) (n m : ℕ) → says ≢ sent.Nothing → AreWithin says ls → read ≡ ls → m ≡ max (greatest_of read) n → n ≤ 1000000 → m ≤ 1000000
+greatest_few sent.Nothing ls read n m some h same is few = absurd (some refl)
+greatest_few sent.Clause ls read n m some h same is few = omega (arith, is, few, ap greatest_of same, greatest_within ls h)
+greatest_few sent.Query ls read n m some h same is few = omega (arith, is, few, ap greatest_of same, greatest_within ls h)
 
 -- and they are literals of variables up to it
 pub line_waits : (says : Sent) (ls : List Literal) (n m : ℕ) → AreWithin says ls → m ≡ counted says ls n → IsWaiting says m ls
