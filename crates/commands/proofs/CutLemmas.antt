@@ -1,12 +1,12 @@
 -- An answer over the variables of the events alone is right, as the one over all variables of the session is.
-use Rattle.std.proofs.Common.{◌≡◌, ℕ, ◌-◌, ◌<◌, ◌≤◌, Bool, false, not, List, [], ◌∷◌, length, take, sym, ◌∙◌, ap, arith}
-use Rattle.std.specs.List.{All, Contains}
+use Rattle.std.proofs.Common.{◌≡◌, ℕ, ◌-◌, ◌<◌, ◌≤◌, Bool, false, not, List, [], ◌∷◌, take, ◌∙◌, ap, arith}
+use Rattle.std.specs.List.{All}
 use Rattle.std.proofs.lemmas.List.{get_or-take, length-take-le}
 use Rattle.std.proofs.lemmas.List.Elements.{All-cons, All-contains, All-head, All-nil, All-tail}
 use Rattle.std.proofs.Math.Nat.{le-max_left, le-max_right}
 use Rattle.dimacs.specs.logic.Cnf.{AreWithin, assignment_of, greatest_of}
 use Rattle.dimacs.specs.logic.Literal.{Literal, Pos, Neg, Clause, IsTrueIn, IsWithin, literal_true, var_of}
-use Rattle.cube_solve.specs.Session.{IsRightAnswer, IsSolution}
+use Rattle.cube_solve.specs.Session.{IsRightAnswer}
 use Rattle.cube_solve.specs.declared.answer.Answer.{Answer}
 use Rattle.cube_solve.specs.declared.answer.Answer.TheVariants as answer
 use Rattle.sessions.specs.Answers.{Event, Given, Asked}

@@ -8,6 +8,7 @@ mod FeedLemmas
 mod JoinLemmas
 mod KnownLemmas
 mod LiftLemmas
+mod LineLemmas
 mod ListedLemmas
 mod ListingLemmas
 mod ModelLemmas

@@ -143,7 +143,8 @@ impl<B: BufRead + Drop> EventSource<B> {
     /// The event of the last line, if it has one, counts.
     fn count(&mut self, sent: Sent)
         requires { AreWithin sent self.old.lines.read.literals }
-        ensures { self.new ≡ record self.old { greatest = counted sent self.old.lines.read.literals self.old.greatest } }
+        ensures greatest { self.new.greatest ≡ counted sent self.old.lines.read.literals self.old.greatest }
+        ensures same { self.new ≡ record self.old { greatest = self.new.greatest; few = self.new.few } }
     {
         match sent {
             Sent::Nothing => {}
