@@ -83,7 +83,7 @@ running_clause all remaining has C x s t r stands =
     }
 
 -- a query was answered, and the answer printed
-pub running_query : {B P : Type 0} (all : Option (List ℕ)) (remaining : B → Option (List ℕ)) (has after : List ℕ → List Moment → Type 0) (A : List Literal) (a : Answer) (m : Moment) (x y : Run B) (s t : Session P)
+unfoldable pub running_query : {B P : Type 0} (all : Option (List ℕ)) (remaining : B → Option (List ℕ)) (has after : List ℕ → List Moment → Type 0) (A : List Literal) (a : Answer) (m : Moment) (x y : Run B) (s t : Session P)
     (r : IsRunning all remaining has (Some (Asked A)) x s) → y.events ≡ x.events → y.asking ≡ x.asking → y.status ≡ status_of a
     → Stands (r.events ++ Asked A ∷ []) (told_all r.answers ++ told_of a ∷ []) m.proof t → IsAnswered x.asking r.events A (told_all r.answers) a m → after m.proof (r.moments ++ m ∷ [])
     → IsRunning all remaining after None y t

@@ -1,8 +1,10 @@
+mod AnswerLemmas
 mod AnsweringLemmas
 mod ClosedLemmas
 mod CoreLemmas
 mod CoverLemmas
 mod CutLemmas
+mod EndingLemmas
 mod EventLemmas
 mod FeedLemmas
 mod JoinLemmas

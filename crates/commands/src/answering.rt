@@ -1,6 +1,6 @@
 //! `session`: queries are answered between clauses, while these come.
 
-ghost use Rattle.std.specs.Prelude.{◌≡◌, ◌<◌, ◌≤◌, ◌++◌, ℕ, List, [], Option, IfOk, IfErr, MatchResult, OnErr, OnOk};
+ghost use Rattle.std.specs.Prelude.{◌≡◌, ◌<◌, ◌≤◌, ◌++◌, ℕ, List, [], Option, IfOk, IfErr, OnErr, OnOk};
 ghost use Rattle.commands.specs.Known.{Of};
 ghost use Rattle.commands.specs.Refusals.{IsRefusedAs, IsUnread, IsWanting};
 ghost use Rattle.commands.specs.SessionMoments.{Ends, EndsAs, IsLeft, Moment};
@@ -111,14 +111,21 @@ impl<B: BufRead + Drop> Run<B> {
         ensures same { self.new.events ≡ self.old.events }
         ensures asking { self.new.asking ≡ self.old.asking }
         ensures goes { (all : Option (List ℕ)) → IsRunning all B.remaining (O.has outputs.old) (event_of Sent.Query self.old.events.lines.read.literals) self.old session.old
-            → MatchResult result (λ b. IsPaused all B.remaining (O.has outputs.new) b self.new session.new) (λ _. IsLeftOf all (O.has outputs.new) self.old.asking) }
+            → IfOk result (λ b. IsPaused all B.remaining (O.has outputs.new) b self.new session.new) }
+        ensures left { (all : Option (List ℕ)) → IsRunning all B.remaining (O.has outputs.old) (event_of Sent.Query self.old.events.lines.read.literals) self.old session.old
+            → OnErr result (IsLeftOf all (O.has outputs.new) self.old.asking) }
         ensures refused { IfErr result (IsRefusedAs Refusal.Writing) }
     {
-        let asked = session.answer(self.events.literals(), self.asking.limit);
-        let answer = asked.map_err(out_of_memory)?;
+        let answer = match session.answer(self.events.literals(), self.asking.limit) {
+            Ok(answer) => answer,
+            Err(error) => return Err(out_of_memory(error)),
+        };
         let vars = self.events.greatest();
         self.text.clear();
-        put_answer(&mut self.text, &answer, vars, self.asking.witness).map_err(out_of_memory)?;
+        match put_answer(&mut self.text, &answer, vars, self.asking.witness) {
+            Ok(()) => {}
+            Err(error) => return Err(out_of_memory(error)),
+        }
         hand_out(session, outputs)?;
         self.status = status_of(&answer);
         Ok(outputs.print(&self.text))
@@ -139,15 +146,17 @@ impl<B: BufRead + Drop> Run<B> {
         ensures same { self.new.events ≡ self.old.events }
         ensures asking { self.new.asking ≡ self.old.asking }
         ensures goes { (all : Option (List ℕ)) → IsRunning all B.remaining (O.has outputs.old) (event_of sent self.old.events.lines.read.literals) self.old session.old
-            → MatchResult result (λ b. IsPaused all B.remaining (O.has outputs.new) b self.new session.new) (λ _. IsLeftOf all (O.has outputs.new) self.old.asking) }
+            → IfOk result (λ b. IsPaused all B.remaining (O.has outputs.new) b self.new session.new) }
+        ensures left { (all : Option (List ℕ)) → IsRunning all B.remaining (O.has outputs.old) (event_of sent self.old.events.lines.read.literals) self.old session.old
+            → OnErr result (IsLeftOf all (O.has outputs.new) self.old.asking) }
         ensures refused { IfErr result (IsRefusedAs Refusal.Writing) }
     {
         match sent {
             Sent::Nothing => Ok(true),
-            Sent::Clause => {
-                session.give(self.events.literals()).map_err(out_of_memory)?;
-                Ok(true)
-            }
+            Sent::Clause => match session.give(self.events.literals()) {
+                Ok(()) => Ok(true),
+                Err(error) => Err(out_of_memory(error)),
+            },
             Sent::Query => self.answer(session, outputs),
         }
     }
@@ -169,7 +178,9 @@ impl<B: BufRead + Drop> Run<B> {
         ensures waits { IfOk result (Waits vars self.new.events.greatest self.new.events.lines.read.literals) }
         ensures asking { self.new.asking ≡ self.old.asking }
         ensures goes { (all : Option (List ℕ)) → IsRunning all B.remaining (O.has outputs.old) (event_of first self.old.events.lines.read.literals) self.old session.old
-            → MatchResult result (λ pause. CanRun all B.remaining (O.has outputs.new) pause self.new session.new) (λ _. IsLeftOf all (O.has outputs.new) self.old.asking) }
+            → IfOk result (λ pause. CanRun all B.remaining (O.has outputs.new) pause self.new session.new) }
+        ensures left { (all : Option (List ℕ)) → IsRunning all B.remaining (O.has outputs.old) (event_of first self.old.events.lines.read.literals) self.old session.old
+            → OnErr result (IsLeftOf all (O.has outputs.new) self.old.asking) }
         ensures refused { IfErr result (IsUnread Refusal.Input Refusal.Writing) }
     {
         let mut sent = first;
@@ -205,7 +216,9 @@ impl<B: BufRead + Drop> Run<B> {
         requires waits { IsWaiting first self.old.events.greatest self.old.events.lines.read.literals }
         ensures asking { self.new.asking ≡ self.old.asking }
         ensures goes { (all : Option (List ℕ)) → IsRunning all B.remaining (O.has outputs.old) (event_of first self.old.events.lines.read.literals) self.old session.entry
-            → MatchResult result (EndsSo all (O.has outputs.new) self.new.asking self.new.status) (λ _. IsLeftOf all (O.has outputs.new) self.old.asking) }
+            → IfOk result (EndsSo all (O.has outputs.new) self.old.asking self.new.status) }
+        ensures left { (all : Option (List ℕ)) → IsRunning all B.remaining (O.has outputs.old) (event_of first self.old.events.lines.read.literals) self.old session.entry
+            → OnErr result (IsLeftOf all (O.has outputs.new) self.old.asking) }
         ensures refused { IfErr result (IsUnread Refusal.Input Refusal.Writing) }
     {
         match self.take_lines(&mut session, outputs, vars, first)? {
@@ -217,8 +230,10 @@ impl<B: BufRead + Drop> Run<B> {
             Pause::Outgrown(sent) => {
                 let more = grown_to(vars, self.events.greatest());
                 let mut watched = Watched::new(alloc);
-                let grown = session.grown(&mut watched, more).map_err(out_of_memory)?;
-                self.go_on(alloc, grown, outputs, more, sent)
+                match session.grown(&mut watched, more) {
+                    Ok(grown) => self.go_on(alloc, grown, outputs, more, sent),
+                    Err(error) => Err(out_of_memory(error)),
+                }
             }
         }
     }
@@ -267,7 +282,10 @@ pub fn answer_session<B: BufRead + Drop, O: Outputs>(
         text: Vec::new(alloc),
     };
     let mut watched = Watched::new(alloc);
-    let session = Session::new(alloc, &mut watched, FIRST).map_err(out_of_memory)?;
+    let session = match Session::new(alloc, &mut watched, FIRST) {
+        Ok(session) => session,
+        Err(error) => return Err(out_of_memory(error)),
+    };
     let ended = run.go_on(alloc, session, outputs, FIRST, Sent::Nothing)?;
     report_of(alloc, ended, run.status)
 }
