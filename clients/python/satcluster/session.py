@@ -1,0 +1,152 @@
+"""A running `satcluster session`: lines go in, answers come out."""
+import os
+import subprocess
+import threading
+from typing import List, NamedTuple, NoReturn, Optional
+
+from .program import SolverError
+
+PATIENCE = 60  # seconds that a program has to end once its input has ended
+ENOUGH = 1 << 16  # bytes that are sent at once
+LETTERS = {b"s SATISFIABLE\n": b"v", b"s UNSATISFIABLE\n": b"f"}
+
+
+class Reply(NamedTuple):
+    """status: True, False, or None after `s UNKNOWN`; literals: the model's, or the core's."""
+
+    status: Optional[bool]
+    literals: List[int]
+
+
+class Session:
+    """The program, and the file to which what it is sent goes first.
+
+    The program prints nothing but answers, so lines can be sent without reading: a pipe that is
+    full is one whose other end is at work, or has gone. Whatever is raised while an answer is
+    awaited ends the program, since the next answer would be taken for this one.
+    """
+
+    def __init__(self, program: str, limit: int, events: Optional[str],
+                 proof: Optional[str]) -> None:
+        self._events = open(events, "wb") if events is not None else None
+        self._waiting = ["p inccnf\n"]
+        self._length = 0  # of what waits, about
+        self._line = b""  # the last one that was read
+        words = [program, "session", "--limit", str(limit), "-"]
+        try:
+            self._process = subprocess.Popen(words + ([proof] if proof is not None else []),
+                                             stdin=subprocess.PIPE, stdout=subprocess.PIPE)
+        except OSError as why:
+            self._close_events()
+            raise SolverError("%s cannot be run: %s" % (program, why)) from why
+        self.sent = 0  # bytes of the events
+        self.is_open = True
+
+    @property
+    def pid(self) -> int:
+        return self._process.pid
+
+    def add(self, lines: str) -> None:
+        """Takes lines, each with its LF, which are sent with others."""
+        self._waiting.append(lines)
+        self._length += len(lines)
+        if self._length >= ENOUGH:
+            self._send()
+
+    def ask(self, line: str) -> Reply:
+        """Sends a query, and waits for its answer."""
+        try:
+            self._waiting.append(line)
+            self._send()
+            return self._reply()
+        except BaseException:
+            self.kill()
+            raise
+
+    def close(self) -> None:
+        """Sends what is left, and waits for the program to end."""
+        if not self.is_open:
+            return
+        try:
+            self._send()
+        except SolverError:
+            pass  # no answer was waited for
+        finally:
+            self._end()
+
+    def kill(self) -> None:
+        self._process.kill()
+        self._end()
+
+    def _send(self) -> None:
+        data = "".join(self._waiting).encode("ascii")
+        self._waiting, self._length = [], 0
+        if not self.is_open:
+            raise SolverError("the session has ended", self._last(), self._process.returncode)
+        if self._events is not None:
+            self._events.write(data)
+            self._events.flush()
+        self.sent += len(data)
+        left = memoryview(data)
+        try:
+            while left:
+                left = left[os.write(self._process.stdin.fileno(), left):]
+        except BrokenPipeError:
+            self._died()
+
+    def _read(self) -> bytes:
+        line = self._process.stdout.readline()
+        if line[:1] == b"c" or line[-1:] != b"\n":
+            self._line = line or self._line
+            self._died()
+        self._line = line
+        return line
+
+    def _reply(self) -> Reply:
+        line = self._read()
+        if line == b"s UNKNOWN\n":
+            return Reply(None, [])
+        letter = LETTERS.get(line)
+        literals: List[int] = []
+        while letter is not None:
+            words = self._read().split()
+            if words[:1] != [letter] or len(words) == 1:
+                break
+            literals += map(int, words[1:])
+            if literals[-1] == 0:
+                literals.pop()
+                return Reply(letter == b"v", literals)
+        self._process.kill()
+        self._died()
+
+    def _died(self) -> NoReturn:
+        """Raises what the program has left: its last line and its status."""
+        self._end()
+        status, line = self._process.returncode, self._last()
+        how = "ended by signal %d" % -status if status < 0 else "ended with status %d" % status
+        last = "its last line is: " + line if line else "it has printed nothing"
+        raise SolverError("the solver has %s; %s" % (how, last), line, status)
+
+    def _last(self) -> str:
+        return self._line.decode("ascii", "replace").rstrip("\n")
+
+    def _end(self) -> None:
+        """Closes the program's input, reads to its end what it prints, and waits for it."""
+        if not self.is_open:
+            return
+        self.is_open = False
+        timer = threading.Timer(PATIENCE, self._process.kill)
+        timer.start()
+        try:
+            self._process.stdin.close()
+            for line in self._process.stdout:
+                self._line = line
+            self._process.wait()
+        finally:
+            timer.cancel()
+            self._process.stdout.close()
+            self._close_events()
+
+    def _close_events(self) -> None:
+        if self._events is not None:
+            self._events.close()
