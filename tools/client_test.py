@@ -194,6 +194,7 @@ class Answers(Case):
         self.is_verified(solver, 1)
         self.assertRaises(ValueError, Solver, limit=0)
         self.assertRaises(ValueError, Solver, records=False, proof=self.at("proof"))
+        self.assertRaises(ValueError, Solver, events=self.at("one"), proof=self.at("one"))
 
     def test_limited(self) -> None:
         """A budget that is used up is no answer. What was learnt stays, and what follows is right.
@@ -318,6 +319,14 @@ class Ends(Case):
         self.assertRaises(OSError, Solver, events=self.at("none/events"))
         self.assertRaises(ValueError, Solver, [[1], [0]])
 
+    def test_full_disk(self) -> None:
+        """What was not sent as a whole is not asked about."""
+        solver = self.solver([[1]], events="/dev/full")
+        self.assertRaises(OSError, solver.append_formula, [[1, 2, 3]] * 100000)
+        self.fails("the session has ended", solver.solve)
+        solver = self.solver([[1]], proof="/dev/full")
+        self.fails("c cannot write proof", solver.solve)
+
     def test_full_pipe(self) -> None:
         """One that reads nothing lets a writer wait, and its end is told as that, not as EPIPE."""
         program = self.script("echo c cannot read input\nsleep 0.5\nexit 1\n")
@@ -329,7 +338,9 @@ class Ends(Case):
         """What is no answer is taken for none."""
         for lines, last in (("s SATISFIABLE", "s SATISFIABLE"), ("s SATISFIABLE\nf 1 0", "f 1 0"),
                             ("s SATISFIABLE\nv 1", "v 1"), ("s UNSATISFIABLE\nv 1 0", "v 1 0"),
-                            ("s SATISFIABLE\nv", "v"), ("hello", "hello"), ("", "")):
+                            ("s SATISFIABLE\nv", "v"), ("hello", "hello"), ("", ""),
+                            ("s SATISFIABLE\nv x 0", "v x 0"), ("s UNKNOWN\ns S", "s S"),
+                            ("s SATISFIABLE\nv 1\nv 0 2 0", "v 0 2 0")):
             printed = lines + "\n" if lines else ""
             program = self.script("cat > /dev/null &\nprintf '%s'\n" % printed)
             error = self.fails("the solver has ended", self.solver(program=program).solve)

@@ -18,17 +18,24 @@ class Reply(NamedTuple):
     literals: List[int]
 
 
+def _write(descriptor: int, data: bytes) -> None:
+    left = memoryview(data)
+    while left:
+        left = left[os.write(descriptor, left):]
+
+
 class Session:
     """The program, and the file to which what it is sent goes first.
 
     The program prints nothing but answers, so lines can be sent without reading: a pipe that is
-    full is one whose other end is at work, or has gone. Whatever is raised while an answer is
-    awaited ends the program, since the next answer would be taken for this one.
+    full is one whose other end is at work, or has gone. Whatever is raised while lines are sent or
+    an answer is awaited ends the program: it may have a part of a line, and its next answer would
+    be taken for this one.
     """
 
     def __init__(self, program: str, limit: int, events: Optional[str],
                  proof: Optional[str]) -> None:
-        self._events = open(events, "wb") if events is not None else None
+        self._events = open(events, "wb", buffering=0) if events is not None else None
         self._waiting = ["p inccnf\n"]
         self._length = 0  # of what waits, about
         self._line = b""  # the last one that was read
@@ -55,9 +62,9 @@ class Session:
 
     def ask(self, line: str) -> Reply:
         """Sends a query, and waits for its answer."""
+        self._waiting.append(line)
+        self._send()
         try:
-            self._waiting.append(line)
-            self._send()
             return self._reply()
         except BaseException:
             self.kill()
@@ -83,18 +90,19 @@ class Session:
         self._waiting, self._length = [], 0
         if not self.is_open:
             raise SolverError("the session has ended", self._last(), self._process.returncode)
-        if self._events is not None:
-            self._events.write(data)
-            self._events.flush()
-        self.sent += len(data)
-        left = memoryview(data)
         try:
-            while left:
-                left = left[os.write(self._process.stdin.fileno(), left):]
+            if self._events is not None:
+                _write(self._events.fileno(), data)
+            self.sent += len(data)
+            _write(self._process.stdin.fileno(), data)
         except BrokenPipeError:
             self._died()
+        except BaseException:
+            self.kill()
+            raise
 
     def _read(self) -> bytes:
+        """The next line of an answer. A `c` line tells why there is none."""
         line = self._process.stdout.readline()
         if line[:1] == b"c" or line[-1:] != b"\n":
             self._line = line or self._line
@@ -103,21 +111,24 @@ class Session:
         return line
 
     def _reply(self) -> Reply:
+        """One answer, with the literals of its `v` or `f` lines, which end with 0."""
         line = self._read()
         if line == b"s UNKNOWN\n":
             return Reply(None, [])
         letter = LETTERS.get(line)
         literals: List[int] = []
-        while letter is not None:
-            words = self._read().split()
-            if words[:1] != [letter] or len(words) == 1:
-                break
-            literals += map(int, words[1:])
-            if literals[-1] == 0:
-                literals.pop()
-                return Reply(letter == b"v", literals)
-        self._process.kill()
-        self._died()
+        try:
+            while letter is not None and 0 not in literals[-1:]:
+                words = self._read().split()
+                letter = letter if words[:1] == [letter] and len(words) > 1 else None
+                literals += map(int, words[1:])
+        except ValueError:
+            letter = None
+        if letter is None or 0 in literals[:-1]:
+            self._process.kill()
+            self._died()
+        literals.pop()
+        return Reply(letter == b"v", literals)
 
     def _died(self) -> NoReturn:
         """Raises what the program has left: its last line and its status."""

@@ -46,6 +46,8 @@ class Solver:
         self._files: Optional[Tuple[str, str]] = None
         if records:
             self._files = self._path(events, "events.icnf"), self._path(proof, "proof.lidrup")
+            if self._files[0] == self._files[1]:
+                raise ValueError("events and proof are two files")
         self._limit = limit
         self._variables = 0
         self._answered = 0  # bytes of the events up to the last answer
