@@ -1,38 +1,35 @@
 -- Searches by one session, and what they leave in its log.
-use Rattle.std.proofs.Common.{◌≡◌, ◌≢◌, ℕ, ◌+◌, ◌<◌, ◌≤◌, inl, inr, Bool, true, false, ◌&&◌, List, [], ◌∷◌, ◌++◌, length, map, get_or, nat_eq, Option, Some, None, codes, refl, sym, ◌∙◌, ap, subst, arith, append_assoc}
-use Rattle.std.specs.FinMap.{get, insert, from_entries}
+use Rattle.std.proofs.Common.{◌≡◌, ℕ, ◌+◌, ◌≤◌, inl, inr, Bool, true, false, ◌&&◌, List, [], ◌∷◌, ◌++◌, length, map, get_or, nat_eq, Some, refl, sym, ◌∙◌, ap, subst, arith, append_assoc}
+use Rattle.std.specs.FinMap.{insert}
 use Rattle.std.specs.List.{All, Contains, IsDistinct}
-use Rattle.std.specs.Prelude.{IsSome}
 use Rattle.std.proofs.lemmas.List.{append-nil}
-use Rattle.std.proofs.lemmas.List.Elements.{All-contains, All-nil, All-weaker, Contains-append_left, Contains-append_right, Contains-push_cases}
+use Rattle.std.proofs.lemmas.List.Elements.{All-contains, All-weaker, Contains-append_left, Contains-append_right, Contains-push_cases}
 use Rattle.dimacs.specs.logic.ClauseMap.{ClauseMap, live_in, map_of}
 use Rattle.dimacs.specs.logic.Cnf.{Cnf, assignment_of}
-use Rattle.dimacs.specs.logic.Literal.{Clause, Literal, IsTautology, IsTrueIn, IsWithin, has, negation, var_of}
+use Rattle.dimacs.specs.logic.Literal.{Clause, Literal, IsTautology, IsTrueIn, IsWithin, negation, var_of}
 use Rattle.dimacs.specs.logic.Propagation.{Rup}
 use Rattle.dimacs.proofs.LiteralLemmas.{IsWithin-negation, negation-negation}
 use Rattle.dimacs.proofs.Members.{Contains-cons, Contains-cons_cases, Contains-has, Contains-head, Contains-nil}
 use Rattle.icnf.specs.Leaves.{Cube}
-use Rattle.cube_solve.specs.Outcome.{IsModel}
 use Rattle.cube_solve.specs.Session.{AreGiven, IfUnknown, IsRightAnswer, last_of, log_of, vars_of}
-use Rattle.cube_solve.specs.Telling.{AreRightSteps, HasFailed, IsFailure, IsKnown, Tells, TellsOn}
+use Rattle.cube_solve.specs.Telling.{HasFailed, IsFailure, IsKnown, Tells, TellsOn}
 use Rattle.cube_solve.specs.declared.answer.Answer.{Answer}
 use Rattle.cube_solve.specs.declared.answer.Answer.TheVariants as answer
-use Rattle.cube_solve.specs.declared.answer.Failure.{Failure}
 use Rattle.cube_solve.specs.declared.session.Session.{Session}
 use Rattle.cube_solve.proofs.SearchLemmas.{cube_sound}
 use Rattle.gathering.specs.Closing.{closes}
 use Rattle.gathering.proofs.PlacedLemmas.{log_top}
-use Rattle.lrat_text.specs.Grammar.{IsClauseNumber, IsGroup, IsStep, LineSpells}
-use Rattle.lrat_text.specs.Log.{AreLogSteps, EndsAt, additions}
+use Rattle.lrat_text.specs.Grammar.{IsClauseNumber, IsStep, LineSpells}
+use Rattle.lrat_text.specs.Log.{AreLogSteps, additions}
 use Rattle.lrat_text.specs.Runs.{after_steps, text_of, top_of}
 use Rattle.lrat_text.specs.Writing.{line_of, line_text}
 use Rattle.lrat_text.specs.declared.step.Step.{Step}
-use Rattle.lrat_text.specs.declared.step.Step.TheVariants.{Add, Delete}
+use Rattle.lrat_text.specs.declared.step.Step.TheVariants.{Add}
 use Rattle.lrat_text.proofs.ClauseMapLemmas.{get_here, get_other}
 use Rattle.lrat_text.proofs.LineLemmas.{written_one_line, written_spells}
 use Rattle.lrat_text.proofs.RunLemmas.{after_append, log_append, spells_append, top_append}
 use Rattle.leaves.specs.Turns.{Closed, Limit}
-use Rattle.leaves.specs.inner.Turns.{AreMarked, FollowsAll, HasEnded, HaveLines, IsAnswered, IsShort, Says, Searched, Stands}
+use Rattle.leaves.specs.inner.Turns.{AreMarked, FollowsAll, HasEnded, HaveLines, IsAnswered, Says, Stands}
 use Rattle.leaves.specs.declared.searching.Searches.{Searches}
 use Rattle.leaves.proofs.MarkingLemmas.{all_of, lines_of, log_marked, marked_more, stays, text_spells}
 

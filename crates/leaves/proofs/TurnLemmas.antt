@@ -1,25 +1,21 @@
 -- Searches under leaves in turn, which write one log.
-use Rattle.std.proofs.Common.{◌≡◌, ℕ, zero, suc, ◌+◌, ◌<◌, ◌≤◌, inl, inr, Bool, true, false, ◌&&◌, List, [], ◌∷◌, ◌++◌, length, get_or, Option, Some, None, refl, sym, ◌∙◌, ap, subst, arith, append_assoc, length-append}
+use Rattle.std.proofs.Common.{◌≡◌, ℕ, zero, suc, ◌+◌, ◌<◌, ◌≤◌, Bool, true, false, ◌&&◌, List, [], ◌∷◌, ◌++◌, length, get_or, Option, Some, None, refl, sym, ◌∙◌, ap, subst, arith, append_assoc, length-append}
 use Rattle.std.proofs.lemmas.List.{append-nil}
 use Rattle.std.proofs.lemmas.List.Elements.{Contains-append_left, Contains-append_right}
 use Rattle.std.proofs.lemmas.List.Folds.{list_all-append}
 use Rattle.std.proofs.lemmas.Option.{slice_get-get_or}
 use Rattle.std.specs.Prelude.{if◌then◌else◌}
-use Rattle.std.specs.List.{Contains, list_all}
-use Rattle.cube_solve.specs.Outcome.{IsModel}
+use Rattle.std.specs.List.{list_all}
 use Rattle.dimacs.specs.logic.Cnf.{Cnf}
 use Rattle.dimacs.specs.logic.Literal.{Clause}
 use Rattle.dimacs.specs.text.Answer.{satisfied_lines}
-use Rattle.gathering.specs.Closing.{closes}
-use Rattle.gathering.specs.Gathering.{ClosesLeaf}
 use Rattle.icnf.specs.Leaves.{Cube}
 use Rattle.lrat_text.specs.declared.step.Step.{Step}
 use Rattle.reports.specs.declared.report.Report.{Report}
-use Rattle.leaves.specs.Joining.{ClosesAsLog}
 use Rattle.leaves.specs.Leaf.{leaf_at}
 use Rattle.leaves.specs.Refuting.{Hands, closed_line, limit_line, shown}
-use Rattle.leaves.specs.Turns.{AreSearched, ClosesAll, ClosesTold, Ending, Closed, Limit, FindsModel, IsEnded, IsLogOf, IsModelAt, IsSearched, SearchesAll, all_parts, all_told, is_closed, own_part, told}
-use Rattle.leaves.specs.inner.Turns.{AreClosedBy, AreDone, EndsTurn, HasEnded, IsClosedBy, IsTold, Searched, Stands, TakesTurn, Turned}
+use Rattle.leaves.specs.Turns.{AreSearched, ClosesAll, ClosesTold, Ending, Closed, Limit, FindsModel, IsLogOf, IsModelAt, IsSearched, SearchesAll, all_parts, all_told, is_closed, own_part, told}
+use Rattle.leaves.specs.inner.Turns.{AreClosedBy, AreDone, IsClosedBy, IsTold, Searched, Stands, TakesTurn, Turned}
 use Rattle.leaves.specs.declared.refuting.Search as settings
 use Rattle.leaves.specs.declared.searching.Found.{Found}
 use Rattle.leaves.specs.declared.searching.Found.TheVariants as found

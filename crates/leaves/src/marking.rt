@@ -1,4 +1,7 @@
 //! Marks of the lemmas that are live in a log.
+//!
+//! A log deletes lemmas alone, each while it is live. A session does not promise it of its lines, so they are tested as they are taken
+//! over.
 
 ghost use Rattle.std.specs.Prelude.{◌≡◌, ℕ, List, true, false, MatchBool, IsTrue, Ok, IfOk, OnOk, length, slice_index_or, slice_set};
 ghost use Rattle.leaves.specs.inner.Turns.{Follows, FollowsAll, HaveLines, Unmarks};
@@ -37,7 +40,7 @@ fn unmark_all(live: &mut Vec<bool>, ids: &[u64]) -> bool
     true
 }
 
-/// Follows a step. A number is deleted once, and only a lemma's.
+/// Follows a step. There is an error where a number is deleted that is no live lemma's.
 fn follow(live: &mut Vec<bool>, step: StepRef<'_>) -> Result<(), AllocError>
     ensures { OnOk result (Follows (step_of step.entry) live.old.items live.new.items) }
 {
@@ -56,11 +59,7 @@ fn follow(live: &mut Vec<bool>, step: StepRef<'_>) -> Result<(), AllocError>
 }
 
 /// Follows the line of a log.
-fn follow_line(
-    live: &mut Vec<bool>,
-    step: &mut StepBuffer,
-    line: &[u8],
-) -> Result<(), AllocError>
+fn follow_line(live: &mut Vec<bool>, step: &mut StepBuffer, line: &[u8]) -> Result<(), AllocError>
     ensures { OnOk result ((s : Step) → step_in line.now ≡ Ok s → Follows s live.old.items live.new.items) }
 {
     if read_line(step, line).is_err() {

@@ -91,6 +91,23 @@ fn put_lemma(
     )
 }
 
+/// How many bytes of a text are unpacked at a time.
+const PIECE: usize = 1 << 16;
+
+/// Appends a text, piece by piece.
+fn append(alloc: Global, log: &mut PackedText, more: &PackedText) -> Result<(), AllocError>
+    ensures { OnOk result (log.new ≡ log.old ++ more.now) }
+{
+    let mut from = 0;
+    'pieces: while from < more.len() {
+        let count = PIECE.min(more.len() - from);
+        let piece = more.read(alloc, from, count)?;
+        log.extend(&piece)?;
+        from += count;
+    }
+    Ok(())
+}
+
 impl<'a, P: Propagator> Searches<'a, P> {
     /// Nothing was searched yet.
     pub(crate) fn new(
@@ -125,8 +142,7 @@ impl<'a, P: Propagator> Searches<'a, P> {
     {
         let lines = self.session.take_log();
         follow_lines(alloc, &mut self.live, &lines)?;
-        let text = lines.to_text(alloc)?;
-        self.log.extend(&text)
+        append(alloc, &mut self.log, &lines)
     }
 
     /// Asks for an assignment under a cube, and takes over the lines of what was learnt.

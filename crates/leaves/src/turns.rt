@@ -47,11 +47,7 @@ fn tell(out: &mut Vec<u8>, leaf: u64, end: &[u8], quiet: bool) -> Result<(), All
 
 impl<'a, P: Propagator> Turns<'a, P> {
     /// No leaf was searched yet.
-    fn of(
-        alloc: Global,
-        propagator: &'a mut P,
-        split: &Split,
-    ) -> Result<Turns<'a, P>, AllocError>
+    fn of(alloc: Global, propagator: &'a mut P, split: &Split) -> Result<Turns<'a, P>, AllocError>
         requires { P.attached propagator.old ≡ [] }
         ensures ready { IfOk result (λ t. IsReady P.is_ready P.attached t.searches.session) }
         ensures stands { IfOk result (λ t. Stands split.now.formula [] [] t.searches) }

@@ -1,4 +1,4 @@
-use Rattle.std.proofs.Common.{◌+◌, [], arith}
+use Rattle.std.proofs.Common.{[], arith}
 use Rattle.dimacs.proofs.Members.{Contains-nil}
 use Rattle.leaves.proofs.SearchingLemmas.{begins}
 use Rattle.leaves.proofs.searching.Searches.new.Goals as goal

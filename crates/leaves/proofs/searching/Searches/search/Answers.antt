@@ -1,4 +1,4 @@
-use Rattle.std.proofs.Common.{ℕ, ◌++◌, ◌∷◌, [], List, map, subst}
+use Rattle.std.proofs.Common.{◌++◌, ◌∷◌, [], map, subst}
 use Rattle.cube_solve.specs.Session.{last_of}
 use Rattle.cube_solve.specs.declared.answer.Answer.{Answer}
 use Rattle.dimacs.specs.logic.ClauseMap.{map_of}
