@@ -9,7 +9,8 @@ were spent for 13.
 
 The halves take longer together than the leaf, as a rule, so a leaf is cut late: with 16 cores
 rand3-350 took 16.8 s for 13.6 in a simulation where each was cut that ran when a core was idle.
-With Slurm (`engines.py`) the halves are an array of their own.
+With Slurm (`engines.py`) the halves are an array of their own. A block of several leaves is not cut:
+what its job has learnt would be lost, so blocks are smaller towards the end.
 """
 import time
 from typing import List, Optional
