@@ -24,7 +24,7 @@ use Rattle.lrat_text.specs.Log.{AreLogSteps, additions}
 use Rattle.lrat_text.specs.Runs.{after_steps, text_of, top_of}
 use Rattle.lrat_text.specs.Writing.{line_of, line_text}
 use Rattle.lrat_text.specs.declared.step.Step.{Step}
-use Rattle.lrat_text.specs.declared.step.Step.TheVariants.{Add}
+use Rattle.lrat_text.specs.declared.step.Step.TheVariants.{Add, Delete}
 use Rattle.lrat_text.proofs.ClauseMapLemmas.{get_here, get_other}
 use Rattle.lrat_text.proofs.LineLemmas.{written_one_line, written_spells}
 use Rattle.lrat_text.proofs.RunLemmas.{after_append, log_append, spells_append, top_append}
@@ -45,25 +45,25 @@ fails_in (answer.Satisfied values) s h given M k = tt
 fails_in (answer.Failed failure) s h given M k = h given M k
 fails_in answer.Unknown s h given M k = tt
 
-says_so : (F : Cnf) (closing : List Clause) (q : Cube) (limit count last new vars : ℕ) (M : ClauseMap) (a : Answer) → vars ≡ F.vars → new ≡ last + count → IsRightAnswer vars (F.clauses ++ closing) q a → IfUnknown a (new ≡ last + limit) → FailsIn M a
+says_so : (F : Cnf) (closing : List Clause) (q : Cube) (limit count last new vars : ℕ) (M : ClauseMap) (a : Answer) → vars ≡ F.vars → new ≡ last + count → IsRightAnswer vars (F.clauses ++ closing) q a → IfUnknown a (new ≡ last + limit) → new ≤ last + limit → FailsIn M a
     → Says F q limit M count a
-says_so F closing q limit count last new vars M (answer.Satisfied values) same grew right unknown fails = record {
+says_so F closing q limit count last new vars M (answer.Satisfied values) same grew right unknown most fails = record {
   whole = right.whole ∙ same;
   base = all_of (IsTrueIn (assignment_of values)) F.clauses (λ C i. All-contains (IsTrueIn (assignment_of values)) (F.clauses ++ closing) C right.clauses (Contains-append_left F.clauses closing C i));
   cube = right.query;
 }
-says_so F closing q limit count last new vars M (answer.Failed failure) same grew right unknown fails = (fails, right.within)
-says_so F closing q limit count last new vars M answer.Unknown same grew right unknown fails = omega arith
+says_so F closing q limit count last new vars M (answer.Failed failure) same grew right unknown most fails = (fails, right.within, omega arith)
+says_so F closing q limit count last new vars M answer.Unknown same grew right unknown most fails = omega arith
 
 module _ {P : Type 0} (F : Cnf) (closing : List Clause) (steps : List Step) (s u : Searches P) where
   -- ---- a query
   pub is_answered : (mid : Session P) (q : Cube) (limit : ℕ) (a : Answer) → TellsOn s.session mid → ((G : List Clause) → AreGiven G s.session → AreGiven G mid) → vars_of mid ≡ vars_of s.session
-      → ((G : List Clause) → AreGiven G s.session → IsRightAnswer (vars_of s.session) G q a) → IfUnknown a (last_of mid ≡ last_of s.session + limit) → HasFailed a mid
+      → ((G : List Clause) → AreGiven G s.session → IsRightAnswer (vars_of s.session) G q a) → IfUnknown a (last_of mid ≡ last_of s.session + limit) → last_of mid ≤ last_of s.session + limit → HasFailed a mid
       → vars_of u.session ≡ vars_of mid → last_of u.session ≡ last_of mid → ((G : List Clause) → AreGiven G mid → AreGiven G u.session)
       → ((given : List ℕ) (M : ClauseMap) → IsKnown given M mid → IsKnown given M u.session) → log_of u.session ≡ [] → u.log ≡ s.log ++ log_of mid
       → ((top : ℕ) (own : List Step) → log_of mid ≡ text_of top own → HaveLines top own → FollowsAll own s.live.items u.live.items)
       → Stands F closing steps s → IsAnswered F closing steps q limit a u
-  is_answered mid q limit a tells gave vars right unknown failed vars_too last gives knows taken log live h =
+  is_answered mid q limit a tells gave vars right unknown most failed vars_too last gives knows taken log live h =
       let m = length F.clauses in
       let M = after_steps (map_of F) steps in
       let top = last_of s.session in
@@ -90,7 +90,7 @@ module _ {P : Type 0} (F : Cnf) (closing : List Clause) (steps : List Step) (s u
           lives = λ C i. let x = h.lives C i in (x.0, x.1, x.2, subst (λ (N : ClauseMap). live_in N x.0 C) (sym after) (stays h.given M top own t.right x.0 x.1 (h.known.before x.0 x.1) C x.3));
         };
         says = subst (λ (N : ClauseMap). Says F q limit N (additions own) a) (sym after)
-            (says_so F closing q limit (additions own) top (last_of mid) (vars_of s.session) (after_steps M own) a h.vars (t.last ∙ log_top m M top own l.0) (right (F.clauses ++ closing) h.held) unknown
+            (says_so F closing q limit (additions own) top (last_of mid) (vars_of s.session) (after_steps M own) a h.vars (t.last ∙ log_top m M top own l.0) (right (F.clauses ++ closing) h.held) unknown most
             (fails_in a mid failed h.given (after_steps M own) t.known));
       }
 
@@ -159,18 +159,23 @@ negating_closes q (l ∷ C) h =
     ap (λ b. b && closes q C) (Contains-has q (negation l) (h l (Contains-head l C)))
     ∙ negating_closes q C (λ k i. h k (Contains-cons l k C i))
 
+one_addition : (own : List Step) (id : ℕ) (C : Clause) (hints : List ℕ) → additions (own ++ Add id C hints [] ∷ []) ≡ additions own + 1
+one_addition [] id C hints = refl
+one_addition (Add n D ns groups ∷ own) id C hints = let r = one_addition own id C hints in omega arith
+one_addition (Delete ids ∷ own) id C hints = one_addition own id C hints
+
 module _ {P : Type 0} (F : Cnf) (closing : List Clause) (steps own : List Step) (q : Cube) (limit : ℕ) (u : Searches P) where
-  pub ends_closed : (core : List Literal) (hints : List ℕ) (id : ℕ) → ((l : Literal) → Contains core l → Contains q l)
+  pub ends_closed : (core : List Literal) (hints : List ℕ) (id : ℕ) → ((l : Literal) → Contains core l → Contains q l) → additions own ≤ limit
       → Stands F (closing ++ map negation core ∷ []) ((steps ++ own) ++ Add id (map negation core) hints [] ∷ []) u
       → HasEnded F closing steps q limit (Closed (own ++ Add id (map negation core) hints [] ∷ [])) u
-  ends_closed core hints id within h =
+  ends_closed core hints id within most h =
       let C = map negation core in
       let step = Add id C hints [] in
       let negates : (l : Literal) → Contains C l → Contains q (negation l) = λ l i. within (negation l) (negated_from core l i) in
       record {
         more = C ∷ [];
         stands = subst (λ (xs : List Step). Stands F (closing ++ C ∷ []) xs u) (append_assoc steps own (step ∷ [])) h;
-        ended = (own, step, refl, negates);
+        ended = ((own, step, refl, negates), (let more = one_addition own id C hints in omega arith));
         closed = (C, Contains-head C [], negating_closes q C negates);
       }
 

@@ -27,10 +27,10 @@ own_part (Limit own) = own
 abbrev pub all_parts : List Ending → List Step
 all_parts endings = flat_map own_part endings
 
--- the part of a leaf that is closed ends with a clause of negations of its cube; that of a search which met its limit has as many lemmas as
--- the limit allows
+-- the part of a leaf that is closed ends with a clause of negations of its cube, behind as many lemmas at most as the limit allows; that of
+-- a search which met its limit has exactly as many
 abbrev pub IsEnded : ℕ → Cube → Ending → Type 0
-IsEnded limit q (Closed own) = EndsAt q own
+IsEnded limit q (Closed own) = EndsAt q own × (additions own ≤ limit + 1)
 IsEnded limit q (Limit own) = additions own ≡ limit
 
 -- there is such a leaf, and its search ended so

@@ -1,5 +1,5 @@
 -- Searches under leaves in turn, from one to the next.
-use Rattle.std.specs.Prelude.{◌≡◌, ℕ, ◌+◌, ◌<◌, Bool, true, false, ◌&&◌, List, [], ◌∷◌, ◌++◌, Option, Some, None, IsSome, length, slice_index_or, slice_set, All, Contains}
+use Rattle.std.specs.Prelude.{◌≡◌, ℕ, ◌+◌, ◌<◌, ◌≤◌, Bool, true, false, ◌&&◌, List, [], ◌∷◌, ◌++◌, Option, Some, None, IsSome, length, slice_index_or, slice_set, All, Contains}
 use Rattle.std.specs.List.{list_all}
 use Rattle.std.specs.FinMap.{get}
 use Rattle.cube_solve.specs.Outcome.{IsModel}
@@ -99,7 +99,7 @@ IsShort vars answer.Unknown = Unit {0}
 -- what an answer says of a cube, where these clauses are live behind so many lemmas more
 abbrev pub Says : Cnf → Cube → ℕ → ClauseMap → ℕ → Answer → Type 0
 Says F q limit M count (answer.Satisfied values) = IsModel F q values
-Says F q limit M count (answer.Failed failure) = IsFailure M failure.core.items failure.hints.items × ((l : Literal) → Contains failure.core.items l → Contains q l)
+Says F q limit M count (answer.Failed failure) = IsFailure M failure.core.items failure.hints.items × ((l : Literal) → Contains failure.core.items l → Contains q l) × (count ≤ limit)
 Says F q limit M count answer.Unknown = count ≡ limit
 
 module _ {P : Type 0} where

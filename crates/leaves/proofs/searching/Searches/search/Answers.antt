@@ -25,7 +25,7 @@ returns-in_ok-close-in-Failed-clause-searched g c = λ F closing steps h.
     let s = subst (λ (x : Answer). Says F q c.args.limit M (additions a.own) x) c.in-Failed.is a.says in
     let id = last_of c.close.new.self.session in (
       a.own ++ Add id (map negation core) hints [] ∷ [],
-      ends_closed F closing steps a.own q c.args.limit c.close.new.self core hints id s.1 (c.in_ok-close-in-Failed.ensures.stands F closing (steps ++ a.own) a.stands (rup_of q core hints M c.requires.distinct s.1 s.0)),
+      ends_closed F closing steps a.own q c.args.limit c.close.new.self core hints id s.1 s.2 (c.in_ok-close-in-Failed.ensures.stands F closing (steps ++ a.own) a.stands (rup_of q core hints M c.requires.distinct s.1 s.0)),
     )
 
 pub returns-in-Unknown-clause-searched : goal.returns-in-Unknown-clause-searched
