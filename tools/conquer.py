@@ -113,7 +113,7 @@ def wrong_words(asked: Namespace) -> Optional[str]:
         return "--recheck FOLDER reads the formula of that run: no other one is named"
     if asked.recheck is None and asked.INPUT is None:
         return "INPUT is missing: no formula is named"
-    if asked.block and block_of(asked) is None:
+    if asked.block and leaves_of_job(asked) is None:
         return ("--block is for our own search by --engine local without --seconds: other jobs take "
                 "one leaf")
     if asked.drop_logs and (not asked.receipts or asked.PROOF is not None):
@@ -121,8 +121,8 @@ def wrong_words(asked: Namespace) -> Optional[str]:
     return None
 
 
-def block_of(asked: Namespace) -> Optional[int]:
-    """How many leaves a job may take; None where it takes one."""
+def leaves_of_job(asked: Namespace) -> Optional[int]:
+    """How many leaves a job takes at most; None where it can take but one."""
     is_alone = asked.solver != "satcluster" or asked.engine != "local" or asked.seconds
     return None if is_alone or asked.recheck is not None else asked.block or BLOCK
 
@@ -348,7 +348,7 @@ def conquer(asked: Namespace, screen: Screen) -> int:
     bell = Bell()
     limits = Limits(asked.memory, asked.minutes)
     engine = engine_of(folder, plan, screen, bell, jobs, not asked.no_race, not asked.no_cuts, limits,
-                       block_of(asked) or 1)
+                       leaves_of_job(asked) or 1)
     run = Run(folder, plan, screen, bell, DRAFT if asked.PROOF else None)
     run.renew = report.Live(run, screen).renew
     try:

@@ -361,7 +361,8 @@ class Folder(Case):
     def test_spoiled_files(self) -> None:
         """Logs that are cut, empty, garbage, of another leaf, a folder; a wrong answer."""
         name = "urquhart_24.cnf"
-        self.conquer("-q", "--no-race", name, "good.lrat")
+        words = ["--no-race", "--block", "1", name, "good.lrat"]
+        self.conquer("-q", *words)
         logs = self.logs(name)
         logs[0].write_bytes(logs[0].read_bytes()[:-2])
         logs[1].write_bytes(b"")
@@ -372,7 +373,7 @@ class Folder(Case):
         self.at(name + ".conquer", "logs", "a file\nof another").mkdir()
         logs[6].rename(self.at(name + ".conquer", "logs", "brought from elsewhere"))
         self.write(name + ".conquer/answers/wrong", "s SATISFIABLE\nv 1 2 3 0\n")
-        status, lines = self.conquer("--no-race", name, "good.lrat")
+        status, lines = self.conquer(*words)
         self.assertEqual((20, True), (status, "s UNSATISFIABLE" in lines))
         told = [line for line in lines if line.startswith("c file")]
         self.assertTrue(any("leaf" in line for line in told) and len(told) >= 3, told)
@@ -676,12 +677,26 @@ class Blocks(Case):
         self.refuted("--block", "1", *self.WORDS, PIGEONS)
         self.assertEqual([], self.blocks())
 
+    def slow(self, words: str, command: str) -> str:
+        """A program that runs a command first, if it is given such words."""
+        text = '#!/bin/sh\ncase "$*" in %s) %s;; esac\nexec %s "$@"\n'
+        self.at(self.write("slow", text % (words, command, self.program))).chmod(0o755)
+        return str(self.at("slow"))
+
+    def test_taken_apart(self) -> None:
+        """The leaves of a block that takes too long are run beside it, and its job is ended."""
+        slow = self.slow("refute*--to*", "mkdir $0.first 2> /dev/null && sleep 60")
+        self.refuted("--program", slow, *self.WORDS, "--jobs", "2", PIGEONS, "p.lrat")
+        self.assertEqual([], self.running(PIGEONS))
+        leaves = len(self.leaves(PIGEONS))
+        self.assertLess(sum(map(len, self.blocks())), leaves - 8, "the first block has ended")
+        self.assertEqual((str(leaves), "0"), tuple(self.facts()[name] for name in ("leaves", "open")))
+        self.verifies(PIGEONS, "p.lrat")
+
     def test_killed(self) -> None:
         """A block's log that stands is kept, and the other leaves are run."""
-        text = '#!/bin/sh\n[ $1 = refute ] && sleep 0.3\nexec %s "$@"\n' % self.program
-        self.at(self.write("slow", text)).chmod(0o755)
         words = ["--block", "4", *self.WORDS, PIGEONS, "p.lrat"]
-        process = self.start("-q", "--program", str(self.at("slow")), *words)
+        process = self.start("-q", "--program", self.slow("refute*", "sleep 0.3"), *words)
         logs = self.at(PIGEONS + ".conquer", "logs")
         self.wait_for("a block's log", lambda: list(logs.glob("*_to_*")))
         kill(process.pid)
@@ -1146,6 +1161,26 @@ class Runs(unittest.TestCase):
         self.assertIs(jobs[0], to_cut(run, jobs))
         run.closed, run.spent = 0, 0.0
         self.assertIsNone(to_cut(run, [job((1, 2), 1.9)]))
+
+    def test_block_that_is_taken_apart(self) -> None:
+        """It is after twice the mean of its leaves, once. Its leaves are run from the last to the first,
+        but not those that it closes first; if it fails they have jobs of their own."""
+        for outcome in (CLOSED, FAILED):
+            run, now = self.run_of(), time.monotonic()
+            block, last = run.take(3), self.CUBES[:1]
+            run.closed, run.spent = 2, 20.0
+            jobs = [SimpleNamespace(leaf=block, began=now - seconds) for seconds in (59, 61)]
+            self.assertIs(jobs[1], to_cut(run, jobs))
+            run.cut(block)
+            self.assertIsNone(to_cut(run, jobs))
+            self.assertEqual(last + self.CUBES[:0:-1], list(run.queue))
+            run.queue.popleft()
+            first = run.take(9)
+            self.assertEqual((self.CUBES[3],), first.cubes)
+            run.ended(block, outcome, "killed")
+            waiting = [] if outcome == CLOSED else self.CUBES[2:0:-1]
+            self.assertEqual((waiting, False), (list(run.queue), run.is_settled(last[0])))
+            self.assertEqual(outcome == CLOSED, run.is_settled(first.cube))
 
     def test_leaf_that_is_cut_by_an_array(self) -> None:
         """Those that have run thirty seconds and twice the mean, the longest first."""

@@ -68,6 +68,7 @@ class Engine:
         raise NotImplementedError
 
 
+SOON = 0.2  # seconds between two looks for what to cut, if a core is idle
 LONG = 60  # seconds that a block may take, by the mean of a leaf: its log is whole or not there
 
 
@@ -92,7 +93,8 @@ class Local(Engine):
                     begun += 1
                 if self.cuts and self.cut(run, jobs, race):
                     continue
-                self.bell.wait(min([1.0] + [job.end - time.monotonic() for job in jobs]))
+                pause = SOON if len(jobs) + bool(race) < self.jobs else 1.0
+                self.bell.wait(min([pause] + [job.end - time.monotonic() for job in jobs]))
                 self.gather(run, jobs)
                 if race and race.ended(run):
                     race = None
@@ -113,7 +115,8 @@ class Local(Engine):
         return size_of_block(self.block, len(run.queue), self.jobs, run.mean())
 
     def cut(self, run: Run, jobs: List[Job], race: Optional[Race]) -> bool:
-        """Cuts the longest leaf if a core is idle. Answers whether leaves wait then."""
+        """Cuts the longest leaf, or takes a block apart, if a core is idle. Answers whether leaves wait
+        then."""
         job = None if len(jobs) + bool(race) >= self.jobs else to_cut(run, jobs)
         if job is None:
             return False

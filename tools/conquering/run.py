@@ -130,7 +130,7 @@ class Run:
         self.folder, self.plan, self.screen, self.bell = folder, plan, screen, bell
         self.tries: Counter[Cube] = collections.Counter()
         self.reasons: Counter[str] = collections.Counter()  # why jobs have failed, and how often
-        self.running: Dict[Cube, Leaf] = {}
+        self.running: Dict[Tuple[Cube, ...], Leaf] = {}
         self.queue: Deque[Cube] = collections.deque()
         self.unlimited: Set[Cube] = set()  # to be run without a limit
         self.alone: Set[Cube] = set()  # to be run in any case
@@ -139,6 +139,7 @@ class Run:
         self.spent = 0.0  # seconds of all jobs that have closed a leaf
         self.halves: Dict[Cube, List[Cube]] = {}  # of leaves that were cut in two
         self.uncut: Set[Cube] = set()  # leaves that cannot be
+        self.apart: Set[Cube] = set()  # leaves of blocks that were taken apart
         self.patience = CALM  # for how long no leaf has to be cut before a join is begun anew
         self.calm = float("inf")  # the moment at which it is
         self.began, self.model = time.monotonic(), False
@@ -199,7 +200,7 @@ class Run:
             cubes.append(self.queue.popleft())
         first, *behind = reversed(cubes)
         leaf = Leaf(first, self.tree, self.place[first], first not in self.unlimited, tuple(behind))
-        self.running.update((cube, leaf) for cube in cubes)
+        self.running[leaf.cubes] = leaf
         return leaf
 
     def goes_with(self, cube: Cube, other: Cube) -> bool:
@@ -208,10 +209,11 @@ class Run:
         return is_before and self.is_fresh(cube) and self.is_fresh(other)
 
     def is_fresh(self, cube: Cube) -> bool:
-        """Whether a leaf may be one of a block: no job of it has failed, met its limit, or left a log
-        that wants its receipt."""
-        return not (self.tries[cube] or cube in self.unlimited or cube in self.alone
-                    or self.folder.has(log_of(cube)))
+        """Whether a leaf may be one of a block: no job of it runs, has failed, met its limit, or left a
+        log that wants its receipt."""
+        known = self.unlimited, self.alone, self.apart
+        is_known = self.tries[cube] or any(cube in cubes for cubes in known)
+        return not is_known and not self.folder.has(log_of(cube))
 
     def take_all(self) -> List[Leaf]:
         return [self.take() for _ in range(len(self.queue))]
@@ -231,8 +233,7 @@ class Run:
 
     def let_go(self, leaf: Leaf) -> None:
         """Its job was ended before it had found anything."""
-        for cube in leaf.cubes:
-            self.running.pop(cube, None)
+        self.running.pop(leaf.cubes, None)
 
     def is_closed(self, leaf: Leaf) -> bool:
         return leaf.cube in self.done
@@ -263,7 +264,7 @@ class Run:
             closed = self.folder.block(self.plan.closing(*leaf.cubes)) if leaf.behind else []
             if closed:
                 self.take_log(leaf, closed)
-            for cube in [cube for cube in leaf.cubes if cube not in self.done]:
+            for cube in self.left_by(leaf):
                 self.met_limit(cube)
         else:
             self.fail(leaf, note)
@@ -274,13 +275,22 @@ class Run:
         self.by.update((cube, name_of(*leaf.cubes)) for cube in closed)
         self.done.update(closed)
         self.covered.difference_update(closed)  # where another's log came before
+        if not self.apart.isdisjoint(closed):
+            self.queue = collections.deque(cube for cube in self.queue if cube not in self.done)
         cut = [cube for cube in closed if cube in self.halves]
         self.cover_by(self.plan.closing(*leaf.cubes), cut)
         if self.join:
             self.join.add(log_of(*leaf.cubes))
 
+    def left_by(self, leaf: Leaf) -> List[Cube]:
+        """The leaves of a job that are to be run again: those that nothing closes, that were not cut,
+        and that have no job of their own since the block was taken apart."""
+        others = self.apart if leaf.behind else set()
+        return [cube for cube in leaf.cubes
+                if cube not in self.done and cube not in self.halves and cube not in others]
+
     def met_limit(self, cube: Cube) -> None:
-        if cube not in self.halves and not self.split(cube):
+        if not self.split(cube):
             self.unlimited.add(cube)
             self.queue.append(cube)
 
@@ -332,8 +342,7 @@ class Run:
         if self.hopeless():
             self.queue.clear()
             return
-        left = [cube for cube in leaf.cubes if cube not in self.halves and cube not in self.done]
-        self.queue.extend(cube for cube in left if self.tries[cube] < TRIES)
+        self.queue.extend(cube for cube in self.left_by(leaf) if self.tries[cube] < TRIES)
 
     def told(self, leaf: Leaf) -> str:
         places = [self.place.get(cube) for cube in (leaf.cube, leaf.cubes[-1])]
@@ -353,12 +362,15 @@ class Run:
         return self.failures >= HOPELESS and not self.closed
 
     def may_cut(self, leaf: Leaf) -> bool:
-        is_one = leaf.cube in self.place and not leaf.behind
-        return is_one and leaf.cube not in self.uncut and not self.hopeless()
+        is_whole = leaf.cube not in self.apart if leaf.behind else leaf.cube in self.place
+        return is_whole and leaf.cube not in self.uncut and not self.hopeless()
 
     def cut(self, leaf: Leaf) -> None:
-        """Cuts a leaf in two whose job goes on, beside those of its halves."""
-        if not self.split(leaf.cube):
+        """Cuts a leaf in two, or takes a block apart, whose job goes on beside those of the parts."""
+        if leaf.behind:
+            self.queue.extend(cube for cube in reversed(leaf.cubes) if cube not in self.done)
+            self.apart.update(leaf.cubes)
+        elif not self.split(leaf.cube):
             self.uncut.add(leaf.cube)
 
     def split(self, cube: Cube) -> bool:
