@@ -31,7 +31,7 @@ from conquering.cuts import to_cut
 from conquering.engines import late_leaves, size_of_block
 from conquering.figures import State, state_of
 from conquering.files import Fault, answer_of, closed_by, log_of, name_of, read_cubes
-from conquering.leaf import CLOSED, ENDED, FAILED, LIMIT, Leaf, Plan, Record
+from conquering.leaf import CLOSED, ENDED, FAILED, LIMIT, Leaf, Plan, Record, Records
 from conquering.race import WHOLE
 from conquering.run import Run
 from conquering.unpacking import Unpacking
@@ -688,9 +688,10 @@ class Blocks(Case):
         slow = self.slow("refute*--to*", "mkdir $0.first 2> /dev/null && sleep 60")
         self.refuted("--program", slow, *self.WORDS, "--jobs", "2", PIGEONS, "p.lrat")
         self.assertEqual([], self.running(PIGEONS))
-        leaves = len(self.leaves(PIGEONS))
-        self.assertLess(sum(map(len, self.blocks())), leaves - 8, "the first block has ended")
-        self.assertEqual((str(leaves), "0"), tuple(self.facts()[name] for name in ("leaves", "open")))
+        records = Records(files.Folder(str(self.at(PIGEONS + ".conquer")))).all()
+        ends = [record.outcome for record in records if record.behind]
+        self.assertIn(ENDED, ends, "the first block")
+        self.assertEqual("0", self.facts()["open"])
         self.verifies(PIGEONS, "p.lrat")
 
     def test_killed(self) -> None:
