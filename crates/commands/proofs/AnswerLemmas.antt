@@ -108,7 +108,7 @@ module _ {B P : Type 0} (all : Option (List ℕ)) (remaining : B → Option (Lis
       → text ≡ answer_text x.asking.witness (cut x.events.greatest a) → HasWritten has old new one t
       → (IsTrue b → (proof : List ℕ) (moments : List Moment) → has new proof moments → has last proof (moments ++ moment text proof ∷ []))
       → (b ≡ false → (proof : List ℕ) (moments : List Moment) → has new proof moments
-          → (front : List ℕ) × (rest : List ℕ) × (text ≡ front ++ rest) × has last proof (moments ++ moment front proof ∷ []))
+      → (front : List ℕ) × (rest : List ℕ) × (text ≡ front ++ rest) × has last proof (moments ++ moment front proof ∷ []))
       → IsPaused all remaining (has last) b y t
   query_goes has old new last A q a b text x y s one t r e events asking status less within stands_ right_ unknown grows printed written whole front =
       let stands = subst (λ (Q : List Literal). (E : List Event) (told : Told) (bytes : List ℕ) → Stands E told bytes s → Stands (E ++ Asked Q ∷ []) (told ++ told_of a ∷ []) bytes one) e stands_ in

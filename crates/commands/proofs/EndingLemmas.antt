@@ -133,22 +133,21 @@ module _ {O B P : Type 0} (all : Option (List ℕ)) (has : O → List ℕ → Li
   all_answered s t written h =
       of_map (IsAtEnd (has old) fault x s) (λ text. ((heard text).fault ≡ fault) × AllAnswered (has new) x.asking (heard text) x.status) all
       (λ text e.
-        let out = written e.events (told_all e.answers) (last_proof e.moments) e.moments e.stands e.out in
-        let events = ap (λ (k : Heard). k.events) e.heard_all in
-        let Q : List Event → Type 0 = λ E. AreAnswered x.asking [] [] E e.answers e.moments in
-        let R : List Event → Type 0 = λ E. IsAccepted E (told_all e.answers) (last_proof e.moments ++ s.out.items) in
-        (
-          ap (λ (k : Heard). k.fault) e.heard_all,
-          record {
-            answers = e.answers;
-            moments = e.moments;
-            answered = subst Q (sym events) e.answered;
-            status_is = e.status;
-            more = s.out.items;
-            accepted = subst R (sym events) out.accepted;
-            out = out.out;
-          },
-        ))
+      let out = written e.events (told_all e.answers) (last_proof e.moments) e.moments e.stands e.out in
+      let events = ap (λ (k : Heard). k.events) e.heard_all in
+      let Q : List Event → Type 0 = λ E. AreAnswered x.asking [] [] E e.answers e.moments in
+      let R : List Event → Type 0 = λ E. IsAccepted E (told_all e.answers) (last_proof e.moments ++ s.out.items) in (
+        ap (λ (k : Heard). k.fault) e.heard_all,
+        record {
+          answers = e.answers;
+          moments = e.moments;
+          answered = subst Q (sym events) e.answered;
+          status_is = e.status;
+          more = s.out.items;
+          accepted = subst R (sym events) out.accepted;
+          out = out.out;
+        },
+      ))
       h
 
   -- not all of the rest was
@@ -157,19 +156,19 @@ module _ {O B P : Type 0} (all : Option (List ℕ)) (has : O → List ℕ → Li
   end_left s some h =
       of_map (IsAtEnd (has old) fault x s) (λ text. IsLeft (has new) x.asking (heard text)) all
       (λ text e.
-        let w = some (last_proof e.moments) e.moments e.out in
-        record {
-          front = e.events;
-          rest = [];
-          splits = ap (λ (k : Heard). k.events) e.heard_all ∙ sym (append-nil e.events);
-          answers = e.answers;
-          moments = e.moments;
-          answered = e.answered;
-          cuts = e.moments;
-          are_cut = inl refl;
-          more = w.0;
-          out = w.1;
-        })
+      let w = some (last_proof e.moments) e.moments e.out in
+      record {
+        front = e.events;
+        rest = [];
+        splits = ap (λ (k : Heard). k.events) e.heard_all ∙ sym (append-nil e.events);
+        answers = e.answers;
+        moments = e.moments;
+        answered = e.answered;
+        cuts = e.moments;
+        are_cut = inl refl;
+        more = w.0;
+        out = w.1;
+      })
       h
 
 -- ---- the report
@@ -188,11 +187,11 @@ module _ (all : Option (List ℕ)) (has : List ℕ → List Moment → Type 0) (
   ends_so (ended.Whole fault) res h whole unheard =
       of_ok (λ text. ((heard text).fault ≡ fault) × AllAnswered has o (heard text) status) (λ text r. Ends has o (heard text) r) all res h
       (λ text a.
-        ok_map (EndsAs fault status) (Ends has o (heard text)) res
-        (λ r prints.
-          let Q : Option IcnfFault → Type 0 = λ f. EndsAs f status r in
-          inl (status, a.1, subst Q (sym a.0) prints))
-        (whole fault refl))
+      ok_map (EndsAs fault status) (Ends has o (heard text)) res
+      (λ r prints.
+      let Q : Option IcnfFault → Type 0 = λ f. EndsAs f status r in
+      inl (status, a.1, subst Q (sym a.0) prints))
+      (whole fault refl))
   ends_so ended.Unheard res h whole unheard =
       of_ok (λ text. IsLeft has o (heard text)) (λ text r. Ends has o (heard text) r) all res h
       (λ text l. ok_map (Prints 1 []) (Ends has o (heard text)) res (λ r prints. inr (l, prints)) (unheard refl))
