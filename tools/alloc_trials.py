@@ -74,6 +74,7 @@ FILES = {
     "session.icnf": "p inccnf\n1 2 0\n-1 2 0\na -2 0\na 1 0\n",
     "session.lidrup": "i 1 1 2 0\ni 2 -1 2 0\nq -2 0\nl 3 2 0 1 2 0\ns UNSATISFIABLE\nu -2 0 3 0\nd 3 0\n"
     "q 1 0\ns SATISFIABLE\nm 1 2 0\n",
+    "grows.icnf": "p inccnf\n1 2 0\n-1 2 0\na -2 0\na 1 0\n-2 70 0\n-70 -1 0\na 70 -1 0\na 1 0\n-70 0\na 0\n",
     "kept": "what a file held before\n",
 }
 
@@ -116,6 +117,9 @@ RUNS = [
     ("trim four.cnf groups.lrat kept", "s VERIFIED", 0),
     ("trim four.cnf unfinished.lrat kept", "s NOT VERIFIED", 1),
 ]
+
+# Queries that are answered while their proof grows: what was printed and written before a refusal stays.
+SESSION = "session grows.icnf kept"
 
 # A coordinator and its one worker as processes. In turn each allocation of the one is refused, and the other has ample memory.
 SERVE = "serve --port %d --workers 1 --depth 1 four.cnf kept"
@@ -234,6 +238,26 @@ def program_wants(words):
     return wanted
 
 
+def session_wants(found, ample):
+    """Tells whether memory was wanting in a session: it has printed a front of what it prints with ample memory, and its proof has a front
+    of what it has then, with each answer that was printed."""
+    status, text, files = found
+    if status != 1 or not text.endswith(NO_MEMORY):
+        return None
+    printed, proof = text[: -len(NO_MEMORY)], files[PROOF]
+    if files == FILES:
+        return AT_CALL if printed == "" else None
+    fronts = ample[1].startswith(printed) and ample[2][PROOF].startswith(proof)
+    others = dict(files, **{PROOF: FILES[PROOF]}) == FILES
+    whole = lines_of(printed, "s ") <= lines_of(proof, "s ")
+    return AT_CALL if fronts and others and whole else None
+
+
+def lines_of(text, front):
+    """How many lines of the text begin so."""
+    return sum(line.startswith(front) for line in text.split("\n"))
+
+
 def call_wants(found, ample):
     """Tells whether memory was wanting before the call, or at it, and the same call answered then as with ample memory."""
     status, text, files = ample
@@ -252,6 +276,14 @@ def try_program(trials, program, only):
         ample = trials.each_refused(run, program, words, program_wants(words))
         if ample[0] != status or line is not None and ample[1].splitlines()[0] != line:
             raise Differs("%s: %r" % (run, ample[:2]))
+
+
+def try_session(trials, program, only):
+    if only not in SESSION:
+        return
+    ample = trials.each_refused(SESSION, program, SESSION.split(), session_wants)
+    if ample[0] != 20 or lines_of(ample[1], "s ") != 5:
+        raise Differs("%s: %r" % (SESSION, ample[:2]))
 
 
 class Pair:
@@ -355,6 +387,7 @@ def main(words):
         trials = Trials(folder)
         try:
             try_program(trials, programs[0], only)
+            try_session(trials, programs[0], only)
             try_pair(trials, programs[0], only)
             try_calls(trials, programs[1], only)
         except Differs as difference:

@@ -4,8 +4,8 @@
     tools/conquer.py [--program PATH] [--solver satcluster|cadical|kissat|COMMAND]
                      [--engine local|make|parallel|slurm] [--jobs N]
                      [--depth D | --look N | --cubes-from FILE]
-                     [--limit L] [--seconds S] [--no-race] [--no-cuts] [--pipe] [--compress]
-                     [--receipts] [--drop-logs]
+                     [--block N] [--limit L] [--seconds S] [--no-race] [--no-cuts] [--pipe]
+                     [--compress] [--receipts] [--drop-logs]
                      [--memory M] [--minutes T] [--scratch DIR] [--folder DIR] [-q] [-n]
                      INPUT [PROOF]
     tools/conquer.py --recheck FOLDER [--engine ..] [--jobs N] [-q]
@@ -46,6 +46,7 @@ from telling.looks import head_of, packing
 from telling.words import told, unreadable, unwritable
 
 DEPTH = 6  # if none is asked for
+BLOCK = 16  # leaves of a job of our own search at most, if nothing is asked for
 DRAFT = "scratch/proof.lrat"  # of a run's folder
 FOREIGN = "c cubes of another formula"
 SOLVERS = {
@@ -79,6 +80,7 @@ def words() -> Namespace:
     option("--depth", metavar="D", type=number(0, 16), help="how deep to split; %d" % DEPTH)
     option("--look", metavar="N", type=number(1, 65536), help="look ahead, for about N leaves")
     option("--cubes-from", metavar="FILE", help="complete the cubes that this file lists")
+    option("--block", metavar="N", type=number(1, 4096), help="leaves of a job; %d" % BLOCK)
     option("--limit", metavar="L", type=number(1, most), help="lemmas before a leaf is cut in two")
     option("--seconds", metavar="S", type=number(1, most), help="the same in seconds of a search")
     option("--no-race", action="store_true", help="no job searches the whole formula unsplit")
@@ -111,9 +113,18 @@ def wrong_words(asked: Namespace) -> Optional[str]:
         return "--recheck FOLDER reads the formula of that run: no other one is named"
     if asked.recheck is None and asked.INPUT is None:
         return "INPUT is missing: no formula is named"
+    if asked.block and leaves_of_job(asked) is None:
+        return ("--block is for our own search by --engine local without --seconds: other jobs take "
+                "one leaf")
     if asked.drop_logs and (not asked.receipts or asked.PROOF is not None):
         return "--drop-logs is for --receipts without PROOF: a proof is made of logs"
     return None
+
+
+def leaves_of_job(asked: Namespace) -> Optional[int]:
+    """How many leaves a job takes at most; None where it can take but one."""
+    is_alone = asked.solver != "satcluster" or asked.engine != "local" or asked.seconds
+    return None if is_alone or asked.recheck is not None else asked.block or BLOCK
 
 
 def found(word: str) -> str:
@@ -276,9 +287,11 @@ def copied(made: Path, part: Path) -> Path:
     return part
 
 
-def answer_of(run: Run, engine: Engine) -> Tuple[int, List[str]]:
+def answer_of(run: Run, engine: Engine, jobs: int) -> Tuple[int, List[str]]:
     """Runs leaves and joins what they bring, until there is an answer or no leaf is left to run."""
     while True:
+        if run.plan.receipts:
+            receipts.acknowledge_others(run, jobs)
         run.begin()
         engine.work(run)
         status, lines = run.answer()
@@ -334,16 +347,15 @@ def conquer(asked: Namespace, screen: Screen) -> int:
     jobs = asked.jobs or (None if asked.engine == "slurm" else cores())
     bell = Bell()
     limits = Limits(asked.memory, asked.minutes)
-    engine = engine_of(folder, plan, screen, bell, jobs, not asked.no_race, not asked.no_cuts, limits)
+    engine = engine_of(folder, plan, screen, bell, jobs, not asked.no_race, not asked.no_cuts, limits,
+                       leaves_of_job(asked) or 1)
     run = Run(folder, plan, screen, bell, DRAFT if asked.PROOF else None)
     run.renew = report.Live(run, screen).renew
     try:
         engine.settle()
         folder.clean()
         folder.write("plan.json", json.dumps(dataclasses.asdict(plan)))
-        if plan.receipts:
-            receipts.acknowledge_others(run, jobs or cores() or 1)
-        status, lines = answer_of(run, engine)
+        status, lines = answer_of(run, engine, jobs or cores() or 1)
     except BaseException:  # a signal, too
         draw(run, screen, report.NONE)
         raise

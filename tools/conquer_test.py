@@ -28,10 +28,10 @@ import small_slurm
 from cases import EXAMPLES, pigeons, run, satisfies
 from conquering import files, processes, report, screen
 from conquering.cuts import to_cut
-from conquering.engines import late_leaves
+from conquering.engines import late_leaves, size_of_block
 from conquering.figures import State, state_of
 from conquering.files import Fault, answer_of, closed_by, log_of, name_of, read_cubes
-from conquering.leaf import CLOSED, ENDED, LIMIT, Leaf, Plan, Record
+from conquering.leaf import CLOSED, ENDED, FAILED, LIMIT, Leaf, Plan, Record, Records
 from conquering.race import WHOLE
 from conquering.run import Run
 from conquering.unpacking import Unpacking
@@ -361,7 +361,8 @@ class Folder(Case):
     def test_spoiled_files(self) -> None:
         """Logs that are cut, empty, garbage, of another leaf, a folder; a wrong answer."""
         name = "urquhart_24.cnf"
-        self.conquer("-q", "--no-race", name, "good.lrat")
+        words = ["--no-race", "--block", "1", name, "good.lrat"]
+        self.conquer("-q", *words)
         logs = self.logs(name)
         logs[0].write_bytes(logs[0].read_bytes()[:-2])
         logs[1].write_bytes(b"")
@@ -372,7 +373,7 @@ class Folder(Case):
         self.at(name + ".conquer", "logs", "a file\nof another").mkdir()
         logs[6].rename(self.at(name + ".conquer", "logs", "brought from elsewhere"))
         self.write(name + ".conquer/answers/wrong", "s SATISFIABLE\nv 1 2 3 0\n")
-        status, lines = self.conquer("--no-race", name, "good.lrat")
+        status, lines = self.conquer(*words)
         self.assertEqual((20, True), (status, "s UNSATISFIABLE" in lines))
         told = [line for line in lines if line.startswith("c file")]
         self.assertTrue(any("leaf" in line for line in told) and len(told) >= 3, told)
@@ -632,6 +633,160 @@ class Cuts(Case):
         self.verifies(self.NAME, "c.lrat")
 
 
+class Blocks(Case):
+    """A job of our own search takes neighbouring leaves, and one log closes them."""
+
+    WORDS = ["--no-race", "--jobs", "1", "--depth", "4"]
+
+    def blocks(self, formula: str = PIGEONS) -> List[List[files.Cube]]:
+        """The leaves that each block's log closes."""
+        return [read_cubes(path) for path in
+                sorted(self.at(formula + ".conquer", "blocks").iterdir())]
+
+    def facts(self) -> Dict[str, str]:
+        return dict(re.findall("<dt>([^<]*)<dd>([^<]*)</div>", self.report(PIGEONS)))
+
+    def to_run(self, lines: List[str]) -> int:
+        """How many leaves a start finds that nothing closes."""
+        return int(next(line for line in lines if line.endswith(" to run")).split()[3])
+
+    def refuted(self, *words: str) -> List[str]:
+        status, lines = self.conquer(*words)
+        self.assertEqual((20, True), (status, "s UNSATISFIABLE" in lines), lines)
+        return lines
+
+    def test_leaves_that_count(self) -> None:
+        """Each leaf of a block does, in the report too, and none is run again."""
+        for more in ([], ["--compress"] * bool(shutil.which("zstd"))):
+            self.forget(PIGEONS)
+            words = ["--block", "6", *self.WORDS, *more, PIGEONS]
+            self.refuted(*words)
+            leaves, logs, facts = len(self.leaves(PIGEONS)), len(self.logs(PIGEONS)), self.facts()
+            self.assertEqual([6, 6], [len(cubes) for cubes in self.blocks()][:2])
+            self.assertLess(logs, leaves - 9)
+            own, others = (int(facts[name]) for name in ("closed by a log of its own",
+                                                         "by another's log"))
+            self.assertEqual((str(leaves), str(logs), "0", leaves),
+                             (facts["leaves"], facts["jobs"], facts["open"], own + others))
+            before = self.moments(PIGEONS)
+            self.assertEqual(0, self.to_run(self.refuted(*words, "p.lrat")))
+            self.verifies(PIGEONS, "p.lrat")
+            self.assertEqual(before, self.moments(PIGEONS), "a leaf was run again")
+
+    def test_one_leaf_a_job(self) -> None:
+        self.refuted("--block", "1", *self.WORDS, PIGEONS)
+        self.assertEqual([], self.blocks())
+
+    def slow(self, words: str, command: str) -> str:
+        """A program that runs a command first, if it is given such words."""
+        text = '#!/bin/sh\ncase "$*" in %s) %s;; esac\nexec %s "$@"\n'
+        self.at(self.write("slow", text % (words, command, self.program))).chmod(0o755)
+        return str(self.at("slow"))
+
+    def test_taken_apart(self) -> None:
+        """The leaves of a block that takes too long are run beside it, and its job is ended."""
+        slow = self.slow("refute*--to*", "mkdir $0.first 2> /dev/null && sleep 60")
+        self.refuted("--program", slow, *self.WORDS, "--jobs", "2", PIGEONS, "p.lrat")
+        self.assertEqual([], self.running(PIGEONS))
+        records = Records(files.Folder(str(self.at(PIGEONS + ".conquer")))).all()
+        ends = [record.outcome for record in records if record.behind]
+        self.assertIn(ENDED, ends, "the first block")
+        self.assertEqual("0", self.facts()["open"])
+        self.verifies(PIGEONS, "p.lrat")
+
+    def test_killed(self) -> None:
+        """A block's log that stands is kept, and the other leaves are run."""
+        words = ["--block", "4", *self.WORDS, PIGEONS, "p.lrat"]
+        process = self.start("-q", "--program", self.slow("refute*", "sleep 0.3"), *words)
+        logs = self.at(PIGEONS + ".conquer", "logs")
+        self.wait_for("a block's log", lambda: list(logs.glob("*_to_*")))
+        kill(process.pid)
+        process.communicate()
+        self.wait_for("jobs of a killed script", lambda: not self.running(PIGEONS), 2)
+        before = self.moments(PIGEONS)
+        left = self.to_run(self.refuted(*words))
+        self.assertTrue(0 < left <= len(self.leaves(PIGEONS)) - 5, left)
+        self.assertEqual(before, {path: self.moments(PIGEONS)[path] for path in before})
+        self.verifies(PIGEONS, "p.lrat")
+
+    def test_limit(self) -> None:
+        """Of a block that has met it those leaves are kept that are told closed; the others are cut
+        in two."""
+        self.refuted("--limit", "60", *self.WORDS, PIGEONS, "p.lrat")
+        self.verifies(PIGEONS, "p.lrat")
+        tree = read_cubes(self.at(PIGEONS + ".conquer", "trees", self.facts_tree()))
+        closed = [cube for cubes in self.blocks() for cube in cubes]
+        self.assertTrue(0 < len(closed) < 15 and set(closed) <= set(tree), closed)
+        self.assertLess(16, len(tree))
+        before = self.moments(PIGEONS)
+        self.assertEqual(0, self.to_run(self.refuted(*self.WORDS, PIGEONS)))
+        self.assertEqual(before, self.moments(PIGEONS), "a leaf was run again")
+
+    def facts_tree(self) -> str:
+        names = os.listdir(str(self.at(PIGEONS + ".conquer", "trees")))
+        return max(names, key=lambda name: int(name.split(".")[0]))
+
+    def test_model(self) -> None:
+        """The first leaf of a block, which is searched last, has one: x1, x2 and x3."""
+        clauses = ["%d %d %d 0" % (a, b, c) for a in (1, -1) for b in (2, -2) for c in (3, -3)]
+        self.write("one.cnf", "p cnf 3 7\n" + "\n".join(clauses[:-1]) + "\n")
+        words = ["--no-race", "--jobs", "1", "--depth", "2", "one.cnf"]
+        self.ends(10, ["s SATISFIABLE", "v 1 2 3 0"], "-q", *words)
+        answers = self.at("one.cnf.conquer", "answers")
+        self.assertEqual(["leaf_1_2"], os.listdir(str(answers)))
+        records = self.at("one.cnf.conquer", "records").iterdir()
+        self.assertTrue(any(path.name.startswith("leaf_1_2_to_") for path in records))
+
+    def test_receipts(self) -> None:
+        """A block's log has one receipt, which is made again of the log if it is spoiled."""
+        words = ["--receipts", "--block", "6", *self.WORDS, PIGEONS]
+        for spoil in (lambda path: path, lambda path: path.write_text("spoiled\n"),
+                      lambda path: path.unlink()):
+            status, lines = self.conquer(*words)
+            self.assertEqual((0, True), (status, "s COVERED" in lines), lines)
+            moments = self.moments(PIGEONS)
+            receipt = next(self.at(PIGEONS + ".conquer", "receipts").glob("*_to_*"))
+            text = receipt.read_text()
+            spoil(receipt)
+            self.assertEqual(0, self.conquer("-q", *words).status)
+            self.assertEqual((text, moments), (receipt.read_text(), self.moments(PIGEONS)))
+        status, lines = self.conquer("--recheck", str(self.at(PIGEONS + ".conquer")))
+        self.assertEqual((0, True), (status, "s COVERED" in lines), lines)
+        self.refuted("--receipts", PIGEONS, "p.lrat")
+        self.verifies(PIGEONS, "p.lrat")
+
+    def test_dropped_logs(self) -> None:
+        words = ["--receipts", "--drop-logs", *self.WORDS, PIGEONS]
+        for _ in range(2):
+            status, lines = self.conquer(*words)
+            self.assertEqual((0, True, []), (status, "s COVERED" in lines, self.logs(PIGEONS)))
+        self.assertEqual(0, self.to_run(lines))
+
+    def test_spoiled_files(self) -> None:
+        """A log that is cut, and a text that tells too many leaves of its log, or nothing: what
+        `join` misses is run again."""
+        words = ["--block", "6", *self.WORDS, PIGEONS, "p.lrat"]
+        self.refuted(*words)
+        log = next(path for path in self.logs(PIGEONS) if "_to_" in path.name)
+        told = self.at(PIGEONS + ".conquer", "blocks", log.stem)
+        for path, text in ((log, log.read_text()[:-9]), (told, ""), (told, "a 1 x 0\n"),
+                           (told, "".join(line + "\n" for line in self.leaves(PIGEONS)))):
+            path.write_text(text)
+            if path == told:
+                for other in self.logs(PIGEONS):
+                    if other != log:
+                        other.unlink()
+            self.refuted(*words)
+            self.verifies(PIGEONS, "p.lrat")
+
+    def test_words(self) -> None:
+        """It is refused where a job has one leaf."""
+        for words in (["--engine", "make"], ["--seconds", "9"], ["--solver", "cadical"],
+                      ["--block", "0"]):
+            self.ends(1, ["c usage"], "--block", "4", *words, FOUR)
+            self.tells("from 1 to 4096" if words[0] == "--block" else "without --seconds")
+
+
 class Engines(Case):
     """An engine of others gives the same answers."""
 
@@ -868,6 +1023,7 @@ class Units(unittest.TestCase):
     def test_names(self) -> None:
         self.assertEqual("leaf_3_-7", name_of((3, -7)))
         self.assertEqual("leaf", name_of(()))
+        self.assertEqual("leaf_1_-2_to_-1_4", name_of((1, -2), (-1, 3), (-1, 4)))
         self.assertEqual("logs/leaf_-1.lrat", log_of((-1,)))
         self.assertEqual("answers/leaf_-1", answer_of((-1,)))
         names = {name_of(tuple(range(first, first + 64))) for first in (1, 2, 100000)}
@@ -893,6 +1049,21 @@ class Units(unittest.TestCase):
         self.assertEqual(([], 30.0), report.breaks_of(records))
         later = Record((2,), CLOSED, "", 100.0, 101.0, "there", 1)
         self.assertEqual(([(30.0, 70.0)], 101.0), report.breaks_of(records + [later]))
+
+    def test_figures_of_a_block(self) -> None:
+        """Each of its leaves has a share of the time and of the log."""
+        cubes = [(1, 2), (1, -2), (-1,)]
+        record = Record(cubes[0], CLOSED, "", 10.0, 40.0, "here", 1001, behind=tuple(cubes[1:]))
+        facts = dict(State(cubes, frozenset(cubes), frozenset(), [record]).facts())
+        self.assertEqual(["3", "3", "1", "30 s", "10 s", "1,001 bytes"], [facts[name] for name in (
+            "leaves", "closed by a log of its own", "jobs", "time of all jobs",
+            "mean of a leaf", "logs")])
+
+    def test_sizes_of_blocks(self) -> None:
+        """An equal share of what waits, at most as many as are asked for, and a minute's leaves."""
+        for wanted, *given in ((15, 16, 60, 4, 0.0), (16, 16, 99, 4, 0.1), (1, 16, 3, 4, 0.1),
+                               (6, 16, 99, 4, 10.0), (1, 16, 99, 4, 61.0), (99, 4096, 99, 1, 0.1)):
+            self.assertEqual(wanted, size_of_block(*given), given)
 
     def test_figures_of_nothing(self) -> None:
         state = State([()], frozenset(), frozenset(), [])
@@ -963,6 +1134,19 @@ class Runs(unittest.TestCase):
         self.assertEqual([1, 2, 1], self.sums(run))
         self.assertEqual([1, 3, 0], self.sums(run, True), "join has closed what is left")
 
+    def test_neighbours(self) -> None:
+        """A block has neighbours in the tree's order; a leaf that failed or stands between is none."""
+        run = self.run_of()
+        self.assertEqual(tuple(self.CUBES[1:]), run.take(3).cubes)
+        self.assertEqual((self.CUBES[0],), run.take(3).cubes)
+        self.log((1, -2), (1, -2))
+        run = self.run_of()
+        self.assertEqual([tuple(self.CUBES[2:]), tuple(self.CUBES[:1])],
+                         [run.take(9).cubes, run.take(9).cubes])
+        run = self.run_of()
+        run.ended(run.take(2), FAILED, "killed")
+        self.assertEqual([self.CUBES[0]] + self.CUBES[2:], [run.take(9).cube for _ in range(3)])
+
     def test_leaf_that_is_cut(self) -> None:
         """The one that has run longest, and twice the mean of those that are closed; each once."""
         run, now = self.run_of(), time.monotonic()
@@ -978,6 +1162,26 @@ class Runs(unittest.TestCase):
         self.assertIs(jobs[0], to_cut(run, jobs))
         run.closed, run.spent = 0, 0.0
         self.assertIsNone(to_cut(run, [job((1, 2), 1.9)]))
+
+    def test_block_that_is_taken_apart(self) -> None:
+        """It is after twice the mean of its leaves, once. Its leaves are run from the last to the first,
+        but not those that it closes first; if it fails they have jobs of their own."""
+        for outcome in (CLOSED, FAILED):
+            run, now = self.run_of(), time.monotonic()
+            block, last = run.take(3), self.CUBES[:1]
+            run.closed, run.spent = 2, 20.0
+            jobs = [SimpleNamespace(leaf=block, began=now - seconds) for seconds in (59, 61)]
+            self.assertIs(jobs[1], to_cut(run, jobs))
+            run.cut(block)
+            self.assertIsNone(to_cut(run, jobs))
+            self.assertEqual(last + self.CUBES[:0:-1], list(run.queue))
+            run.queue.popleft()
+            first = run.take(9)
+            self.assertEqual((self.CUBES[3],), first.cubes)
+            run.ended(block, outcome, "killed")
+            waiting = [] if outcome == CLOSED else self.CUBES[2:0:-1]
+            self.assertEqual((waiting, False), (list(run.queue), run.is_settled(last[0])))
+            self.assertEqual(outcome == CLOSED, run.is_settled(first.cube))
 
     def test_leaf_that_is_cut_by_an_array(self) -> None:
         """Those that have run thirty seconds and twice the mean, the longest first."""
@@ -1146,6 +1350,10 @@ class Plays(unittest.TestCase):
                                             for n in (1, 2, 3)])
         leaves = [Measured(100, 1)] + [Measured(10, 1)] * 3
         self.assertEqual(20 + 57.5, self.play(leaves, 4, True), "twice the mean of the others")
+
+    def test_block(self) -> None:
+        """It is not cut."""
+        self.assertEqual(100, self.play([Measured(100, 1, is_block=True)], 3, True))
 
     def test_whole_run(self) -> None:
         """A leaf that was cut and closed as one is one."""

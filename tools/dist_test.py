@@ -160,6 +160,14 @@ class Archive(unittest.TestCase):
         output(self.tree / "install.sh", "--remove", prefix)
         self.assertEqual([other], [path for path in prefix.rglob("*") if not path.is_dir()])
 
+    def test_clients(self) -> None:
+        """They find the program by their own place, and what Python leaves there goes with them."""
+        prefix = self.installed("clients")
+        example = prefix / dist.DOC / "examples" / "mus.py"
+        self.assertIn("\ns VERIFIED, c ", output(sys.executable, example))
+        output(self.tree / "install.sh", "--remove", prefix)
+        self.assertEqual([], [path for path in prefix.rglob("*") if not path.is_dir()])
+
     def test_make(self) -> None:
         prefix, words = self.room / "made", ["make", "-s", "-C", ROOT.parent]
         output(*words, "install", "PREFIX=/opt/x", "DESTDIR=%s" % prefix,

@@ -93,6 +93,12 @@ CLAIMS = [
         "are given before it, and how many there are of each kind is printed. Nothing of proofs has to be read for that.",
         [("commands", "check_session_files", ["truth"])],
     ),
+    (
+        "Each answer that `session` prints is right",
+        "Whatever source the events come from, and whatever takes the proof and what is printed: each query before the first fault has an answer, right for the clauses "
+        "given before it; what is printed spells it, and by then the proof is accepted beside the events so far. Where a run ends early this holds of the answers so far.",
+        [("commands", "answer_session", ["session", "left"])],
+    ),
 ]
 
 HEAD = """# What has to be believed

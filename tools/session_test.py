@@ -1,5 +1,6 @@
 #!/usr/bin/env python3
-"""Runs `check --session` over proofs that are right, changed, cut, and written as they are read.
+"""Runs `check --session` over proofs that are right, changed, cut, and written as they are read,
+and `session` over events.
 
     tools/session_test.py PATH-OF-satcluster [CASE ..]
 
@@ -11,6 +12,7 @@ makes it there); if there is none, that is told.
 import fcntl
 import os
 import random
+import re
 import shutil
 import struct
 import subprocess
@@ -24,8 +26,8 @@ from typing import List, Optional, Tuple
 
 sys.dont_write_bytecode = True
 
-from cases import run
-from session_cases import Event, changes, drawn, events_text, expected, text_of
+from cases import pigeons, run
+from session_cases import STATUSES, Event, changes, drawn, events_text, expected, text_of
 from telling.faults import TABLES
 
 HERE = Path(__file__).resolve().parent
@@ -291,6 +293,208 @@ class Pipes(Case):
         self.assertIsNone(self.process.poll())
         self.write("events", "1 x 0\n")
         self.assertEqual((1, ["c input line 9 fault 3"]), self.ends(self.process))
+
+
+class Answers(Case):
+    """Sessions that the program answers, if it has that command."""
+
+    @classmethod
+    def setUpClass(cls) -> None:
+        words = [os.environ["SATCLUSTER"], "session", "--help"]
+        if subprocess.run(words, stdout=subprocess.DEVNULL).returncode != 0:
+            raise unittest.SkipTest("the program answers no sessions")
+
+    def begin(self, *words: str, **more) -> subprocess.Popen:
+        process = subprocess.Popen([os.environ["SATCLUSTER"], "session", *words],
+                                   cwd=str(self.folder), stdout=subprocess.PIPE, **more)
+        self.addCleanup(self.end, process)
+        return process
+
+    @staticmethod
+    def end(process: subprocess.Popen) -> None:
+        process.kill()
+        for stream in (process.stdin, process.stdout):
+            if stream is not None:
+                try:
+                    stream.close()
+                except BrokenPipeError:
+                    pass
+        process.wait()
+
+    def answer(self, events: str, *words: str) -> Tuple[int, List[str]]:
+        (self.folder / "events").write_text(events)
+        return self.ends(self.begin(*words, "events", "answers"))
+
+    def proof(self) -> str:
+        return (self.folder / "answers").read_text()
+
+    def is_right(self, events: List[Event], proof: str) -> None:
+        """The program accepts the proof, and so do the rules."""
+        self.agrees(events, proof)
+        self.assertEqual(0, expected(events, proof)[0], (events, proof))
+
+    def ask(self, process: subprocess.Popen, lines: List[str]) -> None:
+        process.stdin.write("".join(line + "\n" for line in lines).encode())
+        process.stdin.flush()
+
+    def told(self, process: subprocess.Popen) -> List[str]:
+        """The lines of the next answer, which has to come."""
+        lines = [process.stdout.readline().decode().rstrip("\n")]
+        while lines[0] in STATUSES[:2] and not lines[-1].endswith(" 0"):
+            lines.append(process.stdout.readline().decode().rstrip("\n"))
+        return lines
+
+    def test_example(self) -> None:
+        wanted = ["s UNSATISFIABLE", "f -2 0", "s SATISFIABLE", "v 1 2 0",
+                  "s UNSATISFIABLE", "f 3 -3 0", "s UNSATISFIABLE", "f -3 0"]
+        self.assertEqual((20, wanted), self.answer(events_text(EVENTS)))
+        self.is_right(EVENTS, self.proof())
+        self.assertEqual((20, wanted[::2]), self.answer(events_text(EVENTS), "-n"))
+        self.is_right(EVENTS, self.proof())
+        self.assertEqual((20, wanted), self.ends(self.begin("events")))
+
+    def test_no_query(self) -> None:
+        for text, events in (("p inccnf\n", []), ("p inccnf\n1 0", [Event(False, [1])])):
+            self.assertEqual((0, []), self.answer(text))
+            self.is_right(events, self.proof())
+
+    def test_in_turn(self) -> None:
+        """Each answer is there before more is sent, and the proof is right up to it by then."""
+        process = self.begin("-", "answers", stdin=subprocess.PIPE)
+        self.ask(process, ["p inccnf"])
+        for at, event in enumerate(EVENTS):
+            self.ask(process, [events_text([event]).split("\n")[1]])
+            if event.asks:
+                self.assertIn(self.told(process)[0], STATUSES)
+                self.is_right(EVENTS[:at + 1], self.proof())
+                self.assertIsNone(process.poll())
+        process.stdin.close()
+        self.assertEqual(20, process.wait(SECONDS))
+
+    def test_calls(self) -> None:
+        """What is there is read by one call; of an answer the proof goes first, each by one call."""
+        if not shutil.which("strace"):
+            self.skipTest("strace is not installed")
+        words = ["strace", "-o", "calls", "-e", "trace=read,write", os.environ["SATCLUSTER"]]
+        process = subprocess.Popen([*words, "session", "-", "answers"], cwd=str(self.folder),
+                                   stdin=subprocess.PIPE, stdout=subprocess.PIPE)
+        self.addCleanup(self.end, process)
+        for lines in (["p inccnf", "1 0", "a 1 0"], ["a -1 0"]):
+            self.ask(process, lines)
+            self.told(process)
+        process.stdin.close()
+        self.assertEqual(20, process.wait(SECONDS))
+        calls = re.findall(r"(read|write)\((\d+), ", (self.folder / "calls").read_text())
+        calls = [call for call in calls if call[0] == "write" or call[1] == "0"]
+        proof = calls[1][1]
+        once = [("read", "0"), ("write", proof), ("write", "1")]
+        self.assertEqual([*once, *once, ("read", "0")], calls)
+
+    def test_killed(self) -> None:
+        """It leaves a proof that is right up to the last answer."""
+        for seed in range(10):
+            events = [event for event in drawn(seed).events if len(event.literals) < 3]
+            for last in [at for at, event in enumerate(events) if event.asks]:
+                process = self.begin("-", "answers", stdin=subprocess.PIPE)
+                self.ask(process, events_text(events[:last + 1]).split("\n")[:-1])
+                for event in events[:last + 1]:
+                    if event.asks:
+                        self.told(process)
+                self.ask(process, ["1 2 0", "-1 0"])
+                process.kill()
+                process.wait()
+                self.is_right(events[:last + 1], self.proof())
+
+    def test_unread(self) -> None:
+        """Nobody reads the second answer: it ends, and the proof has it."""
+        process = self.begin("-", "answers", stdin=subprocess.PIPE, restore_signals=False)
+        self.ask(process, ["p inccnf", "1 0", "a -1 0"])
+        self.assertEqual(["s UNSATISFIABLE", "f -1 0"], self.told(process))
+        process.stdout.close()
+        self.ask(process, ["a 1 0"])
+        self.assertEqual(1, process.wait(SECONDS))
+        self.is_right([Event(False, [1]), Event(True, [-1]), Event(True, [1])], self.proof())
+
+    def test_limit(self) -> None:
+        """As many lemmas are learnt in a query as the limit allows, and they stay."""
+        clauses = [line for line in pigeons(5).split("\n")[1:-1]]
+        text = "p inccnf\n%s\n" % "\n".join([*clauses, *["a 0"] * 400])
+        status, lines = self.answer(text, "--limit", "2")
+        self.assertEqual((20, "s UNKNOWN", "s UNSATISFIABLE"), (status, lines[0], lines[-2]))
+        queries = self.proof().split("q 0\n")[1:]
+        for query in queries[:lines.index("s UNSATISFIABLE")]:
+            self.assertEqual(2, sum(line[:1] == "l" for line in query.split("\n")), query)
+        (self.folder / "proof").write_text(self.proof())
+        self.assertEqual(0, self.ends(self.start("events", "proof"))[0])
+
+    def test_faults(self) -> None:
+        """The answers before a fault stand, and the proof is right for the events before it."""
+        text = "p inccnf\n1 2 0\na -1 0\n-2 0\n%s\na 0\n"
+        events = [Event(False, [1, 2]), Event(True, [-1]), Event(False, [-2])]
+        for line, fault in (("1 x 0", 3), ("1 2", 5), ("1000001 0", 8), ("p inccnf", 3)):
+            wanted = ["s SATISFIABLE", "v -1 2 0", "c input line 5 fault %d" % fault]
+            self.assertEqual((1, wanted), self.answer(text % line))
+            self.is_right(events, self.proof())
+        self.assertEqual((1, ["c input line 1 fault 1"]), self.answer(""))
+
+    def test_files(self) -> None:
+        """The proof may go neither where the events come from nor where the answers go."""
+        text = "p inccnf\n1 0\na 1 0\n"
+        (self.folder / "events").write_text(text)
+        for words, more in ((("events", "events"), {}), (("events", "./events"), {}),
+                            (("-", "events"), {"stdin": open(self.at("events"))})):
+            told = self.ends(self.begin(*words, **more))
+            self.assertEqual((1, ["c cannot write proof"]), told)
+            self.assertEqual(text, (self.folder / "events").read_text())
+            for stream in more.values():
+                stream.close()
+        (self.folder / "answers").write_text("as it was")
+        self.assertEqual((1, ["c cannot read input"]), self.ends(self.begin("none", "answers")))
+        self.assertEqual("as it was", self.proof())
+        self.assertEqual((1, ["c usage"]), self.ends(self.begin("events", "-")))
+
+    def test_growing(self) -> None:
+        """Variables come far beyond those before them."""
+        events = []
+        for last in (1, 65, 66, 200, 5000, 5001):
+            events += [Event(False, [last, -last]), Event(False, [-last, last + 1]),
+                       Event(True, [last]), Event(True, [last, -last - 1])]
+        status, lines = self.answer(events_text(events))
+        self.assertEqual(20, status)
+        self.is_right(events, self.proof())
+        values = [word for line in lines if line[:1] == "v" for word in line.split()[1:]]
+        counts = [int(values[at - 1].lstrip("-")) for at, word in enumerate(values) if word == "0"]
+        self.assertEqual([2, 66, 67, 201, 5001, 5002], counts)
+        self.assertLess(max(map(len, lines)), 79)
+
+    def test_drawn(self) -> None:
+        """The answers are those of the drawn sessions, and the proofs are right."""
+        for seed in range(200):
+            session = drawn(seed)
+            status, lines = self.answer(events_text(session.events))
+            self.is_right(session.events, self.proof())
+            wanted = [line for line in session.proof if line[:1] == "s"]
+            found = [line for line in lines if line[:1] == "s"]
+            self.assertEqual(len(wanted), len(found))
+            for one, other in zip(wanted, found):
+                self.assertIn(one, (other, STATUSES[2]))
+            self.assertEqual({"s SATISFIABLE": 10, "s UNSATISFIABLE": 20}[found[-1]], status)
+            self.are_spelled(session.events, lines)
+
+    def are_spelled(self, events: List[Event], lines: List[str]) -> None:
+        """A model has each variable so far, and a core has literals of its query in their order."""
+        variables, at = 0, 0
+        for event in events:
+            variables = max([variables, *map(abs, event.literals)])
+            if event.asks:
+                found = [int(word) for word in lines[at + 1].split()[1:-1]]
+                if lines[at] == STATUSES[0]:
+                    self.assertEqual(list(range(1, variables + 1)), list(map(abs, found)))
+                    self.assertTrue(set(found).issuperset(event.literals))
+                else:
+                    once = list(dict.fromkeys(event.literals))
+                    self.assertEqual(found, [one for one in once if one in found])
+                at += 2
 
 
 def library(folder: str) -> Tuple[Optional[str], str]:

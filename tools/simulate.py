@@ -8,14 +8,16 @@ logs as they come, and when `check` of the joined proof does, in seconds; and wh
 each job checks its own log (`--receipts`). S is what starting a leaf takes, MB are millions of bytes
 a second. A leaf that another's log has closed takes as long as that one if it is begun before; a
 half of a leaf takes 1.15 times the half of its time, and has as much more of its log. The job that
-searches the whole formula is left out.
+searches the whole formula is left out. A block is played as it was: it is not cut, and not made
+anew for other numbers of cores.
 """
 import argparse
 import heapq
+import itertools
 import os
 import sys
 from dataclasses import dataclass, field, replace
-from typing import Dict, List, Optional, Tuple
+from typing import Dict, Iterable, List, Optional, Tuple
 
 sys.dont_write_bytecode = True
 
@@ -31,28 +33,31 @@ COVER = 25e-6  # seconds that `cover` takes for a leaf and its receipt
 
 @dataclass(frozen=True)
 class Measured:
-    """What was measured of a leaf."""
+    """What was measured of a leaf, or a block."""
 
     seconds: float
     bytes: float
-    closes: Tuple[int, ...] = ()  # the places of the other leaves that its log closes, from 0
+    closes: Tuple[int, ...] = ()  # the places of the others that its log closes, from 0
+    is_block: bool = False
 
 
 def measured(path: str) -> List[Measured]:
-    """The leaves of the tree that stands."""
+    """The leaves of the tree that stands, of which those of a block are one."""
     if not os.path.isdir(os.path.join(path, "trees")):  # which a `Folder` would make
         raise Fault("c %s is no folder of conquer.py" % path)
     folder = Folder(path)
-    jobs = {record.cube: record for record in Records(folder).all()
-            if record.outcome == CLOSED and not is_race(record)}
+    jobs = {cube: record for record in Records(folder).all()
+            if record.outcome == CLOSED and not is_race(record) for cube in record.cubes}
     cubes = uncut(read_cubes(folder.at("trees", "%d.icnf" % folder.newest_tree())), jobs)
-    closes, closer = closings(folder, cubes, list(jobs))
+    groups = [list(group) for _, group in itertools.groupby(cubes, lambda cube: jobs.get(cube, cube))]
+    closes, closer = closings(folder, groups, set(jobs.values()))
     leaves = []
-    for cube in cubes:
-        job = jobs.get(cube) or jobs.get(closer.get(cube, ()))
+    for group in groups:
+        own = jobs.get(group[0])
+        job = own or closer.get(group[0])
         if job is None:
-            raise Fault("c no job has closed the leaf %s" % " ".join(map(str, cube)))
-        leaves.append(Measured(spent(job), job.bytes, tuple(closes.get(cube, ()))))
+            raise Fault("c no job has closed the leaf %s" % " ".join(map(str, group[0])))
+        leaves.append(Measured(spent(job), job.bytes, closes.get(own, ()), len(group) > 1))
     return leaves
 
 
@@ -64,17 +69,20 @@ def uncut(cubes: List[Cube], jobs: Dict[Cube, Record]) -> List[Cube]:
     return list(dict.fromkeys(paths))
 
 
-def closings(folder: Folder, cubes: List[Cube], ran: List[Cube]) -> Tuple[
-        Dict[Cube, List[int]], Dict[Cube, Cube]]:
-    """For each cube that a job closed the places of the leaves that its log closes; and for each
-    leaf one whose log closes it."""
-    closes: Dict[Cube, List[int]] = {}
-    closer: Dict[Cube, Cube] = {}
-    for cube in ran:
-        closed = closed_by(folder.at(log_of(cube)))
-        if closed is not None:
-            closes[cube] = [place for place, other in enumerate(cubes) if closed.issubset(other)]
-            closer.update((cubes[place], cube) for place in closes[cube])
+def closings(folder: Folder, groups: List[List[Cube]], jobs: Iterable[Record]) -> Tuple[
+        Dict[Record, Tuple[int, ...]], Dict[Cube, Record]]:
+    """For each job the places of the groups of leaves that its log closes; and for each leaf one whose
+    log closes it."""
+    closes: Dict[Record, Tuple[int, ...]] = {}
+    closer: Dict[Cube, Record] = {}
+    for job in jobs:
+        last = closed_by(folder.at(log_of(*job.cubes)))
+        if last is None:
+            continue
+        closed = {cube for group in groups for cube in group
+                  if cube in job.cubes or last.issubset(cube)}
+        closes[job] = tuple(place for place, group in enumerate(groups) if closed.issuperset(group))
+        closer.update((cube, job) for cube in closed)
     return closes, closer
 
 
@@ -135,7 +143,8 @@ class Play:
             self.at(self.now + part.seconds, part)
 
     def cut(self) -> bool:
-        found = [part for part in self.running if not part.halves]
+        found = [part for part in self.running
+                 if not part.halves and not self.leaves[part.leaf].is_block]
         if not self.cuts or not found:
             return False
         longest = min(found, key=lambda part: part.began)

@@ -55,6 +55,7 @@ class Engine:
     races: bool = False  # whether one of them searches the whole formula
     cuts: bool = False  # whether a long leaf is cut in two if a core is idle
     limits: Limits = Limits()
+    block: int = 1  # how many neighbouring leaves a job may take
 
     @classmethod
     def test(cls) -> None:
@@ -67,35 +68,55 @@ class Engine:
         raise NotImplementedError
 
 
+SOON = 0.2  # seconds between two looks for what to cut, if a core is idle
+LONG = 60  # seconds that a block may take, by the mean of a leaf: its log is whole or not there
+
+
+def size_of_block(most: int, waiting: int, jobs: int, mean: float) -> int:
+    """How many of the leaves that wait the next job takes: an equal share, so that blocks are smaller
+    towards the end, and the last job is no long one."""
+    return max(1, min(most, waiting // jobs, int(LONG / max(mean, 0.001))))
+
+
 class Local(Engine):
     """As many jobs at a time as are asked for."""
 
     def work(self, run: Run) -> None:
         jobs: List[Job] = []
-        mark = str(time.time_ns())
+        mark, begun = str(time.time_ns()), 0
         race = self.race(run, mark)
         try:
             while (run.waits() or jobs or race) and not run.over():
                 while run.waits() and len(jobs) + bool(race) < self.jobs:
-                    leaf = run.take()
+                    leaf = run.take(self.size(run, begun))
                     jobs.append(Job(self.folder, self.plan, leaf, mark))
+                    begun += 1
                 if self.cuts and self.cut(run, jobs, race):
                     continue
-                self.bell.wait(min([1.0] + [job.end - time.monotonic() for job in jobs]))
+                pause = SOON if len(jobs) + bool(race) < self.jobs else 1.0
+                self.bell.wait(min([pause] + [job.end - time.monotonic() for job in jobs]))
                 self.gather(run, jobs)
                 if race and race.ended(run):
                     race = None
                 self.end_needless(run, jobs)
                 if race and race.is_lost(run, jobs, self.jobs):
                     race = self.end_race(run, race)
-                run.tick(len(jobs), race is not None)
+                run.tick(sum(len(job.leaf.cubes) for job in jobs), race is not None)
         finally:
             for job in jobs + ([race.job] if race else []):
                 run.let_go(job.leaf)
                 job.stop()
 
+    def size(self, run: Run, begun: int) -> int:
+        """How many leaves the next job takes. The first ones, which are the longest, run alone side by
+        side: in one block they would be the longest job by far."""
+        if begun < self.jobs:
+            return 1
+        return size_of_block(self.block, len(run.queue), self.jobs, run.mean())
+
     def cut(self, run: Run, jobs: List[Job], race: Optional[Race]) -> bool:
-        """Cuts the longest leaf if a core is idle. Answers whether leaves wait then."""
+        """Cuts the longest leaf, or takes a block apart, if a core is idle. Answers whether leaves wait
+        then."""
         job = None if len(jobs) + bool(race) >= self.jobs else to_cut(run, jobs)
         if job is None:
             return False
@@ -105,12 +126,12 @@ class Local(Engine):
     def gather(self, run: Run, jobs: List[Job]) -> None:
         for job in [job for job in jobs if job.ended()]:
             jobs.remove(job)
-            run.took(time.monotonic() - job.began, job.result[0])
+            run.took(job.leaf, time.monotonic() - job.began, job.result[0])
             run.ended(job.leaf, *job.result)
 
     def end_needless(self, run: Run, jobs: List[Job]) -> None:
         """Ends jobs of leaves that others have closed meanwhile."""
-        for job in [job for job in jobs if run.is_settled(job.leaf.cube)]:
+        for job in [job for job in jobs if all(map(run.is_settled, job.leaf.cubes))]:
             jobs.remove(job)
             run.let_go(job.leaf)
             job.stop()
@@ -192,7 +213,7 @@ class Rounds(Engine):
         have, now = set(self.folder.names(self.plan.kind())), time.monotonic()
         for leaf in [leaf for asked in rounds for leaf in asked.leaves]:
             if not run.is_closed(leaf) and self.plan.closing(leaf.cube) in have:
-                run.took(now - self.seen.get(name_of(leaf.cube), now), CLOSED)
+                run.took(leaf, now - self.seen.get(name_of(leaf.cube), now), CLOSED)
                 run.ended(leaf, CLOSED, "")
         run.look_for_answers()
         names = os.listdir(self.folder.at("scratch"))

@@ -44,8 +44,9 @@ class State:
     records: List[Record]
 
     def last(self) -> Dict[Cube, Record]:
-        """The last job of each leaf."""
-        return {record.cube: record for record in self.records if not is_race(record)}
+        """The last job of each leaf, or its share of a block's."""
+        return {share.cube: share for record in self.records if not is_race(record)
+                for share in record.shares()}
 
     def cut_leaves(self, last: Dict[Cube, Record]) -> List[Record]:
         """The last jobs of leaves that were cut in two."""

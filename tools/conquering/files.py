@@ -3,6 +3,7 @@
     trees/N.icnf     the splitting tree; a leaf that is cut in two makes a new file
     whole.icnf       a tree of no levels, for the search of the whole formula
     logs/LEAF.lrat   a log that closes a leaf; LEAF.lrat.zst if it is packed
+    blocks/LEAF      which leaves a log closes that a job of several has made
     receipts/LEAF    what was told of a log that was checked where it was made
     before/LEAF      receipts that are made anew
     answers/LEAF     `v` lines that a job has brought
@@ -25,6 +26,7 @@ from typing import FrozenSet, List, Optional, Tuple
 from telling.words import FOLDER_IN_USE
 
 Cube = Tuple[int, ...]  # the literals of a path of the splitting tree
+LOG, RECEIPT = "logs/%s.lrat", "receipts/%s"  # of a leaf, or a block, with this name
 PACKED = ".zst"  # behind the name of a log that is packed
 END = 1 << 14  # bytes of a log in which its last lemma is looked for
 
@@ -70,18 +72,25 @@ def last_line(path: Path) -> str:
     return next((line.strip() for line in reversed(lines) if line.strip()), "nothing printed")
 
 
-def name_of(cube: Cube) -> str:
-    """A leaf's name: its place shifts when another leaf is cut in two, its cube does not."""
-    name = "_".join(["leaf"] + [str(literal) for literal in cube])
+def name_of(cube: Cube, *behind: Cube) -> str:
+    """A leaf's name, or a block's, by its first and its last leaf: places shift when another leaf is
+    cut in two, cubes do not."""
+    ends = ("_".join(["", *map(str, end)]) for end in (cube, *behind[-1:]))
+    name = "leaf" + "_to".join(ends)
     return name if len(name) <= 180 else "leaf_" + hashlib.sha256(name.encode()).hexdigest()
 
 
-def log_of(cube: Cube) -> str:
-    return "logs/" + name_of(cube) + ".lrat"
+def log_of(*cubes: Cube) -> str:
+    return LOG % name_of(*cubes)
 
 
-def receipt_of(cube: Cube) -> str:
-    return "receipts/" + name_of(cube)
+def receipt_of(*cubes: Cube) -> str:
+    return RECEIPT % name_of(*cubes)
+
+
+def block_of(name: str) -> str:
+    """What tells which leaves a log closes, or its receipt."""
+    return "blocks/" + Path(name).stem
 
 
 def answer_of(cube: Cube) -> str:
@@ -135,7 +144,8 @@ def takes(handle: int, lock: int) -> bool:
 class Folder:
     def __init__(self, path: str) -> None:
         self.path = Path(os.path.abspath(path))
-        for kind in ("trees", "logs", "receipts", "answers", "records", "rounds", "tasks", "scratch"):
+        for kind in ("trees", "logs", "blocks", "receipts", "answers", "records", "rounds", "tasks",
+                     "scratch"):
             self.at(kind).mkdir(parents=True, exist_ok=True)
 
     def at(self, *names: str) -> Path:
@@ -197,6 +207,13 @@ class Folder:
     def covered(self, cube: Cube) -> Path:
         """A file that tells jobs elsewhere that another leaf's log closes this one."""
         return self.at("scratch", "covered." + name_of(cube))
+
+    def block(self, name: str) -> List[Cube]:
+        """The leaves that a block's log closes; none of any other log, or of one that is not there."""
+        try:
+            return read_cubes(self.at(block_of(name))) if self.has(name) else []
+        except (OSError, Fault):  # a log that was brought here alone, or a spoiled file
+            return []
 
     def newest_tree(self) -> int:
         """The number of the tree that stands, 0 where there is none yet."""

@@ -9,12 +9,12 @@ import shutil
 import socket
 import tempfile
 import time
-from dataclasses import asdict, dataclass
+from dataclasses import asdict, dataclass, replace
 from pathlib import Path
-from typing import Dict, Generator, List, Optional, Tuple, Union
+from typing import Dict, Generator, Iterator, List, Optional, Tuple, Union
 
-from conquering.files import (Cube, Folder, answer_of, last_line, log_of, name_of, packed,
-                              publish, receipt_of)
+from conquering.files import (Cube, Folder, answer_of, block_of, last_line, log_of, name_of,
+                              packed, publish, receipt_of)
 from conquering.processes import REFUSED, Command, Pair, Process, Reader, Word, kill, start
 from telling.words import of_foreign_proof
 
@@ -29,10 +29,21 @@ Search = Generator[Command, Status, str]
 
 @dataclass(frozen=True)
 class Leaf:
+    """What one job searches: a leaf, or a block of neighbours."""
+
     cube: Cube
     tree: str  # the file of the tree in which it stands
     place: int  # and where in it, from 1
     limited: bool  # whether it may be left at the limit
+    behind: Tuple[Cube, ...] = ()  # the other leaves of the block, which follow it in the tree
+
+    @property
+    def cubes(self) -> Tuple[Cube, ...]:
+        return (self.cube, *self.behind)
+
+    def words(self, folder: Folder) -> List[Word]:
+        last = ["--to", str(self.place + len(self.behind))] if self.behind else []
+        return ["--cubes", folder.at(self.tree), "--leaf", str(self.place), *last]
 
 
 @dataclass
@@ -56,8 +67,8 @@ class Plan:
         """Which files tell that a leaf is closed."""
         return "receipts" if self.receipts else "logs"
 
-    def closing(self, cube: Cube) -> str:
-        return receipt_of(cube) if self.receipts else log_of(cube)
+    def closing(self, *cubes: Cube) -> str:
+        return receipt_of(*cubes) if self.receipts else log_of(*cubes)
 
 
 @dataclass(frozen=True)
@@ -73,6 +84,19 @@ class Record:
     bytes: int  # of its log
     memory: int = 0  # the most that one of its processes had, in bytes
     tree: str = ""
+    behind: Tuple[Cube, ...] = ()  # the other leaves of a block
+
+    @property
+    def cubes(self) -> Tuple[Cube, ...]:
+        return (self.cube, *self.behind)
+
+    def shares(self) -> Iterator["Record"]:
+        """One for each leaf of a block, of which only the whole is measured."""
+        count = len(self.cubes)
+        end = self.begin + (self.end - self.begin) / count
+        for place, cube in enumerate(self.cubes):
+            size = self.bytes // count + (place < self.bytes % count)
+            yield replace(self, cube=cube, behind=(), end=end, bytes=size)
 
 
 class Failed(Exception):
@@ -82,10 +106,9 @@ class Failed(Exception):
 def conquer_leaf(folder: Folder, plan: Plan, leaf: Leaf) -> Steps:
     """A leaf's job. Publishes what it brings, and returns how it ended, why if it failed, and how
     many bytes its log has."""
-    here = folder.at("scratch", "%s.%d" % (name_of(leaf.cube), os.getpid()))
+    here = folder.at("scratch", "%s.%d" % (name_of(*leaf.cubes), os.getpid()))
     here.mkdir(parents=True, exist_ok=True)
     near, note, size = here, "", 0
-    words = ["--cubes", folder.at(leaf.tree), "--leaf", str(leaf.place)]
     try:
         if plan.scratch:
             near = Path(tempfile.mkdtemp(prefix="conquer.", dir=plan.scratch))
@@ -93,12 +116,15 @@ def conquer_leaf(folder: Folder, plan: Plan, leaf: Leaf) -> Steps:
             yield from acknowledge(folder, plan, leaf.tree, log_of(leaf.cube), near)
             return CLOSED, "", 0
         search = by_refute if plan.solver is None else by_solver
-        outcome = yield from search(plan, words, near, leaf.limited)
-        if outcome == CLOSED:
-            log, place = near / "log", folder.at(log_of(leaf.cube))
+        outcome = yield from search(plan, leaf.words(folder), near, leaf.limited)
+        closed = closed_leaves(leaf, outcome, near / "answer")
+        if closed:
+            log, place = near / "log", folder.at(log_of(*leaf.cubes))
+            if leaf.behind:  # before the log, which is of no use without it
+                folder.write(block_of(log_of(*leaf.cubes)), lines_of(closed))
             if plan.receipts:
                 yield from receipt(plan, folder.at(leaf.tree), log, near)
-                publish(brought(near / "receipt", here), folder.at(receipt_of(leaf.cube)))
+                publish(brought(near / "receipt", here), folder.at(receipt_of(*leaf.cubes)))
             if plan.compress:
                 yield from pack(log, near / "packing")
                 log, place = packed(log), packed(place)
@@ -113,6 +139,21 @@ def conquer_leaf(folder: Folder, plan: Plan, leaf: Leaf) -> Steps:
         for place in (near, here):
             shutil.rmtree(str(place), ignore_errors=True)
     return outcome, note, size
+
+
+def closed_leaves(leaf: Leaf, outcome: str, told: Path) -> List[Cube]:
+    """Those that a job has closed: of a block that has met its limit the ones that are told so."""
+    if outcome == CLOSED:
+        return list(leaf.cubes)
+    if outcome != LIMIT or not leaf.behind or not told.exists():
+        return []
+    lines = set(told.read_text("ascii", "replace").split("\n"))
+    return [cube for place, cube in enumerate(leaf.cubes, leaf.place)
+            if "c leaf %d closed" % place in lines]
+
+
+def lines_of(cubes: List[Cube]) -> str:
+    return "".join("a %s0\n" % "".join("%d " % literal for literal in cube) for cube in cubes)
 
 
 def brought(file: Path, here: Path) -> Path:
@@ -163,7 +204,8 @@ def acknowledge(folder: Folder, plan: Plan, tree: str, name: str, near: Path) ->
 def read_record(path: Path) -> Optional[Record]:
     try:
         told = json.loads(path.read_text())
-        return Record(**{**told, "cube": tuple(told["cube"])})
+        behind = tuple(map(tuple, told.get("behind", ())))
+        return Record(**{**told, "cube": tuple(told["cube"]), "behind": behind})
     except (OSError, ValueError, TypeError, KeyError):  # a crash has spoiled it
         return None
 
@@ -305,6 +347,7 @@ class Job:
 
     def record(self, outcome: str, note: str, size: int) -> None:
         record = Record(self.leaf.cube, outcome, note, self.begin, time.time(),
-                        socket.gethostname(), size, self.memory, self.leaf.tree)
-        name = "%s.%s.%d" % (name_of(self.leaf.cube), self.mark, self.begin * 1000)
+                        socket.gethostname(), size, self.memory, self.leaf.tree,
+                        self.leaf.behind)
+        name = "%s.%s.%d" % (name_of(*self.leaf.cubes), self.mark, self.begin * 1000)
         self.folder.record(name, json.dumps(asdict(record)))

@@ -44,5 +44,6 @@ class Race:
         seconds = time.monotonic() - self.job.began
         if most == 1:
             return seconds > ALONE
-        longest = max([run.longest] + [time.monotonic() - job.began for job in jobs])
+        now = time.monotonic()
+        longest = max([run.longest] + [(now - job.began) / len(job.leaf.cubes) for job in jobs])
         return run.open() * longest / (most - 1) <= AHEAD * seconds

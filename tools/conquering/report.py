@@ -215,7 +215,8 @@ def workers(records: List[Record], scale: Scale) -> str:
     per_second = (WIDTH - left) / max(0.001, at(end))
     parts = []
     for record, place in zip(records, places):
-        title = "%s, %s, %s" % (Tree.told(record.cube), told(spent(record)), record.outcome)
+        others = " and %d behind" % len(record.behind) if record.behind else ""
+        title = "%s%s, %s, %s" % (Tree.told(record.cube), others, told(spent(record)), record.outcome)
         x, wide = left + at(record.begin) * per_second, (record.end - record.begin) * per_second
         more = RED if record.outcome != CLOSED and wide > 3 else ""
         colour, wide = scale.colour(spent(record)), max(0.4, wide - 0.4)

@@ -3,9 +3,12 @@ import collections
 import os
 import subprocess
 import time
-from typing import Callable, Counter, DefaultDict, Deque, Dict, FrozenSet, List, Optional, Set, Tuple, Union
+from pathlib import Path
+from typing import (Callable, Counter, DefaultDict, Deque, Dict, FrozenSet, List, Optional, Sequence,
+                    Set, Tuple, Union)
 
-from conquering.files import Cube, Folder, answer_of, closed_by, log_of, publish, read_cubes
+from conquering.files import (LOG, RECEIPT, Cube, Folder, answer_of, closed_by, log_of, name_of,
+                              publish, read_cubes)
 from conquering.leaf import CLOSED, LIMIT, MODEL, Leaf, Plan
 from conquering.processes import Bell, Command, kill, output_of, start, status_of
 from conquering.screen import Screen, clock
@@ -127,7 +130,7 @@ class Run:
         self.folder, self.plan, self.screen, self.bell = folder, plan, screen, bell
         self.tries: Counter[Cube] = collections.Counter()
         self.reasons: Counter[str] = collections.Counter()  # why jobs have failed, and how often
-        self.running: Dict[Cube, Leaf] = {}
+        self.running: Dict[Tuple[Cube, ...], Leaf] = {}
         self.queue: Deque[Cube] = collections.deque()
         self.unlimited: Set[Cube] = set()  # to be run without a limit
         self.alone: Set[Cube] = set()  # to be run in any case
@@ -136,11 +139,13 @@ class Run:
         self.spent = 0.0  # seconds of all jobs that have closed a leaf
         self.halves: Dict[Cube, List[Cube]] = {}  # of leaves that were cut in two
         self.uncut: Set[Cube] = set()  # leaves that cannot be
+        self.apart: Set[Cube] = set()  # leaves of blocks that were taken apart
         self.patience = CALM  # for how long no leaf has to be cut before a join is begun anew
         self.calm = float("inf")  # the moment at which it is
         self.began, self.model = time.monotonic(), False
         self.done: Set[Cube] = set()  # closed by a log of its own, or by another's
-        self.covered: Set[Cube] = set()  # of these the ones that another's closes
+        self.by: Dict[Cube, str] = {}  # the name of the log that its own job, or block, has made
+        self.covered: Set[Cube] = set()  # of the closed ones those that another's log closes
         self.renew: Callable[[], None] = lambda: None  # the report, while leaves run
         self.join: Optional[Join] = None
         self.read: Union[Join, Cover, None] = None  # what was asked last
@@ -161,13 +166,17 @@ class Run:
         """Begins a pass over the leaves that have no log."""
         have = set(self.folder.names(self.plan.kind()))
         self.look_for_answers()
-        self.done = {cube for cube in self.cubes if self.plan.closing(cube) in have}
+        blocks = {name: self.folder.block(name) for name in have}
+        self.by = {cube: Path(name).stem for name, cubes in blocks.items() for cube in cubes}
+        self.by.update((cube, name_of(cube)) for cube in self.cubes
+                       if self.plan.closing(cube) in have)
+        self.done = set(self.by)
         self.covered = set()
         self.closings: Set[FrozenSet[int]] = set()
         self.queue.clear()
         self.running.clear()
-        for name in have:
-            self.cover(closed_by(self.folder.at(name)))
+        for name, cubes in blocks.items():
+            self.cover_by(name, cubes)
         # From the last leaf to the first: behind negations of what the rule has chosen less follows,
         # so these are the longest, and a long leaf that begins late has all others wait for it.
         waiting = [cube for cube in reversed(self.cubes) if cube not in self.done]
@@ -184,12 +193,27 @@ class Run:
         """Whether a leaf waits to be run."""
         return bool(self.queue)
 
-    def take(self) -> Leaf:
-        """The next leaf to be run, which then counts as running."""
-        cube = self.queue.popleft()
-        leaf = Leaf(cube, self.tree, self.place[cube], cube not in self.unlimited)
-        self.running[cube] = leaf
+    def take(self, most: int = 1) -> Leaf:
+        """The next leaf to be run, or a block of so many neighbours, which then count as running."""
+        cubes = [self.queue.popleft()]
+        while len(cubes) < most and self.queue and self.goes_with(self.queue[0], cubes[-1]):
+            cubes.append(self.queue.popleft())
+        first, *behind = reversed(cubes)
+        leaf = Leaf(first, self.tree, self.place[first], first not in self.unlimited, tuple(behind))
+        self.running[leaf.cubes] = leaf
         return leaf
+
+    def goes_with(self, cube: Cube, other: Cube) -> bool:
+        """Whether a leaf is searched in one job with the one behind it."""
+        is_before = self.place[cube] + 1 == self.place[other]
+        return is_before and self.is_fresh(cube) and self.is_fresh(other)
+
+    def is_fresh(self, cube: Cube) -> bool:
+        """Whether a leaf may be one of a block: no job of it runs, has failed, met its limit, or left a
+        log that wants its receipt."""
+        known = self.unlimited, self.alone, self.apart
+        is_known = self.tries[cube] or any(cube in cubes for cubes in known)
+        return not is_known and not self.folder.has(log_of(cube))
 
     def take_all(self) -> List[Leaf]:
         return [self.take() for _ in range(len(self.queue))]
@@ -198,9 +222,9 @@ class Run:
         """How many leaves nothing closes yet."""
         return sum(cube not in self.done for cube in self.cubes)
 
-    def took(self, seconds: float, outcome: str) -> None:
-        """A leaf's job has taken so long."""
-        self.longest = max(self.longest, seconds)
+    def took(self, leaf: Leaf, seconds: float, outcome: str) -> None:
+        """A leaf's job has taken so long, or that of a block."""
+        self.longest = max(self.longest, seconds / len(leaf.cubes))
         self.spent += seconds if outcome == CLOSED else 0
 
     def mean(self) -> float:
@@ -209,7 +233,7 @@ class Run:
 
     def let_go(self, leaf: Leaf) -> None:
         """Its job was ended before it had found anything."""
-        self.running.pop(leaf.cube, None)
+        self.running.pop(leaf.cubes, None)
 
     def is_closed(self, leaf: Leaf) -> bool:
         return leaf.cube in self.done
@@ -231,25 +255,44 @@ class Run:
 
     def ended(self, leaf: Leaf, outcome: str, note: str) -> None:
         """What follows when a leaf's job has ended."""
-        cube = leaf.cube
         self.let_go(leaf)
         if outcome == CLOSED:
-            self.closed += 1
-            self.done.add(cube)
-            self.covered.discard(cube)  # if another's log came before its own
-            self.cover(closed_by(self.folder.at(self.plan.closing(cube))))
-            if cube in self.halves:
-                self.cover(frozenset(cube))
-            if self.join:
-                self.join.add(log_of(cube))
+            self.take_log(leaf, leaf.cubes)
         elif outcome == MODEL:
             self.model = True
         elif outcome == LIMIT:
-            if cube not in self.halves and not self.split(cube):
-                self.unlimited.add(cube)
-                self.queue.append(cube)
+            closed = self.folder.block(self.plan.closing(*leaf.cubes)) if leaf.behind else []
+            if closed:
+                self.take_log(leaf, closed)
+            for cube in self.left_by(leaf):
+                self.met_limit(cube)
         else:
-            self.fail(cube, note)
+            self.fail(leaf, note)
+
+    def take_log(self, leaf: Leaf, closed: Sequence[Cube]) -> None:
+        """A job has brought a log that closes these of its leaves."""
+        self.closed += len(closed)
+        self.by.update((cube, name_of(*leaf.cubes)) for cube in closed)
+        self.done.update(closed)
+        self.covered.difference_update(closed)  # where another's log came before
+        if not self.apart.isdisjoint(closed):
+            self.queue = collections.deque(cube for cube in self.queue if cube not in self.done)
+        cut = [cube for cube in closed if cube in self.halves]
+        self.cover_by(self.plan.closing(*leaf.cubes), cut)
+        if self.join:
+            self.join.add(log_of(*leaf.cubes))
+
+    def left_by(self, leaf: Leaf) -> List[Cube]:
+        """The leaves of a job that are to be run again: those that nothing closes, that were not cut,
+        and that have no job of their own since the block was taken apart."""
+        others = self.apart if leaf.behind else set()
+        return [cube for cube in leaf.cubes
+                if cube not in self.done and cube not in self.halves and cube not in others]
+
+    def met_limit(self, cube: Cube) -> None:
+        if not self.split(cube):
+            self.unlimited.add(cube)
+            self.queue.append(cube)
 
     def raced(self, outcome: str, note: str) -> None:
         """What follows when the search of the whole formula has ended: its log closes every leaf."""
@@ -263,6 +306,12 @@ class Run:
             self.model = True
         else:
             self.screen.say("c the whole formula unsplit: " + (note or outcome))
+
+    def cover_by(self, name: str, cubes: Sequence[Cube]) -> None:
+        """What a log closes by its last lemma, and these cubes, which may have been cut meanwhile."""
+        self.cover(closed_by(self.folder.at(name)))
+        for cube in cubes:
+            self.cover(frozenset(cube))
 
     def cover(self, closed: Optional[FrozenSet[int]]) -> None:
         """A log whose search has not used all of its cube closes other leaves, too: they need not
@@ -284,17 +333,22 @@ class Run:
         for cube in found:  # tells jobs that run elsewhere
             self.folder.covered(cube).touch()
 
-    def fail(self, cube: Cube, note: str) -> None:
-        self.tries[cube] += 1
+    def fail(self, leaf: Leaf, note: str) -> None:
+        self.tries.update(leaf.cubes)
         self.failures += 1
         self.reasons[note] += 1
         if self.reasons[note] == 1:
-            name = "leaf %d" % self.place[cube] if cube in self.place else "a leaf that was cut"
-            self.screen.say("c %s failed: %s" % (name, note))
+            self.screen.say("c %s failed: %s" % (self.told(leaf), note))
         if self.hopeless():
             self.queue.clear()
-        elif self.tries[cube] < TRIES and cube not in self.halves:
-            self.queue.append(cube)
+            return
+        self.queue.extend(cube for cube in self.left_by(leaf) if self.tries[cube] < TRIES)
+
+    def told(self, leaf: Leaf) -> str:
+        places = [self.place.get(cube) for cube in (leaf.cube, leaf.cubes[-1])]
+        if None in places:
+            return "a leaf that was cut"
+        return "leaves %d to %d" % tuple(places) if leaf.behind else "leaf %d" % places[0]
 
     def tell_failures(self) -> None:
         """What has failed for one reason again and again is told once, and in the end how often."""
@@ -308,11 +362,15 @@ class Run:
         return self.failures >= HOPELESS and not self.closed
 
     def may_cut(self, leaf: Leaf) -> bool:
-        return leaf.cube in self.place and leaf.cube not in self.uncut and not self.hopeless()
+        is_whole = leaf.cube not in self.apart if leaf.behind else leaf.cube in self.place
+        return is_whole and leaf.cube not in self.uncut and not self.hopeless()
 
     def cut(self, leaf: Leaf) -> None:
-        """Cuts a leaf in two whose job goes on, beside those of its halves."""
-        if not self.split(leaf.cube):
+        """Cuts a leaf in two, or takes a block apart, whose job goes on beside those of the parts."""
+        if leaf.behind:
+            self.queue.extend(cube for cube in reversed(leaf.cubes) if cube not in self.done)
+            self.apart.update(leaf.cubes)
+        elif not self.split(leaf.cube):
             self.uncut.add(leaf.cube)
 
     def split(self, cube: Cube) -> bool:
@@ -399,18 +457,18 @@ class Run:
         refused, missing = self.read.refused(lines)
         missing = [self.cubes[place - 1] for place in missing]
         brought = set(self.read.names)
-        closing = self.plan.closing if self.covers else log_of
+        named = RECEIPT if self.covers else LOG
+        closing = {cube: named % self.by.get(cube, name_of(cube)) for cube in missing}
         for cube in missing:
-            name = answer_of(cube) if self.model else closing(cube)
+            name = answer_of(cube) if self.model else closing[cube]
             self.tries[cube] += name in brought
         if self.model:  # none of them is one
             refused = brought
         else:  # a log that was not refused may close something else than its leaf
             if self.covers:  # a receipt that is right tells of a log which does not close its leaf
-                for cube in missing:
-                    if closing(cube) in brought.difference(refused):
-                        self.folder.set_aside(log_of(cube))
-            refused = set(refused).union(brought.intersection(map(closing, missing)))
+                for name in brought.difference(refused).intersection(closing.values()):
+                    self.folder.set_aside(LOG % Path(name).stem)
+            refused = set(refused).union(brought.intersection(closing.values()))
             self.alone.update(self.covered.intersection(missing))
             self.done.difference_update(missing)
             self.covered.difference_update(missing)

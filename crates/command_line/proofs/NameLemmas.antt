@@ -3,7 +3,7 @@ use Rattle.std.proofs.Common.{◌≡◌, ◌∙◌, List, codes}
 use Rattle.clap.specs.Words.{Row, Text}
 use Rattle.command_line.specs.CommandLine.{Makes}
 use Rattle.command_line.specs.declared.request.Request.{Request}
-use Rattle.command_line.specs.declared.request.Request.TheVariants.{Check, Complete, Cover, Cubes, Drill, Join, Leaf, Lift, Look, Model, Receipt, Refute, Serve, Solve, Split, SplitByLook, Trim, Work}
+use Rattle.command_line.specs.declared.request.Request.TheVariants.{Check, Complete, Cover, Cubes, Drill, Join, Leaf, Lift, Look, Model, Receipt, Refute, Serve, Session, Solve, Split, SplitByLook, Trim, Work}
 
 -- the name is that of no command
 pub record IsNoCommand (name : Text) : Type 0 where
@@ -21,6 +21,7 @@ pub record IsNoCommand (name : Text) : Type 0 where
   pub no_trim : name ≡ codes "trim" → ⊥
   pub no_receipt : name ≡ codes "receipt" → ⊥
   pub no_cover : name ≡ codes "cover" → ⊥
+  pub no_session : name ≡ codes "session" → ⊥
 
 -- such a name makes no request
 pub makes_none : (read name : Text) (rows : List Row) → read ≡ name → IsNoCommand read → (request : Request) → Makes name rows request → ⊥
@@ -42,3 +43,4 @@ makes_none read name rows is none (Model input output) makes = none.no_model (is
 makes_none read name rows is none (Trim input proof out binary) makes = none.no_trim (is ∙ makes.0)
 makes_none read name rows is none (Receipt input cubes log receipt) makes = none.no_receipt (is ∙ makes.0)
 makes_none read name rows is none (Cover input cubes receipts quiet) makes = none.no_cover (is ∙ makes.0)
+makes_none read name rows is none (Session input proof limit witness) makes = none.no_session (is ∙ makes.0)

@@ -8,7 +8,7 @@ use Rattle.command_line.specs.Program.{program}
 use Rattle.command_line.specs.declared.options.Options.{Options}
 use Rattle.command_line.specs.declared.printing.Printing.{Printing}
 use Rattle.command_line.specs.declared.request.Request.{Request}
-use Rattle.command_line.specs.declared.request.Request.TheVariants.{Check, Complete, Cover, Cubes, Drill, Join, Leaf, Lift, Look, Model, Receipt, Refute, Serve, Solve, Split, SplitByLook, Trim, Work}
+use Rattle.command_line.specs.declared.request.Request.TheVariants.{Check, Complete, Cover, Cubes, Drill, Join, Leaf, Lift, Look, Model, Receipt, Refute, Serve, Session, Solve, Split, SplitByLook, Trim, Work}
 
 -- two names that a test tells apart
 pub differ : (a b : Text) → bytes_eq a b ≡ false → bytes_eq b b ≡ true → a ≡ b → ⊥
@@ -34,6 +34,7 @@ name_of (Model input output) = codes "model"
 name_of (Trim input proof out binary) = codes "trim"
 name_of (Receipt input cubes log receipt) = codes "receipt"
 name_of (Cover input cubes receipts quiet) = codes "cover"
+name_of (Session input proof limit witness) = codes "session"
 
 is_named : (name : Text) (rows : List Row) (r : Request) → Makes name rows r → name ≡ name_of r
 is_named name rows (Check input proof session) makes = makes.0
@@ -54,6 +55,7 @@ is_named name rows (Model input output) makes = makes.0
 is_named name rows (Trim input proof out binary) makes = makes.0
 is_named name rows (Receipt input cubes log receipt) makes = makes.0
 is_named name rows (Cover input cubes receipts quiet) makes = makes.0
+is_named name rows (Session input proof limit witness) makes = makes.0
 
 pub only_check : (rows : List Row) → ((input : Bor Text) (proof : Bor Text) (session : Bool) → Makes (codes "check") rows (Check input proof session) → ⊥) → (r : Request) → Makes (codes "check") rows r → ⊥
 only_check rows none (Check input proof session) makes = none input proof session makes
@@ -128,6 +130,10 @@ only_receipt rows none other makes = differ (codes "receipt") (name_of other) re
 pub only_cover : (rows : List Row) → ((input : Bor Text) (cubes : Bor Text) (receipts : Vec (Bor Text) Global) (quiet : Bool) → Makes (codes "cover") rows (Cover input cubes receipts quiet) → ⊥) → (r : Request) → Makes (codes "cover") rows r → ⊥
 only_cover rows none (Cover input cubes receipts quiet) makes = none input cubes receipts quiet makes
 only_cover rows none other makes = differ (codes "cover") (name_of other) refl refl (is_named (codes "cover") rows other makes)
+
+pub only_session : (rows : List Row) → ((input : Bor Text) (proof : Option (Bor Text)) (limit : Option ℕ) (witness : Bool) → Makes (codes "session") rows (Session input proof limit witness) → ⊥) → (r : Request) → Makes (codes "session") rows r → ⊥
+only_session rows none (Session input proof limit witness) makes = none input proof limit witness makes
+only_session rows none other makes = differ (codes "session") (name_of other) refl refl (is_named (codes "session") rows other makes)
 
 some_same : {X : Type 0} (a b : X) → Some a ≡ Some b → a ≡ b
 some_same a b e = cc

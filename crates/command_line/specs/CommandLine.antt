@@ -12,7 +12,7 @@ use Rattle.command_line.specs.declared.commands.run_words.Place.TheVariants.{AtP
 use Rattle.command_line.specs.declared.options.Options.{Options}
 use Rattle.command_line.specs.declared.printing.Printing.{Printing}
 use Rattle.command_line.specs.declared.request.Request.{Request}
-use Rattle.command_line.specs.declared.request.Request.TheVariants.{Check, Complete, Cover, Cubes, Drill, Join, Leaf, Lift, Look, Model, Receipt, Refute, Serve, Solve, Split, SplitByLook, Trim, Work}
+use Rattle.command_line.specs.declared.request.Request.TheVariants.{Check, Complete, Cover, Cubes, Drill, Join, Leaf, Lift, Look, Model, Receipt, Refute, Serve, Session, Solve, Split, SplitByLook, Trim, Work}
 use Rattle.command_line.specs.declared.request.UsageFault.{UsageFault}
 use Rattle.command_line.specs.declared.request.UsageFault.TheVariants.{Help, NoMemory, Usage}
 
@@ -159,6 +159,9 @@ Makes name rows (Receipt input cubes log receipt) =
 Makes name rows (Cover input cubes receipts quiet) =
     (name ≡ codes "cover") × NamesFile rows (codes "INPUT") (Some input) × NamesFile rows (codes "cubes") (Some cubes)
     × NamesFiles rows (codes "NAME") receipts.items × NamesFlag rows (codes "quiet") quiet
+Makes name rows (Session input proof limit witness) =
+    (name ≡ codes "session") × NamesFile rows (codes "INPUT") (Some input) × NamesAnyNumber rows (codes "limit") 1 1000000000 limit
+    × NamesFile rows (codes "PROOF") proof × NamesFlag rows (codes "no-witness") (not witness)
 
 -- the words are right by the rules of the command line
 pub record AreTaken (words : List Text) : Type 0 where
@@ -201,6 +204,10 @@ IsLeafNumber leaf = (1 ≤ leaf) × (leaf ≤ 2 ^ 32 - 1)
 abbrev pub IsVariable : ℕ → Type 0
 IsVariable variable = (1 ≤ variable) × (variable ≤ 2 ^ 31 - 1)
 
+-- the number is one of lemmas that a query of a session may have
+abbrev pub IsSessionLimit : ℕ → Type 0
+IsSessionLimit limit = (1 ≤ limit) × (limit ≤ 1000000000)
+
 -- the numbers of a request are in their ranges
 abbrev pub IsInRange : Request → Type 0
 IsInRange (Check input proof session) = ⊤
@@ -221,3 +228,4 @@ IsInRange (Model input output) = ⊤
 IsInRange (Trim input proof out binary) = ⊤
 IsInRange (Receipt input cubes log receipt) = ⊤
 IsInRange (Cover input cubes receipts quiet) = 1 ≤ length receipts.items
+IsInRange (Session input proof limit witness) = IfSome limit IsSessionLimit

@@ -117,6 +117,12 @@ cover_app =
     with_rule (with_rule (with_rule (with_rule (new_app (codes "cover")) (needed_file_rule (codes "cubes"))) (flag_rule (codes "quiet") (byte "q")))
     (file_rule (codes "INPUT") true)) (files_rule (codes "NAME"))
 
+-- `session [--limit L] [-n] INPUT [PROOF]`: L from 1 to 1,000,000,000
+abbrev pub session_app : App
+session_app =
+    with_rule (with_rule (with_rule (with_rule (new_app (codes "session")) (any_number_rule (codes "limit") 1 1000000000)) (flag_rule (codes "no-witness") (byte "n")))
+    (file_rule (codes "INPUT") true)) (file_rule (codes "PROOF") false)
+
 -- the program: it has a version, and a command has to be named
 abbrev pub bare_program : App
 bare_program = on_top (λ s. record s { has_version = true; subcommand_required = true }) (new_app (codes "satcluster"))
@@ -133,9 +139,9 @@ with_leaves a =
     with_subcommand (with_subcommand (with_subcommand (with_subcommand (with_subcommand (with_subcommand a leaf_app.top) refute_app.top) join_app.top) lift_app.top)
     model_app.top) trim_app.top
 
--- the commands on receipts
+-- the commands on receipts, and that of a session
 abbrev pub with_receipts : App → App
-with_receipts a = with_subcommand (with_subcommand a receipt_app.top) cover_app.top
+with_receipts a = with_subcommand (with_subcommand (with_subcommand a receipt_app.top) cover_app.top) session_app.top
 
 abbrev pub program : App
 program = with_receipts (with_leaves (with_formulas bare_program))

@@ -13,6 +13,7 @@ pub(crate) mod receipt;
 pub(crate) mod refute;
 mod run_words;
 pub(crate) mod serve;
+pub(crate) mod session;
 pub(crate) mod solve;
 pub(crate) mod trim;
 mod words;

@@ -10,7 +10,8 @@ ghost use Rattle.word_rules.specs.Parsing.{IsRefusalOf};
 ghost use Rattle.word_rules.specs.Rules.{app_of_program};
 
 use crate::commands::{
-    check, cover, cubes, drill, join, leaf, lift, model, receipt, refute, serve, solve, trim, work,
+    check, cover, cubes, drill, join, leaf, lift, model, receipt, refute, serve, session, solve,
+    trim, work,
 };
 use crate::request::{Request, UsageFault};
 use std::alloc::{AllocError, Global};
@@ -66,6 +67,7 @@ fn given_of<'a>(alloc: Global, words: &'a [&'a str]) -> Result<Found<'a>, Refusa
         trim::rules(),
         receipt::rules(),
         cover::rules(),
+        session::rules(),
     ];
     let rules = ProgramRules {
         name: "satcluster",
@@ -109,6 +111,7 @@ fn request_of<'a>(alloc: Global, given: &Found<'a>) -> Result<Option<Request<'a>
         "trim" => Ok(trim::asked(given)),
         "receipt" => Ok(receipt::asked(given)),
         "cover" => cover::asked(alloc, given),
+        "session" => Ok(session::asked(given)),
         _ => Ok(None),
     }
 }

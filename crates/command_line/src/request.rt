@@ -141,6 +141,14 @@ pub enum Request<'a> {
         receipts: Vec<&'a str>,
         quiet: bool,
     },
+    /// Answer the queries between clauses that are given, line by line, and write the proof of all answers to a file if one is named. A
+    /// query may have so many lemmas, from 1 to 1,000,000,000, or any number; `v` and `f` lines may be left out.
+    Session {
+        input: &'a str,
+        proof: Option<&'a str>,
+        limit: Option<u64>,
+        witness: bool,
+    },
 }
 
 /// Why a command line gives no request.

@@ -6,7 +6,8 @@ use Rattle.std.proofs.lemmas.List.{length-map, map-append, take_more}
 use Rattle.commands.specs.Beginning.{Begins, IsHushed, OfQuietTree}
 use Rattle.commands.specs.declared.beginning.Begun.{Begun}
 use Rattle.commands.specs.declared.beginning.Begun.TheVariants as begun
-use Rattle.commands.specs.Covering.{AreSeen, EndsCover, ReadsText, Seen, TakesText, covers, leaves_out, misses, most_bytes, takes, with_text, without_text}
+use Rattle.commands.specs.Covering.{EndsCover, ReadsText, TakesText, covers, leaves_out, misses, most_bytes, takes, with_text, without_text}
+use Rattle.commands.specs.Names.{AreTaken, Gone}
 use Rattle.commands.specs.Known.{Of}
 use Rattle.commands.specs.declared.small.SmallText.{SmallText}
 use Rattle.commands.specs.declared.small.SmallText.TheVariants.{Whole, TooLong, Unread}
@@ -25,14 +26,14 @@ use Rattle.receipts.specs.declared.cover.Taken.{Taken}
 use Rattle.reports.specs.declared.report.Report.{Report}
 
 -- one name more
-pub seen_more : (Takes : List ℕ → Seen → Seen → Type 0) (names : List (List ℕ)) (name : List ℕ) (a b c : Seen) → AreSeen Takes names a b → Takes name b c
-    → AreSeen Takes (names ++ name ∷ []) a c
-seen_more Takes [] name a b c e h = (c, subst (λ (x : Seen). Takes name x c) e h, refl)
+pub seen_more : (Takes : List ℕ → Gone → Gone → Type 0) (names : List (List ℕ)) (name : List ℕ) (a b c : Gone) → AreTaken Takes names a b → Takes name b c
+    → AreTaken Takes (names ++ name ∷ []) a c
+seen_more Takes [] name a b c e h = (c, subst (λ (x : Gone). Takes name x c) e h, refl)
 seen_more Takes (n ∷ names) name a b c e h = (e.0, e.1, seen_more Takes names name e.0 b c e.2 h)
 
 -- ---- what is told of a file
-pub takes_whole : (F : Cnf) (cubes : List Cube) (quiet : Bool) (known : Option (List ℕ)) (name : List ℕ) (text : Vec ℕ) (taken : Taken) (s : Seen)
-    → IsText known (Whole text) → TellsText F cubes s.texts text.items taken → TakesText F cubes quiet known name s (with_text quiet name text.items taken s)
+pub takes_whole : (F : Cnf) (cubes : List Cube) (quiet : Bool) (known : Option (List ℕ)) (name : List ℕ) (text : Vec ℕ) (taken : Taken) (s : Gone)
+    → IsText known (Whole text) → TellsText F cubes s.files text.items taken → TakesText F cubes quiet known name s (with_text quiet name text.items taken s)
 takes_whole F cubes quiet known name text taken s (inl h) tells =
     let new = with_text quiet name text.items taken s in
     inl (of_map (λ bytes. IsTextOf bytes (Whole text)) (λ bytes. ReadsText F cubes quiet name bytes s new) known
@@ -40,7 +41,7 @@ takes_whole F cubes quiet known name text taken s (inl h) tells =
     (takes taken (subst (λ (xs : List ℕ). length xs ≤ most_bytes) (sym is.0) is.1) tells refl)) h)
 takes_whole F cubes quiet known name text taken s (inr e) tells = absurd (cc)
 
-pub takes_long : (F : Cnf) (cubes : List Cube) (quiet : Bool) (known : Option (List ℕ)) (name : List ℕ) (s : Seen)
+pub takes_long : (F : Cnf) (cubes : List Cube) (quiet : Bool) (known : Option (List ℕ)) (name : List ℕ) (s : Gone)
     → IsText known TooLong → TakesText F cubes quiet known name s (without_text noted.TooLong name s)
 takes_long F cubes quiet known name s (inl h) =
     let new = without_text noted.TooLong name s in
@@ -48,12 +49,12 @@ takes_long F cubes quiet known name s (inl h) =
 takes_long F cubes quiet known name s (inr e) = absurd (cc)
 
 -- ---- a file more
-pub took_whole : (F : Cnf) (cubes : List Cube) (quiet : Bool) (known : Option (List ℕ)) (name read : List ℕ) (text : Vec ℕ) (s : Seen) (run : Run)
-    → read ≡ text.items → IsText known (Whole text) → (taken : Taken) × TellsText F cubes s.texts read taken × IsGone F cubes (with_text quiet name read taken s) run
-    → (t : Seen) × TakesText F cubes quiet known name s t × IsGone F cubes t run
+pub took_whole : (F : Cnf) (cubes : List Cube) (quiet : Bool) (known : Option (List ℕ)) (name read : List ℕ) (text : Vec ℕ) (s : Gone) (run : Run)
+    → read ≡ text.items → IsText known (Whole text) → (taken : Taken) × TellsText F cubes s.files read taken × IsGone F cubes (with_text quiet name read taken s) run
+    → (t : Gone) × TakesText F cubes quiet known name s t × IsGone F cubes t run
 took_whole F cubes quiet known name read text s run e is h = (
   with_text quiet name text.items h.0 s,
-  takes_whole F cubes quiet known name text h.0 s is (subst (λ (xs : List ℕ). TellsText F cubes s.texts xs h.0) e h.1),
+  takes_whole F cubes quiet known name text h.0 s is (subst (λ (xs : List ℕ). TellsText F cubes s.files xs h.0) e h.1),
   subst (λ (xs : List ℕ). IsGone F cubes (with_text quiet name xs h.0 s) run) e h.2,
 )
 
@@ -65,7 +66,7 @@ names_more names i name low is =
     ∙ ap (map (λ (n : Vec ℕ). n.items)) (ap (λ (n : Vec ℕ). take i names ++ n ∷ []) is ∙ sym (take_more names i name low))
 
 -- ---- the end
-pub covers_all : (F : Cnf) (cubes : List Cube) (s : Seen) (notes : List ℕ) (b : Bool) (r : Report) → (b ≡ true) ↔ AreCovered F cubes s.texts → b ≡ true
+pub covers_all : (F : Cnf) (cubes : List Cube) (s : Gone) (notes : List ℕ) (b : Bool) (r : Report) → (b ≡ true) ↔ AreCovered F cubes s.files → b ≡ true
     → notes ≡ s.notes → Prints 0 (notes ++ codes "s COVERED\n") r → EndsCover F cubes s r
 covers_all F cubes s notes b r tells is e prints =
     covers (tells.0 is) (subst (λ (xs : List ℕ). Prints 0 (xs ++ codes "s COVERED\n") r) e prints)
@@ -73,8 +74,8 @@ covers_all F cubes s notes b r tells is e prints =
 not_true : (b : Bool) → b ≡ false → b ≡ true → ⊥
 not_true b f t = cc
 
-pub misses_some : (F : Cnf) (cubes : List Cube) (s : Seen) (notes places : List ℕ) (b : Bool) (leaves : List Leaf) (r : Report) → (b ≡ true) ↔ AreCovered F cubes s.texts → b ≡ false
-    → notes ≡ s.notes → LeavesAre F cubes s.texts leaves → places ≡ open_from 0 leaves → Prints 1 (notes ++ missing_text places ++ codes "s NOT COVERED\n") r
+pub misses_some : (F : Cnf) (cubes : List Cube) (s : Gone) (notes places : List ℕ) (b : Bool) (leaves : List Leaf) (r : Report) → (b ≡ true) ↔ AreCovered F cubes s.files → b ≡ false
+    → notes ≡ s.notes → LeavesAre F cubes s.files leaves → places ≡ open_from 0 leaves → Prints 1 (notes ++ missing_text places ++ codes "s NOT COVERED\n") r
     → EndsCover F cubes s r
 misses_some F cubes s notes places b leaves r tells is e are open_are prints =
     misses leaves (λ all. not_true b is (tells.1 all)) are

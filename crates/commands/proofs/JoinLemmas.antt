@@ -6,8 +6,8 @@ use Rattle.answers.specs.Reports.{first_missed}
 use Rattle.answers.specs.declared.fault.AnswerFault.{AnswerFault}
 use Rattle.commands.specs.Known.{Of}
 use Rattle.commands.specs.Beginning.{Begins, IsHushed, OfFormula, OfQuietTree, RefusesCubes, RefusesInput}
-use Rattle.commands.specs.Names.{OfListed, OfNames, lists, names_of}
-use Rattle.commands.specs.Joining.{AnswersBy, Gone, IsStored, Joins, Misses, OneStops, ReadsFile, Refutes, Stops, StopsAt, Takes, TakesFile, end_line, none_gone, one_more, with_file, without_file}
+use Rattle.commands.specs.Names.{Gone, OfListed, OfNames, lists, names_of, none_gone, one_more}
+use Rattle.commands.specs.Joining.{AnswersBy, IsStored, Joins, Misses, OneStops, ReadsFile, Refutes, Stops, StopsAt, Takes, TakesFile, end_line, with_file, without_file}
 use Rattle.commands.specs.declared.beginning.Begun.{Begun}
 use Rattle.commands.specs.declared.beginning.Begun.TheVariants.{With, Refused as RefusedBegun}
 use Rattle.commands.specs.declared.drafts.Target.{Target}

@@ -1,9 +1,16 @@
+mod AnswerLemmas
+mod AnsweringLemmas
 mod ClosedLemmas
+mod CoreLemmas
 mod CoverLemmas
+mod CutLemmas
+mod EndingLemmas
+mod EventLemmas
 mod FeedLemmas
 mod JoinLemmas
 mod KnownLemmas
 mod LiftLemmas
+mod LineLemmas
 mod ListedLemmas
 mod ListingLemmas
 mod ModelLemmas
@@ -11,6 +18,7 @@ mod NextLemmas
 mod OfLemmas
 mod PartLemmas
 mod ReceiptLemmas
+mod SessionLemmas
 mod TextLemmas
 mod TreeLemmas
 mod TrimLemmas

@@ -4,8 +4,8 @@ use Rattle.std.proofs.Common.{sym, ap, subst, ◌∙◌, inl, inr, append_assoc,
 use Rattle.std.proofs.Math.Seq.{drop-cons}
 use Rattle.std.proofs.lemmas.Bool.{eqb-true}
 use Rattle.std.proofs.lemmas.List.{map-append, nil_from_length, take_more, take-append-drop}
-use Rattle.commands.specs.Names.{names_behind, names_of}
-use Rattle.commands.specs.Joining.{AreTaken, Gone, OneStops, none_gone}
+use Rattle.commands.specs.Names.{AreTaken, Gone, names_behind, names_of, none_gone}
+use Rattle.commands.specs.Joining.{OneStops}
 use Rattle.commands.specs.inner.Joining.{Goes, IsListed}
 use Rattle.reports.specs.declared.report.Report.{Report}
 

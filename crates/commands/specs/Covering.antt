@@ -1,6 +1,7 @@
 -- What `cover` tells of the files of an input, cubes and receipts.
-use Rattle.std.specs.Prelude.{◌≡◌, ◌⊎◌, ◌≤◌, ◌<◌, ◌+◌, ◌-◌, ◌^◌, ◌++◌, ℕ, min, Bool, List, [], ◌∷◌, length, Option, codes, if◌then◌else◌}
+use Rattle.std.specs.Prelude.{◌≡◌, ◌⊎◌, ◌≤◌, ◌<◌, ◌^◌, ◌++◌, ℕ, Bool, List, [], ◌∷◌, length, Option, codes, if◌then◌else◌}
 use Rattle.commands.specs.Known.{Of}
+use Rattle.commands.specs.Names.{AreTaken, Gone, none_gone, one_more}
 use Rattle.commands.specs.Refusals.{IsUnread}
 use Rattle.dimacs.specs.logic.Cnf.{Cnf}
 use Rattle.gathering.specs.Closing.{Leaf, open_from}
@@ -16,20 +17,7 @@ use Rattle.reports.specs.declared.refusal.Refusal.{Refusal}
 use Rattle.reports.specs.declared.refusal.Refusal.TheVariants.{Input, Cubes, Proof}
 use Rattle.reports.specs.declared.report.Report.{Report}
 
--- ---- the files of the names, in turn
--- how many names were gone through, the texts among their files that were taken, and the lines of all
-pub record Seen : Type 0 where
-  pub count : ℕ
-  pub texts : List (List ℕ)
-  pub notes : List ℕ
-
-abbrev pub none_seen : Seen
-none_seen = record { count = 0; texts = []; notes = [] }
-
--- one name more; above 2^64 - 1 they are not told apart
-abbrev pub next_number : ℕ → ℕ
-next_number n = min (2 ^ 64 - 1) (n + 1)
-
+-- ---- the files of the names, in turn: of `files` the texts that were taken
 -- the line of a text that was taken, if there is one: of one that closes nothing, unless it is left out, and of one that is not counted
 abbrev pub taken_line : (quiet : Bool) → ℕ → List ℕ → Taken → List ℕ
 taken_line quiet n name Closes = []
@@ -38,18 +26,18 @@ taken_line quiet n name OtherFormula = note_text n noted.OtherFormula name
 taken_line quiet n name (Refused line) = note_text n (noted.NoReceipt line) name
 
 -- a name whose text was taken, and one whose was not
-abbrev pub with_text : Bool → List ℕ → List ℕ → Taken → Seen → Seen
+abbrev pub with_text : Bool → List ℕ → List ℕ → Taken → Gone → Gone
 with_text quiet name text taken s = record {
-  count = next_number s.count;
-  texts = s.texts ++ text ∷ [];
-  notes = s.notes ++ taken_line quiet (next_number s.count) name taken;
+  count = one_more s.count;
+  files = s.files ++ text ∷ [];
+  notes = s.notes ++ taken_line quiet (one_more s.count) name taken;
 }
 
-abbrev pub without_text : Note → List ℕ → Seen → Seen
+abbrev pub without_text : Note → List ℕ → Gone → Gone
 without_text note name s = record {
-  count = next_number s.count;
-  texts = s.texts;
-  notes = s.notes ++ note_text (next_number s.count) note name;
+  count = one_more s.count;
+  files = s.files;
+  notes = s.notes ++ note_text (one_more s.count) note name;
 }
 
 -- as many bytes has a receipt at most that is taken
@@ -57,31 +45,26 @@ abbrev pub most_bytes : ℕ
 most_bytes = 2 ^ 26
 
 -- a file of these bytes, behind the others: it is taken, and told as what it is; or it is too long
-pub data ReadsText (F : Cnf) (cubes : List Cube) (quiet : Bool) (name bytes : List ℕ) (old new : Seen) : Type 0 where
-  takes : (taken : Taken) → length bytes ≤ most_bytes → TellsText F cubes old.texts bytes taken → new ≡ with_text quiet name bytes taken old
+pub data ReadsText (F : Cnf) (cubes : List Cube) (quiet : Bool) (name bytes : List ℕ) (old new : Gone) : Type 0 where
+  takes : (taken : Taken) → length bytes ≤ most_bytes → TellsText F cubes old.files bytes taken → new ≡ with_text quiet name bytes taken old
       → ReadsText F cubes quiet name bytes old new
   leaves_out : most_bytes < length bytes → new ≡ without_text noted.TooLong name old → ReadsText F cubes quiet name bytes old new
 
 -- the file of a name is read to its end, or cannot be read
-abbrev pub TakesText : Cnf → List Cube → Bool → Option (List ℕ) → List ℕ → Seen → Seen → Type 0
+abbrev pub TakesText : Cnf → List Cube → Bool → Option (List ℕ) → List ℕ → Gone → Gone → Type 0
 TakesText F cubes quiet known name old new = Of known (λ bytes. ReadsText F cubes quiet name bytes old new) ⊎ (new ≡ without_text noted.Unread name old)
-
--- the files of all names were gone through
-abbrev pub AreSeen : (List ℕ → Seen → Seen → Type 0) → List (List ℕ) → Seen → Seen → Type 0
-AreSeen Takes [] a c = c ≡ a
-AreSeen Takes (name ∷ names) a c = (b : Seen) × Takes name a b × AreSeen Takes names b c
 
 -- ---- what comes of them
 -- `s COVERED`, status 0, if and only if the texts that were taken cover the leaves; else each leaf that none of them closes, and status 1
-pub data EndsCover (F : Cnf) (cubes : List Cube) (s : Seen) (r : Report) : Type 0 where
-  covers : AreCovered F cubes s.texts → Prints 0 (s.notes ++ codes "s COVERED\n") r → EndsCover F cubes s r
-  misses : (leaves : List Leaf) → ¬ (AreCovered F cubes s.texts) → LeavesAre F cubes s.texts leaves
+pub data EndsCover (F : Cnf) (cubes : List Cube) (s : Gone) (r : Report) : Type 0 where
+  covers : AreCovered F cubes s.files → Prints 0 (s.notes ++ codes "s COVERED\n") r → EndsCover F cubes s r
+  misses : (leaves : List Leaf) → ¬ (AreCovered F cubes s.files) → LeavesAre F cubes s.files leaves
       → Prints 1 (s.notes ++ missing_text (open_from 0 leaves) ++ codes "s NOT COVERED\n") r → EndsCover F cubes s r
 
 -- the files of these names were gone through, and what comes of them is told
 pub record TellsCover (holds : List ℕ → Option (List ℕ)) (F : Cnf) (cubes : List Cube) (quiet : Bool) (names : List (List ℕ)) (r : Report) : Type 0 where
-  pub seen : Seen
-  pub are : AreSeen (λ name. TakesText F cubes quiet (holds name) name) names none_seen seen
+  pub seen : Gone
+  pub are : AreTaken (λ name. TakesText F cubes quiet (holds name) name) names none_gone seen
   pub ends : EndsCover F cubes seen r
 
 -- want of memory, or the input, the cubes or the list of names cannot be read

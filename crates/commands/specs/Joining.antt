@@ -1,6 +1,7 @@
 -- What `join` tells of the files of an input, cubes and logs, and what it writes.
-use Rattle.std.specs.Prelude.{◌≡◌, ◌⊎◌, ◌++◌, ◌∷◌, ◌+◌, ◌-◌, ◌^◌, ℕ, min, Bool, true, false, List, [], Option, Some, None, map, codes, if◌then◌else◌}
+use Rattle.std.specs.Prelude.{◌≡◌, ◌⊎◌, ◌++◌, ◌∷◌, ℕ, Bool, true, false, List, [], Option, Some, None, map, codes, if◌then◌else◌}
 use Rattle.commands.specs.Known.{Of}
+use Rattle.commands.specs.Names.{AreTaken, Gone, none_gone, one_more}
 use Rattle.commands.specs.Written.{Keeps}
 use Rattle.commands.specs.declared.drafts.Target.{Target}
 use Rattle.commands.specs.declared.join.JoinFiles.{JoinFiles}
@@ -18,20 +19,7 @@ use Rattle.leaves.specs.declared.notes.Note.TheVariants as noted
 use Rattle.lrat_forms.specs.Forms.{is_binary, text_form}
 use Rattle.reports.specs.declared.report.Report.{Report}
 
--- ---- the files of the names, in turn
--- how many names were gone through, the files among theirs that were read to their ends, and the lines of all
-pub record Gone : Type 0 where
-  pub count : ℕ
-  pub files : List (List ℕ)
-  pub notes : List ℕ
-
-abbrev pub none_gone : Gone
-none_gone = record { count = 0; files = []; notes = [] }
-
--- one name more; above 2^64 - 1 they are not told apart
-abbrev pub one_more : ℕ → ℕ
-one_more n = min (n + 1) (2 ^ 64 - 1)
-
+-- ---- the files of the names, in turn: of `files` those that were read to their ends
 -- a fault is told by its line, or in binary form by its step
 abbrev pub fault_note : Bool → ℕ → ℕ → Note
 fault_note true step number = noted.StepFault step number
@@ -87,11 +75,6 @@ pub record AnswersBy (F : Cnf) (cubes : List Cube) (witness : Bool) (bytes : Lis
 
 abbrev pub StopsAt : Cnf → List Cube → Bool → Type 0 → Option (List ℕ) → Gone → Report → Type 0
 StopsAt F cubes witness free known old r = free × Of known (λ bytes. AnswersBy F cubes witness bytes old r)
-
--- all of these names were gone through
-abbrev pub AreTaken : (List ℕ → Gone → Gone → Type 0) → List (List ℕ) → Gone → Gone → Type 0
-AreTaken Takes [] a c = c ≡ a
-AreTaken Takes (name ∷ names) a c = (b : Gone) × Takes name a b × AreTaken Takes names b c
 
 -- one of them ends the run so, and those before it were gone through
 abbrev pub OneStops : (List ℕ → Gone → Gone → Type 0) → (List ℕ → Gone → Report → Type 0) → List (List ℕ) → Gone → Report → Type 0

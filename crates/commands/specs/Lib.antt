@@ -9,6 +9,8 @@ pub mod Names
 pub mod Printing
 pub mod Receipts
 pub mod Refusals
+pub mod SessionLines
+pub mod SessionMoments
 pub mod Testing
 pub mod Trees
 pub mod Trimming

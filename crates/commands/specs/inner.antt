@@ -1,5 +1,7 @@
+pub mod Answering
 pub mod Beginning
 pub mod Covering
+pub mod Events
 pub mod Feeding
 pub mod Joining
 pub mod Lifting

@@ -1,7 +1,8 @@
 //! Receipts that are taken one after the other, and the lines of their files.
 
 ghost use Rattle.std.specs.Prelude.{◌≡◌, ◌++◌, ◌+◌, ◌<◌, ◌^◌, ℕ, List, All, codes, map, IfOk, IfErr, OnOk};
-ghost use Rattle.commands.specs.Covering.{AreSeen, EndsCover, Seen, TakesText, none_seen, taken_line, with_text, without_text};
+ghost use Rattle.commands.specs.Covering.{EndsCover, TakesText, taken_line, with_text, without_text};
+ghost use Rattle.commands.specs.Names.{AreTaken, Gone, none_gone};
 ghost use Rattle.commands.specs.Refusals.{IsWanting};
 ghost use Rattle.commands.specs.inner.Covering.{IsGone, IsText};
 ghost use Rattle.dimacs.specs.logic.Cnf.{Cnf};
@@ -43,7 +44,7 @@ impl Drop for Run {
 
 /// No name was gone through.
 pub(crate) fn begin_run(alloc: Global, split: &Split) -> Result<Run, Refusal>
-    ensures begins { IfOk result (IsGone split.now.formula split.now.tree none_seen) }
+    ensures begins { IfOk result (IsGone split.now.formula split.now.tree none_gone) }
     ensures refused { IfErr result IsWanting }
 {
     let cover = open_cover(alloc, split)?;
@@ -75,8 +76,8 @@ fn put_taken(
 
 /// Takes the text of the file of a name.
 fn take_text(run: &mut Run, name: &[u8], text: &[u8], quiet: bool) -> Result<(), Refusal>
-    ensures taken { OnOk result ((F : Cnf) (cubes : List Cube) (s : Seen) → IsGone F cubes s run.old
-        → (taken : Taken) × TellsText F cubes s.texts text.now taken × IsGone F cubes (with_text quiet name.now text.now taken s) run.new) }
+    ensures taken { OnOk result ((F : Cnf) (cubes : List Cube) (s : Gone) → IsGone F cubes s run.old
+        → (taken : Taken) × TellsText F cubes s.files text.now taken × IsGone F cubes (with_text quiet name.now text.now taken s) run.new) }
     ensures refused { IfErr result IsWanting }
 {
     let taken = match run.cover.take(text) {
@@ -89,7 +90,7 @@ fn take_text(run: &mut Run, name: &[u8], text: &[u8], quiet: bool) -> Result<(),
 
 /// Tells of the file of a name whose text is not taken.
 fn pass(run: &mut Run, name: &[u8], note: Note) -> Result<(), Refusal>
-    ensures passed { OnOk result ((F : Cnf) (cubes : List Cube) (s : Seen) → IsGone F cubes s run.old → IsGone F cubes (without_text note name.now s) run.new) }
+    ensures passed { OnOk result ((F : Cnf) (cubes : List Cube) (s : Gone) → IsGone F cubes s run.old → IsGone F cubes (without_text note name.now s) run.new) }
     ensures refused { IfErr result IsWanting }
 {
     run.count = run.count.saturating_add(1);
@@ -109,8 +110,8 @@ fn read_named<D: Disk>(disk: &D, name: &[u8]) -> Result<SmallText, Refusal>
 
 /// Takes the file of a name.
 fn take<D: Disk>(disk: &D, run: &mut Run, name: &[u8], quiet: bool) -> Result<(), Refusal>
-    ensures taken { OnOk result ((F : Cnf) (cubes : List Cube) (s : Seen) → IsGone F cubes s run.old
-        → (t : Seen) × TakesText F cubes quiet (D.holds disk.now name.now) name.now s t × IsGone F cubes t run.new) }
+    ensures taken { OnOk result ((F : Cnf) (cubes : List Cube) (s : Gone) → IsGone F cubes s run.old
+        → (t : Gone) × TakesText F cubes quiet (D.holds disk.now name.now) name.now s t × IsGone F cubes t run.new) }
     ensures refused { IfErr result IsWanting }
 {
     let read = read_named(disk, name)?;
@@ -128,8 +129,8 @@ pub(crate) fn take_all<D: Disk>(
     names: &[Vec<u8>],
     quiet: bool,
 ) -> Result<(), Refusal>
-    ensures seen { OnOk result ((F : Cnf) (cubes : List Cube) (s : Seen) → IsGone F cubes s run.old
-        → (t : Seen) × AreSeen (λ name. TakesText F cubes quiet (D.holds disk.now name) name) (map (λ n. n.items) names.now) s t × IsGone F cubes t run.new) }
+    ensures seen { OnOk result ((F : Cnf) (cubes : List Cube) (s : Gone) → IsGone F cubes s run.old
+        → (t : Gone) × AreTaken (λ name. TakesText F cubes quiet (D.holds disk.now name) name) (map (λ n. n.items) names.now) s t × IsGone F cubes t run.new) }
     ensures refused { IfErr result IsWanting }
 {
     for name in names {
@@ -189,7 +190,7 @@ fn missing(cover: &Cover) -> Result<Vec<usize>, Refusal>
 impl Run {
     /// The report of a run that has gone through all names.
     pub(crate) fn finish(self) -> Result<Report, Refusal>
-        ensures ends { IfOk result (λ r. (F : Cnf) (cubes : List Cube) (s : Seen) → IsGone F cubes s self → EndsCover F cubes s r) }
+        ensures ends { IfOk result (λ r. (F : Cnf) (cubes : List Cube) (s : Gone) → IsGone F cubes s self → EndsCover F cubes s r) }
         ensures refused { IfErr result IsWanting }
     {
         let Run {

@@ -2,8 +2,8 @@
 
 ghost use Rattle.std.specs.Prelude.{◌≡◌, ◌≢◌, ◌⊎◌, ◌++◌, ℕ, List, [], map, Option, IfOk, IfErr, IsOk, OnErr, OnOk};
 ghost use Rattle.commands.specs.Beginning.{OfQuietTree};
-ghost use Rattle.commands.specs.Names.{OfNames};
-ghost use Rattle.commands.specs.Joining.{AreTaken, Gone, IsApart, IsStored, Joins, Misses, OneStops, Refutes, Stops, Takes, none_gone};
+ghost use Rattle.commands.specs.Names.{AreTaken, Gone, OfNames, none_gone};
+ghost use Rattle.commands.specs.Joining.{IsApart, IsStored, Joins, Misses, OneStops, Refutes, Stops, Takes};
 ghost use Rattle.commands.specs.Known.{Of};
 ghost use Rattle.commands.specs.Refusals.{IsRefusedAs, IsUnlifted, IsUnread, IsWanting};
 ghost use Rattle.commands.specs.declared.drafts.Target.{Target};

@@ -1,7 +1,8 @@
 //! Files that are joined, and the part to which goes what is joined.
 
 ghost use Rattle.std.specs.Prelude.{◌≡◌, ◌≢◌, ◌⊎◌, ◌++◌, ◌∷◌, ℕ, Bool, false, List, [], Option, None, map, IfOk, IfErr, OnOk};
-ghost use Rattle.commands.specs.Joining.{AnswersBy, Gone, IsFree, ReadsFile, Stops, Takes, fault_note as note_of, one_more, without_file};
+ghost use Rattle.commands.specs.Joining.{AnswersBy, IsFree, ReadsFile, Stops, Takes, fault_note as note_of, without_file};
+ghost use Rattle.commands.specs.Names.{Gone, one_more};
 ghost use Rattle.commands.specs.Known.{Of};
 ghost use Rattle.commands.specs.Refusals.{IsRefusedAs, IsWanting};
 ghost use Rattle.commands.specs.declared.drafts.Target.{Target};

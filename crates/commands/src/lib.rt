@@ -4,6 +4,7 @@
 //! its bytes, and what is printed, and the status, are those of the report.
 #![tactic(auto)]
 
+mod answering;
 mod beginning;
 mod check;
 mod closed;
@@ -11,6 +12,7 @@ mod cover;
 mod covering;
 mod disk;
 mod drafts;
+mod event_source;
 mod feeding;
 mod formula;
 mod join;
@@ -20,17 +22,20 @@ mod lift;
 mod listing;
 mod model;
 mod names;
+mod outputs;
 mod parts;
 mod pieces;
 mod pouring;
 mod printing;
 mod receipt;
 mod session;
+mod session_lines;
 mod small;
 mod text;
 mod trim;
 mod writing;
 
+pub use answering::{Asking, answer_session};
 pub use beginning::{Begun, begin_files, hushed, refused_input};
 pub use check::check_files;
 pub use cover::{CoverFiles, cover_files};
@@ -43,6 +48,7 @@ pub use joining::{JoinOptions, stopped};
 pub use leaf::{leaf_files, split_by_look_files, split_files};
 pub use lift::{LiftFiles, lift_files};
 pub use model::test_files;
+pub use outputs::Outputs;
 pub use pieces::{Pieces, refused};
 pub use printing::{deliver, print};
 pub use receipt::{ReceiptFiles, receipt_files};

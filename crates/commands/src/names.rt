@@ -1,8 +1,8 @@
 //! The names of the files that are joined: those that are given, or those that standard input lists.
 
 ghost use Rattle.std.specs.Prelude.{◌≡◌, ◌≢◌, ◌++◌, ◌∷◌, ℕ, Bool, List, [], map, codes, IfOk, IfErr, OnOk};
-ghost use Rattle.commands.specs.Names.{OfNames, lists, names_of};
-ghost use Rattle.commands.specs.Joining.{AreTaken, Gone, OneStops, Stops, Takes, none_gone};
+ghost use Rattle.commands.specs.Names.{AreTaken, Gone, OfNames, lists, names_of, none_gone};
+ghost use Rattle.commands.specs.Joining.{OneStops, Stops, Takes};
 ghost use Rattle.commands.specs.Known.{Of};
 ghost use Rattle.commands.specs.Refusals.{IsRefusedAs, IsUnread};
 ghost use Rattle.commands.specs.declared.joining.JoinOptions.{JoinOptions};

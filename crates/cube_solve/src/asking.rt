@@ -161,6 +161,7 @@ impl<P: Propagator> Session<'_, P> {
         ensures vars { OnOk result (vars_of self.new ≡ vars_of self.old) }
         ensures sought { IfOk result (IsSought self.new.search.state.arena self.new.search.state.trail query.now) }
         ensures limit { IfOk result (λ sought. IfLimit sought (last_of self.new ≡ last_of self.old + limit)) }
+        ensures most { OnOk result (last_of self.new ≤ last_of self.old + limit) }
     {
         let mut learnt = 0;
         'turns: loop {
@@ -213,6 +214,7 @@ impl<P: Propagator> Session<'_, P> {
         ensures tells { OnOk result (TellsOn self.old self.new) }
         ensures search { OnOk result (self.new.search ≡ self.old.search) }
         ensures vars { OnOk result (vars_of self.new ≡ vars_of self.old) }
+        ensures last { OnOk result (last_of self.new ≡ last_of self.old) }
         ensures picked { IfOk result (λ core. ArePicked query.now clause.now core.items) }
     {
         let others = negated(self.search.alloc, clause)?;
@@ -235,6 +237,7 @@ impl<P: Propagator> Session<'_, P> {
         ensures vars { OnOk result (vars_of self.new ≡ vars_of self.old) }
         ensures answer { IfOk result (λ answer. (F : List Clause) → AreGiven F self.old → IsRightAnswer (vars_of self.old) F query.now answer) }
         ensures unknown { IfOk result (λ answer. IfUnknown answer (last_of self.new ≡ last_of self.old + limit)) }
+        ensures most { OnOk result (last_of self.new ≤ last_of self.old + limit) }
         ensures failed { IfOk result (λ answer. HasFailed answer self.new) }
         ensures over { IfOk result (IsOver (vars_of self.old)) }
     {

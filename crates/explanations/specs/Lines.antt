@@ -3,7 +3,7 @@ use Rattle.std.specs.Prelude.{◌==◌, ◌≡◌, ℕ, ◌+◌, List, codes}
 use Rattle.std.specs.List.{before_first, after_first}
 use Rattle.core.specs.Str.Parse.{digits_value, without_leading_plus}
 use Rattle.explanations.specs.declared.lines.File.{File}
-use Rattle.explanations.specs.declared.lines.File.TheVariants.{Own, Input, Cubes, Proof, Joined}
+use Rattle.explanations.specs.declared.lines.File.TheVariants.{Own, Input, Cubes, Proof, Log, Joined}
 use Rattle.explanations.specs.declared.lines.Unit.{Unit}
 use Rattle.explanations.specs.declared.lines.Unit.TheVariants.{Line, Step}
 use Rattle.explanations.specs.declared.lines.Fault.{Fault}
@@ -39,6 +39,7 @@ IsOf Own fault text = IsPlace fault text
 IsOf Input fault text = (first_word text ≡ codes "input") × IsPlace fault (behind_word text)
 IsOf Cubes fault text = (first_word text ≡ codes "cubes") × IsPlace fault (behind_word text)
 IsOf Proof fault text = (first_word text ≡ codes "proof") × IsPlace fault (behind_word text)
+IsOf Log fault text = (first_word text ≡ codes "log") × IsPlace fault (behind_word text)
 IsOf (Joined number) fault text =
     (first_word text ≡ codes "file") × IsSpelled number (first_word (behind_word text)) × IsPlace fault (behind_word (behind_word text))
 

@@ -15,6 +15,8 @@ pub enum File {
     Cubes,
     /// A foreign proof.
     Proof,
+    /// A log of which a receipt is made.
+    Log,
     /// The one of this number of those that are joined.
     Joined(u64),
 }
@@ -103,6 +105,7 @@ impl Fault {
             "input" => fault_at(File::Input, rest),
             "cubes" => fault_at(File::Cubes, rest),
             "proof" => fault_at(File::Proof, rest),
+            "log" => fault_at(File::Log, rest),
             "file" => {
                 let (number, rest) = cut_word(rest);
                 fault_at(File::Joined(number_of(number)?), rest)

@@ -1,3 +1,4 @@
+pub mod GrowingLemmas
 pub mod LineLemmas
 pub mod LogLemmas
 pub mod ModelLemmas

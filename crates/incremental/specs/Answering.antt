@@ -38,6 +38,10 @@ Told = List Answer
 abbrev pub IsAccepted : List Event → List Answer → List ℕ → Type 0
 IsAccepted E told text = session_of E text ≡ record { answers = told; fault = None }
 
+-- whoever has read this text beside these events has been told these answers, and goes on from this state, at the line of this number
+abbrev pub Reaches : List Event → List Answer → List ℕ → State → ℕ → Type 0
+Reaches E told text reader line = (D : List Event) (more : List ℕ) → session_of (E ++ D) (text ++ more) ≡ behind told (text_from reader line D (lines more))
+
 module _ {P : Type 0} where
   abbrev pub vars_in : Session P → ℕ
   vars_in s = vars_of s.search

@@ -167,6 +167,8 @@ impl<'a, P: Propagator> Session<'a, P> {
         ensures stands { IfOk result (λ answer. (E : List Event) (told : Told) (text : List ℕ) → Stands E told text self.old → Stands (E ++ Asked query.now ∷ []) (told ++ told_of answer ∷ []) text self.new) }
         ensures right { IfOk result (λ answer. (E : List Event) (told : Told) (text : List ℕ) → Stands E told text self.old → IsRightAnswer (vars_in self.old) (clauses_of E) query.now answer) }
         ensures unknown { IfOk result (λ answer. IfUnknown answer (last_in self.new ≡ last_in self.old + limit)) }
+        ensures most { OnOk result (last_in self.new ≤ last_in self.old + limit) }
+        ensures grows { OnOk result ((E : List Event) (told : Told) (text : List ℕ) → Stands E told text self.old → (more : List ℕ) × (self.new.out.items ≡ self.old.out.items ++ more)) }
     {
         put_listed(&mut self.out, &mut self.scratch.line, b'q', query)?;
         let answer = self.search.ask(query, limit)?;

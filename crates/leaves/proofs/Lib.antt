@@ -6,7 +6,9 @@ pub mod LeafLemmas
 pub mod LiftLemmas
 pub mod LineLemmas
 pub mod LookLemmas
+pub mod MarkingLemmas
 pub mod ReadingLemmas
+pub mod SearchingLemmas
 pub mod SplitLemmas
 pub mod UnitLemmas
 pub mod TellingLemmas

@@ -1,129 +1,85 @@
-//! `refute` of several leaves: searches in turn, whose logs become one.
+//! `refute` of several leaves: searches in turn, which write one log.
 
-ghost use Rattle.std.specs.Prelude.{◌≡◌, ◌∷◌, ◌++◌, [], ℕ, List, true, Some, None, IfOk, OnOk, codes, decimal, if◌then◌else◌};
-ghost use Rattle.dimacs.specs.logic.Cnf.{Cnf};
+ghost use Rattle.std.specs.Prelude.{◌≡◌, ◌⊎◌, ◌<◌, ◌≤◌, [], ◌++◌, true, length, Some, None, IfOk, OnOk, codes, decimal, if◌then◌else◌};
+ghost use Rattle.cube_solve.specs.Session.{IsReady, vars_of};
 ghost use Rattle.dimacs.specs.text.Answer.{satisfied_lines};
-ghost use Rattle.icnf.specs.Leaves.{Cube};
-ghost use Rattle.leaves.specs.Joining.{Holds};
 ghost use Rattle.leaves.specs.Refuting.{Hands, shown};
-ghost use Rattle.leaves.specs.Turns.{RefutesLeaves};
-ghost use Rattle.leaves.specs.inner.Turns.{IsReady, TakesText, TakesTurn, Turned};
+ghost use Rattle.leaves.specs.Turns.{FindsModel, RefutesLeaves, SearchesAll};
+ghost use Rattle.leaves.specs.inner.Turns.{IsTold, Stands, TakesTurn};
 
-use crate::join::Join;
 use crate::leaf::{NO_LEAF, cube_of};
 use crate::refuting::{Search, put_end};
+use crate::searching::{Found, Searches};
 use crate::split::Split;
-use cube_solve::{Outcome, solve};
 use dimacs::{Answer, Assignment, answer_lines};
-use gathering::GatherFault;
-use packed_text::PackedText;
 use reports::Report;
 use std::alloc::{AllocError, Global};
+use watches::{Propagator, Watched};
 
-/// What was found so far: the logs of the leaves as one, and what is told of them.
-pub(crate) struct Turns {
-    pub(crate) join: Join,
-    /// What was joined.
-    pub(crate) log: PackedText,
+/// What was found so far: the log of the searches, and what is told of them.
+pub(crate) struct Turns<'a, P> {
+    pub(crate) searches: Searches<'a, P>,
     pub(crate) notes: Vec<u8>,
     /// Whether every leaf so far was closed.
     pub(crate) closed: bool,
 }
 
 // By hand, so that whoever owns one drops it by one call, and no proof there goes through its parts.
-impl Drop for Turns {
+impl<P> Drop for Turns<'_, P> {
     fn drop(self) {
         let Turns {
-            join: _,
-            log: _,
+            searches: _,
             notes: _,
             closed: _,
         } = self;
     }
 }
 
-/// Reads a log as a file of its own.
-fn take_file(join: &mut Join, text: &[u8]) -> Result<(), GatherFault>
-    ensures { OnOk result ((F : Cnf) (cubes : List Cube) (files : List (List ℕ)) (written : List ℕ)
-        → Holds F cubes files [] written join.old → Holds F cubes (files ++ text.now ∷ []) [] written join.new) }
-{
-    join.feed(text)?;
-    join.end()?;
-    Ok(())
-}
-
-/// Takes over what was joined.
-fn hand_out(join: &mut Join, log: &mut PackedText) -> Result<(), GatherFault>
-    ensures holds { OnOk result ((F : Cnf) (cubes : List Cube) (files : List (List ℕ))
-        → Holds F cubes files [] log.old join.old → Holds F cubes files [] log.new join.new) }
-    ensures out { OnOk result (join.new.lines.out.items ≡ []) }
-{
-    log.extend(join.written())?;
-    join.forget();
-    Ok(())
-}
-
 /// Appends the line of a leaf, if it is not left out.
-fn tell(out: &mut Vec<u8>, leaf: u64, end: &[u8], quiet: bool) -> Result<(), GatherFault>
+fn tell(out: &mut Vec<u8>, leaf: u64, end: &[u8], quiet: bool) -> Result<(), AllocError>
     ensures { OnOk result (out.new.items ≡ out.old.items ++ shown quiet (codes "c leaf " ++ decimal leaf ++ end.now)) }
 {
     if quiet {
         return Ok(());
     }
-    put_end(out, leaf, end)?;
-    Ok(())
+    put_end(out, leaf, end)
 }
 
-impl Turns {
+impl<'a, P: Propagator> Turns<'a, P> {
     /// No leaf was searched yet.
-    fn of(alloc: Global, split: &Split) -> Result<Turns, AllocError>
-        ensures ready { IfOk result (IsReady split.now.formula split.now.tree []) }
+    fn of(alloc: Global, propagator: &'a mut P, split: &Split) -> Result<Turns<'a, P>, AllocError>
+        requires { P.attached propagator.old ≡ [] }
+        ensures ready { IfOk result (λ t. IsReady P.is_ready P.attached t.searches.session) }
+        ensures stands { IfOk result (λ t. Stands split.now.formula [] [] t.searches) }
         ensures notes { IfOk result (λ t. t.notes.items ≡ []) }
         ensures closed { IfOk result (λ t. t.closed ≡ true) }
     {
-        let same = Split {
-            formula: split.formula.copy()?,
-            tree: split.tree.copy(alloc)?,
-        };
         Ok(Turns {
-            join: Join::of(alloc, same)?,
-            log: PackedText::new(alloc),
+            searches: Searches::new(alloc, propagator, split.formula.as_base())?,
             notes: Vec::new(alloc),
             closed: true,
         })
     }
 
-    /// Joins the log of a leaf.
-    fn take(&mut self, alloc: Global, text: &PackedText) -> Result<(), GatherFault>
-        ensures takes { OnOk result (TakesText text.now self.old self.new) }
-        ensures notes { OnOk result (self.new.notes ≡ self.old.notes) }
-        ensures closed { OnOk result (self.new.closed ≡ self.old.closed) }
-    {
-        let text = text.to_text(alloc)?;
-        take_file(&mut self.join, &text)?;
-        hand_out(&mut self.join, &mut self.log)
-    }
-
-    /// Notes how the search under a leaf has ended: an assignment, if there is one.
+    /// Tells how the search under a leaf has ended: the assignment, if there is one.
     fn note(
         &mut self,
-        alloc: Global,
         leaf: u64,
-        outcome: Outcome,
-        search: &Search,
-    ) -> Result<Option<Assignment>, GatherFault>
-        ensures { IfOk result (Turned leaf search.now outcome self.old self.new) }
+        found: Found,
+        quiet: bool,
+    ) -> Result<Option<Assignment>, AllocError>
+        ensures searches { self.new.searches ≡ self.old.searches }
+        ensures told { IfOk result (IsTold leaf quiet found self.old self.new) }
     {
-        match outcome {
-            Outcome::Model(values) => Ok(Some(values)),
-            Outcome::Refuted(text) => {
-                self.take(alloc, &text)?;
-                tell(&mut self.notes, leaf, b" closed\n", search.quiet)?;
+        match found {
+            Found::Model(values) => Ok(Some(values)),
+            Found::Closed => {
+                tell(&mut self.notes, leaf, b" closed\n", quiet)?;
                 Ok(None)
             }
-            Outcome::Limit(_) => {
+            Found::Limit => {
                 self.closed = false;
-                tell(&mut self.notes, leaf, b" limit\n", search.quiet)?;
+                tell(&mut self.notes, leaf, b" limit\n", quiet)?;
                 Ok(None)
             }
         }
@@ -136,36 +92,39 @@ impl Turns {
         split: &Split,
         leaf: u64,
         search: &Search,
-    ) -> Result<Option<Assignment>, GatherFault>
-        ensures { IfOk result (TakesTurn split.now.formula split.now.tree leaf search.now self.old self.new) }
+    ) -> Result<Option<Assignment>, AllocError>
+        requires ready { IsReady P.is_ready P.attached self.old.searches.session }
+        requires vars { vars_of self.old.searches.session ≡ split.now.formula.vars }
+        ensures ready { OnOk result (IsReady P.is_ready P.attached self.new.searches.session) }
+        ensures vars { OnOk result (vars_of self.new.searches.session ≡ split.now.formula.vars) }
+        ensures turn { IfOk result (TakesTurn split.now.formula split.now.tree leaf search.now self.old self.new) }
     {
         let Some(cube) = cube_of(&split.tree, leaf) else {
             return Ok(None);
         };
-        let outcome = solve(alloc, split.formula.as_base(), cube, search.limit)?;
-        self.note(alloc, leaf, outcome, search)
+        let found = self.searches.search(alloc, cube, search.limit)?;
+        self.note(leaf, found, search.quiet)
     }
 
     /// The report of leaves that were all searched.
     fn ended(self) -> Report
-        ensures { Hands (if self.closed then 20 else 0) self.notes.items (Some self.log) result }
+        ensures { Hands (if self.entry.closed then 20 else 0) self.entry.notes.items (Some self.entry.searches.log) result }
     {
         let Turns {
-            log,
+            searches,
             notes,
             closed,
-            join: _,
         } = self;
         Report {
             stdout: notes,
             status: if closed { 20 } else { 0 },
-            proof: Some(log),
+            proof: Some(searches.into_log()),
         }
     }
 }
 
 /// The report of an assignment.
-fn satisfied(alloc: Global, values: &Assignment, witness: bool) -> Result<Report, GatherFault>
+fn satisfied(alloc: Global, values: &Assignment, witness: bool) -> Result<Report, AllocError>
     ensures { IfOk result (Hands 10 (satisfied_lines values.now witness) None) }
 {
     let mut report = Report::of(alloc, b"", 10)?;
@@ -173,29 +132,51 @@ fn satisfied(alloc: Global, values: &Assignment, witness: bool) -> Result<Report
     Ok(report)
 }
 
-/// Searches under the leaves from one number to another, each in turn as [`crate::run_refute`] does.
-///
-/// The report has status 10 and an assignment that satisfies the formula, which ends the run; or 20, and as its proof one log over the
-/// formula that closes every leaf; or 0 and a log that closes those that are told closed, where other searches met their limit. A leaf's
-/// own lemmas are deleted behind its log, but for those that close leaves.
-pub fn run_refute_all(
+/// Searches under the leaves of a tree from one number to another, by a propagator that has no clause yet.
+fn refute_by<P: Propagator>(
     alloc: Global,
+    propagator: &mut P,
     split: &Split,
     first: u64,
     last: u64,
     search: &Search,
-) -> Result<Report, GatherFault>
-    ensures { IfOk result (RefutesLeaves split.now.formula split.now.tree first last search.now) }
+) -> Result<Report, AllocError>
+    requires none { P.attached propagator.old ≡ [] }
+    requires low { 0 < first }
+    requires some { first ≤ last }
+    requires high { last ≤ length split.now.tree }
+    ensures { IfOk result (λ r. FindsModel split.now.formula split.now.tree first last search.now r ⊎ SearchesAll split.now.formula split.now.tree first last search.now r) }
 {
-    if first == 0 || first > last || last > split.tree.leaves() as u64 {
-        let text = if search.quiet { b"" } else { NO_LEAF };
-        return Ok(Report::of(alloc, text, 1)?);
-    }
-    let mut run = Turns::of(alloc, split)?;
+    let _leaves = split.tree.leaves(); // with it comes the bound of their number
+    let mut run = Turns::of(alloc, propagator, split)?;
     for leaf in first..last + 1 {
         if let Some(values) = run.turn(alloc, split, leaf, search)? {
             return satisfied(alloc, &values, search.witness);
         }
     }
     Ok(run.ended())
+}
+
+/// Searches under the leaves from one number to another, in turn, by one session: what was learnt under one leaf follows from the formula
+/// alone, and is kept for those behind it.
+///
+/// The report has status 10 and an assignment that satisfies the formula, which ends the run; or 20, and as its proof one log over the
+/// formula that closes every leaf; or 0 and a log that closes those that are told closed, where other searches met their limit. Each leaf
+/// may have as many lemmas as the limit says. A lemma that closes a leaf is not deleted. The error stands for the report `c no memory`,
+/// status 1.
+pub fn run_refute_all(
+    alloc: Global,
+    split: &Split,
+    first: u64,
+    last: u64,
+    search: &Search,
+) -> Result<Report, AllocError>
+    ensures { IfOk result (RefutesLeaves split.now.formula split.now.tree first last search.now) }
+{
+    if first == 0 || first > last || last > split.tree.leaves() as u64 {
+        let text = if search.quiet { b"" } else { NO_LEAF };
+        return Report::of(alloc, text, 1);
+    }
+    let mut watched = Watched::new(alloc);
+    refute_by(alloc, &mut watched, split, first, last, search)
 }

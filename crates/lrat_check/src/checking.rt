@@ -1,6 +1,6 @@
 //! The lines of a proof's text, and what is answered at its end.
 
-ghost use Rattle.std.specs.Prelude.{◌≡◌, ◌==◌, ◌⊎◌, ◌+◌, None, OnOk, IfErr, MatchResult};
+ghost use Rattle.std.specs.Prelude.{◌≡◌, ◌==◌, ◌≤◌, ◌⊎◌, ◌+◌, ◌^◌, None, OnOk, OnErr, IfErr, MatchResult};
 ghost use Rattle.lrat_check.specs.Checking.{no_memory, text_end};
 ghost use Rattle.lrat_check.specs.Refusals.{piece_refusal, text_refusal};
 ghost use Rattle.lrat_check.specs.inner.Checking.{GoesOn, Stops, step_refusal};
@@ -113,9 +113,10 @@ pub(crate) fn take_line(
     }
 }
 
-/// The number of the next line; none where it has no room in 64 bits.
+/// The number of the line behind this one. One that has no room in 64 bits, and no other, is refused as for want of memory.
 pub(crate) fn next_line(line: u64) -> Result<u64, CheckFault>
-    ensures { MatchResult result (λ next. next ≡ line + 1) (λ fault. fault ≡ no_memory) }
+    ensures number { MatchResult result (λ next. next ≡ line + 1) (λ fault. fault ≡ no_memory) }
+    ensures only { OnErr result (2 ^ 64 ≤ line + 1) }
 {
     match line.checked_add(1) {
         Some(next) => Ok(next),

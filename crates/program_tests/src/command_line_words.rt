@@ -170,6 +170,26 @@ fn a_worker_with_its_defaults_and_with_all_its_words(rt: HostRuntime) {
 }
 
 #[test]
+fn a_session(rt: HostRuntime) {
+    let alloc = rt.alloc();
+    let plain = Request::Session {
+        input: "-",
+        proof: None,
+        limit: None,
+        witness: true,
+    };
+    asks(&rt, alloc, "satcluster session -", plain);
+    let full = Request::Session {
+        input: "f.icnf",
+        proof: Some("f.lidrup"),
+        limit: Some(1_000_000_000),
+        witness: false,
+    };
+    let words = "satcluster session --limit 1000000000 -n f.icnf f.lidrup";
+    asks(&rt, alloc, words, full);
+}
+
+#[test]
 fn a_check_and_cubes_and_a_drill(rt: HostRuntime) {
     let alloc = rt.alloc();
     let check = Request::Check {

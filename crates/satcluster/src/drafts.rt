@@ -25,7 +25,8 @@ pub(crate) enum Draft<F> {
     InPlace(F),
 }
 
-fn not_written(error: io::Error) -> Refusal
+/// The refusal of a file that cannot be written.
+pub(crate) fn not_written(error: io::Error) -> Refusal
     ensures { IsRefusedAs Refusal.Writing result }
 {
     refused(error, Refusal::Writing)

@@ -136,8 +136,22 @@ fn session_paths<'a>(events: &'a str, proof: &'a str) -> Paths<'a> {
     }
 }
 
+/// The files of a session that is answered.
+fn answered_paths<'a>(events: &'a str, proof: Option<&'a str>) -> Paths<'a> {
+    Paths {
+        input: events,
+        input_as: Subject::Events,
+        cubes: None,
+        read: None,
+        read_as: Subject::Session,
+        written: proof,
+        joined: &[],
+    }
+}
+
 fn paths_of<'a>(request: &'a Request<'_>) -> Paths<'a> {
     match *request {
+        Request::Session { input, proof, .. } => answered_paths(input, proof),
         Request::Solve {
             input,
             cubes,
@@ -239,7 +253,7 @@ fn faulty<'a>(paths: &Paths<'a>, file: File) -> Option<(&'a str, Subject)> {
     match file {
         File::Input => Some((paths.input, paths.input_as)),
         File::Cubes => Some((paths.cubes?, Subject::Cubes)),
-        File::Own | File::Proof => Some((paths.read?, paths.read_as)),
+        File::Own | File::Proof | File::Log => Some((paths.read?, paths.read_as)),
         File::Joined(number) => Some((joined_name(paths, number), Subject::Proof)),
     }
 }

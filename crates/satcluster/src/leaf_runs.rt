@@ -2,7 +2,7 @@
 
 use crate::drafts::write_proof;
 use crate::files::{Machine, no_memory};
-use commands::{Begun, Target, begin_files, hushed, stopped};
+use commands::{Begun, Target, begin_files, hushed};
 use leaves::{Search, Split, run_refute, run_refute_all};
 use node_main::{Refusal, Report};
 use std::alloc::Global;
@@ -44,10 +44,7 @@ fn searched(
     let Some(last) = leaves.last else {
         return run_refute(alloc, split, leaves.first, search).map_err(no_memory);
     };
-    match run_refute_all(alloc, split, leaves.first, last, search) {
-        Ok(report) => Ok(report),
-        Err(fault) => Err(stopped(fault)),
-    }
+    run_refute_all(alloc, split, leaves.first, last, search).map_err(no_memory)
 }
 
 /// A search under a leaf, or under several in turn, whose log is written to a file if one is named.

@@ -13,6 +13,7 @@ mod files;
 mod leaf_runs;
 mod linked_runs;
 mod proof_file;
+mod session;
 mod showing;
 mod standard_input;
 
@@ -29,6 +30,7 @@ use leaf_runs::{LeafFiles, LeafRange, refute};
 use leaves::{Search, run_look};
 use linked_runs::{Files, serve, solve, work};
 use node_main::{Refusal, Report, Request, UsageFault, command, run_cubes};
+use session::{SessionFiles, session};
 use showing::Showing;
 use standard_input::is_sound;
 use std::alloc::AllocError;
@@ -262,6 +264,12 @@ fn answer<R: Runtime + AllocGlobal + Net>(
             };
             cover_files(&Machine { rt }, &files, receipts)
         }
+        Request::Session {
+            input,
+            proof,
+            limit,
+            witness,
+        } => session(rt, SessionFiles { input, proof }, limit, witness),
     }
 }
 

@@ -80,6 +80,7 @@ fn is_written(request: &Request) -> bool {
         Request::Work { proof, .. } => is_some_dash(proof),
         Request::Refute { fragment, .. } => is_some_dash(fragment),
         Request::Join { proof, .. } => is_some_dash(proof),
+        Request::Session { proof, .. } => is_some_dash(proof),
         Request::Lift { fragment, .. } => is_dash(fragment),
         Request::Trim { out, .. } => is_dash(out),
         Request::Receipt { receipt, .. } => is_dash(receipt),

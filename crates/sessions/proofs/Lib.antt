@@ -1,6 +1,7 @@
 pub mod EventLemmas
 pub mod FeedLemmas
 pub mod FinishLemmas
+pub mod HeardLemmas
 pub mod ModelLemmas
 pub mod ReadLemmas
 pub mod ReportLemmas

@@ -401,3 +401,29 @@ pub spelled_is_read : (text : List ℕ) (E : List Event) → Spells text E → e
 spelled_is_read text E (limits, headed_) =
     spelled_text (lines text) 0 start E refl headed_
     (limits_fit E (headed start) (record { clauses = omega (arith, limits.clauses); literals = omega (arith, limits.literals); within = limits.within; short = limits.short }))
+
+-- ---- the literals of an event
+all_within : (p : Progress) (e : Event) → Takes p e → Within (literals_of e)
+all_within p (Given C) takes = takes.2
+all_within p (Asked A) takes = takes.1
+
+some_is : (d e : Event) → Some d ≡ Some e → d ≡ e
+some_is d e h = cc
+
+none_some : (e : Event) → (let o : Option Event = None in o ≡ Some e) → ⊥
+none_some e h = cc
+
+no_event : (p q : Progress) (e : Event) → (let r : Row = Ok (p, None) in r ≡ Ok (q, Some e)) → ⊥
+no_event p q e h = none_some e (ap (λ (x : Progress × Option Event). x.1) (ok_is {A = Progress × Option Event} (p, None) (q, Some e) h))
+
+-- they have variables from 1 to 1,000,000
+pub row_within : (line : ℕ) (ws : List (List ℕ)) (p q : Progress) (e : Event) → read_row line ws p ≡ Ok (q, Some e) → All (IsWithin 1000000) (literals_of e)
+row_within line [] p q e h = absurd (no_event p q e (sym (row_none line p) ∙ h))
+row_within line (word ∷ more) p q e h = elim (cases_Bool p.headed) [
+  | inl is ↦
+      let row = event_spelled line word more p q (Some e) (sym (row_event line word more p is) ∙ h) in
+      subst (λ (x : Event). Within (literals_of x)) (sym (some_is e row.event row.is)) (all_within p row.event row.takes)
+  | inr not ↦
+      let head = bind_ok (read_header line (word ∷ more)) (λ x. Ok (record p { headed = true }, None)) (q, Some e) (sym (row_header line word more p not) ∙ h) in
+      absurd (no_event (record p { headed = true }) q e head.2)
+]

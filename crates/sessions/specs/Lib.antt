@@ -2,8 +2,10 @@ pub mod Answers
 pub mod Check
 pub mod Events
 pub mod Follows
+pub mod Heard
 pub mod Lines
 pub mod Reports
+pub mod Rows
 pub mod Sides
 pub mod Texts
 pub mod View

@@ -4,7 +4,7 @@ ghost use Rattle.std.specs.Prelude.{◌≡◌, ◌≢◌, ◌<◌, ◌≤◌, �
 ghost use Rattle.lrat_text.specs.Lines.{IsOpen};
 ghost use Rattle.sessions.specs.Check.{Finishes, HasTaken, KeepsEnds, events_ended, proof_ended, wanted};
 ghost use Rattle.sessions.specs.inner.Feeding.{EndsRow, HearsRow, closing};
-ghost use Rattle.sessions.specs.inner.Rows.{event_of};
+ghost use Rattle.sessions.specs.Rows.{event_of};
 ghost use Rattle.sessions.specs.inner.Sides.{fault_at};
 
 use crate::event_lines::{EventLines, Sent};

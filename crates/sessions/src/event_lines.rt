@@ -1,10 +1,10 @@
 //! The lines of a text of events, read one after the other.
 
-ghost use Rattle.std.specs.Prelude.{◌≡◌, ℕ, ◌+◌, List, ◌∷◌, IfOk, OnOk, IfErr, None, Some, Ok, bytes_eq, codes};
+ghost use Rattle.std.specs.Prelude.{◌≡◌, ◌≢◌, ℕ, ◌+◌, List, [], ◌∷◌, IfOk, OnOk, IfErr, None, Some, Ok, bytes_eq, codes};
 ghost use Rattle.dimacs.specs.text.Words.{words, words_of};
 ghost use Rattle.icnf.specs.Reading.{read_header};
 ghost use Rattle.sessions.specs.Events.{put_clause, put_query, read_event, read_row, start};
-ghost use Rattle.sessions.specs.inner.Rows.{GivesRow};
+ghost use Rattle.sessions.specs.Rows.{GivesRow};
 
 use crate::line_literals::{LineLiterals, fault};
 use dimacs::Lit;
@@ -22,7 +22,8 @@ const QUERY: usize = 1_000_000;
 
 /// What a line says.
 #[derive(Clone, Copy)]
-pub(crate) enum Sent {
+pub enum Sent {
+    /// Neither: it is empty, a comment, or the header.
     Nothing,
     /// A clause is given.
     Clause,
@@ -30,8 +31,8 @@ pub(crate) enum Sent {
     Query,
 }
 
-/// What was read of the lines so far.
-pub(crate) struct EventLines {
+/// What was read of the lines so far, and the literals of the last one that had an event. The room is used again from line to line.
+pub struct EventLines {
     /// Whether the header was there.
     headed: bool,
     /// How many clauses, and how many literals of clauses.
@@ -42,7 +43,7 @@ pub(crate) struct EventLines {
 }
 
 impl Model for EventLines {
-    ghost use Rattle.sessions.specs.inner.Rows.{Held};
+    ghost use Rattle.sessions.specs.Rows.{Held};
     ghost use Rattle.std.specs.Prelude.{◌≤◌};
 
     ghost Value = { Held };
@@ -73,8 +74,9 @@ fn is_mark(word: &[u8]) -> bool
 
 impl EventLines {
     /// No line was read.
-    pub(crate) fn new(alloc: Global) -> EventLines
-        ensures { result.progress ≡ start }
+    pub fn new(alloc: Global) -> EventLines
+        ensures progress { result.progress ≡ start }
+        ensures literals { result.read.literals ≡ [] }
     {
         EventLines {
             headed: false,
@@ -85,14 +87,14 @@ impl EventLines {
     }
 
     /// The literals of the last event.
-    pub(crate) fn literals(&self) -> &[Lit]
+    pub fn literals(&self) -> &[Lit]
         ensures { result.now ≡ self.now.read.literals }
     {
         self.literals.as_slice()
     }
 
     /// Whether the header was there.
-    pub(crate) fn is_headed(&self) -> bool
+    pub fn is_headed(&self) -> bool
         ensures { result ≡ self.now.progress.headed }
     {
         self.headed
@@ -100,7 +102,8 @@ impl EventLines {
 
     /// A clause was read.
     fn put_clause(&mut self, line: u64) -> Result<Sent, IcnfFault>
-        ensures { GivesRow self.new result (put_clause line self.old.progress self.old.read.literals) }
+        ensures row { GivesRow self.new result (put_clause line self.old.progress self.old.read.literals) }
+        ensures says { IfOk result (λ sent. sent ≡ Sent.Clause) }
     {
         let count = self.literals.as_slice().len();
         if self.clauses >= CLAUSES || count > LITERALS - self.total as usize {
@@ -113,7 +116,8 @@ impl EventLines {
 
     /// A query was read.
     fn put_query(&self, line: u64) -> Result<Sent, IcnfFault>
-        ensures { GivesRow self.now result (put_query line self.now.progress self.now.read.literals) }
+        ensures row { GivesRow self.now result (put_query line self.now.progress self.now.read.literals) }
+        ensures says { IfOk result (λ sent. sent ≡ Sent.Query) }
     {
         if self.literals.as_slice().len() > QUERY {
             return Err(fault(Kind::AboveLimit, line));
@@ -130,7 +134,8 @@ impl EventLines {
         text: &[u8],
     ) -> Result<Sent, IcnfFault>
         requires { words text.now ≡ word.now ∷ words after.now }
-        ensures { GivesRow self.new result (read_event line word.now (words after.now) self.old.progress) }
+        ensures row { GivesRow self.new result (read_event line word.now (words after.now) self.old.progress) }
+        ensures says { IfOk result (λ sent. sent ≢ Sent.Nothing) }
     {
         if is_mark(word) {
             self.literals.read(line, after)?;
@@ -140,10 +145,13 @@ impl EventLines {
         self.put_clause(line)
     }
 
-    /// Reads the line of this number.
+    /// Reads the line of this number, of which `text` are the bytes without the LF: what it says, or the first fault. Behind a fault nothing
+    /// is promised of what was read.
     #[tactic(auto, unfolding(crate::specs::Events::read_row))]
-    pub(crate) fn read(&mut self, line: u64, text: &[u8]) -> Result<Sent, IcnfFault>
-        ensures { GivesRow self.new result (read_row line (words_of text.now) self.old.progress) }
+    pub fn read(&mut self, line: u64, text: &[u8]) -> Result<Sent, IcnfFault>
+        ensures row { GivesRow self.new result (read_row line (words_of text.now) self.old.progress) }
+        // a line without an event leaves the literals of the last one
+        ensures kept { IfOk result (λ sent. sent ≡ Sent.Nothing → self.new.read.literals ≡ self.old.read.literals) }
     {
         if is_comment(text) {
             return Ok(Sent::Nothing);

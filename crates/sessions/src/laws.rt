@@ -3,6 +3,7 @@
 ghost use Rattle.std.specs.Prelude.{◌≡◌, ◌↔◌, ℕ, List, [], None, Ok, length};
 ghost use Rattle.sessions.specs.Answers.{AreRight, Event, queries};
 ghost use Rattle.sessions.specs.Events.{Spells, events_of};
+ghost use Rattle.sessions.specs.Heard.{heard, outcome_of};
 ghost use Rattle.sessions.specs.Texts.{session_of};
 
 /// Each answer of an accepted text is right for its query: a model of the query and of the clauses that were given before it, or a core
@@ -18,4 +19,9 @@ pub fn accepted_sessions_are_right()
 /// What is read of a text of events is what the text spells, and nothing else.
 pub fn events_are_spelled()
     ensures { (text : List ℕ) (E : List Event) → (events_of text ≡ Ok E) ↔ Spells text E }
+{}
+
+/// What is heard of a text of events line by line is what is read of the whole.
+pub fn events_are_heard()
+    ensures { (text : List ℕ) → events_of text ≡ outcome_of (heard text) }
 {}

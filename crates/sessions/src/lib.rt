@@ -17,6 +17,7 @@ mod stage;
 mod tally;
 
 pub use check::{SessionCheck, SessionFault, Wants};
-pub use laws::{accepted_sessions_are_right, events_are_spelled};
+pub use event_lines::{EventLines, Sent};
+pub use laws::{accepted_sessions_are_right, events_are_heard, events_are_spelled};
 pub use report::{check_report, session_report};
 pub use tally::Tally;

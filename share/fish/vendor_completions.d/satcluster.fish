@@ -88,3 +88,7 @@ complete -c satcluster -n __fish_use_subcommand -f -a cover -d 'Tells whether re
 complete -c satcluster -n '__fish_seen_subcommand_from cover' -l cubes -r -d 'The cubes, an iCNF file that is read, whose clauses are those of INPUT'
 complete -c satcluster -n '__fish_seen_subcommand_from cover' -s q -d 'Print no c lines, but for c usage'
 complete -c satcluster -n '__fish_seen_subcommand_from cover' -l explain -d 'Tell on standard error, in words, what a c line means, and what to do'
+complete -c satcluster -n __fish_use_subcommand -f -a session -d 'Answers queries between which clauses are given, with a LIDRUP proof of all answers'
+complete -c satcluster -n '__fish_seen_subcommand_from session' -l limit -x -d 'How many lemmas may be learnt in a query, from 1 to 1000000000; else any number'
+complete -c satcluster -n '__fish_seen_subcommand_from session' -s n -d 'Print no v lines and no f lines'
+complete -c satcluster -n '__fish_seen_subcommand_from session' -l explain -d 'Tell on standard error, in words, what a c line means, and what to do'

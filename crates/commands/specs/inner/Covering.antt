@@ -1,6 +1,7 @@
 -- A cover of files that come one after the other.
 use Rattle.std.specs.Prelude.{◌≡◌, ◌⊎◌, ◌≤◌, ◌<◌, ℕ, Bool, true, false, List, length, Option}
-use Rattle.commands.specs.Covering.{Seen, most_bytes}
+use Rattle.commands.specs.Covering.{most_bytes}
+use Rattle.commands.specs.Names.{Gone}
 use Rattle.commands.specs.Known.{Of}
 use Rattle.commands.specs.declared.covering.Run.{Run}
 use Rattle.commands.specs.declared.small.SmallText.{SmallText}
@@ -27,7 +28,7 @@ IsText known text = Of known (λ bytes. IsTextOf bytes text) ⊎ (text ≡ Unrea
 
 -- ---- the run
 -- these names were gone through
-pub record IsGone (F : Cnf) (cubes : List Cube) (s : Seen) (r : Run) : Type 0 where
-  pub holds : Holds F cubes s.texts r.cover
+pub record IsGone (F : Cnf) (cubes : List Cube) (s : Gone) (r : Run) : Type 0 where
+  pub holds : Holds F cubes s.files r.cover
   pub notes : r.notes.items ≡ s.notes
   pub count : r.count ≡ s.count

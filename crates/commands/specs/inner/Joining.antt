@@ -1,8 +1,8 @@
 -- A join that is written to a part while files are read.
 use Rattle.std.specs.Prelude.{◌≡◌, ◌≢◌, ◌⊎◌, ◌++◌, ◌∷◌, ℕ, Bool, List, [], map, Option, Some, None, Result, Ok, refl}
 use Rattle.std.proofs.Common.{sym, ◌∙◌, subst, append_assoc, append-nil}
-use Rattle.commands.specs.Names.{names_behind, names_of}
-use Rattle.commands.specs.Joining.{Gone, AnswersBy, AreTaken, GoesOn, IsStored, OneStops, ReadsFile, Stops, Takes, end_line, none_gone, without_file}
+use Rattle.commands.specs.Names.{AreTaken, Gone, names_behind, names_of, none_gone}
+use Rattle.commands.specs.Joining.{AnswersBy, GoesOn, IsStored, OneStops, ReadsFile, Stops, Takes, end_line, without_file}
 use Rattle.commands.specs.Known.{Of}
 use Rattle.commands.specs.declared.drafts.Target.{Target}
 use Rattle.commands.specs.declared.joining.Ended.{Ended}

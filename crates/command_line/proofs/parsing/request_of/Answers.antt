@@ -19,4 +19,5 @@ returns-in_default-clause-none c =
       no_trim = other.not-trim;
       no_receipt = other.not-receipt;
       no_cover = other.not-cover;
+      no_session = other.not-session;
     })

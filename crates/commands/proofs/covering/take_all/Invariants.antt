@@ -1,6 +1,7 @@
 use Rattle.std.specs.Global.{Vec}
 use Rattle.std.proofs.Common.{ℕ, List, map, take}
-use Rattle.commands.specs.Covering.{AreSeen, Seen, TakesText}
+use Rattle.commands.specs.Covering.{TakesText}
+use Rattle.commands.specs.Names.{AreTaken, Gone}
 use Rattle.commands.specs.inner.Covering.{IsGone}
 use Rattle.commands.proofs.covering.take_all.Given as goal
 use Rattle.dimacs.specs.logic.Cnf.{Cnf}
@@ -8,5 +9,5 @@ use Rattle.icnf.specs.Leaves.{Cube}
 
 abbrev pub invariant-loop-name : goal.invariant-loop-name
 invariant-loop-name g l =
-    (F : Cnf) (cubes : List Cube) (s : Seen) → IsGone F cubes s l.initial.run
-    → (t : Seen) × AreSeen (λ name. TakesText F cubes l.quiet (g.D.Disk.holds l.disk name) name) (map (λ (n : Vec ℕ). n.items) (take l.name-index l.names)) s t × IsGone F cubes t l.run
+    (F : Cnf) (cubes : List Cube) (s : Gone) → IsGone F cubes s l.initial.run
+    → (t : Gone) × AreTaken (λ name. TakesText F cubes l.quiet (g.D.Disk.holds l.disk name) name) (map (λ (n : Vec ℕ). n.items) (take l.name-index l.names)) s t × IsGone F cubes t l.run

@@ -1,7 +1,7 @@
 use Rattle.std.proofs.Common.{[], List, ℕ, Option, Result, Err, sym, subst}
 use Rattle.std.specs.Prelude.{IfOk}
-use Rattle.commands.specs.Names.{OfNames}
-use Rattle.commands.specs.Joining.{AreTaken, Joins, OneStops, Stops, Takes, none_gone}
+use Rattle.commands.specs.Names.{AreTaken, OfNames, none_gone}
+use Rattle.commands.specs.Joining.{Joins, OneStops, Stops, Takes}
 use Rattle.commands.specs.inner.Joining.{Goes, HasPart, IsAt}
 use Rattle.commands.specs.declared.parts.Part.{Part}
 use Rattle.commands.proofs.JoinLemmas.{of_names_ok}

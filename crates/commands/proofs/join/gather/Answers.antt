@@ -5,8 +5,8 @@ use Rattle.dimacs.specs.logic.Cnf.{Cnf}
 use Rattle.icnf.specs.Leaves.{Cube}
 use Rattle.commands.specs.Known.{Of}
 use Rattle.commands.specs.Beginning.{OfQuietTree}
-use Rattle.commands.specs.Names.{OfListed, OfNames, lists, names_of}
-use Rattle.commands.specs.Joining.{AreTaken, Gone, IsStored, Joins, OneStops, Stops, Takes, none_gone}
+use Rattle.commands.specs.Names.{AreTaken, Gone, OfListed, OfNames, lists, names_of, none_gone}
+use Rattle.commands.specs.Joining.{IsStored, Joins, OneStops, Stops, Takes}
 use Rattle.commands.specs.declared.drafts.Target.{Target}
 use Rattle.commands.specs.declared.joining.JoinOptions.{JoinOptions}
 use Rattle.commands.specs.inner.Joining.{Goes, HasPart, IsAt, IsListed, IsListing, IsSettled}

@@ -1,5 +1,5 @@
 use Rattle.std.proofs.Common.{◌∙◌, ap, refl, []}
-use Rattle.commands.specs.Joining.{one_more}
+use Rattle.commands.specs.Names.{one_more}
 use Rattle.commands.proofs.JoinLemmas.{counts_more}
 use Rattle.commands.proofs.joining.pass.Goals as goal
 

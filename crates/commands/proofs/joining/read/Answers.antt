@@ -1,7 +1,8 @@
 use Rattle.std.proofs.Common.{◌≡◌, [], ℕ, List}
 use Rattle.std.proofs.lemmas.Result.{IfOk-weaker}
 use Rattle.commands.specs.Known.{Of}
-use Rattle.commands.specs.Joining.{AnswersBy, Gone, ReadsFile, one_more, without_file}
+use Rattle.commands.specs.Joining.{AnswersBy, ReadsFile, without_file}
+use Rattle.commands.specs.Names.{Gone, one_more}
 use Rattle.commands.specs.inner.Joining.{Goes, HasJoinedOn, IsAt, TakesSome}
 use Rattle.commands.proofs.JoinLemmas.{fed_at, fed_some, fed_whole, skipped_some, some_goes}
 use Rattle.commands.proofs.OfLemmas.{of_ok}

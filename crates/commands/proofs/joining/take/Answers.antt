@@ -2,7 +2,8 @@ use Rattle.std.proofs.Common.{◌≡◌, ◌∙◌, ap, refl, subst, [], ℕ, Li
 use Rattle.std.specs.Prelude.{IfOk}
 use Rattle.std.proofs.lemmas.Result.{IfOk-weaker}
 use Rattle.commands.specs.Known.{Of}
-use Rattle.commands.specs.Joining.{AnswersBy, Gone, IsFree, Stops, Takes, one_more, without_file}
+use Rattle.commands.specs.Joining.{AnswersBy, IsFree, Stops, Takes, without_file}
+use Rattle.commands.specs.Names.{Gone, one_more}
 use Rattle.commands.specs.inner.Joining.{Goes, IsAt, TakesSome}
 use Rattle.commands.proofs.JoinLemmas.{counts_more, skipped_file, take_goes}
 use Rattle.commands.proofs.joining.take.Goals as goal

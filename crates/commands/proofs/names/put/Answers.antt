@@ -4,8 +4,8 @@ use Rattle.std.proofs.lemmas.Result.{IfOk-weaker}
 use Rattle.dimacs.specs.logic.Cnf.{Cnf}
 use Rattle.icnf.specs.Leaves.{Cube}
 use Rattle.commands.specs.Known.{Of}
-use Rattle.commands.specs.Names.{OfListed, OfNames, names_of}
-use Rattle.commands.specs.Joining.{AreTaken, Gone, Joins, OneStops, Stops, Takes, none_gone}
+use Rattle.commands.specs.Names.{AreTaken, Gone, OfListed, OfNames, names_of, none_gone}
+use Rattle.commands.specs.Joining.{Joins, OneStops, Stops, Takes}
 use Rattle.commands.specs.declared.joining.JoinOptions.{JoinOptions}
 use Rattle.commands.specs.inner.Joining.{Goes, IsAt, IsListed, IsListing}
 use Rattle.reports.specs.declared.report.Report.{Report}

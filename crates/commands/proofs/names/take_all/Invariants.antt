@@ -1,7 +1,8 @@
 use Rattle.std.proofs.Common.{◌≡◌, [], ℕ, List, map, take}
 use Rattle.dimacs.specs.logic.Cnf.{Cnf}
 use Rattle.icnf.specs.Leaves.{Cube}
-use Rattle.commands.specs.Joining.{AreTaken, Gone, Takes}
+use Rattle.commands.specs.Joining.{Takes}
+use Rattle.commands.specs.Names.{AreTaken, Gone}
 use Rattle.commands.specs.inner.Joining.{IsAt}
 use Rattle.commands.proofs.names.take_all.Given as goal
 

@@ -1,7 +1,8 @@
 use Rattle.std.proofs.Common.{◌≡◌, [], ℕ, List, subst}
 use Rattle.std.specs.Prelude.{IfOk}
 use Rattle.std.proofs.lemmas.Result.{IfOk-weaker}
-use Rattle.commands.specs.Joining.{Gone, IsFree, Stops, Takes, without_file}
+use Rattle.commands.specs.Joining.{IsFree, Stops, Takes, without_file}
+use Rattle.commands.specs.Names.{Gone}
 use Rattle.commands.specs.inner.Joining.{Goes, IsAt}
 use Rattle.commands.proofs.JoinLemmas.{skipped_file}
 use Rattle.commands.proofs.names.take_named.Goals as goal

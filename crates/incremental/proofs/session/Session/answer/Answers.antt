@@ -1,5 +1,9 @@
-use Rattle.std.proofs.Common.{◌∙◌}
-use Rattle.incremental.specs.inner.Lines.{listed_text}
+use Rattle.std.proofs.Common.{◌∙◌, ◌++◌, ◌∷◌, List, [], ℕ, ap, map}
+use Rattle.lrat_text.specs.Runs.{text_of}
+use Rattle.cube_solve.specs.Session.{last_of}
+use Rattle.incremental.specs.inner.Lines.{line_said, listed_text}
+use Rattle.incremental.proofs.GrowingLemmas.{grows_all, grows_closed, grows_on}
+use Rattle.incremental.proofs.LogLemmas.{plain_steps}
 use Rattle.incremental.proofs.LineLemmas.{asked_read, given_limits, listed_bare, one}
 use Rattle.incremental.proofs.StandingLemmas.{short, stands_answered}
 use Rattle.incremental.proofs.session.Session.answer.Goals as goal
@@ -19,3 +23,15 @@ returns-clause-stands g c = λ E told text h.
     c.requires.within (l.vars ∙ a.vars) (λ F k. l.given F (a.given F k)) l.empty l.last
     (record { line = listed_text 113 A; bare = listed_bare 113 A limits (λ x. cc); read = asked_read A limits; text = c.in_ok-put_listed.ensures })
     a.tells l.known l.text c.in_ok-put_log.ensures c.in_ok-tell.ensures a.answer a.failed h
+
+pub returns-clause-grows : goal.returns-clause-grows
+returns-clause-grows g c = λ E told text h.
+    let s = c.args.self.now in
+    let r = h.reader in
+    let first = c.put_listed.new.out.items in
+    let second = c.put_log.new.out.items in
+    let t = c.in_ok-answer.ensures.tells r.given r.live h.known in
+    let spelled = c.take_log-log.ensures.text ∙ t.text ∙ ap (λ (x : List ℕ). x ++ text_of (last_of s.search) t.steps) h.told_all in
+    let all = c.in_ok-put_log.ensures (last_of s.search) t.steps spelled (plain_steps r.given r.live (last_of s.search) t.steps t.right) in
+    grows_on s.out.items first c.tell.new.out.items (listed_text 113 c.args.query.now ++ 10 ∷ [], c.in_ok-put_listed.ensures)
+    (grows_on first second c.tell.new.out.items (grows_all (map line_said t.steps) first second all) (grows_closed c.in_ok-answer.answer second c.tell.new.out.items c.in_ok-tell.ensures))

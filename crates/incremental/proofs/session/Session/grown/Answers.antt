@@ -1,4 +1,4 @@
-use Rattle.std.proofs.Common.{◌≡◌, ◌≤◌, List, ℕ, refl, ap, sym, subst, arith}
+use Rattle.std.proofs.Common.{◌≤◌, refl, ap, sym, subst}
 use Rattle.incremental.specs.Answering.{vars_in}
 use Rattle.incremental.proofs.StandingLemmas.{stands_grown}
 use Rattle.incremental.proofs.session.Session.grown.Goals as goal

@@ -1,7 +1,7 @@
 use Rattle.std.proofs.Common.{sym, ap, subst}
 use Rattle.sessions.specs.Answers.{Given, Asked}
 use Rattle.sessions.specs.inner.Feeding.{HearsRow}
-use Rattle.sessions.specs.inner.Rows.{event_of}
+use Rattle.sessions.specs.Rows.{event_of}
 use Rattle.sessions.specs.declared.event_lines.Sent.{Sent}
 use Rattle.sessions.proofs.check.SessionCheck.hear.Goals as goal
 

@@ -1,0 +1,82 @@
+//! The words of `session`.
+
+ghost use Rattle.std.specs.Prelude.{◌≡◌, ℕ, Option, IfSome, IfNone, codes};
+ghost use Rattle.command_line.specs.CommandLine.{IsInRange, IsSessionLimit, Makes, NamesAnyNumber};
+ghost use Rattle.command_line.specs.declared.request.Request.{Request};
+ghost use Rattle.command_line.specs.Program.{session_app};
+ghost use Rattle.word_rules.specs.Rules.{app_of_command};
+
+use crate::commands::run_words::printing_of;
+use crate::commands::words::{file_of, is_named, number_of};
+use crate::request::Request;
+use word_rules::{CommandRules, Found, Need, Word};
+
+/// The greatest limit.
+const LAST_LIMIT: u64 = 1_000_000_000;
+
+/// The words.
+static RULES: CommandRules<'static> = CommandRules {
+    name: "session",
+    about: "Answers queries between which clauses are given, with a LIDRUP proof of all answers",
+    after_help: "Status: that of the last answer, 10, 20 or 0; 0 without one, 1 an error",
+    words: &[
+        Word::Number {
+            name: "limit",
+            low: 1,
+            high: LAST_LIMIT,
+            need: Need::Optional,
+            help: "How many lemmas may be learnt in a query, from 1 to 1000000000; else any number",
+        },
+        Word::Flag {
+            name: "no-witness",
+            letter: 'n',
+            help: "Print no v lines and no f lines",
+        },
+        Word::File {
+            name: "INPUT",
+            required: true,
+            help: "The clauses and queries, an iCNF file that is read line by line",
+        },
+        Word::File {
+            name: "PROOF",
+            required: false,
+            help: "The file to which a LIDRUP proof is written, line by line",
+        },
+    ],
+};
+
+/// The same, handed out: what has all of them has not their tables before it.
+pub(crate) fn rules() -> CommandRules<'static>
+    ensures { app_of_command result ≡ session_app }
+{
+    RULES
+}
+
+/// The limit that the words name, or that they name none.
+fn limit_of(given: &Found) -> Option<Option<u64>>
+    ensures found { IfSome result (NamesAnyNumber given.now.rows (codes "limit") 1 1000000000) }
+    ensures none { IfNone result ((limit : Option ℕ) → NamesAnyNumber given.now.rows (codes "limit") 1 1000000000 limit → ⊥) }
+    ensures range { IfSome result (λ limit. IfSome limit IsSessionLimit) }
+{
+    if !is_named(given, "limit") {
+        return Some(None);
+    }
+    let lemmas = number_of(given, "limit", 1, LAST_LIMIT)?;
+    Some(Some(lemmas))
+}
+
+/// What its words ask for.
+pub(crate) fn asked<'a>(given: &Found<'a>) -> Option<Request<'a>>
+    ensures found { IfSome result (Makes (codes "session") given.now.rows) }
+    ensures none { IfNone result ((request : Request) → Makes (codes "session") given.now.rows request → ⊥) }
+    ensures range { IfSome result IsInRange }
+{
+    let input = file_of(given, "INPUT")?;
+    let limit = limit_of(given)?;
+    Some(Request::Session {
+        input,
+        proof: file_of(given, "PROOF"),
+        limit,
+        witness: printing_of(given).witness,
+    })
+}

@@ -1,0 +1,106 @@
+//! `session`: where its events come from, and where its proof and its answers go.
+
+use crate::drafts::not_written;
+use crate::files::{no_memory, path_of};
+use crate::proof_file::{is_printed_to, is_same_file, place_of};
+use crate::standard_input::is_dash;
+use commands::{Asking, Outputs, answer_session, print, refused};
+use node_main::{Refusal, Report};
+use std::fs::{File, OpenFile};
+use std::io;
+use std::io::{BufReader, Read, Write};
+use std::rt::Runtime;
+
+/// So many bytes are read at once, if they are there.
+const PIECE: usize = 16_384;
+
+/// Every limit that is above the number of clauses and lemmas of a session is none.
+const NO_LIMIT: u64 = 1 << 47;
+
+/// The files of a session.
+#[derive(Clone, Copy)]
+pub(crate) struct SessionFiles<'a> {
+    pub input: &'a str,
+    pub proof: Option<&'a str>,
+}
+
+/// Where a session goes: the file of its proof, if one is named, and standard output.
+#[derive(Drop)]
+struct Printer<'a, R, F> {
+    rt: &'a R,
+    proof: Option<F>,
+}
+
+impl<R: Runtime, F: Write> Outputs for Printer<'_, R, F> {
+    fn prove(&mut self, bytes: &[u8]) -> Result<(), Refusal> {
+        match &mut self.proof {
+            Some(file) => file.write_all(bytes).map_err(not_written),
+            None => Ok(()),
+        }
+    }
+
+    fn print(&mut self, text: &[u8]) -> bool {
+        print(&mut io::writer(self.rt), text).is_ok()
+    }
+}
+
+/// Whether the proof may go to this path: neither the events come from there, nor what is printed goes there.
+fn is_free<R: Runtime + AllocGlobal>(rt: &R, path: &str, input: &str) -> Result<bool, Refusal> {
+    if is_same_file(rt, path, input) {
+        return Ok(false);
+    }
+    match place_of(rt, path).map_err(not_written)? {
+        Some(place) => Ok(!is_printed_to(rt, &place)),
+        None => Ok(true),
+    }
+}
+
+/// The file of the proof, which is empty then, if one is named.
+fn proof_of<R: Runtime + AllocGlobal>(
+    rt: &R,
+    files: SessionFiles<'_>,
+) -> Result<Option<R::File>, Refusal> {
+    let Some(path) = files.proof else {
+        return Ok(None);
+    };
+    if !is_free(rt, path, files.input)? {
+        return Err(Refusal::Writing);
+    }
+    let file = File::create(rt, path).map_err(not_written)?;
+    Ok(Some(file))
+}
+
+/// Answers a session whose events come from this source.
+fn run<R: Runtime + AllocGlobal, S: Read + Drop>(
+    rt: &R,
+    source: S,
+    files: SessionFiles<'_>,
+    asking: Asking,
+) -> Result<Report, Refusal> {
+    let events = BufReader::with_capacity(rt.alloc(), PIECE, source).map_err(no_memory)?;
+    let mut printer = Printer {
+        rt,
+        proof: proof_of(rt, files)?,
+    };
+    answer_session(rt.alloc(), events, &mut printer, asking)
+}
+
+/// Answers a session. A file of events that cannot be opened leaves the file of the proof as it is.
+pub(crate) fn session<R: Runtime + AllocGlobal>(
+    rt: &R,
+    files: SessionFiles<'_>,
+    limit: Option<u64>,
+    witness: bool,
+) -> Result<Report, Refusal> {
+    let asking = Asking {
+        limit: limit.unwrap_or(NO_LIMIT),
+        witness,
+    };
+    if is_dash(files.input) {
+        return run(rt, rt.reader(), files, asking);
+    }
+    match File::open(rt, path_of(files.input)) {
+        Ok(file) => run(rt, file, files, asking),
+        Err(error) => Err(refused(error, Refusal::Input)),
+    }
+}
