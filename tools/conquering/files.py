@@ -168,9 +168,10 @@ class Folder:
             os.close(handle)
 
     def clean(self) -> None:
-        """What earlier starts have left unfinished is of no use."""
-        shutil.rmtree(str(self.at("scratch")))
-        self.at("scratch").mkdir()
+        """What earlier starts have left unfinished is of no use. A job of a killed one may still write
+        there, until it finds that nobody waits for it."""
+        shutil.rmtree(str(self.at("scratch")), ignore_errors=True)
+        self.at("scratch").mkdir(exist_ok=True)
 
     def write(self, name: str, text: str) -> None:
         part = self.at("scratch", name.replace("/", "."))
