@@ -115,8 +115,8 @@ TABLES = (
         }),
     Table(
         "answer",
-        "What a solver printed, told as `c line L fault N` by `model`, and as `c file K line "
-        "L fault N NAME` by `join`.",
+        "What a solver printed. Its faults are printed as `c line L fault N` by `model`, and as"
+        " `c file K line L fault N NAME` by `join`.",
         {
             1: "1 0\n",
             2: "v 1 x 0\n",
