@@ -18,7 +18,7 @@ answer.
 
 All state is a folder of files, INPUT.conquer where --folder is left out. Killed at any moment, the
 same command goes on with what is there. COMMAND is a command line with {cnf} and {lrat}, or two
-with {drat} between them and &&. docs/ENGINES.md tells more.
+with {drat} between them and &&. docs/CLUSTER.md tells more.
 """
 import argparse
 import dataclasses

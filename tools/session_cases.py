@@ -1,6 +1,6 @@
 """Drawn sessions with proofs that are made here, changes of them, and the rules of a proof once more.
 
-The rules are those of docs/SESSIONS.md, written for a second time, so that a text need not be right
+The rules are those of docs/FORMATS.md, written for a second time, so that a text need not be right
 for a test to know what has to be printed of it.
 """
 import random
