@@ -187,9 +187,10 @@ def claimed(claim: Claim, reach: Reach) -> Iterator[str]:
     for carrier in contracts(claim):
         by_path.setdefault(carrier.path, []).append(carrier)
     for path, carriers in by_path.items():
-        name = path.relative_to(definitions.CRATES)
+        place = path.relative_to(definitions.CRATES)
         calls = ", ".join("`%s`" % carrier.function for carrier in carriers)
-        yield wrapped("%s in [`%s`](../../crates/%s):" % (calls, name, name)) + "\n```text"
+        head = "%s of `%s`, in [`%s`](../../crates/%s):" % (calls, place.parts[0], place.name, place)
+        yield wrapped(head) + "\n```text"
         for carrier in carriers:
             if len(carriers) > 1:
                 yield "-- " + carrier.function
