@@ -167,7 +167,7 @@ def contract(crate: str, function: str, names: Sequence[Optional[str]]) -> Contr
 
 
 class Source:
-    """A file of code: the clauses of its public contracts, and what values of its public types are."""
+    """A file of code: the clauses of its public contracts, and the values of its public types."""
 
     def __init__(self, path: Path, exported: Set[str]) -> None:
         text = path.read_text(encoding="utf-8")
@@ -188,11 +188,8 @@ class Source:
             call = re.match(r"\s*(pub )?(?:const )?(?:unsafe )?fn (\w+)", line)
             if not call:
                 continue
-            if owner:
-                is_public = owner in exported and (is_trait or bool(call.group(1)) and not is_instance)
-            else:
-                is_public = call.group(2) in exported
-            if is_public:
+            is_pub = is_trait or bool(call.group(1)) and not is_instance
+            if owner in exported and is_pub if owner else call.group(2) in exported:
                 self.clauses += self.contract(at)
 
     def braced(self, at: int) -> List[str]:

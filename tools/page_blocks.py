@@ -1,22 +1,24 @@
 """The lines and the fenced blocks of a page, and the run of its `sh` blocks over a built program.
 
-tools/pages.py uses it. A block is one script of bash, whose commands run from top to bottom whatever
-each of them ends with; the blocks of a page run in one temporary folder, which has the repository's
+tools/pages.py uses it. A block is one script of bash, whose commands run from top to bottom
+whatever status each has. The blocks of a page run in one temporary folder, with the repository's
 `examples` and `tools`. A comment at the end of a command is what it has to print: the last line, or
-`# a; b` for all lines. Behind a comma the comment may go on with what the program does not print.
+`# a; b` for all lines. After a comma it may go on with other words. Lines of their own that begin
+with `# s`, `# c`, `# v` or `# f` are such a comment of the command before them, for all its lines.
 """
 import os
 import re
 import subprocess
 import tempfile
 import textwrap
-from dataclasses import dataclass
+from dataclasses import dataclass, replace
 from pathlib import Path
-from typing import Iterable, Iterator, List, Optional, Tuple
+from typing import Dict, Iterable, Iterator, List, Optional, Tuple
 
 ROOT = Path(__file__).resolve().parent.parent
 SECONDS = 600  # for a block
 COMMENT = re.compile(r"[^\s#].*?\s#\s+(.+?)\s*$")
+PRINTED = re.compile(r"# ([scvf] .*)$")
 PROGRAMS = {"satcluster-solver": "satcluster-solver", "satcluster-conquer": "conquer.py"}
 
 
@@ -59,16 +61,12 @@ def blocks(page: Path) -> Iterator[Block]:
 
 @dataclass(frozen=True)
 class Command:
-    """One command of a block, perhaps of several lines, and the number of its first line."""
+    """One command of a block, perhaps of several lines: the number of its first line, and what it
+    has to print."""
 
     line: int
     text: str
-
-    @property
-    def comment(self) -> Optional[str]:
-        lines = self.text.splitlines()
-        found = COMMENT.match(lines[-1]) or COMMENT.match(lines[0])
-        return found.group(1) if found else None
+    comment: Optional[str]
 
 
 def is_whole(text: str) -> bool:
@@ -77,17 +75,27 @@ def is_whole(text: str) -> bool:
     return parsed.returncode == 0 and not parsed.stderr and not text.rstrip("\n").endswith("\\")
 
 
-def commands(block: Block) -> Iterator[Command]:
+def command(line: int, lines: List[str]) -> Command:
+    found = COMMENT.match(lines[-1]) or COMMENT.match(lines[0])
+    return Command(line, "\n".join(lines) + "\n", found.group(1) if found else None)
+
+
+def commands(block: Block) -> List[Command]:
+    found: List[Command] = []
     begun: List[str] = []
     for number, line in enumerate(block.lines, block.line + 1):
-        begun.append(line)
-        text = "\n".join(begun) + "\n"
-        if is_whole(text):
-            if text.strip():
-                yield Command(number - len(begun) + 1, text)
-            begun = []
+        printed = PRINTED.match(line)
+        if not begun and printed and found:
+            texts = filter(None, (found[-1].comment, printed.group(1)))
+            found[-1] = replace(found[-1], comment="; ".join(texts))
+        elif begun or line.strip() and not line.startswith("#"):
+            begun.append(line)
+            if is_whole("\n".join(begun) + "\n"):
+                found.append(command(number - len(begun) + 1, begun))
+                begun = []
     if begun:
-        yield Command(block.line + 1 + len(block.lines) - len(begun), "\n".join(begun) + "\n")
+        found.append(command(block.line + 1 + len(block.lines) - len(begun), begun))
+    return found
 
 
 @dataclass(frozen=True)
@@ -106,7 +114,7 @@ class Told:
             return "an unknown command: " + self.err.strip()
         if "c usage" in lines or self.status == 2 and self.err.lower().startswith("usage"):
             return "refused as usage: " + (self.out + self.err).strip()
-        if comment is None or comment.split("; ") == lines:
+        if comment is None or comment.replace(",", ";") == "; ".join(lines).replace(",", ";"):
             return None
         last = lines[-1] if lines else ""
         if comment == last or last and comment.startswith(last + ", "):
@@ -114,41 +122,45 @@ class Told:
         return "prints %r, and not %r" % (" / ".join(lines[-3:]), comment)
 
 
-def play(block: Block, folder: Path, environment: dict) -> Iterator[Tuple[Command, Told]]:
+def play(block: Block, folder: Path, environment: Dict[str, str]) -> Iterator[Tuple[Command, Told]]:
     """Runs a block in a folder: each of its commands, with what it has told."""
     with tempfile.TemporaryDirectory(dir=str(folder.parent)) as room:
-        played = list(commands(block))
+        played = commands(block)
         script = Path(room) / "script"
         turns = ("{\n%s} >%s/%d.out 2>%s/%d.err\necho $? >%s/%d.status\n"
-                 % (command.text, room, at, room, at, room, at) for at, command in enumerate(played))
+                 % (turn.text, room, at, room, at, room, at) for at, turn in enumerate(played))
         script.write_text("".join(turns), encoding="utf-8")
         subprocess.run(["timeout", str(SECONDS), "bash", str(script)], cwd=str(folder),
                        env=environment, stdin=subprocess.DEVNULL, stdout=subprocess.DEVNULL,
                        stderr=subprocess.DEVNULL)
-        for at, command in enumerate(played):
+        for at, turn in enumerate(played):
             texts = [Path(room) / ("%d.%s" % (at, end)) for end in ("out", "err", "status")]
             out, err, status = (path.read_text(encoding="utf-8", errors="replace")
                                 if path.is_file() else "" for path in texts)
-            yield command, Told(out, err, int(status) if status.strip() else None)
+            yield turn, Told(out, err, int(status) if status.strip() else None)
+
+
+def places(base: Path, program: Path) -> Tuple[Path, Dict[str, str]]:
+    """The folder in which blocks run, and their environment, with the program on the path."""
+    folder, path, room = (base / name for name in ("here", "bin", "tmp"))
+    for made in (folder, path, room):
+        made.mkdir()
+    (path / "satcluster").symlink_to(program.resolve())
+    for name, tool in PROGRAMS.items():
+        (path / name).symlink_to(ROOT / "tools" / tool)
+    for name in ("examples", "tools"):
+        (folder / name).symlink_to(ROOT / name)
+    return folder, dict(os.environ, TMPDIR=str(room), PATH="%s:%s" % (path, os.environ["PATH"]))
 
 
 def run(pages: Iterable[Path], program: Path) -> Iterator[str]:
     """Runs the `sh` blocks of some pages over a program; what differs, by page and line."""
     for page in pages:
         with tempfile.TemporaryDirectory() as base:
-            folder, path, room = (Path(base) / name for name in ("here", "bin", "tmp"))
-            for made in (folder, path, room):
-                made.mkdir()
-            (path / "satcluster").symlink_to(program.resolve())
-            for name, tool in PROGRAMS.items():
-                (path / name).symlink_to(ROOT / "tools" / tool)
-            for name in ("examples", "tools"):
-                (folder / name).symlink_to(ROOT / name)
-            environment = dict(os.environ, TMPDIR=str(room),
-                               PATH="%s:%s" % (path, os.environ["PATH"]))
-            for block in blocks(page):
-                for command, told in play(block, folder, environment) if block.language == "sh" else ():
-                    why = told.fault(command.comment)
+            folder, environment = places(Path(base), program)
+            for block in (block for block in blocks(page) if block.language == "sh"):
+                for turn, told in play(block, folder, environment):
+                    why = told.fault(turn.comment)
                     if why:
-                        yield "%s:%d: %s: %s" % (page.relative_to(ROOT), command.line,
-                                                 command.text.splitlines()[0], why)
+                        yield "%s:%d: %s: %s" % (page.relative_to(ROOT), turn.line,
+                                                 turn.text.splitlines()[0], why)

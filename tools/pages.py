@@ -8,10 +8,10 @@
 Prints each fault with its page and line, and ends with status 1 if there is one. --check finds
 a link to a file, or to a heading, that is not there; a path of a crate in code quotes that is not
 there; a line of more than 100 characters outside of code blocks and tables; a README of more than
-80 lines, or with a longer line anywhere; pages for people of more than 14,000 words together; twelve
-words in a row that another page has too; a block of code whose language is not known; a file of
-share/ that is not what would be written; a CHANGELOG that does not begin with the program's version,
-or gives one another day than its tag. tools/page_blocks.py tells how --run compares.
+80 lines, or with a longer line anywhere; pages for people of more than 14,000 words together;
+twelve words in a row that another page has too; a block of code whose language is not known; a file
+of share/ that is not what would be written; a CHANGELOG that does not begin with the program's
+version, or gives one another day than its tag. tools/page_blocks.py tells how --run compares.
 """
 import re
 import subprocess
@@ -38,7 +38,8 @@ LANGUAGES = ("sh", "console", "python", "c", "text", "make", "yaml")
 
 LINK = re.compile(r"\[(?:[^\[\]]|\[[^\]]*\])*\]\(([^)\s]+)\)")
 CODE = re.compile(r"`([^`\n]+)`")
-CRATE_PATH = re.compile(r"[a-z_]+/(?:src|specs|proofs|must-fail)/[A-Za-z_/]+(?:\.(?:rt|antt|edit))?")
+CRATE_PATH = re.compile(r"[a-z_]+/(?:src|specs|proofs|must-fail)/[A-Za-z_/]+"
+                        r"(?:\.(?:rt|antt|edit))?")
 
 
 def pages() -> List[Path]:
@@ -115,7 +116,7 @@ def words_of(page: Path) -> List[Tuple[int, str]]:
 
 
 def repeats() -> Iterator[str]:
-    """Runs of words that stand on two pages, each with the line where it begins on the later one."""
+    """Runs of words that stand on two pages, with the line where each begins on the later one."""
     seen: Dict[Tuple[str, ...], Tuple[Path, int]] = {}
     for page in pages():
         words, last = words_of(page) if page.name not in MADE else [], -2

@@ -1,11 +1,11 @@
 #!/usr/bin/env python3
-"""Writes docs/dev/READING.md: what a reader has to believe, counted from the contracts of public calls.
+"""Writes docs/dev/READING.md: what a reader has to believe, counted from public contracts down.
 
     tools/reading.py           writes the page
     tools/reading.py --check   fails if the page is stale
 
-Both fail if a definition stands on the wrong side: `specs` holds what contracts of public calls name,
-directly or not, and `specs/inner` what only private contracts, invariants and proofs name.
+Both fail if a definition stands on the wrong side: `specs` holds what contracts of public calls
+name, directly or not, and `specs/inner` what only private contracts, invariants and proofs name.
 """
 import re
 import sys
@@ -26,8 +26,8 @@ PAGE = ROOT / "docs" / "dev" / "READING.md"
 class Claim:
     """A claim, with the clauses of contracts that carry it: crate, function, names of clauses.
 
-    If calls follow each other, `carried` is the fact that one call leaves to the next: one call
-    gives it, others keep it, and the last one concludes from it, so the claim holds whatever it says.
+    If calls follow each other, `carried` is the fact that one call leaves to the next. One call
+    gives it, others keep it, and the last concludes from it, so the claim holds whatever it says.
     """
 
     title: str
@@ -39,8 +39,8 @@ class Claim:
 CLAIMS = (
     Claim(
         "`s VERIFIED` is true",
-        "If `check` ends with status 0, the input spells a formula that no assignment satisfies."
-        " Nothing of proofs has to be read for that.",
+        "If `check` ends with status 0, the input spells a formula that no assignment"
+        " satisfies. Nothing of proofs has to be read for that.",
         (("node_main", "ProofCheck::new", ["taken"]),
          ("node_main", "ProofCheck::feed", ["taken"]),
          ("node_main", "ProofCheck::finish", ["truth"])),
@@ -48,9 +48,9 @@ CLAIMS = (
     ),
     Claim(
         "What `check` makes of the bytes of a proof",
-        "The formula that reading gave, and then a proof in any pieces, are handed to a `ProofCheck`."
-        " At its end it reports status 0 exactly if the input spells a formula and the definition"
-        " accepts the proof, and prints what the table of faults says.",
+        "The formula that reading gave, and then a proof in any pieces, are handed to a"
+        " `ProofCheck`. At its end it reports status 0 exactly if the input spells a formula"
+        " and the definition accepts the proof, and prints what the table of faults says.",
         (("node_main", "ProofCheck::of", ["taken"]),
          ("node_main", "ProofCheck::feed", ["taken"]),
          ("node_main", "ProofCheck::finish", ["report"])),
@@ -58,35 +58,35 @@ CLAIMS = (
     ),
     Claim(
         "`s SATISFIABLE` and `s UNSATISFIABLE` are true",
-        "If a run of `solve`, `serve` or `work` ends with status 10, an assignment satisfies the"
-        " formula that the input spells; with status 20 none does. This holds whatever the links"
-        " bring.",
+        "If a run of `solve`, `serve` or `work` ends with status 10, an assignment satisfies"
+        " the formula that the input spells; with status 20 none does. This holds whatever the"
+        " links bring.",
         (("node_main", "run_solve", ["truth"]),
          ("node_main", "run_attend", ["truth"]),
          ("node_main", "run_work", ["truth"])),
     ),
     Claim(
         "What a node holds is true, and nodes agree",
-        "Whatever events come to the nodes of a cluster, what each node holds is true of the formula"
-        " that it has then. Two nodes, each at its moment, never hold verdicts that differ if their"
-        " formulas are equal then. If one node holds a proof, no node, earlier or later, holds an"
-        " assignment of that formula with more clauses.",
+        "Whatever events come to the nodes of a cluster, what each node holds is true of the"
+        " formula that it has then. Two nodes, each at its moment, never hold verdicts that"
+        " differ if their formulas are equal then. If one node holds a proof, no node, earlier"
+        " or later, holds an assignment of that formula with more clauses.",
         (("cluster", "OpenCluster::run", ["formulas", "truth", "agree", "grown"]),
          ("cluster", "OpenCluster::verdict", ["holds"])),
     ),
     Claim(
         "`check` accepts exactly what the definition accepts",
-        "A text is accepted only if the definition accepts it. A text that the definition accepts is"
-        " refused for want of memory alone.",
+        "A text is accepted only if the definition accepts it. A text that the definition"
+        " accepts is refused for want of memory alone.",
         (("lrat_check", "check", ["accepted", "complete"]),),
     ),
     Claim(
         "`join` counts a leaf as closed where a file closes it, and nowhere else",
-        "A join is begun over the formula and the cubes of a tree. It is fed a file's bytes in any"
-        " pieces, ends each file or gives it up, and hands bytes of a proof out. At its end it reports"
-        " 20 exactly if every leaf is closed by a file that is a log over the formula, and then all"
-        " bytes handed out are a proof of the formula; else it reports 0 and exactly the leaves that"
-        " no file closes.",
+        "A join is begun over the formula and the cubes of a tree. It is fed a file's bytes in"
+        " any pieces, ends each file or gives it up, and hands bytes of a proof out. At its end"
+        " it reports 20 exactly if every leaf is closed by a file that is a log over the"
+        " formula, and then all bytes handed out are a proof of the formula; else it reports 0"
+        " and exactly the leaves that no file closes.",
         (("leaves", "Join::of", ["holds"]),
          ("leaves", "Join::feed", ["holds"]),
          ("leaves", "Join::end", ["holds"]),
@@ -98,9 +98,9 @@ CLAIMS = (
     ),
     Claim(
         "What `lift` writes closes the leaf over the formula",
-        "Whatever bytes come as a proof of the formula under a leaf's cube, the bytes that are handed"
-        " out are a log over the formula that closes the leaf, if `finish` is right. A refutation by"
-        " reverse unit propagation alone is refused for want of memory alone.",
+        "Whatever bytes come as a proof of the formula under a leaf's cube, the bytes that are"
+        " handed out are a log over the formula that closes the leaf, if `finish` is right. A"
+        " refutation by reverse unit propagation alone is refused for want of memory alone.",
         (("leaves", "Lift::of", [None]),
          ("leaves", "Lift::feed", [None]),
          ("leaves", "Lift::forget", ["stands", "out"]),
@@ -109,41 +109,42 @@ CLAIMS = (
     ),
     Claim(
         "Each answer that `check --session` verifies is right",
-        "If `check --session` ends with status 0, all bytes of the events spell clauses and queries,"
-        " each query has an answer that is right for the clauses given before it, and how many there"
-        " are of each kind is printed. Nothing of proofs has to be read for that.",
+        "If `check --session` ends with status 0, all bytes of the events spell clauses and"
+        " queries, each query has an answer that is right for the clauses given before it, and"
+        " how many there are of each kind is printed. Nothing of proofs has to be read for"
+        " that.",
         (("commands", "check_session_files", ["truth"]),),
     ),
     Claim(
         "Each answer that `session` prints is right",
-        "This holds of any source of events, and of whatever takes the proof and what is printed. Each"
-        " query before the first fault has an answer that is right for the clauses given before it;"
-        " what is printed spells it, and by then the proof is accepted beside the events so far. If a"
-        " run ends early this holds of the answers so far.",
+        "This holds of any source of events, and of whatever takes the proof and what is"
+        " printed. Each query before the first fault has an answer that is right for the"
+        " clauses given before it; what is printed spells it, and by then the proof is accepted"
+        " beside the events so far. If a run ends early this holds of the answers so far.",
         (("commands", "answer_session", ["session", "left"]),),
     ),
 )
 
 HEAD = """# What has to be believed
 
-The first part has each claim, with the clauses of contracts that carry it and the definitions that
-these clauses name, directly or not. The second part has each of these definitions once, each after
-those that it names. Nothing else of the repository has to be read to know what is claimed.
-Definitions of the kit (numbers, lists, options) are not counted. `tools/reading.py` makes this page
-of the sources.
+The first part has each claim, with the clauses of contracts that carry it and the definitions
+that these clauses name, directly or not. The second part has each of these definitions once, each
+after those that it names. Nothing else of the repository has to be read to know what is claimed.
+Definitions of the kit (numbers, lists, options) are not counted. `tools/reading.py` makes this
+page of the sources.
 
-`IfOk r P` says that P holds of x if r is `Ok x`, and nothing of an error; so does `OnOk r Q`, that Q
-holds then. `x.now` is the value of a reference, `x.old` and `x.new` are those before and after the
-call, and `v.items` are the elements of a vector.
+`IfOk r P` says that P holds of x if r is `Ok x`, and nothing of an error; so does `OnOk r Q`,
+that Q holds then. `x.now` is the value of a reference, `x.old` and `x.new` are those before and
+after the call, and `v.items` are the elements of a vector.
 
-The clauses are those of calls on whole texts. The program makes the calls that these make, on pieces
-of its files: `ProofCheck::of` for `ProofCheck::new`, and `run_solve_of`, `attend` and `run_work_of`
-for `run_solve`, `run_attend` and `run_work`.
-[PROOFS.md](PROOFS.md#from-a-printed-byte-to-its-contract) has the contracts by which pieces give what
-the whole text gives. The calls of a cluster are made by tests alone.
+The clauses are those of calls on whole texts. The program makes the calls that these make, on
+pieces of its files: `ProofCheck::of` for `ProofCheck::new`, and `run_solve_of`, `attend` and
+`run_work_of` for `run_solve`, `run_attend` and `run_work`.
+[PROOFS.md](PROOFS.md#from-a-printed-byte-to-its-contract) has the contracts by which pieces give
+what the whole text gives. The calls of a cluster are made by tests alone.
 """
-CARRIED = """`%s` is what one call leaves to the next. These clauses alone give, keep and use it, so the
-claim holds whatever it says."""
+CARRIED = """`%s` is what one call leaves to the next. These clauses alone give, keep and use it,
+so the claim holds whatever it says."""
 
 
 def wrapped(text: str) -> str:
@@ -172,7 +173,8 @@ def believed(claim: Claim) -> Reach:
 def by_file(found: Sequence[Tuple[Path, str]]) -> Dict[Path, List[str]]:
     """The names of definitions by their file: files in layers, names as they stand there."""
     files = definitions.in_layers({path for path, _ in found})
-    return {path: [name for name in spec_at(path).blocks if (path, name) in found] for path in files}
+    return {path: [name for name in spec_at(path).blocks if (path, name) in found]
+            for path in files}
 
 
 def count(found: Sequence[Tuple[Path, str]]) -> Tuple[int, int]:
@@ -189,8 +191,8 @@ def claimed(claim: Claim, reach: Reach) -> Iterator[str]:
     for path, carriers in by_path.items():
         place = path.relative_to(definitions.CRATES)
         calls = ", ".join("`%s`" % carrier.function for carrier in carriers)
-        head = "%s of `%s`, in [`%s`](../../crates/%s):" % (calls, place.parts[0], place.name, place)
-        yield wrapped(head) + "\n```text"
+        link = "[`%s`](../../crates/%s)" % (place.name, place)
+        yield wrapped("%s of `%s`, in %s:" % (calls, place.parts[0], link)) + "\n```text"
         for carrier in carriers:
             if len(carriers) > 1:
                 yield "-- " + carrier.function
@@ -213,8 +215,9 @@ def page() -> str:
     reaches = [(claim, believed(claim)) for claim in CLAIMS]
     every = list(dict.fromkeys(key for _, reach in reaches for key in reach.found))
     out = [wrapped(HEAD), "## The claims\n", "| Claim | Definitions | Their lines |\n|---|---|---|"]
-    out += ["| [%s](#%s) | %d | %d |" % ((claim.title, anchor(claim.title)) + count(list(reach.found)))
-            for claim, reach in reaches]
+    for claim, reach in reaches:
+        counts = count(list(reach.found))
+        out += ["| [%s](#%s) | %d | %d |" % ((claim.title, anchor(claim.title)) + counts)]
     out += ["| all of them | %d | %d |\n" % count(every)]
     for claim, reach in reaches:
         out += claimed(claim, reach)
