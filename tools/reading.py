@@ -133,9 +133,8 @@ after those that it names. Nothing else of the repository has to be read to know
 Definitions of the kit (numbers, lists, options) are not counted. `tools/reading.py` makes this
 page of the sources.
 
-`IfOk r P` says that P holds of x if r is `Ok x`, and nothing of an error; so does `OnOk r Q`,
-that Q holds then. `x.now` is the value of a reference, `x.old` and `x.new` are those before and
-after the call, and `v.items` are the elements of a vector.
+[TRUST.md](../TRUST.md#how-to-read-a-definition) has a legend of the signs. Beside those, `OnOk r Q`
+says that Q holds if r is `Ok`, and nothing of an error.
 
 The clauses are those of calls on whole texts. The program makes the calls that these make, on
 pieces of its files: `ProofCheck::of` for `ProofCheck::new`, and `run_solve_of`, `attend` and
