@@ -153,14 +153,17 @@ def places(base: Path, program: Path) -> Tuple[Path, Dict[str, str]]:
     return folder, dict(os.environ, TMPDIR=str(room), PATH="%s:%s" % (path, os.environ["PATH"]))
 
 
+def run_page(page: Path, folder: Path, environment: Dict[str, str]) -> Iterator[str]:
+    for block in blocks(page):
+        for turn, told in play(block, folder, environment) if block.language == "sh" else ():
+            why = told.fault(turn.comment)
+            if why:
+                yield "%s:%d: %s: %s" % (page.relative_to(ROOT), turn.line,
+                                         turn.text.splitlines()[0], why)
+
+
 def run(pages: Iterable[Path], program: Path) -> Iterator[str]:
     """Runs the `sh` blocks of some pages over a program; what differs, by page and line."""
     for page in pages:
         with tempfile.TemporaryDirectory() as base:
-            folder, environment = places(Path(base), program)
-            for block in (block for block in blocks(page) if block.language == "sh"):
-                for turn, told in play(block, folder, environment):
-                    why = told.fault(turn.comment)
-                    if why:
-                        yield "%s:%d: %s: %s" % (page.relative_to(ROOT), turn.line,
-                                                 turn.text.splitlines()[0], why)
+            yield from run_page(page, *places(Path(base), program))
