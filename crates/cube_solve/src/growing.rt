@@ -69,7 +69,7 @@ fn carry_all<P: Propagator>(
 
 /// A search over more variables, with the clauses of another one. Its scores begin anew.
 fn search_of<'b, P: Propagator>(
-    old: Search<'_, P>,
+    mut old: Search<'_, P>,
     top: u64,
     propagator: &'b mut P,
     vars: u32,
@@ -88,6 +88,7 @@ fn search_of<'b, P: Propagator>(
     ensures log { IfOk result (λ s. s.log ≡ old.entry.log) }
 {
     let alloc = old.alloc;
+    old.state.propagator.release(); // its owner keeps it, and the clauses are there twice soon
     let formula = Builder::new(alloc)?.finish(vars)?;
     let mut search = Search::new(alloc, propagator, formula.as_base())?;
     carry_all(&mut search, &old.state.arena, top)?;
