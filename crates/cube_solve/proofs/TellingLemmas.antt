@@ -101,9 +101,9 @@ module _ {P : Type 0} where
       let old = live_in_session s in
       let new = live_in_session u in
       let there : (id : ℕ) → Contains s.search.lemmas.items id → IsSome (get M id) = λ id i.
-          let c = All-contains (λ n. (C : Clause) × old n C) s.search.lemmas.items id held.lives i in
-          let d = (h.linked).back id c.0 c.1 in
-          some_is (get M id) d.0 d.1 in
+      let c = All-contains (λ n. (C : Clause) × old n C) s.search.lemmas.items id held.lives i in
+      let d = (h.linked).back id c.0 c.1 in
+      some_is (get M id) d.0 d.1 in
       let apart : (n : ℕ) → Contains given n → ¬ (Contains u.search.lemmas.items n) = λ n i j. h.apart n i (All-contains (Contains s.search.lemmas.items) u.search.lemmas.items n f.kept j) in
       elim f.told [
         | inl none ↦ tells_none given M s u none.1 last (record {
