@@ -12,7 +12,6 @@ mod leaf;
 mod lifting;
 mod lines;
 mod looking;
-mod marking;
 mod notes;
 mod refuting;
 mod searching;
