@@ -269,7 +269,8 @@ fn report_of(alloc: Global, ended: Ended, status: u8) -> Result<Report, Refusal>
 
 /// Answers the queries of a session while its events come. Each line is taken before more is read; of a query first the proof is written up
 /// to its answer, and then the answer is printed. The report has what is to be printed behind the answers: nothing, or the first fault of
-/// the events.
+/// the events. Where nobody reads what is printed, its status is 1. An error is want of memory, or that the source cannot be read or the
+/// proof not be written.
 pub fn answer_session<B: BufRead + Drop, O: Outputs>(
     alloc: Global,
     source: B,
