@@ -96,8 +96,9 @@ CLAIMS = [
     (
         "Each answer that `session` prints is right",
         "Whatever source the events come from, and whatever takes the proof and what is printed: each query before the first fault has an answer, right for the clauses "
-        "given before it; what is printed spells it, and by then the proof is accepted beside the events so far. Where a run ends early this holds of the answers so far.",
-        [("commands", "answer_session", ["session", "left"])],
+        "given before it; what is printed spells it, and by then the proof is accepted beside the events so far. Where a run ends early this holds of the answers so far; "
+        "that nobody reads is told only if printing was refused (`unheard`), that the proof cannot be written only if writing was (`unwritten`).",
+        [("commands", "answer_session", ["session", "left", "refused", "unwritten"])],
     ),
 ]
 
