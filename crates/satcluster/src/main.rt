@@ -8,7 +8,6 @@ mod accepting;
 mod complete;
 mod drafts;
 mod explain;
-mod explain_words;
 mod files;
 mod leaf_runs;
 mod linked_runs;

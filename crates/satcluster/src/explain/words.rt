@@ -1,9 +1,9 @@
 //! Which word of a command line is refused.
 //!
-//! The parser is asked: a front of the words with `--help` behind it is answered by help if nothing in that front is refused. So no rule of the
+//! The parser is asked: the first words with `--help` after them are answered by help if none of them is refused. So no rule of the
 //! words stands twice.
 
-use crate::explain::tell;
+use crate::explain::sentence::tell;
 use crate::standard_input::is_sound;
 use explanations::{Reason, shown};
 use node_main::{UsageFault, command};
@@ -28,7 +28,7 @@ fn help_of<R: Runtime + AllocGlobal>(
     }
 }
 
-/// Whether nothing in a front is refused. The value of its last word may stand behind it.
+/// Whether none of the first words is refused. The value of the last one may come after it.
 fn are_taken<R: Runtime + AllocGlobal>(
     rt: &R,
     words: &[&str],
