@@ -303,6 +303,8 @@ def by_block_solver(plan: Plan, words: List[Word], tree: Path, cubes: Sequence[C
         raise Failed("the solver ends with %s: %s" % (status, last_line(out)))
     lift = [plan.program, "lift", "--explain", "--lidrup", *words, plan.input, lidrup, here / "log"]
     status = yield Command(lift, lifted)
+    if status == 0:
+        raise Failed("what the solver has written leaves a leaf of its block open")
     if status != 20:
         raise Failed("lift ends with %s: %s" % (status, why_not_lifted(lifted, lidrup)))
     return CLOSED
