@@ -799,7 +799,7 @@ class BlocksOfCadical(OfBlocks):
     # What it does with a leaf's formula and the file of its proof, and with a block's.
     ALONE = 'exec PROGRAM solve -q --depth 0 "$4" "$5"'
     BLOCK = """PROGRAM session "$4" "$5" > "$5.told"
-sed '/^s SAT/,$!d; /^[sv] /!d; /^s UNS/,$d' "$5.told"
+awk '/^s SAT/ { n++ } n == 1 && /^[sv] /' "$5.told"
 grep -q '^s SAT' "$5.told" && exit 10
 exit 20"""
     CADICAL = '#!/bin/sh\ncase $2 in --lrat) %s ;; esac\necho >> "$0.blocks"\n%s\n'

@@ -143,9 +143,7 @@ impl LiftAll {
         let mut text = Vec::new(alloc);
         let mut status = 20;
         for place in self.first..self.end {
-            let is_closed = self
-                .log
-                .closes(place - self.first, self.tree.cube(place));
+            let is_closed = self.log.closes(place - self.first, self.tree.cube(place));
             status = status_behind(status, is_closed);
             put_leaf(&mut text, place, is_closed)?;
         }

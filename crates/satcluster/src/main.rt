@@ -17,9 +17,9 @@ mod showing;
 mod standard_input;
 
 use commands::{
-    CoverFiles, JoinFiles, JoinOptions, LiftFiles, Lifted, ReceiptFiles, Target, TrimFiles, check_files,
-    check_session_files, cover_files, deliver, join_files, leaf_files, lift_files, receipt_files,
-    refused, split_by_look_files, split_files, test_files, trim_files,
+    CoverFiles, JoinFiles, JoinOptions, LiftFiles, Lifted, ReceiptFiles, Target, TrimFiles,
+    check_files, check_session_files, cover_files, deliver, join_files, leaf_files, lift_files,
+    receipt_files, refused, split_by_look_files, split_files, test_files, trim_files,
 };
 use complete::complete;
 use explain::explain;
