@@ -134,8 +134,3 @@ pub text_lifts : {D : Type 0} (holds : D → List ℕ → Option (List ℕ)) (ol
     → IfOk result (λ r. Of (holds old name) (λ text. LiftsBlock stays left F place cubes text r))
 text_lifts holds old stays left name F place None l result begins lifts = absurd (cc)
 text_lifts holds old stays left name F place (Some cubes) l result begins lifts = lifts F place cubes begins
-
-pub none_block : (stays : List ℕ → Type 0) (left : Type 0) (F : Cnf) (place : ℕ) (cubes : Option (List Cube)) (text : List ℕ) (r : Report)
-    → BeginsFor F place cubes None → left → Prints 1 no_leaf_text r → LiftsBlock stays left F place cubes text r
-none_block stays left F place None text r begins h prints = (h, prints)
-none_block stays left F place (Some cubes) text r begins h prints = absurd begins

@@ -1,13 +1,12 @@
 -- Which leaves a log is told to close.
-use Rattle.std.proofs.Common.{◌≡◌, ◌⊎◌, inl, inr, ℕ, ◌+◌, ◌-◌, ◌<◌, ◌≤◌, nat_le, Bool, true, false, ◌&&◌, Option, Some, List, [], ◌∷◌, ◌++◌, cond, refl, sym, ◌∙◌, ap, subst, length, drop, take, get_or, append_assoc, arith, length-append, IfOk, Result, Ok, Err, None}
+use Rattle.std.proofs.Common.{◌≡◌, ℕ, ◌+◌, ◌-◌, ◌<◌, ◌≤◌, Bool, true, false, List, [], ◌∷◌, ◌++◌, cond, refl, sym, ◌∙◌, ap, subst, length, drop, take, get_or, append_assoc, arith, length-append, IfOk, Result, Ok, Err, None}
 use Rattle.std.specs.declared.alloc.AllocError.{AllocError}
 use Rattle.std.specs.Prelude.{MatchBool}
 use Rattle.std.specs.Bool.{OnTrue}
-use Rattle.std.proofs.lemmas.Bool.{true≢false, le-leb, lt-leb}
 use Rattle.std.proofs.lemmas.List.{append-nil, drop-append-le, length-drop, length-take-le, take_all, take_more}
 use Rattle.dimacs.specs.logic.Cnf.{Cnf}
 use Rattle.icnf.specs.Leaves.{Cube}
-use Rattle.leaves.specs.Closing.{AreTold, LiftsAll, PrintsAll, TellsLeaf, are_closed, block_of, leaf_line, part_of, told_text}
+use Rattle.leaves.specs.Closing.{AreTold, LiftsAll, PrintsAll, TellsLeaf, are_closed, leaf_line, part_of, told_text}
 use Rattle.leaves.specs.declared.closing.LiftAll.{LiftAll}
 use Rattle.leaves.specs.inner.Telling.{IsTelling}
 use Rattle.lidrup.specs.CubeLog.{ClosesCube, IsEnded, Stands}
@@ -73,7 +72,7 @@ telling_more x leaves first place query q text status b low inside asked at tell
     })
 
 -- the report of all leaves that were told
-pub reported : (l : LiftAll) (text : List ℕ) (status : ℕ) (r : Result Report AllocError) → IsTelling l.log l.first (part_of l.tree l.first l.end) text status
+pub reported : (l : LiftAll) (text : List ℕ) (status : ℕ) (r : Result Report AllocError) → IsTelling l.log l.block.first (part_of l.block.tree l.block.first l.block.end) text status
     → IfOk r (λ o. o.stdout.items ≡ text) → IfOk r (λ o. o.status ≡ status) → IfOk r (λ o. o.proof ≡ None)
     → IfOk r (λ o. (F : Cnf) (place : ℕ) (cubes : List Cube) (bytes written : List ℕ) → LiftsAll F place cubes bytes written l → PrintsAll F place cubes bytes (written ++ l.log.lines.out.items) o)
 reported l text status (Ok o) t out code proof = λ F place cubes bytes written h. record {
@@ -87,30 +86,3 @@ reported l text status (Err e) t out code proof = tt
 -- all leaves are those from the first place on
 pub whole_part : (leaves : List Cube) → part_of leaves 0 (length leaves) ≡ leaves
 whole_part leaves = take_all (length leaves) leaves (omega arith)
-
-shut : (a b c : Bool) (x : Option (List Cube)) → (a ≡ false) ⊎ ((b ≡ false) ⊎ (c ≡ false)) → cond (a && b && c) x None ≡ None
-shut false b c x h = refl
-shut true false c x h = refl
-shut true true false x h = refl
-shut true true true x (inl e) = absurd (true≢false e)
-shut true true true x (inr (inl e)) = absurd (true≢false e)
-shut true true true x (inr (inr e)) = absurd (true≢false e)
-
-opened : (a b c : Bool) (x : Option (List Cube)) → a ≡ true → b ≡ true → c ≡ true → cond (a && b && c) x None ≡ x
-opened false b c x p q r = absurd (true≢false (sym p))
-opened true false c x p q r = absurd (true≢false (sym q))
-opened true true false x p q r = absurd (true≢false (sym r))
-opened true true true x p q r = refl
-
--- there are no leaves from 0 on, to one before, or to one behind the last
-pub no_block : (leaves : List Cube) (first last : ℕ) → (first ≡ 0) ⊎ ((last < first) ⊎ (length leaves < last)) → block_of leaves first last ≡ None
-no_block leaves first last h = shut (nat_le 1 first) (nat_le first last) (nat_le last (length leaves)) (Some (part_of leaves (first - 1) last)) (elim h [
-  | inl e ↦ inl (lt-leb 1 first (omega arith))
-  | inr (inl e) ↦ inr (inl (lt-leb first last e))
-  | inr (inr e) ↦ inr (inr (lt-leb last (length leaves) e))
-])
-
-pub is_block : (leaves : List Cube) (first last : ℕ) → 0 < first → first ≤ last → last ≤ length leaves → block_of leaves first last ≡ Some (part_of leaves (first - 1) last)
-is_block leaves first last low some high =
-    opened (nat_le 1 first) (nat_le first last) (nat_le last (length leaves)) (Some (part_of leaves (first - 1) last)) (le-leb 1 first (omega arith)) (le-leb first last some)
-    (le-leb last (length leaves) high)

@@ -26,8 +26,8 @@ block_of leaves first last =
 -- These bytes of a text over the formula have been taken, and behind the bytes written stands what is not handed out yet. The text is one
 -- for the leaves with these cubes, the first of which has this place in the tree, from 0.
 pub record LiftsAll (F : Cnf) (place : ℕ) (cubes : List Cube) (bytes written : List ℕ) (l : LiftAll) : Type 0 where
-  pub from : l.first ≡ place
-  pub holds : part_of l.tree l.first l.end ≡ cubes
+  pub from : l.block.first ≡ place
+  pub holds : part_of l.block.tree l.block.first l.block.end ≡ cubes
   pub stands : Stands F bytes written l.log
 
 -- no byte was taken of a text for these leaves, where there are such

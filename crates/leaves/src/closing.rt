@@ -7,8 +7,8 @@ ghost use Rattle.icnf.specs.Leaves.{Cube};
 ghost use Rattle.leaves.specs.Closing.{BeginsBlock, EndsAll, KeepsAll, LiftsAll, PrintsAll, leaf_line, part_of};
 ghost use Rattle.lidrup.specs.CubeLog.{IsEnded};
 
+use crate::block::Block;
 use crate::split::Split;
-use icnf::Tree;
 use lidrup::CubeLog;
 use lrat_check::CheckFault;
 use reports::{Report, put_number};
@@ -19,25 +19,14 @@ use std::alloc::{AllocError, Global};
 ///
 /// The bytes of the log are handed out as they come. They are of use where `finish` answers `Ok` alone.
 pub struct LiftAll {
-    pub(crate) tree: Tree,
-    /// The place of the first of these leaves in the tree, from 0.
-    pub(crate) first: usize,
-    /// The place behind the last one.
-    pub(crate) end: usize,
+    pub(crate) block: Block,
     pub(crate) log: CubeLog,
-    ghost some: { first ≤ end },
-    ghost inside: { end ≤ length tree },
 }
 
 // By hand, so that whoever owns one drops it by one call, and no proof there goes through its parts.
 impl Drop for LiftAll {
     fn drop(self) {
-        let LiftAll {
-            tree: _,
-            first: _,
-            end: _,
-            log: _,
-        } = self;
+        let LiftAll { block: _, log: _ } = self;
     }
 }
 
@@ -70,12 +59,8 @@ fn begin(alloc: Global, split: Split, first: usize, end: usize) -> Result<LiftAl
 {
     let Split { formula, tree } = split;
     let log = CubeLog::of(alloc, formula)?;
-    Ok(LiftAll {
-        tree,
-        first,
-        end,
-        log,
-    })
+    let block = Block { tree, first, end };
+    Ok(LiftAll { block, log })
 }
 
 impl LiftAll {
@@ -139,11 +124,12 @@ impl LiftAll {
         requires { IsEnded self.now.log }
         ensures { IfOk result (λ r. (F : Cnf) (place : ℕ) (cubes : List Cube) (bytes written : List ℕ) → LiftsAll F place cubes bytes written self.now → PrintsAll F place cubes bytes (written ++ self.now.log.lines.out.items) r) }
     {
-        let _leaves = self.tree.leaves(); // with it comes the bound of their number
+        let block = &self.block;
+        let _leaves = block.tree.leaves(); // with it comes the bound of their number
         let mut text = Vec::new(alloc);
         let mut status = 20;
-        for place in self.first..self.end {
-            let is_closed = self.log.closes(place - self.first, self.tree.cube(place));
+        for place in block.first..block.end {
+            let is_closed = self.log.closes(place - block.first, block.tree.cube(place));
             status = status_behind(status, is_closed);
             put_leaf(&mut text, place, is_closed)?;
         }

@@ -45,3 +45,13 @@ returns-in-Block-clause-dropped g c =
     let known = g.D.Disk.holds old c.args.files.now.proof.now in
     IfOk-weaker c.lift_block.result (λ r. Of known (λ text. LiftsBlock Stays (new ≡ old) s.formula (first - 1) cubes text r)) (λ r. r.status ≡ 1 → new ≡ old)
     (λ r h. of_block_left Stays (new ≡ old) s.formula (first - 1) cubes known r h) c.lift_block.ensures.lifts
+
+pub returns-in-All-clause-lifts : goal.returns-in-All-clause-lifts
+returns-in-All-clause-lifts g c =
+    let log = c.args.files.now.log in
+    let old = c.args.disk.now in
+    let new = c.lift_all.new.disk in
+    let s = c.args.split in
+    let Stays : List ℕ → Type 0 = Keeps g.D.Drafts.kept old new log.binary log.path.now in
+    let P : Lifted → Type 0 = λ lifted. IfOk c.lift_all.result (λ r. Of (g.D.Disk.holds old c.args.files.now.proof.now) (λ proof. LiftsTree Stays (new ≡ old) s.formula s.tree lifted proof r)) in
+    subst P (sym c.in-All.is) c.lift_all.ensures.lifts
