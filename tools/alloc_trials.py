@@ -70,6 +70,7 @@ FILES = {
     "left.lrat": "5 -1 0 2 4 0\n",
     "right.lrat": "5 1 0 1 3 0\n",
     "leaf.lrat": "6 0 5 2 4 0\n",
+    "half.lidrup": "i 1 1 2 0\ni 2 -1 2 0\ni 3 1 -2 0\ni 4 -1 -2 0\nq -1 0\nu -1 0 1 3 0\n",
     "answer": "c a comment\ns SATISFIABLE\nv 1 -2 0\n",
     "session.icnf": "p inccnf\n1 2 0\n-1 2 0\na -2 0\na 1 0\n",
     "session.lidrup": "i 1 1 2 0\ni 2 -1 2 0\nq -2 0\nl 3 2 0 1 2 0\ns UNSATISFIABLE\nu -2 0 3 0\nd 3 0\n"
@@ -110,6 +111,7 @@ RUNS = [
     ("leaf --cubes halves.icnf --leaf 1 four.cnf", "p cnf 2 5", 0),
     ("refute --cubes halves.icnf --leaf 1 four.cnf kept", "c leaf 1 closed", 20),
     ("lift --cubes halves.icnf --leaf 1 four.cnf leaf.lrat kept", "c leaf 1 lifted", 0),
+    ("lift --cubes halves.icnf --lidrup --leaf 2 --to 2 four.cnf half.lidrup kept", "c leaf 2 closed", 20),
     ("join --cubes halves.icnf four.cnf kept left.lrat right.lrat", "s UNSATISFIABLE", 20),
     ("join --dry --cubes halves.icnf four.cnf left.lrat right.lrat", "s UNSATISFIABLE", 20),
     ("join --cubes halves.icnf units.cnf kept left.lrat", "c cubes of another formula", 1),

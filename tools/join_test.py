@@ -75,10 +75,10 @@ class Bench:
         same(what + ": check", (0, b"s VERIFIED\n"), (done.returncode, done.stdout))
         same(what + ": parts", [], self.parts())
 
-    def refutes(self, what, status, lines, *words):
-        """What `refute` answers to these words."""
-        done = subprocess.run([self.program, "refute", *words], cwd=self.folder,
-                              stdout=subprocess.PIPE, timeout=SECONDS)
+    def says(self, what, status, lines, *words):
+        """What the program answers to these words."""
+        done = subprocess.run([self.program, *words], cwd=self.folder, stdout=subprocess.PIPE,
+                              timeout=SECONDS)
         same(what, (status, lines), (done.returncode, done.stdout.decode().split("\n")[:-1]))
 
     def leaves(self, what, lines, *names, status=0, **more):
@@ -115,19 +115,61 @@ def spoilt(bench):
 def in_turn(bench):
     """Several leaves in one log."""
     def turns(first, last, *more):
-        return ("--cubes", "f.icnf", "--leaf", first, "--to", last, *more, "f.cnf")
+        return ("refute", "--cubes", "f.icnf", "--leaf", first, "--to", last, *more, "f.cnf")
     closed = ["c leaf 1 closed", "c leaf 2 closed"]
-    bench.refutes("leaves in turn", 20, closed, *turns("1", "2"), "both")
+    bench.says("leaves in turn", 20, closed, *turns("1", "2"), "both")
     bench.proves("their one log", [], "both")
-    bench.refutes("leaves in turn, quietly", 20, [], *turns("1", "2", "-q"))
+    bench.says("leaves in turn, quietly", 20, [], *turns("1", "2", "-q"))
     for first, last in ("2", "1"), ("1", "3"), ("3", "3"):
-        bench.refutes("leaves %s to %s" % (first, last), 1, ["c no such leaf"], *turns(first, last))
+        bench.says("leaves %s to %s" % (first, last), 1, ["c no such leaf"], *turns(first, last))
     bench.write("s.cnf", "p cnf 2 3\n1 2 0\n1 -2 0\n-2 -1 0\n")
     bench.write("s.icnf", "p inccnf\n1 2 0\n1 -2 0\n-2 -1 0\na -1 0\na 1 0\n")
-    bench.refutes("an assignment ends them", 10, ["s SATISFIABLE", "v 1 -2 0"],
-                  "--cubes", "s.icnf", "--leaf", "1", "--to", "2", "s.cnf", "none.lrat")
+    bench.says("an assignment ends them", 10, ["s SATISFIABLE", "v 1 -2 0"],
+               "refute", "--cubes", "s.icnf", "--leaf", "1", "--to", "2", "s.cnf", "none.lrat")
     same("no log of them", False, os.path.exists(bench.at("none.lrat")))
     ok("leaves in turn, in one log")
+
+
+# All clauses of three variables, four leaves, and what one process may write for the leaves 2 and 3.
+CLAUSES = ["%d %d %d 0" % (a, b, c) for a in (1, -1) for b in (2, -2) for c in (3, -3)]
+GIVEN = "".join("i %d %s\n" % row for row in enumerate(CLAUSES, 1))
+SECOND, THIRD = "q 1 -2 0\nu 1 -2 0 5 6 0\n", "q -1 2 0\nu -1 2 0 3 4 0\n"
+OTHERS = {"one": "9 -1 -2 0 7 8 0\n", "four": "9 1 2 0 1 2 0\n"}
+
+
+def blocks(program, folder):
+    """LIDRUP texts for blocks of leaves: a leaf is told by its number in the tree, and its query is that
+    of its place in the block."""
+    bench = Bench(program, folder)
+    bench.write("f.cnf", "p cnf 3 8\n%s\n" % "\n".join(CLAUSES))
+    leaves = ["a 1 2 0", "a 1 -2 0", "a -1 2 0", "a -1 -2 0"]
+    bench.write("f.icnf", "\n".join(["p inccnf", *CLAUSES, *leaves]) + "\n")
+    for name, text in OTHERS.items():
+        bench.write(name, text)
+
+    def lifts(what, first, last, text, status, *ends):
+        bench.write("text", GIVEN + text)
+        bench.write("log", "what stood\n")
+        lines = ["c leaf %d %s" % end for end in enumerate(ends, first)] or ["c no such leaf"]
+        bench.says(what, status, lines, "lift", "--lidrup", "--cubes", "f.icnf", "--leaf",
+                   str(first), "--to", str(last), "f.cnf", "text", "log")
+        with open(bench.at("log")) as file:
+            same(what + ": what stood", not ends, file.read() == "what stood\n")
+
+    both = SECOND + THIRD
+    lifts("a block", 2, 3, both, 20, "closed", "closed")
+    bench.proves("its log, and those of the other leaves", [], "one", "log", "four")
+    bench.leaves("its log alone", ["c leaf 1 missing", "c leaf 4 missing"], "log")
+    lifts("a block of one", 3, 3, THIRD, 20, "closed")
+    bench.leaves("its log", ["c leaf 2 missing"], "one", "log", "four")
+    lifts("a text with more queries", 2, 2, both, 20, "closed")
+    lifts("a text with fewer queries", 2, 3, SECOND, 0, "closed", "missing")
+    lifts("a text without the first query", 2, 3, THIRD, 0, "missing", "missing")
+    lifts("queries in another order", 2, 3, THIRD + SECOND, 0, "missing", "missing")
+    lifts("a text for other leaves", 1, 2, both, 0, "missing", "missing")
+    for first, last in (3, 2), (3, 5), (5, 5), (5, 4):
+        lifts("a block that is not there", first, last, both, 1)
+    ok("blocks of leaves that one process has refuted")
 
 
 def named(bench, count):
@@ -203,6 +245,8 @@ def main():
         bench = Bench(sys.argv[1], os.path.realpath(folder))
         spoilt(bench)
         in_turn(bench)
+        with tempfile.TemporaryDirectory() as other:
+            blocks(sys.argv[1], os.path.realpath(other))
         named(bench, count)
         for test in (full, killed, both):
             test(bench)

@@ -120,8 +120,10 @@ CLAIMS = (
         "This holds of any source of events, and of whatever takes the proof and what is"
         " printed. Each query before the first fault has an answer that is right for the"
         " clauses given before it; what is printed spells it, and by then the proof is accepted"
-        " beside the events so far. If a run ends early this holds of the answers so far.",
-        (("commands", "answer_session", ["session", "left"]),),
+        " beside the events so far. If a run ends early this holds of the answers so far."
+        " That nobody reads is told only if printing was refused (`unheard`), that the proof cannot"
+        " be written only if writing was (`unwritten`).",
+        (("commands", "answer_session", ["session", "left", "refused", "unwritten"]),),
     ),
 )
 
