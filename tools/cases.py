@@ -1,11 +1,14 @@
-"""What the tests of scripts have in common: formulas, and how they are started."""
+"""What the tests of scripts have in common: formulas, a folder of their own, and how they are
+started."""
 import itertools
 import os
 import shutil
+import subprocess
 import sys
+import tempfile
 import unittest
 from pathlib import Path
-from typing import List
+from typing import Any, List
 
 ROOT = Path(__file__).resolve().parent
 EXAMPLES = ROOT.parent / "examples"
@@ -31,6 +34,35 @@ def satisfies(formula: str, lines: List[str]) -> bool:
     rows = [line for line in formula.split("\n") if line[:1] not in ("c", "p")]
     clauses = [set(clause.split()) for clause in " ".join(rows).split(" 0")]
     return all(true & clause for clause in clauses if clause)
+
+
+class FolderCase(unittest.TestCase):
+    """A folder of its own, in which the program is started."""
+
+    def setUp(self) -> None:
+        self.program = os.environ["SATCLUSTER"]
+        self.folder = Path(os.path.realpath(tempfile.mkdtemp()))
+        self.addCleanup(shutil.rmtree, str(self.folder), ignore_errors=True)
+
+    def at(self, name: str) -> Path:
+        return self.folder / name
+
+    def write(self, name: str, text: str) -> str:
+        self.at(name).write_text(text)
+        return name
+
+    def start(self, *words: object, **more: Any) -> subprocess.Popen:
+        """What is left of the process when the case ends is ended then."""
+        process = subprocess.Popen([self.program, *map(str, words)], cwd=str(self.folder),
+                                   stdout=subprocess.PIPE, **more)
+        self.addCleanup(stop, process)
+        return process
+
+
+def stop(process: subprocess.Popen) -> None:
+    """Ends a process, if it has not ended, and closes its pipes."""
+    with process:
+        process.kill()
 
 
 def run(usage: str) -> None:

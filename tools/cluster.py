@@ -3,30 +3,27 @@
 
     tools/cluster.py PATH-OF-satcluster [CASE ..]
 
-A CASE is Kills, or Kills.test_workers; they run alone, and in any order. KILLS of the environment is
-how often workers are killed at random moments, and coordinators a tenth as often; 10 if it is not
-there. SEED draws the moments. What is tested here no contract can say: that sockets are opened, that
-peers who come, go and send anything else are met as they should be, and that nothing else is printed.
+A CASE is Kills, or Kills.test_workers; they run alone, and in any order. KILLS of the environment
+is how often workers are killed at random moments, and coordinators a tenth as often; 10 if it is
+not there. SEED draws the moments. What is tested here no contract can say: that sockets are opened,
+that peers who come, go and send anything else are met as they should be, and that nothing else is
+printed.
 """
 import os
 import random
 import resource
-import shutil
 import signal
 import socket
 import subprocess
 import sys
-import tempfile
 import threading
 import time
-import unittest
 from dataclasses import dataclass
-from pathlib import Path
 from typing import Any, Callable
 
 sys.dont_write_bytecode = True
 
-from cases import dimacs, pigeons, run
+from cases import FolderCase, dimacs, pigeons, run
 from ports import LINKED, LISTENS, free_port, sockets_at
 
 SECONDS = 120  # how long a process may take
@@ -63,38 +60,21 @@ def kill(process: subprocess.Popen) -> None:
     process.communicate()
 
 
-def stop(process: subprocess.Popen) -> None:
-    """Ends a process that a case may have left, and closes its pipes."""
-    with process:
-        process.kill()
-
-
 @dataclass(frozen=True)
 class Coordinator:
     process: subprocess.Popen
     port: int
 
 
-class Case(unittest.TestCase):
-    """A folder of its own, in which coordinators and workers run."""
-
+class Case(FolderCase):
     holes = 0  # of the pigeons that take LONG seconds; 0 until they are measured
 
     def setUp(self) -> None:
-        self.program = os.environ["SATCLUSTER"]
-        self.folder = Path(os.path.realpath(tempfile.mkdtemp()))
-        self.addCleanup(shutil.rmtree, str(self.folder), ignore_errors=True)
+        super().setUp()
         self.write(TWO, dimacs(2, [[1], [-2]]))
 
-    def write(self, name: str, text: str) -> str:
-        (self.folder / name).write_text(text)
-        return name
-
     def start(self, *words: object, **more: Any) -> subprocess.Popen:
-        process = subprocess.Popen([self.program, *map(str, words)], cwd=str(self.folder),
-                                   stdout=subprocess.PIPE, stderr=subprocess.PIPE, **more)
-        self.addCleanup(stop, process)
-        return process
+        return super().start(*words, stderr=subprocess.PIPE, **more)
 
     def serve(self, *words: object) -> Coordinator:
         """A coordinator that listens."""
@@ -367,7 +347,7 @@ class Runs(Case):
         self.ends(coordinator.process, 20, UNSATISFIABLE, "the coordinator")
         for worker in workers:  # it is not waited for if the other one has the verdict
             self.ends_late(worker)
-        with (self.folder / "defined.lrat").open() as proof:
+        with self.at("defined.lrat").open() as proof:
             self.assertEqual("21", next(proof).split()[1])
         self.verifies("few.cnf", "defined.lrat")
 
@@ -433,7 +413,7 @@ class Kills(Case):
             kill(coordinator.process)
             for worker in workers:
                 self.ends(worker, 0, UNKNOWN, "a worker of a killed coordinator")
-            self.assertEqual("what stood\n", (self.folder / "stood.lrat").read_text())
+            self.assertEqual("what stood\n", self.at("stood.lrat").read_text())
 
 
 def flood(coordinator: Coordinator) -> None:

@@ -7,19 +7,15 @@ A CASE is Names, or Names.test_ten_thousand; they run alone, and in any order.
 """
 import os
 import resource
-import shutil
 import signal
 import subprocess
 import sys
-import tempfile
 import time
-import unittest
-from pathlib import Path
 from typing import Any, List, Tuple
 
 sys.dont_write_bytecode = True
 
-from cases import run
+from cases import FolderCase, run
 
 FORMULA = "p cnf 2 4\n1 2 0\n-1 2 0\n1 -2 0\n-1 -2 0\n"
 CUBES = "p inccnf\n1 2 0\n-1 2 0\n1 -2 0\n-1 -2 0\na 1 0\na -1 0\n"
@@ -30,29 +26,14 @@ SECONDS = 120  # how long a run may take
 UNSATISFIABLE = "s UNSATISFIABLE"
 
 
-def stop(process: subprocess.Popen) -> None:
-    """Ends a process that a case may have left, and closes its pipes."""
-    with process:
-        process.kill()
-
-
-class Case(unittest.TestCase):
-    """A folder of its own with a formula, its tree, two logs, and a proof that stood before."""
+class Case(FolderCase):
+    """A formula, its tree, two logs, and a proof that stood before."""
 
     def setUp(self) -> None:
-        self.program = os.environ["SATCLUSTER"]
-        self.folder = Path(os.path.realpath(tempfile.mkdtemp()))
-        self.addCleanup(shutil.rmtree, str(self.folder), ignore_errors=True)
+        super().setUp()
         for name, text in (("f.cnf", FORMULA), ("f.icnf", CUBES), ("left", LEFT),
                            ("right", RIGHT), ("f.lrat", STOOD)):
             self.write(name, text)
-
-    def at(self, name: str) -> Path:
-        return self.folder / name
-
-    def write(self, name: str, text: str) -> str:
-        self.at(name).write_text(text)
-        return name
 
     def proof(self) -> str:
         return self.at("f.lrat").read_text()
@@ -61,12 +42,9 @@ class Case(unittest.TestCase):
         """The files in which a proof is written before it is whole."""
         return sorted(path.name for path in self.folder.glob("*.part*"))
 
-    def start(self, *names: str, quiet: bool = False, **more: Any) -> subprocess.Popen:
-        words = [self.program, "join", "--cubes", "f.icnf", *(["-q"] if quiet else []), "f.cnf"]
-        process = subprocess.Popen([*words, "f.lrat", *names], cwd=str(self.folder),
-                                   stdin=subprocess.PIPE, stdout=subprocess.PIPE, **more)
-        self.addCleanup(stop, process)
-        return process
+    def join(self, *names: str, quiet: bool = False, **more: Any) -> subprocess.Popen:
+        words = ["join", "--cubes", "f.icnf", *(["-q"] if quiet else []), "f.cnf", "f.lrat"]
+        return self.start(*words, *names, stdin=subprocess.PIPE, **more)
 
     def end(self, process: subprocess.Popen, given: str = "") -> Tuple[int, List[str]]:
         """Status and lines of a join that reads this from standard input."""
@@ -80,7 +58,7 @@ class Case(unittest.TestCase):
         """A join ends with a proof, which the checker accepts, and leaves nothing else."""
         self.write("f.lrat", STOOD)
         what = names, given[:80]
-        end = self.end(self.start(*names, **more), given)
+        end = self.end(self.join(*names, **more), given)
         self.assertEqual((20, lines + [UNSATISFIABLE]), end, what)
         words = [self.program, "check", "f.cnf", "f.lrat"]
         done = subprocess.run(words, cwd=str(self.folder), stdout=subprocess.PIPE)
@@ -90,7 +68,7 @@ class Case(unittest.TestCase):
     def leaves(self, status: int, lines: List[str], *names: str, **more: Any) -> None:
         """A join ends without a proof, and what stood stands."""
         self.write("f.lrat", STOOD)
-        end = self.end(self.start(*names, **more))
+        end = self.end(self.join(*names, **more))
         self.assertEqual((status, lines), end, names)
         self.assertEqual((STOOD, []), (self.proof(), self.parts()), names)
 
@@ -203,7 +181,7 @@ class Ends(Case):
 
     def test_killed(self) -> None:
         """What stood stands, and a later join does not mind the part that is left."""
-        process = self.start("-")
+        process = self.join("-")
         process.stdin.write(b"left\n")
         process.stdin.flush()
         self.wait_for_parts(1)
@@ -211,12 +189,12 @@ class Ends(Case):
         process.communicate(timeout=SECONDS)
         self.assertEqual(STOOD, self.proof())
         left = self.parts()
-        self.assertEqual((20, [UNSATISFIABLE]), self.end(self.start("left", "right")))
+        self.assertEqual((20, [UNSATISFIABLE]), self.end(self.join("left", "right")))
         self.assertEqual((PROOF, left), (self.proof(), self.parts()))
 
     def test_two_joins(self) -> None:
         """Both write the same proof, and either may be the last."""
-        first, second = self.start("-"), self.start("-")
+        first, second = self.join("-"), self.join("-")
         self.wait_for_parts(2)
         for process in (first, second):
             self.assertEqual((20, [UNSATISFIABLE]), self.end(process, "left\nright\n"))
