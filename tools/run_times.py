@@ -26,8 +26,8 @@ LIMIT = 900  # seconds
 Seconds = Optional[float]  # None: it took too long
 
 
-def timed(words: List[str]) -> Seconds:
-    """Of a command that ends with status 20."""
+def timed(words: List[str], wanted: int = 20) -> Seconds:
+    """Of a command that ends with this status."""
     begin = time.monotonic()
     process = subprocess.Popen(words, stdout=subprocess.DEVNULL)
     try:
@@ -36,8 +36,8 @@ def timed(words: List[str]) -> Seconds:
         process.terminate()
         process.wait()
         return None
-    if status != 20:
-        sys.exit("status %d of %s" % (status, " ".join(words)))
+    if status != wanted:
+        sys.exit("status %d instead of %d of %s" % (status, wanted, " ".join(words)))
     return time.monotonic() - begin
 
 
@@ -68,9 +68,10 @@ class Bench:
                       str(self.folder / "f.lrat")])
 
     def leaves(self, jobs: int) -> Seconds:
-        """From the first job's begin to the last one's end."""
-        if self.run(jobs, "--no-race") is None:
-            return None
+        return None if self.run(jobs, "--no-race") is None else self.span()
+
+    def span(self) -> float:
+        """From the first job's begin to the last one's end, of the last run."""
         told = [json.loads(path.read_text())
                 for path in self.folder.joinpath("run", "records").iterdir()]
         return max(one["end"] for one in told) - min(one["begin"] for one in told)
@@ -100,10 +101,9 @@ def main() -> None:
     parser.add_argument("--depth", type=int, default=6)
     parser.add_argument("--jobs", type=int, default=4)
     parser.add_argument("--runs", type=int, default=1)
-    parser.add_argument("program")
+    parser.add_argument("program", type=os.path.abspath)
     parser.add_argument("formulas", nargs="+")
     asked = parser.parse_args()
-    asked.program = os.path.abspath(asked.program)
     heads = ["%s, unsplit" % asked.solver, "1 job before", "1 job", "%d jobs before" % asked.jobs,
              "%d jobs" % asked.jobs, "leaves gain", "over the better"]
     print("| Formula | %s |\n|%s" % (" | ".join(heads), "---|" * (len(heads) + 1)), flush=True)
