@@ -21,7 +21,7 @@ import time
 from collections import Counter
 from dataclasses import dataclass
 from pathlib import Path
-from typing import Callable, Dict, List, Optional, Tuple
+from typing import Callable, ClassVar, Dict, List, Optional, Tuple
 
 sys.dont_write_bytecode = True
 
@@ -151,9 +151,10 @@ def call_wants(found: Answer, ample: Answer) -> Moment:
 class Case(FolderCase):
     """A folder that has FILES, and nothing else, when a run begins."""
 
+    counter: ClassVar[Path]  # the library that counts
+
     @classmethod
     def setUpClass(cls) -> None:
-        """Compiles the library that counts."""
         folder = Path(tempfile.mkdtemp())
         cls.addClassCleanup(shutil.rmtree, str(folder), ignore_errors=True)
         (folder / "counter.c").write_text(COUNTER)
@@ -175,7 +176,7 @@ class Case(FolderCase):
         env = {"LD_PRELOAD": str(self.counter), "REFUSED_ALLOCATION": str(refused)}
         return self.start(*words, env=env, stderr=subprocess.PIPE)
 
-    def asked(self, words: List[str], errors: bytes) -> int:
+    def asked(self, words: object, errors: bytes) -> int:
         """How many allocations a run asked for, which is all that it writes to standard error."""
         self.assertRegex(errors, rb"\A[0-9]+\n\Z", words)
         return int(errors)
@@ -332,7 +333,7 @@ class Pair(Case):
         except subprocess.TimeoutExpired:
             process.kill()
             process.communicate()
-            self.assertTrue(may_wait, "no end after %d seconds: %s" % (seconds, process.args))
+            self.assertTrue(may_wait, "no end after %d seconds: %r" % (seconds, process.args))
             return End(*WAITED, sys.maxsize)
         return End(process.returncode, out.decode(), self.asked(process.args, errors))
 

@@ -70,7 +70,8 @@ def run(usage: str) -> None:
 
     The program goes into the environment, where `python3 -m unittest` has it too.
     """
-    if len(sys.argv) < 2 or not shutil.which(sys.argv[1]):
+    program = shutil.which(sys.argv[1]) if len(sys.argv) > 1 else None
+    if program is None:
         sys.exit(usage)
-    os.environ["SATCLUSTER"] = os.path.abspath(shutil.which(sys.argv[1]))
+    os.environ["SATCLUSTER"] = os.path.abspath(program)
     unittest.main(argv=sys.argv[:1] + sys.argv[2:], verbosity=2)

@@ -37,7 +37,6 @@ SATISFIABLE, UNSATISFIABLE = "s SATISFIABLE\n", "s UNSATISFIABLE\n"
 UNKNOWN, NO_LINKS = "s UNKNOWN\n", "c cannot open links\n"
 # How a worker may end whose coordinator has decided the formula.
 LATE = ((20, UNSATISFIABLE), (0, UNKNOWN), (1, NO_LINKS))
-
 PROGRESS = r"\Ac \d+ s: \d+ closed, \d+ given, \d+ open, \d+ split, \d+\.\d MB\Z"
 
 TASK, VERDICT = b"CC\x01", b"CC\x05"  # the first bytes of frames
@@ -302,13 +301,15 @@ class Runs(Case):
 
     def test_progress(self) -> None:
         """It is told once a second, on standard error alone."""
-        self.write("nine.cnf", pigeons(9))  # some seconds on any machine
-        process = self.start("solve", "--depth", 5, "--progress", "nine.cnf")
-        out, err = process.communicate(timeout=SECONDS)
-        self.assertEqual((20, UNSATISFIABLE), (process.returncode, out.decode()))
-        lines = err.decode().splitlines()
-        self.assertNotEqual([], lines)
-        for line in lines:
+        for holes in range(7, 13):
+            self.write(PIGEONS, pigeons(holes))
+            process = self.start("solve", "--depth", 5, "--progress", PIGEONS)
+            out, err = process.communicate(timeout=SECONDS)
+            self.assertEqual((20, UNSATISFIABLE), (process.returncode, out.decode()))
+            if err:  # it has taken a second
+                break
+        self.assertNotEqual(b"", err)
+        for line in err.decode().splitlines():
             self.assertRegex(line, PROGRESS)
 
     def test_rounds(self) -> None:

@@ -60,9 +60,10 @@ def main() -> None:
     parser.add_argument("--jobs", type=int, default=4)
     parser.add_argument("--runs", type=int, default=1)
     parser.add_argument("--split", action="store_true")
-    parser.add_argument("program", type=os.path.abspath)
+    parser.add_argument("program")
     parser.add_argument("formulas", nargs="+")
     asked = parser.parse_args()
+    asked.program = os.path.abspath(asked.program)
     print("| %s |\n|%s" % (" | ".join(HEADS) % asked.jobs, "---|" * len(HEADS)), flush=True)
     for formula in asked.formulas:
         with tempfile.TemporaryDirectory() as folder:

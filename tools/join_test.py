@@ -51,7 +51,7 @@ class Case(FolderCase):
         try:
             out, _ = process.communicate(given.encode(), timeout=SECONDS)
         except subprocess.TimeoutExpired:
-            self.fail("%s: no end after %d seconds" % (process.args, SECONDS))
+            self.fail("no end after %d seconds: %r" % (SECONDS, process.args))
         return process.returncode, out.decode().split("\n")[:-1]
 
     def proves(self, lines: List[str], *names: str, given: str = "", **more: Any) -> None:
@@ -182,6 +182,7 @@ class Ends(Case):
     def test_killed(self) -> None:
         """What stood stands, and a later join does not mind the part that is left."""
         process = self.join("-")
+        assert process.stdin is not None
         process.stdin.write(b"left\n")
         process.stdin.flush()
         self.wait_for_parts(1)

@@ -82,9 +82,10 @@ def main() -> None:
     parser = argparse.ArgumentParser(usage=__doc__)
     parser.add_argument("--depth", type=int, default=7)
     parser.add_argument("--jobs", type=int, default=4)
-    parser.add_argument("program", type=os.path.abspath)
+    parser.add_argument("program")
     parser.add_argument("formulas", nargs="+")
     asked = parser.parse_args()
+    asked.program = os.path.abspath(asked.program)
     print("| Formula | Way | Clock | Processor | Proof, MB | `check` | its peak, MB |")
     print("|---|---|---|---|---|---|---|", flush=True)
     ways = {"CaDiCaL, whole": Bench.whole, "leaves, %d jobs" % asked.jobs: Bench.leaves,

@@ -163,9 +163,10 @@ def main() -> int:
     words.add_argument("--jobs", type=int, default=1)
     words.add_argument("--depths", default=[3, 6],
                        type=lambda text: [int(depth) for depth in text.split(",")])
-    words.add_argument("satcluster", type=os.path.abspath)
+    words.add_argument("satcluster")
     words.add_argument("formulas", nargs="+")
     asked = words.parse_args()
+    asked.satcluster = os.path.abspath(asked.satcluster)
     is_right = True
     with ThreadPoolExecutor(asked.jobs) as pool:
         found = pool.map(lambda formula: rows_of(asked, formula), asked.formulas)

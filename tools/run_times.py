@@ -18,6 +18,7 @@ import tempfile
 import time
 from argparse import Namespace
 from dataclasses import dataclass
+from functools import partial
 from pathlib import Path
 from typing import Callable, List, Optional
 
@@ -79,9 +80,9 @@ class Bench:
     def row(self) -> List[str]:
         jobs, runs = (1, self.asked.jobs), self.asked.runs
         whole = least(self.whole, runs)
-        before = [least(lambda n=n: self.run(n, "--no-race", "--no-cuts"), runs) for n in jobs]
-        after = [least(lambda n=n: self.run(n), runs) for n in jobs]
-        one, many = [least(lambda n=n: self.leaves(n), runs) for n in jobs]
+        before = [least(partial(self.run, n, "--no-race", "--no-cuts"), runs) for n in jobs]
+        after = [least(partial(self.run, n), runs) for n in jobs]
+        one, many = [least(partial(self.leaves, n), runs) for n in jobs]
         better = min((s for s in (whole, before[1]) if s is not None), default=None)
         seconds = [whole, before[0], after[0], before[1], after[1]]
         return list(map(cell, seconds)) + [ratio(one, many), ratio(after[1], better)]
@@ -101,9 +102,10 @@ def main() -> None:
     parser.add_argument("--depth", type=int, default=6)
     parser.add_argument("--jobs", type=int, default=4)
     parser.add_argument("--runs", type=int, default=1)
-    parser.add_argument("program", type=os.path.abspath)
+    parser.add_argument("program")
     parser.add_argument("formulas", nargs="+")
     asked = parser.parse_args()
+    asked.program = os.path.abspath(asked.program)
     heads = ["%s, unsplit" % asked.solver, "1 job before", "1 job", "%d jobs before" % asked.jobs,
              "%d jobs" % asked.jobs, "leaves gain", "over the better"]
     print("| Formula | %s |\n|%s" % (" | ".join(heads), "---|" * (len(heads) + 1)), flush=True)
