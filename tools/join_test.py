@@ -47,12 +47,17 @@ class Case(FolderCase):
         return self.start(*words, *names, stdin=subprocess.PIPE, **more)
 
     def end(self, process: subprocess.Popen, given: str = "") -> Tuple[int, List[str]]:
-        """Status and lines of a join that reads this from standard input."""
+        """Status and lines of a process that reads this from standard input."""
         try:
             out, _ = process.communicate(given.encode(), timeout=SECONDS)
         except subprocess.TimeoutExpired:
             self.fail("no end after %d seconds: %r" % (SECONDS, process.args))
         return process.returncode, out.decode().split("\n")[:-1]
+
+    def says(self, status: int, lines: List[str], *words: str) -> None:
+        """What the program answers to these words."""
+        end = self.end(self.start(*words, stdin=subprocess.DEVNULL))
+        self.assertEqual((status, lines), end, words)
 
     def proves(self, lines: List[str], *names: str, given: str = "", **more: Any) -> None:
         """A join ends with a proof, which the checker accepts, and leaves nothing else."""
@@ -60,9 +65,7 @@ class Case(FolderCase):
         what = names, given[:80]
         end = self.end(self.join(*names, **more), given)
         self.assertEqual((20, lines + [UNSATISFIABLE]), end, what)
-        words = [self.program, "check", "f.cnf", "f.lrat"]
-        done = subprocess.run(words, cwd=str(self.folder), stdout=subprocess.PIPE)
-        self.assertEqual((0, b"s VERIFIED\n"), (done.returncode, done.stdout), what)
+        self.says(0, ["s VERIFIED"], "check", "f.cnf", "f.lrat")
         self.assertEqual([], self.parts(), what)
 
     def leaves(self, status: int, lines: List[str], *names: str, **more: Any) -> None:
@@ -111,14 +114,8 @@ class Turns(Case):
     """`refute --to` closes several leaves by one log."""
 
     def refutes(self, status: int, lines: List[str], first: int, last: int, *words: str) -> None:
-        self.ends(status, lines, "--cubes", "f.icnf", "--leaf", str(first), "--to", str(last),
-                  *words)
-
-    def ends(self, status: int, lines: List[str], *words: str) -> None:
-        done = subprocess.run([self.program, "refute", *words], cwd=str(self.folder),
-                              stdout=subprocess.PIPE, timeout=SECONDS)
-        told = done.stdout.decode().split("\n")[:-1]
-        self.assertEqual((status, lines), (done.returncode, told), words)
+        self.says(status, lines, "refute", "--cubes", "f.icnf", "--leaf", str(first),
+                  "--to", str(last), *words)
 
     def test_one_log(self) -> None:
         self.refutes(20, ["c leaf 1 closed", "c leaf 2 closed"], 1, 2, "f.cnf", "both")
@@ -133,8 +130,8 @@ class Turns(Case):
         """It ends them, and there is no log."""
         self.write("s.cnf", "p cnf 2 3\n1 2 0\n1 -2 0\n-2 -1 0\n")
         self.write("s.icnf", "p inccnf\n1 2 0\n1 -2 0\n-2 -1 0\na -1 0\na 1 0\n")
-        self.ends(10, ["s SATISFIABLE", "v 1 -2 0"], "--cubes", "s.icnf", "--leaf", "1",
-                  "--to", "2", "s.cnf", "none.lrat")
+        self.says(10, ["s SATISFIABLE", "v 1 -2 0"], "refute", "--cubes", "s.icnf",
+                  "--leaf", "1", "--to", "2", "s.cnf", "none.lrat")
         self.assertFalse(self.at("none.lrat").exists())
 
 
