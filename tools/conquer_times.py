@@ -18,7 +18,8 @@ from typing import List
 
 from run_times import Bench, Seconds, cell, timed
 
-HEADS = ("Formula", "Unsplit", "1 job", "its leaves", "%d jobs", "its leaves", "Join", "Check", "MB")
+HEADS = ("Formula", "Unsplit", "1 job", "its leaves", "%d jobs", "its leaves", "Join", "Check",
+         "MB")
 
 
 class JoinBench(Bench):

@@ -28,7 +28,8 @@ from timing import Ended, ended
 SECONDS = 20  # in which a solver has to refute a formula; a leaf may take ten times as many
 LIMIT = 600  # seconds for any other command
 
-# What a solver runs in turn: `{cnf}` is read, `{lrat}` written, and `>` leads to the file behind it.
+# What a solver runs in turn: `{cnf}` is read, `{lrat}` written; the output goes to the file
+# behind `>`.
 SOLVERS: Dict[str, List[str]] = {
     "cadical": ["cadical -q -n --lrat --no-binary {cnf} {lrat}"],
     "kissat": ["kissat -q -n --no-factor --no-binary {cnf} {drat}",

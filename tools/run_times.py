@@ -1,13 +1,15 @@
 #!/usr/bin/env python3
-"""Times runs of `conquer.py` against one process, and prints a row of a Markdown table for each formula.
+"""Times runs of `conquer.py` against one process, and prints a row of a Markdown table for each
+formula.
 
-    tools/run_times.py [--solver NAME] [--depth D] [--jobs N] [--runs R] PATH-OF-satcluster FORMULA..
+    tools/run_times.py [--solver NAME] [--depth D] [--jobs N] [--runs R]
+        PATH-OF-satcluster FORMULA..
 
-A row has seconds by the clock until a proof stands: of the solver on the whole formula, `satcluster` being
-`solve --depth 0`; then, with one job and with N, of `conquer.py --no-race --no-cuts` and of `conquer.py`;
-how many times as fast the leaves alone end with N jobs as with one, by `--no-race`; and the last run with N
-jobs over the better of both ways without it. The least of R runs counts. `-` is a run that was ended after
-LIMIT seconds.
+A row has seconds by the clock until a proof stands: of the solver on the whole formula,
+`satcluster` being `solve --depth 0`; then, with one job and with N, of `conquer.py --no-race
+--no-cuts` and of `conquer.py`; how many times as fast the leaves alone end with N jobs as with one,
+by `--no-race`; and the last run with N jobs over the better of both ways without it. The least of R
+runs counts. `-` is a run that was ended after LIMIT seconds.
 """
 import argparse
 import json

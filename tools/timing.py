@@ -19,7 +19,8 @@ class Ended:
 
 def ended(words: Sequence[object], limit: Optional[float] = None, output: Path = Path(os.devnull),
           **more: Any) -> Ended:
-    """A command is killed after so many seconds, if they are given. What it prints goes to a file."""
+    """A command is killed after so many seconds, if a limit is given. What it prints goes to a
+    file."""
     begin = time.monotonic()
     with output.open("wb") as file:
         process = subprocess.Popen([str(word) for word in words], stdout=file, **more)
