@@ -29,7 +29,7 @@ def to_cut(run: Run, jobs: List[Job]) -> Optional[Job]:
     now = time.monotonic()
     found = [job for job in jobs
              if now - job.began >= patience(run, job.leaf) and run.may_cut(job.leaf)]
-    return min(found, key=lambda job: job.began, default=None)
+    return min(found, key=lambda job: job.began) if found else None
 
 
 def patience(run: Run, leaf: Leaf) -> float:

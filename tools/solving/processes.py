@@ -38,7 +38,7 @@ def end_by_signals() -> None:
             return
         for other in ENDINGS:  # once: what is cleared up then is not to be broken off
             signal.signal(other, signal.SIG_IGN)
-        raise Ended(ENDINGS[number])
+        raise Ended(ENDINGS[signal.Signals(number)])
 
     for number in ENDINGS:
         is_ours = number in (PARENT_ENDED, signal.SIGALRM)
