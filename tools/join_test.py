@@ -142,8 +142,8 @@ SECOND, THIRD = "q 1 -2 0\nu 1 -2 0 5 6 0\n", "q -1 2 0\nu -1 2 0 3 4 0\n"
 
 
 class Blocks(Case):
-    """LIDRUP texts for neighbouring leaves. A leaf is told by its number in the tree, and its query is
-    that of its place in the block."""
+    """LIDRUP texts for neighbouring leaves. A leaf is told by its number in the tree; its query is the
+    one at its place in the block."""
 
     def setUp(self) -> None:
         super().setUp()
@@ -154,7 +154,7 @@ class Blocks(Case):
             self.write(name, text)
 
     def lifts(self, first: int, last: int, text: str, status: int, *ends: str) -> None:
-        """What is told of the leaves, in order; of none, and the log stands, if there are no such."""
+        """What is told of the leaves, in order. If there are no such leaves the log stands."""
         self.write("text", GIVEN + text)
         self.write("log", STOOD)
         lines = ["c leaf %d %s" % end for end in enumerate(ends, first)] or ["c no such leaf"]
