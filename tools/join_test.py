@@ -142,8 +142,8 @@ SECOND, THIRD = "q 1 -2 0\nu 1 -2 0 5 6 0\n", "q -1 2 0\nu -1 2 0 3 4 0\n"
 
 
 class Blocks(Case):
-    """LIDRUP texts for neighbouring leaves. A leaf is told by its number in the tree; its query is the
-    one at its place in the block."""
+    """LIDRUP texts for neighbouring leaves. A leaf is told by its number in the tree, and has the
+    query at its place in the block."""
 
     def setUp(self) -> None:
         super().setUp()
