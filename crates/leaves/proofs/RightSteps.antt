@@ -42,6 +42,7 @@ numbers_to zero = []
 numbers_to (suc m) = suc m ∷ numbers_to m
 
 pub in_numbers : (m n : ℕ) → 0 < n → n ≤ m → Contains (numbers_to m) n
+unfolding numbers_to
 in_numbers zero n low up = absurd (omega arith)
 in_numbers (suc m) n low up = elim (cases_eq n (suc m)) [
   | inl e ↦ subst (Contains (suc m ∷ numbers_to m)) (sym e) (Contains-head (suc m) (numbers_to m))
@@ -49,6 +50,7 @@ in_numbers (suc m) n low up = elim (cases_eq n (suc m)) [
 ]
 
 pub numbers_low : (m n : ℕ) → Contains (numbers_to m) n → n ≤ m
+unfolding numbers_to
 numbers_low zero n i = absurd (Contains-nil n i)
 numbers_low (suc m) n i = elim (Contains-cons_cases (suc m) n (numbers_to m) i) [ inl e ↦ omega arith | inr j ↦ (let l = numbers_low m n j in omega arith) ]
 
