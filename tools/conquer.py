@@ -46,7 +46,7 @@ from telling.looks import head_of, packing
 from telling.words import told, unreadable, unwritable
 
 DEPTH = 6  # if none is asked for
-BLOCK = {"satcluster": 16, "cadical": 1}  # leaves of a job at most, if nothing is asked for
+BLOCK = {"satcluster": 16, "cadical": 4}  # leaves of a job at most, if nothing is asked for
 DRAFT = "scratch/proof.lrat"  # of a run's folder
 FOREIGN = "c cubes of another formula"
 SOLVERS = {
@@ -81,7 +81,7 @@ def words() -> Namespace:
     option("--depth", metavar="D", type=number(0, 16), help="how deep to split; %d" % DEPTH)
     option("--look", metavar="N", type=number(1, 65536), help="look ahead, for about N leaves")
     option("--cubes-from", metavar="FILE", help="complete the cubes that this file lists")
-    option("--block", metavar="N", type=number(1, 4096), help="leaves of a job; %d" % BLOCK["satcluster"])
+    option("--block", metavar="N", type=number(1, 4096), help="leaves of a job; 16, or 4 of cadical")
     option("--limit", metavar="L", type=number(1, most), help="lemmas before a leaf is cut in two")
     option("--seconds", metavar="S", type=number(1, most), help="the same in seconds of a search")
     option("--no-race", action="store_true", help="no job searches the whole formula unsplit")
