@@ -3,7 +3,7 @@ use Rattle.std.specs.Prelude.{IfOk}
 use Rattle.std.proofs.lemmas.Result.{IfOk-weaker}
 use Rattle.commands.specs.Known.{Of}
 use Rattle.commands.specs.Written.{Keeps}
-use Rattle.commands.proofs.LiftLemmas.{none_block, text_lifts}
+use Rattle.commands.proofs.LiftLemmas.{text_lifts}
 use Rattle.commands.proofs.lift.lift_block.Goals as goal
 use Rattle.leaves.specs.Closing.{BeginsFor, block_of}
 use Rattle.leaves.specs.declared.closing.LiftAll.{LiftAll}
