@@ -132,5 +132,5 @@ pub text_lifts : {D : Type 0} (holds : D → List ℕ → Option (List ℕ)) (ol
     → BeginsFor F place cubes (Some l)
     → ((G : Cnf) (p : ℕ) (qs : List Cube) → LiftsAll G p qs [] [] l → IfOk result (λ r. Of (holds old name) (λ text. LiftsEach stays left G p qs text r)))
     → IfOk result (λ r. Of (holds old name) (λ text. LiftsBlock stays left F place cubes text r))
-text_lifts holds old stays left name F place None l result begins lifts = absurd (cc)
-text_lifts holds old stays left name F place (Some cubes) l result begins lifts = lifts F place cubes begins
+text_lifts holds old stays left name F place None l result begins goes = absurd (cc)
+text_lifts holds old stays left name F place (Some cubes) l result begins goes = goes F place cubes begins
