@@ -44,9 +44,11 @@ def wrong_texts(edit: Path) -> Iterator[str]:
         if key == "file":
             path = edit.parent.parent / told.strip()
             text = path.read_text() if path.is_file() else ""
-        elif key == "old" and path is None:
+        elif key != "old":
+            continue
+        elif path is None:
             yield f"{edit.relative_to(ROOT)}: a line `file: ` has to stand before an old text"
-        elif key == "old" and text.count(told) != 1:
+        elif text.count(told) != 1:
             yield (f"{edit.relative_to(ROOT)}: an old text has to stand once in "
                    f"{path.relative_to(ROOT)}, and stands {text.count(told)} times: {told}")
 
