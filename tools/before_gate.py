@@ -44,9 +44,9 @@ def wrong_texts(edit: Path) -> Iterator[str]:
         if key == "file":
             path = edit.parent.parent / told.strip()
             text = path.read_text() if path.is_file() else ""
-        elif key != "old":
+        if key != "old":
             continue
-        elif path is None:
+        if path is None:
             yield f"{edit.relative_to(ROOT)}: a line `file: ` has to stand before an old text"
         elif text.count(told) != 1:
             yield (f"{edit.relative_to(ROOT)}: an old text has to stand once in "
