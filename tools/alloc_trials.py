@@ -81,6 +81,7 @@ FILES = {
     "left.lrat": "5 -1 0 2 4 0\n",
     "right.lrat": "5 1 0 1 3 0\n",
     "leaf.lrat": "6 0 5 2 4 0\n",
+    "half.lidrup": "i 1 1 2 0\ni 2 -1 2 0\ni 3 1 -2 0\ni 4 -1 -2 0\nq -1 0\nu -1 0 1 3 0\n",
     "answer": "c a comment\ns SATISFIABLE\nv 1 -2 0\n",
     "session.icnf": "p inccnf\n1 2 0\n-1 2 0\na -2 0\na 1 0\n",
     "session.lidrup": "i 1 1 2 0\ni 2 -1 2 0\nq -2 0\nl 3 2 0 1 2 0\ns UNSATISFIABLE\n"
@@ -262,6 +263,8 @@ class Commands(Case):
         self.answers(0, "p cnf 2 5", "leaf" + words)
         self.answers(20, "c leaf 1 closed", "refute" + words + " kept")
         self.answers(0, "c leaf 1 lifted", "lift" + words + " leaf.lrat kept")
+        self.answers(20, "c leaf 2 closed", "lift --cubes halves.icnf --lidrup --leaf 2 --to 2"
+                     " four.cnf half.lidrup kept")
 
     def test_join(self) -> None:
         logs = "left.lrat right.lrat"
