@@ -44,10 +44,13 @@ def wrong_texts(edit: Path) -> Iterator[str]:
         if key == "file":
             path = edit.parent.parent / told.strip()
             text = path.read_text() if path.is_file() else ""
-        elif key == "old" and text.count(told) != 1:
-            where = path.relative_to(ROOT) if path else "no file, which a line `file: ` has to name"
-            yield (f"{edit.relative_to(ROOT)}: an old text stands {text.count(told)} times in "
-                   f"{where}: {told}")
+        if key != "old":
+            continue
+        if path is None:
+            yield f"{edit.relative_to(ROOT)}: a line `file: ` has to stand before an old text"
+        elif text.count(told) != 1:
+            yield (f"{edit.relative_to(ROOT)}: an old text has to stand once in "
+                   f"{path.relative_to(ROOT)}, and stands {text.count(told)} times: {told}")
 
 
 def main() -> int:

@@ -11,7 +11,7 @@ import sys
 import tempfile
 import unittest
 from pathlib import Path
-from typing import List, NamedTuple, Optional
+from typing import List, NamedTuple, Optional, Union
 
 sys.dont_write_bytecode = True
 
@@ -67,7 +67,7 @@ class Case(unittest.TestCase):
         self.program = os.environ["SATCLUSTER"]
         self.write("events", EVENTS)
 
-    def write(self, name: str, data) -> str:
+    def write(self, name: str, data: Union[str, bytes]) -> str:
         (self.folder / name).write_bytes(data if isinstance(data, bytes) else data.encode())
         return name
 

@@ -135,52 +135,53 @@ class Turns(Case):
         self.assertFalse(self.at("none.lrat").exists())
 
 
-# All clauses of three variables, four leaves, and what one process may write for leaves 2 and 3.
+# All clauses of three variables, and what one process may write for the leaves 2 and 3 of four.
 CLAUSES = ["%d %d %d 0" % (a, b, c) for a in (1, -1) for b in (2, -2) for c in (3, -3)]
 GIVEN = "".join("i %d %s\n" % row for row in enumerate(CLAUSES, 1))
 SECOND, THIRD = "q 1 -2 0\nu 1 -2 0 5 6 0\n", "q -1 2 0\nu -1 2 0 3 4 0\n"
+OTHERS = {"one": "9 -1 -2 0 7 8 0\n", "four": "9 1 2 0 1 2 0\n"}  # logs of the other leaves
 
 
 class Blocks(Case):
-    """LIDRUP texts for neighbouring leaves. A leaf is told by its number in the tree, and has the
-    query at its place in the block."""
+    """LIDRUP texts for blocks of leaves: a leaf is told by its number in the tree, and its query is
+    that of its place in the block."""
 
     def setUp(self) -> None:
         super().setUp()
+        self.write("f.cnf", "p cnf 3 8\n%s\n" % "\n".join(CLAUSES))
         leaves = ["a 1 2 0", "a 1 -2 0", "a -1 2 0", "a -1 -2 0"]
-        for name, text in (("f.cnf", "p cnf 3 8\n%s\n" % "\n".join(CLAUSES)),
-                           ("f.icnf", "\n".join(["p inccnf", *CLAUSES, *leaves]) + "\n"),
-                           ("one", "9 -1 -2 0 7 8 0\n"), ("four", "9 1 2 0 1 2 0\n")):
+        self.write("f.icnf", "\n".join(["p inccnf", *CLAUSES, *leaves]) + "\n")
+        for name, text in OTHERS.items():
             self.write(name, text)
 
-    def lifts(self, first: int, last: int, text: str, status: int, *ends: str) -> None:
-        """What is told of the leaves, in order. If there are no such leaves the log stands."""
+    def lifts(self, first: int, last: int, text: str, *ends: str) -> None:
+        """How each leaf of a block ends; none if the block is not there. Then what stood stands."""
         self.write("text", GIVEN + text)
         self.write("log", STOOD)
         lines = ["c leaf %d %s" % end for end in enumerate(ends, first)] or ["c no such leaf"]
+        status = 1 if not ends else 0 if "missing" in ends else 20
         self.says(status, lines, "lift", "--lidrup", "--cubes", "f.icnf", "--leaf", str(first),
                   "--to", str(last), "f.cnf", "text", "log")
-        self.assertEqual(not ends, self.at("log").read_text() == STOOD)
+        self.assertEqual(not ends, self.at("log").read_text() == STOOD, (first, last, text))
 
-    def test_two_of_four(self) -> None:
-        self.lifts(2, 3, SECOND + THIRD, 20, "closed", "closed")
+    def test_right(self) -> None:
+        self.lifts(2, 3, SECOND + THIRD, "closed", "closed")
         self.proves([], "one", "log", "four")
         self.knows_nothing(["c leaf 1 missing", "c leaf 4 missing"], "log")
-
-    def test_one(self) -> None:
-        self.lifts(3, 3, THIRD, 20, "closed")
+        self.lifts(3, 3, THIRD, "closed")
         self.knows_nothing(["c leaf 2 missing"], "one", "log", "four")
 
-    def test_texts_that_do_not_fit(self) -> None:
-        self.lifts(2, 2, SECOND + THIRD, 20, "closed")
-        self.lifts(2, 3, SECOND, 0, "closed", "missing")
-        self.lifts(2, 3, THIRD, 0, "missing", "missing")
-        self.lifts(2, 3, THIRD + SECOND, 0, "missing", "missing")
-        self.lifts(1, 2, SECOND + THIRD, 0, "missing", "missing")
+    def test_other_queries(self) -> None:
+        """More than there are leaves, fewer, without the first, in another order, for others."""
+        self.lifts(2, 2, SECOND + THIRD, "closed")
+        self.lifts(2, 3, SECOND, "closed", "missing")
+        self.lifts(2, 3, THIRD, "missing", "missing")
+        self.lifts(2, 3, THIRD + SECOND, "missing", "missing")
+        self.lifts(1, 2, SECOND + THIRD, "missing", "missing")
 
-    def test_no_such_leaves(self) -> None:
+    def test_no_such_block(self) -> None:
         for first, last in ((3, 2), (3, 5), (5, 5), (5, 4)):
-            self.lifts(first, last, SECOND + THIRD, 1)
+            self.lifts(first, last, SECOND + THIRD)
 
 
 class Names(Case):

@@ -201,7 +201,7 @@ class Solver:
         for number in set(numbers) - self.given:
             self.live.pop(number, None)
 
-    def search(self, true: List[int], free: List[int]):
+    def search(self, true: List[int], free: List[int]) -> Tuple[Optional[int], Set[int]]:
         """A model; or a clause that is false, by its number and what was assumed of it."""
         assumed = set(true)
         for number, clause in self.live.items():

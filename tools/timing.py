@@ -2,6 +2,7 @@
 import os
 import signal
 import subprocess
+import sys
 import threading
 import time
 from dataclasses import dataclass
@@ -23,7 +24,10 @@ def ended(words: Sequence[object], limit: Optional[float] = None, output: Path =
     file."""
     begin = time.monotonic()
     with output.open("wb") as file:
-        process = subprocess.Popen([str(word) for word in words], stdout=file, **more)
+        try:
+            process = subprocess.Popen([str(word) for word in words], stdout=file, **more)
+        except OSError as why:
+            sys.exit("cannot run %s: %s; put it on the path" % (words[0], why.strerror))
     late = threading.Timer(limit or 0, os.kill, [process.pid, signal.SIGKILL])
     if limit is not None:
         late.start()
