@@ -842,10 +842,16 @@ exit 20"""
             self.assertEqual(before, self.moments(PIGEONS), "a leaf was run again")
 
     def test_one_leaf_a_job(self) -> None:
-        """So it is if no block is asked for."""
+        self.stands()
+        self.refuted(*self.words("--block", "1", PIGEONS))
+        self.assertEqual(([], 0), (self.blocks(), self.begun()))
+
+    def test_four_leaves_a_job(self) -> None:
+        """So it is if nothing is asked for."""
         self.stands()
         self.refuted(*self.words(PIGEONS))
-        self.assertEqual(([], 0), (self.blocks(), self.begun()))
+        sizes = [len(cubes) for cubes in self.blocks()]
+        self.assertEqual(4, max(sizes), sizes)
 
     def test_model(self) -> None:
         """A leaf of a block has one, and the run ends."""
