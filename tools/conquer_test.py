@@ -1100,6 +1100,7 @@ class Kills(Case):
 
     def killed(self, engine: str, kills: int) -> None:
         words = ["-q", "--no-race", "--engine", engine, "--jobs", "2", "--depth", "5"]
+        words += ["--block", "1"] * (engine == "local")  # jobs of a block are over too soon
         words += [PIGEONS, "p.lrat"]
         began = time.monotonic()
         self.ends(20, ["s UNSATISFIABLE"], *words)
