@@ -9,49 +9,58 @@ also through others, or if a text of an edit that must fail does not stand once 
 import re
 import sys
 from pathlib import Path
+from typing import Dict, Iterator, Set
 
 ROOT = Path(__file__).resolve().parent.parent
 CRATES = ROOT / "crates"
 
 
-def uses():
+def uses() -> Dict[str, Set[str]]:
     """The crates of crates.txt, with those that each one uses, also through others."""
     lines = [line.split("#")[0] for line in (ROOT / "crates.txt").read_text().splitlines()]
     rows = [line.partition(":") for line in lines if line.strip()]
     named = {name.split()[0]: below.split() for name, _, below in rows}
 
-    def reached(name):
+    def reached(name: str) -> Set[str]:
         return {name}.union(*map(reached, named.get(name, [])))
 
     return {name: reached(name) - {name} for name in named}
 
 
-def wrong_modules(name, below):
+def wrong_modules(name: str, below: Set[str]) -> Iterator[str]:
     """The modules of a crate that have the name of one that it uses."""
     for path in sorted((CRATES / name / "src").rglob("*.rt")):
         for module in re.findall(r"(?m)^\s*(?:pub(?:\([a-z]+\))? )?mod (\w+)", path.read_text()):
             if module in below:
-                yield f"{path.relative_to(ROOT)}: the module {module} has the name of a crate"
+                yield (f"{path.relative_to(ROOT)}: the module {module} has the name of a crate "
+                       f"that {name} uses: rename the module")
 
 
-def wrong_texts(edit):
+def wrong_texts(edit: Path) -> Iterator[str]:
     """The texts of an edit that do not stand once in their file."""
     path, text = None, ""
     for line in edit.read_text().split("\n"):
-        if line.startswith("file: "):
-            path = edit.parent.parent / line[len("file: "):].strip()
+        key, _, told = line.partition(": ")
+        if key == "file":
+            path = edit.parent.parent / told.strip()
             text = path.read_text() if path.is_file() else ""
-        elif line.startswith("old: ") and text.count(line[len("old: "):]) != 1:
-            yield f"{edit.relative_to(ROOT)}: an old text does not stand once in {path}"
+        if key != "old":
+            continue
+        if path is None:
+            yield f"{edit.relative_to(ROOT)}: a line `file: ` has to stand before an old text"
+        elif text.count(told) != 1:
+            yield (f"{edit.relative_to(ROOT)}: an old text has to stand once in "
+                   f"{path.relative_to(ROOT)}, and stands {text.count(told)} times: {told}")
 
 
-def main():
+def main() -> int:
     wrong = [line for name, below in uses().items() for line in wrong_modules(name, below)]
-    wrong += [line for edit in sorted(CRATES.glob("*/must-fail/*.edit")) for line in wrong_texts(edit)]
+    wrong += [line for edit in sorted(CRATES.glob("*/must-fail/*.edit"))
+              for line in wrong_texts(edit)]
     for line in wrong:
         print(line)
-    sys.exit(1 if wrong else 0)
+    return 1 if wrong else 0
 
 
 if __name__ == "__main__":
-    main()
+    sys.exit(main())

@@ -1,11 +1,14 @@
-"""What the tests of scripts have in common: formulas, and how they are started."""
+"""What the tests of scripts have in common: formulas, a folder of their own, and how they are
+started."""
 import itertools
 import os
 import shutil
+import subprocess
 import sys
+import tempfile
 import unittest
 from pathlib import Path
-from typing import List
+from typing import Any, List
 
 ROOT = Path(__file__).resolve().parent
 EXAMPLES = ROOT.parent / "examples"
@@ -33,12 +36,42 @@ def satisfies(formula: str, lines: List[str]) -> bool:
     return all(true & clause for clause in clauses if clause)
 
 
+class FolderCase(unittest.TestCase):
+    """A folder of its own, in which the program is started."""
+
+    def setUp(self) -> None:
+        self.program = os.environ["SATCLUSTER"]
+        self.folder = Path(os.path.realpath(tempfile.mkdtemp()))
+        self.addCleanup(shutil.rmtree, str(self.folder), ignore_errors=True)
+
+    def at(self, name: str) -> Path:
+        return self.folder / name
+
+    def write(self, name: str, text: str) -> str:
+        self.at(name).write_text(text)
+        return name
+
+    def start(self, *words: object, **more: Any) -> subprocess.Popen:
+        """What is left of the process when the case ends is ended then."""
+        process = subprocess.Popen([self.program, *map(str, words)], cwd=str(self.folder),
+                                   stdout=subprocess.PIPE, **more)
+        self.addCleanup(stop, process)
+        return process
+
+
+def stop(process: subprocess.Popen) -> None:
+    """Ends a process, if it has not ended, and closes its pipes."""
+    with process:
+        process.kill()
+
+
 def run(usage: str) -> None:
     """Runs the cases of the file that was started, all or those that the command line names.
 
     The program goes into the environment, where `python3 -m unittest` has it too.
     """
-    if len(sys.argv) < 2 or not shutil.which(sys.argv[1]):
+    program = shutil.which(sys.argv[1]) if len(sys.argv) > 1 else None
+    if program is None:
         sys.exit(usage)
-    os.environ["SATCLUSTER"] = os.path.abspath(shutil.which(sys.argv[1]))
+    os.environ["SATCLUSTER"] = os.path.abspath(program)
     unittest.main(argv=sys.argv[:1] + sys.argv[2:], verbosity=2)

@@ -1,464 +1,432 @@
 #!/usr/bin/env python3
-"""Runs a coordinator and workers as processes of one machine, over ports of 127.0.0.1 that are free.
+"""Runs coordinators and workers as processes of one machine, over free ports of 127.0.0.1.
 
-    tools/cluster.py PATH-OF-satcluster [KILLS]
+    tools/cluster.py PATH-OF-satcluster [CASE ..]
 
-Tells what it tests, a line each, and ends with status 1 at the first difference. KILLS is how often a worker is killed at a random
-moment, and the coordinator a tenth as often; 10 if it is left out. What is tested here no contract can say: that
-sockets are opened, that peers who come, go and send anything else are met as they should be, and that nothing else is printed.
+A CASE is Kills, or Kills.test_workers; they run alone, and in any order. KILLS of the environment
+is how often workers are killed at random moments, and coordinators a tenth as often; 10 if it is
+not there. SEED draws the moments. What is tested here no contract can say: that sockets are opened,
+that peers who come, go and send anything else are met as they should be, and that nothing else is
+printed.
 """
-import itertools
 import os
-import resource
 import random
-import re
+import resource
 import signal
 import socket
 import subprocess
 import sys
-import tempfile
 import threading
 import time
+from dataclasses import dataclass
+from typing import Any, Callable
 
-# How long a process may take.
-SECONDS = 120
-# How many bytes a process may take that reads what has no end.
-ROOM = 2**28
+sys.dont_write_bytecode = True
+
+from cases import FolderCase, dimacs, pigeons, run
+from ports import LINKED, LISTENS, free_port, sockets_at
+
+SECONDS = 120  # how long a process may take
+ROOM = 2**28  # bytes for a process that reads what has no end
+LONG = 1.0  # seconds that a formula takes at least, so that a node can be killed meanwhile
+
+TWO = "two.cnf"  # a formula that has one model
+PIGEONS = "pigeons.cnf"  # one that takes LONG seconds; see long_formula
+MODEL = "s SATISFIABLE\nv 1 -2 0\n"
+SATISFIABLE, UNSATISFIABLE = "s SATISFIABLE\n", "s UNSATISFIABLE\n"
+UNKNOWN, NO_LINKS = "s UNKNOWN\n", "c cannot open links\n"
 # How a worker may end whose coordinator has decided the formula.
-LATE = [(20, "s UNSATISFIABLE\n"), (0, "s UNKNOWN\n"), (1, "c cannot open links\n")]
-# How long the formula of a run takes in which a node is killed, at least.
-LONG = 1.0
+LATE = ((20, UNSATISFIABLE), (0, UNKNOWN), (1, NO_LINKS))
+PROGRESS = r"\Ac \d+ s: \d+ closed, \d+ given, \d+ open, \d+ split, \d+\.\d MB\Z"
+
+TASK, VERDICT = b"CC\x01", b"CC\x05"  # the first bytes of frames
 
 
-def pigeons(holes):
-    """One pigeon more than there are holes: each has a hole, and no hole has two. Nothing satisfies it."""
-    at = lambda pigeon, hole: pigeon * holes + hole + 1
-    clauses = [[at(p, h) for h in range(holes)] for p in range(holes + 1)]
-    for hole in range(holes):
-        for first, second in itertools.combinations(range(holes + 1), 2):
-            clauses.append([-at(first, hole), -at(second, hole)])
-    return dimacs((holes + 1) * holes, clauses)
-
-
-def dimacs(variables, clauses):
-    lines = ["p cnf %d %d" % (variables, len(clauses))]
-    lines += [" ".join(map(str, clause + [0])) for clause in clauses]
-    return "\n".join(lines) + "\n"
-
-
-def idle(worker, incarnation):
+def idle(worker: int, incarnation: int) -> bytes:
     """The frame by which a worker says that it has nothing to do."""
     payload = worker.to_bytes(4, "big") + incarnation.to_bytes(8, "big")
     return b"CC\x08" + len(payload).to_bytes(2, "big") + payload
 
 
-def want(worker, offset):
+def want(worker: int, offset: int) -> bytes:
     """The frame by which a worker asks for bytes of the evidence."""
     payload = (1).to_bytes(8, "big") + worker.to_bytes(4, "big") + offset.to_bytes(4, "big")
     return b"CC\x06" + len(payload).to_bytes(2, "big") + payload
 
 
-def free_port():
-    with socket.socket() as listener:
-        listener.bind(("127.0.0.1", 0))
-        return listener.getsockname()[1]
+def kill(process: subprocess.Popen) -> None:
+    process.send_signal(signal.SIGKILL)
+    process.communicate()
 
 
-def wait_for(what, holds):
-    end = time.monotonic() + SECONDS
-    while not holds():
-        if time.monotonic() > end:
-            differs(what, "in time", "never")
-        time.sleep(0.01)
+@dataclass(frozen=True)
+class Coordinator:
+    process: subprocess.Popen
+    port: int
 
 
-def sockets_at(port, state):
-    """How many sockets at this port of 127.0.0.1 are in a state: `0A` listens, `01` is connected."""
-    with open("/proc/net/tcp") as table:
-        rows = [line.split() for line in list(table)[1:]]
-    return sum(row[1] == "0100007F:%04X" % port and row[3] == state for row in rows)
+class Case(FolderCase):
+    holes = 0  # of the pigeons that take LONG seconds; 0 until they are measured
 
+    def setUp(self) -> None:
+        super().setUp()
+        self.write(TWO, dimacs(2, [[1], [-2]]))
 
-def differs(what, wanted, found):
-    print("DIFFERS: %s: wanted %r, found %r" % (what, wanted, found))
-    for process in running:
-        process.kill()
-    sys.exit(1)
+    def start(self, *words: object, **more: Any) -> subprocess.Popen:
+        return super().start(*words, stderr=subprocess.PIPE, **more)
 
+    def serve(self, *words: object) -> Coordinator:
+        """A coordinator that listens."""
+        port = free_port()
+        process = self.start("serve", "--port", port, *words)
+        self.wait_for("a coordinator listens", lambda: sockets_at(port, LISTENS) == 1)
+        return Coordinator(process, port)
 
-def same(what, wanted, found):
-    if wanted != found:
-        differs(what, wanted, found)
+    def work(self, port: int, number: int, *words: object) -> subprocess.Popen:
+        return self.start("work", "--port", port, "--number", number, *words)
 
+    def peer(self, port: int) -> socket.socket:
+        """A connection to a coordinator by which anything can be sent."""
+        peer = socket.create_connection(("127.0.0.1", port), timeout=SECONDS)
+        self.addCleanup(peer.close)
+        return peer
 
-def ok(what):
-    print("ok: " + what)
+    def wait_for(self, what: str, holds: Callable[[], bool]) -> None:
+        end = time.monotonic() + SECONDS
+        while not holds():
+            self.assertLess(time.monotonic(), end, what)
+            time.sleep(0.01)
 
+    def wait_for_links(self, coordinator: Coordinator, count: int) -> None:
+        """Waits until it has so many connections."""
+        self.wait_for("%d workers are linked" % count,
+                      lambda: sockets_at(coordinator.port, LINKED) == count)
 
-running = []
+    def go_on(self, seconds: float, *processes: subprocess.Popen) -> None:
+        """None of these ends within so many seconds."""
+        time.sleep(seconds)
+        self.assertEqual([None] * len(processes), [process.poll() for process in processes])
 
-
-class Cluster:
-    """The program, in a folder with the files of the formulas."""
-
-    def __init__(self, program, folder):
-        self.program = os.path.abspath(program)
-        self.folder = folder
-
-    def write(self, name, text):
-        with open(os.path.join(self.folder, name), "w") as file:
-            file.write(text)
-
-    def start(self, *words, **more):
-        process = subprocess.Popen(
-            [self.program, *map(str, words)],
-            cwd=self.folder,
-            **more,
-            stdout=subprocess.PIPE,
-            stderr=subprocess.PIPE,
-        )
-        running.append(process)
-        return process
-
-    def ends(self, what, process, status, text):
-        """The process ends with this status, has printed this text, and nothing on standard error."""
+    def end(self, process: subprocess.Popen, what: object) -> str:
+        """What a process has printed when it ends; there is nothing on standard error."""
         try:
             out, err = process.communicate(timeout=SECONDS)
         except subprocess.TimeoutExpired:
-            differs(what, "an end", "none after %d seconds" % SECONDS)
-        same(what, (status, text, ""), (process.returncode, out.decode(), err.decode()))
+            self.fail("%s: no end after %d seconds" % (what, SECONDS))
+        self.assertEqual("", err.decode(), what)
+        return out.decode()
 
-    def serve(self, port, *words):
-        process = self.start("serve", "--port", port, *words)
-        wait_for("a coordinator listens", lambda: sockets_at(port, "0A") == 1)
-        return process
+    def ends(self, process: subprocess.Popen, status: int, text: str, what: object) -> None:
+        out = self.end(process, what)
+        self.assertEqual((status, text), (process.returncode, out), what)
 
-    def verifies(self, formula, proof):
-        self.ends("check " + proof, self.start("check", formula, proof), 0, "s VERIFIED\n")
+    def ends_late(self, worker: subprocess.Popen) -> None:
+        """A worker holds the verdict, or none if it came too late for it."""
+        text = worker.communicate(timeout=SECONDS)[0].decode()
+        self.assertIn((worker.returncode, text), LATE)
 
+    def verifies(self, formula: str, proof: str) -> None:
+        self.ends(self.start("check", formula, proof), 0, "s VERIFIED\n", proof)
 
-def endless_files(cluster):
-    """What has no end is read up to its first fault, or up to want of memory."""
-    for words, begin, text in (
-        (("solve", "/dev/stdin"), b"q cnf 1 1\n", "c input line 1 fault 1\n"),
-        (("check", "/dev/stdin", "two.cnf"), b"q cnf 1 1\n", "c input line 1 fault 1\n"),
-        (("check", "two.cnf", "/dev/stdin"), b"no proof\n", "s NOT VERIFIED\nc line 1 fault 1\n"),
-    ):
-        out, into = os.pipe()
-        process = cluster.start(*words, stdin=out)
-        os.close(out)
-        os.write(into, begin)
-        cluster.ends(" ".join(words), process, 1, text)
-        os.close(into)
-    limit = lambda: resource.setrlimit(resource.RLIMIT_AS, (ROOM, ROOM))
-    for words in (("solve", "/dev/zero"), ("check", "/dev/zero", "two.cnf"), ("check", "two.cnf", "/dev/zero")):
-        cluster.ends(" ".join(words), cluster.start(*words, preexec_fn=limit), 1, "c no memory\n")
-    ok("inputs and proofs without an end")
+    def long_formula(self) -> str:
+        """A formula that takes LONG seconds, whatever this machine is."""
+        if not Case.holes:
+            Case.holes = self.solve_longer_and_longer()
+        return self.write(PIGEONS, pigeons(Case.holes))
 
-
-def faulty_files(cluster):
-    """What is wrong with the files of `serve` is told before anyone is linked."""
-    cluster.write("faulty.cnf", "p cnf 1\n")
-    cluster.write("other.icnf", "p inccnf\n1 2 0\na 0\n")
-    for words, text in (
-        (("faulty.cnf",), "c input line 1 fault 2\n"),
-        (("--cubes", "faulty.cnf", "two.cnf"), "c cubes line 1 fault 2\n"),
-        (("--cubes", "other.icnf", "two.cnf"), "c cubes of another formula\n"),
-    ):
-        coordinator = cluster.start("serve", "--port", free_port(), "--workers", 1, *words)
-        cluster.ends("serve with " + words[-2 if len(words) > 1 else 0], coordinator, 1, text)
-    ok("faulty files of a coordinator without a worker")
+    def solve_longer_and_longer(self) -> int:
+        """Solves PIGEONS with more and more holes, until one takes LONG seconds."""
+        for holes in range(4, 13):
+            self.write(PIGEONS, pigeons(holes))
+            begin = time.monotonic()
+            process = self.start("solve", "--workers", 3, "--depth", 3, PIGEONS, "solved.lrat")
+            self.ends(process, 20, UNSATISFIABLE, "%d holes" % holes)
+            if time.monotonic() - begin > LONG:
+                break
+        return holes
 
 
-def refused_links(cluster):
-    port = free_port()
-    worker = cluster.start("work", "--port", port, "two.cnf")
-    cluster.ends("a worker whom nobody serves", worker, 1, "c cannot open links\n")
-    worker = cluster.start("work", "--port", port, "-q", "two.cnf")
-    cluster.ends("the same with -q", worker, 1, "")
-    first = cluster.serve(port, "--workers", 1, "two.cnf")
-    second = cluster.start("serve", "--port", port, "--workers", 1, "two.cnf")
-    cluster.ends("a port that is taken", second, 1, "c cannot open links\n")
-    worker = cluster.start("work", "--port", port, "two.cnf")
-    cluster.ends("a worker with a model", worker, 10, "s SATISFIABLE\nv 1 -2 0\n")
-    cluster.ends("its coordinator", first, 10, "s SATISFIABLE\nv 1 -2 0\n")
-    ok("links that cannot be opened, and a port that is taken")
+class Files(Case):
+    def test_inputs_without_end(self) -> None:
+        """They are read up to their first fault."""
+        fault = "c input line 1 fault 1\n"
+        for words, begin, text in (
+                (("solve", "/dev/stdin"), b"q cnf 1 1\n", fault),
+                (("check", "/dev/stdin", TWO), b"q cnf 1 1\n", fault),
+                (("check", TWO, "/dev/stdin"), b"no proof\n",
+                 "s NOT VERIFIED\nc line 1 fault 1\n")):
+            out, into = os.pipe()
+            process = self.start(*words, stdin=out)
+            os.close(out)
+            with os.fdopen(into, "wb", buffering=0) as pipe:
+                pipe.write(begin)
+                self.ends(process, 1, text, words)
+
+    def test_want_of_memory(self) -> None:
+        """Without a fault they are read up to want of memory."""
+        def limit() -> None:
+            resource.setrlimit(resource.RLIMIT_AS, (ROOM, ROOM))
+
+        for words in (("solve", "/dev/zero"), ("check", "/dev/zero", TWO),
+                      ("check", TWO, "/dev/zero")):
+            process = self.start(*words, preexec_fn=limit)
+            self.ends(process, 1, "c no memory\n", words)
+
+    def test_faults(self) -> None:
+        """What is wrong with the files of `serve` is told before any worker is linked."""
+        self.write("faulty.cnf", "p cnf 1\n")
+        self.write("other.icnf", "p inccnf\n1 2 0\na 0\n")
+        for words, text in (
+                (["faulty.cnf"], "c input line 1 fault 2\n"),
+                (["--cubes", "faulty.cnf", TWO], "c cubes line 1 fault 2\n"),
+                (["--cubes", "other.icnf", TWO], "c cubes of another formula\n")):
+            process = self.start("serve", "--port", free_port(), "--workers", 1, *words)
+            self.ends(process, 1, text, words)
 
 
-def closed_peers(cluster):
-    port = free_port()
-    coordinator = cluster.serve(port, "--workers", 2, "-n", "two.cnf")
+class Links(Case):
+    def test_nobody_serves(self) -> None:
+        for words, text in (([TWO], NO_LINKS), (["-q", TWO], "")):
+            worker = self.start("work", "--port", free_port(), *words)
+            self.ends(worker, 1, text, words)
 
-    def is_closed(what, *pieces):
-        with socket.create_connection(("127.0.0.1", port)) as peer:
-            peer.settimeout(SECONDS)
+    def test_port_that_is_taken(self) -> None:
+        """The first coordinator goes on."""
+        first = self.serve("--workers", 1, TWO)
+        second = self.start("serve", "--port", first.port, "--workers", 1, TWO)
+        self.ends(second, 1, NO_LINKS, "the second one")
+        worker = self.start("work", "--port", first.port, TWO)
+        self.ends(worker, 10, MODEL, "a worker")
+        self.ends(first.process, 10, MODEL, "its coordinator")
+
+    def test_peers(self) -> None:
+        """One that sends anything but Idle of a worker is closed, a silent one holds nobody up, and
+        one of two has a number: all in one run, which ends as if they were not there."""
+        coordinator = self.serve("--workers", 2, "-n", TWO)
+        port = coordinator.port
+        for what, data in (("garbage", b"garbage\n"), ("a worker that there is not", idle(3, 1)),
+                           ("a frame that is not Idle", b"CC\x09\x00\x00")):
+            self.is_closed(port, data, what)
+        self.peer(port).close()
+        self.peer(port)  # silent up to the end
+        self.peer(port).sendall(idle(1, 1)[:5])  # silent behind half of a frame
+        self.have_a_number_in_turn(port)
+        worker = self.work(port, 2, "-n", TWO)
+        self.ends(worker, 10, SATISFIABLE, "the worker beside silent peers")
+        self.ends(coordinator.process, 10, SATISFIABLE, "the coordinator beside silent peers")
+
+    def is_closed(self, port: int, data: bytes, what: str) -> None:
+        with self.peer(port) as peer:
             try:
-                for piece in pieces:
-                    peer.sendall(piece)
-                    time.sleep(0.05)
+                peer.sendall(data)
+                time.sleep(0.05)
                 found = peer.recv(1)
             except (ConnectionResetError, BrokenPipeError):
                 found = b""
-            same(what, b"", found)
+        self.assertEqual(b"", found, what)
 
-    is_closed("a peer with garbage", b"garbage\n")
-    is_closed("a worker that there is not", idle(3, 1))
-    is_closed("a frame that is not Idle", b"CC\x09\x00\x00")
-    with socket.create_connection(("127.0.0.1", port)):
-        pass
-    silent = socket.create_connection(("127.0.0.1", port))
-    half = socket.create_connection(("127.0.0.1", port))
-    half.sendall(idle(1, 1)[:5])
-    first = socket.create_connection(("127.0.0.1", port))
-    first.sendall(idle(1, 7)[:5])
-    time.sleep(0.05)
-    first.sendall(idle(1, 7)[5:])
-    first.settimeout(SECONDS)
-    same("a worker in two pieces gets a task", b"CC\x01", first.recv(3))
-    second = socket.create_connection(("127.0.0.1", port))
-    second.sendall(idle(1, 2 ** 64 - 1))
-    second.settimeout(0.5)
-    try:
-        differs("another worker of its number", "nothing for now", second.recv(3))
-    except TimeoutError:
-        pass
-    second.settimeout(SECONDS)
-    first.close()
-    same("it gets a task when the first one has gone", b"CC\x01", second.recv(3))
-    second.close()
-    worker = cluster.start("work", "--port", port, "--number", 2, "-n", "two.cnf")
-    for what, process in (("worker", worker), ("coordinator", coordinator)):
-        cluster.ends("beside silent peers, the " + what, process, 10, "s SATISFIABLE\n")
-    for peer in (silent, half):
-        peer.close()
-    ok("peers that send anything but Idle of a worker are closed, silent ones hold nobody up, and one of two has a number")
+    def have_a_number_in_turn(self, port: int) -> None:
+        """A worker whose frame comes in two pieces gets a task; another of its number waits until
+        the first one has gone."""
+        first, second = self.peer(port), self.peer(port)
+        first.sendall(idle(1, 7)[:5])
+        time.sleep(0.05)
+        first.sendall(idle(1, 7)[5:])
+        self.assertEqual(TASK, first.recv(3))
+        second.sendall(idle(1, 2**64 - 1))
+        second.settimeout(0.5)
+        with self.assertRaises(socket.timeout):
+            second.recv(3)
+        second.settimeout(SECONDS)
+        first.close()
+        self.assertEqual(TASK, second.recv(3))
+        second.close()
 
-
-def one_run_with_kills(cluster, draw, wanted):
-    """Two workers are killed at random and come back, until the run is decided. Answers how often."""
-    port = free_port()
-    coordinator = cluster.serve(port, "--workers", 4, "--depth", 5, "pigeons.cnf", "served.lrat")
-
-    def flood():
-        while coordinator.poll() is None:
-            try:
-                with socket.create_connection(("127.0.0.1", port), timeout=1) as peer:
-                    for _ in range(1000):
-                        peer.sendall(idle(4, 7) * 100)
-            except OSError:
-                time.sleep(0.01)
-
-    flooding = threading.Thread(target=flood, daemon=True)
-    flooding.start()
-    other = cluster.start("work", "--port", port, "--number", 3, "two.cnf")
-    workers = {w: cluster.start("work", "--port", port, "--number", w, "pigeons.cnf") for w in (1, 2)}
-    cluster.ends("a worker of another formula", other, 0, "s UNKNOWN\n")
-    kills = 0
-    while coordinator.poll() is None and kills < wanted:
-        time.sleep(draw.uniform(0.02, 0.2))
-        number = draw.choice((1, 2))
-        workers[number].send_signal(signal.SIGKILL)
-        workers[number].communicate()
-        workers[number] = cluster.start("work", "--port", port, "--number", number, "--incarnation", 2 + kills, "pigeons.cnf")
-        kills += 1
-    cluster.ends("the coordinator", coordinator, 20, "s UNSATISFIABLE\n")
-    for process in workers.values():
-        process.communicate()
-    flooding.join(SECONDS)
-    cluster.verifies("pigeons.cnf", "served.lrat")
-    return kills
-
-
-def killed_workers(cluster, wanted):
-    """Workers are killed and come back, beside peers that flood and one with another formula."""
-    draw, kills, runs = random.Random(1), 0, 0
-    while kills < wanted:
-        kills += one_run_with_kills(cluster, draw, wanted - kills)
-        runs += 1
-    ok("workers that are killed %d times come back into %d runs, beside a flood and another formula" % (kills, runs))
-
-
-def many_workers(cluster):
-    """As many workers as there may be."""
-    port = free_port()
-    coordinator = cluster.serve(port, "--workers", 64, "--depth", 7, "pigeons.cnf", "served.lrat")
-    workers = [cluster.start("work", "--port", port, "--number", w, "pigeons.cnf") for w in range(1, 65)]
-    cluster.ends("the coordinator of 64", coordinator, 20, "s UNSATISFIABLE\n")
-    for worker in workers:
-        ends_with_or_without(worker)
-    cluster.verifies("pigeons.cnf", "served.lrat")
-    ok("64 workers")
-
-
-def slow_reader(cluster):
-    """A peer asks for the evidence again and again, and reads nothing of it: it is hung up, and the run ends."""
-    port = free_port()
-    coordinator = cluster.serve(port, "--workers", 2, "--depth", 0, "--limit", 1000000000, "pigeons.cnf", "served.lrat")
-    worker = cluster.start("work", "--port", port, "pigeons.cnf")
-    wait_for("it is linked", lambda: sockets_at(port, "01") == 1)
-    found = b"CC\x01"
-    while found == b"CC\x01":  # the worker's task, if the peer was heard before it: it is given back
-        peer = socket.socket()
-        peer.setsockopt(socket.SOL_SOCKET, socket.SO_RCVBUF, 4096)
-        peer.settimeout(SECONDS)
-        peer.connect(("127.0.0.1", port))
-        peer.sendall(idle(2, 1))
-        found = peer.recv(3)
-        if found == b"CC\x01":
-            peer.close()
-    same("the verdict is handed out", b"CC\x05", found)
-    try:
-        while True:
-            peer.sendall(want(2, 0) * 100)
-    except TimeoutError:
-        differs("a peer that reads nothing", "a link that is hung up", "one that is open")
-    except OSError:
-        pass
-    peer.close()
-    for what, process in (("worker", worker), ("coordinator", coordinator)):
-        cluster.ends("beside a peer that reads nothing, the " + what, process, 20, "s UNSATISFIABLE\n")
-    cluster.verifies("pigeons.cnf", "served.lrat")
-    ok("a peer that reads nothing behind a full buffer")
-
-
-def patience(cluster):
-    """With `--patience` a run that nobody comes to ends, and a silent worker loses its leaf to one that is free."""
-    port = free_port()
-    coordinator = cluster.serve(port, "--workers", 1, "--patience", 1, "two.cnf")
-    cluster.ends("a coordinator that nobody comes to", coordinator, 0, "s UNKNOWN\n")
-    coordinator = cluster.serve(port, "--workers", 2, "--depth", 0, "--patience", 1, "-n", "two.cnf")
-    with socket.create_connection(("127.0.0.1", port)) as silent:
-        silent.sendall(idle(1, 1))
-        silent.settimeout(SECONDS)
-        same("a silent worker gets a task", b"CC\x01", silent.recv(3))
-        worker = cluster.start("work", "--port", port, "--number", 2, "-n", "two.cnf")
-        for what, process in (("worker", worker), ("coordinator", coordinator)):
-            cluster.ends("beside a worker that is silent, the " + what, process, 10, "s SATISFIABLE\n")
-    ok("patience: nobody comes, and a silent worker's leaf is given to another")
-
-
-def progress(cluster):
-    """With `--progress` a run tells once a second how far it has come, on standard error alone."""
-    cluster.write("nine.cnf", pigeons(9))  # some seconds on any machine
-    run = cluster.start("solve", "--depth", 5, "--progress", "nine.cnf")
-    out, err = run.communicate(timeout=SECONDS)
-    same("a run that tells how far it is", (20, b"s UNSATISFIABLE\n"), (run.returncode, out))
-    lines = err.decode().splitlines()
-    told = r"c \d+ s: \d+ closed, \d+ given, \d+ open, \d+ split, \d+\.\d MB"
-    if not lines or not all(re.fullmatch(told, line) for line in lines):
-        differs("how far a run is", "lines like " + told, lines)
-    ok("how far a run has come, in %d lines" % len(lines))
-
-
-def rounds(cluster):
-    """With `--rounds` the coordinator begins when all workers are there, and takes them in turns."""
-    port = free_port()
-    coordinator = cluster.serve(port, "--rounds", "--workers", 2, "--depth", 3, "pigeons.cnf", "rounds.lrat")
-    early = cluster.start("work", "--port", port, "--number", 1, "--ahead", "pigeons.cnf")
-    wait_for("one is linked", lambda: sockets_at(port, "01") == 1)
-    time.sleep(0.2)
-    same("a run waits for its workers", (None, None), (coordinator.poll(), early.poll()))
-    late = cluster.start("work", "--port", port, "--number", 2, "--ahead", "pigeons.cnf")
-    for what, process in (("worker that was early", early), ("worker that was late", late), ("coordinator", coordinator)):
-        cluster.ends("in rounds the " + what, process, 20, "s UNSATISFIABLE\n")
-    cluster.verifies("pigeons.cnf", "rounds.lrat")
-    ok("two workers that are taken in turns")
-
-
-def lost_worker(cluster):
-    port = free_port()
-    coordinator = cluster.serve(port, "--workers", 2, "--depth", 3, "pigeons.cnf", "served.lrat")
-    first = cluster.start("work", "--port", port, "--number", 1, "pigeons.cnf")
-    second = cluster.start("work", "--port", port, "--number", 2, "pigeons.cnf", "worked.lrat")
-    wait_for("both are linked", lambda: sockets_at(port, "01") == 2)
-    time.sleep(0.2)
-    same("the run goes on", (None, None, None), (coordinator.poll(), first.poll(), second.poll()))
-    first.send_signal(signal.SIGKILL)
-    first.communicate()
-    late = cluster.start("work", "--port", port, "--number", 1, "--incarnation", 2, "pigeons.cnf")
-    for what, process in (("worker that is left", second), ("worker that came back", late), ("coordinator", coordinator)):
-        cluster.ends("the " + what, process, 20, "s UNSATISFIABLE\n")
-    cluster.verifies("pigeons.cnf", "served.lrat")
-    cluster.verifies("pigeons.cnf", "worked.lrat")
-    ok("a worker is killed, and one that comes in its place goes on in the same run")
-
-
-def lost_coordinator(cluster, wanted):
-    """A coordinator is killed at a random moment: its workers hold no verdict, and its PROOF is as it was."""
-    draw = random.Random(2)
-    for _ in range(wanted):
-        cluster.write("stood.lrat", "what stood\n")
-        port = free_port()
-        coordinator = cluster.serve(port, "--workers", 2, "pigeons.cnf", "stood.lrat")
-        workers = [cluster.start("work", "--port", port, "--number", w, "pigeons.cnf") for w in (1, 2)]
-        wait_for("they are linked", lambda: sockets_at(port, "01") == 2)
-        time.sleep(draw.uniform(0, 0.4))
-        same("the run goes on", [None] * 3, [process.poll() for process in [coordinator] + workers])
-        coordinator.send_signal(signal.SIGKILL)
-        coordinator.communicate()
-        for worker in workers:
-            cluster.ends("its worker", worker, 0, "s UNKNOWN\n")
-        with open(os.path.join(cluster.folder, "stood.lrat")) as proof:
-            same("its proof", "what stood\n", proof.read())
-    ok("a coordinator is killed, %d times: its workers know nothing, and what stood stands" % wanted)
-
-
-def one_process(cluster):
-    """Three workers in one process; the formula that is solved is so great that this takes a while."""
-    for holes in range(4, 13):
-        cluster.write("pigeons.cnf", pigeons(holes))
-        begin = time.monotonic()
-        run = cluster.start("solve", "--workers", 3, "--depth", 3, "pigeons.cnf", "solved.lrat")
-        cluster.ends("solve", run, 20, "s UNSATISFIABLE\n")
-        if time.monotonic() - begin > LONG:
-            break
-    cluster.verifies("pigeons.cnf", "solved.lrat")
-    ok("three workers in one process; %d holes for %d pigeons" % (holes, holes + 1))
-
-
-def ends_with_or_without(worker):
-    """A worker holds the verdict, or none if it came too late."""
-    text = worker.communicate(timeout=SECONDS)[0].decode()
-    if (worker.returncode, text) not in LATE:
-        differs("a worker of a run that is decided", LATE, (worker.returncode, text))
-
-
-def defined_variables(cluster):
-    """With definitions an assignment shows none of them, and the proof begins with theirs."""
-    cluster.write("same.cnf", dimacs(2, [[1, -2], [-1, 2]]))
-    run = cluster.start("solve", "--workers", 1, "--depth", 1, "--defs", 1, "same.cnf")
-    cluster.ends("solve with a definition", run, 10, "s SATISFIABLE\nv -1 -2 0\n")
-    cluster.write("few.cnf", pigeons(4))
-    port = free_port()
-    coordinator = cluster.serve(port, "--workers", 2, "--defs", 64, "few.cnf", "defined.lrat")
-    workers = [cluster.start("work", "--port", port, "--number", w, "--ahead", "--defs", 64, "few.cnf") for w in (1, 2)]
-    cluster.ends("a run with definitions", coordinator, 20, "s UNSATISFIABLE\n")
-    for worker in workers:  # one that comes when the other one has the verdict is not waited for
-        ends_with_or_without(worker)
-    with open(os.path.join(cluster.folder, "defined.lrat")) as proof:
-        same("the first variable behind the formula's", "21", next(proof).split()[1])
-    cluster.verifies("few.cnf", "defined.lrat")
-    ok("definitions, at a coordinator and its workers")
-
-
-def main():
-    if not 2 <= len(sys.argv) <= 3:
-        sys.exit(__doc__)
-    kills = int(sys.argv[2]) if len(sys.argv) > 2 else 10
-    with tempfile.TemporaryDirectory() as folder:
-        cluster = Cluster(sys.argv[1], folder)
-        cluster.write("two.cnf", dimacs(2, [[1], [-2]]))
+    def test_peer_that_reads_nothing(self) -> None:
+        """It asks for the evidence again and again: it is hung up, and the run ends."""
+        coordinator = self.serve("--workers", 2, "--depth", 0, "--limit", 1000000000,
+                                 self.long_formula(), "served.lrat")
+        worker = self.start("work", "--port", coordinator.port, PIGEONS)
+        self.wait_for_links(coordinator, 1)
+        peer = self.peer_with_verdict(coordinator.port)
         try:
-            for test in (endless_files, faulty_files, refused_links, closed_peers, defined_variables):
-                test(cluster)
-            for test in (patience, one_process, progress, rounds, lost_worker, slow_reader, many_workers):
-                test(cluster)
-            killed_workers(cluster, kills)
-            lost_coordinator(cluster, kills // 10)
-        finally:
-            for process in running:
-                process.kill()
+            while True:
+                peer.sendall(want(2, 0) * 100)
+        except socket.timeout:
+            self.fail("a peer that reads nothing is not hung up")
+        except OSError:
+            pass
+        for process in (worker, coordinator.process):
+            self.ends(process, 20, UNSATISFIABLE, process.args)
+        self.verifies(PIGEONS, "served.lrat")
+
+    def peer_with_verdict(self, port: int) -> socket.socket:
+        """A peer of little room that has been told the verdict. If it is heard before the worker it
+        gets the worker's task, which it gives back as it goes."""
+        while True:
+            peer = socket.socket()
+            self.addCleanup(peer.close)
+            peer.setsockopt(socket.SOL_SOCKET, socket.SO_RCVBUF, 4096)
+            peer.settimeout(SECONDS)
+            peer.connect(("127.0.0.1", port))
+            peer.sendall(idle(2, 1))
+            found = peer.recv(3)
+            if found != TASK:
+                self.assertEqual(VERDICT, found)
+                return peer
+            peer.close()
+
+
+class Patience(Case):
+    def test_nobody_comes(self) -> None:
+        coordinator = self.serve("--workers", 1, "--patience", 1, TWO)
+        self.ends(coordinator.process, 0, UNKNOWN, "a coordinator that nobody comes to")
+
+    def test_silent_worker(self) -> None:
+        """It loses its leaf to one that is free."""
+        coordinator = self.serve("--workers", 2, "--depth", 0, "--patience", 1, "-n", TWO)
+        silent = self.peer(coordinator.port)
+        silent.sendall(idle(1, 1))
+        self.assertEqual(TASK, silent.recv(3))
+        worker = self.work(coordinator.port, 2, "-n", TWO)
+        self.ends(worker, 10, SATISFIABLE, "a worker beside a silent one")
+        self.ends(coordinator.process, 10, SATISFIABLE, "the coordinator of a silent worker")
+
+
+class Runs(Case):
+    def test_one_process(self) -> None:
+        """Three workers in one process."""
+        Case.holes = self.solve_longer_and_longer()
+        self.verifies(PIGEONS, "solved.lrat")
+
+    def test_progress(self) -> None:
+        """It is told once a second, on standard error alone."""
+        for holes in range(7, 13):
+            self.write(PIGEONS, pigeons(holes))
+            process = self.start("solve", "--depth", 5, "--progress", PIGEONS)
+            out, err = process.communicate(timeout=SECONDS)
+            self.assertEqual((20, UNSATISFIABLE), (process.returncode, out.decode()))
+            if err:  # it has taken a second
+                break
+        self.assertNotEqual(b"", err)
+        for line in err.decode().splitlines():
+            self.assertRegex(line, PROGRESS)
+
+    def test_rounds(self) -> None:
+        """The coordinator begins when all workers are there, and takes them in turns."""
+        coordinator = self.serve("--rounds", "--workers", 2, "--depth", 3, self.long_formula(),
+                                 "rounds.lrat")
+        early = self.work(coordinator.port, 1, "--ahead", PIGEONS)
+        self.wait_for_links(coordinator, 1)
+        self.go_on(0.2, coordinator.process, early)
+        late = self.work(coordinator.port, 2, "--ahead", PIGEONS)
+        for process in (early, late, coordinator.process):
+            self.ends(process, 20, UNSATISFIABLE, process.args)
+        self.verifies(PIGEONS, "rounds.lrat")
+
+    def test_many_workers(self) -> None:
+        """As many as there may be."""
+        coordinator = self.serve("--workers", 64, "--depth", 7, self.long_formula(), "served.lrat")
+        workers = [self.work(coordinator.port, 1 + at, PIGEONS) for at in range(64)]
+        self.ends(coordinator.process, 20, UNSATISFIABLE, "the coordinator of 64")
+        for worker in workers:
+            self.ends_late(worker)
+        self.verifies(PIGEONS, "served.lrat")
+
+    def test_model_with_a_definition(self) -> None:
+        """It shows no variable that is defined."""
+        self.write("same.cnf", dimacs(2, [[1, -2], [-1, 2]]))
+        process = self.start("solve", "--workers", 1, "--depth", 1, "--defs", 1, "same.cnf")
+        self.ends(process, 10, "s SATISFIABLE\nv -1 -2 0\n", "solve --defs")
+
+    def test_proof_with_definitions(self) -> None:
+        """It begins with them: with the first variable behind the formula's."""
+        self.write("few.cnf", pigeons(4))
+        coordinator = self.serve("--workers", 2, "--defs", 64, "few.cnf", "defined.lrat")
+        workers = [self.work(coordinator.port, number, "--ahead", "--defs", 64, "few.cnf")
+                   for number in (1, 2)]
+        self.ends(coordinator.process, 20, UNSATISFIABLE, "the coordinator")
+        for worker in workers:  # it is not waited for if the other one has the verdict
+            self.ends_late(worker)
+        with self.at("defined.lrat").open() as proof:
+            self.assertEqual("21", next(proof).split()[1])
+        self.verifies("few.cnf", "defined.lrat")
+
+
+class Kills(Case):
+    def setUp(self) -> None:
+        super().setUp()
+        self.kills = int(os.environ.get("KILLS", 10))
+        self.draw = random.Random(int(os.environ.get("SEED", 1)))
+
+    def test_workers(self) -> None:
+        """They are killed and come back, beside peers that flood and one with another formula."""
+        kills = 0
+        while kills < self.kills:
+            kills += self.run_with_kills(self.kills - kills)
+
+    def run_with_kills(self, most: int) -> int:
+        """How often one of two workers was killed, and came back, until the run was decided."""
+        coordinator = self.serve("--workers", 4, "--depth", 5, self.long_formula(), "served.lrat")
+        flooding = threading.Thread(target=flood, args=[coordinator], daemon=True)
+        flooding.start()
+        other = self.work(coordinator.port, 3, TWO)
+        workers = {number: self.work(coordinator.port, number, PIGEONS) for number in (1, 2)}
+        self.ends(other, 0, UNKNOWN, "a worker of another formula")
+        kills = 0
+        while coordinator.process.poll() is None and kills < most:
+            time.sleep(self.draw.uniform(0.02, 0.2))
+            number = self.draw.choice((1, 2))
+            kill(workers[number])
+            kills += 1
+            workers[number] = self.work(coordinator.port, number, "--incarnation", 1 + kills,
+                                        PIGEONS)
+        self.ends(coordinator.process, 20, UNSATISFIABLE, "the coordinator")
+        for worker in workers.values():
+            worker.communicate(timeout=SECONDS)
+        flooding.join(SECONDS)
+        self.verifies(PIGEONS, "served.lrat")
+        return kills
+
+    def test_worker_whose_place_is_taken(self) -> None:
+        """One that comes in the place of a killed one goes on in the same run."""
+        coordinator = self.serve("--workers", 2, "--depth", 3, self.long_formula(), "served.lrat")
+        first = self.work(coordinator.port, 1, PIGEONS)
+        second = self.work(coordinator.port, 2, PIGEONS, "worked.lrat")
+        self.wait_for_links(coordinator, 2)
+        self.go_on(0.2, coordinator.process, first, second)
+        kill(first)
+        late = self.work(coordinator.port, 1, "--incarnation", 2, PIGEONS)
+        for process in (second, late, coordinator.process):
+            self.ends(process, 20, UNSATISFIABLE, process.args)
+        self.verifies(PIGEONS, "served.lrat")
+        self.verifies(PIGEONS, "worked.lrat")
+
+    def test_coordinator(self) -> None:
+        """Its workers hold no verdict then, and its PROOF is as it was."""
+        self.long_formula()
+        for _ in range(max(1, self.kills // 10)):
+            self.write("stood.lrat", "what stood\n")
+            coordinator = self.serve("--workers", 2, PIGEONS, "stood.lrat")
+            workers = [self.work(coordinator.port, number, PIGEONS) for number in (1, 2)]
+            self.wait_for_links(coordinator, 2)
+            self.go_on(self.draw.uniform(0, 0.4), coordinator.process, *workers)
+            kill(coordinator.process)
+            for worker in workers:
+                self.ends(worker, 0, UNKNOWN, "a worker of a killed coordinator")
+            self.assertEqual("what stood\n", self.at("stood.lrat").read_text())
+
+
+def flood(coordinator: Coordinator) -> None:
+    """Sends that a worker has nothing to do, again and again, as long as the coordinator runs."""
+    while coordinator.process.poll() is None:
+        try:
+            with socket.create_connection(("127.0.0.1", coordinator.port), timeout=1) as peer:
+                for _ in range(1000):
+                    peer.sendall(idle(4, 7) * 100)
+        except OSError:
+            time.sleep(0.01)
 
 
 if __name__ == "__main__":
-    main()
+    run(__doc__)

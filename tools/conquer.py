@@ -18,7 +18,7 @@ answer.
 
 All state is a folder of files, INPUT.conquer where --folder is left out. Killed at any moment, the
 same command goes on with what is there. COMMAND is a command line with {cnf} and {lrat}, or two
-with {drat} between them and &&. docs/ENGINES.md tells more.
+with {drat} between them and &&. docs/CLUSTER.md tells more.
 """
 import argparse
 import dataclasses
@@ -46,7 +46,7 @@ from telling.looks import head_of, packing
 from telling.words import told, unreadable, unwritable
 
 DEPTH = 6  # if none is asked for
-BLOCK = 16  # leaves of a job of our own search at most, if nothing is asked for
+BLOCK = {"satcluster": 16, "cadical": 4}  # leaves of a job at most, if nothing is asked for
 DRAFT = "scratch/proof.lrat"  # of a run's folder
 FOREIGN = "c cubes of another formula"
 SOLVERS = {
@@ -54,6 +54,7 @@ SOLVERS = {
     "kissat": "kissat -q --no-factor --no-binary {cnf} {drat}"
     " && drat-trim {cnf} {drat} -L {lrat} -t 1000000",
 }
+BLOCK_SOLVERS = {"cadical": "cadical -q --lidrup --no-binary {icnf} {lidrup}"}
 
 
 class Words(argparse.ArgumentParser):
@@ -80,7 +81,7 @@ def words() -> Namespace:
     option("--depth", metavar="D", type=number(0, 16), help="how deep to split; %d" % DEPTH)
     option("--look", metavar="N", type=number(1, 65536), help="look ahead, for about N leaves")
     option("--cubes-from", metavar="FILE", help="complete the cubes that this file lists")
-    option("--block", metavar="N", type=number(1, 4096), help="leaves of a job; %d" % BLOCK)
+    option("--block", metavar="N", type=number(1, 4096), help="leaves of a job; 16, or 4 of cadical")
     option("--limit", metavar="L", type=number(1, most), help="lemmas before a leaf is cut in two")
     option("--seconds", metavar="S", type=number(1, most), help="the same in seconds of a search")
     option("--no-race", action="store_true", help="no job searches the whole formula unsplit")
@@ -114,8 +115,8 @@ def wrong_words(asked: Namespace) -> Optional[str]:
     if asked.recheck is None and asked.INPUT is None:
         return "INPUT is missing: no formula is named"
     if asked.block and leaves_of_job(asked) is None:
-        return ("--block is for our own search by --engine local without --seconds: other jobs take "
-                "one leaf")
+        return ("--block is for our own search, or cadical without --pipe, by --engine local without "
+                "--seconds: other jobs take one leaf")
     if asked.drop_logs and (not asked.receipts or asked.PROOF is not None):
         return "--drop-logs is for --receipts without PROOF: a proof is made of logs"
     return None
@@ -123,8 +124,9 @@ def wrong_words(asked: Namespace) -> Optional[str]:
 
 def leaves_of_job(asked: Namespace) -> Optional[int]:
     """How many leaves a job takes at most; None where it can take but one."""
-    is_alone = asked.solver != "satcluster" or asked.engine != "local" or asked.seconds
-    return None if is_alone or asked.recheck is not None else asked.block or BLOCK
+    usual = BLOCK.get(asked.solver)
+    is_alone = asked.engine != "local" or asked.seconds or asked.pipe or asked.recheck is not None
+    return None if usual is None or is_alone else asked.block or usual
 
 
 def found(word: str) -> str:
@@ -150,6 +152,14 @@ def solver_of(asked: Namespace) -> Optional[List[List[str]]]:
     return [[found(command[0])] + command[1:] for command in commands]
 
 
+def block_solver_of(asked: Namespace) -> Optional[List[str]]:
+    """The command of another solver for a block of leaves, if there is one."""
+    if asked.solver not in BLOCK_SOLVERS:
+        return None
+    word, *more = shlex.split(BLOCK_SOLVERS[asked.solver])
+    return [found(word)] + more
+
+
 def wrong_solver(asked: Namespace, line: str, commands: List[List[str]]) -> Optional[str]:
     """Why the command line of a solver is refused."""
     missing = [mark for mark in ("{cnf}", "{lrat}") if mark not in line]
@@ -170,7 +180,7 @@ def wrong_solver(asked: Namespace, line: str, commands: List[List[str]]) -> Opti
 def plan_of(asked: Namespace) -> Plan:
     program = found(places.word_of_program(asked.program))
     return Plan(program, os.path.abspath(asked.INPUT), solver_of(asked), asked.limit, asked.seconds,
-                compress=asked.compress, pipe=asked.pipe,
+                block_solver=block_solver_of(asked), compress=asked.compress, pipe=asked.pipe,
                 scratch=asked.scratch and os.path.abspath(asked.scratch),
                 receipts=asked.receipts, drops_logs=asked.drop_logs)
 

@@ -633,8 +633,8 @@ class Cuts(Case):
         self.verifies(self.NAME, "c.lrat")
 
 
-class Blocks(Case):
-    """A job of our own search takes neighbouring leaves, and one log closes them."""
+class OfBlocks(Case):
+    """What blocks have left."""
 
     WORDS = ["--no-race", "--jobs", "1", "--depth", "4"]
 
@@ -654,6 +654,10 @@ class Blocks(Case):
         status, lines = self.conquer(*words)
         self.assertEqual((20, True), (status, "s UNSATISFIABLE" in lines), lines)
         return lines
+
+
+class Blocks(OfBlocks):
+    """A job of our own search takes neighbouring leaves, and one log closes them."""
 
     def test_leaves_that_count(self) -> None:
         """Each leaf of a block does, in the report too, and none is run again."""
@@ -781,10 +785,150 @@ class Blocks(Case):
 
     def test_words(self) -> None:
         """It is refused where a job has one leaf."""
-        for words in (["--engine", "make"], ["--seconds", "9"], ["--solver", "cadical"],
+        for words in (["--engine", "make"], ["--seconds", "9"], ["--solver", "kissat"],
+                      ["--solver", "cadical", "--pipe"], ["--solver", "cadical", "--seconds", "9"],
                       ["--block", "0"]):
             self.ends(1, ["c usage"], "--block", "4", *words, FOUR)
-            self.tells("from 1 to 4096" if words[0] == "--block" else "without --seconds")
+            self.tells("from 1 to 4096" if words[0] == "--block" else "--seconds: other jobs")
+
+
+class BlocksOfCadical(OfBlocks):
+    """A job of CaDiCaL takes neighbouring leaves: a script over the program that stands on the path
+    as `cadical`, or CaDiCaL."""
+
+    # What it does with a leaf's formula and the file of its proof, and with a block's.
+    ALONE = 'exec PROGRAM solve -q --depth 0 "$4" "$5"'
+    BLOCK = """PROGRAM session "$4" "$5" > "$5.told"
+awk '/^s SAT/ { n++ } n == 1 && /^[sv] /' "$5.told"
+grep -q '^s SAT' "$5.told" && exit 10
+exit 20"""
+    CADICAL = '#!/bin/sh\ncase $2 in --lrat) %s ;; esac\necho >> "$0.blocks"\n%s\n'
+
+    def setUp(self) -> None:
+        super().setUp()
+        self.path = os.environ["PATH"]
+        self.addCleanup(os.environ.update, PATH=self.path)
+
+    def stands(self, alone: str = ALONE, block: str = BLOCK) -> None:
+        """Such a script stands on the path."""
+        self.at("bin").mkdir(exist_ok=True)
+        text = (self.CADICAL % (alone, block)).replace("PROGRAM", self.program)
+        self.at(self.write("bin/cadical", text)).chmod(0o755)
+        os.environ["PATH"] = "%s:%s" % (self.at("bin"), self.path)
+
+    def words(self, *more: str) -> List[str]:
+        return ["--solver", "cadical", *self.WORDS, *more]
+
+    def begun(self) -> int:
+        """For how many blocks it was started."""
+        told = self.at("bin", "cadical.blocks")
+        return len(told.read_text()) if told.exists() else 0
+
+    def test_leaves_that_count(self) -> None:
+        """Each leaf of a block does, and none is run again."""
+        self.stands()
+        for more in ([], ["--compress"] * bool(shutil.which("zstd"))):
+            self.forget(PIGEONS)
+            words = self.words("--block", "6", *more, PIGEONS)
+            self.refuted(*words)
+            leaves, logs, facts = len(self.leaves(PIGEONS)), len(self.logs(PIGEONS)), self.facts()
+            self.assertEqual([6, 6], [len(cubes) for cubes in self.blocks()][:2])
+            self.assertLess(logs, leaves - 9)
+            self.assertEqual((str(leaves), str(logs), "0"),
+                             tuple(facts[name] for name in ("leaves", "jobs", "open")))
+            before = self.moments(PIGEONS)
+            self.assertEqual(0, self.to_run(self.refuted(*words, "p.lrat")))
+            self.verifies(PIGEONS, "p.lrat")
+            self.assertEqual(before, self.moments(PIGEONS), "a leaf was run again")
+
+    def test_one_leaf_a_job(self) -> None:
+        self.stands()
+        self.refuted(*self.words("--block", "1", PIGEONS))
+        self.assertEqual(([], 0), (self.blocks(), self.begun()))
+
+    def test_four_leaves_a_job(self) -> None:
+        """So it is if nothing is asked for."""
+        self.stands()
+        self.refuted(*self.words(PIGEONS))
+        sizes = [len(cubes) for cubes in self.blocks()]
+        self.assertEqual(4, max(sizes), sizes)
+
+    def test_model(self) -> None:
+        """A leaf of a block has one, and the run ends."""
+        self.stands()
+        clauses = ["%d %d %d 0" % (a, b, c) for a in (1, -1) for b in (2, -2) for c in (3, -3)]
+        self.write("one.cnf", "p cnf 3 7\n" + "\n".join(clauses[:-1]) + "\n")
+        words = self.words("--depth", "2", "--block", "4", "one.cnf")
+        self.ends(10, ["s SATISFIABLE", "v 1 2 3 0"], "-q", *words)
+        self.assertEqual(1, self.begun())
+
+    LIES = {  # of a block, and what is told of it
+        "echo garbage > $5; exit 20": "lift ends with 1",
+        "exit 20": "lift ends with 1",
+        "kill -9 $$": "the solver ends with -9",
+        "echo v 1 2 0; exit 10": "",
+        BLOCK.replace('"$5.told"\n', '"$5.told"\nsed -i "/^u/d" "$5"\n', 1): "a leaf of its block open",
+    }
+
+    def test_lies(self) -> None:
+        """Whatever a job of a block says, its leaves are run alone then, and the answer is right."""
+        for lie, told in self.LIES.items():
+            self.forget(PIGEONS)
+            self.stands(block=lie)
+            lines = self.refuted(*self.words("--block", "6", PIGEONS, "p.lrat"))
+            self.assertTrue(any(told in line for line in lines), (lie, lines))
+            self.assertEqual([], self.blocks(), lie)
+            self.verifies(PIGEONS, "p.lrat")
+
+    def test_killed(self) -> None:
+        """A block's log that stands is kept, and the other leaves are run."""
+        self.stands(block="sleep 0.3\n" + self.BLOCK)
+        words = self.words("--block", "4", PIGEONS, "p.lrat")
+        process = self.start("-q", *words)
+        logs = self.at(PIGEONS + ".conquer", "logs")
+        self.wait_for("a block's log", lambda: list(logs.glob("*_to_*")))
+        kill(process.pid)
+        process.communicate()
+        self.wait_for("jobs of a killed script", lambda: not self.running(PIGEONS), 2)
+        before = self.moments(PIGEONS)
+        left = self.to_run(self.refuted(*words))
+        self.assertTrue(0 < left <= len(self.leaves(PIGEONS)) - 5, left)
+        self.assertEqual(before, {path: self.moments(PIGEONS)[path] for path in before})
+        self.verifies(PIGEONS, "p.lrat")
+
+    def test_taken_apart(self) -> None:
+        """The leaves of a block that takes too long are run beside it, and its job is ended."""
+        self.stands(block='mkdir "$0.first" 2> /dev/null && sleep 60\n' + self.BLOCK)
+        self.refuted(*self.words("--block", "6", "--jobs", "2", PIGEONS, "p.lrat"))
+        self.assertEqual([], self.running(PIGEONS))
+        records = Records(files.Folder(str(self.at(PIGEONS + ".conquer")))).all()
+        self.assertIn(ENDED, [record.outcome for record in records if record.behind])
+        self.assertEqual("0", self.facts()["open"])
+        self.verifies(PIGEONS, "p.lrat")
+
+    def test_receipts(self) -> None:
+        self.stands()
+        words = self.words("--receipts", "--block", "6", PIGEONS)
+        for _ in range(2):
+            status, lines = self.conquer(*words)
+            self.assertEqual((0, True), (status, "s COVERED" in lines), lines)
+        self.assertEqual(0, self.to_run(lines))
+        status, lines = self.conquer("--recheck", str(self.at(PIGEONS + ".conquer")))
+        self.assertEqual((0, True), (status, "s COVERED" in lines), lines)
+        self.refuted("--receipts", PIGEONS, "p.lrat")
+        self.verifies(PIGEONS, "p.lrat")
+
+    @unittest.skipUnless(shutil.which("cadical"), "CaDiCaL is not installed")
+    def test_cadical(self) -> None:
+        """CaDiCaL itself."""
+        for name in (PIGEONS, "schur_3_14.cnf"):
+            self.refuted(*self.words("--block", "6", name, "p.lrat"))
+            self.verifies(name, "p.lrat")
+        self.assertNotEqual([], self.blocks())
+        words = self.words("--block", "6", "schur_3_13.cnf")
+        status, lines = self.conquer("-q", *words)
+        self.assertEqual((10, "s SATISFIABLE"), (status, lines[0]))
+        self.assertTrue(satisfies(self.at("schur_3_13.cnf").read_text(), lines))
 
 
 class Engines(Case):
@@ -956,6 +1100,7 @@ class Kills(Case):
 
     def killed(self, engine: str, kills: int) -> None:
         words = ["-q", "--no-race", "--engine", engine, "--jobs", "2", "--depth", "5"]
+        words += ["--block", "1"] * (engine == "local")  # jobs of a block are over too soon
         words += [PIGEONS, "p.lrat"]
         began = time.monotonic()
         self.ends(20, ["s UNSATISFIABLE"], *words)

@@ -31,8 +31,8 @@ OUT = ROOT / "out"
 DOC = "share/doc/satcluster"
 TOOLS = ("conquer.py", "satcluster-solver", "clients.sh", "conquering/*.py", "solving/*.py",
          "telling/*.py", "clients/*.cc")
-PAGES = ("README.md", "CHANGELOG.md", "LICENSE", "docs/*.md", "docs/pictures/*", "examples/*",
-         "clients/python/*.toml", "clients/python/satcluster/*", "clients/ipasir/*")
+PAGES = ("README.md", "CHANGELOG.md", "LICENSE", "docs/*.md", "docs/dev/*.md", "docs/pictures/*",
+         "examples/*", "clients/python/*.toml", "clients/python/satcluster/*", "clients/ipasir/*")
 LINKS = {"bin/satcluster-solver": "../lib/satcluster/satcluster-solver",
          "bin/satcluster-conquer": "../lib/satcluster/conquer.py"}
 

@@ -11,7 +11,7 @@ import sys
 import tempfile
 import unittest
 from pathlib import Path
-from typing import List, NamedTuple, Optional
+from typing import List, NamedTuple, Optional, Union
 
 sys.dont_write_bytecode = True
 
@@ -67,7 +67,7 @@ class Case(unittest.TestCase):
         self.program = os.environ["SATCLUSTER"]
         self.write("events", EVENTS)
 
-    def write(self, name: str, data) -> str:
+    def write(self, name: str, data: Union[str, bytes]) -> str:
         (self.folder / name).write_bytes(data if isinstance(data, bytes) else data.encode())
         return name
 
@@ -237,7 +237,9 @@ class Words(Case):
         self.reason("NotTogether", "", "solve", "--", "f", "g", "h")
         self.reason("StandardInput", "", "check", "-", "-")
         self.reason("StandardInput", "", "solve", FOUR, "-")
-        self.reason("LeafOrLidrup", "", "lift", "--cubes", "f", FOUR, "g", "h")
+        for more in ([], ["--to", "2"], ["--leaf", "1", "--to", "2"], ["--lidrup", "--leaf", "1"],
+                     ["--lidrup", "--to", "2"]):
+            self.reason("LeafOrLidrup", "", "lift", "--cubes", "f", *more, FOUR, "g", "h")
         end = self.run_program("--explain")
         self.assertEqual((1, ["c usage"]), (end.status, end.lines))
         self.assertIn("c No command is named.", end.told)

@@ -20,10 +20,11 @@ HEAD = """# What a fault means, and what to do
 *`tools/faults.py` makes this page of the sentences in `crates/explanations/src` and of the examples
 in `tools/telling/faults.py`.*
 
-The program prints the number and the line. With `--explain` it tells these sentences, too
+The program prints the number and the line. With `--explain` it prints these sentences, too
 ([COMMANDS.md](COMMANDS.md#--explain)); `tools/satcluster-solver` and `tools/conquer.py` have it do
-so. [DIMACS.md](DIMACS.md#faults), [LRAT.md](LRAT.md#steps), [ICNF.md](ICNF.md#faults) and
-[SESSIONS.md](SESSIONS.md#events) have what exactly each number stands for. In examples `/` is a
+so. [FORMATS.md](FORMATS.md) has what exactly each number stands for: [formulas](FORMATS.md#dimacs),
+[proofs](FORMATS.md#steps), [cubes](FORMATS.md#icnf), [answers](FORMATS.md#answers), the
+[events](FORMATS.md#events) of sessions and [their proofs](FORMATS.md#lidrup). In examples `/` is a
 line end.
 """
 REASONS = """## Words and files

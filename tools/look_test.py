@@ -3,9 +3,9 @@
 
     tools/look_test.py PATH-OF-satcluster [FORMULAS]
 
-The rule of docs/ICNF.md stands here once more, in its own words: all is counted anew at each node.
-FORMULAS are drawn (200 if it is left out), each split into 1 to 40 leaves; of each a leaf is cut
-too. Beside them stand calls that are refused. Status 1 at the first difference.
+The rule of docs/dev/SPLITTING.md stands here once more, in its own words: all is counted anew at
+each node. FORMULAS are drawn (200 if it is left out), each split into 1 to 40 leaves; of each a leaf
+is cut too. Beside them stand calls that are refused. Status 1 at the first difference.
 """
 import os
 import random

@@ -23,7 +23,7 @@ TOOLS = (
      " MiniSat: docs/CLIENTS.md."),
     ("satcluster-conquer [--solver NAME] [--depth D] [--jobs N] INPUT [PROOF]",
      "is tools/conquer.py: it splits INPUT, has leaves searched on all cores or on many machines,"
-     " and joins one proof: docs/ENGINES.md."),
+     " and joins one proof: docs/CLUSTER.md."),
 )
 
 

@@ -2,57 +2,60 @@
 """Checks the Markdown pages of the repository, and writes the man page and the completions.
 
     tools/pages.py --check
-    tools/pages.py --man      writes share/, of the tables of words (tools/manual.py)
+    tools/pages.py --run PROGRAM   runs the `sh` blocks of README and the pages for people
+    tools/pages.py --man           writes share/, of the tables of words (tools/manual.py)
 
-Prints each fault with its page and line, and ends with status 1 if there is one:
+Prints each fault with its page and line, and ends with status 1 if there is one. --check finds
 a link to a file, or to a heading, that is not there; a path of a crate in code quotes that is not
 there; a line of more than 100 characters outside of code blocks and tables; a README of more than
-90 lines, or with a longer line anywhere; a file of share/ that is not what would be written; a
-CHANGELOG that does not begin with the program's version, or gives one another day than its tag.
+80 lines, or with a longer line anywhere; pages for people of more than 14,000 words together;
+twelve words in a row that another page has too; a block of code whose language is not known; a file
+of share/ that is not what would be written; a CHANGELOG that does not begin with the program's
+version, or gives one another day than its tag. tools/page_blocks.py tells how --run compares.
 """
 import re
 import subprocess
 import sys
 from pathlib import Path
-from typing import Iterator
+from typing import Dict, Iterator, List, Optional, Tuple
 
 sys.dont_write_bytecode = True
 
 import manual
+import page_blocks
+from page_blocks import lines_of
 
 ROOT = Path(__file__).resolve().parent.parent
 WIDTH = 100
-README_LINES = 90
+README_LINES = 80
+PEOPLE = ("CHECKING", "SOLVING", "CLUSTER", "SESSIONS", "CLIENTS", "COMMANDS", "FORMATS", "FAULTS",
+          "TRUST", "SPEED", "INSTALL")
+UNCOUNTED = ("FAULTS.md", "SPEED.md")
+PEOPLE_WORDS = 14000
+RUN = 12  # so many words in a row stand on one page alone
+MADE = ("READING.md", "FAULTS.md")  # made by scripts, of the sources
+LANGUAGES = ("sh", "console", "python", "c", "text", "make", "yaml")
 
 LINK = re.compile(r"\[(?:[^\[\]]|\[[^\]]*\])*\]\(([^)\s]+)\)")
 CODE = re.compile(r"`([^`\n]+)`")
-CRATE_PATH = re.compile(r"[a-z_]+/(?:src|specs|proofs|must-fail)/[A-Za-z_/]+(?:\.(?:rt|antt|edit))?")
+CRATE_PATH = re.compile(r"[a-z_]+/(?:src|specs|proofs|must-fail)/[A-Za-z_/]+"
+                        r"(?:\.(?:rt|antt|edit))?")
 
 
-def pages():
+def pages() -> List[Path]:
     tops = [ROOT / name for name in ("README.md", "CHANGELOG.md", "CONTRIBUTING.md")]
-    return [page for page in tops if page.exists()] + sorted((ROOT / "docs").glob("*.md"))
+    docs = ROOT / "docs"
+    return tops + sorted(docs.glob("*.md")) + sorted((docs / "dev").glob("*.md"))
 
 
-def lines_of(page):
-    """The lines of a page with their numbers, and whether each is one of a code block."""
-    fence = None
-    for number, line in enumerate(page.read_text(encoding="utf-8").splitlines(), 1):
-        mark = re.match(r"\s*(`{3,}|~{3,})", line)
-        if fence is None and mark:
-            fence = mark.group(1)
-            yield number, line, True
-        elif fence is not None:
-            yield number, line, True
-            if line.strip() == fence:
-                fence = None
-        else:
-            yield number, line, False
+def for_people() -> List[Path]:
+    docs = [ROOT / "docs" / (name + ".md") for name in PEOPLE]
+    return [page for page in docs if page.exists()]
 
 
-def anchors(page):
+def anchors(page: Path) -> Iterator[str]:
     """The names by which a page's headings are linked."""
-    seen = {}
+    seen: Dict[str, int] = {}
     for _, line, is_code in lines_of(page):
         heading = None if is_code else re.match(r"#+ +(.*?) *#*$", line)
         if heading:
@@ -61,7 +64,7 @@ def anchors(page):
             yield words if seen[words] == 1 else f"{words}-{seen[words] - 1}"
 
 
-def dead_link(page, target):
+def dead_link(page: Path, target: str) -> Optional[str]:
     """Why a link leads nowhere; None if it does not. Links to other hosts are not followed."""
     if re.match(r"[a-z]+:", target):
         return None
@@ -74,13 +77,14 @@ def dead_link(page, target):
     return None
 
 
-def exists(path):
+def exists(path: str) -> bool:
     """Whether a path of a crate is there; a file of definitions is named without its ending."""
     there = ROOT / "crates" / path
     return there.exists() or there.with_suffix(".antt").exists()
 
 
-def faults(page):
+def faults(page: Path) -> Iterator[Tuple[int, str]]:
+    """What is wrong with a page by itself, with the line of each."""
     text = page.read_text(encoding="utf-8")
     for match in LINK.finditer(text):
         why = dead_link(page, match.group(1))
@@ -96,6 +100,42 @@ def faults(page):
                 yield last, f"no file {code}"
     if is_readme and last > README_LINES:
         yield last, f"{last} lines"
+    for block in page_blocks.blocks(page):
+        if block.language not in LANGUAGES:
+            yield block.line, f"a block of {block.language or 'no language'}"
+
+
+def words_of(page: Path) -> List[Tuple[int, str]]:
+    """The words of a page's sentences in small letters, with their lines; of a link its text."""
+    words = []
+    for number, line, is_code in lines_of(page):
+        if not is_code and not line.lstrip().startswith("|"):
+            text = re.sub(r"\]\([^)\s]*\)", "]", line).lower()
+            words += [(number, word) for word in re.findall(r"\w+", text)]
+    return words
+
+
+def repeats() -> Iterator[str]:
+    """Runs of words that stand on two pages, with the line where each begins on the later one."""
+    seen: Dict[Tuple[str, ...], Tuple[Path, int]] = {}
+    for page in pages():
+        words, last = words_of(page) if page.name not in MADE else [], -2
+        for at in range(len(words) - RUN + 1):
+            run = tuple(word for _, word in words[at:at + RUN])
+            there, line = seen.setdefault(run, (page, words[at][0]))
+            if there != page:
+                if at > last + 1:
+                    yield (f"{page.relative_to(ROOT)}:{words[at][0]}: as in"
+                           f" {there.relative_to(ROOT)}:{line}: {' '.join(run)}")
+                last = at
+
+
+def lengths() -> Iterator[str]:
+    counts = {page.name: len(page.read_text(encoding="utf-8").split()) for page in for_people()}
+    sum_of = sum(count for name, count in counts.items() if name not in UNCOUNTED)
+    if sum_of > PEOPLE_WORDS:
+        yield "docs: the pages for people have %d words: %s" % (
+            sum_of, ", ".join("%s %d" % item for item in counts.items()))
 
 
 def stale() -> Iterator[str]:
@@ -114,16 +154,30 @@ def stale() -> Iterator[str]:
             yield f"CHANGELOG.md: has no version {tag[1:]} of {day}, as the tag {tag} says"
 
 
-def main():
-    if sys.argv[1:] == ["--man"]:
-        for path, text in manual.files().items():
-            path.parent.mkdir(parents=True, exist_ok=True)
-            path.write_text(text, encoding="utf-8")
-        return
-    if sys.argv[1:] != ["--check"]:
+def check() -> Iterator[str]:
+    for page in pages():
+        yield from (f"{page.relative_to(ROOT)}:{line}: {why}" for line, why in faults(page))
+    yield from repeats()
+    yield from lengths()
+    yield from stale()
+
+
+def write_manual() -> None:
+    for path, text in manual.files().items():
+        path.parent.mkdir(parents=True, exist_ok=True)
+        path.write_text(text, encoding="utf-8")
+
+
+def main() -> None:
+    words, found = sys.argv[1:], []
+    if words == ["--man"]:
+        write_manual()
+    elif words == ["--check"]:
+        found = list(check())
+    elif words[:1] == ["--run"] and len(words) == 2 and Path(words[1]).is_file():
+        found = list(page_blocks.run([ROOT / "README.md"] + for_people(), Path(words[1])))
+    else:
         raise SystemExit(__doc__)
-    found = [f"{page.relative_to(ROOT)}:{n}: {why}" for page in pages() for n, why in faults(page)]
-    found += stale()
     if found:
         raise SystemExit("\n".join(found))
 

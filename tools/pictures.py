@@ -11,98 +11,107 @@ tree.svg      a splitting tree of two leaves, their logs, and the proof that joi
 import sys
 from html import escape
 from pathlib import Path
+from typing import Dict, List, NamedTuple, Set, Tuple
 
 ROOT = Path(__file__).resolve().parent.parent
 FOLDER = ROOT / "docs" / "pictures"
+
+Names = Dict[str, List[str]]  # crates, each with some that it stands on
 
 # Crates that are not drawn.
 TESTS = {"crate_tests", "program_tests", "trials"}
 
 # What each of the others is for, with its colour.
-KINDS = {
-    "words and reports": ("#e8e3f5", ["word_rules", "command_line", "reports", "explanations", "node_main", "commands", "satcluster"]),
-    "leaves as files": ("#fbe5d0", ["leaves", "either_form", "completing", "gathering", "receipts", "cover_laws", "proof_lift", "lidrup", "sessions", "answers"]),
-    "machines and runs": (
-        "#d8eaf7",
-        ["runs", "arriving", "links", "hub", "cluster", "closed_schedules", "worker_core", "coordinator_core", "evidence", "frames"],
-    ),
-    "search": (
-        "#dff0d8",
-        ["cube_solve", "incremental", "conflict_analysis", "decide_heap", "watches", "clause_arena", "proof_trim"],
-    ),
-    "splitting and joining": ("#f7f0c8", ["cube_split", "look_ahead", "icnf", "proof_join", "trimming"]),
-    "formulas and proofs": ("#f6d9dc", ["lrat_check", "binary_check", "packed_text", "lrat_text", "lrat_binary", "lrat_forms", "dimacs"]),
+KINDS: Dict[str, Tuple[str, List[str]]] = {
+    "words and reports": ("#e8e3f5", [
+        "word_rules", "command_line", "reports", "explanations", "node_main", "commands",
+        "satcluster"]),
+    "leaves as files": ("#fbe5d0", [
+        "leaves", "either_form", "completing", "gathering", "receipts", "cover_laws", "proof_lift",
+        "lidrup", "sessions", "answers"]),
+    "machines and runs": ("#d8eaf7", [
+        "runs", "arriving", "links", "hub", "cluster", "closed_schedules", "worker_core",
+        "coordinator_core", "evidence", "frames"]),
+    "search": ("#dff0d8", [
+        "cube_solve", "incremental", "conflict_analysis", "decide_heap", "watches", "clause_arena",
+        "proof_trim"]),
+    "splitting and joining": ("#f7f0c8", [
+        "cube_split", "look_ahead", "icnf", "proof_join", "trimming"]),
+    "formulas and proofs": ("#f6d9dc", [
+        "lrat_check", "binary_check", "packed_text", "lrat_text", "lrat_binary", "lrat_forms",
+        "dimacs"]),
 }
 
 
 class Picture:
     """Shapes of an SVG, drawn on white."""
 
-    def __init__(self, width, height):
+    def __init__(self, width: float, height: float) -> None:
         self.size = width, height
-        self.shapes = []
+        self.shapes: List[str] = []
 
-    def box(self, x, y, width, height, colour, line="#555"):
+    def box(self, x: float, y: float, width: float, height: float, colour: str) -> None:
         self.shapes.append(
-            f'<rect x="{x:g}" y="{y:g}" width="{width:g}" height="{height:g}" rx="4" fill="{colour}" stroke="{line}"/>'
-        )
+            f'<rect x="{x:g}" y="{y:g}" width="{width:g}" height="{height:g}" rx="4"'
+            f' fill="{colour}" stroke="#555"/>')
 
-    def line(self, x, y, to_x, to_y, colour="#999", arrow=False, dashes=""):
+    def line(self, x: float, y: float, to_x: float, to_y: float, colour: str = "#999",
+             arrow: bool = False) -> None:
         marker = ' marker-end="url(#arrow)"' if arrow else ""
-        dashed = f' stroke-dasharray="{dashes}"' if dashes else ""
         self.shapes.append(
-            f'<line x1="{x:g}" y1="{y:g}" x2="{to_x:g}" y2="{to_y:g}" stroke="{colour}"{dashed}{marker}/>'
-        )
+            f'<line x1="{x:g}" y1="{y:g}" x2="{to_x:g}" y2="{to_y:g}" stroke="{colour}"{marker}/>')
 
-    def text(self, x, y, words, anchor="middle", size=13, colour="#222", family="sans-serif"):
+    def text(self, x: float, y: float, words: str, anchor: str = "middle", size: int = 13,
+             colour: str = "#222", family: str = "sans-serif") -> None:
         self.shapes.append(
-            f'<text x="{x:g}" y="{y:g}" text-anchor="{anchor}" font-family="{family}" font-size="{size}"'
-            f' fill="{colour}" xml:space="preserve">{escape(words)}</text>'
-        )
+            f'<text x="{x:g}" y="{y:g}" text-anchor="{anchor}" font-family="{family}"'
+            f' font-size="{size}" fill="{colour}" xml:space="preserve">{escape(words)}</text>')
 
-    def code(self, x, y, words, anchor="start", size=13, colour="#222"):
-        self.text(x, y, words, anchor, size, colour, "monospace")
+    def code(self, x: float, y: float, words: str, anchor: str = "start") -> None:
+        self.text(x, y, words, anchor, family="monospace")
 
-    def svg(self):
+    def svg(self) -> str:
         width, height = self.size
         head = (
             f'<svg xmlns="http://www.w3.org/2000/svg" width="{width:g}" height="{height:g}"'
             f' viewBox="0 0 {width:g} {height:g}">\n'
-            '<defs><marker id="arrow" viewBox="0 0 8 8" refX="7" refY="4" markerWidth="8" markerHeight="8"'
-            ' orient="auto"><path d="M0,0 L8,4 L0,8 z" fill="#444"/></marker></defs>\n'
+            '<defs><marker id="arrow" viewBox="0 0 8 8" refX="7" refY="4" markerWidth="8"'
+            ' markerHeight="8" orient="auto"><path d="M0,0 L8,4 L0,8 z" fill="#444"/></marker>'
+            '</defs>\n'
             f'<rect width="{width:g}" height="{height:g}" fill="#fff"/>\n'
         )
         return head + "\n".join(self.shapes) + "\n</svg>\n"
 
 
-def crates():
+def crates() -> Names:
     """The crates that are drawn, each with those drawn ones that it names."""
     drawn = {name for _, names in KINDS.values() for name in names}
-    named = {}
+    named: Names = {}
     for line in (ROOT / "crates.txt").read_text().splitlines():
         if line.strip() and not line.startswith("#"):
             name, _, below = line.partition(":")
             named[name.strip()] = [crate for crate in below.split() if crate in drawn]
     wrong = (drawn | TESTS) ^ named.keys()
     if wrong:
-        raise SystemExit(f"crates.txt and tools/pictures.py differ: {', '.join(sorted(wrong))}")
+        raise SystemExit("crates.txt and KINDS of tools/pictures.py have to name the same crates: "
+                         + ", ".join(sorted(wrong)))
     return {name: below for name, below in named.items() if name in drawn}
 
 
-def reached(below, name):
+def reached(below: Names, name: str) -> Set[str]:
     """All that a crate stands on, also through others."""
-    found = set()
+    found: Set[str] = set()
     for crate in below[name]:
         found |= {crate} | reached(below, crate)
     return found
 
 
-def rows_of(below):
-    """The crates by how long the longest way up from each is, the lowest first: so each stands right
-    below a crate that names it."""
-    depths = {}
+def rows_of(below: Names) -> List[List[str]]:
+    """The crates by how long the longest way up from each is, the lowest first: so each stands
+    right below a crate that names it."""
+    depths: Dict[str, int] = {}
 
-    def depth(name):
+    def depth(name: str) -> int:
         if name not in depths:
             above = [crate for crate in below if name in below[crate]]
             depths[name] = 1 + max((depth(crate) for crate in above), default=-1)
@@ -110,36 +119,37 @@ def rows_of(below):
 
     for name in below:
         depth(name)
-    rows = [[] for _ in range(max(depths.values()) + 1)]
+    rows: List[List[str]] = [[] for _ in range(max(depths.values()) + 1)]
     for name in below:
         rows[-1 - depths[name]].append(name)
     return rows
 
 
-def settle(rows, edges):
+def settle(rows: List[List[str]], edges: List[Tuple[str, str]]) -> Dict[str, float]:
     """Places for the crates of each row, so that lines are short: each goes to the middle of its
     neighbours, again and again, as far as the others of its row leave room."""
-    place = {}
+    place: Dict[str, float] = {}
     for row in rows:
         for at, name in enumerate(row):
             place[name] = at - (len(row) - 1) / 2
-    near = {name: [] for row in rows for name in row}
+    near: Names = {name: [] for row in rows for name in row}
     for upper, lower in edges:
         near[upper].append(lower)
         near[lower].append(upper)
     for turn in range(200):
         for row in rows if turn % 2 else reversed(rows):
-            wanted = {n: sum(place[m] for m in near[n]) / max(1, len(near[n])) for n in row}
-            row.sort(key=lambda n: (wanted[n], n))
+            wanted = {name: sum(place[other] for other in near[name]) / max(1, len(near[name]))
+                      for name in row}
+            row.sort(key=lambda name: (wanted[name], name))
             for at, name in enumerate(row):
                 place[name] = wanted[name] if at == 0 else max(wanted[name], place[row[at - 1]] + 1)
-            shift = sum(place[n] - wanted[n] for n in row) / len(row)
+            shift = sum(place[name] - wanted[name] for name in row) / len(row)
             for name in row:
                 place[name] -= shift
     return place
 
 
-def layers():
+def layers() -> str:
     below = crates()
     edges = [
         (name, crate)
@@ -167,34 +177,45 @@ def layers():
     return picture.svg()
 
 
-def run():
-    frames = [
-        ("c", "Idle", ""),
-        ("w", "Task: the cube of the leaf, and a limit", "searches, trims its log"),
-        ("c", "Done: refuted, so many bytes", ""),
-        ("w", "Fetch: from byte 0", ""),
-        ("c", "Piece: up to 4,000 bytes; Fetch asks for the next", ""),
-        (None, "", "checks the log, joins one proof"),
-        ("w", "Verdict: refuted, so many bytes", ""),
-        ("c", "Want: from byte 0", ""),
-        ("w", "Part: up to 4,000 bytes; Want asks for the next", "checks the whole proof"),
+class Step(NamedTuple):
+    """A frame of a run, and what is done when it has come; or what is done without a frame."""
+
+    to: str  # who gets the frame
+    frame: str = ""
+    note: str = ""
+
+
+COORDINATOR, WORKER = "coordinator", "worker"
+
+
+def run() -> str:
+    steps = [
+        Step(COORDINATOR, "Idle"),
+        Step(WORKER, "Task: the cube of the leaf, and a limit", "searches, trims its log"),
+        Step(COORDINATOR, "Done: refuted, so many bytes"),
+        Step(WORKER, "Fetch: from byte 0"),
+        Step(COORDINATOR, "Piece: up to 4,000 bytes; Fetch asks for the next"),
+        Step("", note="checks the log, joins one proof"),
+        Step(WORKER, "Verdict: refuted, so many bytes"),
+        Step(COORDINATOR, "Want: from byte 0"),
+        Step(WORKER, "Part: up to 4,000 bytes; Want asks for the next", "checks the whole proof"),
     ]
     left, right, top, step = 190, 590, 64, 46
-    picture = Picture(800, top + step * (len(frames) + 1))
-    bottom = top + step * len(frames) + 12
-    for x, name in ((left, "coordinator"), (right, "worker")):
+    picture = Picture(800, top + step * (len(steps) + 1))
+    bottom = top + step * len(steps) + 12
+    for x, name in ((left, COORDINATOR), (right, WORKER)):
         picture.box(x - 62, 16, 124, 30, "#d8eaf7")
         picture.text(x, 36, name)
         picture.line(x, 46, x, bottom, "#777")
-    for at, (to, words, note) in enumerate(frames):
+    for at, (to, frame, note) in enumerate(steps):
         y = top + step * at + 24
-        if to == "w":
+        if to == WORKER:
             picture.line(left, y, right - 2, y, "#444", arrow=True)
-        elif to == "c":
+        elif to == COORDINATOR:
             picture.line(right, y, left + 2, y, "#444", arrow=True)
-        if words:
-            picture.text((left + right) / 2, y - 6, words)
-        if note and to == "w":
+        if frame:
+            picture.text((left + right) / 2, y - 6, frame)
+        if note and to == WORKER:
             picture.text(right + 10, y + 26, note, "start", 12, "#666")
         elif note:
             picture.text(left - 10, y + 4, note[: note.index(",")] + ",", "end", 12, "#666")
@@ -202,7 +223,7 @@ def run():
     return picture.svg()
 
 
-def tree():
+def tree() -> str:
     picture = Picture(860, 400)
     picture.text(20, 28, "the formula, clauses 1 to 4", "start")
     for at, clause in enumerate(["1 2", "-1 2", "1 -2", "-1 -2"]):
@@ -224,7 +245,8 @@ def tree():
         picture.line(x, y + 90, 400 + (x - 400) * 0.55, y + 126, "#444", arrow=True)
     picture.box(250, 298, 300, 88, "#f6d9dc")
     picture.text(400, 290, "join", size=12, colour="#666")
-    rows = (("5 -1 0 2 4 0", "leaf 1"), ("6 1 0 1 3 0", "leaf 2, under another number"), ("7 0 5 6 0", "the fork"))
+    rows = (("5 -1 0 2 4 0", "leaf 1"), ("6 1 0 1 3 0", "leaf 2, under another number"),
+            ("7 0 5 6 0", "the fork"))
     for at, (line, what) in enumerate(rows):
         picture.code(266, 322 + 24 * at, line)
         picture.text(566, 322 + 24 * at, what, "start", 12, "#666")
@@ -232,16 +254,17 @@ def tree():
     return picture.svg()
 
 
-def main():
+def main() -> None:
+    is_check = sys.argv[1:] == ["--check"]
+    if sys.argv[1:] and not is_check:
+        raise SystemExit(__doc__)
+    FOLDER.mkdir(exist_ok=True)
     for name, draw in (("layers", layers), ("run", run), ("tree", tree)):
-        path = FOLDER / f"{name}.svg"
-        text = draw()
-        if sys.argv[1:] == ["--check"]:
-            if not path.exists() or path.read_text() != text:
-                raise SystemExit(f"{path.relative_to(ROOT)} is stale: run tools/pictures.py")
-        else:
-            FOLDER.mkdir(exist_ok=True)
+        path, text = FOLDER / f"{name}.svg", draw()
+        if not is_check:
             path.write_text(text)
+        elif not path.exists() or path.read_text() != text:
+            raise SystemExit(f"{path.relative_to(ROOT)} is stale: run tools/pictures.py")
 
 
 if __name__ == "__main__":

@@ -6,134 +6,208 @@
 
     tools/proof_time.py rt ci                       the gate: proofs, tests and edits of each crate
     tools/proof_time.py rt all check --jobs 4       the proofs alone
-    tools/proof_time.py --kept dimacs               the parts of a crate that its last check was longest at
+    tools/proof_time.py --kept dimacs               what the last check of a crate was longest at
 
-Twice a second it looks in /proc at the checker's processes: processor seconds and peak memory by crate, and by what was checked
-(the crate, its tests, or an edit that must fail). A process that begins and ends between two looks is missed; none of the
-checker's does. The checker prints a line when it has checked a function: with --functions the N longest waits for such a line are
-listed, which is the time of that function where one job is at work. The command's own output goes to --log, else nowhere.
+Twice a second it looks in /proc at the checker's processes: processor seconds and peak memory by
+crate, and by what was checked (the crate, its tests, or an edit that must fail). A process that
+begins and ends between two looks is missed; none of the checker's does. The checker prints a line
+when it has checked a function: with --functions the N longest waits for such a line are listed,
+which is the time of that function if one job is at work. The command's own output goes to --log,
+else nowhere.
 
-A check with one job writes a file into out/incremental for each part of a function when it is done with that part. So --kept needs no
-run: it prints the N longest waits from one file to the next (40 where N is not given), and the sum for each kind of part. `Proof` is what
-the tactics looked for, `Answers` what was written by hand, `Lts` what the code of the function means, `Tie` and `Kinds` how it is tied to
-its types. A part that an earlier check has kept is not done again, so it counts as nothing.
+A check with one job writes a file into out/incremental for each part of a function when it is done
+with that part. So --kept needs no run: it prints the N longest waits from one file to the next (40
+if N is not given), and the sum for each kind of part. `Proof` is what the tactics looked for,
+`Answers` what was written by hand, `Lts` what the code of the function means, `Tie` and `Kinds` how
+it is tied to its types. A part that an earlier check has kept is not done again, so it counts as
+nothing.
 """
 import argparse
-import collections
-import glob
 import os
 import re
 import subprocess
 import sys
 import threading
 import time
+from argparse import Namespace
+from collections import defaultdict
+from dataclasses import dataclass, field
+from pathlib import Path
+from typing import IO, Dict, Iterable, List, NamedTuple, Optional, Tuple
 
+ROOT = Path(__file__).resolve().parent.parent
+PROC = Path("/proc")
 TICK = os.sysconf("SC_CLK_TCK")
 PAGE = os.sysconf("SC_PAGE_SIZE")
-EVERY = 0.5
+EVERY = 0.5  # seconds between two looks
+KINDS = ("proof", "tests", "edits")
 
 
-def words_of(pid):
-    """The words of a process, or none where it has ended."""
+class Wait(NamedTuple):
+    """How long a function, or a part of one, was waited for."""
+
+    seconds: float
+    name: str
+
+
+@dataclass
+class Seen:
+    """What a process of the checker is at, and what it has taken so far."""
+
+    crate: str
+    kind: str
+    seconds: float = 0  # of the processor
+    peak: int = 0  # megabytes
+
+
+def words_of(pid: str) -> List[str]:
+    """The words of a process, or none if it has ended."""
     try:
-        with open(f"/proc/{pid}/cmdline", "rb") as it:
-            return it.read().decode(errors="replace").split("\0")
+        return (PROC / pid / "cmdline").read_bytes().decode(errors="replace").split("\0")
     except OSError:
         return []
 
 
-def kind_of(words, folder):
-    """What a checker's process is at."""
+def fields_of(pid: str) -> List[str]:
+    """The numbers that the system has of a process, from its state on, or none if it has ended."""
+    try:
+        return (PROC / pid / "stat").read_text().rpartition(")")[2].split()
+    except OSError:
+        return []
+
+
+def kind_of(words: List[str], folder: str) -> str:
     if os.path.basename(folder).startswith("rt-edit"):
         return "edits"
     return "tests" if "--test" in words else "proof"
 
 
-def parent_of(pid):
-    """The process that started this one, or none where it has ended."""
-    try:
-        with open(f"/proc/{pid}/stat") as it:
-            return it.read().rpartition(")")[2].split()[1]
-    except OSError:
-        return "0"
-
-
-def is_below(pid, root):
-    """Whether a process was started by the command, so that other runs on this machine are not counted."""
+def is_below(pid: str, root: str) -> bool:
+    """Whether the command has started a process: other runs of this machine are not counted."""
     while pid not in ("0", "1", root):
-        pid = parent_of(pid)
+        pid = (fields_of(pid) + ["0", "0"])[1]  # its parent, or none if it has ended
     return pid == root
 
 
-def look(root, seen):
-    """Notes each process of the checker that runs now: its crate, what it is at, processor seconds, peak memory in MB."""
-    for pid in filter(str.isdigit, os.listdir("/proc")):
-        words = words_of(pid)
-        if not words or os.path.basename(words[0]) != "rattle" or "--crate-name" not in words:
-            continue
-        if not is_below(pid, root):
-            continue
+def crate_in(words: List[str]) -> Optional[str]:
+    """The crate that a process of the checker is at; None of any other process."""
+    if not words or os.path.basename(words[0]) != "rattle" or "--crate-name" not in words:
+        return None
+    return words[words.index("--crate-name") + 1]
+
+
+@dataclass
+class Looks:
+    """The checker's processes below the command, each with when it began: numbers come again."""
+
+    root: str
+    seen: Dict[Tuple[str, str], Seen] = field(default_factory=dict)
+
+    def look(self) -> None:
+        for pid in filter(str.isdigit, os.listdir(PROC)):
+            words = words_of(pid)
+            crate = crate_in(words)
+            if crate is not None and is_below(pid, self.root):
+                self.note(pid, crate, words)
+
+    def note(self, pid: str, crate: str, words: List[str]) -> None:
+        fields = fields_of(pid)
         try:
-            with open(f"/proc/{pid}/stat") as it:
-                fields = it.read().rpartition(")")[2].split()
-            folder = os.readlink(f"/proc/{pid}/cwd")
+            folder = os.readlink(PROC / pid / "cwd")
         except OSError:
-            continue
-        seconds = sum(map(int, fields[11:13])) / TICK  # its own, since those of its jobs are seen by themselves
-        name = words[words.index("--crate-name") + 1]
-        memory = max(int(fields[21]) * PAGE >> 20, seen.get((pid, fields[19]), (0, 0, 0, 0))[3])
-        seen[pid, fields[19]] = name, kind_of(words, folder), seconds, memory
+            return
+        if not fields:
+            return
+        one = self.seen.setdefault((pid, fields[19]), Seen(crate, kind_of(words, folder)))
+        # Its own seconds, since its jobs are seen by themselves.
+        one.seconds = sum(map(int, fields[11:13])) / TICK
+        one.peak = max(one.peak, int(fields[21]) * PAGE >> 20)
+
+    def minutes(self) -> float:
+        return sum(one.seconds for one in self.seen.values()) / 60
+
+    def table(self) -> List[str]:
+        """A row for each crate, the longest one first."""
+        spent: Dict[str, Dict[str, float]] = {}
+        peaks: Dict[str, int] = {}
+        for one in self.seen.values():
+            row = spent.setdefault(one.crate, dict.fromkeys(KINDS, 0.0))
+            row[one.kind] += one.seconds
+            peaks[one.crate] = max(peaks.get(one.crate, 0), one.peak)
+        rows = ["| Crate | Proof | Tests | Edits | All, processor seconds | Peak, MB |",
+                "|---|---|---|---|---|---|"]
+        for crate in sorted(spent, key=lambda name: -sum(spent[name].values())):
+            seconds = list(spent[crate].values())
+            cells = ["%.0f" % part if part else "" for part in seconds]
+            rows.append(row_of("`%s`" % crate, cells, sum(seconds), peaks[crate]))
+        whole = [sum(row[kind] for row in spent.values()) for kind in KINDS]
+        cells = ["%.0f" % part for part in whole]
+        return rows + [row_of("all", cells, sum(whole), max(peaks.values(), default=0))]
 
 
-def follow(lines, log, waits):
+def row_of(name: str, cells: List[str], seconds: float, peak: int) -> str:
+    return "| %s | %s | %.0f | %d |" % (name, " | ".join(cells), seconds, peak)
+
+
+def follow(lines: Iterable[str], log: IO[str], waits: List[Wait]) -> None:
     """Copies the command's output, and notes how long each function was waited for."""
     last = time.time()
     for line in lines:
         log.write(line)
         found = re.match(r"checked (\S+), \d+ of \d+", line)
         if found:
-            waits.append((time.time() - last, found[1]))
+            waits.append(Wait(time.time() - last, found.group(1)))
         last = time.time()
 
 
-def table_of(seen):
-    """The table, the longest crate first."""
-    spent, peak = collections.defaultdict(collections.Counter), collections.Counter()
-    for name, kind, seconds, memory in seen.values():
-        spent[name][kind] += seconds
-        peak[name] = max(peak[name], memory)
-    rows = ["| Crate | Proof | Tests | Edits | All, processor seconds | Peak, MB |", "|---|---|---|---|---|---|"]
-    for name in sorted(spent, key=lambda it: -sum(spent[it].values())):
-        parts = spent[name]
-        cells = [f"{parts[kind]:.0f}" if parts[kind] else "" for kind in ("proof", "tests", "edits")]
-        rows.append(f"| `{name}` | {' | '.join(cells)} | {sum(parts.values()):.0f} | {peak[name]} |")
-    whole = sum((parts for parts in spent.values()), collections.Counter())
-    cells = " | ".join(f"{whole[kind]:.0f}" for kind in ("proof", "tests", "edits"))
-    rows.append(f"| all | {cells} | {sum(whole.values()):.0f} | {max(peak.values(), default=0)} |")
-    return rows
+def tell_longest(waits: Iterable[Wait], number: int) -> None:
+    for wait in sorted(waits, reverse=True)[:number]:
+        print("%8.1f s  %s" % wait)
 
 
-def tell_kept(crate, number):
+def tell_kept(crate: str, number: int) -> int:
     """Prints what the last check of a crate was longest at."""
-    top = os.path.dirname(os.path.dirname(os.path.abspath(__file__)))
-    files = glob.glob(f"{top}/crates/{crate}/out/incremental/*/*.oantt")
-    done = sorted((os.stat(it).st_mtime, re.sub(r"(\.decls)?\.oantt$", "", os.path.basename(it))) for it in files)
+    folder = ROOT / "crates" / crate / "out" / "incremental"
+    done = sorted((path.stat().st_mtime, re.sub(r"(\.decls)?\.oantt$", "", path.name))
+                  for path in folder.glob("*/*.oantt"))
     if not done:
-        print(f"no check of {crate} has kept anything here")
+        print("%s keeps nothing: check it first, (cd crates/%s && rt check --jobs 1)" % (
+            folder.relative_to(ROOT), crate))
         return 1
-    waits = collections.Counter()
+    waits: Dict[str, float] = defaultdict(float)
     for (before, _), (after, name) in zip(done, done[1:]):
-        waits[name.removeprefix(f"Rattle-{crate}-")] += after - before
-    kinds = collections.Counter()
+        waits[re.sub("^Rattle-%s-" % re.escape(crate), "", name)] += after - before
+    tell_longest((Wait(seconds, name) for name, seconds in waits.items()), number)
+    kinds: Dict[str, float] = defaultdict(float)
     for name, seconds in waits.items():
         kinds[name.rpartition(".")[2]] += seconds
-    for seconds, name in sorted(((it, name) for name, it in waits.items()), reverse=True)[:number]:
-        print(f"{seconds:8.1f} s  {name}")
-    print("\nby kind: " + ", ".join(f"{name} {seconds:.0f}" for name, seconds in kinds.most_common(6)))
+    most = sorted(kinds.items(), key=lambda item: -item[1])[:6]
+    print("\nby kind: " + ", ".join("%s %.0f" % kind for kind in most))
     return 0
 
 
-def main():
+def tell_run(asked: Namespace) -> int:
+    """Runs the command, and prints what it has taken. Answers its status."""
+    waits: List[Wait] = []
+    begun = time.time()
+    with open(asked.log, "w") as log:
+        process = subprocess.Popen(asked.command, stdout=subprocess.PIPE,
+                                   stderr=subprocess.STDOUT, text=True, errors="replace")
+        looks = Looks(str(process.pid))
+        reader = threading.Thread(target=follow, args=(process.stdout, log, waits))
+        reader.start()
+        while process.poll() is None:
+            looks.look()
+            time.sleep(EVERY)
+        reader.join()
+    print("\n".join(looks.table()))
+    print("\n%.1f processor-minutes, %.1f minutes by the clock, status %d" % (
+        looks.minutes(), (time.time() - begun) / 60, process.returncode))
+    tell_longest(waits, asked.functions)
+    return process.returncode
+
+
+def main() -> int:
     parser = argparse.ArgumentParser(usage=__doc__.split("\n\n")[1].strip())
     parser.add_argument("--kept", metavar="CRATE")
     parser.add_argument("--functions", type=int, default=0)
@@ -144,21 +218,7 @@ def main():
         return tell_kept(asked.kept, asked.functions or 40)
     if not asked.command:
         parser.error("a command is missing")
-    seen, waits, begun = {}, [], time.time()
-    with open(asked.log, "w") as log:
-        running = subprocess.Popen(asked.command, stdout=subprocess.PIPE, stderr=subprocess.STDOUT, text=True, errors="replace")
-        reader = threading.Thread(target=follow, args=(running.stdout, log, waits))
-        reader.start()
-        while running.poll() is None:
-            look(str(running.pid), seen)
-            time.sleep(EVERY)
-        reader.join()
-    print("\n".join(table_of(seen)))
-    minutes = sum(row[2] for row in seen.values()) / 60
-    print(f"\n{minutes:.1f} processor-minutes, {(time.time() - begun) / 60:.1f} minutes by the clock, status {running.returncode}")
-    for seconds, name in sorted(waits, reverse=True)[:asked.functions]:
-        print(f"{seconds:8.1f} s  {name}")
-    return running.returncode
+    return tell_run(asked)
 
 
 if __name__ == "__main__":

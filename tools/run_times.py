@@ -1,13 +1,15 @@
 #!/usr/bin/env python3
-"""Times runs of `conquer.py` against one process, and prints a row of a Markdown table for each formula.
+"""Times runs of `conquer.py` against one process, and prints a row of a Markdown table for each
+formula.
 
-    tools/run_times.py [--solver NAME] [--depth D] [--jobs N] [--runs R] PATH-OF-satcluster FORMULA..
+    tools/run_times.py [--solver NAME] [--depth D] [--jobs N] [--runs R]
+        PATH-OF-satcluster FORMULA..
 
-A row has seconds by the clock until a proof stands: of the solver on the whole formula, `satcluster` being
-`solve --depth 0`; then, with one job and with N, of `conquer.py --no-race --no-cuts` and of `conquer.py`;
-how many times as fast the leaves alone end with N jobs as with one, by `--no-race`; and the last run with N
-jobs over the better of both ways without it. The least of R runs counts. `-` is a run that was ended after
-LIMIT seconds.
+A row has seconds by the clock until a proof stands: of the solver on the whole formula,
+`satcluster` being `solve --depth 0`; then, with one job and with N, of `conquer.py --no-race
+--no-cuts` and of `conquer.py`; how many times as fast the leaves alone end with N jobs as with one,
+by `--no-race`; and the last run with N jobs over the better of both ways without it. The least of R
+runs counts. `-` is a run that was ended after LIMIT seconds.
 """
 import argparse
 import json
@@ -18,6 +20,7 @@ import tempfile
 import time
 from argparse import Namespace
 from dataclasses import dataclass
+from functools import partial
 from pathlib import Path
 from typing import Callable, List, Optional
 
@@ -26,8 +29,8 @@ LIMIT = 900  # seconds
 Seconds = Optional[float]  # None: it took too long
 
 
-def timed(words: List[str]) -> Seconds:
-    """Of a command that ends with status 20."""
+def timed(words: List[str], wanted: int = 20) -> Seconds:
+    """Of a command that ends with this status."""
     begin = time.monotonic()
     process = subprocess.Popen(words, stdout=subprocess.DEVNULL)
     try:
@@ -36,8 +39,8 @@ def timed(words: List[str]) -> Seconds:
         process.terminate()
         process.wait()
         return None
-    if status != 20:
-        sys.exit("status %d of %s" % (status, " ".join(words)))
+    if status != wanted:
+        sys.exit("status %d instead of %d of %s" % (status, wanted, " ".join(words)))
     return time.monotonic() - begin
 
 
@@ -68,9 +71,10 @@ class Bench:
                       str(self.folder / "f.lrat")])
 
     def leaves(self, jobs: int) -> Seconds:
-        """From the first job's begin to the last one's end."""
-        if self.run(jobs, "--no-race") is None:
-            return None
+        return None if self.run(jobs, "--no-race") is None else self.span()
+
+    def span(self) -> float:
+        """From the first job's begin to the last one's end, of the last run."""
         told = [json.loads(path.read_text())
                 for path in self.folder.joinpath("run", "records").iterdir()]
         return max(one["end"] for one in told) - min(one["begin"] for one in told)
@@ -78,9 +82,9 @@ class Bench:
     def row(self) -> List[str]:
         jobs, runs = (1, self.asked.jobs), self.asked.runs
         whole = least(self.whole, runs)
-        before = [least(lambda n=n: self.run(n, "--no-race", "--no-cuts"), runs) for n in jobs]
-        after = [least(lambda n=n: self.run(n), runs) for n in jobs]
-        one, many = [least(lambda n=n: self.leaves(n), runs) for n in jobs]
+        before = [least(partial(self.run, n, "--no-race", "--no-cuts"), runs) for n in jobs]
+        after = [least(partial(self.run, n), runs) for n in jobs]
+        one, many = [least(partial(self.leaves, n), runs) for n in jobs]
         better = min((s for s in (whole, before[1]) if s is not None), default=None)
         seconds = [whole, before[0], after[0], before[1], after[1]]
         return list(map(cell, seconds)) + [ratio(one, many), ratio(after[1], better)]

@@ -1,78 +1,86 @@
 #!/usr/bin/env python3
-"""Times `serve` with one, two and four workers, and prints a row of a Markdown table for each formula.
+"""Times `serve` with one, two and four workers, and prints a row of a Markdown table for each
+formula.
 
     tools/serve_times.py [--depth D] [--runs R] PATH-OF-satcluster FORMULA..
 
-A row has the seconds by the clock from the first worker until PROOF stands, the least of R runs, and
-those of `solve` with the same split. Each process is in a session of its own: those of one session
-share a turn of the processor.
+A row has the seconds by the clock from the first worker until PROOF stands, the least of R runs,
+and those of `solve` with the same split. Each process is in a session of its own: those of one
+session share a turn of the processor.
 """
 import argparse
 import os
-import socket
 import subprocess
 import tempfile
 import time
+from argparse import Namespace
+from pathlib import Path
+from typing import List, NamedTuple
+
+from ports import LISTENS, free_port, sockets_at
 
 WORKERS = (1, 2, 4)
-LIMIT = "1000000000"
+LIMIT = 1000000000
 
 
-def free_port():
-    with socket.socket() as listener:
-        listener.bind(("127.0.0.1", 0))
-        return listener.getsockname()[1]
+class Run(NamedTuple):
+    seconds: float  # until the proof stands
+    megabytes: float  # of the proof
 
 
-def listens(port):
-    with open("/proc/net/tcp") as table:
-        rows = [line.split() for line in list(table)[1:]]
-    return any(row[1] == "0100007F:%04X" % port and row[3] == "0A" for row in rows)
+def start(*words: object) -> subprocess.Popen:
+    return subprocess.Popen(list(map(str, words)), stdout=subprocess.DEVNULL,
+                            start_new_session=True)
 
 
-def start(*words):
-    return subprocess.Popen([str(word) for word in words], stdout=subprocess.DEVNULL, start_new_session=True)
-
-
-def served(asked, formula, count):
-    """Seconds until the proof stands, and its megabytes."""
+def served(asked: Namespace, formula: str, count: int) -> Run:
     with tempfile.TemporaryDirectory() as folder:
-        proof, port = os.path.join(folder, "f.lrat"), free_port()
-        common = ["--port", port]
-        coordinator = start(asked.program, "serve", *common, "--workers", count, "--depth", asked.depth,
-                            "--limit", LIMIT, formula, proof)
-        while not listens(port):
+        proof, port = Path(folder, "f.lrat"), free_port()
+        coordinator = start(asked.program, "serve", "--port", port, "--workers", count,
+                            "--depth", asked.depth, "--limit", LIMIT, formula, proof)
+        while not sockets_at(port, LISTENS) and coordinator.poll() is None:
             time.sleep(0.005)
-        workers = [start(asked.program, "work", *common, "--number", w + 1, formula) for w in range(count)]
+        workers = [start(asked.program, "work", "--port", port, "--number", 1 + at, formula)
+                   for at in range(count)]
         begin = time.monotonic()
-        while not os.path.exists(proof) and coordinator.poll() is None:
+        while not proof.exists() and coordinator.poll() is None:
             time.sleep(0.005)
-        took = time.monotonic() - begin
-        for process in [coordinator] + workers:
+        seconds = time.monotonic() - begin
+        for process in [coordinator, *workers]:
             process.wait()
-        return took, os.path.getsize(proof) / 1e6
+        if not proof.exists():
+            raise SystemExit("no proof of %s: serve ended with status %d" % (
+                formula, coordinator.returncode))
+        return Run(seconds, proof.stat().st_size / 1e6)
 
 
-def solved(asked, formula):
+def solved(asked: Namespace, formula: str) -> float:
     begin = time.monotonic()
-    start(asked.program, "solve", "--workers", 1, "--depth", asked.depth, "--limit", LIMIT, formula, os.devnull).wait()
+    start(asked.program, "solve", "--workers", 1, "--depth", asked.depth, "--limit", LIMIT,
+          formula, os.devnull).wait()
     return time.monotonic() - begin
 
 
-def main():
+def row(asked: Namespace, formula: str) -> List[str]:
+    runs = {count: [served(asked, formula, count) for _ in range(asked.runs)]
+            for count in WORKERS}
+    least = [min(run.seconds for run in runs[count]) for count in WORKERS]
+    return [Path(formula).stem, *("%.1f" % seconds for seconds in least),
+            "%.2f" % (least[0] / least[-1]), "%.0f MB" % runs[1][0].megabytes,
+            "%.1f" % solved(asked, formula)]
+
+
+def main() -> None:
     words = argparse.ArgumentParser(usage=__doc__)
     words.add_argument("--depth", type=int, default=8)
     words.add_argument("--runs", type=int, default=1)
     words.add_argument("program")
     words.add_argument("formulas", nargs="+")
     asked = words.parse_args()
-    print("| Formula | 1 worker | 2 | 4 | 4 to 1 | Proof | `solve --depth %d` |\n|---|---|---|---|---|---|---|" % asked.depth)
+    print("| Formula | 1 worker | 2 | 4 | 4 to 1 | Proof | `solve --depth %d` |" % asked.depth)
+    print("|---|---|---|---|---|---|---|", flush=True)
     for formula in asked.formulas:
-        runs = {count: [served(asked, formula, count) for _ in range(asked.runs)] for count in WORKERS}
-        least = [min(took for took, _ in runs[count]) for count in WORKERS]
-        cells = ["%.1f" % took for took in least] + ["%.2f" % (least[0] / least[-1]), "%.0f MB" % runs[1][0][1]]
-        name = os.path.splitext(os.path.basename(formula))[0]
-        print("| %s | %s | %.1f |" % (name, " | ".join(cells), solved(asked, formula)), flush=True)
+        print("| %s |" % " | ".join(row(asked, formula)), flush=True)
 
 
 if __name__ == "__main__":

@@ -1,6 +1,6 @@
 """Drawn sessions with proofs that are made here, changes of them, and the rules of a proof once more.
 
-The rules are those of docs/SESSIONS.md, written for a second time, so that a text need not be right
+The rules are those of docs/FORMATS.md, written for a second time, so that a text need not be right
 for a test to know what has to be printed of it.
 """
 import random
@@ -201,7 +201,7 @@ class Solver:
         for number in set(numbers) - self.given:
             self.live.pop(number, None)
 
-    def search(self, true: List[int], free: List[int]):
+    def search(self, true: List[int], free: List[int]) -> Tuple[Optional[int], Set[int]]:
         """A model; or a clause that is false, by its number and what was assumed of it."""
         assumed = set(true)
         for number, clause in self.live.items():

@@ -22,7 +22,7 @@ import termios
 import time
 import unittest
 from pathlib import Path
-from typing import List, Optional, Tuple
+from typing import Any, List, Optional, Tuple
 
 sys.dont_write_bytecode = True
 
@@ -304,7 +304,7 @@ class Answers(Case):
         if subprocess.run(words, stdout=subprocess.DEVNULL).returncode != 0:
             raise unittest.SkipTest("the program answers no sessions")
 
-    def begin(self, *words: str, **more) -> subprocess.Popen:
+    def begin(self, *words: str, **more: Any) -> subprocess.Popen:
         process = subprocess.Popen([os.environ["SATCLUSTER"], "session", *words],
                                    cwd=str(self.folder), stdout=subprocess.PIPE, **more)
         self.addCleanup(self.end, process)

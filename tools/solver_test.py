@@ -21,7 +21,7 @@ import time
 import unittest
 import uuid
 from pathlib import Path
-from typing import Callable, Dict, Iterator, List, NamedTuple, Optional, Set
+from typing import Any, Callable, Dict, Iterator, List, NamedTuple, Optional, Set
 
 sys.dont_write_bytecode = True
 
@@ -95,12 +95,12 @@ class Case(unittest.TestCase):
     def example(self, name: str) -> str:
         return str(EXAMPLES / name)
 
-    def start(self, *words: str, **more) -> subprocess.Popen:
+    def start(self, *words: str, **more: Any) -> subprocess.Popen:
         more = {"stdin": subprocess.DEVNULL, "stdout": subprocess.PIPE,
                 "stderr": subprocess.PIPE, "env": self.env, **more}
         return subprocess.Popen([str(SOLVER), *words], cwd=str(self.folder), **more)
 
-    def run_solver(self, *words: str, given: Optional[bytes] = None, **more) -> End:
+    def run_solver(self, *words: str, given: Optional[bytes] = None, **more: Any) -> End:
         if given is not None:
             more["stdin"] = subprocess.PIPE
         process = self.start(*words, **more)
@@ -111,7 +111,7 @@ class Case(unittest.TestCase):
             self.fail("%s does not end" % (words,))
         return End(process.returncode, out.decode().splitlines(), err.decode().splitlines())
 
-    def answer(self, *words: str, **more) -> End:
+    def answer(self, *words: str, **more: Any) -> End:
         """A run, which prints one `s` line, that of its status, and leaves nothing."""
         end = self.run_solver(*words, **more)
         said = [line for line in end.lines if line.startswith("s ")]
@@ -121,12 +121,12 @@ class Case(unittest.TestCase):
         self.leaves_nothing()
         return end
 
-    def decides(self, status: int, *words: str, **more) -> End:
+    def decides(self, status: int, *words: str, **more: Any) -> End:
         end = self.answer(*words, **more)
         self.assertEqual((status, []), (end.status, end.errors), end)
         return end
 
-    def refuses(self, why: str, *words: str, **more) -> None:
+    def refuses(self, why: str, *words: str, **more: Any) -> None:
         """No answer: `s UNKNOWN` behind `c` lines that tell why; quietly that is told apart."""
         end = self.answer(*words, **more)
         self.assertEqual((0, "s UNKNOWN"), (end.status, end.lines[-1]))
@@ -406,7 +406,7 @@ class Lies(Case):
 
 
 class Ends(Case):
-    def begun(self, *words: str, **more) -> subprocess.Popen:
+    def begun(self, *words: str, **more: Any) -> subprocess.Popen:
         """A run of which the search is under way."""
         self.write("long.cnf", LONG)
         process = self.start(*words, "long.cnf", "f.lrat", **more)

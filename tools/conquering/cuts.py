@@ -12,7 +12,7 @@ rand3-350 took 16.8 s for 13.6 in a simulation where each was cut that ran when 
 With Slurm (`engines.py`) the halves are an array of their own.
 
 The leaves of a block are run beside its job, one by one from the last, if it takes longer than they
-should: else all cores wait for the block of the longest leaf (docs/SPEED.md).
+should: else all cores wait for the block of the longest leaf (docs/dev/measured.md).
 """
 import time
 from typing import List, Optional
@@ -29,7 +29,7 @@ def to_cut(run: Run, jobs: List[Job]) -> Optional[Job]:
     now = time.monotonic()
     found = [job for job in jobs
              if now - job.began >= patience(run, job.leaf) and run.may_cut(job.leaf)]
-    return min(found, key=lambda job: job.began, default=None)
+    return min(found, key=lambda job: job.began) if found else None
 
 
 def patience(run: Run, leaf: Leaf) -> float:

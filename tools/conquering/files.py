@@ -20,6 +20,7 @@ import os
 import shutil
 import subprocess
 import time
+from functools import partial
 from pathlib import Path
 from typing import FrozenSet, List, Optional, Tuple
 
@@ -112,7 +113,8 @@ def end_of(path: Path) -> Tuple[bytes, bool]:
     end, is_cut = b"", False
     words = ["zstd", "-q", "-dc", str(packed(path))]
     with subprocess.Popen(words, stdout=subprocess.PIPE, stderr=subprocess.DEVNULL) as process:
-        for piece in iter(lambda: process.stdout.read(1 << 20), b""):
+        assert process.stdout is not None
+        for piece in iter(partial(process.stdout.read, 1 << 20), b""):
             end += piece
             is_cut = is_cut or len(end) > END
             end = end[-END:]

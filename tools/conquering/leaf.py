@@ -11,7 +11,7 @@ import tempfile
 import time
 from dataclasses import asdict, dataclass, replace
 from pathlib import Path
-from typing import Dict, Generator, Iterator, List, Optional, Tuple, Union
+from typing import Dict, Generator, Iterator, List, Optional, Sequence, Tuple, Union
 
 from conquering.files import (Cube, Folder, answer_of, block_of, last_line, log_of, name_of,
                               packed, publish, receipt_of)
@@ -55,6 +55,7 @@ class Plan:
     solver: Optional[List[List[str]]] = None  # the commands of another solver
     limit: Optional[int] = None
     seconds: Optional[int] = None
+    block_solver: Optional[List[str]] = None  # the command of another solver for a block
     split: str = ""  # by which words the first tree was made
     compress: bool = False  # whether logs are kept packed
     pipe: bool = False  # whether a solver's proof goes to `lift` by a FIFO
@@ -115,8 +116,7 @@ def conquer_leaf(folder: Folder, plan: Plan, leaf: Leaf) -> Steps:
         if plan.receipts and folder.has(log_of(leaf.cube)):  # of a start without receipts
             yield from acknowledge(folder, plan, leaf.tree, log_of(leaf.cube), near)
             return CLOSED, "", 0
-        search = by_refute if plan.solver is None else by_solver
-        outcome = yield from search(plan, leaf.words(folder), near, leaf.limited)
+        outcome = yield from searched(folder, plan, leaf, near)
         closed = closed_leaves(leaf, outcome, near / "answer")
         if closed:
             log, place = near / "log", folder.at(log_of(*leaf.cubes))
@@ -152,7 +152,7 @@ def closed_leaves(leaf: Leaf, outcome: str, told: Path) -> List[Cube]:
             if "c leaf %d closed" % place in lines]
 
 
-def lines_of(cubes: List[Cube]) -> str:
+def lines_of(cubes: Sequence[Cube]) -> str:
     return "".join("a %s0\n" % "".join("%d " % literal for literal in cube) for cube in cubes)
 
 
@@ -227,6 +227,16 @@ class Records:
         return sorted(found, key=lambda record: record.begin)
 
 
+def searched(folder: Folder, plan: Plan, leaf: Leaf, near: Path) -> Search:
+    """What searches under a leaf, or under those of a block."""
+    words = leaf.words(folder)
+    if plan.solver is None:
+        return by_refute(plan, words, near, leaf.limited)
+    if leaf.behind:
+        return by_block_solver(plan, words, folder.at(leaf.tree), leaf.cubes, near)
+    return by_solver(plan, words, near, leaf.limited)
+
+
 def by_refute(plan: Plan, words: List[Word], here: Path, limited: bool) -> Search:
     """The program's own search."""
     limit = ["--limit", str(plan.limit)] if limited and plan.limit else []
@@ -271,6 +281,32 @@ def by_solver(plan: Plan, words: List[Word], here: Path, limited: bool) -> Searc
     status = yield Command(lift, lifted)
     if status != 0:
         raise Failed("lift ends with %s: %s" % (status, why_not_lifted(lifted, lrat)))
+    return CLOSED
+
+
+def by_block_solver(plan: Plan, words: List[Word], tree: Path, cubes: Sequence[Cube],
+                    here: Path) -> Search:
+    """Another solver, in one process for all leaves of a block: what it learns under one it uses under
+    the next. The tree has the formula's clauses, to which the block's cubes are put."""
+    icnf, out, lidrup, lifted = here / "icnf", here / "out", here / "lidrup", here / "lifted"
+    status = yield Command(["sed", "/^a /d", tree], icnf)
+    if status != 0:
+        raise Failed("sed ends with %s: %s" % (status, last_line(icnf)))
+    with icnf.open("a") as file:
+        file.write(lines_of(cubes))
+    files = {"{icnf}": str(icnf), "{lidrup}": str(lidrup)}
+    status = yield Command([filled(word, files) for word in plan.block_solver], out)
+    if status == 10:
+        keep_values(out, here / "answer")
+        return MODEL
+    if status != 20:
+        raise Failed("the solver ends with %s: %s" % (status, last_line(out)))
+    lift = [plan.program, "lift", "--explain", "--lidrup", *words, plan.input, lidrup, here / "log"]
+    status = yield Command(lift, lifted)
+    if status == 0:
+        raise Failed("what the solver has written leaves a leaf of its block open")
+    if status != 20:
+        raise Failed("lift ends with %s: %s" % (status, why_not_lifted(lifted, lidrup)))
     return CLOSED
 
 

@@ -7,14 +7,14 @@ import subprocess
 import sys
 from dataclasses import dataclass
 from pathlib import Path
-from typing import Any, List, Optional, Tuple, Union
+from typing import Any, Callable, Optional, Sequence, Tuple, Union
 
 Word = Union[str, Path]
 
 
 @dataclass(frozen=True)
 class Command:
-    words: List[Word]
+    words: Sequence[Word]
     output: Path  # where its output goes
     seconds: Optional[float] = None  # after how many it is ended; None: never
     reader: Optional["Reader"] = None  # what reads meanwhile what it writes
@@ -31,6 +31,7 @@ class Reader:
 DIE_WITH_PARENT = 1  # PR_SET_PDEATHSIG
 UNIT = 1 if sys.platform == "darwin" else 1024  # bytes in which the system counts memory
 
+prctl: Optional[Callable[..., int]]
 try:
     prctl = ctypes.CDLL(None).prctl
 except (OSError, AttributeError):  # not Linux: there the jobs of a killed script run to their end
@@ -55,8 +56,9 @@ class Process(subprocess.Popen):
     def poll(self) -> Optional[int]:
         return self.look(os.WNOHANG)
 
-    def wait(self, timeout: Optional[float] = None) -> Optional[int]:
-        return self.look(0)
+    def wait(self, timeout: Optional[float] = None) -> int:
+        self.look(0)
+        return self.returncode
 
     def look(self, how: int) -> Optional[int]:
         if self.returncode is not None:
@@ -101,6 +103,7 @@ class Pair:
     ended. If the reader has taken all the status is READ, whatever the writer's is."""
 
     def __init__(self, command: Command) -> None:
+        assert command.reader is not None
         self.pipe = command.reader.pipe
         self.reader = start(command.reader.command)
         try:
@@ -129,7 +132,7 @@ class Pair:
         kill(self.reader)
 
 
-def status_of(words: List[Word], output: Path, errors: Optional[Path] = None) -> int:
+def status_of(words: Sequence[Word], output: Path, errors: Optional[Path] = None) -> int:
     """Runs a short command, which ends with this process, and writes what it prints to a file, and
     what it explains to another one."""
     parent = os.getpid()
@@ -149,7 +152,7 @@ def kill(process: Union[subprocess.Popen, Pair]) -> None:
     process.wait()
 
 
-def output_of(words: List[Word]) -> Tuple[int, str]:
+def output_of(words: Sequence[Word]) -> Tuple[int, str]:
     done = subprocess.run(words, stdin=subprocess.DEVNULL, stdout=subprocess.PIPE,
                           stderr=subprocess.STDOUT)
     return done.returncode, done.stdout.decode("ascii", "replace")

@@ -31,7 +31,7 @@ class Race:
 
     def ended(self, run: Run) -> bool:
         """Whether it has ended by itself, of which the run is told."""
-        if not self.job.ended():
+        if not self.job.ended() or self.job.result is None:
             return False
         run.raced(*self.job.result)
         return True

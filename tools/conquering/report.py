@@ -115,9 +115,10 @@ class Tree:
 
     def fork(self, path: Cube, low: int, wide: float) -> List[str]:
         job = self.last.get(path)  # it was a leaf once, and was cut in two
-        seconds = spent(job) if job else None
+        seconds: Optional[float] = None
         title = "%s, %d leaves below" % (self.told(path), round(wide / self.wide))
         if job:
+            seconds = spent(job)
             how = "cut in two" if job.outcome == LIMIT else "as one leaf " + job.outcome
             title += ", %s after %s" % (how, told(seconds))
         colour = self.scale.colour(seconds) if seconds else FORK
@@ -184,7 +185,8 @@ def curve(times: List[float], scale: Scale) -> str:
 
 def lanes_of(records: List[Record]) -> Tuple[List[int], List[Tuple[str, int]]]:
     """For each job the lane in which it is drawn: the first of its host that is free by then."""
-    free, lanes = collections.defaultdict(list), []
+    free: Dict[str, List[float]] = collections.defaultdict(list)
+    lanes: List[Tuple[str, int]] = []
     for record in records:
         ends = free[record.host]
         idle = (lane for lane, end in enumerate(ends) if end < record.begin + 0.01)
@@ -256,8 +258,8 @@ def table(state: State, last: Dict[Cube, Record]) -> str:
             began = time.strftime("%d %b %H:%M:%S", time.localtime(job.begin))
             cells[1:] = [told(spent(job)), megabytes(job.memory), size(job.bytes), began, job.host,
                          job.outcome]
-        cells = "".join("<td>" + html.escape(cell) for cell in [str(place)] + cells)
-        lines.append("<tr>%s<td class=cube>%s" % (cells, html.escape(Tree.told(cube))))
+        row = "".join("<td>" + html.escape(cell) for cell in [str(place)] + cells)
+        lines.append("<tr>%s<td class=cube>%s" % (row, html.escape(Tree.told(cube))))
     return "<table>%s</table>" % "\n".join(lines)
 
 

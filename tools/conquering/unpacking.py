@@ -4,7 +4,7 @@ from pathlib import Path
 from typing import List, Optional
 
 from conquering.files import Folder, packed
-from conquering.processes import Command, Process, kill, opens, start
+from conquering.processes import Command, Process, Word, kill, opens, start
 
 # The shell opens the FIFO, for which it waits until `join` does, and then is `zstd`.
 UNPACK = 'exec zstd -q -dc "$0" > "$1"'
@@ -23,7 +23,7 @@ class Unpacking:
         """Unpacks a log to a new FIFO with this name."""
         self.pipe = self.folder.at(name)
         os.mkfifo(str(self.pipe))
-        words = ["sh", "-c", UNPACK, packed(self.folder.at(log)), self.pipe]
+        words: List[Word] = ["sh", "-c", UNPACK, packed(self.folder.at(log)), self.pipe]
         self.process = start(Command(words, self.folder.at("scratch", "unpacking")))
 
     def runs(self) -> bool:

@@ -45,7 +45,7 @@ class Lines:
         self.output.comment(told)
 
 
-def answer_in(status: Optional[int], lines: Lines, has_values: bool) -> Optional[bytes]:
+def answer_in(status: int, lines: Lines, has_values: bool) -> Optional[bytes]:
     """The answer that a command has printed, if line and status agree and nothing is cut."""
     line = ANSWERS.get(status)
     if line is None or lines.begun or lines.held[:1] != [line]:
@@ -60,6 +60,7 @@ def answer_in(status: Optional[int], lines: Lines, has_values: bool) -> Optional
 
 def listen(process: subprocess.Popen, lines: Lines) -> None:
     """Takes what the command prints until it has ended, or nobody reads what is printed here."""
+    assert process.stdout is not None
     poll, pipe = select.poll(), process.stdout.fileno()
     poll.register(pipe, select.POLLIN)
     while True:
@@ -132,6 +133,7 @@ class Solver:
             listen(process, lines)
         finally:
             kill_with_parts(process, self.proof())
+        assert process.stderr is not None
         text = process.stderr.read().decode("utf-8", "replace")  # it is short: nothing waits for it
         shown = {source.path: words.shown(self.asked.formula)}
         self.tell(process, source, lines, lambda line: of_head(program, source, line)

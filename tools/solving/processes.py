@@ -5,13 +5,13 @@ import signal
 import subprocess
 import time
 from pathlib import Path
-from typing import Any, Iterator, List, Optional
+from typing import Any, Dict, Iterator, List, Optional
 
 from conquering.processes import die_with, prctl
 
 DIE_WITH_PARENT = 1  # PR_SET_PDEATHSIG
 PARENT_ENDED = signal.SIGUSR2
-ENDINGS = {  # the signals that end this process, and what is told of them
+ENDINGS: Dict[int, str] = {  # the signals that end this process, and what is told of them
     signal.SIGALRM: "the time is up",
     signal.SIGHUP: "ended by SIGHUP",
     signal.SIGINT: "ended by SIGINT",

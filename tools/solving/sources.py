@@ -53,6 +53,7 @@ class Source:
             return []
         if self.unpacker.returncode in (0, -signal.SIGPIPE):
             return []
+        assert self.unpacker.stderr is not None
         told = self.unpacker.stderr.read(PIECE).decode("ascii", "replace").strip()
         end = "%s ends with %d" % (self.tool, self.unpacker.returncode)
         return [": ".join([end] + told.split("\n")[-1:])]

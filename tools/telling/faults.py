@@ -82,7 +82,7 @@ TABLES = (
         "An LRAT proof, printed as `c line L fault N` by `check` and `trim`, as `c proof line"
         " L fault N` by `lift`, as `c log line L fault N` by `receipt`, and as `c file K line L"
         " fault N NAME` by `join`; if the proof is binary, with `step` in the place of `line`."
-        " [LIDRUP.md](LIDRUP.md#faults) has those of `lift --lidrup`.",
+        " [FORMATS.md](FORMATS.md#lidrup) has those of `lift --lidrup`.",
         {
             1: "5 2 0 1 2\n",
             2: "4 2 0 1 2 0\n",
@@ -115,8 +115,8 @@ TABLES = (
         }),
     Table(
         "answer",
-        "What a solver printed, told as `c line L fault N` by `model`, and as `c file K line "
-        "L fault N NAME` by `join`.",
+        "What a solver printed. Its faults are printed as `c line L fault N` by `model`, and as"
+        " `c file K line L fault N NAME` by `join`.",
         {
             1: "1 0\n",
             2: "v 1 x 0\n",
@@ -127,7 +127,7 @@ TABLES = (
     Table(
         "events",
         "What was sent in a session, printed as `c input line L fault N` by `check --session`"
-        " ([SESSIONS.md](SESSIONS.md#events)).",
+        " ([FORMATS.md](FORMATS.md#events)).",
         {
             1: "1 2 0\n",
             2: "p cnf 2 1\n",

@@ -29,7 +29,7 @@ name_of (Drill input seed turns) = codes "drill"
 name_of (Leaf input cubes leaf) = codes "leaf"
 name_of (Refute input cubes leaf to limit fragment printing binary) = codes "refute"
 name_of (Join input cubes proof fragments printing binary) = codes "join"
-name_of (Lift input cubes leaf lidrup proof fragment binary) = codes "lift"
+name_of (Lift input cubes leaf to lidrup proof fragment binary) = codes "lift"
 name_of (Model input output) = codes "model"
 name_of (Trim input proof out binary) = codes "trim"
 name_of (Receipt input cubes log receipt) = codes "receipt"
@@ -50,7 +50,7 @@ is_named name rows (Drill input seed turns) makes = makes.0
 is_named name rows (Leaf input cubes leaf) makes = makes.0
 is_named name rows (Refute input cubes leaf to limit fragment printing binary) makes = makes.0
 is_named name rows (Join input cubes proof fragments printing binary) makes = makes.0
-is_named name rows (Lift input cubes leaf lidrup proof fragment binary) makes = makes.0
+is_named name rows (Lift input cubes leaf to lidrup proof fragment binary) makes = makes.0
 is_named name rows (Model input output) makes = makes.0
 is_named name rows (Trim input proof out binary) makes = makes.0
 is_named name rows (Receipt input cubes log receipt) makes = makes.0
@@ -111,8 +111,8 @@ pub joins_some : (rows : List Row) (proof : Option (Bor Text)) (files : List (Bo
 joins_some rows None files none joined = none files joined.1
 joins_some rows (Some proof) files none joined = none (proof ∷ files) joined.1
 
-pub only_lift : (rows : List Row) → ((input : Bor Text) (cubes : Bor Text) (leaf : Option ℕ) (lidrup : Bool) (proof : Bor Text) (fragment : Bor Text) (binary : Bool) → Makes (codes "lift") rows (Lift input cubes leaf lidrup proof fragment binary) → ⊥) → (r : Request) → Makes (codes "lift") rows r → ⊥
-only_lift rows none (Lift input cubes leaf lidrup proof fragment binary) makes = none input cubes leaf lidrup proof fragment binary makes
+pub only_lift : (rows : List Row) → ((input : Bor Text) (cubes : Bor Text) (leaf to : Option ℕ) (lidrup : Bool) (proof : Bor Text) (fragment : Bor Text) (binary : Bool) → Makes (codes "lift") rows (Lift input cubes leaf to lidrup proof fragment binary) → ⊥) → (r : Request) → Makes (codes "lift") rows r → ⊥
+only_lift rows none (Lift input cubes leaf to lidrup proof fragment binary) makes = none input cubes leaf to lidrup proof fragment binary makes
 only_lift rows none other makes = differ (codes "lift") (name_of other) refl refl (is_named (codes "lift") rows other makes)
 
 pub only_model : (rows : List Row) → ((input : Bor Text) (output : Bor Text) → Makes (codes "model") rows (Model input output) → ⊥) → (r : Request) → Makes (codes "model") rows r → ⊥

@@ -144,10 +144,10 @@ Makes name rows (Refute input cubes leaf to limit fragment printing binary) =
 Makes name rows (Join input cubes proof fragments printing binary) =
     (name ≡ codes "join") × NamesFile rows (codes "INPUT") (Some input) × NamesFile rows (codes "cubes") (Some cubes)
     × NamesJoined rows proof fragments.items × NamesPrinting rows printing × NamesFlag rows (codes "binary") binary
-Makes name rows (Lift input cubes leaf lidrup proof fragment binary) =
+Makes name rows (Lift input cubes leaf to lidrup proof fragment binary) =
     (name ≡ codes "lift") × NamesFile rows (codes "INPUT") (Some input) × NamesFile rows (codes "cubes") (Some cubes)
-    × NamesAnyNumber rows (codes "leaf") 1 (2 ^ 32 - 1) leaf × NamesFlag rows (codes "lidrup") lidrup × NamesFile rows (codes "PROOF") (Some proof)
-    × NamesFile rows (codes "FRAGMENT") (Some fragment) × NamesFlag rows (codes "binary") binary
+    × NamesAnyNumber rows (codes "leaf") 1 (2 ^ 32 - 1) leaf × NamesAnyNumber rows (codes "to") 1 (2 ^ 32 - 1) to × NamesFlag rows (codes "lidrup") lidrup
+    × NamesFile rows (codes "PROOF") (Some proof) × NamesFile rows (codes "FRAGMENT") (Some fragment) × NamesFlag rows (codes "binary") binary
 Makes name rows (Model input output) =
     (name ≡ codes "model") × NamesFile rows (codes "INPUT") (Some input) × NamesFile rows (codes "FILE") (Some output)
 Makes name rows (Trim input proof out binary) =
@@ -223,7 +223,7 @@ IsInRange (Drill input seed turns) = turns ≤ 100000
 IsInRange (Leaf input cubes leaf) = IsLeafNumber leaf
 IsInRange (Refute input cubes leaf to limit fragment printing binary) = IsLeafNumber leaf × IfSome to IsLeafNumber × (1 ≤ limit) × (limit ≤ 2 ^ 47)
 IsInRange (Join input cubes proof fragments printing binary) = 1 ≤ length fragments.items
-IsInRange (Lift input cubes leaf lidrup proof fragment binary) = IfSome leaf IsLeafNumber
+IsInRange (Lift input cubes leaf to lidrup proof fragment binary) = IfSome leaf IsLeafNumber × IfSome to IsLeafNumber
 IsInRange (Model input output) = ⊤
 IsInRange (Trim input proof out binary) = ⊤
 IsInRange (Receipt input cubes log receipt) = ⊤

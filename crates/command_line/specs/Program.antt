@@ -89,12 +89,12 @@ join_app =
     with_rule (with_rule (with_printing (with_binary (with_rule (with_rule (new_app (codes "join")) (long_flag_rule (codes "dry"))) (needed_file_rule (codes "cubes")))))
     (file_rule (codes "INPUT") true)) (files_rule (codes "NAME"))
 
--- `lift --cubes FILE [--leaf I] [--lidrup] [--binary] INPUT PROOF FRAGMENT`: I from 1 to 4,294,967,295
+-- `lift --cubes FILE [--leaf I] [--to J] [--lidrup] [--binary] INPUT PROOF FRAGMENT`: I and J from 1 to 4,294,967,295
 abbrev pub lift_app : App
 lift_app =
-    with_rule (with_rule (with_rule (with_binary (with_rule (with_rule (with_rule (new_app (codes "lift")) (needed_file_rule (codes "cubes")))
-    (any_number_rule (codes "leaf") 1 (2 ^ 32 - 1))) (long_flag_rule (codes "lidrup")))) (file_rule (codes "INPUT") true)) (file_rule (codes "PROOF") true))
-    (file_rule (codes "FRAGMENT") true)
+    with_rule (with_rule (with_rule (with_binary (with_rule (with_rule (with_rule (with_rule (new_app (codes "lift")) (needed_file_rule (codes "cubes")))
+    (any_number_rule (codes "leaf") 1 (2 ^ 32 - 1))) (any_number_rule (codes "to") 1 (2 ^ 32 - 1))) (long_flag_rule (codes "lidrup"))))
+    (file_rule (codes "INPUT") true)) (file_rule (codes "PROOF") true)) (file_rule (codes "FRAGMENT") true)
 
 -- `model INPUT FILE`
 abbrev pub model_app : App

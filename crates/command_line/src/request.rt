@@ -104,11 +104,13 @@ pub enum Request<'a> {
         binary: bool,
     },
     /// Make a fragment of a proof and write it to a file: of one of the formula of a leaf, by its number among the cubes of a file, from
-    /// 1 to 4,294,967,295; or of a LIDRUP text for all of these cubes. The words may name both, or neither.
+    /// 1 to 4,294,967,295; or of a LIDRUP text for all of these cubes, or for those of the leaves from one number to another. The words may
+    /// name any of the three.
     Lift {
         input: &'a str,
         cubes: &'a str,
         leaf: Option<u32>,
+        to: Option<u32>,
         lidrup: bool,
         proof: &'a str,
         fragment: &'a str,

@@ -77,28 +77,30 @@ module _ {B P : Type 0} (all : Option (List ℕ)) (remaining : B → Option (Lis
       }
 
   -- the answer was printed, or only a front of it
-  printed_so : (after : List ℕ → List Moment → Type 0) (has : List ℕ → List Moment → Type 0) (A : List Literal) (a : Answer) (text proof : List ℕ) (b : Bool) (x y : Run B) (s t : Session P)
+  printed_so : (after : List ℕ → List Moment → Type 0) (unheard : Type 0) (has : List ℕ → List Moment → Type 0) (A : List Literal) (a : Answer) (text proof : List ℕ) (b : Bool) (x y : Run B) (s t : Session P)
       (r : IsRunning all remaining has (Some (Asked A)) x s) → y.events ≡ x.events → y.asking ≡ x.asking → y.status ≡ status_of a
       → Stands (r.events ++ Asked A ∷ []) (told_all r.answers ++ told_of a ∷ []) proof t → IsAnswered x.asking r.events A (told_all r.answers) a (moment text proof)
       → (IsTrue b → after proof (r.moments ++ moment text proof ∷ []))
-      → (b ≡ false → (front : List ℕ) × (rest : List ℕ) × (text ≡ front ++ rest) × after proof (r.moments ++ moment front proof ∷ []))
-      → IsPaused all remaining after b y t
+      → (b ≡ false → (front : List ℕ) × (rest : List ℕ) × (text ≡ front ++ rest) × after proof (r.moments ++ moment front proof ∷ [])) → (b ≡ false → unheard)
+      → IsPaused all remaining after unheard b y t
   unfolding running_query
-  printed_so after has A a text proof true x y s t r events asking status stands answered whole front =
+  printed_so after unheard has A a text proof true x y s t r events asking status stands answered whole front refused =
       running_query all remaining has after A a (moment text proof) x y s t r events asking status stands answered (whole refl)
-  printed_so after has A a text proof false x y s t r events asking status stands answered whole front =
+  printed_so after unheard has A a text proof false x y s t r events asking status stands answered whole front refused =
       let f = front refl in
       let m : Moment = moment text proof in
       let none : List ℕ → List Moment → Type 0 = λ bytes moments. Unit {0} in
       let now = running_query all remaining has none A a m x y s t r events asking status stands answered tt in
       let cuts : List Moment = r.moments ++ moment f.0 proof ∷ [] in
-      let Q : List ℕ → Type 0 = λ bytes. after bytes cuts in
-      left_with all remaining none None y t now after [] cuts
-      (inr (record { before = r.moments; last = m; printed = f.0; rest = f.1; whole = refl; splits = f.2; short = refl }))
-      (subst Q (sym (append-nil (last_proof now.moments) ∙ last_proof_is [] r.moments m)) f.3)
+      let Q : List ℕ → Type 0 = λ bytes. after bytes cuts in (
+        refused refl,
+        left_with all remaining none None y t now after [] cuts
+            (inr (record { before = r.moments; last = m; printed = f.0; rest = f.1; whole = refl; splits = f.2; short = refl }))
+            (subst Q (sym (append-nil (last_proof now.moments) ∙ last_proof_is [] r.moments m)) f.3),
+      )
 
   -- a query was answered by a session, its lines handed out, and the answer printed
-  pub query_goes : {O : Type 0} (has : O → List ℕ → List Moment → Type 0) (old new last : O) (A q : List Literal) (a : Answer) (b : Bool) (text : List ℕ) (x y : Run B) (s one t : Session P)
+  pub query_goes : {O : Type 0} (has : O → List ℕ → List Moment → Type 0) (unheard : O → Type 0) (old new last : O) (A q : List Literal) (a : Answer) (b : Bool) (text : List ℕ) (x y : Run B) (s one t : Session P)
       (r : IsRunning all remaining (has old) (Some (Asked A)) x s) → q ≡ A → y.events ≡ x.events → y.asking ≡ x.asking → y.status ≡ status_of a
       → x.events.greatest ≤ vars_in s → All (IsWithin x.events.greatest) A
       → ((E : List Event) (told : Told) (bytes : List ℕ) → Stands E told bytes s → Stands (E ++ Asked q ∷ []) (told ++ told_of a ∷ []) bytes one)
@@ -109,8 +111,8 @@ module _ {B P : Type 0} (all : Option (List ℕ)) (remaining : B → Option (Lis
       → (IsTrue b → (proof : List ℕ) (moments : List Moment) → has new proof moments → has last proof (moments ++ moment text proof ∷ []))
       → (b ≡ false → (proof : List ℕ) (moments : List Moment) → has new proof moments
       → (front : List ℕ) × (rest : List ℕ) × (text ≡ front ++ rest) × has last proof (moments ++ moment front proof ∷ []))
-      → IsPaused all remaining (has last) b y t
-  query_goes has old new last A q a b text x y s one t r e events asking status less within stands_ right_ unknown grows printed written whole front =
+      → (b ≡ false → unheard last) → IsPaused all remaining (has last) (unheard last) b y t
+  query_goes has unheard old new last A q a b text x y s one t r e events asking status less within stands_ right_ unknown grows printed written whole front refused =
       let stands = subst (λ (Q : List Literal). (E : List Event) (told : Told) (bytes : List ℕ) → Stands E told bytes s → Stands (E ++ Asked Q ∷ []) (told ++ told_of a ∷ []) bytes one) e stands_ in
       let right = subst (λ (Q : List Literal). (E : List Event) (told : Told) (bytes : List ℕ) → Stands E told bytes s → IsRightAnswer (vars_in s) (clauses_of E) Q a) e right_ in
       let E = r.events in
@@ -121,10 +123,10 @@ module _ {B P : Type 0} (all : Option (List ℕ)) (remaining : B → Option (Lis
       let out = written (E ++ Asked A ∷ []) (told ++ told_of a ∷ []) before r.moments k r.out in
       let proof = before ++ one.out.items in
       let more = grows E told before h in
-      printed_so (has last) (has old) A a text proof b x y s t r events asking status out.stands
+      printed_so (has last) (unheard last) (has old) A a text proof b x y s t r events asking status out.stands
       (is_answered (has old) A a (moment text proof) x s r less within (right E told before h) printed out.accepted
       (limited a x.asking.limit E A told before more.0 s one h k more.1 unknown))
-      (λ yes. whole yes proof r.moments out.out) (λ no. front no proof r.moments out.out)
+      (λ yes. whole yes proof r.moments out.out) (λ no. front no proof r.moments out.out) refused
 
   -- a clause was given to a session
   pub clause_goes : (has : List ℕ → List Moment → Type 0) (said : Sent) (C q : Clause) (x : Run B) (s t : Session P) → said ≡ sent.Clause → q ≡ C

@@ -101,36 +101,36 @@ module _ {B P : Type 0} (all : Option (List ℕ)) (remaining : B → Option (Lis
       end_is has (Some fault) x y s r asking status (subst Q e h)
 
   -- whether what is printed is still read
-  pub is_read : (has : List ℕ → List Moment → Type 0) (b : Bool) (x : Run B) (s : Session P) → b ≡ true → IsPaused all remaining has b x s → IsRunning all remaining has None x s
-  is_read has true x s e h = h
-  is_read has false x s e h = absurd cc
+  pub is_read : (has : List ℕ → List Moment → Type 0) (unheard : Type 0) (b : Bool) (x : Run B) (s : Session P) → b ≡ true → IsPaused all remaining has unheard b x s → IsRunning all remaining has None x s
+  is_read has unheard true x s e h = h
+  is_read has unheard false x s e h = absurd cc
 
-  pub is_unread : (has : List ℕ → List Moment → Type 0) (b : Bool) (x : Run B) (s : Session P) → b ≡ false → IsPaused all remaining has b x s → IsLeftOf all has x.asking
-  is_unread has true x s e h = absurd cc
-  is_unread has false x s e h = h
+  pub is_unread : (has : List ℕ → List Moment → Type 0) (unheard : Type 0) (b : Bool) (x : Run B) (s : Session P) → b ≡ false → IsPaused all remaining has unheard b x s → unheard × IsLeftOf all has x.asking
+  is_unread has unheard true x s e h = absurd cc
+  is_unread has unheard false x s e h = h
 
   -- why no further line is taken
-  pub outgrown_is : (has : List ℕ → List Moment → Type 0) (p : Pause) (says : Sent) (x : Run B) (s : Session P) → p ≡ pause.Outgrown says → CanRun all remaining has p x s
+  pub outgrown_is : (has : List ℕ → List Moment → Type 0) (unheard : Type 0) (p : Pause) (says : Sent) (x : Run B) (s : Session P) → p ≡ pause.Outgrown says → CanRun all remaining has unheard p x s
       → IsRunning all remaining has (event_of says x.events.lines.read.literals) x s
-  outgrown_is has p says x s e h =
-      let Q : Pause → Type 0 = λ q. CanRun all remaining has q x s in
+  outgrown_is has unheard p says x s e h =
+      let Q : Pause → Type 0 = λ q. CanRun all remaining has unheard q x s in
       subst Q e h
 
-  pub ended_is : (has : List ℕ → List Moment → Type 0) (p : Pause) (fault : Option IcnfFault) (x : Run B) (s : Session P) → p ≡ pause.Ended fault → CanRun all remaining has p x s → Of all (IsAtEnd has fault x s)
-  ended_is has p fault x s e h =
-      let Q : Pause → Type 0 = λ q. CanRun all remaining has q x s in
+  pub ended_is : (has : List ℕ → List Moment → Type 0) (unheard : Type 0) (p : Pause) (fault : Option IcnfFault) (x : Run B) (s : Session P) → p ≡ pause.Ended fault → CanRun all remaining has unheard p x s → Of all (IsAtEnd has fault x s)
+  ended_is has unheard p fault x s e h =
+      let Q : Pause → Type 0 = λ q. CanRun all remaining has unheard q x s in
       subst Q e h
 
-  pub unheard_is : (has : List ℕ → List Moment → Type 0) (p : Pause) (x : Run B) (s : Session P) → p ≡ pause.Unheard → CanRun all remaining has p x s → IsLeftOf all has x.asking
-  unheard_is has p x s e h =
-      let Q : Pause → Type 0 = λ q. CanRun all remaining has q x s in
+  pub unheard_is : (has : List ℕ → List Moment → Type 0) (unheard : Type 0) (p : Pause) (x : Run B) (s : Session P) → p ≡ pause.Unheard → CanRun all remaining has unheard p x s → unheard × IsLeftOf all has x.asking
+  unheard_is has unheard p x s e h =
+      let Q : Pause → Type 0 = λ q. CanRun all remaining has unheard q x s in
       subst Q e h
 
 -- ---- the end
 module _ {O B P : Type 0} (all : Option (List ℕ)) (has : O → List ℕ → List Moment → Type 0) (old new : O) (fault : Option IcnfFault) (x : Run B) where
   -- the rest was handed out
-  pub all_answered : (s t : Session P) → HasWritten has old new s t → Of all (IsAtEnd (has old) fault x s) → EndsSo all (has new) x.asking x.status (ended.Whole fault)
-  all_answered s t written h =
+  pub all_answered : (unheard : Type 0) (s t : Session P) → HasWritten has old new s t → Of all (IsAtEnd (has old) fault x s) → EndsSo all (has new) unheard x.asking x.status (ended.Whole fault)
+  all_answered unheard s t written h =
       of_map (IsAtEnd (has old) fault x s) (λ text. ((heard text).fault ≡ fault) × AllAnswered (has new) x.asking (heard text) x.status) all
       (λ text e.
       let out = written e.events (told_all e.answers) (last_proof e.moments) e.moments e.stands e.out in
@@ -176,27 +176,27 @@ ok_map : {T E : Type 0} (P Q : T → Type 0) (r : Result T E) → ((x : T) → P
 ok_map P Q (Ok x) f h = f x h
 ok_map P Q (Err e) f h = tt
 
-pub ends_as : (all : Option (List ℕ)) (has : List ℕ → List Moment → Type 0) (o p : Asking) (status : ℕ) (e : Ended) → o ≡ p → EndsSo all has o status e → EndsSo all has p status e
-ends_as all has o p status e same h =
-    let Q : Asking → Type 0 = λ a. EndsSo all has a status e in
+pub ends_as : (all : Option (List ℕ)) (has : List ℕ → List Moment → Type 0) (unheard : Type 0) (o p : Asking) (status : ℕ) (e : Ended) → o ≡ p → EndsSo all has unheard o status e → EndsSo all has unheard p status e
+ends_as all has unheard o p status e same h =
+    let Q : Asking → Type 0 = λ a. EndsSo all has unheard a status e in
     subst Q same h
 
-module _ (all : Option (List ℕ)) (has : List ℕ → List Moment → Type 0) (o : Asking) (status : ℕ) where
-  pub ends_so : (e : Ended) (res : Result Report Refusal) → EndsSo all has o status e → ((fault : Option IcnfFault) → e ≡ ended.Whole fault → IfOk res (EndsAs fault status))
-      → (e ≡ ended.Unheard → IfOk res (Prints 1 [])) → IfOk res (λ r. Of all (λ text. Ends has o (heard text) r))
-  ends_so (ended.Whole fault) res h whole unheard =
-      of_ok (λ text. ((heard text).fault ≡ fault) × AllAnswered has o (heard text) status) (λ text r. Ends has o (heard text) r) all res h
+module _ (all : Option (List ℕ)) (has : List ℕ → List Moment → Type 0) (unheard : Type 0) (o : Asking) (status : ℕ) where
+  pub ends_so : (e : Ended) (res : Result Report Refusal) → EndsSo all has unheard o status e → ((fault : Option IcnfFault) → e ≡ ended.Whole fault → IfOk res (EndsAs fault status))
+      → (e ≡ ended.Unheard → IfOk res (Prints 1 [])) → IfOk res (λ r. Of all (λ text. Ends has unheard o (heard text) r))
+  ends_so (ended.Whole fault) res h whole cut =
+      of_ok (λ text. ((heard text).fault ≡ fault) × AllAnswered has o (heard text) status) (λ text r. Ends has unheard o (heard text) r) all res h
       (λ text a.
-      ok_map (EndsAs fault status) (Ends has o (heard text)) res
+      ok_map (EndsAs fault status) (Ends has unheard o (heard text)) res
       (λ r prints.
       let Q : Option IcnfFault → Type 0 = λ f. EndsAs f status r in
       inl (status, a.1, subst Q (sym a.0) prints))
       (whole fault refl))
-  ends_so ended.Unheard res h whole unheard =
-      of_ok (λ text. IsLeft has o (heard text)) (λ text r. Ends has o (heard text) r) all res h
-      (λ text l. ok_map (Prints 1 []) (Ends has o (heard text)) res (λ r prints. inr (l, prints)) (unheard refl))
+  ends_so ended.Unheard res h whole cut =
+      of_ok (λ text. IsLeft has o (heard text)) (λ text r. Ends has unheard o (heard text) r) all res h.1
+      (λ text l. ok_map (Prints 1 []) (Ends has unheard o (heard text)) res (λ r prints. inr (h.0, l, prints)) (cut refl))
 
-  pub left_of_end : (e : Ended) → EndsSo all has o status e → IsLeftOf all has o
+  pub left_of_end : (e : Ended) → EndsSo all has unheard o status e → IsLeftOf all has o
   left_of_end (ended.Whole fault) h =
       of_map (λ text. ((heard text).fault ≡ fault) × AllAnswered has o (heard text) status) (λ text. IsLeft has o (heard text)) all
       (λ text a. record {
@@ -212,4 +212,4 @@ module _ (all : Option (List ℕ)) (has : List ℕ → List Moment → Type 0) (
         out = a.1.out;
       })
       h
-  left_of_end ended.Unheard h = h
+  left_of_end ended.Unheard h = h.1

@@ -1,9 +1,9 @@
 -- What a lift comes to.
-use Rattle.std.specs.Prelude.{◌≡◌, ◌≢◌, ◌⊎◌, ◌++◌, ℕ, Bool, true, false, List, [], Option, Some, None, Result, Ok, Err, refl, if◌then◌else◌}
+use Rattle.std.specs.Prelude.{IfOk, ◌≡◌, ◌≢◌, ◌⊎◌, ◌++◌, ℕ, Bool, true, false, List, [], Option, Some, None, Result, Ok, Err, refl, if◌then◌else◌}
 use Rattle.std.specs.Global.{Vec}
 use Rattle.std.proofs.Common.{sym, ◌∙◌, subst, inl, inr, arith}
 use Rattle.commands.specs.Known.{Of}
-use Rattle.commands.specs.Lifting.{LiftsAt, LiftsEach, LiftsLeaf, fault_lines, lifts, lifts_all, refuses, refuses_all}
+use Rattle.commands.specs.Lifting.{LiftsAt, LiftsBlock, LiftsEach, LiftsLeaf, fault_lines, lifts, lifts_all, refuses, refuses_all}
 use Rattle.commands.specs.Written.{Keeps}
 use Rattle.commands.specs.declared.lift.LeafLift.{LeafLift}
 use Rattle.commands.specs.inner.Lifting.{EndsEach, EndsLeaf, IsRefused, each_moves, leaf_moves}
@@ -12,7 +12,7 @@ use Rattle.dimacs.specs.logic.Cnf.{Cnf}
 use Rattle.either_form.specs.Lifting.{Begins, FormLifts}
 use Rattle.either_form.specs.declared.lift.FormLift.{FormLift}
 use Rattle.icnf.specs.Leaves.{Cube}
-use Rattle.leaves.specs.Closing.{LiftsAll, are_closed}
+use Rattle.leaves.specs.Closing.{BeginsFor, LiftsAll, are_closed}
 use Rattle.leaves.specs.Leaf.{Prints, leaf_at, leaf_of, no_leaf_text}
 use Rattle.leaves.specs.Lifting.{lifted_text}
 use Rattle.leaves.specs.declared.closing.LiftAll.{LiftAll}
@@ -22,6 +22,7 @@ use Rattle.lrat_forms.specs.Forms.{is_binary, text_form}
 use Rattle.lrat_forms.specs.Pieces.{is_cut}
 use Rattle.proof_lift.specs.Leaves.{IsRefutation}
 use Rattle.proof_lift.specs.Stream.{IsFaultOf}
+use Rattle.reports.specs.declared.refusal.Refusal.{Refusal}
 use Rattle.reports.specs.declared.report.Report.{Report}
 
 err_is : {T : Type 0} (a b : CheckFault) (x y : Result T CheckFault) → x ≡ Err a → y ≡ Err b → x ≡ y → a ≡ b
@@ -64,14 +65,14 @@ leaf_lifts kept old new binary path F q l proof r start (drops s out moves ends 
     refuses refusal.fault refusal.first refusal.wrong same refusal.prints
 
 pub each_lifts : {D : Type 0} (kept : D → D → List ℕ → List ℕ → Type 0) (old new : D) (binary : Bool) (path : List ℕ)
-    (F : Cnf) (cubes : List Cube) (l : LiftAll) (text : List ℕ) (r : Report)
-    → LiftsAll F cubes [] [] l → IsPoured each_moves EndsEach kept old new binary path l text r
-    → LiftsEach (Keeps kept old new binary path) (new ≡ old) F cubes text r
-each_lifts kept old new binary path F cubes l text r start (keeps s out rest moves ends stays) =
-    let told = ends F cubes text out (moves F cubes [] [] start) in
+    (F : Cnf) (place : ℕ) (cubes : List Cube) (l : LiftAll) (text : List ℕ) (r : Report)
+    → LiftsAll F place cubes [] [] l → IsPoured each_moves EndsEach kept old new binary path l text r
+    → LiftsEach (Keeps kept old new binary path) (new ≡ old) F place cubes text r
+each_lifts kept old new binary path F place cubes l text r start (keeps s out rest moves ends stays) =
+    let told = ends F place cubes text out (moves F place cubes [] [] start) in
     lifts_all (out ++ rest.items) _ told.0 told.1 stays
-each_lifts kept old new binary path F cubes l text r start (drops s out moves ends same) =
-    let refusal = ends F cubes text out (moves F cubes [] [] start) in
+each_lifts kept old new binary path F place cubes l text r start (drops s out moves ends same) =
+    let refusal = ends F place cubes text out (moves F place cubes [] [] start) in
     refuses_all refusal.fault refusal.first same refusal.prints
 
 -- ---- status 1 is that of a run that keeps nothing
@@ -86,9 +87,13 @@ leaf_left : (stays : List ℕ → Type 0) (left : Type 0) (F : Cnf) (q : Cube) (
 leaf_left stays left F q leaf proof r (lifts log closes stay prints) e = absurd (zero_status r.status prints.status_is e)
 leaf_left stays left F q leaf proof r (refuses fault first wrong h prints) e = h
 
-each_left : (stays : List ℕ → Type 0) (left : Type 0) (F : Cnf) (cubes : List Cube) (text : List ℕ) (r : Report) → LiftsEach stays left F cubes text r → r.status ≡ 1 → left
-each_left stays left F cubes text r (lifts_all log s comes told stay) e = absurd (other_status (are_closed told.told) r.status told.prints.status_is e)
-each_left stays left F cubes text r (refuses_all fault first h prints) e = h
+each_left : (stays : List ℕ → Type 0) (left : Type 0) (F : Cnf) (place : ℕ) (cubes : List Cube) (text : List ℕ) (r : Report) → LiftsEach stays left F place cubes text r → r.status ≡ 1 → left
+each_left stays left F place cubes text r (lifts_all log s comes told stay) e = absurd (other_status (are_closed told.told) r.status told.prints.status_is e)
+each_left stays left F place cubes text r (refuses_all fault first h prints) e = h
+
+block_left : (stays : List ℕ → Type 0) (left : Type 0) (F : Cnf) (place : ℕ) (cubes : Option (List Cube)) (text : List ℕ) (r : Report) → LiftsBlock stays left F place cubes text r → r.status ≡ 1 → left
+block_left stays left F place None text r h e = h.0
+block_left stays left F place (Some cubes) text r h e = each_left stays left F place cubes text r h e
 
 at_left : (stays : List ℕ → Type 0) (left : Type 0) (F : Cnf) (q : Option Cube) (leaf : ℕ) (proof : List ℕ) (r : Report) → LiftsAt stays left F q leaf proof r → r.status ≡ 1 → left
 at_left stays left F None leaf proof r h e = h.0
@@ -99,10 +104,15 @@ pub of_leaf_left : (stays : List ℕ → Type 0) (left : Type 0) (F : Cnf) (cube
 of_leaf_left stays left F cubes leaf None r h e = at_left stays left F (leaf_at cubes leaf) leaf h.0 r h.1 e
 of_leaf_left stays left F cubes leaf (Some proof) r h e = at_left stays left F (leaf_at cubes leaf) leaf proof r h e
 
-pub of_each_left : (stays : List ℕ → Type 0) (left : Type 0) (F : Cnf) (cubes : List Cube) (known : Option (List ℕ)) (r : Report)
-    → Of known (λ text. LiftsEach stays left F cubes text r) → r.status ≡ 1 → left
-of_each_left stays left F cubes None r h e = each_left stays left F cubes h.0 r h.1 e
-of_each_left stays left F cubes (Some text) r h e = each_left stays left F cubes text r h e
+pub of_each_left : (stays : List ℕ → Type 0) (left : Type 0) (F : Cnf) (place : ℕ) (cubes : List Cube) (known : Option (List ℕ)) (r : Report)
+    → Of known (λ text. LiftsEach stays left F place cubes text r) → r.status ≡ 1 → left
+of_each_left stays left F place cubes None r h e = each_left stays left F place cubes h.0 r h.1 e
+of_each_left stays left F place cubes (Some text) r h e = each_left stays left F place cubes text r h e
+
+pub of_block_left : (stays : List ℕ → Type 0) (left : Type 0) (F : Cnf) (place : ℕ) (cubes : Option (List Cube)) (known : Option (List ℕ)) (r : Report)
+    → Of known (λ text. LiftsBlock stays left F place cubes text r) → r.status ≡ 1 → left
+of_block_left stays left F place cubes None r h e = block_left stays left F place cubes h.0 r h.1 e
+of_block_left stays left F place cubes (Some text) r h e = block_left stays left F place cubes text r h e
 
 pub at_lifts : {D : Type 0} (kept : D → D → List ℕ → List ℕ → Type 0) (old new : D) (binary : Bool) (path : List ℕ)
     (F : Cnf) (q : Option Cube) (l : FormLift) (leaf : ℕ) (proof : List ℕ) (r : Report)
@@ -115,3 +125,12 @@ pub none_lifts : (stays : List ℕ → Type 0) (left : Type 0) (F : Cnf) (q : Op
     → Begins F q None → left → Prints 1 no_leaf_text r → LiftsAt stays left F q leaf proof r
 none_lifts stays left F None leaf proof r start h prints = (h, prints)
 none_lifts stays left F (Some q) leaf proof r start h prints = absurd start
+
+-- a text for a block that was begun, or there are no such leaves
+pub text_lifts : {D : Type 0} (holds : D → List ℕ → Option (List ℕ)) (old : D) (stays : List ℕ → Type 0) (left : Type 0) (name : List ℕ)
+    (F : Cnf) (place : ℕ) (cubes : Option (List Cube)) (l : LiftAll) (result : Result Report Refusal)
+    → BeginsFor F place cubes (Some l)
+    → ((G : Cnf) (p : ℕ) (qs : List Cube) → LiftsAll G p qs [] [] l → IfOk result (λ r. Of (holds old name) (λ text. LiftsEach stays left G p qs text r)))
+    → IfOk result (λ r. Of (holds old name) (λ text. LiftsBlock stays left F place cubes text r))
+text_lifts holds old stays left name F place None l result begins goes = absurd (cc)
+text_lifts holds old stays left name F place (Some cubes) l result begins goes = goes F place cubes begins

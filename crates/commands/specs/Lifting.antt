@@ -1,9 +1,11 @@
 -- What `lift` tells of the files of an input, cubes and a proof, and what it writes.
-use Rattle.std.specs.Prelude.{◌≡◌, ℕ, Bool, true, false, List, Option, Some, None, Err}
+use Rattle.std.specs.Prelude.{◌≡◌, ◌-◌, ℕ, Bool, true, false, List, Option, Some, None, Err}
 use Rattle.commands.specs.declared.lift.LiftFiles.{LiftFiles}
+use Rattle.commands.specs.declared.lift.Lifted.{Lifted}
+use Rattle.commands.specs.declared.lift.Lifted.TheVariants.{Leaf, All, Block}
 use Rattle.dimacs.specs.logic.Cnf.{Cnf}
 use Rattle.icnf.specs.Leaves.{Cube}
-use Rattle.leaves.specs.Closing.{PrintsAll}
+use Rattle.leaves.specs.Closing.{PrintsAll, block_of}
 use Rattle.leaves.specs.Leaf.{Prints, leaf_at, leaf_of, no_leaf_text}
 use Rattle.leaves.specs.Lifting.{lifted_text, proof_fault_text, proof_step_fault_text}
 use Rattle.lidrup.specs.CubeLog.{ComesTo}
@@ -32,16 +34,22 @@ abbrev pub LiftsAt : (List ℕ → Type 0) → Type 0 → Cnf → Option Cube �
 LiftsAt keeps left F None leaf proof r = left × Prints 1 no_leaf_text r
 LiftsAt keeps left F (Some q) leaf proof r = LiftsLeaf keeps left F q leaf proof r
 
--- the log that a text for all leaves comes to is kept, and it is told which leaves it closes; or the first fault of the text is told, and
--- nothing is kept
-pub data LiftsEach (keeps : List ℕ → Type 0) (left : Type 0) (F : Cnf) (cubes : List Cube) (text : List ℕ) (r : Report) : Type 0 where
-  lifts_all : (log : List ℕ) (s : State) → ComesTo F text log s → PrintsAll F cubes text log r → keeps log → LiftsEach keeps left F cubes text r
-  refuses_all : (fault : CheckFault) → lidrup_of F text ≡ Err fault → left → Prints 1 (fault_lines false fault) r → LiftsEach keeps left F cubes text r
+-- The log that a text for leaves comes to is kept, and it is told which of them it closes; or the first fault of the text is told, and
+-- nothing is kept. The leaves have these cubes, and the first one this place in the tree, from 0.
+pub data LiftsEach (keeps : List ℕ → Type 0) (left : Type 0) (F : Cnf) (place : ℕ) (cubes : List Cube) (text : List ℕ) (r : Report) : Type 0 where
+  lifts_all : (log : List ℕ) (s : State) → ComesTo F text log s → PrintsAll F place cubes text log r → keeps log → LiftsEach keeps left F place cubes text r
+  refuses_all : (fault : CheckFault) → lidrup_of F text ≡ Err fault → left → Prints 1 (fault_lines false fault) r → LiftsEach keeps left F place cubes text r
 
--- for the leaf of a number, or for all
-abbrev pub LiftsTree : (List ℕ → Type 0) → Type 0 → Cnf → List Cube → Option ℕ → List ℕ → Report → Type 0
-LiftsTree keeps left F cubes (Some leaf) proof r = LiftsAt keeps left F (leaf_at cubes leaf) leaf proof r
-LiftsTree keeps left F cubes None proof r = LiftsEach keeps left F cubes proof r
+-- there are no such leaves, or the text for them is lifted
+abbrev pub LiftsBlock : (List ℕ → Type 0) → Type 0 → Cnf → ℕ → Option (List Cube) → List ℕ → Report → Type 0
+LiftsBlock keeps left F place None text r = left × Prints 1 no_leaf_text r
+LiftsBlock keeps left F place (Some cubes) text r = LiftsEach keeps left F place cubes text r
+
+-- for the leaf of a number, for all leaves, or for those from one number to another
+abbrev pub LiftsTree : (List ℕ → Type 0) → Type 0 → Cnf → List Cube → Lifted → List ℕ → Report → Type 0
+LiftsTree keeps left F cubes (Leaf leaf) proof r = LiftsAt keeps left F (leaf_at cubes leaf) leaf proof r
+LiftsTree keeps left F cubes All proof r = LiftsEach keeps left F 0 cubes proof r
+LiftsTree keeps left F cubes (Block first last) proof r = LiftsBlock keeps left F (first - 1) (block_of cubes first last) proof r
 
 -- the log is none of the files that are read
 abbrev pub IsApart : {D : Type 0} → (D → List ℕ → List ℕ → Type 0) → D → LiftFiles → Type 0

@@ -114,6 +114,6 @@ pub record IsLeft (has : List ℕ → List Moment → Type 0) (o : Asking) (h : 
   pub more : List ℕ
   pub out : has (last_proof moments ++ more) cuts
 
--- a session came to its end, or nobody read what it printed any more: status 1, and nothing more is printed
-abbrev pub Ends : (List ℕ → List Moment → Type 0) → Asking → Heard → Report → Type 0
-Ends has o h r = IsWhole has o h r ⊎ (IsLeft has o h × Prints 1 [] r)
+-- a session came to its end; or nobody read what it printed any more, for which `unheard` holds: status 1, and nothing more is printed
+abbrev pub Ends : (List ℕ → List Moment → Type 0) → Type 0 → Asking → Heard → Report → Type 0
+Ends has unheard o h r = IsWhole has o h r ⊎ (unheard × IsLeft has o h × Prints 1 [] r)

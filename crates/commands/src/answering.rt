@@ -90,6 +90,7 @@ fn hand_out<P: Propagator, O: Outputs>(
     ensures written { OnOk result (HasWritten O.has outputs.old outputs.new session.old session.new) }
     ensures some { OnErr result ((proof : List ℕ) (moments : List Moment) → O.has outputs.old proof moments → (written : List ℕ) × O.has outputs.new (proof ++ written) moments) }
     ensures refused { IfErr result (IsRefusedAs Refusal.Writing) }
+    ensures unwritten { IfErr result (λ f. f ≡ Refusal.Writing → O.unwritten outputs.new) }
 {
     outputs.prove(session.written())?;
     session.forget();
@@ -111,10 +112,11 @@ impl<B: BufRead + Drop> Run<B> {
         ensures same { self.new.events ≡ self.old.events }
         ensures asking { self.new.asking ≡ self.old.asking }
         ensures goes { (all : Option (List ℕ)) → IsRunning all B.remaining (O.has outputs.old) (event_of Sent.Query self.old.events.lines.read.literals) self.old session.old
-            → IfOk result (λ b. IsPaused all B.remaining (O.has outputs.new) b self.new session.new) }
+            → IfOk result (λ b. IsPaused all B.remaining (O.has outputs.new) (O.unheard outputs.new) b self.new session.new) }
         ensures left { (all : Option (List ℕ)) → IsRunning all B.remaining (O.has outputs.old) (event_of Sent.Query self.old.events.lines.read.literals) self.old session.old
             → OnErr result (IsLeftOf all (O.has outputs.new) self.old.asking) }
         ensures refused { IfErr result (IsRefusedAs Refusal.Writing) }
+        ensures unwritten { IfErr result (λ f. f ≡ Refusal.Writing → O.unwritten outputs.new) }
     {
         let answer = match session.answer(self.events.literals(), self.asking.limit) {
             Ok(answer) => answer,
@@ -146,10 +148,11 @@ impl<B: BufRead + Drop> Run<B> {
         ensures same { self.new.events ≡ self.old.events }
         ensures asking { self.new.asking ≡ self.old.asking }
         ensures goes { (all : Option (List ℕ)) → IsRunning all B.remaining (O.has outputs.old) (event_of sent self.old.events.lines.read.literals) self.old session.old
-            → IfOk result (λ b. IsPaused all B.remaining (O.has outputs.new) b self.new session.new) }
+            → IfOk result (λ b. IsPaused all B.remaining (O.has outputs.new) (O.unheard outputs.new) b self.new session.new) }
         ensures left { (all : Option (List ℕ)) → IsRunning all B.remaining (O.has outputs.old) (event_of sent self.old.events.lines.read.literals) self.old session.old
             → OnErr result (IsLeftOf all (O.has outputs.new) self.old.asking) }
         ensures refused { IfErr result (IsRefusedAs Refusal.Writing) }
+        ensures unwritten { IfErr result (λ f. f ≡ Refusal.Writing → O.unwritten outputs.new) }
     {
         match sent {
             Sent::Nothing => Ok(true),
@@ -178,10 +181,11 @@ impl<B: BufRead + Drop> Run<B> {
         ensures waits { IfOk result (Waits vars self.new.events.greatest self.new.events.lines.read.literals) }
         ensures asking { self.new.asking ≡ self.old.asking }
         ensures goes { (all : Option (List ℕ)) → IsRunning all B.remaining (O.has outputs.old) (event_of first self.old.events.lines.read.literals) self.old session.old
-            → IfOk result (λ pause. CanRun all B.remaining (O.has outputs.new) pause self.new session.new) }
+            → IfOk result (λ pause. CanRun all B.remaining (O.has outputs.new) (O.unheard outputs.new) pause self.new session.new) }
         ensures left { (all : Option (List ℕ)) → IsRunning all B.remaining (O.has outputs.old) (event_of first self.old.events.lines.read.literals) self.old session.old
             → OnErr result (IsLeftOf all (O.has outputs.new) self.old.asking) }
         ensures refused { IfErr result (IsUnread Refusal.Input Refusal.Writing) }
+        ensures unwritten { IfErr result (λ f. f ≡ Refusal.Writing → O.unwritten outputs.new) }
     {
         let mut sent = first;
         'lines: for _ in 0..u64::MAX {
@@ -216,10 +220,11 @@ impl<B: BufRead + Drop> Run<B> {
         requires waits { IsWaiting first self.old.events.greatest self.old.events.lines.read.literals }
         ensures asking { self.new.asking ≡ self.old.asking }
         ensures goes { (all : Option (List ℕ)) → IsRunning all B.remaining (O.has outputs.old) (event_of first self.old.events.lines.read.literals) self.old session.entry
-            → IfOk result (EndsSo all (O.has outputs.new) self.old.asking self.new.status) }
+            → IfOk result (EndsSo all (O.has outputs.new) (O.unheard outputs.new) self.old.asking self.new.status) }
         ensures left { (all : Option (List ℕ)) → IsRunning all B.remaining (O.has outputs.old) (event_of first self.old.events.lines.read.literals) self.old session.entry
             → OnErr result (IsLeftOf all (O.has outputs.new) self.old.asking) }
         ensures refused { IfErr result (IsUnread Refusal.Input Refusal.Writing) }
+        ensures unwritten { IfErr result (λ f. f ≡ Refusal.Writing → O.unwritten outputs.new) }
     {
         match self.take_lines(&mut session, outputs, vars, first)? {
             Pause::Ended(fault) => {
@@ -264,16 +269,18 @@ fn report_of(alloc: Global, ended: Ended, status: u8) -> Result<Report, Refusal>
 
 /// Answers the queries of a session while its events come. Each line is taken before more is read; of a query first the proof is written up
 /// to its answer, and then the answer is printed. The report has what is to be printed behind the answers: nothing, or the first fault of
-/// the events.
+/// the events. Where nobody reads what is printed, its status is 1. An error is want of memory, or that the source cannot be read or the
+/// proof not be written.
 pub fn answer_session<B: BufRead + Drop, O: Outputs>(
     alloc: Global,
     source: B,
     outputs: &mut O,
     asking: Asking,
 ) -> Result<Report, Refusal>
-    ensures session { O.has outputs.old [] [] → IfOk result (λ r. Of (B.remaining source) (λ text. Ends (O.has outputs.new) asking (heard text) r)) }
+    ensures session { O.has outputs.old [] [] → IfOk result (λ r. Of (B.remaining source) (λ text. Ends (O.has outputs.new) (O.unheard outputs.new) asking (heard text) r)) }
     ensures left { O.has outputs.old [] [] → OnErr result (Of (B.remaining source) (λ text. IsLeft (O.has outputs.new) asking (heard text))) }
     ensures refused { IfErr result (IsUnread Refusal.Input Refusal.Writing) }
+    ensures unwritten { IfErr result (λ f. f ≡ Refusal.Writing → O.unwritten outputs.new) }
 {
     let mut run = Run {
         asking,

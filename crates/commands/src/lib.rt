@@ -46,7 +46,7 @@ pub use formula::{read_bytes, read_formula};
 pub use join::{JoinFiles, join_files};
 pub use joining::{JoinOptions, stopped};
 pub use leaf::{leaf_files, split_by_look_files, split_files};
-pub use lift::{LiftFiles, lift_files};
+pub use lift::{LiftFiles, Lifted, lift_files};
 pub use model::test_files;
 pub use outputs::Outputs;
 pub use pieces::{Pieces, refused};

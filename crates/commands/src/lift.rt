@@ -1,9 +1,9 @@
-//! `lift`: a foreign proof of the formula of a leaf, or what a solver wrote for all leaves, is read, and the log that it comes to is
+//! `lift`: a foreign proof of the formula of a leaf, or what a solver wrote for a block of leaves, is read, and the log that it comes to is
 //! written meanwhile.
 
-ghost use Rattle.std.specs.Prelude.{◌≡◌, ◌≢◌, ◌++◌, ℕ, List, [], IfOk, IfErr, OnErr, OnOk};
+ghost use Rattle.std.specs.Prelude.{◌≡◌, ◌≢◌, ◌++◌, ◌-◌, ℕ, List, [], IfOk, IfErr, OnErr, OnOk};
 ghost use Rattle.commands.specs.Known.{Of};
-ghost use Rattle.commands.specs.Lifting.{IsApart, LiftsAt, LiftsEach, LiftsTree, fault_lines};
+ghost use Rattle.commands.specs.Lifting.{IsApart, LiftsAt, LiftsBlock, LiftsEach, LiftsTree, fault_lines};
 ghost use Rattle.commands.specs.Refusals.{IsRefusedAs, IsUnlifted, IsUnread, IsWanting};
 ghost use Rattle.commands.specs.Trees.{OfTree};
 ghost use Rattle.commands.specs.Written.{Keeps};
@@ -12,7 +12,7 @@ ghost use Rattle.commands.specs.inner.Pouring.{IsPoured};
 ghost use Rattle.dimacs.specs.logic.Cnf.{Cnf};
 ghost use Rattle.either_form.specs.Lifting.{BeginsAt};
 ghost use Rattle.icnf.specs.Leaves.{Cube};
-ghost use Rattle.leaves.specs.Closing.{LiftsAll, PrintsAll};
+ghost use Rattle.leaves.specs.Closing.{BeginsBlock, LiftsAll, PrintsAll, block_of};
 ghost use Rattle.leaves.specs.Leaf.{Prints, leaf_at, no_leaf_text};
 ghost use Rattle.lidrup.specs.CubeLog.{IsEnded};
 ghost use Rattle.lrat_check.specs.Checking.{no_memory};
@@ -35,6 +35,15 @@ pub struct LiftFiles<'a> {
     pub cubes: &'a str,
     pub proof: &'a str,
     pub log: Target<'a>,
+}
+
+/// What is lifted: the proof of the formula of a leaf, by its number, from 1; or a LIDRUP text for all leaves, or for those from one number
+/// to another.
+#[derive(Clone, Copy)]
+pub enum Lifted {
+    Leaf(u64),
+    All,
+    Block { first: u64, last: u64 },
 }
 
 /// The lift of the proof of a leaf.
@@ -123,7 +132,7 @@ impl Pours for LeafLift {
     }
 }
 
-/// The bytes of a log for all leaves that are not handed out yet.
+/// The bytes of a log for several leaves that are not handed out yet.
 fn rest_of(alloc: Global, lift: &LiftAll) -> Result<Vec<u8>, Refusal>
     ensures rest { IfOk result (λ rest. rest.items ≡ lift.now.log.lines.out.items) }
     ensures refused { IfErr result IsWanting }
@@ -134,7 +143,7 @@ fn rest_of(alloc: Global, lift: &LiftAll) -> Result<Vec<u8>, Refusal>
 /// Which leaves such a log closes, where its text has ended.
 fn told_all(alloc: Global, lift: &LiftAll) -> Result<Report, Refusal>
     requires { IsEnded lift.now.log }
-    ensures prints { IfOk result (λ r. (F : Cnf) (cubes : List Cube) (bytes written : List ℕ) → LiftsAll F cubes bytes written lift.now → PrintsAll F cubes bytes (written ++ lift.now.log.lines.out.items) r) }
+    ensures prints { IfOk result (λ r. (F : Cnf) (place : ℕ) (cubes : List Cube) (bytes written : List ℕ) → LiftsAll F place cubes bytes written lift.now → PrintsAll F place cubes bytes (written ++ lift.now.log.lines.out.items) r) }
     ensures refused { IfErr result IsWanting }
 {
     lift.report(alloc).map_err(out_of_memory)
@@ -227,10 +236,23 @@ fn begin_leaf(alloc: Global, split: Split, leaf: u64) -> Result<Option<FormLift>
 
 /// No byte was taken of a text for the leaves of a tree.
 fn begin_all(alloc: Global, split: Split) -> Result<LiftAll, Refusal>
-    ensures begins { IfOk result (LiftsAll split.formula split.tree [] []) }
+    ensures begins { IfOk result (LiftsAll split.formula 0 split.tree [] []) }
     ensures refused { IfErr result IsWanting }
 {
     LiftAll::of(alloc, split).map_err(out_of_memory)
+}
+
+/// No byte was taken of a text for the leaves from one number to another; none where there are no such leaves.
+fn begin_block(
+    alloc: Global,
+    split: Split,
+    first: u64,
+    last: u64,
+) -> Result<Option<LiftAll>, Refusal>
+    ensures begins { IfOk result (BeginsBlock split.formula split.tree first last) }
+    ensures refused { IfErr result IsWanting }
+{
+    LiftAll::block(alloc, split, first, last).map_err(out_of_memory)
 }
 
 /// Lifts the proof of the leaf of this number.
@@ -253,47 +275,84 @@ fn lift_leaf<D: Drafts>(
     }
 }
 
+/// Lifts a text for several leaves, of which no byte was taken.
+fn lift_text<D: Drafts>(
+    disk: &mut D,
+    files: &LiftFiles<'_>,
+    lift: LiftAll,
+) -> Result<Report, Refusal>
+    ensures lifts { (F : Cnf) (place : ℕ) (cubes : List Cube) → LiftsAll F place cubes [] [] lift → IfOk result (λ r. Of (D.holds disk.old files.now.proof.now)
+        (λ text. LiftsEach (Keeps D.kept disk.old disk.new files.now.log.binary files.now.log.path.now) (disk.new ≡ disk.old) F place cubes text r)) }
+    ensures apart { OnOk result (IsApart D.apart disk.old files.now) }
+    ensures left { OnErr result (disk.new ≡ disk.old) }
+    ensures refused { IfErr result (IsUnread Refusal.Proof Refusal.Writing) }
+{
+    pour_proof(disk, files, lift)
+}
+
 /// Lifts a text for all leaves.
 fn lift_all<D: Drafts>(disk: &mut D, files: &LiftFiles<'_>, split: Split) -> Result<Report, Refusal>
     ensures lifts { IfOk result (λ r. Of (D.holds disk.old files.now.proof.now)
-        (λ text. LiftsEach (Keeps D.kept disk.old disk.new files.now.log.binary files.now.log.path.now) (disk.new ≡ disk.old) split.formula split.tree text r)) }
+        (λ text. LiftsEach (Keeps D.kept disk.old disk.new files.now.log.binary files.now.log.path.now) (disk.new ≡ disk.old) split.formula 0 split.tree text r)) }
     ensures apart { OnOk result (IsApart D.apart disk.old files.now) }
     ensures left { OnErr result (disk.new ≡ disk.old) }
     ensures refused { IfErr result (IsUnread Refusal.Proof Refusal.Writing) }
 {
     let lift = begin_all(disk.alloc(), split)?;
-    pour_proof(disk, files, lift)
+    lift_text(disk, files, lift)
 }
 
-/// Lifts the proof of a leaf, or a text for all.
+/// Lifts a text for the leaves from one number to another.
+fn lift_block<D: Drafts>(
+    disk: &mut D,
+    files: &LiftFiles<'_>,
+    split: Split,
+    first: u64,
+    last: u64,
+) -> Result<Report, Refusal>
+    ensures lifts { IfOk result (λ r. Of (D.holds disk.old files.now.proof.now)
+        (λ text. LiftsBlock (Keeps D.kept disk.old disk.new files.now.log.binary files.now.log.path.now) (disk.new ≡ disk.old) split.formula (first - 1) (block_of split.tree first last) text r)) }
+    ensures apart { IfOk result (λ r. r.status ≢ 1 → IsApart D.apart disk.old files.now) }
+    ensures left { OnErr result (disk.new ≡ disk.old) }
+    ensures refused { IfErr result (IsUnread Refusal.Proof Refusal.Writing) }
+{
+    let begun = begin_block(disk.alloc(), split, first, last)?;
+    match begun {
+        Some(lift) => lift_text(disk, files, lift),
+        None => no_leaf(disk.alloc()),
+    }
+}
+
+/// Lifts the proof of a leaf, or a text for several.
 fn lift_tree<D: Drafts>(
     disk: &mut D,
     files: &LiftFiles<'_>,
     split: Split,
-    leaf: Option<u64>,
+    lifted: Lifted,
 ) -> Result<Report, Refusal>
     ensures lifts { IfOk result (λ r. Of (D.holds disk.old files.now.proof.now)
-        (λ proof. LiftsTree (Keeps D.kept disk.old disk.new files.now.log.binary files.now.log.path.now) (disk.new ≡ disk.old) split.formula split.tree leaf proof r)) }
+        (λ proof. LiftsTree (Keeps D.kept disk.old disk.new files.now.log.binary files.now.log.path.now) (disk.new ≡ disk.old) split.formula split.tree lifted proof r)) }
     ensures dropped { IfOk result (λ r. r.status ≡ 1 → disk.new ≡ disk.old) }
     ensures apart { IfOk result (λ r. r.status ≢ 1 → IsApart D.apart disk.old files.now) }
     ensures left { OnErr result (disk.new ≡ disk.old) }
     ensures refused { IfErr result (IsUnread Refusal.Proof Refusal.Writing) }
 {
-    match leaf {
-        Some(leaf) => lift_leaf(disk, files, split, leaf),
-        None => lift_all(disk, files, split),
+    match lifted {
+        Lifted::Leaf(leaf) => lift_leaf(disk, files, split, leaf),
+        Lifted::All => lift_all(disk, files, split),
+        Lifted::Block { first, last } => lift_block(disk, files, split, first, last),
     }
 }
 
-/// The proof in a file, of the formula of the leaf of a number, or what was written for all leaves where there is none, becomes a log over
-/// the formula, which is written to another file: whole or not at all, and to none of the files that are read.
+/// The proof in a file, of the formula of a leaf, or what was written for a block of leaves or for all, becomes a log over the formula,
+/// which is written to another file: whole or not at all, and to none of the files that are read.
 pub fn lift_files<D: Drafts>(
     disk: &mut D,
     files: &LiftFiles<'_>,
-    leaf: Option<u64>,
+    lifted: Lifted,
 ) -> Result<Report, Refusal>
     ensures lifts { IfOk result (λ r. Of (D.holds disk.old files.now.input.now) (λ text. Of (D.holds disk.old files.now.cubes.now) (λ lines. OfTree text lines (λ F tree. Of (D.holds disk.old files.now.proof.now)
-        (λ proof. LiftsTree (Keeps D.kept disk.old disk.new files.now.log.binary files.now.log.path.now) (disk.new ≡ disk.old) F tree leaf proof r)) r))) }
+        (λ proof. LiftsTree (Keeps D.kept disk.old disk.new files.now.log.binary files.now.log.path.now) (disk.new ≡ disk.old) F tree lifted proof r)) r))) }
     ensures dropped { IfOk result (λ r. r.status ≡ 1 → disk.new ≡ disk.old) }
     ensures apart { IfOk result (λ r. r.status ≢ 1 → IsApart D.apart disk.old files.now) }
     ensures left { OnErr result (disk.new ≡ disk.old) }
@@ -301,7 +360,7 @@ pub fn lift_files<D: Drafts>(
 {
     let begun = begin_files(disk, files.input, files.cubes)?;
     match begun {
-        Begun::With(split) => lift_tree(disk, files, split, leaf),
+        Begun::With(split) => lift_tree(disk, files, split, lifted),
         Begun::Refused(report) => Ok(report),
     }
 }

@@ -67,8 +67,8 @@ fn names_listed<D: Disk>(disk: &D) -> Result<Vec<Vec<u8>>, Refusal>
     names_in(disk.alloc(), &list).map_err(out_of_memory)
 }
 
-/// Whether standard input lists the names.
-fn is_list(names: &[&str]) -> bool
+/// Whether standard input lists the names: `-` is the only one.
+pub(crate) fn is_list(names: &[&str]) -> bool
     ensures { result ≡ lists (map (λ n. n.now) names.now) }
 {
     names.len() == 1 && names[0] == "-"

@@ -1,7 +1,7 @@
 //! The names of the files that are joined: those that are given, or those that standard input lists.
 
 ghost use Rattle.std.specs.Prelude.{◌≡◌, ◌≢◌, ◌++◌, ◌∷◌, ℕ, Bool, List, [], map, codes, IfOk, IfErr, OnOk};
-ghost use Rattle.commands.specs.Names.{AreTaken, Gone, OfNames, lists, names_of, none_gone};
+ghost use Rattle.commands.specs.Names.{AreTaken, Gone, OfNames, names_of, none_gone};
 ghost use Rattle.commands.specs.Joining.{OneStops, Stops, Takes};
 ghost use Rattle.commands.specs.Known.{Of};
 ghost use Rattle.commands.specs.Refusals.{IsRefusedAs, IsUnread};
@@ -14,6 +14,7 @@ use crate::drafts::Drafts;
 use crate::feeding::{Feeds, feed_all};
 use crate::formula::out_of_memory;
 use crate::joining::{Run, pass, take};
+use crate::listing::is_list;
 use crate::pieces::Pieces;
 use reports::{Refusal, Report};
 use std::mem;
@@ -188,13 +189,6 @@ fn take_listed<'a, D: Drafts>(run: Run<'a, D>) -> Through<'a, D>
         found: _,
     } = listing;
     Through { run, found }
-}
-
-/// Whether standard input lists the names.
-fn is_list(names: &[&str]) -> bool
-    ensures { result ≡ lists (map (λ n. n.now) names.now) }
-{
-    names.len() == 1 && names[0] == "-"
 }
 
 /// Reads the files of these names, or of those that standard input lists, where `-` is the only one.

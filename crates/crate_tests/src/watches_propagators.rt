@@ -276,11 +276,20 @@ const FOLLOWED: &[Turn] = &[
     Turn::Ends(4, 1),
 ];
 
+/// Follows the chain, and once more with the propagator that has given its room back.
+fn follow_chain<P: Propagator>(rt: &impl Abort, alloc: Global, propagator: &mut P)
+    requires { P.attached propagator.old ≡ [] }
+{
+    follow(rt, alloc, propagator, &CHAIN, FOLLOWED);
+    propagator.release();
+    follow(rt, alloc, propagator, &CHAIN, FOLLOWED);
+}
+
 #[test]
 fn a_chain_of_units_is_followed_backwards(rt: HostRuntime) {
     let a = rt.alloc();
-    follow(&rt, a, &mut Scan::new(a), &CHAIN, FOLLOWED);
-    follow(&rt, a, &mut Watched::new(a), &CHAIN, FOLLOWED);
+    follow_chain(&rt, a, &mut Scan::new(a));
+    follow_chain(&rt, a, &mut Watched::new(a));
 }
 
 const CONFLICT: [[i32; 2]; 3] = [[-1, 2], [-1, -2], [3, 4]];

@@ -45,7 +45,7 @@ from_any (x ∷ xs) n h = elim (or_cases (eqb n x) (list_any (eqb n) xs) h) [
   | inr r ↦ Contains-cons x n xs (from_any xs n r)
 ]
 
-rising_distinct : (xs : List ℕ) → AreRising xs → IsDistinct eqb xs
+pub rising_distinct : (xs : List ℕ) → AreRising xs → IsDistinct eqb xs
 rising_distinct xs h = IsDistinct-from_apart eqb xs (λ i j d lt l. let a = h i j d lt l in ne_eqb (get_or xs i d) (get_or xs j d) (λ e. omega arith))
 
 -- ---- how many clauses are live
@@ -117,7 +117,7 @@ additions_same [] ids = refl
 additions_same (Add id lits hints groups ∷ steps) ids = let r = additions_same steps ids in omega arith
 additions_same (Delete others ∷ steps) ids = additions_same steps ids
 
-some_is : (o : Option Clause) (C : Clause) → o ≡ Some C → IsSome o
+pub some_is : (o : Option Clause) (C : Clause) → o ≡ Some C → IsSome o
 some_is o C e = subst IsSome (sym e) refl
 
 -- ---- the log with one deletion more

@@ -127,8 +127,11 @@ some_live k n h = at (get k n) refl h
     at None e h = absurd (true≢false (sym h))
     at (Some x) e h = (x.1, (x.0, e))
 
+pub none_rising : AreRising []
+none_rising = λ i j d lt l. absurd (omega arith)
+
 pub lemmas_none : (first : ℕ) (live : Live) → AreLemmas first live []
-lemmas_none first live = record { rising = λ i j d lt l. absurd (omega arith); behind = λ k d l. absurd (omega arith); lives = λ k d l. absurd (omega arith) }
+lemmas_none first live = record { rising = none_rising; behind = λ k d l. absurd (omega arith); lives = λ k d l. absurd (omega arith) }
 
 -- those that are live still
 pub lemmas_kept : (first : ℕ) (old : Live) (k : Clauses) (xs ys : List ℕ) → ys ≡ filter (λ n. is_some (get k n)) xs → AreLemmas first old xs → AreLemmas first (live_of k) ys

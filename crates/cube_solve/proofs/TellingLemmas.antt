@@ -2,6 +2,7 @@
 use mathlib.Core.Path.{fun_ext}
 use Rattle.std.proofs.Common.{◌≡◌, ℕ, ◌+◌, ◌≤◌, inl, inr, List, [], ◌∷◌, ◌++◌, map, append_assoc, None, refl, sym, ◌∙◌, ap, subst, arith}
 use Rattle.std.specs.List.{Contains}
+use Rattle.std.specs.Prelude.{IsSome}
 use Rattle.std.specs.FinMap.{get, insert}
 use Rattle.std.proofs.lemmas.Bool.{both_ways, cases_Bool}
 use Rattle.std.proofs.lemmas.List.{append-nil}
@@ -32,7 +33,7 @@ use Rattle.cube_solve.specs.inner.Learning.{AreBelow, Learns}
 use Rattle.cube_solve.specs.inner.Levels.{AreLinked, AreTwins, IsAdded}
 use Rattle.cube_solve.specs.inner.Sessions.{ArePicked, Fails}
 use Rattle.cube_solve.proofs.ClauseLemmas.{added_twin, linked_more, linked_same, linked_turned}
-use Rattle.cube_solve.proofs.DeletionLemmas.{linked_less, map_less}
+use Rattle.cube_solve.proofs.DeletionLemmas.{linked_less, map_less, rising_distinct, some_is}
 use Rattle.cube_solve.proofs.LogLemmas.{rup_same}
 use Rattle.cube_solve.proofs.MapLemmas.{map_added}
 use Rattle.cube_solve.proofs.SessionLemmas.{from_map, in_map}
@@ -95,10 +96,14 @@ module _ {P : Type 0} where
       }
 
   -- lemmas go
-  pub tells_dropped : (s u : Session P) → IsClauseNumber (last_of s) → last_of u ≡ last_of s → Drops (last_of s) s.search.lemmas.items u.search.lemmas.items (live_in_session s) (live_in_session u) (log_of s) (log_of u) → TellsOn s u
-  tells_dropped s u number last f = λ given M h.
+  pub tells_dropped : (s u : Session P) → IsClauseNumber (last_of s) → last_of u ≡ last_of s → AreLemmas 0 (live_in_session s) s.search.lemmas.items → Drops (last_of s) s.search.lemmas.items u.search.lemmas.items (live_in_session s) (live_in_session u) (log_of s) (log_of u) → TellsOn s u
+  tells_dropped s u number last held f = λ given M h.
       let old = live_in_session s in
       let new = live_in_session u in
+      let there : (id : ℕ) → Contains s.search.lemmas.items id → IsSome (get M id) = λ id i.
+      let c = All-contains (λ n. (C : Clause) × old n C) s.search.lemmas.items id held.lives i in
+      let d = (h.linked).back id c.0 c.1 in
+      some_is (get M id) d.0 d.1 in
       let apart : (n : ℕ) → Contains given n → ¬ (Contains u.search.lemmas.items n) = λ n i j. h.apart n i (All-contains (Contains s.search.lemmas.items) u.search.lemmas.items n f.kept j) in
       elim f.told [
         | inl none ↦ tells_none given M s u none.1 last (record {
@@ -108,7 +113,16 @@ module _ {P : Type 0} where
         })
         | inr some ↦ record {
           steps = Delete f.ids ∷ [];
-          right = (some.0, (number, All-weaker (Contains s.search.lemmas.items) (λ id. ¬ (Contains given id)) (λ id i j. h.apart id j i) f.ids f.among), tt);
+          right = (
+            some.0,
+            (
+              number,
+              All-weaker (Contains s.search.lemmas.items) (λ id. ¬ (Contains given id)) (λ id i j. h.apart id j i) f.ids f.among,
+              All-weaker (Contains s.search.lemmas.items) (λ id. IsSome (get M id)) there f.ids f.among,
+              rising_distinct f.ids f.rising,
+            ),
+            tt,
+          );
           text = some.1 ∙ ap (λ (t : List ℕ). log_of s ++ t) (sym (append-nil (line_of (last_of s) (Delete f.ids))));
           last = last;
           known = record {

@@ -1,5 +1,7 @@
 -- What the log of a session tells: whoever reads its lines knows which clauses are live.
-use Rattle.std.specs.Prelude.{◌≡◌, ℕ, ◌+◌, ◌≤◌, List, [], ◌∷◌, ◌++◌, ◌⊎◌, length, map, All, Contains}
+use Rattle.std.specs.Prelude.{◌≡◌, ℕ, ◌+◌, ◌≤◌, List, [], ◌∷◌, ◌++◌, ◌⊎◌, length, map, nat_eq, All, Contains, IsSome}
+use Rattle.std.specs.FinMap.{get}
+use Rattle.std.specs.List.{IsDistinct}
 use Rattle.dimacs.specs.logic.ClauseMap.{ClauseMap, live_in}
 use Rattle.dimacs.specs.logic.Literal.{Literal, IsTautology, IsWithin, negation}
 use Rattle.dimacs.specs.logic.Propagation.{Rup}
@@ -14,11 +16,11 @@ use Rattle.cube_solve.specs.declared.answer.Answer.TheVariants as answer
 use Rattle.cube_solve.specs.declared.session.Session.{Session}
 use Rattle.cube_solve.specs.inner.Levels.{AreLinked}
 
--- a step where the clauses of M are live: the next number is added by reverse unit propagation; or clauses go behind some number, none of
--- them one that was given, by its number
+-- a step where the clauses of M are live: the next number is added by reverse unit propagation; or clauses go behind some number, each of
+-- them live, named once, and none that was given, by its number
 abbrev pub IsRightStep : List ℕ → ClauseMap → ℕ → Step → Type 0
 IsRightStep given M top (Add id lits hints groups) = (id ≡ top + 1) × (groups ≡ []) × Rup (live_in M) lits hints
-IsRightStep given M top (Delete ids) = IsClauseNumber top × All (λ id. ¬ (Contains given id)) ids
+IsRightStep given M top (Delete ids) = IsClauseNumber top × All (λ id. ¬ (Contains given id)) ids × All (λ id. IsSome (get M id)) ids × IsDistinct nat_eq ids
 
 -- one such step after the other, within the limits of lines
 abbrev pub AreRightSteps : List ℕ → ClauseMap → ℕ → List Step → Type 0

@@ -67,9 +67,9 @@ fn carry_all<P: Propagator>(
     Ok(())
 }
 
-/// A search over more variables, with the clauses of another one. Its scores begin anew.
+/// A search over more variables, with the clauses of another one and the last values of its variables. Its scores begin anew.
 fn search_of<'b, P: Propagator>(
-    old: Search<'_, P>,
+    mut old: Search<'_, P>,
     top: u64,
     propagator: &'b mut P,
     vars: u32,
@@ -88,6 +88,7 @@ fn search_of<'b, P: Propagator>(
     ensures log { IfOk result (λ s. s.log ≡ old.entry.log) }
 {
     let alloc = old.alloc;
+    old.state.propagator.release(); // its owner keeps it, and the clauses are there twice soon
     let formula = Builder::new(alloc)?.finish(vars)?;
     let mut search = Search::new(alloc, propagator, formula.as_base())?;
     carry_all(&mut search, &old.state.arena, top)?;
@@ -96,8 +97,8 @@ fn search_of<'b, P: Propagator>(
 }
 
 impl<P: Propagator> Session<'_, P> {
-    /// The session over the variables from 1 to `vars`, by a propagator that has no clause yet: clauses and lemmas are as they were, the
-    /// scores of variables begin anew. It takes time in the greatest number of a clause so far.
+    /// The session over the variables from 1 to `vars`, by a propagator that has no clause yet: clauses and lemmas are as they were,
+    /// variables keep their last values, their scores begin anew. It takes time in the greatest number of a clause so far.
     pub fn grown<'b>(self, propagator: &'b mut P, vars: u32) -> Result<Session<'b, P>, AllocError>
         requires ready { IsReady P.is_ready P.attached self }
         requires free { P.attached propagator.old ≡ [] }

@@ -310,10 +310,12 @@ impl<'a, P: Propagator> Search<'a, P> {
         Ok(())
     }
 
-    /// Takes over what another search has learnt and written, whose clauses it has.
+    /// Takes over what another search has learnt and written, whose clauses it has, and the last values of its variables.
     pub(crate) fn learnt_by(&mut self, other: Search<'_, P>)
         ensures { self.new ≡ record self.old { lemmas = other.entry.lemmas; uses = other.entry.uses; log = other.entry.log } }
     {
+        let state = &other.state;
+        self.state.order.take_over(&state.order, &state.trail);
         let Search {
             alloc: _,
             state: _,

@@ -126,6 +126,18 @@ impl Values {
         self.best.note(trail, len);
     }
 
+    /// Takes over the last values of a search over fewer variables, and those of its trail.
+    pub(crate) fn take_over(&mut self, other: &Values, trail: &Trail) {
+        for (number, value) in other.last.iter().enumerate() {
+            if let Some(place) = self.last.get_mut(number) {
+                *place = *value;
+            }
+        }
+        for entry in trail.entries() {
+            self.keep(entry.literal);
+        }
+    }
+
     /// Sets all last values, and forgets the targets.
     pub(crate) fn rephase(&mut self, kind: Rephase) {
         for (number, last) in self.last.iter_mut().enumerate() {

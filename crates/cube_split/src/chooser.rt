@@ -135,7 +135,7 @@ fn choose_counted(marks: &[bool], tally: &mut Tally, formula: &Formula) -> Optio
     ensures choice { (S : List Literal) → AreMarked marks.now (has S) → Choice formula.now S result }
     ensures clear { IsClear (length tally.old.counts.items) tally.new }
 {
-    let _vars = formula.vars(); // with it comes that no literal is of another variable
+    let _ = formula.vars(); // with it comes that no literal is of another variable
     tally.count_clauses(marks, formula);
     let choice = greatest(marks, &tally.counts, tally.variables());
     tally.clear();

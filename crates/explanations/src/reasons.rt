@@ -19,7 +19,7 @@ pub enum Reason {
     NotTogether,
     /// Standard input is named where it cannot be.
     StandardInput,
-    /// Neither a leaf nor `--lidrup`, or both.
+    /// Neither a leaf nor `--lidrup`; or one end of a block alone.
     LeafOrLidrup,
     /// The file is not there.
     Absent,
@@ -76,8 +76,8 @@ impl Reason {
                 "Name a file; `./-` is one of that name.",
             ),
             Reason::LeafOrLidrup => (
-                "PROOF is one of a leaf or one of all leaves.",
-                "Name either `--leaf I` or `--lidrup`.",
+                "PROOF is one of a leaf, or a LIDRUP text for all leaves or for a block.",
+                "Name `--leaf I`, `--lidrup`, or `--lidrup --leaf I --to J`.",
             ),
             Reason::Absent => ("There is no file FILE.", "Name a file that is there."),
             Reason::Folder => ("FILE is a folder.", "Name a file in it."),

@@ -1,5 +1,5 @@
 //! Frames: the messages between the nodes of a cluster, their one spelling in bytes, and the reader that takes a stream
-//! of bytes in any pieces. `docs/FRAMES.md` has the format.
+//! of bytes in any pieces. `docs/dev/FRAMES.md` has the format.
 #![tactic(auto)]
 
 mod answer;

@@ -6,8 +6,8 @@ pub mod LeafLemmas
 pub mod LiftLemmas
 pub mod LineLemmas
 pub mod LookLemmas
-pub mod MarkingLemmas
 pub mod ReadingLemmas
+pub mod RightSteps
 pub mod SearchingLemmas
 pub mod SplitLemmas
 pub mod UnitLemmas

@@ -1,5 +1,5 @@
 -- Searches by one session, and what they leave in its log.
-use Rattle.std.proofs.Common.{◌≡◌, ℕ, ◌+◌, ◌≤◌, inl, inr, Bool, true, false, ◌&&◌, List, [], ◌∷◌, ◌++◌, length, map, get_or, nat_eq, Some, refl, sym, ◌∙◌, ap, subst, arith, append_assoc}
+use Rattle.std.proofs.Common.{◌≡◌, ℕ, ◌+◌, ◌≤◌, inl, inr, true, ◌&&◌, List, [], ◌∷◌, ◌++◌, length, map, nat_eq, Some, refl, sym, ◌∙◌, ap, subst, arith, append_assoc}
 use Rattle.std.specs.FinMap.{insert}
 use Rattle.std.specs.List.{All, Contains, IsDistinct}
 use Rattle.std.proofs.lemmas.List.{append-nil}
@@ -29,9 +29,9 @@ use Rattle.lrat_text.proofs.ClauseMapLemmas.{get_here, get_other}
 use Rattle.lrat_text.proofs.LineLemmas.{written_one_line, written_spells}
 use Rattle.lrat_text.proofs.RunLemmas.{after_append, log_append, spells_append, top_append}
 use Rattle.leaves.specs.Turns.{Closed, Limit}
-use Rattle.leaves.specs.inner.Turns.{AreMarked, FollowsAll, HasEnded, HaveLines, IsAnswered, Says, Stands}
+use Rattle.leaves.specs.inner.Turns.{HasEnded, IsAnswered, Says, Stands}
 use Rattle.leaves.specs.declared.searching.Searches.{Searches}
-use Rattle.leaves.proofs.MarkingLemmas.{all_of, lines_of, log_marked, marked_more, stays, text_spells}
+use Rattle.leaves.proofs.RightSteps.{all_of, in_numbers, numbers_low, numbers_to, right_logged, right_spelled, stays}
 
 -- ---- what an answer says
 -- why a core fails, where these clauses are live
@@ -61,36 +61,32 @@ module _ {P : Type 0} (F : Cnf) (closing : List Clause) (steps : List Step) (s u
       → ((G : List Clause) → AreGiven G s.session → IsRightAnswer (vars_of s.session) G q a) → IfUnknown a (last_of mid ≡ last_of s.session + limit) → last_of mid ≤ last_of s.session + limit → HasFailed a mid
       → vars_of u.session ≡ vars_of mid → last_of u.session ≡ last_of mid → ((G : List Clause) → AreGiven G mid → AreGiven G u.session)
       → ((given : List ℕ) (M : ClauseMap) → IsKnown given M mid → IsKnown given M u.session) → log_of u.session ≡ [] → u.log ≡ s.log ++ log_of mid
-      → ((top : ℕ) (own : List Step) → log_of mid ≡ text_of top own → HaveLines top own → FollowsAll own s.live.items u.live.items)
       → Stands F closing steps s → IsAnswered F closing steps q limit a u
-  is_answered mid q limit a tells gave vars right unknown most failed vars_too last gives knows taken log live h =
+  is_answered mid q limit a tells gave vars right unknown most failed vars_too last gives knows taken log h =
       let m = length F.clauses in
       let M = after_steps (map_of F) steps in
       let top = last_of s.session in
       let t : Tells h.given M s.session mid = tells h.given M h.known in
       let own = t.steps in
       let text : log_of mid ≡ text_of top own = t.text ∙ ap (λ (x : List ℕ). x ++ text_of top own) h.taken in
-      let lines = lines_of h.given M top own t.right in
-      let grown = log_top m (map_of F) m steps h.is_log in
-      let low : m ≤ top = (let e = h.last in omega arith) in
-      let l : AreLogSteps m M top own × AreMarked m (after_steps M own) (top_of top own) u.live.items = log_marked h.given m M top own s.live.items u.live.items low t.right (live top own text lines) h.marked in
+      let l : AreLogSteps m M top own = right_logged h.given m M top own h.first t.right in
       let after : after_steps (map_of F) (steps ++ own) ≡ after_steps M own = after_append (map_of F) steps own in
       record {
         own = own;
         stands = record {
           given = h.given;
           vars = vars_too ∙ vars ∙ h.vars;
-          spells = subst (λ (x : List ℕ). LineSpells x (steps ++ own)) (sym (log ∙ ap (λ (x : List ℕ). s.log ++ x) text)) (spells_append s.log (text_of top own) steps own h.spells (text_spells top own lines));
-          is_log = log_append m (map_of F) m steps own h.is_log (subst (λ k. AreLogSteps m M k own) h.last l.0);
+          spells = subst (λ (x : List ℕ). LineSpells x (steps ++ own)) (sym (log ∙ ap (λ (x : List ℕ). s.log ++ x) text)) (spells_append s.log (text_of top own) steps own h.spells (right_spelled h.given M top own t.right));
+          is_log = log_append m (map_of F) m steps own h.is_log (subst (λ k. AreLogSteps m M k own) h.last l);
           last = last ∙ t.last ∙ ap (λ k. top_of k own) h.last ∙ sym (top_append m steps own);
           taken = taken;
           known = subst (λ (N : ClauseMap). IsKnown h.given N u.session) (sym after) (knows h.given (after_steps M own) t.known);
           held = gives (F.clauses ++ closing) (gave (F.clauses ++ closing) h.held);
-          marked = subst (λ (N : ClauseMap). AreMarked m N (last_of u.session) u.live.items) (sym after) (subst (λ k. AreMarked m (after_steps M own) k u.live.items) (sym (last ∙ t.last)) l.1);
+          first = h.first;
           lives = λ C i. let x = h.lives C i in (x.0, x.1, x.2, subst (λ (N : ClauseMap). live_in N x.0 C) (sym after) (stays h.given M top own t.right x.0 x.1 (h.known.before x.0 x.1) C x.3));
         };
         says = subst (λ (N : ClauseMap). Says F q limit N (additions own) a) (sym after)
-            (says_so F closing q limit (additions own) top (last_of mid) (vars_of s.session) (after_steps M own) a h.vars (t.last ∙ log_top m M top own l.0) (right (F.clauses ++ closing) h.held) unknown most
+            (says_so F closing q limit (additions own) top (last_of mid) (vars_of s.session) (after_steps M own) a h.vars (t.last ∙ log_top m M top own l) (right (F.clauses ++ closing) h.held) unknown most
             (fails_in a mid failed h.given (after_steps M own) t.known));
       }
 
@@ -98,9 +94,9 @@ module _ {P : Type 0} (F : Cnf) (closing : List Clause) (steps : List Step) (s u
   pub stands_closed : (w : Session P) (C : Clause) (hints : List ℕ) → vars_of w ≡ vars_of s.session → last_of w ≡ last_of s.session + 1 → IsClauseNumber (last_of w) → log_of w ≡ log_of s.session
       → ((G : List Clause) → AreGiven G s.session → AreGiven (G ++ C ∷ []) w)
       → ((given : List ℕ) (M : ClauseMap) → IsKnown given M s.session → IsKnown (given ++ last_of w ∷ []) (insert M (last_of w) C) w)
-      → IsStep (Add (last_of w) C hints []) → u.session ≡ w → u.log ≡ s.log ++ line_of (last_of w) (Add (last_of w) C hints []) → u.live.items ≡ s.live.items ++ true ∷ []
+      → IsStep (Add (last_of w) C hints []) → u.session ≡ w → u.log ≡ s.log ++ line_of (last_of w) (Add (last_of w) C hints [])
       → Stands F closing steps s → Rup (live_in (after_steps (map_of F) steps)) C hints → Stands F (closing ++ C ∷ []) (steps ++ Add (last_of u.session) C hints [] ∷ []) u
-  stands_closed w C hints vars next number none gives knows limits is log live h rup =
+  stands_closed w C hints vars next number none gives knows limits is log h rup =
       let m = length F.clauses in
       let M = after_steps (map_of F) steps in
       let id = last_of w in
@@ -120,8 +116,7 @@ module _ {P : Type 0} (F : Cnf) (closing : List Clause) (steps : List Step) (s u
         known = subst (λ (x : Session P). IsKnown (h.given ++ id ∷ []) (after_steps (map_of F) (steps ++ step ∷ [])) x) (sym is)
             (subst (λ (N : ClauseMap). IsKnown (h.given ++ id ∷ []) N w) (sym after) (knows h.given M h.known));
         held = subst (λ (x : Session P). AreGiven (F.clauses ++ (closing ++ C ∷ [])) x) (sym is) (subst (λ (G : List Clause). AreGiven G w) (append_assoc F.clauses closing (C ∷ [])) (gives (F.clauses ++ closing) h.held));
-        marked = subst (λ (N : ClauseMap). AreMarked m N (last_of u.session) u.live.items) (sym after)
-            (subst (λ k. AreMarked m (insert M id C) k u.live.items) (sym same) (marked_more m M (last_of s.session) s.live.items u.live.items h.marked id C next low live));
+        first = λ n low up. Contains-append_left h.given (id ∷ []) n (h.first n low up);
         lives = λ D i. elim (Contains-push_cases closing C D i) [
           | inl j ↦
               let x = h.lives D j in
@@ -188,21 +183,18 @@ module _ {P : Type 0} (F : Cnf) (closing : List Clause) (steps own : List Step) 
   }
 
 -- ---- the beginning
-pub begins : {P : Type 0} (F : Cnf) (u : Searches P) → vars_of u.session ≡ F.vars → last_of u.session ≡ length F.clauses → log_of u.session ≡ [] → AreGiven F.clauses u.session → IsKnown [] (map_of F) u.session → u.log ≡ []
-    → length u.live.items ≡ length F.clauses + 1 → ((id : ℕ) → get_or u.live.items id false ≡ false) → Stands F [] [] u
-begins F u vars last log given known none count unmarked = record {
-  given = [];
+pub begins : {P : Type 0} (F : Cnf) (u : Searches P) → vars_of u.session ≡ F.vars → last_of u.session ≡ length F.clauses → log_of u.session ≡ [] → AreGiven F.clauses u.session
+    → ((given : List ℕ) → ((n : ℕ) → Contains given n → n ≤ length F.clauses) → IsKnown given (map_of F) u.session) → u.log ≡ [] → Stands F [] [] u
+begins F u vars last log given known none = record {
+  given = numbers_to (length F.clauses);
   vars = vars;
   spells = none;
   is_log = tt;
   last = last;
   taken = log;
-  known = known;
+  known = known (numbers_to (length F.clauses)) (numbers_low (length F.clauses));
   held = subst (λ (G : List Clause). AreGiven G u.session) (sym (append-nil F.clauses)) given;
-  marked = record {
-    count = count ∙ ap (λ n. n + 1) (sym last);
-    marked = λ id m. let no : ◌≡◌ {A = Bool} false true = sym (unmarked id) ∙ m in absurd cc;
-  };
+  first = in_numbers (length F.clauses);
   lives = λ C i. absurd (Contains-nil C i);
 }
 

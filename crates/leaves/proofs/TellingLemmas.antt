@@ -1,12 +1,12 @@
 -- Which leaves a log is told to close.
-use Rattle.std.proofs.Common.{◌≡◌, ℕ, ◌+◌, ◌<◌, Bool, true, false, List, [], ◌∷◌, ◌++◌, cond, refl, sym, ◌∙◌, ap, subst, length, take, get_or, append_assoc, arith, length-append, IfOk, Result, Ok, Err, None}
+use Rattle.std.proofs.Common.{◌≡◌, ℕ, ◌+◌, ◌-◌, ◌<◌, ◌≤◌, Bool, true, false, List, [], ◌∷◌, ◌++◌, cond, refl, sym, ◌∙◌, ap, subst, length, drop, take, get_or, append_assoc, arith, length-append, IfOk, Result, Ok, Err, None}
 use Rattle.std.specs.declared.alloc.AllocError.{AllocError}
 use Rattle.std.specs.Prelude.{MatchBool}
 use Rattle.std.specs.Bool.{OnTrue}
-use Rattle.std.proofs.lemmas.List.{append-nil, length-take, take_more}
+use Rattle.std.proofs.lemmas.List.{append-nil, drop-append-le, length-drop, length-take-le, take_all, take_more}
 use Rattle.dimacs.specs.logic.Cnf.{Cnf}
 use Rattle.icnf.specs.Leaves.{Cube}
-use Rattle.leaves.specs.Closing.{AreTold, LiftsAll, PrintsAll, TellsLeaf, are_closed, leaf_line, told_text}
+use Rattle.leaves.specs.Closing.{AreTold, LiftsAll, PrintsAll, TellsLeaf, are_closed, leaf_line, part_of, told_text}
 use Rattle.leaves.specs.declared.closing.LiftAll.{LiftAll}
 use Rattle.leaves.specs.inner.Telling.{IsTelling}
 use Rattle.lidrup.specs.CubeLog.{ClosesCube, IsEnded, Stands}
@@ -44,35 +44,45 @@ pub tells_leaf : (x : CubeLog) (place : ℕ) (q : Cube) (b : Bool) → IsEnded x
 tells_leaf x place q true ended which closes F bytes written s = (which F bytes written ended s, closes F bytes written s)
 tells_leaf x place q false ended which closes F bytes written s = (which F bytes written ended s, tt)
 
-pub telling_none : (x : CubeLog) → IsTelling x [] [] 20
-telling_none x = record { told = []; long = refl; are = λ F bytes written s. tt; text_is = refl; status_is = refl }
+pub telling_none : (x : CubeLog) (place : ℕ) → IsTelling x place [] [] 20
+telling_none x place = record { told = []; long = refl; are = λ F bytes written s. tt; text_is = refl; status_is = refl }
 
-pub telling_more : (x : CubeLog) (cubes : List Cube) (place : ℕ) (q : Cube) (text : List ℕ) (status : ℕ) (b : Bool) → place < length cubes → q ≡ get_or cubes place []
-    → ((F : Cnf) (bytes written : List ℕ) → Stands F bytes written x → TellsLeaf F bytes (written ++ x.lines.out.items) place q b)
-    → IsTelling x (take place cubes) text status → IsTelling x (take (place + 1) cubes) (text ++ leaf_line place b) (cond b status 0)
-telling_more x cubes place q text status b inside at tells t =
-    let front : length (take place cubes) ≡ place = omega (arith, length-take place cubes) in
-    let more : take (place + 1) cubes ≡ take place cubes ++ q ∷ [] = take_more cubes place [] inside ∙ ap (λ (p : Cube). take place cubes ++ p ∷ []) (sym at) in
-    let count : length t.told ≡ place = t.long ∙ front in
-    let here : 0 + length (take place cubes) ≡ place = omega (arith, front) in
-    let there : 0 + length t.told ≡ place = omega (arith, count) in
-    subst (λ (qs : List Cube). IsTelling x qs (text ++ leaf_line place b) (cond b status 0)) (sym more) (record {
+-- the leaf of a place is told behind those from the first one to it
+pub telling_more : (x : CubeLog) (leaves : List Cube) (first place query : ℕ) (q : Cube) (text : List ℕ) (status : ℕ) (b : Bool)
+    → first ≤ place → place < length leaves → query ≡ place - first → q ≡ get_or leaves place []
+    → ((F : Cnf) (bytes written : List ℕ) → Stands F bytes written x → TellsLeaf F bytes (written ++ x.lines.out.items) query q b)
+    → IsTelling x first (part_of leaves first place) text status → IsTelling x first (part_of leaves first (place + 1)) (text ++ leaf_line place b) (cond b status 0)
+telling_more x leaves first place query q text status b low inside asked at tells t =
+    let part : List Cube = part_of leaves first place in
+    let all : length (take place leaves) ≡ place = length-take-le place leaves (omega arith) in
+    let front : length part ≡ place - first = omega (arith, length-drop first (take place leaves), all) in
+    let one : take (place + 1) leaves ≡ take place leaves ++ q ∷ [] = take_more leaves place [] inside ∙ ap (λ (p : Cube). take place leaves ++ p ∷ []) (sym at) in
+    let more : part_of leaves first (place + 1) ≡ part ++ q ∷ [] =
+    ap (drop first) one ∙ drop-append-le first (take place leaves) (q ∷ []) (omega (arith, all)) in
+    let here : 0 + length part ≡ query = omega (arith, front) in
+    let there : first + length t.told ≡ place = omega (arith, t.long, front) in
+    subst (λ (qs : List Cube). IsTelling x first qs (text ++ leaf_line place b) (cond b status 0)) (sym more) (record {
       told = t.told ++ b ∷ [];
-      long = omega (arith, t.long, length-append t.told (b ∷ []), length-append (take place cubes) (q ∷ []));
+      long = omega (arith, t.long, length-append t.told (b ∷ []), length-append part (q ∷ []));
       are = λ F bytes written s.
-          told_more F bytes (written ++ x.lines.out.items) 0 (take place cubes) t.told q b (t.are F bytes written s)
+          told_more F bytes (written ++ x.lines.out.items) 0 part t.told q b (t.are F bytes written s)
           (subst (λ n. TellsLeaf F bytes (written ++ x.lines.out.items) n q b) (sym here) (tells F bytes written s));
-      text_is = ap (λ (o : List ℕ). o ++ leaf_line place b) t.text_is ∙ ap (λ n. told_text 0 t.told ++ leaf_line n b) (sym there) ∙ sym (text_more 0 t.told b);
+      text_is = ap (λ (o : List ℕ). o ++ leaf_line place b) t.text_is ∙ ap (λ n. told_text first t.told ++ leaf_line n b) (sym there) ∙ sym (text_more first t.told b);
       status_is = ap (λ (s : ℕ). cond b s 0) t.status_is ∙ closed_more t.told b;
     })
 
 -- the report of all leaves that were told
-pub reported : (l : LiftAll) (text : List ℕ) (status : ℕ) (r : Result Report AllocError) → IsTelling l.log l.tree text status
+pub reported : (l : LiftAll) (text : List ℕ) (status : ℕ) (r : Result Report AllocError) → IsTelling l.log l.block.first (part_of l.block.tree l.block.first l.block.end) text status
     → IfOk r (λ o. o.stdout.items ≡ text) → IfOk r (λ o. o.status ≡ status) → IfOk r (λ o. o.proof ≡ None)
-    → IfOk r (λ o. (F : Cnf) (cubes : List Cube) (bytes written : List ℕ) → LiftsAll F cubes bytes written l → PrintsAll F cubes bytes (written ++ l.log.lines.out.items) o)
-reported l text status (Ok o) t out code proof = λ F cubes bytes written h. record {
+    → IfOk r (λ o. (F : Cnf) (place : ℕ) (cubes : List Cube) (bytes written : List ℕ) → LiftsAll F place cubes bytes written l → PrintsAll F place cubes bytes (written ++ l.log.lines.out.items) o)
+reported l text status (Ok o) t out code proof = λ F place cubes bytes written h. record {
   told = t.told;
-  are = subst (λ (qs : List Cube). AreTold F bytes (written ++ l.log.lines.out.items) 0 qs t.told) h.tree (t.are F bytes written h.stands);
-  prints = record { status_is = code ∙ t.status_is; text_is = out ∙ t.text_is; no_proof = proof };
+  are = subst (λ (qs : List Cube). AreTold F bytes (written ++ l.log.lines.out.items) 0 qs t.told) h.holds (t.are F bytes written h.stands);
+  prints = record { status_is = code ∙ t.status_is; text_is = out ∙ t.text_is ∙ ap (λ n. told_text n t.told) h.from; no_proof = proof };
 }
 reported l text status (Err e) t out code proof = tt
+
+-- ---- where a text begins
+-- all leaves are those from the first place on
+pub whole_part : (leaves : List Cube) → part_of leaves 0 (length leaves) ≡ leaves
+whole_part leaves = take_all (length leaves) leaves (omega arith)

@@ -4,6 +4,7 @@
 //! refutation is a log over the formula that closes its leaf, and what is joined is one proof of the formula alone.
 #![tactic(auto)]
 
+mod block;
 mod closing;
 mod ending;
 mod join;
@@ -12,7 +13,6 @@ mod leaf;
 mod lifting;
 mod lines;
 mod looking;
-mod marking;
 mod notes;
 mod refuting;
 mod searching;

@@ -8,14 +8,13 @@ ghost use Rattle.dimacs.specs.logic.ClauseMap.{ClauseMap, live_in, map_of};
 ghost use Rattle.dimacs.specs.logic.Cnf.{Cnf};
 ghost use Rattle.dimacs.specs.logic.Literal.{Clause, IsWithin, negation, var_of};
 ghost use Rattle.dimacs.specs.logic.Propagation.{Rup};
-ghost use Rattle.leaves.specs.inner.Turns.{FollowsAll, HaveLines, IsAnswered, IsShort, Searched, Stands};
+ghost use Rattle.leaves.specs.inner.Turns.{IsAnswered, IsShort, Searched, Stands};
 ghost use Rattle.lrat_text.specs.Grammar.{IsClauseNumber};
-ghost use Rattle.lrat_text.specs.Runs.{after_steps, text_of};
+ghost use Rattle.lrat_text.specs.Runs.{after_steps};
 ghost use Rattle.lrat_text.specs.Writing.{line_of};
 ghost use Rattle.lrat_text.specs.declared.step.Step.{Step};
 ghost use Rattle.lrat_text.specs.declared.step.Step.TheVariants.{Add};
 
-use crate::marking::{follow_lines, unmarked};
 use cube_solve::{Answer, Failure, Session};
 use dimacs::{Assignment, Base, Lit};
 use lrat_text::{Groups, StepRef};
@@ -38,18 +37,12 @@ pub(crate) struct Searches<'a, P> {
     pub(crate) session: Session<'a, P>,
     /// One log over the formula.
     pub(crate) log: PackedText,
-    /// For each number so far whether a lemma has it that is live: what is deleted is tested.
-    pub(crate) live: Vec<bool>,
 }
 
 // By hand, so that whoever owns one drops it by one call, and no proof there goes through its parts.
 impl<P> Drop for Searches<'_, P> {
     fn drop(self) {
-        let Searches {
-            session: _,
-            log: _,
-            live: _,
-        } = self;
+        let Searches { session: _, log: _ } = self;
     }
 }
 
@@ -119,12 +112,9 @@ impl<'a, P: Propagator> Searches<'a, P> {
         ensures ready { IfOk result (λ s. IsReady P.is_ready P.attached s.session) }
         ensures stands { IfOk result (Stands base.now [] []) }
     {
-        let _vars = base.vars(); // with it comes the bound of the number of clauses
-        let count = base.len() + 1;
         Ok(Searches {
             session: Session::new(alloc, propagator, base)?,
             log: PackedText::new(alloc),
-            live: unmarked(alloc, count)?,
         })
     }
 
@@ -138,10 +128,8 @@ impl<'a, P: Propagator> Searches<'a, P> {
         ensures known { OnOk result ((given : List ℕ) (M : ClauseMap) → IsKnown given M self.old.session → IsKnown given M self.new.session) }
         ensures taken { OnOk result (log_of self.new.session ≡ []) }
         ensures log { OnOk result (self.new.log ≡ self.old.log ++ log_of self.old.session) }
-        ensures live { OnOk result ((top : ℕ) (steps : List Step) → log_of self.old.session ≡ text_of top steps → HaveLines top steps → FollowsAll steps self.old.live.items self.new.live.items) }
     {
         let lines = self.session.take_log();
-        follow_lines(alloc, &mut self.live, &lines)?;
         append(alloc, &mut self.log, &lines)
     }
 
@@ -174,7 +162,6 @@ impl<'a, P: Propagator> Searches<'a, P> {
         self.session.give(&clause)?;
         let id = self.session.last();
         put_lemma(alloc, &mut self.log, id, &clause, &failure.hints)?;
-        self.live.push(true)?;
         Ok(())
     }
 
@@ -207,11 +194,7 @@ impl<'a, P: Propagator> Searches<'a, P> {
     pub(crate) fn into_log(self) -> PackedText
         ensures { result ≡ self.entry.log }
     {
-        let Searches {
-            session: _,
-            log,
-            live: _,
-        } = self;
+        let Searches { session: _, log } = self;
         log
     }
 }

@@ -1,4 +1,4 @@
--- The grammar of LRAT proofs in binary form, as CaDiCaL 2.1.3 writes them and docs/LRAT.md tells. This is what is to be
+-- The grammar of LRAT proofs in binary form, as CaDiCaL 2.1.3 writes them and docs/FORMATS.md tells. This is what is to be
 -- believed of them; which fault bytes have that spell no steps stands in Reading.
 use Rattle.std.specs.Prelude.{◌≡◌, ℕ, ◌+◌, ◌*◌, ◌<◌, ◌≤◌, List, [], ◌∷◌, ◌++◌, map}
 use Rattle.std.specs.List.{flat_map}

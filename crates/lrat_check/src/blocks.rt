@@ -87,7 +87,7 @@ impl Blocks {
     pub(crate) fn is_small(&self)
         ensures { length self.now < 2 ^ 62 }
     {
-        let _len = self.len();
+        let _ = self.len();
     }
 
     /// The slot at a place, if there is one.

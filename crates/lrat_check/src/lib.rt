@@ -1,4 +1,4 @@
-//! The checker of LRAT proofs (Cruz-Filipe, Heule, Hunt, Kaufmann and Schneider-Kamp 2017), in the profile of docs/LRAT.md.
+//! The checker of LRAT proofs (Cruz-Filipe, Heule, Hunt, Kaufmann and Schneider-Kamp 2017), in the profile of docs/FORMATS.md.
 //!
 //! A proof that `check` takes is one that the definition `Accepts` of `lrat_text` accepts, and no assignment satisfies a
 //! formula with an accepted proof: `accepted_proofs_are_sound`. So nothing of the code here has to be believed, nor of what finds proofs.

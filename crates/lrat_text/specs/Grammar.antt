@@ -1,4 +1,4 @@
--- The grammar of LRAT lines (Cruz-Filipe, Heule, Hunt, Kaufmann and Schneider-Kamp 2017), in the profile of docs/LRAT.md.
+-- The grammar of LRAT lines (Cruz-Filipe, Heule, Hunt, Kaufmann and Schneider-Kamp 2017), in the profile of docs/FORMATS.md.
 -- This is what is to be believed of lines; which fault a line has that spells no step stands in Reading.
 use Rattle.std.specs.Prelude.{◌≡◌, ℕ, ◌-◌, ◌≤◌, ◌<◌, ◌^◌, ◌==◌, List, [], ◌∷◌, ◌++◌, length, slice_index, map, codes, decimal, Contains, All}
 use Rattle.std.specs.List.{slice_split, filter, flat_map}

@@ -63,7 +63,7 @@ fn unpack_part(out: &mut Vec<u8>, pairs: &Rope, from: usize, count: usize) -> Re
     requires inside { from + count ≤ length pairs.now }
     ensures { OnOk result (out.new.items ≡ out.old.items ++ flat_map byte_text (take count (drop from pairs.now))) }
 {
-    let _len = pairs.len(); // that places are numbers
+    let _ = pairs.len(); // that places are numbers
     let mut done = 0;
     while done < count {
         let part = pairs.part(from + done);

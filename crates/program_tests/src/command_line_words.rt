@@ -320,6 +320,7 @@ fn a_lift_of_a_leaf_or_of_all(rt: HostRuntime) {
         input: "f.cnf",
         cubes: "f.icnf",
         leaf: Some(1),
+        to: None,
         lidrup: false,
         proof: "l.lrat",
         fragment: "l.frag",
@@ -335,6 +336,7 @@ fn a_lift_of_a_leaf_or_of_all(rt: HostRuntime) {
         input: "f.cnf",
         cubes: "f.icnf",
         leaf: None,
+        to: None,
         lidrup: true,
         proof: "f.lidrup",
         fragment: "f.frag",
@@ -346,11 +348,28 @@ fn a_lift_of_a_leaf_or_of_all(rt: HostRuntime) {
         "satcluster lift --lidrup --binary --cubes f.icnf f.cnf f.lidrup f.frag",
         all,
     );
-    // The program refuses what names both, or neither.
+    let block = Request::Lift {
+        input: "f.cnf",
+        cubes: "f.icnf",
+        leaf: Some(7),
+        to: Some(9),
+        lidrup: true,
+        proof: "f.lidrup",
+        fragment: "f.frag",
+        binary: false,
+    };
+    asks(
+        &rt,
+        alloc,
+        "satcluster lift --lidrup --leaf 7 --to 9 --cubes f.icnf f.cnf f.lidrup f.frag",
+        block,
+    );
+    // The program refuses what names neither, or one end of a block alone.
     let both = Request::Lift {
         input: "f.cnf",
         cubes: "f.icnf",
         leaf: Some(7),
+        to: None,
         lidrup: true,
         proof: "f.lidrup",
         fragment: "f.frag",
@@ -546,6 +565,7 @@ const REFUSED: &[&'static str] = &[
     "satcluster lift --cubes f.icnf --leaf 1 f.cnf l.lrat",
     "satcluster lift --cubes f.icnf --lidrup f.cnf l.lidrup",
     "satcluster lift --cubes f.icnf --leaf 0 f.cnf l.lrat l.frag",
+    "satcluster lift --cubes f.icnf --lidrup --leaf 1 --to 0 f.cnf l.lidrup l.frag",
     "satcluster model f.cnf",
     "satcluster receipt --cubes f.icnf f.cnf l.frag",
     "satcluster receipt f.cnf l.frag l.receipt",

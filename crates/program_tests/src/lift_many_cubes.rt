@@ -37,6 +37,17 @@ const CLOSED: &[u8] = b"c leaf 1 closed\nc leaf 2 closed\nc leaf 3 closed\nc lea
 /// The same where two of them are still open.
 const HALF: &[u8] = b"c leaf 1 closed\nc leaf 2 closed\nc leaf 3 missing\nc leaf 4 missing\n";
 
+/// What it writes for the cubes 1 -4 and -1 2, the leaves 2 and 3, behind the lines of the clauses.
+const BLOCK: &[u8] = b"q -4 1 0\nl 23 -12 7 4 0 21 22 2 3 13 0\n\
+l 24 -1 4 0 6 8 23 4 15 16 2 3 19 0\ns UNSATISFIABLE\nu 1 -4 0 24 0\ni 26 4 -1 0\n\
+q 2 -1 0\nl 27 -10 -2 0 12 11 9 10 2 3 19 0\nl 28 -2 0 11 12 14 27 4 21 22 2 3 7 0\n\
+s UNSATISFIABLE\nu 2 0 28 0\ni 30 -2 0\n";
+
+/// The lines of the clauses, and those up to the second cube.
+const GIVEN: usize = 289;
+
+const FIRST: usize = 117;
+
 /// Three clauses of three variables.
 const OTHER: &[u8] = b"p cnf 3 3\n1 2 3 0\n-1 2 0\n-2 3 0\n";
 
@@ -192,15 +203,36 @@ fn is_told(rt: &impl Abort, alloc: Global, lift: &LiftAll, stdout: &[u8], status
     );
 }
 
+/// Takes a piece, and puts what it comes to behind a log.
+fn take(rt: &impl Abort, lift: &mut LiftAll, log: &mut Vec<u8>, piece: &[u8]) {
+    lift.feed(piece);
+    log.extend_from_slice(lift.written()).expect(rt, "memory");
+    lift.forget();
+}
+
 /// The text up to a byte tells this of the leaves, with this status, and its log is one over the pigeons.
 fn tells(rt: &impl Abort, alloc: Global, count: usize, stdout: &[u8], status: u8) {
     let mut log = Vec::new(alloc);
     let mut lift = LiftAll::of(alloc, split(rt, alloc)).expect(rt, "memory");
     for piece in front(count).chunks(13) {
-        lift.feed(piece);
-        log.extend_from_slice(lift.written()).expect(rt, "memory");
-        lift.forget();
+        take(rt, &mut lift, &mut log, piece);
     }
+    is_told(rt, alloc, &lift, stdout, status);
+    is_log(rt, alloc, &log);
+}
+
+/// The text for a block, up to a byte behind the clauses, tells this of the leaves from one number on, two of them at most; nothing if
+/// there are none.
+fn tells_block(rt: &impl Abort, alloc: Global, first: u64, last: u64, row: (usize, &[u8], u8)) {
+    let mut log = Vec::new(alloc);
+    let (count, stdout, status) = row;
+    let begun = LiftAll::block(alloc, split(rt, alloc), first, last).expect(rt, "memory");
+    let Some(mut lift) = begun else {
+        assert_eq!(rt; status, 1);
+        return;
+    };
+    take(rt, &mut lift, &mut log, front(GIVEN));
+    take(rt, &mut lift, &mut log, BLOCK.get(..count).unwrap_or(BLOCK));
     is_told(rt, alloc, &lift, stdout, status);
     is_log(rt, alloc, &log);
 }
@@ -209,4 +241,22 @@ fn tells(rt: &impl Abort, alloc: Global, count: usize, stdout: &[u8], status: u8
 fn it_is_told_which_leaves_are_closed(rt: HostRuntime) {
     tells(&rt, rt.alloc(), PROOF.len(), CLOSED, 20);
     tells(&rt, rt.alloc(), OPEN, HALF, 0);
+}
+
+/// Blocks of leaves, and what is told of each: the bytes of the text, the lines, the status.
+const BLOCKS: &[(u64, u64, (usize, &'static [u8], u8))] = &[
+    (2, 3, (1000, b"c leaf 2 closed\nc leaf 3 closed\n", 20)),
+    (2, 3, (FIRST, b"c leaf 2 closed\nc leaf 3 missing\n", 0)),
+    (2, 2, (1000, b"c leaf 2 closed\n", 20)),
+    (1, 2, (1000, b"c leaf 1 missing\nc leaf 2 missing\n", 0)),
+    (0, 2, (1000, b"", 1)),
+    (3, 2, (1000, b"", 1)),
+    (3, 5, (1000, b"", 1)),
+];
+
+#[test]
+fn it_is_told_which_leaves_of_a_block_are_closed(rt: HostRuntime) {
+    for (first, last, row) in BLOCKS {
+        tells_block(&rt, rt.alloc(), *first, *last, *row);
+    }
 }

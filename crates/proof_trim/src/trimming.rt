@@ -96,7 +96,7 @@ pub fn trim(
 ) -> Result<PackedText, AllocError>
     ensures { IfOk result (λ text. Trims base.now cube.now most fragment text) }
 {
-    let _vars = base.vars(); // with it comes the bound of the number of clauses
+    let _ = base.vars(); // with it comes the bound of the number of clauses
     let short = match shorter(alloc, base.len() as u64, &fragment) {
         Ok(short) => short,
         Err(TextFault::NoMemory) => return Err(AllocError),

@@ -8,7 +8,6 @@ mod accepting;
 mod complete;
 mod drafts;
 mod explain;
-mod explain_words;
 mod files;
 mod leaf_runs;
 mod linked_runs;
@@ -18,9 +17,9 @@ mod showing;
 mod standard_input;
 
 use commands::{
-    CoverFiles, JoinFiles, JoinOptions, LiftFiles, ReceiptFiles, Target, TrimFiles, check_files,
-    check_session_files, cover_files, deliver, join_files, leaf_files, lift_files, receipt_files,
-    refused, split_by_look_files, split_files, test_files, trim_files,
+    CoverFiles, JoinFiles, JoinOptions, LiftFiles, Lifted, ReceiptFiles, Target, TrimFiles,
+    check_files, check_session_files, cover_files, deliver, join_files, leaf_files, lift_files,
+    receipt_files, refused, split_by_look_files, split_files, test_files, trim_files,
 };
 use complete::complete;
 use explain::explain;
@@ -62,11 +61,15 @@ fn drill<R: Runtime + AllocGlobal>(
     node_main::drill(rt.alloc(), input.as_slice(), seed, turns).map_err(no_memory)
 }
 
-/// The leaf whose proof is lifted, or none where a text for all leaves is; the words name one of both.
-fn lifted_leaf(leaf: Option<u32>, lidrup: bool) -> Result<Option<u64>, Refusal> {
-    match (leaf, lidrup) {
-        (Some(leaf), false) => Ok(Some(u64::from(leaf))),
-        (None, true) => Ok(None),
+/// What is lifted: the words name a leaf, a text for all leaves, or one for a block of them.
+fn lifted_of(leaf: Option<u32>, to: Option<u32>, lidrup: bool) -> Result<Lifted, Refusal> {
+    match (leaf, to, lidrup) {
+        (Some(leaf), None, false) => Ok(Lifted::Leaf(u64::from(leaf))),
+        (None, None, true) => Ok(Lifted::All),
+        (Some(first), Some(last), true) => Ok(Lifted::Block {
+            first: u64::from(first),
+            last: u64::from(last),
+        }),
         _ => Err(Refusal::Usage),
     }
 }
@@ -209,6 +212,7 @@ fn answer<R: Runtime + AllocGlobal + Net>(
             input,
             cubes,
             leaf,
+            to,
             lidrup,
             proof,
             fragment,
@@ -224,7 +228,7 @@ fn answer<R: Runtime + AllocGlobal + Net>(
                 proof,
                 log,
             };
-            lift_files(&mut Machine { rt }, &files, lifted_leaf(leaf, lidrup)?)
+            lift_files(&mut Machine { rt }, &files, lifted_of(leaf, to, lidrup)?)
         }
         Request::Model { input, output } => test_files(&Machine { rt }, input, output),
         Request::Trim {

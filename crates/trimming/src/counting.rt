@@ -20,7 +20,7 @@ pub(crate) fn count_lemmas(alloc: Global, text: &PackedText) -> Result<u64, Allo
 {
     let mut lines = 0usize;
     let mut deletions = 0usize;
-    let _len = text.len(); // with it comes the bound of both counts
+    let _ = text.len(); // with it comes the bound of both counts
     let mut blocks = Blocks::of(alloc, text);
     while let Some(block) = blocks.next()? {
         lines += count(&block, b'\n');

@@ -50,6 +50,10 @@ pub trait Propagator {
         ensures ready { (t : TrailValue) → is_ready self.old arena.now t → is_ready self.new arena.now t }
         ensures attached { AreWithout (attached self.old) at.number (attached self.new) };
 
+    /// Gives back the room of all that was attached. It takes no memory, and waits for `reserve` from then on.
+    fn release(&mut self)
+        ensures { attached self.new ≡ [] };
+
     /// Follows the clauses that moved: `moves` is what `compact` told. It takes no memory.
     fn moved(&mut self, moves: &[(Ref, Ref)])
         ensures ready { (m k : Clauses) (t : TrailValue) → IsCompacted m k moves.now → is_ready self.old m t → is_ready self.new k t }

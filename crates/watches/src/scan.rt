@@ -106,6 +106,11 @@ impl Propagator for Scan {
         self.clauses.retain(|a| a.number() != number);
     }
 
+    fn release(&mut self) {
+        let alloc = *self.clauses.allocator();
+        *self = Scan::new(alloc);
+    }
+
     fn moved(&mut self, moves: &[(Ref, Ref)]) {
         follow_all(&mut self.clauses, moves);
     }

@@ -141,6 +141,11 @@ impl Propagator for Watched {
         }
     }
 
+    fn release(&mut self) {
+        let alloc = *self.chains.places.allocator();
+        *self = Watched::new(alloc);
+    }
+
     fn moved(&mut self, moves: &[(Ref, Ref)]) {
         follow_all(&mut self.chains.clauses, moves);
     }

@@ -15,8 +15,8 @@ use word_rules::{CommandRules, Found, Need, Word};
 /// The words.
 static RULES: CommandRules<'static> = CommandRules {
     name: "lift",
-    about: "Makes a fragment of INPUT of a proof of the formula of a leaf, or of a text for all leaves",
-    after_help: "Status: 0 the fragment is written, 20 it closes all leaves, 1 it is not written, or an error",
+    about: "Makes a fragment of INPUT of a proof of the formula of a leaf, or of a text for leaves",
+    after_help: "Status: 0 the fragment is written, 20 it closes all these leaves, 1 it is not written, or an error",
     words: &[
         CUBES,
         Word::Number {
@@ -26,9 +26,16 @@ static RULES: CommandRules<'static> = CommandRules {
             need: Need::Optional,
             help: "The leaf, by the number of its cube in that file, from 1 to 4294967295: PROOF is one of its formula",
         },
+        Word::Number {
+            name: "to",
+            low: 1,
+            high: LAST_LEAF,
+            need: Need::Optional,
+            help: "With --lidrup and --leaf: PROOF is a text for the leaves up to this one, from 1 to 4294967295",
+        },
         Word::LongFlag {
             name: "lidrup",
-            help: "In place of a leaf: PROOF is a LIDRUP text for all of them",
+            help: "PROOF is a LIDRUP text for all leaves, or for those that are named",
         },
         BINARY,
         INPUT,
@@ -61,12 +68,14 @@ pub(crate) fn asked<'a>(given: &Found<'a>) -> Option<Request<'a>>
     let input = file_of(given, "INPUT")?;
     let cubes = file_of(given, "cubes")?;
     let leaf = leaf_or_none(given, "leaf")?;
+    let to = leaf_or_none(given, "to")?;
     let proof = file_of(given, "PROOF")?;
     let fragment = file_of(given, "FRAGMENT")?;
     Some(Request::Lift {
         input,
         cubes,
         leaf,
+        to,
         lidrup: is_given(given, "lidrup"),
         proof,
         fragment,

@@ -53,10 +53,10 @@ module _ {B P : Type 0} where
     pub out : has (last_proof moments) moments
     pub status : x.status ≡ last_status answers
 
-  -- the session goes on, or nobody reads any more
-  abbrev pub IsPaused : Option (List ℕ) → (B → Option (List ℕ)) → (List ℕ → List Moment → Type 0) → Bool → Run B → Session P → Type 0
-  IsPaused all remaining has true x s = IsRunning all remaining has None x s
-  IsPaused all remaining has false x s = IsLeftOf all has x.asking
+  -- the session goes on, or nobody reads any more, and then `unheard` holds
+  abbrev pub IsPaused : Option (List ℕ) → (B → Option (List ℕ)) → (List ℕ → List Moment → Type 0) → Type 0 → Bool → Run B → Session P → Type 0
+  IsPaused all remaining has unheard true x s = IsRunning all remaining has None x s
+  IsPaused all remaining has unheard false x s = unheard × IsLeftOf all has x.asking
 
   -- all events were answered that come before this fault, or before the end
   pub record IsAtEnd (has : List ℕ → List Moment → Type 0) (fault : Option IcnfFault) (x : Run B) (s : Session P) (text : List ℕ) : Type 0 where
@@ -70,13 +70,13 @@ module _ {B P : Type 0} where
     pub status : x.status ≡ last_status answers
 
   -- what is so where no further line is taken
-  abbrev pub CanRun : Option (List ℕ) → (B → Option (List ℕ)) → (List ℕ → List Moment → Type 0) → Pause → Run B → Session P → Type 0
-  CanRun all remaining has (pause.Outgrown says) x s = IsRunning all remaining has (event_of says x.events.lines.read.literals) x s
-  CanRun all remaining has (pause.Ended fault) x s = Of all (IsAtEnd has fault x s)
-  CanRun all remaining has pause.Unheard x s = IsLeftOf all has x.asking
+  abbrev pub CanRun : Option (List ℕ) → (B → Option (List ℕ)) → (List ℕ → List Moment → Type 0) → Type 0 → Pause → Run B → Session P → Type 0
+  CanRun all remaining has unheard (pause.Outgrown says) x s = IsRunning all remaining has (event_of says x.events.lines.read.literals) x s
+  CanRun all remaining has unheard (pause.Ended fault) x s = Of all (IsAtEnd has fault x s)
+  CanRun all remaining has unheard pause.Unheard x s = unheard × IsLeftOf all has x.asking
 
 -- ---- the end
--- all events were answered, and the first fault is this one, or none; or nobody read any more
-abbrev pub EndsSo : Option (List ℕ) → (List ℕ → List Moment → Type 0) → Asking → ℕ → Ended → Type 0
-EndsSo all has o status (ended.Whole fault) = Of all (λ text. ((heard text).fault ≡ fault) × AllAnswered has o (heard text) status)
-EndsSo all has o status ended.Unheard = IsLeftOf all has o
+-- all events were answered, and the first fault is this one, or none; or nobody read any more, and then `unheard` holds
+abbrev pub EndsSo : Option (List ℕ) → (List ℕ → List Moment → Type 0) → Type 0 → Asking → ℕ → Ended → Type 0
+EndsSo all has unheard o status (ended.Whole fault) = Of all (λ text. ((heard text).fault ≡ fault) × AllAnswered has o (heard text) status)
+EndsSo all has unheard o status ended.Unheard = unheard × IsLeftOf all has o

@@ -47,15 +47,15 @@ abbrev pub EndsLeaf : LeafLift → Ending → Type 0
 EndsLeaf l (Kept rest r) = ((F : Cnf) (q : Cube) (proof written : List ℕ) → LiftsSo F q proof written l → Closes F q (written ++ rest.items)) × Prints 0 (lifted_text l.leaf) r
 EndsLeaf l (Dropped r) = (F : Cnf) (q : Cube) (proof written : List ℕ) → LiftsSo F q proof written l → IsRefused F q proof r
 
--- ---- a text for all leaves
+-- ---- a text for several leaves
 abbrev pub each_moves : LiftAll → LiftAll → List ℕ → List ℕ → Type 0
-each_moves old new bytes out = (F : Cnf) (cubes : List Cube) → Moves (LiftsAll F cubes) old new bytes out
+each_moves old new bytes out = (F : Cnf) (place : ℕ) (cubes : List Cube) → Moves (LiftsAll F place cubes) old new bytes out
 
 pub each_nothing : (s : LiftAll) → each_moves s s [] []
-each_nothing s = λ F cubes. moves_nothing (LiftsAll F cubes) s
+each_nothing s = λ F place cubes. moves_nothing (LiftsAll F place cubes) s
 
 pub each_more : (a b c : LiftAll) (xs ys us vs : List ℕ) → each_moves a b xs us → each_moves b c ys vs → each_moves a c (xs ++ ys) (us ++ vs)
-each_more a b c xs ys us vs h k = λ F cubes. moves_more (LiftsAll F cubes) a b c xs ys us vs (h F cubes) (k F cubes)
+each_more a b c xs ys us vs h k = λ F place cubes. moves_more (LiftsAll F place cubes) a b c xs ys us vs (h F place cubes) (k F place cubes)
 
 -- the text has this fault first
 pub record IsFaulty (F : Cnf) (text : List ℕ) (r : Report) : Type 0 where
@@ -64,6 +64,6 @@ pub record IsFaulty (F : Cnf) (text : List ℕ) (r : Report) : Type 0 where
   pub prints : Prints 1 (fault_lines false fault) r
 
 abbrev pub EndsEach : LiftAll → Ending → Type 0
-EndsEach l (Kept rest r) = (F : Cnf) (cubes : List Cube) (text written : List ℕ) → LiftsAll F cubes text written l
-    → ComesTo F text (written ++ rest.items) (state_of l.log.lines.known) × PrintsAll F cubes text (written ++ rest.items) r
-EndsEach l (Dropped r) = (F : Cnf) (cubes : List Cube) (text written : List ℕ) → LiftsAll F cubes text written l → IsFaulty F text r
+EndsEach l (Kept rest r) = (F : Cnf) (place : ℕ) (cubes : List Cube) (text written : List ℕ) → LiftsAll F place cubes text written l
+    → ComesTo F text (written ++ rest.items) (state_of l.log.lines.known) × PrintsAll F place cubes text (written ++ rest.items) r
+EndsEach l (Dropped r) = (F : Cnf) (place : ℕ) (cubes : List Cube) (text written : List ℕ) → LiftsAll F place cubes text written l → IsFaulty F text r

@@ -55,6 +55,7 @@ MayForget first old new before text = (AreLess old [] new × (text ≡ before)) 
 -- of the lemmas before some went out, and one line tells it, which begins with this number; or none did
 pub record Drops (top : ℕ) (lemmas after : List ℕ) (old new : Live) (before text : List ℕ) : Type 0 where
   pub ids : List ℕ
+  pub rising : AreRising ids
   pub among : All (Contains lemmas) ids
   pub kept : All (Contains lemmas) after
   pub less : AreLess old ids new

@@ -1,7 +1,6 @@
 -- Searches under leaves in turn, from one to the next.
-use Rattle.std.specs.Prelude.{◌≡◌, ℕ, ◌+◌, ◌<◌, ◌≤◌, Bool, true, false, ◌&&◌, List, [], ◌∷◌, ◌++◌, Option, Some, None, IsSome, length, slice_index_or, slice_set, All, Contains}
+use Rattle.std.specs.Prelude.{◌≡◌, ℕ, ◌+◌, ◌<◌, ◌≤◌, Bool, true, false, ◌&&◌, List, [], ◌∷◌, ◌++◌, Option, Some, None, length, All, Contains}
 use Rattle.std.specs.List.{list_all}
-use Rattle.std.specs.FinMap.{get}
 use Rattle.cube_solve.specs.Outcome.{IsModel}
 use Rattle.cube_solve.specs.Session.{AreGiven, last_of, log_of, vars_of}
 use Rattle.cube_solve.specs.Telling.{IsFailure, IsKnown}
@@ -20,48 +19,10 @@ use Rattle.leaves.specs.declared.searching.Found.{Found}
 use Rattle.leaves.specs.declared.searching.Found.TheVariants as found
 use Rattle.leaves.specs.declared.searching.Searches.{Searches}
 use Rattle.leaves.specs.declared.turns.Turns.{Turns}
-use Rattle.lrat_text.specs.Grammar.{IsClauseNumber, IsStep, LineSpells}
-use Rattle.lrat_text.specs.Log.{IsLog, additions, top_after}
-use Rattle.lrat_text.specs.Runs.{after_steps, text_of, top_of}
+use Rattle.lrat_text.specs.Grammar.{IsClauseNumber, LineSpells}
+use Rattle.lrat_text.specs.Log.{IsLog, additions}
+use Rattle.lrat_text.specs.Runs.{after_steps, top_of}
 use Rattle.lrat_text.specs.declared.step.Step.{Step}
-use Rattle.lrat_text.specs.declared.step.Step.TheVariants.{Add, Delete}
-
--- ---- which lemmas are live
--- for each number so far whether a lemma has it that is live, behind a formula of m clauses
-pub record AreMarked (m : ℕ) (M : ClauseMap) (top : ℕ) (marks : List Bool) : Type 0 where
-  pub count : length marks ≡ top + 1
-  pub marked : (id : ℕ) → slice_index_or marks id false ≡ true → (m < id) × IsSome (get M id)
-
--- numbers lose their marks; each had one by then
-abbrev pub Unmarks : List ℕ → List Bool → List Bool → Type 0
-Unmarks [] old new = new ≡ old
-Unmarks (id ∷ ids) old new = (slice_index_or old id false ≡ true) × Unmarks ids (slice_set old id false) new
-
--- the marks follow a step
-abbrev pub Follows : Step → List Bool → List Bool → Type 0
-Follows (Add id lits hints groups) old new = new ≡ old ++ true ∷ []
-Follows (Delete ids) old new = Unmarks ids old new
-
-abbrev pub FollowsAll : List Step → List Bool → List Bool → Type 0
-FollowsAll [] old new = new ≡ old
-FollowsAll (step ∷ steps) old new = (mid : List Bool) × Follows step old mid × FollowsAll steps mid new
-
--- the line of a step can be written, behind this number
-abbrev pub HasLine : ℕ → Step → Type 0
-HasLine top (Add id lits hints groups) = IsStep (Add id lits hints groups)
-HasLine top (Delete ids) = IsClauseNumber top × IsStep (Delete ids)
-
-abbrev pub HaveLines : ℕ → List Step → Type 0
-HaveLines top [] = Unit {0}
-HaveLines top (step ∷ steps) = HasLine top step × HaveLines (top_after top step) steps
-
--- the lines that are left are those of steps, and whatever these come to from here, all come to from the beginning
-pub record IsFollowing (steps : List Step) (old now : List Bool) (left : List ℕ) : Type 0 where
-  pub top : ℕ
-  pub rest : List Step
-  pub left_is : left ≡ text_of top rest
-  pub lines : HaveLines top rest
-  pub on : (new : List Bool) → FollowsAll rest now new → FollowsAll steps old new
 
 -- ---- leaves that are closed
 -- one of the clauses closes the leaf, if it is told closed
@@ -76,8 +37,8 @@ AreClosedBy leaves closing n (e ∷ endings) = IsClosedBy (leaf_at leaves n) clo
 
 -- ---- a session and its log
 module _ {P : Type 0} where
-  -- these steps over the formula are in the log; what is live behind them is known of the session and marked, and each of these clauses is a
-  -- lemma that stays
+  -- these steps over the formula are in the log; what is live behind them is known of the session, to which the formula's clauses were given,
+  -- and each of these clauses is a lemma that stays
   pub record Stands (F : Cnf) (closing : List Clause) (steps : List Step) (s : Searches P) : Type 0 where
     pub given : List ℕ
     pub vars : vars_of s.session ≡ F.vars
@@ -87,7 +48,7 @@ module _ {P : Type 0} where
     pub taken : log_of s.session ≡ []
     pub known : IsKnown given (after_steps (map_of F) steps) s.session
     pub held : AreGiven (F.clauses ++ closing) s.session
-    pub marked : AreMarked (length F.clauses) (after_steps (map_of F) steps) (last_of s.session) s.live.items
+    pub first : (n : ℕ) → 0 < n → n ≤ length F.clauses → Contains given n
     pub lives : (C : Clause) → Contains closing C → (id : ℕ) × Contains given id × (length F.clauses < id) × live_in (after_steps (map_of F) steps) id C
 
 -- the core of an answer and its hints are within the limits of a line

@@ -17,7 +17,7 @@ returns-in_err-ended-clause-left g c = λ out.
 pub returns-clause-session : goal.returns-clause-session
 returns-clause-session g c = λ out.
     let all = g.B.Read.remaining c.args.source in
-    ends_so all (g.O.Outputs.has c.go_on.new.outputs) c.args.asking c.go_on.new.self.status c.in_ok-ended.ended c.report_of.result
+    ends_so all (g.O.Outputs.has c.go_on.new.outputs) (g.O.Outputs.unheard c.go_on.new.outputs) c.args.asking c.go_on.new.self.status c.in_ok-ended.ended c.report_of.result
     (c.in_ok-ended.ensures.goes all
     (running_at_start all g.B.Read.remaining (g.O.Outputs.has c.args.outputs.now) (record { asking = c.args.asking; events = c.of.result; status = 0; text = c.new.result }) c.in-Ok.session c.of.ensures
     c.in-Ok.ensures.stands refl out))
@@ -27,7 +27,7 @@ pub returns-clause-left : goal.returns-clause-left
 returns-clause-left g c = λ out.
     let all = g.B.Read.remaining c.args.source in
     on_err _ _
-    (left_of_end all (g.O.Outputs.has c.go_on.new.outputs) c.args.asking c.go_on.new.self.status c.in_ok-ended.ended
+    (left_of_end all (g.O.Outputs.has c.go_on.new.outputs) (g.O.Outputs.unheard c.go_on.new.outputs) c.args.asking c.go_on.new.self.status c.in_ok-ended.ended
     (c.in_ok-ended.ensures.goes all
     (running_at_start all g.B.Read.remaining (g.O.Outputs.has c.args.outputs.now) (record { asking = c.args.asking; events = c.of.result; status = 0; text = c.new.result }) c.in-Ok.session c.of.ensures
     c.in-Ok.ensures.stands refl out)))

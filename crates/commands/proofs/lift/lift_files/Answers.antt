@@ -18,7 +18,7 @@ returns-in-With-clause-lifts g c =
     let holds : List ℕ → Option (List ℕ) = g.D.Disk.holds old in
     let s = c.in-With.split in
     let Told : Report → Cnf → List Cube → Type 0 = λ r F tree. Of (holds files.proof.now)
-    (λ proof. LiftsTree (Keeps g.D.Drafts.kept old new files.log.binary files.log.path.now) (new ≡ old) F tree c.args.leaf proof r) in
+    (λ proof. LiftsTree (Keeps g.D.Drafts.kept old new files.log.binary files.log.path.now) (new ≡ old) F tree c.args.lifted proof r) in
     IfOk-weaker c.lift_tree.result (λ r. Told r s.formula s.tree)
     (λ r. Of (holds files.input.now) (λ text. Of (holds files.cubes.now) (λ lines. OfTree text lines (Told r) r)))
     (λ r h. of_tree (Told r) r (holds files.input.now) (holds files.cubes.now) c.in_ok-begun.begun s c.in-With.is h c.in_ok-begun.ensures.begins) c.lift_tree.ensures.lifts
@@ -30,5 +30,5 @@ returns-in-Refused-clause-lifts g c =
     let holds : List ℕ → Option (List ℕ) = g.D.Disk.holds old in
     let r = c.in-Refused.report in
     let Told : Cnf → List Cube → Type 0 = λ F tree. Of (holds files.proof.now)
-    (λ proof. LiftsTree (Keeps g.D.Drafts.kept old old files.log.binary files.log.path.now) (old ≡ old) F tree c.args.leaf proof r) in
+    (λ proof. LiftsTree (Keeps g.D.Drafts.kept old old files.log.binary files.log.path.now) (old ≡ old) F tree c.args.lifted proof r) in
     of_refused Told r (holds files.input.now) (holds files.cubes.now) c.in_ok-begun.begun c.in-Refused.is c.in_ok-begun.ensures.begins

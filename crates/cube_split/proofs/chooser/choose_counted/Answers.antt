@@ -6,7 +6,7 @@ use Rattle.cube_split.proofs.chooser.choose_counted.Goals as goal
 pub returns-clause-choice : goal.returns-clause-choice
 returns-clause-choice c = λ S marked.
     let tables : AreTables c.args.formula.now S c.args.marks.now c.count_clauses.new.self.counts.items = record {
-      within = c.vars-vars.ensures.valid.within;
+      within = c.vars.ensures.valid.within;
       size = omega (arith, c.requires.size, c.count_clauses.ensures.size);
       room = omega (arith, c.requires.vars, c.count_clauses.ensures.size);
       marked = marked;

@@ -16,6 +16,6 @@ returns-in_err-hand_out-clause-left g c = λ all r.
 
 pub returns-clause-goes : goal.returns-clause-goes
 returns-clause-goes g c = λ all r.
-    query_goes all g.B.Read.remaining g.O.Outputs.has c.args.outputs.now c.hand_out.new.outputs c.print.new.self c.args.self.now.events.lines.read.literals c.literals.result.now c.in-Ok.answer
+    query_goes all g.B.Read.remaining g.O.Outputs.has g.O.Outputs.unheard c.args.outputs.now c.hand_out.new.outputs c.print.new.self c.args.self.now.events.lines.read.literals c.literals.result.now c.in-Ok.answer
     c.print.result c.deref.result.now c.args.self.now _ c.args.session.now c.answer.new.self c.hand_out.new.session r c.literals.ensures refl refl c.status_of-self.ensures c.requires.within c.requires.literals
-    c.in-Ok.ensures.stands c.in-Ok.ensures.right c.in-Ok.ensures.unknown c.in-Ok.ensures.grows (printed_is _ _ _ _ _ _ _ c.deref.ensures.value c.in-Ok-put_answer.ensures c.clear.ensures.items c.greatest-vars.ensures.value) c.in_ok-hand_out.ensures.written c.print.ensures.printed c.print.ensures.some
+    c.in-Ok.ensures.stands c.in-Ok.ensures.right c.in-Ok.ensures.unknown c.in-Ok.ensures.grows (printed_is _ _ _ _ _ _ _ c.deref.ensures.value c.in-Ok-put_answer.ensures c.clear.ensures.items c.greatest-vars.ensures.value) c.in_ok-hand_out.ensures.written c.print.ensures.printed c.print.ensures.some c.print.ensures.unheard

@@ -3,4 +3,4 @@ use Rattle.commands.proofs.lift.LiftAllPours.hand_out.Goals as goal
 use Rattle.leaves.specs.Closing.{LiftsAll}
 
 pub returns : goal.returns
-returns c = λ F cubes. moves_out (LiftsAll F cubes) c.args.self.now _ _ (λ before written h. c.forget.ensures.stands F cubes before written h)
+returns c = λ F place cubes. moves_out (LiftsAll F place cubes) c.args.self.now _ _ (λ before written h. c.forget.ensures.stands F place cubes before written h)

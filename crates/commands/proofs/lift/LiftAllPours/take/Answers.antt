@@ -3,4 +3,4 @@ use Rattle.commands.proofs.lift.LiftAllPours.take.Goals as goal
 use Rattle.leaves.specs.Closing.{LiftsAll}
 
 pub returns-clause-taken : goal.returns-clause-taken
-returns-clause-taken c = λ F cubes. moves_taken (LiftsAll F cubes) c.args.self.now _ c.args.piece.now (λ before written h. c.feed.ensures F cubes before written h)
+returns-clause-taken c = λ F place cubes. moves_taken (LiftsAll F place cubes) c.args.self.now _ c.args.piece.now (λ before written h. c.feed.ensures F place cubes before written h)

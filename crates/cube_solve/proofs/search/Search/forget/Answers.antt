@@ -8,7 +8,7 @@ use Rattle.lrat_text.specs.Grammar.{IsClauseNumber}
 use Rattle.lrat_text.specs.Writing.{line_of}
 use Rattle.lrat_text.specs.declared.step.Step.TheVariants.{Delete}
 use Rattle.cube_solve.specs.inner.Forgetting.{AreLess}
-use Rattle.cube_solve.proofs.ForgettingLemmas.{less_none, less_same, lemmas_among, lemmas_kept, lemmas_moved, numbers_limits}
+use Rattle.cube_solve.proofs.ForgettingLemmas.{none_rising, less_none, less_same, lemmas_among, lemmas_kept, lemmas_moved, numbers_limits}
 use Rattle.cube_solve.proofs.search.Search.forget.Goals as goal
 
 -- each entry of a list stands in it
@@ -18,6 +18,7 @@ all_there xs i d l = Contains-get_or xs i d l
 pub returns-then-is_empty-clause-drops : goal.returns-then-is_empty-clause-drops
 returns-then-is_empty-clause-drops g c = record {
   ids = [];
+  rising = none_rising;
   among = All-nil _;
   kept = all_there c.args.self.now.lemmas.items;
   less = less_none (live_of c.args.self.now.state.arena);
@@ -56,6 +57,7 @@ pub returns-clause-drops : goal.returns-clause-drops
 returns-clause-drops g c = on_ok_weaker c.close_gaps.result
     (λ less. record {
       ids = c.in_ok-gone.gone.items;
+      rising = c.in_ok-gone.ensures.rising;
       among = subst (λ (xs : List ℕ). All (Contains xs) c.in_ok-gone.gone.items) c.deref.ensures.value c.in_ok-gone.ensures.among;
       kept = subst (All (Contains c.args.self.now.lemmas.items)) (sym c.keep_live.ensures) (All-filter _ (Contains c.args.self.now.lemmas.items) c.args.self.now.lemmas.items (all_there c.args.self.now.lemmas.items));
       less = less_same (live_of c.args.self.now.state.arena) (live_of c.take_out_all.new.arena) (live_of c.close_gaps.new.arena) c.in_ok-gone.gone.items

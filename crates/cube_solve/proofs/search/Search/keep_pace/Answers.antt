@@ -3,7 +3,7 @@ use Rattle.std.proofs.lemmas.List.Elements.{All-nil, Contains-get_or}
 use Rattle.clause_arena.specs.Clauses.{Clauses, live_of}
 use Rattle.cube_solve.specs.inner.Forgetting.{AreLemmas, AreLess}
 use Rattle.cube_solve.specs.inner.Learning.{AreBelow}
-use Rattle.cube_solve.proofs.ForgettingLemmas.{less_none}
+use Rattle.cube_solve.proofs.ForgettingLemmas.{less_none, none_rising}
 use Rattle.cube_solve.proofs.search.Search.keep_pace.Goals as goal
 
 pub go_back-requires : goal.go_back-requires
@@ -19,6 +19,7 @@ returns-then-len-most-clause-drops g c =
     let old = live_of c.args.self.now.state.arena in
     record {
       ids = [];
+      rising = none_rising;
       among = All-nil _;
       kept = λ i d l. Contains-get_or c.args.self.now.lemmas.items i d l;
       less = subst (λ (m : Clauses). AreLess old [] (live_of m)) (sym c.follow.ensures.arena) (less_none old);

@@ -106,7 +106,11 @@ returns-clause-tells g c =
     let e = c.in_ok-learn.ensures in
     let mid = record s { search = c.learn.new.self; top = c.in_ok-id.id } in
     let new = record s { search = c.keep_pace.new.self; top = c.in_ok-id.id } in
-    tells_on s mid new (tells_learnt s mid s.search.state.trail.vars c.in_ok-id.ensures.next (c.requires.ready).below e.lemmas e.learns) (tells_dropped mid new c.in_ok-id.ensures.number refl c.in_ok-keep_pace.ensures.drops)
+    let old = live_of s.search.state.arena in
+    let id = c.in_ok-id.id in
+    let below : AreBelow id old = subst (λ (n : ℕ). AreBelow n old) (sym c.in_ok-id.ensures.next) (c.requires.ready).below in
+    let held = lemmas_more 0 id old (live_of c.learn.new.self.state.arena) (e.learns).lits s.search.lemmas.items c.learn.new.self.lemmas.items e.lemmas (omega arith) below (e.learns).added (c.requires.ready).lemmas in
+    tells_on s mid new (tells_learnt s mid s.search.state.trail.vars c.in_ok-id.ensures.next (c.requires.ready).below e.lemmas e.learns) (tells_dropped mid new c.in_ok-id.ensures.number refl held c.in_ok-keep_pace.ensures.drops)
 
 pub returns-then-not-branch-clause-tells : goal.returns-then-not-branch-clause-tells
 returns-then-not-branch-clause-tells g c =

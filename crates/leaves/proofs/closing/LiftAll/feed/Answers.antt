@@ -1,4 +1,4 @@
 use Rattle.leaves.proofs.closing.LiftAll.feed.Goals as goal
 
 pub returns : goal.returns
-returns c = λ F cubes bytes written h. record { tree = h.tree; stands = c.feed.ensures F bytes written h.stands }
+returns c = λ F place cubes bytes written h. record { from = h.from; holds = h.holds; stands = c.feed.ensures F bytes written h.stands }

@@ -1,0 +1,120 @@
+//! What a fault means, where it is, and what to do.
+
+use crate::explain::paths::{Paths, faulty};
+use crate::explain::sentence::{name_of, tell, tell_of};
+use crate::explain::view::{View, view_of};
+use explanations::{Fault, File, Subject, Unit, fault, in_command, look_of, shown};
+use std::alloc::Global;
+use std::rt::Runtime;
+use std::str::from_utf8;
+
+/// So many bytes of a line are told.
+const WIDTH: usize = 60;
+
+/// Tells a line, if it is a text and not empty; a long one is cut.
+fn tell_line<R: Runtime>(rt: &R, line: &[u8]) {
+    let is_cut = line.len() > WIDTH;
+    let text = &line[..WIDTH.min(line.len())];
+    let is_text = text.iter().all(|byte| *byte >= b' ' && *byte < 127);
+    if !is_text || text.is_empty() {
+        return;
+    }
+    let (Ok(text), false) = (from_utf8(text), is_cut) else {
+        if let Ok(text) = from_utf8(text) {
+            let _ = eprintln!(rt; "c The line begins: {text}");
+        }
+        return;
+    };
+    let _ = eprintln!(rt; "c The line is: {text}");
+}
+
+/// Whether a token is a number.
+fn is_number(token: &str) -> bool {
+    let digits = match token.strip_prefix('-') {
+        Some(digits) => digits,
+        None => token,
+    };
+    let are_digits = digits.bytes().all(|byte| byte.is_ascii_digit());
+    are_digits && (token == "0" || !(digits.is_empty() || digits.starts_with('0')))
+}
+
+/// Tells which token of a line is no number, where that is the fault; an `a` may begin a line.
+fn tell_token<R: Runtime>(rt: &R, line: &[u8]) {
+    let Ok(text) = from_utf8(line) else {
+        return;
+    };
+    let text = match text.strip_prefix("a ") {
+        Some(rest) => rest,
+        None => text,
+    };
+    for token in text.split_ascii_whitespace() {
+        if !is_number(token) {
+            let token = shown(token, "one with bytes of no text");
+            let _ = eprintln!(rt; "c The token is: {token}");
+            return;
+        }
+    }
+}
+
+/// Whether a fault of a file is that a token is no number.
+fn is_of_token(subject: Subject, found: &Fault) -> bool {
+    match subject {
+        Subject::Input | Subject::Cubes | Subject::Events => found.number == 3,
+        _ => false,
+    }
+}
+
+/// As what a file is read that is joined: as an answer if it begins as one.
+fn joined_subject(file: File, subject: Subject, head: &[u8]) -> Subject {
+    match (file, head.first()) {
+        (File::Joined(_), Some(b'c' | b's' | b'v')) => Subject::Answer,
+        _ => subject,
+    }
+}
+
+/// Whether what a file is can be why it has this fault; of a fault of memory or of limits it is not.
+fn is_early(found: &Fault) -> bool {
+    found.number <= 3 || found.at <= 2
+}
+
+/// The line by which it is told what a file is: a fault of a greater number is none of its form.
+fn telling_line<'a>(view: &'a View, found: &Fault) -> &'a [u8] {
+    match found.unit {
+        Unit::Line if found.number > 2 => &[],
+        _ => view.line.as_slice(),
+    }
+}
+
+/// Tells what a fault means, where it is, and what to do.
+pub(crate) fn explain_fault<R: Runtime + AllocGlobal>(rt: &R, paths: &Paths, found: &Fault) {
+    let Some((path, subject)) = faulty(paths, found.file) else {
+        return;
+    };
+    let view = view_of(rt, path, found);
+    let subject = joined_subject(found.file, subject, view.head.as_slice());
+    let Some(told) = fault(subject, found.number) else {
+        return;
+    };
+    tell_place(rt, path, found, told.sentence);
+    if let Unit::Line = found.unit {
+        tell_line(rt, view.line.as_slice());
+        if is_of_token(subject, found) {
+            tell_token(rt, view.line.as_slice());
+        }
+    }
+    let look = look_of(subject, view.head.as_slice(), telling_line(&view, found));
+    match look {
+        Some(look) if is_early(found) => tell_of(rt, look.told(), path),
+        _ => tell(rt, told.remedy, "FILE", in_command(path)),
+    }
+}
+
+/// Tells where a fault is, and what it means.
+fn tell_place<R: Runtime>(rt: &R, path: &str, found: &Fault, sentence: &str) {
+    let name = name_of(path);
+    let at = found.at;
+    let _ = match found.unit {
+        Unit::Line => eprintln!(rt; "c {name}, line {at}: {sentence}"),
+        Unit::Step => eprintln!(rt; "c {name}, step {at}: {sentence}"),
+    };
+}

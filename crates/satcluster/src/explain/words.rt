@@ -1,0 +1,165 @@
+//! Which word of a command line is refused.
+//!
+//! The parser is asked: the first words with `--help` after them are answered by help if none of them is refused. So no rule of the
+//! words stands twice.
+
+use crate::explain::sentence::tell;
+use crate::standard_input::is_sound;
+use explanations::{Reason, shown};
+use node_main::{UsageFault, command};
+use std::alloc::AllocError;
+use std::rt::Runtime;
+
+/// The help that the first words are answered, if none of them is refused.
+fn help_of<R: Runtime + AllocGlobal>(
+    rt: &R,
+    words: &[&str],
+    count: usize,
+) -> Result<Option<String>, AllocError> {
+    let mut front = Vec::with_capacity(rt.alloc(), count.saturating_add(1))?;
+    for word in words.iter().take(count) {
+        front.push(*word)?;
+    }
+    front.push("--help")?;
+    match command(rt.alloc(), front.as_slice()) {
+        Err(UsageFault::Help(text)) => Ok(Some(text)),
+        Err(UsageFault::NoMemory) => Err(AllocError),
+        _ => Ok(None),
+    }
+}
+
+/// Whether none of the first words is refused. The value of the last one may come after it.
+fn are_taken<R: Runtime + AllocGlobal>(
+    rt: &R,
+    words: &[&str],
+    count: usize,
+) -> Result<bool, AllocError> {
+    if help_of(rt, words, count)?.is_some() {
+        return Ok(true);
+    }
+    Ok(count < words.len() && help_of(rt, words, count + 1)?.is_some())
+}
+
+/// How many words are taken before one is refused: by halves, since there may be many, and each question reads them all.
+fn taken<R: Runtime + AllocGlobal>(rt: &R, words: &[&str]) -> Result<usize, AllocError> {
+    let mut low = 0usize;
+    let mut high = words.len();
+    for _ in 0..64 {
+        if low >= high {
+            break;
+        }
+        let middle = high - (high - low) / 2;
+        if are_taken(rt, words, middle)? {
+            low = middle;
+        } else {
+            high = middle - 1;
+        }
+    }
+    Ok(low)
+}
+
+/// The line of a help that begins with this word.
+fn line_of<'a>(help: &'a str, word: &str) -> Option<&'a str> {
+    for line in help.lines() {
+        let text = line.trim_start();
+        if let Some((first, _)) = text.split_once(' ')
+            && first == word
+        {
+            return Some(text);
+        }
+    }
+    None
+}
+
+/// Why a word is refused at its place, if its command has this help.
+fn reason_of(place: usize, word: &str, line: Option<&str>) -> Reason {
+    if place == 1 {
+        Reason::OtherCommand
+    } else if word == "--" {
+        Reason::NotTogether
+    } else if word.len() < 2 || !word.starts_with('-') {
+        Reason::OtherName
+    } else if line.is_some() {
+        Reason::WrongWord
+    } else {
+        Reason::OtherWord
+    }
+}
+
+/// Lines of a help that show what is right.
+#[derive(Clone, Copy)]
+struct Right<'a> {
+    /// That of a word.
+    word: Option<&'a str>,
+    /// How the command is called.
+    usage: Option<&'a str>,
+}
+
+/// Nothing of a help.
+const NOTHING: Right<'static> = Right {
+    word: None,
+    usage: None,
+};
+
+/// Tells a line of a help, if there is one.
+fn tell_line<R: Runtime>(rt: &R, line: Option<&str>) {
+    if let Some(line) = line {
+        tell(rt, line, "WORD", "WORD");
+    }
+}
+
+/// Tells a reason, and what is right.
+fn tell_reason<R: Runtime>(rt: &R, reason: Reason, word: &str, right: Right<'_>) {
+    let told = reason.told();
+    tell(rt, told.sentence, "WORD", shown(word, "that stands there"));
+    tell_line(rt, right.word);
+    tell_line(rt, right.usage);
+    tell(rt, told.remedy, "WORD", "WORD");
+}
+
+/// Why words are refused of which none is by itself.
+fn reason_of_none(words: &[&str]) -> Reason {
+    if words.len() < 2 {
+        Reason::NoCommand
+    } else {
+        Reason::NotTogether
+    }
+}
+
+/// Tells which word is refused, or that none is, by itself.
+fn tell_refused<R: Runtime + AllocGlobal>(rt: &R, words: &[&str]) -> Result<(), AllocError> {
+    let place = taken(rt, words)?;
+    let front = if place == 1 { 1 } else { 2 };
+    let help = help_of(rt, words, front)?;
+    let help = match &help {
+        Some(text) => text.as_str(),
+        None => "",
+    };
+    let usage = line_of(help, "Usage:");
+    let Some(word) = words.get(place) else {
+        let right = Right { word: None, usage };
+        tell_reason(rt, reason_of_none(words), "", right);
+        return Ok(());
+    };
+    let line = line_of(help, word);
+    let right = Right { word: line, usage };
+    tell_reason(rt, reason_of(place, word, line), word, right);
+    Ok(())
+}
+
+/// Tells why words are refused.
+pub(crate) fn explain_words<R: Runtime + AllocGlobal>(rt: &R, words: &[&str]) {
+    match command(rt.alloc(), words) {
+        Ok(request) => {
+            let reason = if is_sound(&request) {
+                Reason::LeafOrLidrup
+            } else {
+                Reason::StandardInput
+            };
+            tell_reason(rt, reason, "", NOTHING);
+        }
+        Err(_) => {
+            let _ = tell_refused(rt, words);
+        }
+    }
+}
