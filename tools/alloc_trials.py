@@ -6,9 +6,9 @@ refusal.
 
 A CASE is Commands, or Commands.test_join; they run alone, and in any order. Each run answers what
 it answers with ample memory, or says that memory is wanting and leaves every file as it was. How
-many allocations it has is told, a line for each. The program `trials` makes calls instead, each
+many allocations it has is told, a line for each. The program `self_test` makes calls instead, each
 once more after a refusal, and answers then what it answers with ample memory: it is the one that
-`rt run` has built in crates/trials, or which TRIALS of the environment names. Needs gcc: a library
+`rt run` has built in crates/self_test, or which TRIALS of the environment names. Needs gcc: a library
 that is loaded before the C library counts what is asked of `malloc` and `realloc`.
 """
 import itertools
@@ -29,7 +29,7 @@ from cases import ROOT, FolderCase, run
 from ports import LISTENS, free_port, sockets_at
 
 SECONDS = 60  # how long a run may take
-TRIALS = ROOT.parent / "crates" / "trials" / "out" / "trials"
+TRIALS = ROOT.parent / "crates" / "self_test" / "out" / "self_test"
 
 # A request for less room is counted too. At its end the program says how many requests it made;
 # nothing else goes to standard error.
@@ -381,13 +381,13 @@ class Pair(Case):
 
 
 class Calls(Case):
-    """The program `trials`, which makes a call that its word names."""
+    """The program `self_test`, which makes a call that its word names."""
 
     def setUp(self) -> None:
         super().setUp()
         self.program = os.path.abspath(os.environ.get("TRIALS", str(TRIALS)))
         if not os.access(self.program, os.X_OK):
-            self.fail("no program %s: build it by (cd crates/trials && rt run -- check), or name "
+            self.fail("no program %s: build it by (cd crates/self_test && rt run -- check), or name "
                       "it in TRIALS" % self.program)
 
     def answers(self, call: str, line: str) -> None:

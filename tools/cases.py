@@ -8,7 +8,7 @@ import sys
 import tempfile
 import unittest
 from pathlib import Path
-from typing import Any, List
+from typing import IO, Any, List, Optional
 
 ROOT = Path(__file__).resolve().parent
 EXAMPLES = ROOT.parent / "examples"
@@ -57,6 +57,12 @@ class FolderCase(unittest.TestCase):
                                    stdout=subprocess.PIPE, **more)
         self.addCleanup(stop, process)
         return process
+
+
+def opened(pipe: Optional[IO[Any]]) -> IO[Any]:
+    """A pipe of a process that was started with it."""
+    assert pipe is not None
+    return pipe
 
 
 def stop(process: subprocess.Popen) -> None:

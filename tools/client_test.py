@@ -4,7 +4,7 @@
     tools/client_test.py PATH-OF-satcluster [CASE ..]
 
 A CASE is Ends, or Ends.test_killed; they run alone, and in any order. What needs a compiler of C or
-valgrind is skipped, and told, where that is not installed.
+valgrind is skipped, and told, if that is not installed.
 """
 import io
 import os
@@ -19,7 +19,7 @@ import threading
 import time
 import unittest
 from pathlib import Path
-from typing import Any, Callable, Dict, Iterator, List, Optional
+from typing import Any, Callable, Dict, Iterator, List, Optional, Tuple
 
 sys.dont_write_bytecode = True
 
@@ -104,6 +104,12 @@ class Case(unittest.TestCase):
         if queries is not None:
             self.assertTrue(checked.lines[0].startswith("c %d queries: " % queries), checked)
 
+    def model(self, solver: Solver) -> List[int]:
+        """The model of the last answer, which has one."""
+        model = solver.get_model()
+        assert model is not None
+        return model
+
     def fails(self, pattern: str, call: Callable[..., Any], *given: Any) -> SolverError:
         with self.assertRaisesRegex(SolverError, pattern) as caught:
             call(*given)
@@ -118,13 +124,16 @@ class Answers(Case):
     def asks(self, solver: Solver, table: Table, assumed: List[int]) -> bool:
         answer = solver.solve(assumed)
         self.assertEqual(table.meets(assumed) != 0, answer)
-        model, core = solver.get_model(), solver.get_core()
+        core = solver.get_core()
         if answer:
             self.assertIsNone(core)
-            self.assertEqual(list(range(1, solver.nof_vars() + 1)), list(map(abs, model)))
+            model = self.model(solver)
+            variables = list(range(1, solver.nof_vars() + 1))
+            self.assertEqual(variables, [abs(literal) for literal in model])
             self.assertTrue(table.meets(model + assumed), (model, assumed))
         else:
-            self.assertIsNone(model)
+            self.assertIsNone(solver.get_model())
+            assert core is not None
             self.assertEqual(core, [one for one in dict.fromkeys(assumed) if one in core])
             self.assertEqual(0, table.meets(core), core)
         return answer
@@ -173,7 +182,7 @@ class Answers(Case):
     def test_edges(self) -> None:
         solver = self.solver()
         self.assertEqual((True, []), (solver.solve(), solver.get_model()))
-        self.assertEqual((True, [1000000]), (solver.solve([1000000]), solver.get_model()[-1:]))
+        self.assertEqual((True, [1000000]), (solver.solve([1000000]), self.model(solver)[-1:]))
         self.assertEqual(1000000, solver.nof_vars())
         solver.add_clause([])
         self.assertEqual((False, []), (solver.solve([3]), solver.get_core()))
@@ -186,11 +195,12 @@ class Answers(Case):
             self.assertRaises(ValueError, solver.add_clause, clause)
             self.assertRaises(ValueError, solver.solve, clause)
             self.assertRaises(ValueError, solver.append_formula, [[5], clause, [-5]])
-        for clause in ([1.0], ["1"], [None], 1):
+        wrong: Tuple[Any, ...] = ([1.0], ["1"], [None], 1)
+        for clause in wrong:
             self.assertRaises(TypeError, solver.add_clause, clause)
             self.assertRaises(TypeError, solver.append_formula, iter(([-7, 6], clause, [-6])))
         self.assertTrue(solver.solve([7]))
-        self.assertEqual([5, 6, 7], solver.get_model()[4:])
+        self.assertEqual([5, 6, 7], self.model(solver)[4:])
         self.is_verified(solver, 1)
         self.assertRaises(ValueError, Solver, limit=0)
         self.assertRaises(ValueError, Solver, records=False, proof=self.at("proof"))
@@ -226,11 +236,11 @@ def solver_clauses(clauses: List[List[int]]) -> Iterator[Iterator[int]]:
 class Records(Case):
     """Events, proofs, and what is told of them."""
 
-    def paths(self) -> Dict[str, str]:
-        return {"events": self.at("events"), "proof": self.at("proof")}
+    def recorded(self, clauses: List[List[int]]) -> Solver:
+        return Solver(clauses, events=self.at("events"), proof=self.at("proof"))
 
     def test_paths(self) -> None:
-        with Solver([[1, 2]], **self.paths()) as solver:
+        with self.recorded([[1, 2]]) as solver:
             self.assertTrue(solver.solve([-1]))
             self.is_verified(solver, 1)
             solver.add_clause([3])
@@ -240,7 +250,7 @@ class Records(Case):
         self.assertTrue(satcluster.check_session(self.at("events"), self.at("proof")))
 
     def test_wrong_proof(self) -> None:
-        with Solver([[1, 2], [-1, 2], [1, -2], [-1, -2]], **self.paths()) as solver:
+        with self.recorded([[1, 2], [-1, 2], [1, -2], [-1, -2]]) as solver:
             self.assertFalse(solver.solve())
         proof = self.folder / "proof"
         proof.write_text(proof.read_text().replace("UNSATISFIABLE", "SATISFIABLE"))
@@ -278,7 +288,9 @@ class Ends(Case):
         os.kill(solver.pid, signal.SIGKILL)
         error = self.fails("signal 9", solver.solve)
         self.assertEqual(("v 1 0", -signal.SIGKILL), (error.line, error.status))
-        for call in (solver.solve, lambda: solver.append_formula([[1, 2]] * 20000)):
+        calls: List[Callable[[], object]] = [
+            solver.solve, lambda: solver.append_formula([[1, 2]] * 20000)]
+        for call in calls:
             self.fails("the session has ended", call)
         checked = solver.verify()
         self.assertFalse(checked)
@@ -305,7 +317,7 @@ class Ends(Case):
         self.fails("the session has ended", solver.solve)
 
     def test_limit_of_the_program(self) -> None:
-        """Its last line is told, also where it has come long before the next write."""
+        """Its last line is told, also if it has come long before the next write."""
         solver = self.solver()
         error = self.fails("c input line 2 fault 8", solver.solve, [1] * 1000001)
         self.assertEqual(("c input line 2 fault 8", 1), (error.line, error.status))
@@ -496,7 +508,7 @@ class Dimacs(unittest.TestCase):
                 self.load(text)
 
     def test_dump(self) -> None:
-        clauses = [[1, -5], [], [3, 3, -3]]
+        clauses: List[List[int]] = [[1, -5], [], [3, 3, -3]]
         with tempfile.TemporaryFile("w+", encoding="ascii") as file:
             size = dimacs.dump(solver_clauses(clauses), file)
             file.seek(0)

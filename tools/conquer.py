@@ -12,13 +12,12 @@
 
 INPUT may be packed by gzip, xz, bzip2 or zstd, if that is installed: it is unpacked to the folder.
 Prints the `s` and `v` lines of `satcluster solve`, and ends with its statuses: 10, 20, 0 and 1.
-Each answer is one of the proved program: `join` tests every log and every assignment that a job has
-brought. So what is wrong in this script, in a solver or on a disk costs time, and makes no wrong
-answer.
+Each answer is one of the proved program: `join` tests every log and every assignment of a job. So a
+fault of this script, of a solver or of a disk costs time, and makes no wrong answer.
 
-All state is a folder of files, INPUT.conquer where --folder is left out. Killed at any moment, the
-same command goes on with what is there. COMMAND is a command line with {cnf} and {lrat}, or two
-with {drat} between them and &&. docs/CLUSTER.md tells more.
+All state is a folder of files, INPUT.conquer if --folder is left out. After a kill at any moment
+the same command goes on with the files that are there. COMMAND is a command line with {cnf} and
+{lrat}, or two with && between them and {drat} in both. docs/CLUSTER.md tells more.
 """
 import argparse
 import dataclasses
@@ -35,15 +34,15 @@ from typing import Any, Callable, Dict, List, NoReturn, Optional, Tuple
 
 sys.dont_write_bytecode = True
 
-from conquering import places, receipts, report
-from conquering.engines import ENGINES, Engine, Limits, work
-from conquering.files import Fault, Folder, last_line, publish
-from conquering.leaf import Plan
-from conquering.processes import Bell, status_of
-from conquering.run import ALL_COVERED, NOT_COVERED, Run
-from conquering.screen import Screen, plain
-from telling.looks import head_of, packing
-from telling.words import told, unreadable, unwritable
+from explanations.looks import head_of, packing
+from explanations.words import told, unreadable, unwritable
+from leaf_jobs import places, receipts, report
+from leaf_jobs.engines import ENGINES, Engine, Limits, work
+from leaf_jobs.files import Fault, Folder, last_line, publish
+from leaf_jobs.leaf import Plan
+from leaf_jobs.processes import Bell, status_of
+from leaf_jobs.run import ALL_COVERED, NOT_COVERED, Run
+from leaf_jobs.screen import Screen, plain
 
 DEPTH = 6  # if none is asked for
 BLOCK = {"satcluster": 16, "cadical": 4}  # leaves of a job at most, if nothing is asked for
@@ -81,7 +80,8 @@ def words() -> Namespace:
     option("--depth", metavar="D", type=number(0, 16), help="how deep to split; %d" % DEPTH)
     option("--look", metavar="N", type=number(1, 65536), help="look ahead, for about N leaves")
     option("--cubes-from", metavar="FILE", help="complete the cubes that this file lists")
-    option("--block", metavar="N", type=number(1, 4096), help="leaves of a job; 16, or 4 of cadical")
+    option("--block", metavar="N", type=number(1, 4096),
+           help="leaves of a job; 16, or 4 of cadical")
     option("--limit", metavar="L", type=number(1, most), help="lemmas before a leaf is cut in two")
     option("--seconds", metavar="S", type=number(1, most), help="the same in seconds of a search")
     option("--no-race", action="store_true", help="no job searches the whole formula unsplit")
@@ -93,7 +93,8 @@ def words() -> Namespace:
     option("--recheck", metavar="FOLDER", help="make the receipts of a run anew, of its logs")
     option("--memory", metavar="M", type=number(1, most), help="slurm: megabytes of a task")
     option("--minutes", metavar="T", type=number(1, most), help="slurm: minutes of a task")
-    option("--scratch", metavar="DIR", help="where jobs write what is unfinished: a node's own disk")
+    option("--scratch", metavar="DIR",
+           help="where jobs write what is unfinished: a node's own disk")
     option("--folder", metavar="DIR", help="where the files of the run stand; INPUT.conquer")
     option("-q", action="store_true", dest="quiet", help="no c lines")
     option("-n", action="store_true", dest="no_values", help="no v lines")
@@ -107,7 +108,7 @@ def words() -> Namespace:
 
 
 def wrong_words(asked: Namespace) -> Optional[str]:
-    """Why words are refused that say nothing together."""
+    """Why options are refused that do not go together."""
     if asked.engine != "slurm" and (asked.memory or asked.minutes):
         return "--memory and --minutes are what a task of --engine slurm may take"
     if asked.recheck is not None and asked.INPUT is not None:
@@ -115,15 +116,15 @@ def wrong_words(asked: Namespace) -> Optional[str]:
     if asked.recheck is None and asked.INPUT is None:
         return "INPUT is missing: no formula is named"
     if asked.block and leaves_of_job(asked) is None:
-        return ("--block is for our own search, or cadical without --pipe, by --engine local without "
-                "--seconds: other jobs take one leaf")
+        return ("--block is for our own search, or cadical without --pipe, by --engine local "
+                "without --seconds: other jobs take one leaf")
     if asked.drop_logs and (not asked.receipts or asked.PROOF is not None):
         return "--drop-logs is for --receipts without PROOF: a proof is made of logs"
     return None
 
 
 def leaves_of_job(asked: Namespace) -> Optional[int]:
-    """How many leaves a job takes at most; None where it can take but one."""
+    """How many leaves a job takes at most; None if it can take only one."""
     usual = BLOCK.get(asked.solver)
     is_alone = asked.engine != "local" or asked.seconds or asked.pipe or asked.recheck is not None
     return None if usual is None or is_alone else asked.block or usual
@@ -186,7 +187,7 @@ def plan_of(asked: Namespace) -> Plan:
 
 
 def test_places(proof: Optional[str], formula: str) -> None:
-    """Tells at once, and not after hours, what cannot be read or written."""
+    """Refuses at once, and not after hours, what cannot be read or written."""
     if not os.path.isfile(formula) or not os.access(formula, os.R_OK):
         is_other = os.path.exists(formula) and not os.path.isdir(formula)
         why = "It is no regular file." if is_other else unreadable(formula)
@@ -201,8 +202,8 @@ def test_places(proof: Optional[str], formula: str) -> None:
 
 
 def unpack(folder: Folder, formula: str) -> str:
-    """The path that all jobs read: of a packed formula that of a copy in the folder. A copy of an
-    earlier start is made anew, since the packed one may be another by now."""
+    """The path of the formula for all jobs: if it is packed, that of an unpacked copy in the
+    folder. The copy of an earlier start is made anew, since the packed file may have changed."""
     tool = packing(head_of(formula))
     if tool is None:
         return os.path.abspath(formula)
@@ -220,7 +221,8 @@ def unpack(folder: Folder, formula: str) -> str:
 
 
 def test_packing(folder: Folder, compress: bool) -> None:
-    """Tells if `zstd` is needed, for new logs or for those that stand, and not installed."""
+    """Refuses to start if `zstd` is needed, for new logs or for those that stand, and is
+    missing."""
     if not compress and not any(map(folder.is_packed, folder.names("logs"))):
         return
     if not shutil.which("zstd"):
@@ -246,12 +248,12 @@ def plant(folder: Folder, plan: Plan, asked: Namespace) -> None:
 
 
 def explained(errors: Path) -> List[str]:
-    """What the program has told of its last line."""
+    """The sentences by which the program has explained its last line."""
     return told(errors.read_text("utf-8", "replace")) if errors.exists() else []
 
 
 def take_over(folder: Folder, plan: Plan, asked: Namespace, screen: Screen) -> None:
-    """Where there is a tree it stands, so that logs keep their leaves. Tells if words ask for
+    """Keeps the tree of an earlier start, whose leaves the logs close. Tells if options ask for
     another one."""
     plan.split = plan_before(folder).get("split", "")
     given = {"--cubes-from": asked.cubes_from, "--look": asked.look, "--depth": asked.depth}
@@ -274,7 +276,7 @@ def plan_before(folder: Folder) -> Dict[str, Any]:
 
 
 def put_proof(folder: Folder, proof: str) -> None:
-    """Moves the joined proof to its place, whole or not at all, be that on another disk."""
+    """Moves the joined proof to its place, whole or not at all, also to another disk."""
     made, target = folder.at(DRAFT), Path(os.path.realpath(proof))
     try:
         if target.parent.stat().st_dev != made.stat().st_dev:
@@ -287,7 +289,7 @@ def put_proof(folder: Folder, proof: str) -> None:
 
 
 def copied(made: Path, part: Path) -> Path:
-    """Copies it to another disk; a copy that is broken off, by a signal too, is taken away."""
+    """Copies it to another disk; removes an unfinished copy, also after a signal."""
     try:
         shutil.copyfile(str(made), str(part))
     except BaseException:
@@ -298,7 +300,7 @@ def copied(made: Path, part: Path) -> Path:
 
 
 def answer_of(run: Run, engine: Engine, jobs: int) -> Tuple[int, List[str]]:
-    """Runs leaves and joins what they bring, until there is an answer or no leaf is left to run."""
+    """Runs leaves and joins their logs, until there is an answer or no leaf is left to run."""
     while True:
         if run.plan.receipts:
             receipts.acknowledge_others(run, jobs)
@@ -312,9 +314,11 @@ def answer_of(run: Run, engine: Engine, jobs: int) -> Tuple[int, List[str]]:
             return status, lines
 
 
-def cores() -> Optional[int]:
-    """The cores that this process may use, where the system tells."""
-    return len(os.sched_getaffinity(0)) if hasattr(os, "sched_getaffinity") else os.cpu_count()
+def cores() -> int:
+    """The cores that this process may use; 1 if the system does not tell."""
+    if hasattr(os, "sched_getaffinity"):
+        return len(os.sched_getaffinity(0))
+    return os.cpu_count() or 1
 
 
 def begun(asked: Namespace, screen: Screen) -> Tuple[Folder, Plan]:
@@ -354,18 +358,18 @@ def conquer(asked: Namespace, screen: Screen) -> int:
     engine_of.test()
     folder, plan = (begun_again if is_again else begun)(asked, screen)
     before = plan_before(folder)
-    jobs = asked.jobs or (None if asked.engine == "slurm" else cores())
+    jobs = asked.jobs or (0 if asked.engine == "slurm" else cores())
     bell = Bell()
     limits = Limits(asked.memory, asked.minutes)
-    engine = engine_of(folder, plan, screen, bell, jobs, not asked.no_race, not asked.no_cuts, limits,
-                       leaves_of_job(asked) or 1)
+    engine = engine_of(folder, plan, screen, bell, jobs, not asked.no_race, not asked.no_cuts,
+                       limits, leaves_of_job(asked) or 1)
     run = Run(folder, plan, screen, bell, DRAFT if asked.PROOF else None)
     run.renew = report.Live(run, screen).renew
     try:
         engine.settle()
         folder.clean()
         folder.write("plan.json", json.dumps(dataclasses.asdict(plan)))
-        status, lines = answer_of(run, engine, jobs or cores() or 1)
+        status, lines = answer_of(run, engine, jobs or cores())
     except BaseException:  # a signal, too
         draw(run, screen, report.NONE)
         raise
@@ -390,7 +394,7 @@ def conquer(asked: Namespace, screen: Screen) -> int:
 
 
 def tell_others(names: List[str], screen: Screen) -> None:
-    """The receipts that had told of another log than the one that stands."""
+    """Names the receipts that were of another log than the one that stands."""
     for name in names:
         screen.say("c the receipt of %s was one of another log" % name)
 
@@ -403,7 +407,7 @@ def fail(run: Run, screen: Screen, before: Dict[str, Any], line: str) -> NoRetur
 
 
 def foreign(folder: Folder, before: Dict[str, Any]) -> List[str]:
-    """What is told of a folder whose tree is one of another formula, and keeps its plan."""
+    """The sentences for a folder whose tree is one of another formula. Its plan is put back."""
     folder.write("plan.json", json.dumps(before))
     other = ", of " + before["input"] if "input" in before else ""
     return ["The folder %s holds a run of another formula%s." % (folder.path, other),
@@ -411,7 +415,7 @@ def foreign(folder: Folder, before: Dict[str, Any]) -> List[str]:
 
 
 def draw(run: Run, screen: Screen, status: int) -> None:
-    """The report is a picture of the run: that there is none changes no answer."""
+    """Writes the report; the answer does not depend on it."""
     try:
         screen.say("c report %s" % report.Report(run).write(status))
     except Exception as why:
@@ -419,7 +423,7 @@ def draw(run: Run, screen: Screen, status: int) -> None:
 
 
 def tell(lines: List[str]) -> None:
-    """Sentences are for whoever looks on: they go to standard error, and change no answer."""
+    """Prints sentences to standard error; the answer does not depend on them."""
     try:
         for line in lines:
             print("c " + plain(line), file=sys.stderr, flush=True)

@@ -4,8 +4,8 @@
     tools/conquer_test.py PATH-OF-satcluster [CASE ..]
 
 A CASE is Kills, or Kills.test_local; they run alone, and in any order. KILLS of the environment is
-how often the script is killed at random moments, and how often a job of it, at least; 6 if it is
-not there. With other engines it is a third of that. SEED draws the moments.
+how often the script is killed at random moments, at least, and how often a job of it; 6 if it is
+not set. With other engines it is a third of that. SEED draws the moments.
 """
 import collections
 import os
@@ -19,22 +19,22 @@ import tempfile
 import time
 import unittest
 from pathlib import Path
-from types import SimpleNamespace
-from typing import Callable, Dict, List, NamedTuple
+from typing import Callable, Dict, List, NamedTuple, Tuple
+from unittest import mock
 
 sys.dont_write_bytecode = True
 
 import small_slurm
 from cases import EXAMPLES, pigeons, run, satisfies
-from conquering import files, processes, report, screen
-from conquering.cuts import to_cut
-from conquering.engines import late_leaves, size_of_block
-from conquering.figures import State, state_of
-from conquering.files import Fault, answer_of, closed_by, log_of, name_of, read_cubes
-from conquering.leaf import CLOSED, ENDED, FAILED, LIMIT, Leaf, Plan, Record, Records
-from conquering.race import WHOLE
-from conquering.run import Run
-from conquering.unpacking import Unpacking
+from leaf_jobs import files, processes, report, screen
+from leaf_jobs.cuts import to_cut
+from leaf_jobs.engines import late_leaves, size_of_block
+from leaf_jobs.figures import State, state_of
+from leaf_jobs.files import Fault, answer_of, closed_by, log_of, name_of, read_cubes
+from leaf_jobs.leaf import CLOSED, ENDED, FAILED, LIMIT, Job, Leaf, Plan, Record, Records
+from leaf_jobs.race import WHOLE
+from leaf_jobs.run import Run
+from leaf_jobs.unpacker import Unpacker
 from simulate import Measured, Play, uncut
 
 SCRIPT = Path(__file__).resolve().parent / "conquer.py"
@@ -42,6 +42,7 @@ SECONDS = 120  # how long a run may take
 FORMULAS = ("four_clauses", "schur_3_14", "urquhart_24", "random_100_sat", "schur_3_13")
 FOUR = "four_clauses.cnf"
 PIGEONS = "pigeons.cnf"
+PACKINGS: List[List[str]] = [[], ["--compress"]] if shutil.which("zstd") else [[]]
 
 
 class End(NamedTuple):
@@ -190,7 +191,8 @@ class Answers(Case):
             text = "\n".join(names).encode()
             ended = [subprocess.run([*words, *given], cwd=str(run), input=text, check=False,
                                     stdout=subprocess.PIPE) for words in (dry, wet)]
-            self.assertEqual(*[(done.returncode, done.stdout) for done in ended], given)
+            first, second = [(done.returncode, done.stdout) for done in ended]
+            self.assertEqual(first, second, given)
             run.joinpath("f.lrat").unlink(missing_ok=True)
             self.assertEqual(files, {path: path.read_bytes() for path in files}, given)
         left = {path for path in run.rglob("*") if path.is_file()}
@@ -256,16 +258,17 @@ class Answers(Case):
         folder = files.Folder(str(self.at("run")))
         files.packed(folder.at("logs/a")).write_bytes(b"")
         for is_late in (False, True):
-            unpacking = Unpacking(folder)
-            unpacking.begin("logs/a", "scratch/pipe.%d" % is_late)
-            words = ["cat", str(unpacking.pipe)]
+            unpacker = Unpacker(folder)
+            unpacker.begin("logs/a", "scratch/pipe.%d" % is_late)
+            words, process = ["cat", str(unpacker.pipe)], unpacker.process
+            assert process is not None
             if is_late:
-                processes.kill(unpacking.process)
-                self.assertFalse(unpacking.runs())
+                processes.kill(process)
+                self.assertFalse(unpacker.runs())
             reader = subprocess.Popen(words, stdout=subprocess.PIPE)
             if not is_late:
-                processes.kill(unpacking.process)
-            self.wait_for("the reader", lambda: unpacking.runs() or reader.poll() is not None, 20)
+                processes.kill(process)
+            self.wait_for("the reader", lambda: unpacker.runs() or reader.poll() is not None, 20)
             self.assertEqual(b"", reader.communicate()[0])
 
     def test_without_zstd(self) -> None:
@@ -308,13 +311,15 @@ class Faults(Case):
 
     def test_words(self) -> None:
         """Which word is wrong is told."""
-        for told, *words in (("--odd", "--odd", FOUR), ("INPUT",),
-                             ("17 is no number from 0 to 16", "-q", "--depth", "17", FOUR),
-                             ("none of satcluster, cadical, kissat", "--solver", "nosuch", FOUR),
-                             ("no {cnf} and no {lrat}", "--solver", "true 1", FOUR),
-                             ("no {lrat}", "--solver", "true {cnf}", FOUR),
-                             ("--seconds", "--limit", "9", "--solver", "true {cnf} {lrat}", FOUR)):
-            self.ends(1, ["c usage"], *words)
+        self.ends(1, ["c usage"])
+        self.tells("INPUT")
+        for told, words in (("--odd", ["--odd"]),
+                            ("17 is no number from 0 to 16", ["-q", "--depth", "17"]),
+                            ("none of satcluster, cadical, kissat", ["--solver", "nosuch"]),
+                            ("no {cnf} and no {lrat}", ["--solver", "true 1"]),
+                            ("no {lrat}", ["--solver", "true {cnf}"]),
+                            ("--seconds", ["--limit", "9", "--solver", "true {cnf} {lrat}"])):
+            self.ends(1, ["c usage"], *words, FOUR)
             self.tells(told)
         self.ends(1, ["c cannot run no-solver"], "--solver", "no-solver {cnf} {lrat}", FOUR)
         self.tells("no program no-solver on the path")
@@ -329,7 +334,7 @@ class Faults(Case):
         self.assertEqual((1, "c cubes of another formula"), (status, lines[-1]))
 
     def test_simulation(self) -> None:
-        """It plays a run that has ended, and makes no folder where there is none."""
+        """It plays a run that has ended, and makes no folder if there is none."""
         def play(folder: str) -> subprocess.CompletedProcess:
             words = [sys.executable, str(SCRIPT.parent / "simulate.py"), folder]
             return subprocess.run(words, cwd=str(self.folder), stdout=subprocess.PIPE,
@@ -339,13 +344,16 @@ class Faults(Case):
         done = play("schur_3_14.cnf.conquer")
         self.assertEqual((0, 13), (done.returncode, len(done.stdout.splitlines())), done.stderr)
         done = play("none")
-        self.assertEqual((1, b"c none is no folder of conquer.py\n"), (done.returncode, done.stderr))
+        self.assertEqual((1, b"c none is no folder of conquer.py\n"),
+                         (done.returncode, done.stderr))
         self.assertFalse(self.at("none").exists())
 
     def test_depth_that_is_not_used(self) -> None:
         """It is told if a tree stands that was made by other words."""
-        for words, is_told in ((["--depth", "1"], False), (["--depth", "1"], False), ([], False),
-                               (["--depth", "2"], True), (["--look", "2"], True)):
+        starts: List[Tuple[List[str], bool]] = [
+            (["--depth", "1"], False), (["--depth", "1"], False), ([], False),
+            (["--depth", "2"], True), (["--look", "2"], True)]
+        for words, is_told in starts:
             status, lines = self.conquer(*words, FOUR)
             found = any("c %s is not used" % "".join(words[:1]) in line for line in lines)
             self.assertEqual((20, is_told), (status, found), lines)
@@ -394,7 +402,7 @@ class Folder(Case):
         self.assertIn("pigeons.cnf: ended without answer", self.report(PIGEONS))
 
     def test_report_that_is_live(self) -> None:
-        """It stands from the first leaf on, and is there behind SIGTERM, with what has run."""
+        """It stands from the first leaf on, and is there after SIGTERM, with what has run."""
         script = "grep -q '^1 0' $1 && sleep 100; exec %s solve -q --depth 0 $1 $2"
         script %= self.program
         words = ["--no-race", "--jobs", "2", "--depth", "2", "--solver",
@@ -466,7 +474,8 @@ class Solvers(Case):
 
     PIPED = {  # what a solver does with its FIFO, and whether that is a proof
         "a proof": ("exec PROGRAM solve -q --depth 0 $1 $2", True),
-        "a file in its place": ("PROGRAM solve -q --depth 0 $1 $2.new; mv $2.new $2; exit 20", True),
+        "a file in its place": ("PROGRAM solve -q --depth 0 $1 $2.new; mv $2.new $2; exit 20",
+                                True),
         "what is printed": ("PROGRAM solve -q --depth 0 $1 $2.new; cat $2.new > $2; exit 20", True),
         "a proof, and no end": ("PROGRAM solve -q --depth 0 $1 $2; sleep 100", True),
         "nothing": ("exit 20", False),
@@ -493,8 +502,8 @@ class Solvers(Case):
             self.assertIn(end.status, statuses, what)
             self.assertLess(time.monotonic() - began, 60, what)
             self.assertEqual([], self.running(FOUR), what)
-        for word in (["--solver", "kissat"], []):
-            self.ends(1, ["c usage"], "--pipe", *word, FOUR)
+        self.ends(1, ["c usage"], "--pipe", "--solver", "kissat", FOUR)
+        self.ends(1, ["c usage"], "--pipe", FOUR)
 
     def test_pipe_of_a_killed_script(self) -> None:
         """Neither end outlives the script, whichever waits for the other then."""
@@ -519,13 +528,14 @@ class Solvers(Case):
 
 
 class Races(Case):
-    """One job searches the whole formula beside the leaves; solvers that know which one they search."""
+    """One job searches the whole formula beside the leaves; solvers that know which one they
+    search."""
 
     NAME, UNSPLIT = "schur_3_14.cnf", "c the whole formula was refuted unsplit"
 
     def race(self, whole: str, leaf: str) -> List[str]:
-        """The lines of a run of two jobs, where a solver does one thing for the whole formula, and
-        another for a leaf, which has units beside it."""
+        """The lines of a run of two jobs, with a solver that does one thing for the whole formula,
+        and another for a leaf, whose formula has units more."""
         size = len(self.at(self.NAME).read_text().split("\n"))
         script = "if [ $(wc -l < $1) -lt %d ]; then %s; else %s; fi" % (size + 1, whole, leaf)
         solver = self.script("racer", script)
@@ -661,7 +671,7 @@ class Blocks(OfBlocks):
 
     def test_leaves_that_count(self) -> None:
         """Each leaf of a block does, in the report too, and none is run again."""
-        for more in ([], ["--compress"] * bool(shutil.which("zstd"))):
+        for more in PACKINGS:
             self.forget(PIGEONS)
             words = ["--block", "6", *self.WORDS, *more, PIGEONS]
             self.refuted(*words)
@@ -784,7 +794,7 @@ class Blocks(OfBlocks):
             self.verifies(PIGEONS, "p.lrat")
 
     def test_words(self) -> None:
-        """It is refused where a job has one leaf."""
+        """It is refused if a job has one leaf."""
         for words in (["--engine", "make"], ["--seconds", "9"], ["--solver", "kissat"],
                       ["--solver", "cadical", "--pipe"], ["--solver", "cadical", "--seconds", "9"],
                       ["--block", "0"]):
@@ -807,7 +817,7 @@ exit 20"""
     def setUp(self) -> None:
         super().setUp()
         self.path = os.environ["PATH"]
-        self.addCleanup(os.environ.update, PATH=self.path)
+        self.addCleanup(os.environ.__setitem__, "PATH", self.path)
 
     def stands(self, alone: str = ALONE, block: str = BLOCK) -> None:
         """Such a script stands on the path."""
@@ -827,7 +837,7 @@ exit 20"""
     def test_leaves_that_count(self) -> None:
         """Each leaf of a block does, and none is run again."""
         self.stands()
-        for more in ([], ["--compress"] * bool(shutil.which("zstd"))):
+        for more in PACKINGS:
             self.forget(PIGEONS)
             words = self.words("--block", "6", *more, PIGEONS)
             self.refuted(*words)
@@ -867,11 +877,13 @@ exit 20"""
         "exit 20": "lift ends with 1",
         "kill -9 $$": "the solver ends with -9",
         "echo v 1 2 0; exit 10": "",
-        BLOCK.replace('"$5.told"\n', '"$5.told"\nsed -i "/^u/d" "$5"\n', 1): "a leaf of its block open",
+        BLOCK.replace('"$5.told"\n', '"$5.told"\nsed -i "/^u/d" "$5"\n', 1):
+            "a leaf of its block open",
     }
 
     def test_lies(self) -> None:
-        """Whatever a job of a block says, its leaves are run alone then, and the answer is right."""
+        """Whatever a job of a block says, its leaves are then run alone, and the answer is
+        right."""
         for lie, told in self.LIES.items():
             self.forget(PIGEONS)
             self.stands(block=lie)
@@ -957,6 +969,7 @@ class Engines(Case):
 class Slurm(Case):
     """Arrays on three nodes, all of them this machine; an array has eight tasks at most."""
 
+    slurm: small_slurm.SmallSlurm
     NAME = "schur_3_14.cnf"
     WORDS = ["--engine", "slurm", "--depth", "4"]
     SOLVE = "exec %s solve -q --depth 0 $1 $2"
@@ -1155,7 +1168,7 @@ class Units(unittest.TestCase):
         self.assertRaises(Fault, read_cubes, self.path)
 
     def test_closed_by(self) -> None:
-        """The last lemma tells it, also behind deletions and in a log that is long."""
+        """The last lemma tells it, also before deletions and in a log that is long."""
         for text, wanted in (("5 -1 2 0 2 4 0\n", {1, -2}), ("5 0 1 0\n", set()), ("", None),
                              ("5 -1 0 2 4 0\n6 d 5 0\n", {1}), ("5 d 1 0\n", None),
                              ("garbage\n", None), ("5 1 2 3\n", None),
@@ -1206,9 +1219,10 @@ class Units(unittest.TestCase):
 
     def test_sizes_of_blocks(self) -> None:
         """An equal share of what waits, at most as many as are asked for, and a minute's leaves."""
-        for wanted, *given in ((15, 16, 60, 4, 0.0), (16, 16, 99, 4, 0.1), (1, 16, 3, 4, 0.1),
-                               (6, 16, 99, 4, 10.0), (1, 16, 99, 4, 61.0), (99, 4096, 99, 1, 0.1)):
-            self.assertEqual(wanted, size_of_block(*given), given)
+        for wanted, most, waiting, jobs, mean in (
+                (15, 16, 60, 4, 0.0), (16, 16, 99, 4, 0.1), (1, 16, 3, 4, 0.1),
+                (6, 16, 99, 4, 10.0), (1, 16, 99, 4, 61.0), (99, 4096, 99, 1, 0.1)):
+            self.assertEqual(wanted, size_of_block(most, waiting, jobs, mean))
 
     def test_figures_of_nothing(self) -> None:
         state = State([()], frozenset(), frozenset(), [])
@@ -1230,6 +1244,21 @@ class Units(unittest.TestCase):
         self.assertEqual([10, 20, 30, 40, 50, 60, 120, 180, 240], moments)
 
 
+def job_of(leaf: Leaf, began: float) -> Job:
+    """A job that runs nothing."""
+    return mock.Mock(spec=Job, leaf=leaf, began=began)
+
+
+class NoBell(processes.Bell):
+    """One that nothing rings, and that has no signals of the tests' own process."""
+
+    def __init__(self) -> None:
+        self.read = -1
+
+    def wait(self, seconds: float) -> None:
+        time.sleep(seconds)
+
+
 class Runs(unittest.TestCase):
     """What a run knows of its leaves: figures that add up, whatever logs came and in which order,
     and which leaf is cut."""
@@ -1245,7 +1274,7 @@ class Runs(unittest.TestCase):
 
     def run_of(self) -> Run:
         """A run whose `join` says nothing."""
-        run = Run(self.folder, Plan("true", "f.cnf"), screen.Screen(True), None)
+        run = Run(self.folder, Plan("true", "f.cnf"), screen.Screen(True), NoBell())
         self.addCleanup(run.end_join)
         run.begin()
         return run
@@ -1280,7 +1309,8 @@ class Runs(unittest.TestCase):
         self.assertEqual([1, 3, 0], self.sums(run, True), "join has closed what is left")
 
     def test_neighbours(self) -> None:
-        """A block has neighbours in the tree's order; a leaf that failed or stands between is none."""
+        """A block has neighbours in the tree's order; a leaf that failed or stands between is
+        none."""
         run = self.run_of()
         self.assertEqual(tuple(self.CUBES[1:]), run.take(3).cubes)
         self.assertEqual((self.CUBES[0],), run.take(3).cubes)
@@ -1297,8 +1327,8 @@ class Runs(unittest.TestCase):
         run, now = self.run_of(), time.monotonic()
         run.closed, run.spent = 2, 20.0
 
-        def job(cube: files.Cube, seconds: float) -> SimpleNamespace:
-            return SimpleNamespace(leaf=Leaf(cube, run.tree, 1, False), began=now - seconds)
+        def job(cube: files.Cube, seconds: float) -> Job:
+            return job_of(Leaf(cube, run.tree, 1, False), now - seconds)
 
         jobs = [job((1, 2), 21), job((1, -2), 25), job((-1, 2), 19), job((9,), 99)]
         self.assertIs(jobs[1], to_cut(run, jobs), "(9,) is no leaf any more")
@@ -1309,13 +1339,13 @@ class Runs(unittest.TestCase):
         self.assertIsNone(to_cut(run, [job((1, 2), 1.9)]))
 
     def test_block_that_is_taken_apart(self) -> None:
-        """It is after twice the mean of its leaves, once. Its leaves are run from the last to the first,
-        but not those that it closes first; if it fails they have jobs of their own."""
+        """It is after twice the mean of its leaves, once. Its leaves are run from the last to the
+        first, but not those that it closes first; if it fails they have jobs of their own."""
         for outcome in (CLOSED, FAILED):
             run, now = self.run_of(), time.monotonic()
             block, last = run.take(3), self.CUBES[:1]
             run.closed, run.spent = 2, 20.0
-            jobs = [SimpleNamespace(leaf=block, began=now - seconds) for seconds in (59, 61)]
+            jobs = [job_of(block, now - seconds) for seconds in (59, 61)]
             self.assertIs(jobs[1], to_cut(run, jobs))
             run.cut(block)
             self.assertIsNone(to_cut(run, jobs))
@@ -1419,8 +1449,8 @@ class Receipts(Case):
         """Cut, of another formula, or lost: the log that stands gets its receipt again."""
         self.covered(PIGEONS, "--depth", "3", "--no-race")
         moments = self.moments(PIGEONS)
-        for spoil in (lambda text: text[:-4], lambda text: text.replace("\nformula ", "\nformula 0"),
-                      lambda text: ""):
+        for spoil in (lambda text: text[:-4], lambda text: "",
+                      lambda text: text.replace("\nformula ", "\nformula 0")):
             path = self.receipts(PIGEONS)[0]
             path.write_text(spoil(path.read_text()))
             self.covered(PIGEONS)
@@ -1468,9 +1498,9 @@ class Receipts(Case):
             self.covered(PIGEONS)
 
     def test_usage(self) -> None:
-        for words in (["--recheck", "x", FOUR], ["--drop-logs", FOUR], [],
-                      ["--receipts", "--drop-logs", FOUR, "p.lrat"]):
-            self.ends(1, ["c usage"], *words)
+        for words in ("--recheck x " + FOUR, "--drop-logs " + FOUR, "",
+                      "--receipts --drop-logs %s p.lrat" % FOUR):
+            self.ends(1, ["c usage"], *words.split())
         self.ends(1, ["c cannot read nowhere"], "--recheck", "nowhere")
 
 
@@ -1490,7 +1520,8 @@ class Plays(unittest.TestCase):
         self.assertEqual([20, 10, 10], [self.play(leaves, n) for n in (1, 2, 3)])
 
     def test_cut(self) -> None:
-        """After two seconds; the halves take 57.5 seconds each, one after the other or side by side."""
+        """After two seconds; the halves take 57.5 seconds each, one after the other or side by
+        side."""
         self.assertEqual([100, 100, 59.5], [self.play([Measured(100, 1)], n, True)
                                             for n in (1, 2, 3)])
         leaves = [Measured(100, 1)] + [Measured(10, 1)] * 3
@@ -1502,9 +1533,9 @@ class Plays(unittest.TestCase):
 
     def test_whole_run(self) -> None:
         """A leaf that was cut and closed as one is one."""
-        jobs = {(1,): None, (-1, 2): None, (-1, -2): None}
+        closed = {(1,), (-1, 2), (-1, -2)}
         self.assertEqual([(1,), (-1, 2), (-1, -2)],
-                         uncut([(1, 3), (1, -3), (-1, 2), (-1, -2)], jobs))
+                         uncut([(1, 3), (1, -3), (-1, 2), (-1, -2)], closed))
 
 
 if __name__ == "__main__":

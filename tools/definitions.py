@@ -54,7 +54,9 @@ class Spec:
             elif re.match(r"[ }\]]", line):
                 self.blocks.get(name, []).append(line)
             elif not line.startswith("infix"):
-                name = HEAD.match(line).group(1)
+                head = HEAD.match(line)
+                assert head, line
+                name = head.group(1)
                 self.blocks.setdefault(name, []).extend(comment + [line])
                 comment = []
 
@@ -160,7 +162,8 @@ def contract(crate: str, function: str, names: Sequence[Optional[str]]) -> Contr
         if not begun or owner and "\nimpl %s {" % owner not in text:
             continue
         rest = text[begun.end():]
-        kept = clauses_of(rest[:re.search(r"\n( *)\{", rest).start()].splitlines(), names)
+        body = re.search(r"\n *\{", rest)
+        kept = clauses_of(rest[:body.start() if body else len(rest)].splitlines(), names)
         if kept:
             return Contract(path, function, kept)
     raise SystemExit("no contract %s::%s with %s" % (crate, function, names))

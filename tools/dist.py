@@ -13,6 +13,7 @@ PROVED says that it is not known to be proved.
 """
 import argparse
 import hashlib
+import lzma
 import os
 import re
 import shutil
@@ -29,8 +30,8 @@ import manual
 ROOT = Path(__file__).resolve().parent.parent
 OUT = ROOT / "out"
 DOC = "share/doc/satcluster"
-TOOLS = ("conquer.py", "satcluster-solver", "clients.sh", "conquering/*.py", "solving/*.py",
-         "telling/*.py", "clients/*.cc")
+TOOLS = ("conquer.py", "satcluster-solver", "clients.sh", "leaf_jobs/*.py", "drop_in_solver/*.py",
+         "explanations/*.py", "clients/*.cc")
 PAGES = ("README.md", "CHANGELOG.md", "LICENSE", "docs/*.md", "docs/dev/*.md", "docs/pictures/*",
          "examples/*", "clients/python/*.toml", "clients/python/satcluster/*", "clients/ipasir/*")
 LINKS = {"bin/satcluster-solver": "../lib/satcluster/satcluster-solver",
@@ -38,7 +39,7 @@ LINKS = {"bin/satcluster-solver": "../lib/satcluster/satcluster-solver",
 
 
 def git(*words: str) -> str:
-    """What git prints; nothing where this is no clone."""
+    """What git prints; nothing if this is no clone."""
     return subprocess.run(["git", *words], cwd=ROOT, stdout=subprocess.PIPE,
                           encoding="utf-8").stdout.strip()
 
@@ -85,7 +86,8 @@ def statement(program: Path, note: List[str]) -> str:
     else:
         lines += ["Not known to be proved: no gate was noted for this program and commit."]
     lines += ["SHA-256 of the program: " + digest(program),
-              "It wants Linux, a processor of x86-64-v2 and the GNU C library, 2.%d or later;" % libc,
+              "It wants Linux, a processor of x86-64-v2 and the GNU C library, 2.%d or later;"
+              % libc,
               "the tools want Python 3.8 or later."]
     return "\n".join(lines) + "\n"
 
@@ -116,7 +118,8 @@ def pack(tree: Path, archive: Path) -> None:
         entry.mtime = moment
         return entry
 
-    with tarfile.open(archive, "w:xz", format=tarfile.USTAR_FORMAT, preset=9) as file:
+    with lzma.open(archive, "wb", preset=9) as packed, tarfile.open(
+            fileobj=packed, mode="w", format=tarfile.USTAR_FORMAT) as file:
         for path in [tree] + sorted(tree.rglob("*")):
             file.add(path, path.relative_to(tree.parent), recursive=False, filter=plain)
 

@@ -4,7 +4,7 @@
     tools/dist_test.py PATH-OF-satcluster [CASE ..]
 
 A CASE is Archive, or Archive.test_empty_root; they run alone, and in any order. What needs chroot
-(by root, or by `unshare -r`), man, zsh or fish is skipped, and told, where that is not to be had.
+(by root, or by `unshare -r`), man, zsh or fish is skipped, and told, if that is not to be had.
 """
 import os
 import re
@@ -16,7 +16,7 @@ import tarfile
 import tempfile
 import unittest
 from pathlib import Path
-from typing import Dict, Iterable, List, Optional
+from typing import Dict, Iterable, List, Optional, Sequence
 from unittest import mock
 
 sys.dont_write_bytecode = True
@@ -62,7 +62,7 @@ def into(root: Path, path: str) -> None:
 
 
 def enter(root: Path) -> List[str]:
-    """The words by which a command runs in another root; none where that is not allowed."""
+    """The words by which a command runs in another root; none if that is not allowed."""
     script = 'mount --rbind /proc "$0/proc" && mount --rbind /dev "$0/dev" && exec chroot "$0" "$@"'
     words = ["unshare", "-m" if os.geteuid() == 0 else "-rm", "sh", "-c", script, str(root)]
     try:
@@ -73,6 +73,10 @@ def enter(root: Path) -> List[str]:
 
 
 class Archive(unittest.TestCase):
+    made: bytes
+    room: Path
+    tree: Path
+
     @classmethod
     def setUpClass(cls) -> None:
         cls.made = make()
@@ -91,7 +95,7 @@ class Archive(unittest.TestCase):
         self.addCleanup(shutil.rmtree, prefix, ignore_errors=True)
         return prefix
 
-    def decides(self, begin: List[object], tools: str, room: Path, inside: str) -> None:
+    def decides(self, begin: Sequence[object], tools: str, room: Path, inside: str) -> None:
         """Runs each tool over a formula in a room, which has this name for them."""
         (room / "f.cnf").write_text(pigeons(4))
         f, proof = inside + "/f.cnf", inside + "/f.lrat"

@@ -16,7 +16,7 @@ from typing import List, NamedTuple, Optional, Union
 sys.dont_write_bytecode = True
 
 from cases import EXAMPLES, run
-from telling.faults import TABLES, Row, other_lines, variants
+from explanations.faults import TABLES, Row, other_lines, variants
 
 FOUR = str(EXAMPLES / "four_clauses.cnf")
 EVENTS = "p inccnf\n1 2 0\na 1 0\n"
@@ -237,9 +237,8 @@ class Words(Case):
         self.reason("NotTogether", "", "solve", "--", "f", "g", "h")
         self.reason("StandardInput", "", "check", "-", "-")
         self.reason("StandardInput", "", "solve", FOUR, "-")
-        for more in ([], ["--to", "2"], ["--leaf", "1", "--to", "2"], ["--lidrup", "--leaf", "1"],
-                     ["--lidrup", "--to", "2"]):
-            self.reason("LeafOrLidrup", "", "lift", "--cubes", "f", *more, FOUR, "g", "h")
+        for more in ("", "--to 2", "--leaf 1 --to 2", "--lidrup --leaf 1", "--lidrup --to 2"):
+            self.reason("LeafOrLidrup", "", "lift", "--cubes", "f", *more.split(), FOUR, "g", "h")
         end = self.run_program("--explain")
         self.assertEqual((1, ["c usage"]), (end.status, end.lines))
         self.assertIn("c No command is named.", end.told)

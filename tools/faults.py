@@ -1,5 +1,5 @@
 #!/usr/bin/env python3
-"""Makes docs/FAULTS.md of the table of faults, which tools/telling/faults.py reads.
+"""Makes docs/FAULTS.md of the table of faults, which tools/explanations/faults.py reads.
 
     tools/faults.py            writes the page
     tools/faults.py --check    ends with status 1 if the page is not what would be written
@@ -10,7 +10,7 @@ from typing import Iterator, List
 
 sys.dont_write_bytecode = True
 
-from telling.faults import TABLES, Row, Table, other_lines, variants
+from explanations.faults import TABLES, Row, Table, other_lines, variants
 
 PAGE = Path(__file__).resolve().parent.parent / "docs" / "FAULTS.md"
 TITLES = {"input": "A formula", "proof": "A proof", "cubes": "Cubes", "answer": "An answer",
@@ -18,7 +18,7 @@ TITLES = {"input": "A formula", "proof": "A proof", "cubes": "Cubes", "answer": 
 HEAD = """# What a fault means, and what to do
 
 *`tools/faults.py` makes this page of the sentences in `crates/explanations/src` and of the examples
-in `tools/telling/faults.py`.*
+in `tools/explanations/faults.py`.*
 
 The program prints the number and the line. With `--explain` it prints these sentences, too
 ([COMMANDS.md](COMMANDS.md#--explain)); `tools/satcluster-solver` and `tools/conquer.py` have it do

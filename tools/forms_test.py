@@ -1,20 +1,20 @@
 #!/usr/bin/env python3
-"""Runs `check`, `trim`, `lift` and `join` over proofs in binary form that are cut and drawn, and
+"""Runs `check`, `trim`, `lift` and `join` over binary proofs that are cut or drawn at random, and
 commands over standard input.
 
     tools/forms_test.py PATH-OF-satcluster [CUTS [DRAWN]]
 
-A reader of the grammar that is written here makes a text of the same bytes, with a line for each
-step, and at the first fault a line that has it. Over both files each command has to print the same,
-but for `step` where the text has `line`, and to write the same. CUTS places of a proof are tried
-(2,000 where it is left out), and DRAWN byte strings (500). Status 1 at the first difference.
+The class `Reader` makes a text of the same bytes, with a line for each step, and at the first fault
+a line that has it. For both files each command has to write the same, and to print the same, except
+that it prints `step` for the one and `line` for the other. CUTS places of a proof are tried (2,000
+if it is left out), and DRAWN byte strings (500). Status 1 at the first difference.
 """
 import os
 import random
 import subprocess
 import sys
 import tempfile
-from typing import Iterable, List, Optional, Tuple
+from typing import Any, Dict, Iterable, List, Optional, Tuple
 
 from cases import pigeons
 
@@ -22,7 +22,8 @@ LINES = {"token": "\n", "end": "0", "large": "281474976710656\n"}
 CUBES = "a 0\n"
 
 FOUR = ("p cnf 2 4\n1 2 0\n-1 2 0\n1 -2 0\n-1 -2 0\n", "5 2 0 1 2 0\n6 0 5 3 4 0\n")
-RAT = ("p cnf 4 8\n1 2 -3 0\n-1 -2 3 0\n2 3 -4 0\n-2 -3 4 0\n-1 -3 -4 0\n1 3 4 0\n-1 2 4 0\n1 -2 -4 0\n",
+RAT = ("p cnf 4 8\n1 2 -3 0\n-1 -2 3 0\n2 3 -4 0\n-2 -3 4 0\n-1 -3 -4 0\n1 3 4 0\n-1 2 4 0\n"
+       "1 -2 -4 0\n",
        "9 -1 0 -2 6 8 -5 1 8 -7 5 1 0\n10 2 0 9 7 5 3 0\n11 0 9 10 4 2 8 0\n")
 
 
@@ -56,7 +57,7 @@ def binary(text: str) -> bytes:
 
 
 class Fault(Exception):
-    pass
+    """The first fault of a proof: a key of LINES."""
 
 
 class Reader:
@@ -141,7 +142,7 @@ class Bench:
         """Status and output; standard input is a file of the folder, or a pipe with its bytes."""
         command = [self.program, *words]
         with open(os.path.join(self.folder, fed), "rb") as file:
-            source = {"input": file.read()} if piped else {"stdin": file}
+            source: Dict[str, Any] = {"input": file.read()} if piped else {"stdin": file}
             done = subprocess.run(command, cwd=self.folder, stdout=subprocess.PIPE, timeout=120,
                                   check=False, **source)
         return done.returncode, done.stdout
@@ -162,8 +163,9 @@ class Bench:
         self.write("proof", text_form(data))
         texts = self.all("proof")
         if data[:1] in (b"a", b"d"):
-            texts = [(status, printed.replace(b" line ", b" step ").replace(b"c line ", b"c step "), out)
-                     for status, printed, out in texts]
+            texts = [
+                (status, printed.replace(b" line ", b" step ").replace(b"c line ", b"c step "), out)
+                for status, printed, out in texts]
         if binary_form != texts:
             print("DIFFERS: %s: %r: %r and %r" % (what, data[-40:], binary_form, texts))
             sys.exit(1)
@@ -176,22 +178,23 @@ def standard_input(bench: Bench) -> None:
     bench.write("proof", binary(FOUR[1]))
     bench.write("-", b"no formula\n")
     right = (0, b"s VERIFIED\n")
-    for fed, wanted, *words in (
-            ("f.cnf", right, "check", "-", "proof"),
-            ("proof", right, "check", "f.cnf", "-"),
-            ("f.cnf", right, "check", "/dev/stdin", "proof"),
-            ("f.cnf", (1, b"c input line 1 fault 1\n"), "check", "./-", "proof"),
-            ("f.cnf", (1, b"c usage\n"), "check", "-", "-"),
-            ("f.cnf", (1, b"c usage\n"), "solve", "f.cnf", "-"),
-            ("f.cnf", (1, b"c usage\n"), "trim", "f.cnf", "proof", "-"),
-            ("f.cnf", (1, b"c usage\n"), "lift", "--cubes", "-", "--leaf", "1", "f.cnf", "-", "out"),
-            ("f.cnf", (1, b"c usage\n"), "join", "--cubes", "f.icnf", "-", "out", "-"),
-            ("f.cnf", (1, b"c usage\n"), "join", "--cubes", "f.icnf", "f.cnf", "out", "a", "-"),
-            ("f.cnf", (0, b"p inccnf\n"), "cubes", "--depth", "0", "-")):
+    usage = (1, b"c usage\n")
+    for fed, wanted, line in (
+            ("f.cnf", right, "check - proof"),
+            ("proof", right, "check f.cnf -"),
+            ("f.cnf", right, "check /dev/stdin proof"),
+            ("f.cnf", (1, b"c input line 1 fault 1\n"), "check ./- proof"),
+            ("f.cnf", usage, "check - -"),
+            ("f.cnf", usage, "solve f.cnf -"),
+            ("f.cnf", usage, "trim f.cnf proof -"),
+            ("f.cnf", usage, "lift --cubes - --leaf 1 f.cnf - out"),
+            ("f.cnf", usage, "join --cubes f.icnf - out -"),
+            ("f.cnf", usage, "join --cubes f.icnf f.cnf out a -"),
+            ("f.cnf", (0, b"p inccnf\n"), "cubes --depth 0 -")):
         for piped in (False, True):
-            found = bench.run(*words, fed=fed, piped=piped)
+            found = bench.run(*line.split(), fed=fed, piped=piped)
             if (found[0], found[1][:len(wanted[1])]) != wanted:
-                print("DIFFERS: %s: %r, and not %r" % (" ".join(words), found, wanted))
+                print("DIFFERS: %s: %r, and not %r" % (line, found, wanted))
                 sys.exit(1)
     with open(os.path.join(bench.folder, "out"), "wb") as out:
         subprocess.run([bench.program, "solve", "f.cnf", "/dev/stdout"], cwd=bench.folder,
@@ -210,11 +213,13 @@ def drawn(source: bytes, draw: random.Random) -> bytes:
     """A proof with some bytes of it changed, taken out or put in; or bytes of its alphabet."""
     if draw.random() < 0.3:
         some = bytes([97, 100, 0, 1, 2, 3, 4, 5, 10, 127, 128, 129, 255])
-        return draw.choice(b"ad").to_bytes(1, "big") + bytes(draw.choice(some) for _ in range(draw.randrange(40)))
+        letter = draw.choice(b"ad").to_bytes(1, "big")
+        return letter + bytes(draw.choice(some) for _ in range(draw.randrange(40)))
     data = bytearray(source[:draw.randrange(len(source) + 1)])
     for _ in range(draw.randrange(4)):
         at = draw.randrange(len(data) + 1)
-        data[at:at + draw.randrange(3)] = bytes(draw.randrange(256) for _ in range(draw.randrange(3)))
+        put = bytes(draw.randrange(256) for _ in range(draw.randrange(3)))
+        data[at:at + draw.randrange(3)] = put
     return bytes(data)
 
 
@@ -225,7 +230,8 @@ def main() -> None:
     with tempfile.TemporaryDirectory() as folder:
         bench = Bench(sys.argv[1], folder)
         standard_input(bench)
-        for name, formula, text in (("two steps", *FOUR), ("groups", *RAT), ("a run", pigeons(5), "")):
+        for name, formula, text in (("two steps", *FOUR), ("groups", *RAT),
+                                    ("a run", pigeons(5), "")):
             bench.write("f.cnf", formula.encode())
             bench.write("f.icnf", ("p inccnf\n" + formula.split("\n", 1)[1] + CUBES).encode())
             if not text:

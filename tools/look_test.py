@@ -12,7 +12,7 @@ import random
 import subprocess
 import sys
 import tempfile
-from typing import Iterable, List, Optional, Set, Tuple
+from typing import Dict, Iterable, List, Optional, Set, Tuple
 
 from cases import pigeons
 
@@ -62,7 +62,7 @@ class Rule:
 
     def sums(self, true: Literals) -> List[Tuple[int, int]]:
         """By free variable in an open clause, what these weigh; heavier ones first, then lower ones."""
-        sums = {}
+        sums: Dict[int, int] = {}
         for _, left in self.open(true):
             for literal in left:
                 sums[abs(literal)] = sums.get(abs(literal), 0) + weight(left)
@@ -72,7 +72,7 @@ class Rule:
         true = self.settled(cube)
         if true is None:
             return "closed", 0
-        best = None
+        best: Optional[Tuple[int, int]] = None
         for _ in range(8):
             ranked, best, forced = self.sums(true), None, False
             if not ranked:
@@ -84,13 +84,13 @@ class Rule:
                 if one is None and other is None:
                     return "closed", 0
                 if one is None or other is None:
-                    true, forced = (other if one is None else one), True
+                    true, forced = one or other or set(), True
                     continue
                 a, b = self.shortened(true, one), self.shortened(true, other)
                 score = min(a * b * 1024 + a + b, CAP)
                 if best is None or score > best[0]:
                     best = score, variable
-            if not forced:
+            if not forced and best is not None:
                 return "cut", best[1]
         if best is not None and best[1] not in true and -best[1] not in true:
             return "cut", best[1]
@@ -98,8 +98,8 @@ class Rule:
         return ("cut", min(variable for _, variable in left)) if left else ("leaf", 0)
 
     def tree(self, leaves: int) -> List[Clause]:
-        below = {}  # a cut cube's variable
-        waiting = [[]] if self.settled([]) is not None else []
+        below: Dict[Tuple[int, ...], int] = {}  # a cut cube's variable
+        waiting: List[Clause] = [[]] if self.settled([]) is not None else []
         is_open = len(waiting)
         while waiting and is_open < leaves:
             cube = waiting.pop(0)

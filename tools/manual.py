@@ -140,12 +140,14 @@ def command(name: str) -> Command:
 
 
 def program() -> Program:
-    path = SOURCES / "parsing.rt"
+    path = SOURCES / "parser.rt"
     module, text = Module(path), path.read_text(encoding="utf-8")
     version, _, kits = module.constant("VERSION").partition(" ")
     about, *examples = module.constant("ABOUT").split("\n")
-    status = ast.literal_eval(STATUS.search(text).group(1))
-    return Program(version, kits.strip("()"), about, [line for line in examples if line], status,
+    status = STATUS.search(text)
+    assert status, path
+    return Program(version, kits.strip("()"), about, [line for line in examples if line],
+                   ast.literal_eval(status.group(1)),
                    [command(name) for name in COMMAND.findall(text)])
 
 

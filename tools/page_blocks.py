@@ -53,7 +53,8 @@ def blocks(page: Path) -> Iterator[Block]:
     for number, line, is_code in lines_of(page):
         if is_code:
             begun.append((number, line))
-        if len(begun) > 1 and line.strip() == re.match(r"\s*([`~]+)", begun[0][1]).group(1):
+        fence = re.match(r"\s*([`~]+)", begun[0][1]) if len(begun) > 1 else None
+        if fence and line.strip() == fence.group(1):
             text = textwrap.dedent("\n".join(line for _, line in begun[1:-1]))
             yield Block(page, begun[0][0], begun[0][1].strip(" `~"), text.splitlines())
             begun = []

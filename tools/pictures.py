@@ -19,24 +19,24 @@ FOLDER = ROOT / "docs" / "pictures"
 Names = Dict[str, List[str]]  # crates, each with some that it stands on
 
 # Crates that are not drawn.
-TESTS = {"crate_tests", "program_tests", "trials"}
+TESTS = {"crate_tests", "program_tests", "self_test"}
 
 # What each of the others is for, with its colour.
 KINDS: Dict[str, Tuple[str, List[str]]] = {
     "words and reports": ("#e8e3f5", [
-        "word_rules", "command_line", "reports", "explanations", "node_main", "commands",
+        "option_table", "command_line", "reports", "explanations", "node_main", "commands",
         "satcluster"]),
     "leaves as files": ("#fbe5d0", [
-        "leaves", "either_form", "completing", "gathering", "receipts", "cover_laws", "proof_lift",
+        "leaves", "text_or_binary", "cubes_to_tree", "log_join", "receipts", "cover_laws", "proof_lift",
         "lidrup", "sessions", "answers"]),
     "machines and runs": ("#d8eaf7", [
-        "runs", "arriving", "links", "hub", "cluster", "closed_schedules", "worker_core",
+        "runs", "event_loop", "links", "connections", "cluster", "honest_cluster", "worker_core",
         "coordinator_core", "evidence", "frames"]),
     "search": ("#dff0d8", [
         "cube_solve", "incremental", "conflict_analysis", "decide_heap", "watches", "clause_arena",
         "proof_trim"]),
     "splitting and joining": ("#f7f0c8", [
-        "cube_split", "look_ahead", "icnf", "proof_join", "trimming"]),
+        "cube_split", "look_ahead", "icnf", "proof_join", "lrat_trim"]),
     "formulas and proofs": ("#f6d9dc", [
         "lrat_check", "binary_check", "packed_text", "lrat_text", "lrat_binary", "lrat_forms",
         "dimacs"]),

@@ -62,7 +62,7 @@ CLAIMS = (
         " the formula that the input spells; with status 20 none does. This holds whatever the"
         " links bring.",
         (("node_main", "run_solve", ["truth"]),
-         ("node_main", "run_attend", ["truth"]),
+         ("node_main", "run_serve_arrivals", ["truth"]),
          ("node_main", "run_work", ["truth"])),
     ),
     Claim(
@@ -94,7 +94,7 @@ CLAIMS = (
          ("leaves", "Join::written", [None]),
          ("leaves", "Join::forget", ["holds", "out"]),
          ("leaves", "Join::finish", ["concludes"])),
-        "Holds",
+        "HasReadFiles",
     ),
     Claim(
         "What `lift` writes closes the leaf over the formula",
@@ -105,7 +105,7 @@ CLAIMS = (
          ("leaves", "Lift::feed", [None]),
          ("leaves", "Lift::forget", ["stands", "out"]),
          ("leaves", "Lift::finish", ["closes", "complete"])),
-        "Lifts",
+        "HasTakenProof",
     ),
     Claim(
         "Each answer that `check --session` verifies is right",

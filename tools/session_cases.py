@@ -167,8 +167,8 @@ def expected(events: List[Event], proof: str) -> Tuple[int, List[str]]:
         needs(lines[-1] == "", 1)
         needs(rules.stage == "" and not rules.left, 22)
     except Refused as refused:
-        told = ["s NOT VERIFIED", "c line %d fault %d" % (at, refused.args[0])]
-        return 1, [*told, "c %d queries before" % sum(rules.counts)]
+        fault = "c line %d fault %d" % (at, refused.args[0])
+        return 1, ["s NOT VERIFIED", fault, "c %d queries before" % sum(rules.counts)]
     told = "c %d queries: %d satisfiable, %d unsatisfiable, %d unknown"
     return 0, ["s VERIFIED", told % (sum(rules.counts), *rules.counts)]
 
@@ -180,7 +180,8 @@ class Solver:
     """Answers queries by a search through all assignments, and proves it."""
 
     def __init__(self, draw: random.Random) -> None:
-        self.draw, self.proof = draw, []
+        self.draw = draw
+        self.proof: List[str] = []
         self.live: Dict[int, List[int]] = {}
         self.given: Set[int] = set()
         self.last = 0
@@ -215,7 +216,7 @@ class Solver:
             end = self.search([*true, literal], free[1:])
             if end[0] is None or literal not in end[1]:
                 return end
-            ends.append(end)
+            ends.append((end[0], end[1]))
         used = (ends[0][1] | ends[1][1]) - {first, -first}
         number = self.number()
         self.live[number] = [-literal for literal in sorted(used, key=abs)]
@@ -280,5 +281,6 @@ def changed_line(line: str, draw: random.Random) -> str:
 def changes(proof: List[str], draw: random.Random) -> Iterator[List[str]]:
     """For each line: the proof with another one in its place, without it, or with it twice."""
     for at, line in enumerate(proof):
-        for instead in ([changed_line(line, draw)], [], [line, line]):
+        ways: Tuple[List[str], ...] = ([changed_line(line, draw)], [], [line, line])
+        for instead in ways:
             yield [*proof[:at], *instead, *proof[at + 1:]]

@@ -22,13 +22,13 @@ import termios
 import time
 import unittest
 from pathlib import Path
-from typing import Any, List, Optional, Tuple
+from typing import IO, Any, Dict, List, Optional, Tuple
 
 sys.dont_write_bytecode = True
 
-from cases import pigeons, run
+from cases import opened, pigeons, run
+from explanations.faults import TABLES
 from session_cases import STATUSES, Event, changes, drawn, events_text, expected, text_of
-from telling.faults import TABLES
 
 HERE = Path(__file__).resolve().parent
 SECONDS = 60  # how long a run may take
@@ -206,7 +206,8 @@ class Drawn(Case):
             for at, event in enumerate(session.events):
                 other = Event(event.asks, [*event.literals, 3])
                 flipped = Event(not event.asks, event.literals)
-                for instead in ([], [event, event], [other], [flipped]):
+                ways: Tuple[List[Event], ...] = ([], [event, event], [other], [flipped])
+                for instead in ways:
                     self.agrees([*session.events[:at], *instead, *session.events[at + 1:]], proof)
 
 
@@ -224,7 +225,7 @@ class Pipes(Case):
 
     def stop(self) -> None:
         self.process.kill()
-        self.process.stdout.close()
+        opened(self.process.stdout).close()
         self.process.wait()
         for descriptor in self.ends_of.values():
             os.close(descriptor)
@@ -334,14 +335,14 @@ class Answers(Case):
         self.assertEqual(0, expected(events, proof)[0], (events, proof))
 
     def ask(self, process: subprocess.Popen, lines: List[str]) -> None:
-        process.stdin.write("".join(line + "\n" for line in lines).encode())
-        process.stdin.flush()
+        opened(process.stdin).write("".join(line + "\n" for line in lines).encode())
+        opened(process.stdin).flush()
 
     def told(self, process: subprocess.Popen) -> List[str]:
         """The lines of the next answer, which has to come."""
-        lines = [process.stdout.readline().decode().rstrip("\n")]
+        lines = [opened(process.stdout).readline().decode().rstrip("\n")]
         while lines[0] in STATUSES[:2] and not lines[-1].endswith(" 0"):
-            lines.append(process.stdout.readline().decode().rstrip("\n"))
+            lines.append(opened(process.stdout).readline().decode().rstrip("\n"))
         return lines
 
     def test_example(self) -> None:
@@ -354,7 +355,9 @@ class Answers(Case):
         self.assertEqual((20, wanted), self.ends(self.begin("events")))
 
     def test_no_query(self) -> None:
-        for text, events in (("p inccnf\n", []), ("p inccnf\n1 0", [Event(False, [1])])):
+        cases: Tuple[Tuple[str, List[Event]], ...] = (
+            ("p inccnf\n", []), ("p inccnf\n1 0", [Event(False, [1])]))
+        for text, events in cases:
             self.assertEqual((0, []), self.answer(text))
             self.is_right(events, self.proof())
 
@@ -368,7 +371,7 @@ class Answers(Case):
                 self.assertIn(self.told(process)[0], STATUSES)
                 self.is_right(EVENTS[:at + 1], self.proof())
                 self.assertIsNone(process.poll())
-        process.stdin.close()
+        opened(process.stdin).close()
         self.assertEqual(20, process.wait(SECONDS))
 
     def test_calls(self) -> None:
@@ -382,7 +385,7 @@ class Answers(Case):
         for lines in (["p inccnf", "1 0", "a 1 0"], ["a -1 0"]):
             self.ask(process, lines)
             self.told(process)
-        process.stdin.close()
+        opened(process.stdin).close()
         self.assertEqual(20, process.wait(SECONDS))
         calls = re.findall(r"(read|write)\((\d+), ", (self.folder / "calls").read_text())
         calls = [call for call in calls if call[0] == "write" or call[1] == "0"]
@@ -410,7 +413,7 @@ class Answers(Case):
         process = self.begin("-", "answers", stdin=subprocess.PIPE, restore_signals=False)
         self.ask(process, ["p inccnf", "1 0", "a -1 0"])
         self.assertEqual(["s UNSATISFIABLE", "f -1 0"], self.told(process))
-        process.stdout.close()
+        opened(process.stdout).close()
         self.ask(process, ["a 1 0"])
         self.assertEqual(1, process.wait(SECONDS))
         self.is_right([Event(False, [1]), Event(True, [-1]), Event(True, [1])], self.proof())
@@ -441,8 +444,10 @@ class Answers(Case):
         """The proof may go neither where the events come from nor where the answers go."""
         text = "p inccnf\n1 0\na 1 0\n"
         (self.folder / "events").write_text(text)
-        for words, more in ((("events", "events"), {}), (("events", "./events"), {}),
-                            (("-", "events"), {"stdin": open(self.at("events"))})):
+        cases: Tuple[Tuple[Tuple[str, str], Dict[str, IO[str]]], ...] = (
+            (("events", "events"), {}), (("events", "./events"), {}),
+            (("-", "events"), {"stdin": open(self.at("events"))}))
+        for words, more in cases:
             told = self.ends(self.begin(*words, **more))
             self.assertEqual((1, ["c cannot write proof"]), told)
             self.assertEqual(text, (self.folder / "events").read_text())
@@ -485,11 +490,11 @@ class Answers(Case):
         """A model has each variable so far, and a core has literals of its query in their order."""
         variables, at = 0, 0
         for event in events:
-            variables = max([variables, *map(abs, event.literals)])
+            variables = max([variables, *(abs(literal) for literal in event.literals)])
             if event.asks:
                 found = [int(word) for word in lines[at + 1].split()[1:-1]]
                 if lines[at] == STATUSES[0]:
-                    self.assertEqual(list(range(1, variables + 1)), list(map(abs, found)))
+                    self.assertEqual(list(range(1, variables + 1)), [abs(word) for word in found])
                     self.assertTrue(set(found).issuperset(event.literals))
                 else:
                     once = list(dict.fromkeys(event.literals))
@@ -513,13 +518,16 @@ def library(folder: str) -> Tuple[Optional[str], str]:
 class Cadical(Case):
     """Proofs that CaDiCaL's library writes."""
 
+    solver: str
+
     @classmethod
     def setUpClass(cls) -> None:
         folder = tempfile.mkdtemp()
         cls.addClassCleanup(shutil.rmtree, folder)
-        cls.solver, why = library(folder)
-        if cls.solver is None:
+        solver, why = library(folder)
+        if solver is None:
             raise unittest.SkipTest(why)
+        cls.solver = solver
         (Path(folder) / "events").write_text("p inccnf\n")
         if subprocess.run([cls.solver, "events", "proof"], cwd=folder).returncode == 3:
             raise unittest.SkipTest("CaDiCaL's library is older than 2.1")

@@ -3,13 +3,13 @@
 
     tools/simulate.py [--no-cuts] [--starts S] [--join MB] [--check MB] [--receipt MB] FOLDER
 
-FOLDER is one of `conquer.py`. Prints a table: when the last leaf ends, when `join` does, which reads
-logs as they come, and when `check` of the joined proof does, in seconds; and when `cover` does if
-each job checks its own log (`--receipts`). S is what starting a leaf takes, MB are millions of bytes
-a second. A leaf that another's log has closed takes as long as that one if it is begun before; a
-half of a leaf takes 1.15 times the half of its time, and has as much more of its log. The job that
-searches the whole formula is left out. A block is played as it was: it is not cut, and not made
-anew for other numbers of cores.
+FOLDER is one of `conquer.py`. Prints a table: the second at which the last leaf ends; at which
+`join` ends, which reads logs as they come; at which `check` of the joined proof ends; and at which
+`cover` ends if each job checks its own log (`--receipts`). S are the seconds that the start of a
+leaf takes, MB are millions of bytes a second. A leaf that another's log has closed takes as long as
+that one, if it is begun before. A half of a leaf takes 1.15 times the half of its time, and its log
+has 1.15 times the half of the bytes. The job that searches the whole formula is left out. A block
+is played as it was: it is not cut, and not made anew for other numbers of cores.
 """
 import argparse
 import heapq
@@ -17,14 +17,14 @@ import itertools
 import os
 import sys
 from dataclasses import dataclass, field, replace
-from typing import Dict, Iterable, List, Optional, Tuple
+from typing import Container, Dict, Iterable, List, Optional, Tuple
 
 sys.dont_write_bytecode = True
 
-from conquering.cuts import MEANS, SECONDS
-from conquering.figures import is_race, spent
-from conquering.files import Cube, Fault, Folder, closed_by, log_of, read_cubes
-from conquering.leaf import CLOSED, Record, Records
+from leaf_jobs.cuts import MEANS, SECONDS
+from leaf_jobs.figures import is_race, spent
+from leaf_jobs.files import Cube, Fault, Folder, closed_by, log_of, read_cubes
+from leaf_jobs.leaf import CLOSED, Record, Records
 
 CORES = (1, 2, 4, 8, 16, 32, 64, 128, 256, 512, 1024)
 LOSS = 1.15  # what the halves of a leaf take together, for what it takes
@@ -49,7 +49,8 @@ def measured(path: str) -> List[Measured]:
     jobs = {cube: record for record in Records(folder).all()
             if record.outcome == CLOSED and not is_race(record) for cube in record.cubes}
     cubes = uncut(read_cubes(folder.at("trees", "%d.icnf" % folder.newest_tree())), jobs)
-    groups = [list(group) for _, group in itertools.groupby(cubes, lambda cube: jobs.get(cube, cube))]
+    job_of = lambda cube: jobs.get(cube, cube)
+    groups = [list(group) for _, group in itertools.groupby(cubes, job_of)]
     closes, closer = closings(folder, groups, set(jobs.values()))
     leaves = []
     for group in groups:
@@ -57,22 +58,22 @@ def measured(path: str) -> List[Measured]:
         job = own or closer.get(group[0])
         if job is None:
             raise Fault("c no job has closed the leaf %s" % " ".join(map(str, group[0])))
-        leaves.append(Measured(spent(job), job.bytes, closes.get(own, ()), len(group) > 1))
+        others = closes.get(own, ()) if own else ()
+        leaves.append(Measured(spent(job), job.bytes, others, len(group) > 1))
     return leaves
 
 
-def uncut(cubes: List[Cube], jobs: Dict[Cube, Record]) -> List[Cube]:
-    """The leaves, each that was cut and closed as one by its own job in place of what it was cut
-    into."""
-    paths = [next((cube[:depth] for depth in range(len(cube)) if cube[:depth] in jobs), cube)
+def uncut(cubes: List[Cube], closed: Container[Cube]) -> List[Cube]:
+    """The leaves. A leaf that was cut, and closed by its own job, stands in place of its parts."""
+    paths = [next((cube[:depth] for depth in range(len(cube)) if cube[:depth] in closed), cube)
              for cube in cubes]
     return list(dict.fromkeys(paths))
 
 
 def closings(folder: Folder, groups: List[List[Cube]], jobs: Iterable[Record]) -> Tuple[
         Dict[Record, Tuple[int, ...]], Dict[Cube, Record]]:
-    """For each job the places of the groups of leaves that its log closes; and for each leaf one whose
-    log closes it."""
+    """For each job the places of the groups of leaves that its log closes; and for each leaf a job
+    whose log closes it."""
     closes: Dict[Record, Tuple[int, ...]] = {}
     closer: Dict[Cube, Record] = {}
     for job in jobs:
@@ -88,14 +89,14 @@ def closings(folder: Folder, groups: List[List[Cube]], jobs: Iterable[Record]) -
 
 @dataclass(eq=False)
 class Part:
-    """A leaf, or a half of one that was cut: what is searched by one job."""
+    """What one job searches: a leaf, or a half of one that was cut."""
 
     leaf: int
     seconds: float
     bytes: float
     whole: Optional["Part"] = None  # what it is a half of
     halves: List["Part"] = field(default_factory=list)
-    began: Optional[float] = None
+    began: float = 0.0  # when a core has taken it
     closed: bool = False
 
 
@@ -106,7 +107,8 @@ class Play:
         self.leaves, self.cores, self.cuts = leaves, cores, cuts
         self.roots = [Part(place, leaf.seconds + starts, leaf.bytes)
                       for place, leaf in enumerate(leaves)]
-        self.waiting, self.running = list(self.roots), []  # the next is the last of those that wait
+        self.waiting = list(self.roots)  # the last is the next
+        self.running: List[Part] = []
         self.ends: List[Tuple[float, int, Optional[Part]]] = []
         self.now, self.events, self.count = 0.0, 0, 0
         self.logs: List[Tuple[float, float]] = []  # when each came, and its bytes
@@ -161,7 +163,8 @@ class Play:
         return True
 
     def close(self, part: Part) -> None:
-        """A part is closed, with all that it was cut into, and what it is a half of if both are."""
+        """Closes a part, with all that it was cut into, and also the whole if both halves are
+        closed."""
         self.take_away(part)
         whole = part.whole
         if whole is None:
@@ -190,7 +193,7 @@ def joined(play: Play, rate: float) -> float:
 
 
 def covered(leaves: List[Measured], cores: int, asked: argparse.Namespace) -> float:
-    """When `cover` has told it, if each job checks its log behind its search."""
+    """When `cover` ends, if each job checks its log after its search."""
     longer = [replace(leaf, seconds=leaf.seconds + leaf.bytes / (asked.receipt * 1e6))
               for leaf in leaves]
     play = Play(longer, cores, not asked.no_cuts, asked.starts)

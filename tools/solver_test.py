@@ -21,11 +21,11 @@ import time
 import unittest
 import uuid
 from pathlib import Path
-from typing import Any, Callable, Dict, Iterator, List, NamedTuple, Optional, Set
+from typing import Any, Callable, Dict, Iterator, List, NamedTuple, Optional, Sequence, Set
 
 sys.dont_write_bytecode = True
 
-from cases import EXAMPLES, dimacs, pigeons, run, satisfies
+from cases import EXAMPLES, dimacs, opened, pigeons, run, satisfies
 
 HERE = Path(__file__).resolve().parent
 SOLVER = HERE / "satcluster-solver"
@@ -35,6 +35,7 @@ MARK = "SATCLUSTER_TEST"
 CLIENTS = os.environ.get("SATCLUSTER_CLIENTS", "")
 S_LINES = {10: "s SATISFIABLE", 20: "s UNSATISFIABLE", 0: "s UNKNOWN"}
 
+WAYS: Sequence[List[str]] = ([], ["--jobs", "2"])
 LONG = pigeons(11)  # takes longer than a test
 BAD = "p cnf 1 1\n2 0\n"
 SORTS = """#include <assert.h>
@@ -164,14 +165,14 @@ class Case(unittest.TestCase):
 
 class Answers(Case):
     def test_proof(self) -> None:
-        for more in ([], ["--jobs", "2"], ["--lrat", "--no-binary"]):
+        for more in (*WAYS, ["--lrat", "--no-binary"]):
             formula = self.example("schur_3_14.cnf")
             self.decides(20, *more, formula, "f.lrat")
             self.verifies(formula, "f.lrat")
             os.remove(self.at("f.lrat"))
 
     def test_model(self) -> None:
-        for more in ([], ["--jobs", "2"]):
+        for more in WAYS:
             formula = self.example("random_100_sat.cnf")
             end = self.decides(10, *more, formula, "f.lrat")
             self.assertTrue(satisfies(Path(formula).read_text(), end.lines))
@@ -181,7 +182,7 @@ class Answers(Case):
 
     def test_standard_input(self) -> None:
         text = Path(self.example("schur_3_14.cnf")).read_bytes()
-        for words in ([], ["-"], ["/dev/stdin"], ["--jobs", "2"], ["-", "f.lrat"]):
+        for words in (*WAYS, ["-"], ["/dev/stdin"], ["-", "f.lrat"]):
             self.decides(20, *words, given=text)
         self.verifies(self.example("schur_3_14.cnf"), "f.lrat")
         ours, theirs = socket.socketpair()  # which cannot be opened by a name
@@ -211,13 +212,13 @@ class Answers(Case):
         self.env["SATCLUSTER"] = self.script("refuses", "echo c no memory; exit 1\n")
         for data in (BAD.encode(), gzip.compress(BAD.encode())[:9]):
             process = self.start(stdin=subprocess.PIPE)
-            process.stdin.write(data)
-            process.stdin.flush()
-            out = process.stdout.read().decode().splitlines()
+            opened(process.stdin).write(data)
+            opened(process.stdin).flush()
+            out = opened(process.stdout).read().decode().splitlines()
             self.assertEqual(("c no memory", "s UNKNOWN"), (out[0], out[-1]))
-            self.assertEqual((0, b""), (process.wait(timeout=SOON), process.stderr.read()))
+            self.assertEqual((0, b""), (process.wait(timeout=SOON), opened(process.stderr).read()))
             for pipe in (process.stdin, process.stdout, process.stderr):
-                pipe.close()
+                opened(pipe).close()
             self.leaves_nothing()
 
     def test_words_of_others(self) -> None:
@@ -265,8 +266,8 @@ class Answers(Case):
                               "4.lrat"], there)
             for number in "134":
                 self.verifies("kept/%s.cnf" % number, "kept/%s.lrat" % number)
-            words = [self.program, "model", "kept/2.cnf", "kept/2.answer"]
-            done = subprocess.run(words, cwd=str(self.folder), stdout=subprocess.PIPE)
+            model = [self.program, "model", "kept/2.cnf", "kept/2.answer"]
+            done = subprocess.run(model, cwd=str(self.folder), stdout=subprocess.PIPE)
             self.assertEqual(b"s VERIFIED\n", done.stdout)
             shutil.rmtree(self.at("kept"))
 
@@ -286,7 +287,7 @@ class Refusals(Case):
         self.write("bare.cnf", "1 2 0\n")
         self.write("empty.cnf", "")
         (self.folder / "mark.cnf").write_bytes(b"\xef\xbb\xbfp cnf 1 1\n1 0\n")
-        for more in ([], ["--jobs", "2"]):
+        for more in WAYS:
             self.refuses("line 2 fault 4(.|\n)*above the number of variables", *more, "bad.cnf")
             self.refuses("no file none.cnf", *more, "none.cnf")
             self.refuses("is a folder", *more, ".")
@@ -299,14 +300,16 @@ class Refusals(Case):
     def test_header_by_the_command_that_is_told(self) -> None:
         self.write("bare.cnf", "c 5 6\n1 2 0 -1\n2 0\n")
         told = "\n".join(self.answer("bare.cnf").lines)
-        command = re.search("`(awk.*NEW)`", told).group(1).replace("NEW", "new.cnf")
+        shown = re.search("`(awk.*NEW)`", told)
+        assert shown
+        command = shown.group(1).replace("NEW", "new.cnf")
         subprocess.run(["sh", "-c", command], cwd=str(self.folder), check=True)
         self.decides(10, "new.cnf")
 
     def test_proofs(self) -> None:
         name = self.write("f.cnf", BAD)
         self.write("g.cnf", BAD)
-        for more in ([], ["--jobs", "2"]):
+        for more in WAYS:
             self.refuses("no folder .*none", *more, name, "none/f.lrat")
             self.refuses("is a folder", *more, name, ".")
             self.refuses("formula itself", *more, name, name)
@@ -316,7 +319,7 @@ class Refusals(Case):
 
     def test_program(self) -> None:
         formula = self.example("four_clauses.cnf")
-        for more in ([], ["--jobs", "2"]):
+        for more in WAYS:
             self.refuses("no program none", "--program", "none", *more, formula)
         told = "echo c no memory; echo c There was not memory enough. >&2; exit 1\n"
         self.env["SATCLUSTER"] = self.script("no", told)
@@ -398,7 +401,7 @@ class Lies(Case):
     def test_names(self) -> None:
         """No name of a file prints an answer."""
         for name in ("none\ns UNSATISFIABLE", "s UNSATISFIABLE\n", "none\rs SATISFIABLE\n"):
-            for more in ([], ["--jobs", "2"]):
+            for more in WAYS:
                 self.assertEqual(0, self.answer(*more, name).status)
                 self.assertEqual(0, self.answer(*more, name, name + "/proof").status)
         end = self.answer("--x\ns SATISFIABLE", "none")
@@ -416,7 +419,7 @@ class Ends(Case):
 
     def test_parent_is_killed(self) -> None:
         self.write("long.cnf", LONG)
-        for more in ([], ["--jobs", "2"]):
+        for more in WAYS:
             words = [str(SOLVER), *more, "long.cnf"]
             code = ("import signal, subprocess; signal.signal(signal.SIGUSR2, signal.SIG_IGN); "
                     "subprocess.run(%r)" % words)
@@ -432,7 +435,7 @@ class Ends(Case):
             self.leaves_nothing()
 
     def test_solver_is_killed(self) -> None:
-        for more in ([], ["--jobs", "2"]):
+        for more in WAYS:
             process = self.begun(*more)
             process.kill()
             out, _ = process.communicate(timeout=SOON)
@@ -441,7 +444,7 @@ class Ends(Case):
 
     def test_solver_is_ended(self) -> None:
         for number in (signal.SIGTERM, signal.SIGINT, signal.SIGHUP):
-            for more in ([], ["--jobs", "2"]):
+            for more in WAYS:
                 process = self.begun(*more)
                 process.send_signal(number)
                 out, err = process.communicate(timeout=SOON)
@@ -501,7 +504,8 @@ class Readers(Case):
         self.assertEqual((self.VARIABLES + 1, "0"), (len(values), values[-1]))
 
     def read_slowly(self, descriptor: int) -> bytes:
-        data, piece = [], b"x"
+        data: List[bytes] = []
+        piece = b"x"
         while piece:
             time.sleep(0.5 if len(data) < 3 else 0.001)
             piece = os.read(descriptor, 1000 if len(data) < 3 else 8192)
@@ -510,10 +514,10 @@ class Readers(Case):
 
     def test_slow(self) -> None:
         process = self.start("f.cnf")
-        self.whole(self.read_slowly(process.stdout.fileno()))
-        self.assertEqual((10, b""), (process.wait(), process.stderr.read()))
-        process.stdout.close()
-        process.stderr.close()
+        self.whole(self.read_slowly(opened(process.stdout).fileno()))
+        self.assertEqual((10, b""), (process.wait(), opened(process.stderr).read()))
+        opened(process.stdout).close()
+        opened(process.stderr).close()
 
     def test_pipe_that_does_not_wait(self) -> None:
         """A descriptor is shared with whoever else has it, and so is that it never waits."""
@@ -522,8 +526,8 @@ class Readers(Case):
         process = self.start("f.cnf", stdout=write)
         os.close(write)
         self.whole(self.read_slowly(read))
-        self.assertEqual((10, b""), (process.wait(), process.stderr.read()))
-        process.stderr.close()
+        self.assertEqual((10, b""), (process.wait(), opened(process.stderr).read()))
+        opened(process.stderr).close()
         os.close(read)
 
     def test_short_answer_read_late(self) -> None:
@@ -535,19 +539,19 @@ class Readers(Case):
     def test_reader_that_goes(self) -> None:
         """Quietly: before the answer, and within it."""
         process = self.start("f.cnf")
-        process.stdout.read(100)
-        process.stdout.close()
-        self.assertEqual(b"", process.stderr.read())
+        opened(process.stdout).read(100)
+        opened(process.stdout).close()
+        self.assertEqual(b"", opened(process.stderr).read())
         process.wait(timeout=SOON)
-        process.stderr.close()
+        opened(process.stderr).close()
         self.leaves_nothing()
         self.write("long.cnf", LONG)
-        for more in ([], ["--jobs", "2"]):
+        for more in WAYS:
             process = self.start(*more, "long.cnf")
             self.soon("a search", lambda: len(self.running()) > 1)
-            process.stdout.close()
-            self.assertEqual((0, b""), (process.wait(timeout=SOON), process.stderr.read()))
-            process.stderr.close()
+            opened(process.stdout).close()
+            self.assertEqual((0, b""), (process.wait(timeout=SOON), opened(process.stderr).read()))
+            opened(process.stderr).close()
             self.leaves_nothing()
 
     def test_descriptors_that_are_closed(self) -> None:

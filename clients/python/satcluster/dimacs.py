@@ -5,7 +5,7 @@
     with open("f.cnf", encoding="ascii") as file:
         solver.append_formula(dimacs.load(file))
 """
-from typing import Iterable, Iterator, List, NamedTuple, NoReturn, TextIO, Tuple
+from typing import IO, Iterable, Iterator, List, NamedTuple, NoReturn, Tuple
 
 WIDTH = 10  # digits of a number that is filled in later
 
@@ -44,7 +44,7 @@ def _size(line: int, words: List[str]) -> Size:
 
 def load(file: Iterable[str]) -> Iterator[List[int]]:
     """Clause after clause of a DIMACS text; a clause may span lines. Raises ValueError, which tells
-    the line, where the text is none: without a header, with a token that is no number, a variable
+    the line, if the text is none: without a header, with a token that is no number, a variable
     above the header's, or more or fewer clauses than that says."""
     rows = _tokens(file)
     number, words = next(rows, (1, [""]))
@@ -66,7 +66,7 @@ def load(file: Iterable[str]) -> Iterator[List[int]]:
         _refused(number, "the text ends before the last of %d clauses" % size.clauses)
 
 
-def dump(clauses: Iterable[Iterable[int]], file: TextIO, variables: int = 0) -> Size:
+def dump(clauses: Iterable[Iterable[int]], file: IO[str], variables: int = 0) -> Size:
     """Writes the clauses, and tells how many variables and clauses the header has; `variables` is
     the least number of the former. The header is filled in at the end, so the file has to be one
     in which can be sought; for another one all clauses are held first. Raises ValueError if a
@@ -89,7 +89,7 @@ def dump(clauses: Iterable[Iterable[int]], file: TextIO, variables: int = 0) -> 
     return size
 
 
-def _dump(clauses: Iterable[Iterable[int]], file: TextIO) -> Size:
+def _dump(clauses: Iterable[Iterable[int]], file: IO[str]) -> Size:
     greatest = count = 0
     for clause in clauses:
         literals = [*clause]

@@ -2,7 +2,7 @@
 import os
 import subprocess
 import threading
-from typing import List, NamedTuple, NoReturn, Optional
+from typing import IO, List, NamedTuple, NoReturn, Optional
 
 from .program import SolverError
 
@@ -22,6 +22,12 @@ def _write(descriptor: int, data: bytes) -> None:
     left = memoryview(data)
     while left:
         left = left[os.write(descriptor, left):]
+
+
+def _opened(pipe: Optional[IO[bytes]]) -> IO[bytes]:
+    """A pipe of a process that was started with it."""
+    assert pipe is not None
+    return pipe
 
 
 class Session:
@@ -46,6 +52,8 @@ class Session:
         except OSError as why:
             self._close_events()
             raise SolverError("%s cannot be run: %s" % (program, why)) from why
+        self._input = _opened(self._process.stdin)
+        self._output = _opened(self._process.stdout)
         self.sent = 0  # bytes of the events
         self.is_open = True
 
@@ -94,7 +102,7 @@ class Session:
             if self._events is not None:
                 _write(self._events.fileno(), data)
             self.sent += len(data)
-            _write(self._process.stdin.fileno(), data)
+            _write(self._input.fileno(), data)
         except BrokenPipeError:
             self._died()
         except BaseException:
@@ -103,7 +111,7 @@ class Session:
 
     def _read(self) -> bytes:
         """The next line of an answer. A `c` line tells why there is none."""
-        line = self._process.stdout.readline()
+        line = self._output.readline()
         if line[:1] == b"c" or line[-1:] != b"\n":
             self._line = line or self._line
             self._died()
@@ -149,13 +157,13 @@ class Session:
         timer = threading.Timer(PATIENCE, self._process.kill)
         timer.start()
         try:
-            self._process.stdin.close()
-            for line in self._process.stdout:
+            self._input.close()
+            for line in self._output:
                 self._line = line
             self._process.wait()
         finally:
             timer.cancel()
-            self._process.stdout.close()
+            self._output.close()
             self._close_events()
 
     def _close_events(self) -> None:

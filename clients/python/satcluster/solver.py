@@ -82,7 +82,7 @@ class Solver:
         while True:
             try:
                 rows.extend([*clause] for clause in islice(clauses, BATCH))
-            finally:  # also where the next clause cannot be read
+            finally:  # also if the next clause cannot be read
                 self._give(rows)
             if len(rows) < BATCH:
                 return
@@ -93,7 +93,7 @@ class Solver:
             self._session.add(self._spelled(rows))
             return
         except (TypeError, ValueError):
-            pass  # one is refused: below by itself, and behind those before it
+            pass  # one is refused: it is found below, after those before it are given
         for row in rows:
             self._session.add(self._spelled([row]))
 
@@ -118,7 +118,7 @@ class Solver:
         return None
 
     def get_model(self) -> Optional[List[int]]:
-        """The assignment behind the last answer: at place v - 1 variable v or its negation, for all
+        """The assignment of the last answer: at place v - 1 variable v or its negation, for all
         variables so far. None if the last answer was not True."""
         return list(self._reply.literals) if self._reply.status is True else None
 

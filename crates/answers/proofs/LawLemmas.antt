@@ -10,7 +10,7 @@ use Rattle.dimacs.specs.logic.Literal.{Literal, Clause, IsTautology, IsWithin, h
 use Rattle.dimacs.specs.logic.Propagation.{Assumed, with_literal}
 use Rattle.dimacs.specs.text.Numbers.{number}
 use Rattle.dimacs.specs.text.Rows.{◌>>=◌}
-use Rattle.dimacs.specs.text.Spelling.{ended}
+use Rattle.dimacs.specs.text.Grammar.{ended}
 use Rattle.dimacs.specs.text.Words.{lines}
 use Rattle.dimacs.proofs.LiteralLemmas.{literal_back, literal_size, number_back, number_size}
 use Rattle.dimacs.proofs.Members.{Contains-has, Contains-head, has-Contains}
@@ -20,7 +20,7 @@ use Rattle.answers.specs.declared.fault.AnswerFault.{AnswerFault}
 use Rattle.answers.specs.declared.fault.Kind.{Kind}
 use Rattle.answers.specs.declared.fault.Kind.TheVariants.{BadToken, BehindEnd, ComplementaryPair, NotEnded}
 use Rattle.answers.specs.Grammar.{AnswerLine, Passed, Values, Foreign, Names, line_of, tokens_of}
-use Rattle.answers.specs.Reading.{Naming, answer_of, fault, nothing_named, read_as, read_found, read_line, read_lines, read_literal, read_number, read_token, read_tokens}
+use Rattle.answers.specs.Parse.{Naming, answer_of, fault, nothing_named, read_as, read_found, read_line, read_lines, read_literal, read_number, read_token, read_tokens}
 use Rattle.answers.specs.inner.Lines.{HasNoPair}
 use Rattle.answers.proofs.NamedLemmas.{no_pair_with}
 use Rattle.answers.proofs.TokenLemmas.{number_named}
@@ -190,7 +190,7 @@ record NamesMore (L : Clause) (zs : List ℤ) (c : Naming) : Type 0 where
   within : AllByRecursion (IsWithin 99999999) named
   no_pair : HasNoPair c.named
 
--- behind the 0 nothing stands
+-- after the 0 nothing stands
 none_behind : (zs : List ℤ) (m c : Naming) → m.ended ≡ true → run (value 0) zs m ≡ Ok c → (zs ≡ []) × (m ≡ c)
 unfolding run
 none_behind [] m c e h = let same : m ≡ c = cc in (refl, same)

@@ -10,11 +10,11 @@ use Rattle.answers.specs.declared.fault.AnswerFault.{AnswerFault}
 use Rattle.answers.specs.declared.fault.Kind.TheVariants.{ForeignLine}
 use Rattle.answers.specs.Grammar.{AnswerLine, Passed, Values, Foreign, line_of}
 use Rattle.answers.specs.Pieces.{Marking, naming_of}
-use Rattle.answers.specs.Reading.{Naming, no_memory, read_as, read_line, read_tokens}
+use Rattle.answers.specs.Parse.{Naming, no_memory, read_as, read_line, read_tokens}
 use Rattle.std.proofs.lemmas.List.Elements.{All-cons, All-nil}
 use Rattle.dimacs.specs.inner.Pieces.{IsOpen}
-use Rattle.answers.specs.declared.line.Begun.{Begun}
-use Rattle.answers.specs.declared.line.Begun.TheVariants.{Passed as BegunPassed, Blank as BegunBlank, Values as BegunValues}
+use Rattle.answers.specs.declared.open_line.Begun.{Begun}
+use Rattle.answers.specs.declared.open_line.Begun.TheVariants.{Passed as BegunPassed, Blank as BegunBlank, Values as BegunValues}
 use Rattle.answers.specs.inner.Lines.{begun_text, TakesPart, RefusesPart, TakesValues, RefusesValues}
 use Rattle.answers.proofs.TokenLemmas.{tokens_append}
 use Rattle.answers.proofs.WordLemmas.{words_behind, words_front, words_ink, words_passed, words_stay}
@@ -34,7 +34,7 @@ values_go_on n m token text end at h e none = λ rest.
     let is : text ≡ end = sym (e ∙ take_all at text all) in
     ap (λ t. read_tokens n (words ((token ++ t) ++ rest)) (naming_of m)) is
 
--- the token ends, and another one may begin behind the last white space
+-- the token ends, and another one may begin after the last white space
 module _ (n : ℕ) (m : Marking) (token text end later whole : List ℕ) (at last : ℕ)
     (inside : at < length text) (white : is_white (get_or text at 0) ≡ true) (is_end : end ≡ take at text) (is_later : later ≡ drop at text)
     (top : last ≤ length later) (whites : 0 < last → is_white (get_or later (last - 1) 0) ≡ true) (is_whole : whole ≡ take last later) where
@@ -85,7 +85,7 @@ either : {T E : Type 0} (r : Result T E) (P P' : T → Type 0) (Q Q' : E → Typ
 either (Ok x) P P' Q Q' f g h = f x h
 either (Err e) P P' Q Q' f g h = g e h
 
--- behind a v
+-- after a v
 pub values_on : (n : ℕ) (old new : Marking) (token part token' : List ℕ) (r : Result (Unit {0}) AnswerFault)
     → MatchResult r (λ _. TakesValues n old (token ++ part) new token') (λ f. RefusesValues n old (token ++ part) f)
     → MatchResult r (λ _. TakesPart n old (118 ∷ (token ++ part)) new (118 ∷ token')) (λ f. RefusesPart n old (118 ∷ (token ++ part)) f)

@@ -11,7 +11,7 @@ use Rattle.dimacs.specs.text.Words.{lines}
 use Rattle.dimacs.proofs.RowLemmas.{fails_by}
 use Rattle.answers.specs.declared.fault.AnswerFault.{AnswerFault}
 use Rattle.answers.specs.Pieces.{GivesNamed, HasRead, LinesRead, Marking, Within, Failed, naming_of, read_on}
-use Rattle.answers.specs.Reading.{Naming, answer_of, end_of, no_memory, read_line, read_lines}
+use Rattle.answers.specs.Parse.{Naming, answer_of, end_of, no_memory, read_line, read_lines}
 use Rattle.answers.specs.inner.Lines.{Leads, Refuses, RefusesPart, TakesPart}
 
 -- ---- the lines of bytes

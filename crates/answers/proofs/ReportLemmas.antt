@@ -11,7 +11,7 @@ use Rattle.dimacs.proofs.Members.{Contains-cons, Contains-cons_cases, Contains-h
 use Rattle.answers.specs.declared.fault.AnswerFault.{AnswerFault}
 use Rattle.answers.specs.declared.report.ModelReport.{ModelReport}
 use Rattle.answers.specs.Grammar.{IsMet, Verifies}
-use Rattle.answers.specs.Reading.{answer_of}
+use Rattle.answers.specs.Parse.{answer_of}
 use Rattle.answers.specs.Reports.{IsModelReport, IsReport, first_missed, is_missed, report_status}
 use Rattle.answers.specs.inner.Lines.{HasNoPair}
 use Rattle.answers.proofs.LawLemmas.{found_names, names_found}

@@ -10,7 +10,7 @@ use Rattle.dimacs.specs.text.Rows.{Fails, ◌>>=◌}
 use Rattle.dimacs.proofs.RowLemmas.{fails_by}
 use Rattle.answers.specs.declared.fault.AnswerFault.{AnswerFault}
 use Rattle.answers.specs.declared.fault.Kind.TheVariants.{BadToken, BehindEnd}
-use Rattle.answers.specs.Reading.{Naming, fault, no_memory, read_found, read_literal, read_number, read_token, read_tokens}
+use Rattle.answers.specs.Parse.{Naming, fault, no_memory, read_found, read_literal, read_number, read_token, read_tokens}
 
 no_number : (o : Option ℤ) → option_map capped o ≡ None → o ≡ None
 no_number None h = refl

@@ -9,7 +9,7 @@ use Rattle.dimacs.proofs.RowFaults.{bind_told, either_told}
 use Rattle.answers.specs.declared.fault.AnswerFault.{AnswerFault}
 use Rattle.answers.specs.declared.fault.Kind.TheVariants.{BadToken, ComplementaryPair, NoMemory}
 use Rattle.answers.specs.Grammar.{AnswerLine, Passed, Values, Foreign, line_of}
-use Rattle.answers.specs.Reading.{Naming, answer_of, fault, nothing_named, read_as, read_found, read_line, read_lines, read_token, read_tokens}
+use Rattle.answers.specs.Parse.{Naming, answer_of, fault, nothing_named, read_as, read_found, read_line, read_lines, read_token, read_tokens}
 
 IsTold : AnswerFault → Type 0
 IsTold f = f.kind ≢ NoMemory

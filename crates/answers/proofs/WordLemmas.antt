@@ -45,7 +45,7 @@ words_front text b (suc k) h white =
     ∙ words_split (take k text) (get_or text k 0) (drop (suc k) text ++ b) w
     ∙ ap (λ ws. ws ++ words (drop (suc k) text ++ b)) (sym (ap words front ∙ words_end (take k text) (get_or text k 0) w))
 
--- behind a begun token
+-- after a begun token
 pub words_behind : (token text rest : List ℕ) (n : ℕ) → n < length text → is_white (get_or text n 0) ≡ true → words ((token ++ text) ++ rest) ≡ words (token ++ take n text) ++ words (drop n text ++ rest)
 words_behind token text rest n lt white =
     let cut : drop n text ≡ get_or text n 0 ∷ drop (suc n) text = drop-cons text n 0 lt in

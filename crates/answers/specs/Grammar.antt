@@ -6,7 +6,7 @@ use Rattle.dimacs.specs.logic.Cnf.{Cnf}
 use Rattle.dimacs.specs.logic.Literal.{Literal, Clause, IsTautology, IsWithin}
 use Rattle.dimacs.specs.text.Numbers.{number}
 use Rattle.dimacs.specs.text.Rows.{by_tokens}
-use Rattle.dimacs.specs.text.Spelling.{ended}
+use Rattle.dimacs.specs.text.Grammar.{ended}
 use Rattle.dimacs.specs.text.Words.{lines, words}
 
 -- a line that is passed over, the tokens of one that holds values, or a line that is none of an answer
@@ -15,7 +15,7 @@ pub data AnswerLine : Type 0 where
   Values : List (List ℕ) → AnswerLine
   Foreign : AnswerLine
 
--- the first byte decides: c and s are passed over, as is white space alone, and behind a v stand values
+-- the first byte decides: c and s are passed over, as is white space alone, and after a v stand values
 abbrev pub line_of : List ℕ → AnswerLine
 line_of [] = Passed
 line_of (b ∷ bs) =

@@ -1,6 +1,6 @@
 pub mod Faults
 pub mod Grammar
 pub mod Pieces
-pub mod Reading
+pub mod Parse
 pub mod Reports
 pub mod inner

@@ -5,7 +5,7 @@ use Rattle.dimacs.specs.logic.Propagation.{Assumed}
 use Rattle.dimacs.specs.text.Rows.{Fails}
 use Rattle.dimacs.specs.text.Words.{lines}
 use Rattle.answers.specs.declared.fault.AnswerFault.{AnswerFault}
-use Rattle.answers.specs.Reading.{Naming, answer_of, no_memory, read_lines}
+use Rattle.answers.specs.Parse.{Naming, answer_of, no_memory, read_lines}
 
 -- the literals whose mark in a table is set; past its end none is
 abbrev pub named_by : List Bool → Assumed

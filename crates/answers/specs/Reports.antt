@@ -9,7 +9,7 @@ use Rattle.answers.specs.declared.report.ModelReport.{ModelReport}
 use Rattle.answers.specs.Faults.{number_of_kind}
 use Rattle.answers.specs.Grammar.{Verifies}
 use Rattle.answers.specs.Pieces.{Progress}
-use Rattle.answers.specs.Reading.{answer_of}
+use Rattle.answers.specs.Parse.{answer_of}
 
 -- no literal of the clause is named
 abbrev pub is_missed : Assumed → Clause → Bool
@@ -33,7 +33,7 @@ abbrev pub report_text : Cnf → Result Assumed AnswerFault → List ℕ
 report_text F (Ok named) = clause_text (first_missed named F)
 report_text F (Err f) = fault_text f
 
--- 0 where an answer is right and no clause is missed, else 1
+-- 0 if an answer is right and no clause is missed, else 1
 abbrev pub report_status : Cnf → Result Assumed AnswerFault → ℕ
 report_status F (Ok named) = if is_none (first_missed named F) then 0 else 1
 report_status F (Err f) = 1

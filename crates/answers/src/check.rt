@@ -6,7 +6,7 @@ ghost use Rattle.answers.specs.Reports.{IsModelReport, IsReport};
 ghost use Rattle.answers.specs.Pieces.{GivesNamed, HasRead};
 
 use crate::fault::{AnswerFault, Kind};
-use crate::named::Named;
+use crate::named_literals::Named;
 use crate::reader::AnswerReader;
 use crate::report::{ModelReport, judged, refused};
 use dimacs::Formula;
@@ -20,7 +20,6 @@ pub struct ModelCheck {
     reader: AnswerReader,
 }
 
-// By hand, so that whoever owns one drops it by one call, and no proof there goes through its parts.
 impl Drop for ModelCheck {
     fn drop(self) {
         let ModelCheck {
@@ -75,7 +74,7 @@ impl ModelCheck {
         self.reader.feed(piece)
     }
 
-    /// The report, where no further byte comes: status 0 exactly where the answer names literals, none with its negation, of which
+    /// Ends the text, and gives the report: status 0 exactly if the answer names literals, none with its negation, of which
     /// each clause has one; then some assignment satisfies the formula. The error stands for want of memory.
     pub fn finish(self) -> Result<ModelReport, AllocError>
         ensures { (bytes : List ℕ) → HasRead self.progress bytes → IfOk result (IsModelReport self.formula bytes) }

@@ -2,7 +2,7 @@
 
 ghost use Rattle.std.specs.Prelude.{◌≡◌};
 ghost use Rattle.answers.specs.Faults.{number_of_kind};
-ghost use Rattle.answers.specs.Reading.{no_memory};
+ghost use Rattle.answers.specs.Parse.{no_memory};
 
 use std::alloc::{AllocError, AllocFailed};
 use thiserror::Error;
@@ -17,7 +17,7 @@ pub enum Kind {
     /// A value is no number, or is one of a variable above 99,999,999.
     #[error("a value is no literal")]
     BadToken,
-    /// A token stands behind the `0`.
+    /// A token stands after the `0`.
     #[error("a value stands behind the 0")]
     BehindEnd,
     /// A literal is named whose negation was named.

@@ -5,7 +5,7 @@ ghost use Rattle.dimacs.specs.logic.Cnf.{Cnf, Sat};
 ghost use Rattle.dimacs.specs.logic.Literal.{Literal, has};
 ghost use Rattle.dimacs.specs.logic.Propagation.{Assumed};
 ghost use Rattle.answers.specs.Grammar.{Names, Verifies};
-ghost use Rattle.answers.specs.Reading.{answer_of};
+ghost use Rattle.answers.specs.Parse.{answer_of};
 
 use crate::fault::Kind;
 

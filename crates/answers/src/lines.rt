@@ -3,18 +3,18 @@
 ghost use Rattle.std.specs.Prelude.{◌≡◌, ◌≤◌, ◌+◌, ◌^◌, ◌∷◌, [], false, MatchResult, OnErr};
 ghost use Rattle.dimacs.specs.inner.Pieces.{IsOpen};
 ghost use Rattle.answers.specs.Pieces.{GivesNamed, read_on};
-ghost use Rattle.answers.specs.Reading.{no_memory};
+ghost use Rattle.answers.specs.Parse.{no_memory};
 ghost use Rattle.answers.specs.inner.Lines.{Leads, Refuses};
 
 use crate::fault::AnswerFault;
-use crate::line::Line;
-use crate::named::Named;
-use crate::values::Values;
-use crate::words::cut_line;
+use crate::named_literals::Named;
+use crate::open_line::Line;
+use crate::token_cut::cut_line;
+use crate::value_lines::Values;
 use std::alloc::{AllocError, Global};
 use std::marker::Model;
 
-/// The number of the line behind so many lines. A number that has no room in 64 bits, and no other, is refused as for want of memory.
+/// The number of the line after so many lines. A number that has no room in 64 bits, and no other, is refused as for want of memory.
 fn next_number(count: u64) -> Result<u64, AnswerFault>
     ensures number { MatchResult result (λ n. n ≡ count + 1) (λ fault. fault ≡ no_memory) }
     ensures only { OnErr result (2 ^ 64 ≤ count + 1) }

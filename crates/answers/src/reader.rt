@@ -2,11 +2,11 @@
 
 ghost use Rattle.std.specs.Prelude.{ℕ, List, [], ◌++◌};
 ghost use Rattle.answers.specs.Pieces.{GivesNamed, HasRead};
-ghost use Rattle.answers.specs.Reading.{answer_of};
+ghost use Rattle.answers.specs.Parse.{answer_of};
 
 use crate::fault::AnswerFault;
 use crate::lines::AnswerLines;
-use crate::named::Named;
+use crate::named_literals::Named;
 use std::alloc::Global;
 use std::marker::Model;
 
@@ -50,7 +50,7 @@ impl AnswerReader {
         }
     }
 
-    /// The literals that are named, or the first fault of the text, where no further byte comes.
+    /// Ends the text, and gives the literals that it names, or its first fault.
     pub fn finish(self) -> Result<Named, AnswerFault>
         ensures { (bytes : List ℕ) → HasRead self bytes → GivesNamed result (answer_of bytes) }
     {

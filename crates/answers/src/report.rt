@@ -12,7 +12,7 @@ use std::alloc::{AllocError, Global};
 pub struct ModelReport {
     /// What is printed, each line ended by LF.
     pub text: Vec<u8>,
-    /// The exit status: 0 where the formula is satisfied, else 1.
+    /// The exit status: 0 if the formula is satisfied, else 1.
     pub status: u8,
 }
 

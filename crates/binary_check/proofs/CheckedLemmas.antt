@@ -7,16 +7,16 @@ use Rattle.lrat_text.specs.declared.fault.TextFault.{TextFault}
 use Rattle.lrat_text.specs.declared.step.Step.{Step}
 use Rattle.lrat_text.specs.Proof.{Refutation, TakesStep, AddsEmpty}
 use Rattle.lrat_binary.specs.Grammar.{Spells}
-use Rattle.lrat_binary.specs.Reading.{steps_in}
+use Rattle.lrat_binary.specs.Parser.{steps_in}
 use Rattle.lrat_check.specs.declared.fault.StepFault.{StepFault}
-use Rattle.lrat_check.specs.Faults.{step_fault, adds_empty, live_after, top_after}
-use Rattle.lrat_check.specs.Checking.{check_step}
+use Rattle.lrat_check.specs.StepFaults.{step_fault, adds_empty, live_after, top_after}
+use Rattle.lrat_check.specs.ProofFaults.{check_step}
 use Rattle.lrat_check.proofs.Checked.{adds_empty_is, adds_empty_from}
 use Rattle.lrat_check.proofs.Taken.{taken_from_no_fault, no_fault_from_taken}
-use Rattle.binary_check.specs.Accepting.{AcceptsBinary}
-use Rattle.binary_check.specs.Checking.{behind_steps, check_steps, check_reading, check_binary_of}
+use Rattle.binary_check.specs.BinaryProof.{AcceptsBinary}
+use Rattle.binary_check.specs.FirstFault.{behind_steps, check_steps, check_reading, check_binary_of}
 
--- nothing is wrong behind the last step, and the empty clause was added
+-- nothing is wrong after the last step, and the empty clause was added
 ended_well : (refuted : Bool) (n : ℕ) (fault : Option TextFault) → behind_steps refuted n fault ≡ Ok tt → (fault ≡ None) × (refuted ≡ true)
 ended_well true n None e = (refl, refl)
 ended_well false n None e = absurd cc

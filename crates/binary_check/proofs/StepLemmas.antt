@@ -1,9 +1,9 @@
 -- A step, taken by a checker.
 use Rattle.std.proofs.Common.{◌≡◌, ℕ, Bool, true, false, None, Ok, refl, sym, ◌∙◌, ap}
 use Rattle.lrat_text.specs.declared.step.Step.{Step}
-use Rattle.lrat_check.specs.Faults.{step_fault, live_after, top_after, adds_empty}
-use Rattle.lrat_check.specs.State.{State, IsRunning, Taken}
-use Rattle.lrat_check.specs.Checking.{check_line, check_step}
+use Rattle.lrat_check.specs.StepFaults.{step_fault, live_after, top_after, adds_empty}
+use Rattle.lrat_check.specs.State.{State, IsRunning, StepTaken}
+use Rattle.lrat_check.specs.ProofFaults.{check_line, check_step}
 use Rattle.lrat_check.proofs.Checked.{adds_empty_is, adds_empty_from}
 use Rattle.lrat_check.proofs.Taken.{no_fault_from_taken}
 use Rattle.binary_check.specs.inner.Steps.{GoesOn}
@@ -23,7 +23,7 @@ module _ (old new : State) (step : Step) (n : ℕ) (fine : old.fault ≡ None) w
         ∙ ap (λ (s : State). later s.refuted s.live s.top) (sym same),
   )
 
-  taken_on : old.refuted ≡ false → Taken old step new → GoesOn old n step new
+  taken_on : old.refuted ≡ false → StepTaken old step new → GoesOn old n step new
   taken_on runs taken =
       let exact : (step_fault old.live old.top step ≡ None) × (new.live ≡ live_after old.live step) × (new.top ≡ top_after old.top step)
       = no_fault_from_taken old.live new.live old.top new.top step taken.takes in (
@@ -37,7 +37,7 @@ module _ (old new : State) (step : Step) (n : ℕ) (fine : old.fault ≡ None) w
             ∙ ap (λ t. later new.refuted new.live t) (sym exact.2),
       )
 
-  pub passes : (old.refuted ≡ true → new ≡ old) → (IsRunning old → Taken old step new) → GoesOn old n step new
+  pub passes : (old.refuted ≡ true → new ≡ old) → (IsRunning old → StepTaken old step new) → GoesOn old n step new
   passes finished running = at old.refuted refl
     where
       at : (b : Bool) → old.refuted ≡ b → GoesOn old n step new

@@ -1,4 +1,4 @@
-pub mod Accepting
-pub mod Checking
+pub mod BinaryProof
+pub mod FirstFault
 pub mod Stream
 pub mod inner

@@ -1,6 +1,6 @@
 //! Laws of accepted proofs, as contracts of calls that do nothing.
 
-ghost use Rattle.binary_check.specs.Accepting.{BinarySoundness};
+ghost use Rattle.binary_check.specs.BinaryProof.{BinarySoundness};
 
 /// No assignment satisfies a formula that has an accepted proof in binary form.
 pub fn accepted_binary_proofs_are_sound()

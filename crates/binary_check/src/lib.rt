@@ -1,7 +1,7 @@
-//! The checker of LRAT proofs in binary form: the steps that bytes spell, over the store and the propagation of `lrat_check`.
+//! The checker of LRAT proofs in binary form. It checks the steps that the bytes spell with the checker of `lrat_check`.
 //!
-//! What a layer above may rest on: whatever bytes come in whatever pieces, [`BinaryChecker::finish`] answers `Ok` if and only if they spell
-//! steps of which a front refutes the formula; else it tells the first fault, and the number of the step that has it.
+//! A layer above may rely on this: however the bytes are cut into pieces, [`BinaryChecker::finish`] answers `Ok` if and only if they spell
+//! steps of which a prefix refutes the formula. Otherwise it answers the first fault with the number of its step, or want of memory.
 #![tactic(auto)]
 
 mod laws;

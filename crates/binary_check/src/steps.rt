@@ -1,14 +1,14 @@
-//! What takes the steps of a proof, and checks them.
+//! The consumer of a proof's steps that checks each of them.
 
 ghost use Rattle.std.specs.Prelude.{◌≡◌, ◌+◌, MatchResult};
-ghost use Rattle.lrat_check.specs.Checking.{no_memory};
-ghost use Rattle.lrat_check.specs.inner.Checking.{step_refusal};
+ghost use Rattle.lrat_check.specs.ProofFaults.{no_memory};
+ghost use Rattle.lrat_check.specs.inner.LineOutcomes.{step_refusal};
 
 use lrat_binary::TakesSteps;
 use lrat_check::{CheckFault, Checker, StepFault};
 use lrat_text::StepRef;
 
-/// The fault of a step that is refused.
+/// The fault of a refused step, with the step's number in place of a line's.
 fn step_refused(fault: StepFault, number: u64) -> CheckFault
     ensures { result ≡ step_refusal fault number }
 {
@@ -22,7 +22,7 @@ fn step_refused(fault: StepFault, number: u64) -> CheckFault
     }
 }
 
-/// The number of the next step; none where it has no room in 64 bits.
+/// The number of the next step. If it does not fit 64 bits, the answer is want of memory.
 fn next_number(number: u64) -> Result<u64, CheckFault>
     ensures { MatchResult result (λ next. next ≡ number + 1) (λ fault. fault ≡ no_memory) }
 {
@@ -32,14 +32,13 @@ fn next_number(number: u64) -> Result<u64, CheckFault>
     }
 }
 
-/// What is handed the steps of a proof, one after the other.
+/// A checker, and the number of the step that it checks next.
 pub(crate) struct StepChecker {
     pub(crate) checker: Checker,
-    /// The number of the next step.
+    /// The number of the next step, from 1.
     pub(crate) number: u64,
 }
 
-// By hand, so that whoever owns one drops it by one call, and no proof there goes through its parts.
 impl Drop for StepChecker {
     fn drop(self) {
         let StepChecker {

@@ -1,10 +1,10 @@
-//! Checks a proof in binary form, whole or in any pieces.
+//! Checking a proof in binary form that comes in pieces, or as a whole.
 
 ghost use Rattle.std.specs.Prelude.{◌≡◌, ◌≢◌, ◌⊎◌, [], None, Ok, Err, OnOk, IfOk, MatchResult};
-ghost use Rattle.lrat_binary.specs.Reading.{Between};
-ghost use Rattle.lrat_check.specs.Checking.{no_memory, GivesCheck};
-ghost use Rattle.binary_check.specs.Accepting.{AcceptsBinary};
-ghost use Rattle.binary_check.specs.Checking.{check_binary_of, behind_steps};
+ghost use Rattle.lrat_binary.specs.Parser.{BetweenSteps};
+ghost use Rattle.lrat_check.specs.ProofFaults.{no_memory, GivesCheck};
+ghost use Rattle.binary_check.specs.BinaryProof.{AcceptsBinary};
+ghost use Rattle.binary_check.specs.FirstFault.{check_binary_of, behind_steps};
 ghost use Rattle.binary_check.specs.Stream.{Within, Failed, check_more, has_failed, HasTaken, TakesPiece};
 ghost use Rattle.binary_check.specs.inner.Stream.{LeadsTo, feed_refusal};
 ghost use Rattle.std.specs.Result.{result_err};
@@ -17,10 +17,10 @@ use lrat_text::TextFault;
 use std::alloc::{AllocError, Global};
 use std::marker::Model;
 
-/// The fault of a proof of which no step adds the empty clause.
+/// The fault number of a proof none of whose steps adds the empty clause.
 const NOT_REFUTED: u8 = 13;
 
-/// The fault of bytes that were not taken to their end, where the next step has this number.
+/// The fault of a piece that was refused, if the next step has this number.
 fn refused(fault: FeedFault<CheckFault>, number: u64) -> CheckFault
     ensures { result ≡ feed_refusal fault number }
 {
@@ -30,7 +30,7 @@ fn refused(fault: FeedFault<CheckFault>, number: u64) -> CheckFault
     }
 }
 
-/// Takes a piece behind the step that is begun.
+/// Takes the next piece, which continues the incomplete step.
 fn take_piece(
     begun: &mut BinaryReader,
     steps: &mut StepChecker,
@@ -47,7 +47,7 @@ fn take_piece(
     }
 }
 
-/// What is answered where no further byte comes.
+/// The answer at the end of the proof.
 fn end(rest: Result<(), TextFault>, is_refuted: bool, number: u64) -> Result<(), CheckFault>
     ensures { rest ≢ Err TextFault.NoMemory → result ≡ behind_steps is_refuted number (result_err rest) }
 {
@@ -64,15 +64,14 @@ fn end(rest: Result<(), TextFault>, is_refuted: bool, number: u64) -> Result<(),
     })
 }
 
-/// What checks a proof in binary form that comes in pieces. It keeps no bytes, but the parts of the step that is begun. In its faults
-/// the number of a step stands in the place of a line's.
+/// Checks a proof in binary form that comes in pieces. It stores no bytes except the incomplete step at the end of the last piece. Its
+/// faults have the number of a step in place of a line's.
 pub struct BinaryChecker {
     steps: StepChecker,
     begun: BinaryReader,
     fault: Option<CheckFault>,
 }
 
-// By hand, so that whoever owns a checker drops it by one call, and no proof there goes through its parts.
 impl Drop for BinaryChecker {
     fn drop(self) {
         let BinaryChecker {
@@ -84,29 +83,29 @@ impl Drop for BinaryChecker {
 }
 
 impl Model for BinaryChecker {
-    ghost use Rattle.binary_check.specs.Stream.{Progress, progress_of};
-    ghost use Rattle.binary_check.specs.inner.Stream.{IsProgress};
+    ghost use Rattle.binary_check.specs.Stream.{BinaryProgress, progress_of};
+    ghost use Rattle.binary_check.specs.inner.Stream.{IsBinaryProgress};
     ghost use Rattle.dimacs.specs.inner.Codes.{clause_map_code};
     ghost use Rattle.std.specs.Coded.{codes};
 
-    ghost Value = { Progress };
+    ghost Value = { BinaryProgress };
 
     ghost coded = { Prim.hlevel (codes, clause_map_code) };
 
     ghost view = { λ s. progress_of s.fault s.steps.checker s.steps.number s.begun };
 
-    ghost invariant = { λ s. IsProgress s.fault s.steps.checker };
+    ghost invariant = { λ s. IsBinaryProgress s.fault s.steps.checker };
 }
 
 impl BinaryChecker {
-    /// Has taken no byte of a proof of the formula.
+    /// A checker of a proof of the formula, before the first byte. It copies the formula.
     pub fn new(alloc: Global, formula: &Formula) -> Result<BinaryChecker, AllocError>
         ensures { IfOk result (λ s. HasTaken formula.now s []) }
     {
         BinaryChecker::of(alloc, formula.copy()?)
     }
 
-    /// The same, of a formula that is taken over.
+    /// As [`BinaryChecker::new`], but takes the formula itself and copies nothing.
     pub fn of(alloc: Global, formula: Formula) -> Result<BinaryChecker, AllocError>
         ensures { IfOk result (λ s. HasTaken formula s []) }
     {
@@ -118,8 +117,8 @@ impl BinaryChecker {
         })
     }
 
-    /// Takes the next piece, or tells the first fault of the steps that are whole by now, or of the bytes of the next one. A fault is answered
-    /// from then on.
+    /// Takes the next piece. The error is the first fault of the steps that are complete by now, or of the bytes of the next one, or want
+    /// of memory. Every later call answers it again.
     pub fn feed(&mut self, piece: &[u8]) -> Result<(), CheckFault>
         ensures { TakesPiece self.old piece.now result self.new }
     {
@@ -135,14 +134,14 @@ impl BinaryChecker {
         }
     }
 
-    /// Whether a fault was met, or memory was wanting: then no further byte changes what `finish` answers.
+    /// Whether a fault was met or memory was refused. Then no further byte changes the answer of `finish`.
     pub fn is_settled(&self) -> bool
         ensures { result ≡ has_failed self.now }
     {
         self.fault.is_some()
     }
 
-    /// What checking answers where no further byte comes. It takes no memory.
+    /// The answer at the end of the proof. It takes no memory.
     pub fn finish(&self) -> Result<(), CheckFault>
         ensures { result ≡ check_more self.now [] }
     {
@@ -157,7 +156,7 @@ impl BinaryChecker {
     }
 }
 
-/// Feeds a proof, and finishes.
+/// Checks a proof as one piece.
 fn check_all(alloc: Global, formula: &Formula, proof: &[u8]) -> Result<(), CheckFault>
     ensures { GivesCheck result (check_binary_of formula.now proof.now) }
 {
@@ -168,9 +167,9 @@ fn check_all(alloc: Global, formula: &Formula, proof: &[u8]) -> Result<(), Check
     stream.finish()
 }
 
-/// Whether the bytes are an accepted proof that no assignment satisfies the formula; else their first fault.
+/// `Ok` if the bytes are an accepted proof that no assignment satisfies the formula; else their first fault, or want of memory.
 ///
-/// Steps after the one that adds the empty clause need only be well spelled.
+/// Steps after the one that adds the empty clause need only be spelled correctly.
 pub fn check_binary(alloc: Global, formula: &Formula, proof: &[u8]) -> Result<(), CheckFault>
     ensures accepted { OnOk result (AcceptsBinary formula.now proof.now) }
     // an accepted proof is refused for want of memory alone
@@ -178,7 +177,7 @@ pub fn check_binary(alloc: Global, formula: &Formula, proof: &[u8]) -> Result<()
     // the first fault, and its step
     ensures exact { GivesCheck result (check_binary_of formula.now proof.now) }
 {
-    // The law by which what was read is what the bytes spell; there is nothing to run.
+    // This law says that reading and spelling agree. The call does nothing.
     reading_is_spelling();
     check_all(alloc, formula, proof)
 }

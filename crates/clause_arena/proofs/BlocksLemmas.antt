@@ -1,4 +1,4 @@
--- Slots in blocks.
+-- Slots in blocks of 64 places: set, replaced, freed, listed.
 use Rattle.std.proofs.Common.{◌≡◌, ◌≢◌, ℕ, zero, suc, ◌+◌, ◌-◌, ◌*◌, ◌/◌, ◌%◌, ◌^◌, ◌<◌, ◌≤◌, Bool, true, false, List, [], ◌∷◌, ◌++◌, Option, Some, None, refl, sym, ◌∙◌, ap, subst, length, map, take, arith, get_or, set, replicate, get_or-set_same, get_or-set_other, length-set, length-append, append_assoc, IsSome}
 use Rattle.std.proofs.Math.Dec.{eqb, ltb}
 use Rattle.std.proofs.Math.Seq.{map-set_same}
@@ -9,7 +9,7 @@ use Rattle.std.proofs.lemmas.List.FromFn.{length-map-range_with_len, get_or-map-
 use Rattle.std.specs.List.{All, range_with_len}
 use Rattle.clause_arena.specs.declared.reference.Ref.{Ref}
 use Rattle.clause_arena.specs.declared.slot.Slot.{Slot}
-use Rattle.clause_arena.specs.inner.Packing.{ref_of}
+use Rattle.clause_arena.specs.inner.Relocation.{ref_of}
 use Rattle.clause_arena.specs.inner.Slots.{near_entries}
 use Rattle.clause_arena.specs.inner.Blocks.{slot_at, slots_from, IsBlocks}
 
@@ -197,7 +197,7 @@ module _ {V : Type 0} (items : V → List (Option Slot)) (vs : List V) (len : �
     }
 
 -- ---- what is listed
--- a block, numbered from a on, and what comes behind it
+-- a block, numbered from a on, and what comes after it
 pub listed_block : (f : ℕ → Option Slot) (cells : List (Option Slot)) (k a i n m b e : ℕ) → m ≡ k + n → b ≡ a + k → e ≡ i + k → length cells ≤ k
     → ((j p : ℕ) → j < k → p ≡ i + j → f p ≡ get_or cells j None)
     → near_entries a (map f (range_with_len i m)) ≡ near_entries a cells ++ near_entries b (map f (range_with_len e n))
@@ -222,7 +222,7 @@ listed_block f (Some slot ∷ cells) (suc k) a i n (suc m) b e p r s short at =
     ∙ ap (λ (es : List (ℕ × Slot)). (a, slot) ∷ es)
     (listed_block f cells k (a + 1) (i + 1) n m b e (omega arith) (omega arith) (omega arith) (omega arith) (λ j q lt is. at (suc j) q (omega arith) (omega arith)))
 
--- where nothing is listed, no slot stands
+-- if nothing is listed, no slot stands
 pub none_stands : (n : ℕ) (cells : List (Option Slot)) → near_entries n cells ≡ [] → (k : ℕ) → get_or cells k None ≡ None
 none_stands n [] e k = get_or_past [] k None (omega arith)
 none_stands n (None ∷ cells) e zero = refl

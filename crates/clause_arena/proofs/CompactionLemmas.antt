@@ -1,4 +1,4 @@
--- What closing the gaps leaves, and that it is told.
+-- Compaction keeps the clauses, and reports exactly those that moved.
 use Rattle.std.proofs.Common.{◌≡◌, ℕ, ◌+◌, ◌-◌, ◌<◌, ◌≤◌, List, [], ◌∷◌, ◌++◌, Option, Some, None, refl, sym, ◌∙◌, ap, subst, length, map, take, drop, arith, get_or, append_assoc, sum_by, length-append}
 use Rattle.std.specs.Prelude.{T}
 use Rattle.std.specs.List.{IsDistinct}
@@ -13,20 +13,20 @@ use Rattle.std.proofs.lemmas.List.Elements.{Contains-get_or}
 use Rattle.dimacs.specs.logic.Literal.{Literal, Clause, same}
 use Rattle.clause_arena.specs.declared.reference.Ref.{Ref}
 use Rattle.clause_arena.specs.declared.slot.Slot.{Slot}
-use Rattle.clause_arena.specs.declared.slots.Tables.{Tables}
+use Rattle.clause_arena.specs.declared.slot_map.SlotMap.{SlotMap}
 use Rattle.clause_arena.specs.Slots.{Slots}
 use Rattle.clause_arena.specs.inner.Slots.{near_entries, slots_of, IsApart}
 use Rattle.clause_arena.specs.Contents.{clause_at, value_at, entry_at, contents}
 use Rattle.clause_arena.specs.inner.Contents.{slot_of, IsPlaced, IsArena}
 use Rattle.clause_arena.specs.Compaction.{literals_of, literals_in, HasMoved, IsCompacted}
-use Rattle.clause_arena.specs.inner.Packing.{ref_of, refs_of, gathered, moves_from, moved_by}
+use Rattle.clause_arena.specs.inner.Relocation.{ref_of, refs_of, relocated, moves_from, moved_by}
 use Rattle.clause_arena.proofs.ContentLemmas.{get-contents, length-clause_at, here, slot_found}
 use Rattle.clause_arena.proofs.SortedLemmas.{both, first_of_both, second_of_both, entries-slots_of, entries-from_entries}
-use Rattle.clause_arena.proofs.PackingLemmas.{packed, packed_over, unpacked_none, moved_find, all_placed, placed_at, CameFrom, carried, packed_apart}
+use Rattle.clause_arena.proofs.RelocationLemmas.{packed, packed_over, unpacked_none, moved_find, all_placed, placed_at, CameFrom, carried, packed_apart}
 use Rattle.clause_arena.proofs.MoveLemmas.{IsTold, told_has_moved, moved_is_told, moves_rise}
 
 -- the lists of the table and of the map, one after the other
-pub refs_listed : (t : Tables) (old mid : List Ref) → IsApart t → IsOrdered nat_cmp t.far → mid ≡ old ++ map ref_of (near_entries 0 t.near)
+pub refs_listed : (t : SlotMap) (old mid : List Ref) → IsApart t → IsOrdered nat_cmp t.far → mid ≡ old ++ map ref_of (near_entries 0 t.near)
     → mid ++ map ref_of t.far.entries ≡ old ++ refs_of (slots_of t)
 refs_listed t old mid apart ordered e =
     ap (λ xs. xs ++ map ref_of t.far.entries) e
@@ -42,16 +42,16 @@ sorted_entries : (ws : List Literal) (es : List (ℕ × Slot)) → T (is_sorted 
 sorted_entries ws [] h = tt
 sorted_entries ws (e ∷ es) h = both _ _ (below_entries ws e.0 es (first_of_both _ _ h)) (sorted_entries ws es (second_of_both _ _ h))
 
-length-gathered : (ws : List Literal) (es : List (ℕ × Slot)) → sum_by (λ (e : ℕ × (ℕ × Clause)). length e.1.1) (map (entry_at ws) es) ≡ length (gathered ws (map ref_of es))
-length-gathered ws [] = refl
-length-gathered ws (e ∷ es) =
+length-relocated : (ws : List Literal) (es : List (ℕ × Slot)) → sum_by (λ (e : ℕ × (ℕ × Clause)). length e.1.1) (map (entry_at ws) es) ≡ length (relocated ws (map ref_of es))
+length-relocated ws [] = refl
+length-relocated ws (e ∷ es) =
     sum_by-cons (λ (e : ℕ × (ℕ × Clause)). length e.1.1) (entry_at ws e) (map (entry_at ws) es)
-    ∙ ap (λ n. length (clause_at ws e.1) + n) (length-gathered ws es) ∙ sym (length-append (clause_at ws e.1) (gathered ws (map ref_of es)))
+    ∙ ap (λ n. length (clause_at ws e.1) + n) (length-relocated ws es) ∙ sym (length-append (clause_at ws e.1) (relocated ws (map ref_of es)))
 
 -- ---- an arena whose gaps are closed
 module _ (ws : List Literal) (index : Slots) (arena : IsArena ws index) where
   abbrev literals : List Literal
-  literals = gathered ws (refs_of index)
+  literals = relocated ws (refs_of index)
 
   abbrev moves : List (Ref × Ref)
   moves = moves_from 0 (refs_of index)
@@ -62,7 +62,7 @@ module _ (ws : List Literal) (index : Slots) (arena : IsArena ws index) where
   literals-literals : literals_in (contents ws index) ≡ length literals
   literals-literals =
       ap (sum_by (λ (e : ℕ × (ℕ × Clause)). length e.1.1)) (entries-from_entries (map (entry_at ws) (entries index)) (sorted_entries ws (entries index) (entries_sorted index)))
-      ∙ length-gathered ws (entries index)
+      ∙ length-relocated ws (entries index)
 
   get-after : (q : ℕ) → get after q ≡ find nat_cmp q (packed 0 (entries index))
   get-after q =
@@ -158,7 +158,7 @@ module _ (ws : List Literal) (index : Slots) (arena : IsArena ws index) where
       let h = told_has_moved (entries index) 0 a.0 a.1 (entries_sorted index) (Contains-get_or moves i d lt) in
       omega (arith, (came a.0.number (slot_of a.1) (get-after a.0.number ∙ h.after)).carried.within)
 
--- what stands behind the first of a list
+-- what stands after the first of a list
 pub lent : (D old more : List (Ref × Ref)) (n : ℕ) → n ≡ length old → D ≡ old ++ more → take (length D - n) (drop n D) ≡ more
 lent D old more n e is =
     ap (λ xs. take (length xs - n) (drop n xs)) is

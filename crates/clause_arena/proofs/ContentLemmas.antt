@@ -1,4 +1,4 @@
--- What slots have in the literals, and what a clause more and a clause less change of it.
+-- The clauses that slots cut out of the literals, after a clause is added or removed.
 use Rattle.std.proofs.Common.{◌≡◌, ℕ, ◌⊎◌, inl, inr, Bool, true, false, List, [], ◌∷◌, ◌++◌, Option, Some, None, cond, refl, sym, ◌∙◌, ap, subst, length, map, take, drop, arith, length-drop, length-append}
 use Rattle.std.specs.Option.{option_map}
 use Rattle.std.specs.List.{IsDistinct}
@@ -10,7 +10,7 @@ use Rattle.dimacs.specs.logic.Literal.{Literal, Clause, same}
 use Rattle.clause_arena.specs.declared.reference.Ref.{Ref}
 use Rattle.clause_arena.specs.declared.slot.Slot.{Slot}
 use Rattle.clause_arena.specs.Slots.{Slots}
-use Rattle.clause_arena.specs.Clauses.{Clauses, Stands, IsLive}
+use Rattle.clause_arena.specs.Clauses.{Clauses, RefersTo, IsLive}
 use Rattle.clause_arena.specs.Contents.{clause_at, value_at, entry_at, contents}
 use Rattle.clause_arena.specs.inner.Contents.{IsPlaced, slot_of, IsArena}
 use Rattle.clause_arena.proofs.SlotLemmas.{same_number}
@@ -55,7 +55,7 @@ pub record IsHere (ws : List Literal) (index : Slots) (at : Ref) (C : Clause) : 
   pub literals : clause_at ws (slot_of at) ≡ C
 
 module _ (ws : List Literal) (index : Slots) (v : Clauses) (view : contents ws index ≡ v) (arena : IsArena ws index) (at : Ref) where
-  pub here : (C : Clause) → Stands v at C → IsHere ws index at C
+  pub here : (C : Clause) → RefersTo v at C → IsHere ws index at C
   here C h =
       let f = slot_found ws (get index at.number) at.place C (sym (get-contents ws index at.number) ∙ ap (λ m. get m at.number) view ∙ h.0) in
       let within = arena.placed at.number f.slot f.is in
@@ -106,7 +106,7 @@ arena-empty ws = record {
   apart = λ n m k s t e. absurd (none_at n s e);
 }
 
--- ---- literals that come behind
+-- ---- literals that come after
 clause_kept : (ws more : List Literal) (s : Slot) → IsPlaced ws s → clause_at (ws ++ more) s ≡ clause_at ws s
 clause_kept ws more s within =
     ap (take s.len) (drop-append-le s.place ws more (omega arith)) ∙ take-append-le s.len (drop s.place ws) more (omega (arith, length-drop s.place ws))

@@ -1,4 +1,4 @@
--- What is told of the clauses that move.
+-- The list of moves has exactly the clauses whose place changed, in the order of numbers.
 use Rattle.std.proofs.Common.{◌≡◌, ◌≢◌, ℕ, zero, suc, ◌+◌, ◌<◌, inl, inr, Bool, true, false, List, [], ◌∷◌, ◌++◌, Some, None, cond, refl, sym, ◌∙◌, ap, subst, length, map, arith, get_or, Contains}
 use Rattle.std.specs.Prelude.{T, nat_eq}
 use Rattle.std.specs.FinMap.{find, is_sorted}
@@ -9,10 +9,10 @@ use Rattle.std.proofs.lemmas.List.Elements.{Contains-append_left, Contains-appen
 use Rattle.clause_arena.specs.declared.reference.Ref.{Ref}
 use Rattle.clause_arena.specs.declared.slot.Slot.{Slot}
 use Rattle.clause_arena.specs.inner.Contents.{slot_of}
-use Rattle.clause_arena.specs.inner.Packing.{ref_of, moves_from}
+use Rattle.clause_arena.specs.inner.Relocation.{ref_of, moves_from}
 use Rattle.clause_arena.proofs.SlotLemmas.{same_number, same_test}
 use Rattle.clause_arena.proofs.SortedLemmas.{first_of_both, second_of_both, found_above}
-use Rattle.clause_arena.proofs.PackingLemmas.{packed, slot_from, found_behind, found_whole}
+use Rattle.clause_arena.proofs.RelocationLemmas.{packed, slot_from, found_behind, found_whole}
 
 -- a clause of the entries that comes to stand elsewhere
 pub record IsTold (es : List (ℕ × Slot)) (p : ℕ) (a b : Ref) : Type 0 where

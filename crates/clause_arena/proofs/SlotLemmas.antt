@@ -1,4 +1,4 @@
--- Slots at places and under keys are a map from numbers to slots.
+-- A table and a B-tree of slots are together a map from numbers to slots.
 use Rattle.std.proofs.Common.{◌≡◌, ◌≢◌, ℕ, zero, suc, ◌+◌, ◌<◌, ◌≤◌, Bool, true, false, List, [], ◌∷◌, ◌++◌, Option, Some, None, cond, refl, sym, ◌∙◌, ap, length, arith, get_or, set, get_or-set_same, get_or-set_other, length-set, length-append, IsSome}
 use Rattle.std.specs.Option.{option_or}
 use Rattle.std.specs.Map.{lookup}
@@ -12,7 +12,7 @@ use Rattle.std.proofs.lemmas.List.{get_or_past}
 use Rattle.std.proofs.lemmas.Map.Views.{tells_apart}
 use Rattle.std.proofs.lemmas.Map.Lookups.{exact_unsigned}
 use Rattle.clause_arena.specs.declared.slot.Slot.{Slot}
-use Rattle.clause_arena.specs.declared.slots.Tables.{Tables}
+use Rattle.clause_arena.specs.declared.slot_map.SlotMap.{SlotMap}
 use Rattle.clause_arena.specs.Slots.{Slots}
 use Rattle.clause_arena.specs.inner.Slots.{near_entries, slots_of, IsApart}
 
@@ -69,7 +69,7 @@ find-lookup [] q = refl
 find-lookup (e ∷ es) q = ap (cond (eq_by_cmp nat_cmp q e.0) (Some e.1)) (find-lookup es q)
 
 -- the slot of a number stands at its place, or under its key
-pub get-slots_of : (t : Tables) (q : ℕ) → get (slots_of t) q ≡ option_or (get_or t.near q None) (tree.get nat_cmp t.far q)
+pub get-slots_of : (t : SlotMap) (q : ℕ) → get (slots_of t) q ≡ option_or (get_or t.near q None) (tree.get nat_cmp t.far q)
 get-slots_of t q =
     get-from_entries nat_cmp_total (near_entries 0 t.near ++ t.far.entries) q
     ∙ find-or (near_entries 0 t.near) t.far.entries q
@@ -80,21 +80,21 @@ or_none : (o : Option Slot) → option_or o None ≡ o
 or_none None = refl
 or_none (Some c) = refl
 
-pub get_near : (t : Tables) (q : ℕ) → IsApart t → q < length t.near → get (slots_of t) q ≡ get_or t.near q None
+pub get_near : (t : SlotMap) (q : ℕ) → IsApart t → q < length t.near → get (slots_of t) q ≡ get_or t.near q None
 get_near t q apart lt = get-slots_of t q ∙ ap (option_or (get_or t.near q None)) (apart.free q lt) ∙ or_none (get_or t.near q None)
 
-pub get_far : (t : Tables) (q : ℕ) → length t.near ≤ q → get (slots_of t) q ≡ tree.get nat_cmp t.far q
+pub get_far : (t : SlotMap) (q : ℕ) → length t.near ≤ q → get (slots_of t) q ≡ tree.get nat_cmp t.far q
 get_far t q le = get-slots_of t q ∙ ap (λ o. option_or o (tree.get nat_cmp t.far q)) (get_or_past t.near q None le)
 
 -- with another table, or another map
-abbrev pub with_near : Tables → List (Option Slot) → Tables
+abbrev pub with_near : SlotMap → List (Option Slot) → SlotMap
 with_near t near = record t { near = near }
 
-abbrev pub with_far : Tables → BTreeMap ℕ Slot → Tables
+abbrev pub with_far : SlotMap → BTreeMap ℕ Slot → SlotMap
 with_far t far = record t { far = far }
 
 -- ---- another slot at a place, or none
-module _ (t : Tables) (i : ℕ) (apart : IsApart t) (here : i < length t.near) (o : Option Slot) where
+module _ (t : SlotMap) (i : ℕ) (apart : IsApart t) (here : i < length t.near) (o : Option Slot) where
   pub apart-set : IsApart (with_near t (set t.near i o))
   apart-set = record { free = λ q lt. apart.free q (omega (arith, length-set t.near i o)) }
 
@@ -126,7 +126,7 @@ module _ (t : Tables) (i : ℕ) (apart : IsApart t) (here : i < length t.near) (
 abbrev pub Says : BTreeMap ℕ Slot → BTreeMap ℕ Slot → ℕ → Option Slot → Type 0
 Says old new number o = (q : ℕ) → tree.get nat_cmp new q ≡ cond (is_at (nat_cmp number) q) o (tree.get nat_cmp old q)
 
-module _ (t : Tables) (new : BTreeMap ℕ Slot) (number : ℕ) (beyond : length t.near ≤ number) (o : Option Slot) (says : Says t.far new number o) where
+module _ (t : SlotMap) (new : BTreeMap ℕ Slot) (number : ℕ) (beyond : length t.near ≤ number) (o : Option Slot) (says : Says t.far new number o) where
   far_changed : (q : ℕ) (b : Bool) → eq_by_cmp nat_cmp number q ≡ b → get (slots_of (with_far t new)) q ≡ cond b o (get (slots_of t) q)
   far_changed q true e =
       let at : number ≡ q = same_number number q e in
@@ -161,7 +161,7 @@ near_entries-push [] n = refl
 near_entries-push (None ∷ near) n = near_entries-push near (n + 1)
 near_entries-push (Some v ∷ near) n = ap (λ (es : List (ℕ × Slot)). (n, v) ∷ es) (near_entries-push near (n + 1))
 
-pub slots_of-push : (t : Tables) → slots_of (with_near t (t.near ++ None ∷ [])) ≡ slots_of t
+pub slots_of-push : (t : SlotMap) → slots_of (with_near t (t.near ++ None ∷ [])) ≡ slots_of t
 slots_of-push t = ap (λ (es : List (ℕ × Slot)). from_entries {R = nat_cmp} (es ++ t.far.entries)) (near_entries-push t.near 0)
 
 none_there : (o : Option Slot) → (IsSome o → ⊥) → o ≡ None
@@ -172,16 +172,16 @@ none_there (Some s) h = absurd (h refl)
 pub nothing_at : (far : BTreeMap ℕ Slot) (place q : ℕ) → ((k : ℕ) → IsSome (tree.get nat_cmp far k) → place < k) → q ≤ place → tree.get nat_cmp far q ≡ None
 nothing_at far place q below le = none_there (tree.get nat_cmp far q) (λ s. let lt = below q s in absurd (omega arith))
 
-pub apart-push : (t : Tables) (place : ℕ) → length t.near ≤ place → ((k : ℕ) → IsSome (tree.get nat_cmp t.far k) → place < k) → IsApart t → IsApart (with_near t (t.near ++ None ∷ []))
+pub apart-push : (t : SlotMap) (place : ℕ) → length t.near ≤ place → ((k : ℕ) → IsSome (tree.get nat_cmp t.far k) → place < k) → IsApart t → IsApart (with_near t (t.near ++ None ∷ []))
 apart-push t place le below apart = record {
   free = λ q lt. nothing_at t.far place q below (omega (arith, length-append t.near (None ∷ [])));
 }
 
 -- ---- no slot at all
-pub slots_of-none : (t : Tables) → t.near ≡ [] → t.far.entries ≡ [] → slots_of t ≡ empty
+pub slots_of-none : (t : SlotMap) → t.near ≡ [] → t.far.entries ≡ [] → slots_of t ≡ empty
 slots_of-none t e f =
     ap (λ xs. from_entries {R = nat_cmp} (near_entries 0 xs ++ t.far.entries)) e
     ∙ ap (λ (es : List (ℕ × Slot)). from_entries {R = nat_cmp} es) f
 
-pub apart-none : (t : Tables) → t.far.entries ≡ [] → IsApart t
+pub apart-none : (t : SlotMap) → t.far.entries ≡ [] → IsApart t
 apart-none t f = record { free = λ q lt. ap (lookup (is_at (nat_cmp q))) f }

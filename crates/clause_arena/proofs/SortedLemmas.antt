@@ -1,4 +1,4 @@
--- The slots at places and under keys are listed by rising numbers.
+-- The slots of a table and of a B-tree are listed in the order of numbers.
 use Rattle.std.proofs.Common.{◌≡◌, ℕ, ◌+◌, ◌<◌, ◌≤◌, inl, inr, Bool, true, false, List, [], ◌∷◌, ◌++◌, Option, Some, None, cond, refl, sym, ◌∙◌, ap, subst, length, arith}
 use Rattle.std.specs.Prelude.{T, ◌&&◌}
 use Rattle.std.specs.List.{AllByRecursion}
@@ -13,7 +13,7 @@ use Rattle.std.specs.declared.cmp.Ordering.TheVariants.{Less, Equal, Greater}
 use Rattle.std.specs.Cmp.{nat_cmp_total, nat_cmp_is, ranked}
 use Rattle.std.proofs.lemmas.Bool.Decides.{leb_tells}
 use Rattle.clause_arena.specs.declared.slot.Slot.{Slot}
-use Rattle.clause_arena.specs.declared.slots.Tables.{Tables}
+use Rattle.clause_arena.specs.declared.slot_map.SlotMap.{SlotMap}
 use Rattle.clause_arena.specs.inner.Slots.{near_entries, slots_of, IsApart}
 use Rattle.clause_arena.proofs.SlotLemmas.{same_test, same_number}
 
@@ -115,7 +115,7 @@ unfolding IsStrictlySortedBy
 sorted_entries [] h = tt
 sorted_entries (e ∷ es) h = both _ _ (all_below e.0 es h.0) (sorted_entries es h.1)
 
-pub sorted_all : (t : Tables) → IsApart t → IsOrdered nat_cmp t.far → T (is_sorted nat_cmp (near_entries 0 t.near ++ t.far.entries))
+pub sorted_all : (t : SlotMap) → IsApart t → IsOrdered nat_cmp t.far → T (is_sorted nat_cmp (near_entries 0 t.near ++ t.far.entries))
 sorted_all t apart ordered =
     (listed t.near 0 (length t.near) t.far.entries (omega arith) (record {
       from = keys_beyond (length t.near) t.far.entries (λ q lt. apart.free q lt);
@@ -127,5 +127,5 @@ entries-from_entries es sorted =
     ap entries (same_map nat_cmp_total nat_cmp-IsAntisymmetric (from_entries es) (from_sorted es) (λ q. get-from_entries nat_cmp_total es q ∙ sym (get-from_sorted nat_cmp es q sorted)))
     ∙ entries-from_sorted nat_cmp es sorted
 
-pub entries-slots_of : (t : Tables) → IsApart t → IsOrdered nat_cmp t.far → entries (slots_of t) ≡ near_entries 0 t.near ++ t.far.entries
+pub entries-slots_of : (t : SlotMap) → IsApart t → IsOrdered nat_cmp t.far → entries (slots_of t) ≡ near_entries 0 t.near ++ t.far.entries
 entries-slots_of t apart ordered = entries-from_entries (near_entries 0 t.near ++ t.far.entries) (sorted_all t apart ordered)

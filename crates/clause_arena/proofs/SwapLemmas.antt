@@ -1,4 +1,4 @@
--- What the contents are after two literals of a clause have changed their places.
+-- The contents after two literals of a clause are exchanged.
 use Rattle.std.proofs.Common.{zero, suc, ◌≡◌, ◌≢◌, ℕ, ◌+◌, ◌<◌, ◌≤◌, Bool, true, false, List, [], ◌∷◌, Some, cond, refl, sym, ◌∙◌, ap, subst, length, get_or, set, take, drop, arith, length-drop, length-take, swap}
 use Rattle.std.specs.Option.{option_map}
 use Rattle.std.specs.List.{IsDistinct}

@@ -1,9 +1,9 @@
--- Tables of slots: the first places lie flat, and those behind them in blocks.
+-- The dense table of slots: a flat vector, followed by blocks.
 use Rattle.std.proofs.Common.{◌≡◌, ℕ, ◌+◌, ◌-◌, ◌<◌, ◌≤◌, List, [], ◌∷◌, ◌++◌, Option, Some, None, sym, ◌∙◌, ap, length, map, arith, set, append_assoc}
 use Rattle.std.proofs.lemmas.List.{map-append, set-append_left, set-append_right}
 use Rattle.clause_arena.specs.declared.reference.Ref.{Ref}
 use Rattle.clause_arena.specs.declared.slot.Slot.{Slot}
-use Rattle.clause_arena.specs.inner.Packing.{ref_of}
+use Rattle.clause_arena.specs.inner.Relocation.{ref_of}
 use Rattle.clause_arena.specs.inner.Slots.{near_entries}
 
 -- ---- a place of the table
@@ -22,7 +22,7 @@ near_entries-append [] ys n m e = ap (λ (k : ℕ). near_entries k ys) (let same
 near_entries-append (None ∷ xs) ys n m e = near_entries-append xs ys (n + 1) m (omega arith)
 near_entries-append (Some s ∷ xs) ys n m e = ap (λ (es : List (ℕ × Slot)). (n, s) ∷ es) (near_entries-append xs ys (n + 1) m (omega arith))
 
--- the rest is listed behind the flat places
+-- the rest is listed after the flat places
 pub listed_rest : (flat rest slots : List (Option Slot)) (n : ℕ) (old mid new : List Ref) → flat ++ rest ≡ slots → length flat ≡ n
     → mid ≡ old ++ map ref_of (near_entries 0 flat) → new ≡ mid ++ map ref_of (near_entries n rest) → new ≡ old ++ map ref_of (near_entries 0 slots)
 listed_rest flat rest slots n old mid new view len first second =

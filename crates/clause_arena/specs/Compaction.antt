@@ -1,28 +1,28 @@
--- What closing the gaps of an arena does and tells.
+-- Compaction of an arena: which clauses move, and what is reported of them.
 use Rattle.std.specs.Prelude.{◌≡◌, ◌≢◌, ℕ, ◌+◌, ◌<◌, ◌≤◌, List, Option, Some, length, option_map, slice_index_or, Contains, sum_by}
 use Rattle.std.specs.FinMap.{get, entries}
 use Rattle.dimacs.specs.logic.Literal.{Clause}
 use Rattle.clause_arena.specs.declared.reference.Ref.{Ref}
-use Rattle.clause_arena.specs.Clauses.{Clauses, Stands}
+use Rattle.clause_arena.specs.Clauses.{Clauses, RefersTo}
 
--- the literals of the live clause with this number
+-- the literals of the live clause of number n, if there is one
 abbrev pub literals_of : Clauses → ℕ → Option Clause
 literals_of m n = option_map (λ (c : ℕ × Clause). c.1) (get m n)
 
--- how many literals the live clauses have together
+-- the sum of the lengths of the live clauses
 abbrev pub literals_in : Clauses → ℕ
 literals_in m = sum_by (λ (e : ℕ × (ℕ × Clause)). length e.1.1) (entries m)
 
--- a clause stood at `from`, and stands elsewhere now, at `to`
+-- a clause that `from` refers to before is referred to by `to` after, at another place
 pub record HasMoved (old new : Clauses) (from to : Ref) : Type 0 where
   pub literals : Clause
   pub number : to.number ≡ from.number
-  pub before : Stands old from literals
-  pub after : Stands new to literals
+  pub before : RefersTo old from literals
+  pub after : RefersTo new to literals
   pub elsewhere : from.place ≢ to.place
 
--- the clauses are as before, and stand one after the other; `moves` tells of each that stands elsewhere now, where it stood and
--- where it stands, by rising numbers
+-- the same clauses, without gaps; `moves` has exactly the old and the new reference of each clause whose place changed, in the order
+-- of clause numbers
 pub record IsCompacted (old new : Clauses) (moves : List (Ref × Ref)) : Type 0 where
   pub kept : (n : ℕ) → literals_of new n ≡ literals_of old n
   pub told : (from to : Ref) → Contains moves (from, to) → HasMoved old new from to

@@ -1,4 +1,4 @@
--- Clauses whose literals lie one after the other in one list, by their slots.
+-- The clauses that slots cut out of the list of all literals.
 use Rattle.std.specs.Prelude.{ℕ, List, map, take, drop}
 use Rattle.std.specs.FinMap.{from_entries, entries}
 use Rattle.dimacs.specs.logic.Literal.{Literal, Clause}
@@ -17,6 +17,6 @@ value_at literals s = (s.place, clause_at literals s)
 abbrev pub entry_at : List Literal → ℕ × Slot → ℕ × (ℕ × Clause)
 entry_at literals e = (e.0, value_at literals e.1)
 
--- what the slots have in the literals
+-- the map from numbers to places and literals, by the slots
 abbrev pub contents : List Literal → Slots → Clauses
 contents literals index = from_entries (map (entry_at literals) (entries index))

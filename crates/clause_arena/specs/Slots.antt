@@ -1,4 +1,4 @@
--- Slots by numbers.
+-- The value of an arena's index.
 use Rattle.std.specs.FinMap.{FinMap}
 use Rattle.std.specs.Ordering.{nat_cmp}
 use Rattle.clause_arena.specs.declared.slot.Slot.{Slot}

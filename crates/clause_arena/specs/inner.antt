@@ -3,5 +3,5 @@ pub mod Blocks
 pub mod Cell
 pub mod Clauses
 pub mod Contents
-pub mod Packing
+pub mod Relocation
 pub mod Slots

@@ -1,14 +1,14 @@
-//! The arena as its callers see it.
+//! The clause arena: its public calls.
 
 ghost use Rattle.std.specs.Prelude.{◌≡◌, ℕ, ◌<◌, ◌++◌, List, length, swap, IfOk, OnOk, OnErr, IfSome, IfNone, None};
 ghost use Rattle.std.specs.List.{IsDistinct};
 ghost use Rattle.std.specs.FinMap.{get, insert, remove, empty};
 ghost use Rattle.dimacs.specs.logic.Literal.{Clause, same};
 ghost use Rattle.clause_arena.specs.declared.reference.Ref.{Ref};
-ghost use Rattle.clause_arena.specs.Clauses.{Clauses, Stands, IsLive};
+ghost use Rattle.clause_arena.specs.Clauses.{Clauses, RefersTo, IsLive};
 ghost use Rattle.clause_arena.specs.Compaction.{IsCompacted};
 
-use crate::compaction::gather;
+use crate::compaction::relocate_all;
 use crate::index::Index;
 use crate::literals::{exchange, literals_at};
 use crate::reference::Ref;
@@ -17,13 +17,12 @@ use dimacs::Lit;
 use std::alloc::{AllocError, Global};
 use std::marker::Model;
 
-/// Clauses by their numbers. Only `add` and `compact` take memory.
+/// A map from numbers to clauses. Only `add` and `compact` allocate.
 pub struct Arena {
     literals: Vec<Lit>,
     index: Index,
 }
 
-// By hand, so that whoever owns one drops it by one call, and no proof there goes through its parts.
 impl Drop for Arena {
     fn drop(self) {
         let Arena {
@@ -49,7 +48,7 @@ impl Model for Arena {
 }
 
 impl Arena {
-    /// No clause.
+    /// An arena without clauses.
     pub fn new(alloc: Global) -> Arena
         ensures { result ≡ empty }
     {
@@ -59,7 +58,7 @@ impl Arena {
         }
     }
 
-    /// Takes in a clause under a number that is not live. Want of memory leaves all as it was.
+    /// Adds a clause under a number that is not live. If memory is refused, the arena is unchanged.
     pub fn add(&mut self, number: u64, literals: &[Lit]) -> Result<Ref, AllocError>
         requires distinct { IsDistinct same literals.now }
         requires fresh { get self.old number ≡ None }
@@ -84,18 +83,18 @@ impl Arena {
         }
     }
 
-    /// Lends the literals of a live clause.
+    /// The literals of a live clause.
     #[inline(always)]
     pub fn clause(&self, at: Ref) -> &[Lit]
         requires live { IsLive self.now at }
-        ensures literals { (C : Clause) → Stands self.now at C → result.now ≡ C }
+        ensures literals { (C : Clause) → RefersTo self.now at C → result.now ≡ C }
         ensures len { length result.now ≡ at.len }
         ensures distinct { IsDistinct same result.now }
     {
         literals_at(&self.literals, at)
     }
 
-    /// Where the live clause of a number stands; None where the number is not live.
+    /// The reference to the live clause of a number; None if the number is not live.
     #[inline(always)]
     pub fn find(&self, number: u64) -> Option<Ref>
         ensures some { IfSome result (λ at. (at.number ≡ number) × IsLive self.now at) }
@@ -117,12 +116,12 @@ impl Arena {
         requires live { IsLive self.old at }
         requires i_in { i < at.len }
         requires j_in { j < at.len }
-        ensures { (C : Clause) → Stands self.old at C → self.new ≡ insert self.old at.number (at.place, swap C i j) }
+        ensures { (C : Clause) → RefersTo self.old at C → self.new ≡ insert self.old at.number (at.place, swap C i j) }
     {
         exchange(&mut self.literals, at, i, j);
     }
 
-    /// Takes out a live clause. The room of its literals stays a gap until the next `compact`.
+    /// Removes a live clause. Its literals stay in the vector as a gap until the next `compact`.
     pub fn remove(&mut self, at: Ref)
         requires { IsLive self.old at }
         ensures { self.new ≡ remove self.old at.number }
@@ -130,8 +129,8 @@ impl Arena {
         self.index.remove(at.number);
     }
 
-    /// Closes the gaps, and tells the old and the new place of each clause that moved, by rising numbers. Want of memory leaves
-    /// all as it was, `moved` too.
+    /// Closes the gaps: copies the literals of the live clauses into a fresh vector. Appends to `moved`, for each clause that moved, its
+    /// old and its new reference, in the order of clause numbers. If memory is refused, the arena and `moved` are unchanged.
     pub fn compact(&mut self, moved: &mut Vec<(Ref, Ref)>) -> Result<(), AllocError>
         ensures ok { OnOk result ((moves : List (Ref × Ref)) × (moved.new.items ≡ moved.old.items ++ moves) × IsCompacted self.old self.new moves) }
         ensures err { OnErr result (self.new ≡ self.old) }
@@ -141,7 +140,7 @@ impl Arena {
         let mut refs = Vec::new(alloc);
         self.index.list(&mut refs)?;
         let before = moved.len();
-        match gather(alloc, &self.literals, &refs, moved) {
+        match relocate_all(alloc, &self.literals, &refs, moved) {
             Ok(fresh) => {
                 self.index.move_all(&moved[before..]);
                 self.literals = fresh;

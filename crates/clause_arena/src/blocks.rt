@@ -1,8 +1,8 @@
-//! Slots in blocks.
+//! Slots in blocks of 64 cells, allocated on demand.
 
 ghost use Rattle.std.specs.Prelude.{◌≡◌, ℕ, ◌+◌, ◌-◌, ◌^◌, ◌<◌, ◌≤◌, ◌≢◌, [], ◌∷◌, ◌++◌, None, Some, List, Option, length, map, slice_index_or, slice_set, IsSome, OnOk, OnErr};
 ghost use Rattle.clause_arena.specs.declared.slot.Slot.{Slot};
-ghost use Rattle.clause_arena.specs.inner.Packing.{ref_of};
+ghost use Rattle.clause_arena.specs.inner.Relocation.{ref_of};
 ghost use Rattle.clause_arena.specs.inner.Slots.{near_entries};
 
 use crate::reference::Ref;
@@ -10,18 +10,17 @@ use crate::slot::{Cell, Slot};
 use std::alloc::{AllocError, Global};
 use std::marker::Model;
 
-/// How many places a block has.
+/// Places per block.
 const BLOCK: usize = 64;
 
-/// There are so many blocks at most, so that the number of all places is a `usize`.
+/// The greatest number of blocks, so that the number of places does not overflow a `usize`.
 const MOST: usize = 1 << 48;
 
-/// Slots by places. Most places are those of lemmas that were forgotten, so the cells of 64 places are a block of their own, which is
-/// made when a slot is first put there and given back when slots are listed and none stands in it: else a search would keep 16 bytes
-/// for each number that it ever gave.
+/// Slots by places, in blocks of 64 places. Most places belong to lemmas that were deleted. So the cells of a block are allocated when
+/// its first slot is set, and freed by `list` if the block has no slot: else a search would keep a cell for each lemma that it ever learnt.
 #[derive(Drop)]
 pub(crate) struct Blocks {
-    /// The cells of each block; none in a block that was not made yet or was given back.
+    /// The cells of each block; empty if the block was not allocated yet or was freed.
     blocks: Vec<Vec<Cell>>,
     /// How many places there are.
     len: usize,
@@ -39,7 +38,7 @@ impl Model for Blocks {
     ghost invariant = { λ t. IsBlocks t.len (map (λ b. b.items) t.blocks.items) };
 }
 
-/// Puts a slot at a place of a block. The cells of the block are made where they are not there yet, and then memory may be refused.
+/// Sets the slot of a place of a block. Allocates the block's cells first if it has none; memory may be refused.
 fn put(block: &mut Vec<Cell>, place: usize, slot: Slot) -> Result<(), AllocError>
     requires within { place < 64 }
     requires short { length block.old.items ≤ 64 }
@@ -65,7 +64,7 @@ fn free(block: &mut Vec<Cell>, place: usize)
     }
 }
 
-/// Appends where the clauses of cells stand, by rising numbers from that of the first cell on.
+/// Appends a reference to the clause of each cell that is not free; `first` is the clause number of the first cell.
 pub(crate) fn list_cells(
     cells: &[Cell],
     first: usize,
@@ -86,7 +85,7 @@ pub(crate) fn list_cells(
     Ok(())
 }
 
-/// Appends where the clauses of a block stand. Where none does, its cells are given back.
+/// Appends a reference to each clause of a block. Frees the block's cells if it has none.
 fn list_block(block: &mut Vec<Cell>, first: usize, refs: &mut Vec<Ref>) -> Result<(), AllocError>
     requires { first + length block.old.items < 2 ^ 64 }
     ensures same { (k : ℕ) → slice_index_or block.new.items k None ≡ slice_index_or block.old.items k None }
@@ -102,7 +101,7 @@ fn list_block(block: &mut Vec<Cell>, first: usize, refs: &mut Vec<Ref>) -> Resul
 }
 
 impl Blocks {
-    /// No place.
+    /// No places.
     pub(crate) fn new(alloc: Global) -> Blocks
         ensures { result ≡ [] }
     {
@@ -133,7 +132,7 @@ impl Blocks {
         }
     }
 
-    /// Puts a slot at a place. All stays as it is where the place's block would have to be made and memory is refused.
+    /// Sets the slot of a place. It may have to allocate the place's block; if memory is refused, nothing changes.
     pub(crate) fn set(&mut self, place: usize, slot: Slot) -> Result<(), AllocError>
         requires here { place < length self.old }
         requires room { slot.place < 2 ^ 32 - 1 }
@@ -143,7 +142,7 @@ impl Blocks {
         put(&mut self.blocks[place / BLOCK], place % BLOCK, slot)
     }
 
-    /// Puts another slot at a place where one stands. It takes no memory.
+    /// Replaces the slot of a place that has one. It takes no memory.
     pub(crate) fn replace(&mut self, place: usize, slot: Slot)
         requires here { IsSome (slice_index_or self.old place None) }
         requires room { slot.place < 2 ^ 32 - 1 }
@@ -160,7 +159,7 @@ impl Blocks {
         free(&mut self.blocks[place / BLOCK], place % BLOCK);
     }
 
-    /// Makes one free place more.
+    /// Adds one free place.
     pub(crate) fn grow(&mut self) -> Result<(), AllocError>
         ensures ok { OnOk result (self.new ≡ self.old ++ None ∷ []) }
         ensures err { OnErr result (self.new ≡ self.old) }
@@ -176,7 +175,8 @@ impl Blocks {
         Ok(())
     }
 
-    /// Appends where the clauses stand, by rising numbers from that of the first place on. A block in which none stands is given back.
+    /// Appends a reference to each clause, in the order of clause numbers; `first` is the number of the first place. Frees the cells of
+    /// blocks without a clause.
     pub(crate) fn list(&mut self, first: usize, refs: &mut Vec<Ref>) -> Result<(), AllocError>
         requires { first < 2 ^ 63 }
         ensures same { self.new ≡ self.old }

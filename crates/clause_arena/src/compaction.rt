@@ -1,10 +1,10 @@
-//! The live clauses one after the other in a fresh vector (the relocation of MiniSat's clause arena).
+//! Compaction: the live clauses are copied into a fresh vector without gaps (`relocAll` of MiniSat).
 
 ghost use Rattle.std.specs.Prelude.{◌≡◌, ℕ, ◌+◌, ◌-◌, ◌^◌, ◌<◌, ◌≤◌, ◌++◌, length, take, vec_len, slice_index_or, sum_by, IfOk, OnOk, OnErr};
 ghost use Rattle.clause_arena.specs.declared.reference.Ref.{Ref};
 ghost use Rattle.clause_arena.specs.Contents.{clause_at};
 ghost use Rattle.clause_arena.specs.inner.Contents.{slot_of, IsPlaced};
-ghost use Rattle.clause_arena.specs.inner.Packing.{gathered, move_of, moves_from};
+ghost use Rattle.clause_arena.specs.inner.Relocation.{relocated, move_of, moves_from};
 
 use crate::literals::literals_at;
 use crate::reference::Ref;
@@ -12,7 +12,7 @@ use crate::slot::{MOST, Slot};
 use dimacs::Lit;
 use std::alloc::{AllocError, Global};
 
-/// How many literals the clauses have together.
+/// The sum of the clauses' lengths.
 fn room_for(refs: &[Ref]) -> usize
     ensures { sum_by (λ (at : Ref). at.len) refs.now < 2 ^ 64 → result ≡ sum_by (λ (at : Ref). at.len) refs.now }
 {
@@ -23,8 +23,8 @@ fn room_for(refs: &[Ref]) -> usize
     room
 }
 
-/// Appends the literals of a clause, and tells the move where its place is another one now.
-fn carry(
+/// Copies the literals of a clause to the end of `fresh`. Appends the move to `moved` if the clause's place changes.
+fn relocate(
     literals: &[Lit],
     at: Ref,
     fresh: &mut Vec<Lit>,
@@ -52,23 +52,23 @@ fn carry(
     Ok(())
 }
 
-/// The literals of clauses one after the other. Each clause whose place is another one now is told; after an error some may
-/// be told already.
-pub(crate) fn gather(
+/// Copies the literals of all clauses into a fresh vector, in the order of `refs`. Appends to `moved` each clause whose place changes;
+/// after an error, `moved` may have some of them.
+pub(crate) fn relocate_all(
     alloc: Global,
     literals: &[Lit],
     refs: &[Ref],
     moved: &mut Vec<(Ref, Ref)>,
 ) -> Result<Vec<Lit>, AllocError>
     requires { (i : ℕ) (d : Ref) → i < length refs.now → IsPlaced literals.now (slot_of (slice_index_or refs.now i d)) }
-    ensures literals { IfOk result (λ fresh. fresh.items ≡ gathered literals.now refs.now) }
+    ensures literals { IfOk result (λ fresh. fresh.items ≡ relocated literals.now refs.now) }
     ensures few { IfOk result (λ fresh. vec_len fresh < 2 ^ 32 - 1) }
     ensures moves { OnOk result (moved.new.items ≡ moved.old.items ++ moves_from 0 refs.now) }
     ensures err { OnErr result (take (vec_len moved.old) moved.new.items ≡ moved.old.items) }
 {
     let mut fresh = Vec::with_capacity(alloc, room_for(refs))?;
     for at in refs {
-        carry(literals, *at, &mut fresh, moved)?;
+        relocate(literals, *at, &mut fresh, moved)?;
     }
     if fresh.len() >= MOST {
         return Err(AllocError);

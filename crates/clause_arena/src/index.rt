@@ -1,24 +1,23 @@
-//! The index of an arena: the slots of the live clauses by their numbers.
+//! The index of an arena: from the number of each live clause to its slot.
 
 ghost use Rattle.std.specs.Prelude.{◌≡◌, ℕ, ◌-◌, ◌^◌, ◌<◌, ◌++◌, length, slice_index_or, IsSome, OnOk, OnErr};
 ghost use Rattle.std.specs.FinMap.{get, insert, remove, empty};
 ghost use Rattle.clause_arena.specs.declared.reference.Ref.{Ref};
-ghost use Rattle.clause_arena.specs.inner.Packing.{refs_of, moved_by};
+ghost use Rattle.clause_arena.specs.inner.Relocation.{refs_of, moved_by};
 
 use crate::reference::Ref;
 use crate::slot::Slot;
-use crate::slots::Tables;
+use crate::slot_map::SlotMap;
 use std::alloc::{AllocError, Global};
 use std::marker::Model;
 
-/// The slots of the live clauses, by their numbers.
+/// A map from the number of each live clause to its slot.
 pub(crate) struct Index {
-    tables: Tables,
-    /// How many clauses were ever put in: it bounds how many places may be free.
+    tables: SlotMap,
+    /// How many clauses were ever inserted. It bounds the length of the dense table, so that one great number does not make a great table.
     taken: u64,
 }
 
-// By hand, so that whoever owns one drops it by one call, and no proof there goes through its parts.
 impl Drop for Index {
     fn drop(self) {
         let Index {
@@ -43,12 +42,12 @@ impl Model for Index {
 }
 
 impl Index {
-    /// No slot.
+    /// An empty index.
     pub(crate) fn new(alloc: Global) -> Index
         ensures { result ≡ empty }
     {
         Index {
-            tables: Tables::new(alloc),
+            tables: SlotMap::new(alloc),
             taken: 0,
         }
     }
@@ -61,7 +60,7 @@ impl Index {
         self.tables.find(number)
     }
 
-    /// Puts a slot under a number.
+    /// Inserts a slot under a number. If memory is refused, the map is unchanged.
     pub(crate) fn insert(&mut self, number: u64, slot: Slot) -> Result<(), AllocError>
         requires { slot.place < 2 ^ 32 - 1 }
         ensures ok { OnOk result (self.new ≡ insert self.old number slot) }
@@ -72,14 +71,14 @@ impl Index {
         self.tables.put(number, slot)
     }
 
-    /// Takes out the slot of a number.
+    /// Removes the slot of a number.
     pub(crate) fn remove(&mut self, number: u64)
         ensures { self.new ≡ remove self.old number }
     {
         self.tables.take(number);
     }
 
-    /// Puts another slot under a number that has one.
+    /// Replaces the slot of a number that has one. It takes no memory.
     pub(crate) fn replace(&mut self, number: u64, slot: Slot)
         requires live { IsSome (get self.old number) }
         requires room { slot.place < 2 ^ 32 - 1 }
@@ -88,7 +87,7 @@ impl Index {
         self.tables.replace(number, slot);
     }
 
-    /// Puts each clause where it has moved.
+    /// Gives each clause of `moves` the slot to which it moved.
     pub(crate) fn move_all(&mut self, moves: &[(Ref, Ref)])
         requires live { (i : ℕ) (d : Ref × Ref) → i < length moves.now → IsSome (get self.old (slice_index_or moves.now i d).1.number) }
         requires room { (i : ℕ) (d : Ref × Ref) → i < length moves.now → (slice_index_or moves.now i d).1.place < 2 ^ 32 - 1 }
@@ -105,7 +104,7 @@ impl Index {
         }
     }
 
-    /// Appends where the clauses stand, by rising numbers.
+    /// Appends a reference to each clause, in the order of clause numbers.
     pub(crate) fn list(&mut self, refs: &mut Vec<Ref>) -> Result<(), AllocError>
         ensures same { self.new ≡ self.old }
         ensures listed { OnOk result (refs.new.items ≡ refs.old.items ++ refs_of self.old) }

@@ -1,9 +1,9 @@
-//! The clauses of a solver, in one flat vector of literals and found by their numbers: no clause is an allocation of its
-//! own, and a clause is lent as a slice of that vector (the clause arena of MiniSat, Eén and Sörensson 2003).
+//! The clause arena: all literals of all clauses in one vector, so that no clause is an allocation of its own. A clause is lent as a
+//! slice of that vector (MiniSat's clause arena, Eén and Sörensson 2003), and is found by its number through an index.
 //!
-//! What a layer above may rest on: an arena is a map from numbers to a place and a clause. A `Ref` names a live clause by its
-//! number, its place and its length, so that `clause` and `swap` look at nothing but the literals. Where a clause that went
-//! out stood, a gap stays until `compact` closes it and tells which clauses moved.
+//! What a layer above may rest on: an arena is a map from a number to a place and a clause. A `Ref` has the number, the place and the
+//! length of a live clause, so that `clause` and `swap` read the literals alone, without the index. `remove` leaves a gap; `compact`
+//! closes all gaps and lists the clauses that moved.
 #![tactic(auto)]
 
 mod arena;
@@ -13,8 +13,8 @@ mod index;
 mod literals;
 mod reference;
 mod slot;
-mod slots;
-mod table;
+mod slot_map;
+mod slot_table;
 
 pub use arena::Arena;
 pub use reference::Ref;

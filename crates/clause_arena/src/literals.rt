@@ -1,4 +1,4 @@
-//! The literals of an arena, one clause after the other.
+//! The literals of one clause, in the vector of all literals.
 
 ghost use Rattle.std.specs.Prelude.{◌≡◌, ◌+◌, ◌≤◌, ◌<◌, length, swap};
 ghost use Rattle.clause_arena.specs.Contents.{clause_at};
@@ -7,7 +7,7 @@ ghost use Rattle.clause_arena.specs.inner.Contents.{slot_of, IsPlaced};
 use crate::reference::Ref;
 use dimacs::Lit;
 
-/// The literals at a reference.
+/// The literals of the clause at a reference.
 #[inline(always)]
 pub(crate) fn literals_at(literals: &[Lit], at: Ref) -> &[Lit]
     requires { IsPlaced literals.now (slot_of at) }

@@ -1,9 +1,9 @@
-//! Where a live clause stands.
+//! References to live clauses.
 
 ghost use Rattle.std.specs.Prelude.{◌≡◌};
 
-/// Where a live clause stands: its number, the place of its first literal among the literals of the arena, and how many
-/// literals it has. It is good until the clause goes out or `compact` tells that it moved.
+/// A reference to a live clause: its number, the place of its first literal in the arena's vector, and its length. It is valid until
+/// the clause is removed or `compact` moves it.
 #[derive(Clone, Copy, Debug, PartialEq, Eq)]
 pub struct Ref {
     pub(crate) number: u64,

@@ -1,13 +1,14 @@
-//! Slots, and the cells of a table of slots.
+//! A slot says where a clause's literals are; a cell holds a slot or nothing.
 
 ghost use Rattle.std.specs.Prelude.{◌≡◌, ◌<◌, ◌-◌, ◌^◌, Some, None, IfSome};
 
 use std::marker::Model;
 
-/// No clause stands at this place or behind it, and none has more literals.
+/// The limit of 32-bit places: each clause begins before this place, and has at most this many literals.
 pub(crate) const MOST: usize = u32::MAX as usize;
 
-/// Where a clause's literals stand. Numbers of 32 bits take half the room, and 16 GB of literals are within them.
+/// Where a clause's literals are: the place of the first one, and how many there are. 32 bits, to halve the size of the index; they
+/// reach 16 GB of literals.
 #[derive(Clone, Copy)]
 pub(crate) struct Slot {
     pub(crate) place: u32,
@@ -15,7 +16,7 @@ pub(crate) struct Slot {
 }
 
 impl Slot {
-    /// The slot of so many literals from a place on, where there is one.
+    /// The slot of `len` literals from `place` on; None if it is past the limit.
     pub(crate) fn of(place: usize, len: usize) -> Option<Slot>
         ensures place { IfSome result (λ slot. slot.place ≡ place) }
         ensures len { IfSome result (λ slot. slot.len ≡ len) }
@@ -31,8 +32,8 @@ impl Slot {
     }
 }
 
-/// A slot of a table, or none. No clause stands at the greatest place, so this place marks a free cell, which takes no more room
-/// than a slot; an `Option` would take half as much again.
+/// A slot or nothing, in 8 bytes: the place `u32::MAX`, at which no clause begins, marks a free cell. An `Option<Slot>` would take
+/// 12 bytes.
 #[derive(Clone, Copy)]
 pub(crate) struct Cell {
     place: u32,
@@ -78,7 +79,7 @@ impl Cell {
         }
     }
 
-    /// The slot, where the cell is not free.
+    /// The slot in the cell; None if the cell is free.
     pub(crate) fn slot(self) -> Option<Slot>
         ensures { result ≡ self }
     {

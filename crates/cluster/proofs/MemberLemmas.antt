@@ -14,7 +14,7 @@ use Rattle.cube_split.specs.declared.pair.Pair.{Pair}
 use Rattle.evidence.specs.Events.{Event, Polled, Given, Reacted}
 use Rattle.worker_core.specs.Worker.{WorkerState, WorkerStep, WorkerPolls, new_worker}
 use Rattle.coordinator_core.specs.Coordinator.{CoordinatorPolls}
-use Rattle.closed_schedules.specs.ClosedSchedule.{ClosedState, StepsAt, IsNoPoll, first_worker, with_coordinator, with_worker}
+use Rattle.honest_cluster.specs.ClosedSchedule.{ClosedState, StepsAt, IsNoPoll, first_worker, with_coordinator, with_worker}
 use Rattle.cluster.specs.Members.{closed_of}
 use Rattle.cluster.specs.inner.Members.{new_workers, MayBePolled}
 use Rattle.cluster.specs.declared.members.Members.{Members}
@@ -36,7 +36,7 @@ numbers_more count =
 abbrev pub AreSettled : Type 0
 AreSettled = (F : Cnf) (defs : ℕ) (ps qs : List Pair) → AreDefined F defs [] ps → AreDefined F defs [] qs → ps ≡ qs
 
--- so a worker with as many definitions searches over the base with these
+-- so a worker with as many definitions searches over the base with these pairs
 pub same_base : AreSettled → (F B : Cnf) (defs : ℕ) (d : Definitions) → IsBaseWith F defs B → AreOf F d → d.wanted ≡ defs → B ≡ base_with F d.pairs
 same_base settled F B defs d is defined wanted =
     is.is ∙ ap (base_with F) (settled F defs is.pairs d.pairs is.defined (subst (λ (n : ℕ). AreDefined F n [] d.pairs) wanted defined.defined))
@@ -56,19 +56,19 @@ worker_steps s node event given w v some at step =
     let is : suc (node - 1) ≡ node = omega (arith, some) in
     subst (λ (k : ℕ). StepsAt s k event given (with_worker s (node - 1) v)) is (w, v, at, step, refl)
 
--- a number is used where the list has it
+-- a number is used if the list has it
 pub is_used : (used : List ℕ) (number : ℕ) → (k : ℕ) × (k < length used) × HoldsAt (λ y. nat_eq y number ≡ true) used k → Contains used number
 is_used used number (k, within, same) = (k, within, eqb-true _ number (same number))
 
 pub is_unused : (used : List ℕ) (number : ℕ) → AllWithin (λ y. nat_eq y number ≡ false) used 0 (length used) → ¬ (Contains used number)
 is_unused used number others (k, within, same) = absurd (false≢true (sym (others k number (omega arith) within) ∙ eq-eqb _ number same))
 
--- a node that may be polled is no stray
+-- a poll at a node that may be polled is not ignored
 pub may_be_polled : (m : Members) (node worker : ℕ) → MayBePolled m node worker → (frames : List Frame) (used : List ℕ) → ¬ (IsNoPoll (closed_of m frames used) node worker)
 may_be_polled m node worker may frames used (inl none) = absurd (omega (arith, none, may.member))
 may_be_polled m node worker may frames used (inr stray) = stray.1 (may.known stray.0)
 
--- a poll for which there is no room changes nothing
+-- a poll for which memory was refused changes nothing
 pub poll_rests : (s : ClosedState) (node worker : ℕ) (new : ClosedState) → StepsAt s node (Polled worker) (Reacted reaction.NoMemory) new → new ≡ s
 poll_rests s zero worker new (c, (known, polls), now) = now ∙ ap (with_coordinator s) (same polls)
   where

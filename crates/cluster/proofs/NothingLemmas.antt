@@ -1,4 +1,4 @@
--- An event that is ignored, or finds no memory, changes nothing.
+-- An event with the reaction `Ignored` or `NoMemory` changes nothing.
 use Rattle.std.proofs.Common.{◌≡◌, ◌⊎◌, inl, inr, ℕ, Option, None, Some, List, MatchOption, slice_get, slice_set, get_or, refl, sym, ap, ◌∙◌}
 use Rattle.std.proofs.lemmas.List.{set-get_or}
 use Rattle.std.proofs.lemmas.Option.{get_or_from_slice_get}
@@ -6,10 +6,10 @@ use Rattle.lrat_check.specs.declared.verdict.Reaction.{Reaction}
 use Rattle.lrat_check.specs.declared.verdict.Reaction.TheVariants as reaction
 use Rattle.evidence.specs.Events.{Event, Delivered, Worked, Polled, Given, Reacted, Ignores}
 use Rattle.dimacs.specs.logic.Cnf.{Cnf}
-use Rattle.worker_core.specs.Extending.{ExtendsWorker}
+use Rattle.worker_core.specs.AddedClauses.{ExtendsWorker}
 use Rattle.worker_core.specs.Laws as worker
 use Rattle.worker_core.specs.Worker.{WorkerState, WorkerStep}
-use Rattle.coordinator_core.specs.Extending.{ExtendsCoordinator}
+use Rattle.coordinator_core.specs.AddedClauses.{ExtendsCoordinator}
 use Rattle.coordinator_core.specs.Laws as coordinator
 use Rattle.coordinator_core.specs.Coordinator.{CoordinatorState, CoordinatorStep}
 use Rattle.cluster.specs.declared.event.OpenEvent.{OpenEvent}
@@ -23,7 +23,7 @@ pub record Quiet : Type 0 where
   pub worker : (old : WorkerState) (event : Event) (given : Given) (new : WorkerState) → WorkerStep old event given new → worker.ChangesNothing given old new
   pub coordinator : (old : CoordinatorState) (event : Event) (given : Given) (new : CoordinatorState) → CoordinatorStep old event given new → coordinator.ChangesNothing given old new
 
--- such an answer
+-- the reaction is `Ignored` or `NoMemory`
 abbrev IsQuiet : Reaction → Type 0
 IsQuiet answer = (answer ≡ reaction.Ignored) ⊎ (answer ≡ reaction.NoMemory)
 
@@ -31,7 +31,7 @@ given_quiet : (answer : Reaction) → IsQuiet answer → (Reacted answer ≡ Rea
 given_quiet answer (inl is) = inl (ap Reacted is)
 given_quiet answer (inr is) = inr (ap Reacted is)
 
--- taken is no such answer
+-- `Taken` is neither
 taken_is_not : (X : Type 0) (answer : Reaction) → answer ≡ reaction.Taken → IsQuiet answer → X
 taken_is_not X answer is (inl q) = absurd cc
 taken_is_not X answer is (inr q) = absurd cc
@@ -57,7 +57,7 @@ module _ (k : Quiet) where
 
   delivers_nothing : (old : Node) (bytes : List ℕ) (answer : Reaction) (new : Node) → Delivers old bytes answer new → IsQuiet answer → new ≡ old
   delivers_nothing old bytes answer new (Delivers.begins first is step) q = step_nothing old (Delivered first) answer new step q
-  delivers_nothing old bytes answer new (Delivers.noise none ignores) q = ignores.1
+  delivers_nothing old bytes answer new (Delivers.no_frame none ignores) q = ignores.1
   delivers_nothing old bytes answer new (Delivers.no_memory offers is same) q = same
 
   works_nothing : (old : Node) (answer : Reaction) (new : Node) → Works old answer new → IsQuiet answer → new ≡ old
@@ -66,7 +66,7 @@ module _ (k : Quiet) where
 
   polls_nothing : (old : Node) (worker : ℕ) (answer : Reaction) (new : Node) → Polls old worker answer new → IsQuiet answer → new ≡ old
   polls_nothing old worker answer new (Polls.sends sent step is) q = taken_is_not (new ≡ old) answer is q
-  polls_nothing old worker answer new (Polls.strays none ignores) q = ignores.1
+  polls_nothing old worker answer new (Polls.is_ignored none ignores) q = ignores.1
   polls_nothing old worker answer new (Polls.no_memory step is) q = step_nothing old (Polled worker) reaction.NoMemory new step (inr refl)
 
   restarts_nothing : (old : Node) (number : ℕ) (answer : Reaction) (new : Node) → Restarts old number answer new → IsQuiet answer → new ≡ old

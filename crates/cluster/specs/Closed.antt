@@ -1,21 +1,21 @@
--- Closed clusters: what holds of one at every moment.
+-- What holds of a closed cluster at every moment.
 use Rattle.std.specs.Prelude.{◌≡◌, ℕ, Some}
 use Rattle.lrat_check.specs.Verdicts.{Right}
 use Rattle.lrat_check.specs.declared.verdict.Verdict.{Verdict}
 use Rattle.coordinator_core.specs.Coordinator.{AreClosed}
 use Rattle.coordinator_core.specs.Invariant.{HasJoined}
-use Rattle.closed_schedules.specs.ClosedSchedule.{Beginning, ClosedState, verdict_at}
-use Rattle.closed_schedules.specs.ClosedLaws.{IsMoment}
+use Rattle.honest_cluster.specs.ClosedSchedule.{Beginning, ClosedState, verdict_at}
+use Rattle.honest_cluster.specs.ClosedLaws.{IsMoment}
 
--- a closed schedule came to it, however it began
+-- the state is a moment of some closed schedule
 pub record IsReached (s : ClosedState) : Type 0 where
   pub beginning : Beginning
   pub moment : IsMoment beginning s
 
--- what each node holds is right for the formula
-abbrev pub HoldRight : ClosedState → Type 0
-HoldRight s = (node : ℕ) (v : Verdict) → verdict_at s node ≡ Some v → Right s.coordinator.formula v
+-- in this state each node's verdict is right for the coordinator's formula
+abbrev pub AllHoldRight : ClosedState → Type 0
+AllHoldRight s = (node : ℕ) (v : Verdict) → verdict_at s node ≡ Some v → Right s.coordinator.formula v
 
--- where every leaf is closed, the coordinator holds the joined proof, or that is too long
-abbrev pub IsJoined : ClosedState → Type 0
-IsJoined s = AreClosed s.coordinator.leaves → HasJoined s.coordinator
+-- in this state, if every leaf is closed, the coordinator holds the joined proof, or it is stuck because that proof is too long
+abbrev pub HasJoinedIfClosed : ClosedState → Type 0
+HasJoinedIfClosed s = AreClosed s.coordinator.leaves → HasJoined s.coordinator

@@ -1,6 +1,6 @@
 pub mod Agreement
 pub mod Closed
-pub mod Growing
+pub mod Formulas
 pub mod Members
 pub mod Nodes
 pub mod OpenSchedule

@@ -1,12 +1,13 @@
-//! Bytes that are handed over.
+//! The bytes that an event delivers.
 
 ghost use Rattle.std.specs.Prelude.{◌≡◌};
 
 use std::marker::Model;
 
-/// Any bytes.
+/// Any bytes, to be delivered to a node.
 #[derive(Drop)]
 pub struct Bytes {
+    /// The bytes.
     bytes: Vec<u8>,
 }
 
@@ -19,14 +20,14 @@ impl Model for Bytes {
 }
 
 impl Bytes {
-    /// These bytes.
+    /// Holds these bytes.
     pub fn from_vec(bytes: Vec<u8>) -> Bytes
         ensures { result ≡ bytes.items }
     {
         Bytes { bytes }
     }
 
-    /// The bytes.
+    /// The bytes that are held.
     #[inline]
     pub fn as_slice(&self) -> &[u8]
         ensures { result.now ≡ self.now }

@@ -1,4 +1,4 @@
-//! What may happen to a cluster.
+//! The events of an open schedule.
 
 ghost use Rattle.std.specs.Prelude.{◌≡◌};
 ghost use Rattle.cluster.specs.OpenSchedule.{node_of};
@@ -9,26 +9,27 @@ use dimacs::Extension;
 /// An event of an open schedule. Nodes are numbered from 0.
 #[derive(Drop)]
 pub enum OpenEvent {
-    /// Any bytes come to a node.
+    /// Deliver any bytes to a node.
     Deliver {
         node: usize,
         bytes: Bytes,
     },
-    /// A node is to work.
+    /// Let a node search.
     Work {
         node: usize,
     },
-    /// A node is asked what it has to send to a worker.
+    /// Poll a node for its next frame, a coordinator for the frame to `worker`. The frame is dropped.
     Poll {
         node: usize,
         worker: u32,
     },
-    /// A node begins anew, under a number.
+    /// Restart a node under a number: a worker's incarnation, or a coordinator's session.
     Restart {
         node: usize,
         number: u64,
     },
-    /// Clauses are added to a node's formula, and it begins anew, under a number, but for what stays of its verdict.
+    /// Add clauses to a node's formula, and restart the node under a number. It holds the assignment or proof that it held before if that
+    /// is right for the longer formula, else no verdict.
     Extend {
         node: usize,
         extension: Extension,
@@ -37,7 +38,7 @@ pub enum OpenEvent {
 }
 
 impl OpenEvent {
-    /// The node at which it happens.
+    /// The number of the node at which the event happens, counted from 0.
     pub fn node(&self) -> usize
         ensures { result ≡ node_of self.now }
     {

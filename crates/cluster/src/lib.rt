@@ -1,8 +1,8 @@
-//! Clusters of nodes under every schedule: what a node holds is right, and no two nodes of one formula disagree.
+//! Clusters of nodes under every schedule: each verdict is right, and no two nodes of one formula hold verdicts that differ.
 //!
-//! What a layer above may rest on: whatever events come to the nodes of an [`OpenCluster`], also where clauses are added to them, each
-//! verdict is right and true of the formula that its node has then, and nodes of one formula, each at its moment, agree; and in a [`ClosedCluster`], whose nodes are handed their
-//! own frames alone, no reaction is a refusal.
+//! What a layer above may rest on: under every list of events at the nodes of an [`OpenCluster`], added clauses among them, each verdict
+//! is right for, and true of, the formula that its node has then, and nodes of one formula, each at its own moment, agree. In a
+//! [`ClosedCluster`], whose nodes get only frames that they have sent, no reaction is a refusal.
 #![tactic(auto)]
 
 mod bytes;

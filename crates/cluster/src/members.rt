@@ -1,11 +1,11 @@
-//! The nodes of a closed cluster.
+//! The members of a closed cluster: its coordinator and its workers.
 
 ghost use Rattle.std.specs.Prelude.{◌≡◌, ◌≤◌, [], All, IfOk, OnOk, OnErr, MatchBool, nat_le, length, option_copied};
 ghost use Rattle.dimacs.specs.logic.Cnf.{Cnf};
 ghost use Rattle.cube_split.specs.Pairs.{AreOf, Definitions, IsBaseWith};
 ghost use Rattle.evidence.specs.Events.{Delivered, Worked, Polled, Reacted, given_by};
-ghost use Rattle.evidence.specs.Jobs.{IsInside};
-ghost use Rattle.closed_schedules.specs.ClosedSchedule.{IsNoPoll, verdict_at};
+ghost use Rattle.evidence.specs.Jobs.{IsOverBase};
+ghost use Rattle.honest_cluster.specs.ClosedSchedule.{IsNoPoll, verdict_at};
 ghost use Rattle.cluster.specs.Members.{closed_of};
 ghost use Rattle.cluster.specs.inner.Members.{AreNew, IsMember, MayBePolled, MemberSteps, MemberRestarts, new_workers};
 
@@ -18,9 +18,11 @@ use lrat_check::{Reaction, Verdict};
 use std::alloc::{AllocError, Global};
 use worker_core::Worker;
 
-/// A coordinator, which is node 0, and its workers, which are the nodes from 1 on.
+/// The nodes of a closed cluster: the coordinator is node 0, and worker w, counted from 1, is node w.
 pub(crate) struct Members {
+    /// The coordinator.
     pub(crate) coordinator: Coordinator,
+    /// The workers, in order: worker 1 is at index 0.
     pub(crate) workers: Vec<Worker>,
 }
 
@@ -33,7 +35,7 @@ impl Drop for Members {
     }
 }
 
-/// Workers 1 to `count`, worker w under incarnation w + 1, with as many definitions, which are those of the formula.
+/// Workers 1 to `count` with `defs` definitions of the formula, worker w in incarnation w + 1. An error is want of memory.
 fn workers_of(
     alloc: Global,
     formula: &Formula,
@@ -57,7 +59,8 @@ fn workers_of(
 }
 
 impl Members {
-    /// A coordinator under session 1, and workers 1 to `workers`, worker w under incarnation w + 1, all with as many definitions.
+    /// A coordinator in session 1, and workers 1 to `workers`, worker w in incarnation w + 1, all with `defs` definitions of the formula.
+    /// An error is want of memory.
     pub(crate) fn new(
         alloc: Global,
         formula: &Formula,
@@ -66,7 +69,7 @@ impl Members {
         workers: u32,
         defs: u32,
     ) -> Result<Members, AllocError>
-        requires inside { (B : Cnf) → IsBaseWith formula.now defs B → All (IsInside B) tree }
+        requires inside { (B : Cnf) → IsBaseWith formula.now defs B → All (IsOverBase B) tree }
         requires workers { (1 ≤ workers) × (workers ≤ 64) }
         requires defs { defs ≤ 64 }
         ensures { IfOk result (AreNew formula.now tree limit workers defs) }
@@ -80,14 +83,14 @@ impl Members {
         })
     }
 
-    /// Whether there is such a node.
+    /// Tells whether there is a node of this number.
     pub(crate) fn has(&self, node: usize) -> bool
         ensures { result ≡ nat_le node (length self.now.workers.items) }
     {
         node <= self.workers.len()
     }
 
-    /// A frame comes to a node.
+    /// Delivers a frame to a node, and answers the node's reaction.
     pub(crate) fn deliver(&mut self, node: usize, frame: &Frame) -> Reaction
         requires { IsMember self.old node }
         ensures { MemberSteps self.old node (Delivered frame.now) (Reacted result) self.new }
@@ -98,7 +101,7 @@ impl Members {
         self.workers[node - 1].deliver(frame)
     }
 
-    /// A worker is to work.
+    /// Lets the worker that is this node search, and answers the worker's reaction.
     pub(crate) fn work(&mut self, node: usize) -> Reaction
         requires some { 1 ≤ node }
         requires member { IsMember self.old node }
@@ -107,7 +110,7 @@ impl Members {
         self.workers[node - 1].work()
     }
 
-    /// Whether a node can be asked what it has to send to a worker, which a worker does not look at.
+    /// Tells whether a node exists and can be polled for a worker: the coordinator has to have a worker of this number.
     pub(crate) fn may_be_polled(&self, node: usize, worker: u32) -> bool
         ensures { MatchBool result (MayBePolled self.now node worker) (IsNoPoll (closed_of self.now [] []) node worker) }
     {
@@ -117,20 +120,21 @@ impl Members {
         node <= self.workers.len()
     }
 
-    /// A node is asked what it has to send to a worker. Want of memory leaves all as it was.
+    /// Polls a node for its next frame, the coordinator for the frame to this worker. An error is want of memory: then nothing has changed.
     pub(crate) fn poll(&mut self, node: usize, worker: u32) -> Result<Frame, AllocError>
         requires { MayBePolled self.old node worker }
         ensures { MemberSteps self.old node (Polled worker) (given_by result) self.new }
     {
         if node == 0 {
-            // That it has at most 64 workers.
+            // `workers` ensures that there are at most 64.
             let _ = self.coordinator.workers();
             return self.coordinator.poll(WorkerNumber::new(worker));
         }
         self.workers[node - 1].poll()
     }
 
-    /// A node begins anew, under another number. Want of memory leaves all as it was.
+    /// Restarts a node under this number: a worker's incarnation, or the coordinator's session. An error is want of memory: then nothing
+    /// has changed.
     pub(crate) fn restart(&mut self, node: usize, number: u64) -> Result<(), AllocError>
         requires { IsMember self.old node }
         ensures ok { OnOk result (MemberRestarts self.old node number self.new) }
@@ -143,7 +147,7 @@ impl Members {
         Ok(())
     }
 
-    /// The verdict that a node holds; None where there is no such node.
+    /// The verdict that a node holds; `None` if there is no such node.
     pub(crate) fn verdict(&self, node: usize) -> Option<&Verdict>
         ensures { option_copied result ≡ verdict_at (closed_of self.now [] []) node }
     {

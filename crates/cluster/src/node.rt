@@ -1,11 +1,11 @@
-//! A node of a cluster.
+//! A node of a cluster: a worker or a coordinator.
 
 ghost use Rattle.std.specs.Prelude.{◌≡◌, MatchBool};
 ghost use Rattle.evidence.specs.Events.{Delivered, Polled, Reacted, given_by};
 ghost use Rattle.lrat_check.specs.Verdicts.{Right};
 ghost use Rattle.cluster.specs.Nodes.{formula_of, verdict_of, IsSound};
 ghost use Rattle.cluster.specs.OpenSchedule.{NodeStep, Delivers, Extends, Works, Polls, Restarts, Reacts, HasNoWorker};
-ghost use Rattle.cluster.specs.inner.OpenSchedule.{MaySendTo, answer_to};
+ghost use Rattle.cluster.specs.inner.Polls.{MaySendTo, answer_to};
 
 use crate::event::OpenEvent;
 use coordinator_core::Coordinator;
@@ -15,11 +15,11 @@ use lrat_check::{Reaction, Verdict};
 use std::alloc::{AllocError, Global};
 use worker_core::Worker;
 
-/// A node: one of the two machines.
+/// A node: a worker or a coordinator.
 pub enum Node {
-    /// It searches, and collects the verdict.
+    /// A worker: it searches, and receives and checks the verdict.
     Worker(Worker),
-    /// It gives out the leaves of a tree, checks what was found, and hands out the verdict.
+    /// A coordinator: it gives the leaves of a tree to workers, checks their evidence, and sends the verdict to them.
     Coordinator(Coordinator),
 }
 
@@ -33,7 +33,7 @@ impl Drop for Node {
 }
 
 impl Node {
-    /// The formula that it has: the one that it was started with, with the clauses that it took behind.
+    /// The formula of the node: the one that it was made with, and the clauses that were added.
     pub fn formula(&self) -> &Formula
         ensures { result.now ≡ formula_of self.now }
     {
@@ -43,7 +43,7 @@ impl Node {
         }
     }
 
-    /// The verdict that it holds. It takes no memory.
+    /// The verdict that the node holds. The call takes no memory.
     pub fn verdict(&self) -> &Verdict
         ensures value { result.now ≡ verdict_of self.now }
         ensures sound { IsSound self.now }
@@ -55,7 +55,8 @@ impl Node {
         }
     }
 
-    /// Any bytes come to it: their first whole frame is delivered, and what follows is not looked at.
+    /// Delivers any bytes to the node: if they begin with a right frame, that is delivered, and the bytes after it are not read; else the
+    /// answer is `Ignored`. `NoMemory` if memory for the frame is refused.
     pub fn deliver(&mut self, alloc: Global, bytes: &[u8]) -> Reaction
         ensures { Delivers self.old bytes.now result self.new }
     {
@@ -66,7 +67,7 @@ impl Node {
         }
     }
 
-    /// A frame comes to it.
+    /// Delivers a frame to the node, and answers the node's reaction.
     fn deliver_frame(&mut self, frame: &Frame) -> Reaction
         ensures { NodeStep self.old (Delivered frame.now) (Reacted result) self.new }
     {
@@ -76,7 +77,7 @@ impl Node {
         }
     }
 
-    /// It is to work; a coordinator has nothing to do.
+    /// Lets the node search if it is a worker, and answers the worker's reaction; a coordinator answers `Ignored`.
     pub fn work(&mut self) -> Reaction
         ensures { Works self.old result self.new }
     {
@@ -86,7 +87,8 @@ impl Node {
         }
     }
 
-    /// It is asked what it has to send, a coordinator to the worker of this number. The frame goes nowhere.
+    /// Polls the node for its next frame, a coordinator for the frame to the worker of this number, and drops the frame. `Ignored` if the
+    /// coordinator has no such worker, `NoMemory` if memory for the frame is refused, else `Taken`.
     pub fn poll(&mut self, number: u32) -> Reaction
         ensures { Polls self.old number result self.new }
     {
@@ -94,10 +96,10 @@ impl Node {
             return Reaction::Ignored;
         }
         let sent = self.send_to(number);
-        polled(&sent)
+        poll_reaction(&sent)
     }
 
-    /// Whether it can be asked what it has to send to a worker.
+    /// Tells whether the node can be polled for a worker: a coordinator has to have a worker of this number.
     fn may_send_to(&self, number: u32) -> bool
         ensures { MatchBool result (MaySendTo self.now number) (HasNoWorker self.now number) }
     {
@@ -107,7 +109,7 @@ impl Node {
         }
     }
 
-    /// What it has to send to a worker.
+    /// The node's next frame, a coordinator's to the worker of this number. An error is want of memory.
     fn send_to(&mut self, number: u32) -> Result<Frame, AllocError>
         requires { MaySendTo self.old number }
         ensures { NodeStep self.old (Polled number) (given_by result) self.new }
@@ -115,15 +117,15 @@ impl Node {
         match self {
             Node::Worker(worker) => worker.poll(),
             Node::Coordinator(coordinator) => {
-                // That it has at most 64 workers.
+                // `workers` ensures that there are at most 64.
                 let _ = coordinator.workers();
                 coordinator.poll(WorkerNumber::new(number))
             }
         }
     }
 
-    /// It begins anew from its formula, under another number, and drops verdict and work. Where a coordinator finds no
-    /// memory for that, it stays as it was.
+    /// Restarts the node from its formula, under another number; its verdict and work are dropped. `NoMemory` if memory for a coordinator
+    /// is refused, which is then unchanged.
     pub fn restart(&mut self, number: u64) -> Reaction
         ensures { Restarts self.old number result self.new }
     {
@@ -139,9 +141,9 @@ impl Node {
         }
     }
 
-    /// Clauses are added to its formula: it begins anew from the formula with these, under another number, a coordinator with a tree of
-    /// one leaf, and keeps of its verdict what is right for that formula. `Refused(4)` where the formula would be above a limit;
-    /// then, and where there is no memory, it stays as it was.
+    /// Adds clauses to the node's formula, and restarts the node from the longer formula under another number, a coordinator with a tree of
+    /// one leaf. The node holds the assignment or proof that it held before if that is right for the longer formula, else no verdict.
+    /// `Refused(4)` if the longer formula would exceed a limit. After that and after `NoMemory` the node is unchanged.
     pub fn extend(&mut self, extension: &Extension, number: u64) -> Reaction
         ensures { Extends self.old extension.now number result self.new }
     {
@@ -151,17 +153,18 @@ impl Node {
         }
     }
 
-    /// An event comes to it.
+    /// Plays an event at this node, and answers the node's reaction; the node is sound after it.
     pub(crate) fn react(&mut self, alloc: Global, event: &OpenEvent) -> Reaction
         ensures reacts { Reacts event.now self.old result self.new }
         ensures sound { IsSound self.new }
     {
         let answer = self.play(alloc, event);
-        // That it is sound is told by a look at it.
+        // `verdict` ensures that the node is sound.
         let _ = self.verdict();
         answer
     }
 
+    /// Plays an event at this node, and answers the node's reaction.
     fn play(&mut self, alloc: Global, event: &OpenEvent) -> Reaction
         ensures { Reacts event.now self.old result self.new }
     {
@@ -179,8 +182,8 @@ impl Node {
     }
 }
 
-/// What is answered to a poll whose frame goes nowhere.
-fn polled(sent: &Result<Frame, AllocError>) -> Reaction
+/// The reaction to a poll with this result, whose frame is dropped: `Taken`, or `NoMemory` if memory was refused.
+fn poll_reaction(sent: &Result<Frame, AllocError>) -> Reaction
     ensures { result ≡ answer_to sent.now }
 {
     match sent {

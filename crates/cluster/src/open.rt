@@ -1,8 +1,8 @@
-//! A cluster under an open schedule: any events, in any order, with any bytes.
+//! A cluster under an open schedule: any events in any order, with any bytes delivered.
 
 ghost use Rattle.std.specs.Prelude.{◌≡◌, slice_get, option_copied, option_map};
 ghost use Rattle.cluster.specs.Agreement.{Agree, AgreeOnMore};
-ghost use Rattle.cluster.specs.Growing.{FormulasAlong, formulas_then};
+ghost use Rattle.cluster.specs.Formulas.{FormulasAlong, formulas_after_event};
 ghost use Rattle.cluster.specs.Nodes.{AreSound, AreRight, AreTrue, formulas, verdict_of};
 ghost use Rattle.cluster.specs.OpenSchedule.{ChangesNothing, Happens, Runs};
 
@@ -19,7 +19,7 @@ impl Drop for OpenCluster {
     }
 }
 
-/// One event at these nodes, and what its node answers.
+/// Plays one event at one of these nodes, and answers the node's reaction; `Ignored` if there is no such node.
 fn happen(alloc: Global, nodes: &mut Vec<Node>, event: &OpenEvent) -> Reaction
     ensures happens { Happens nodes.old.items event.now result nodes.new.items }
     ensures sound { AreSound nodes.old.items → AreSound nodes.new.items }
@@ -31,9 +31,11 @@ fn happen(alloc: Global, nodes: &mut Vec<Node>, event: &OpenEvent) -> Reaction
     nodes[place].react(alloc, event)
 }
 
-/// Nodes, to which an event happens at a time.
+/// Nodes at which events happen, one at a time.
 pub struct OpenCluster {
+    /// The allocator of the frames that are delivered.
     alloc: Global,
+    /// The nodes, numbered from 0.
     nodes: Vec<Node>,
 }
 
@@ -50,24 +52,24 @@ impl Model for OpenCluster {
 }
 
 impl OpenCluster {
-    /// A cluster of these nodes, numbered from 0. What comes to them is stored by `alloc`.
+    /// A cluster of these nodes, numbered from 0. Frames that are delivered take memory from `alloc`.
     pub fn new(alloc: Global, nodes: Vec<Node>) -> OpenCluster
         ensures holds { result ≡ nodes.items }
         ensures sound { AreSound result }
     {
-        // That a node is sound is told by a look at it: one look at each tells it of all.
+        // `verdict` ensures that a node is sound, so that after the loop all of them are.
         for node in &nodes {
             let _ = node.verdict();
         }
         OpenCluster { alloc, nodes }
     }
 
-    /// One event, and what its node answers. What the nodes hold is right for the formulas that they have then, and agrees with all
-    /// that they held before of the same formulas. An event that finds no memory changes nothing.
+    /// Plays one event, and answers the reaction of its node. The verdicts after it are right for the formulas that the nodes have then,
+    /// and agree with the verdicts before it on the same formulas. An event whose reaction is `NoMemory` changes nothing.
     pub fn step(&mut self, event: &OpenEvent) -> Reaction
         ensures happens { Happens self.old event.now result self.new }
         ensures nothing { ChangesNothing result self.old self.new }
-        ensures formulas { formulas self.new ≡ formulas_then event.now result (formulas self.old) }
+        ensures formulas { formulas self.new ≡ formulas_after_event event.now result (formulas self.old) }
         ensures right { AreRight self.new }
         ensures truth { AreTrue self.new }
         ensures agree { Agree self.old self.new }
@@ -78,8 +80,9 @@ impl OpenCluster {
         happen(self.alloc, &mut self.nodes, event)
     }
 
-    /// One event after the other. One that finds no memory changes nothing and is passed over: a delivery only if its bytes offer a frame with
-    /// literals or bytes, any other event only if its node answers so by its own rules.
+    /// Plays the events one after the other. An event whose reaction is `NoMemory` changes nothing and is passed over. That is possible for
+    /// a delivery whose bytes begin with a complete payload that has literals or a chunk, and for any event if the node's own rules allow
+    /// it.
     pub fn run(&mut self, events: &[OpenEvent])
         ensures runs { Runs self.old events.now self.new }
         ensures formulas { FormulasAlong (formulas self.old) events.now (formulas self.new) }
@@ -95,7 +98,7 @@ impl OpenCluster {
         }
     }
 
-    /// The verdict that a node holds; None where there is no such node. It takes no memory.
+    /// The verdict that a node holds; `None` if there is no such node. The call takes no memory.
     pub fn verdict(&self, node: usize) -> Option<&Verdict>
         ensures holds { option_copied result ≡ option_map verdict_of (slice_get self.now node) }
         ensures sound { AreSound self.now }

@@ -1,25 +1,28 @@
-//! What a closed schedule has come to.
+//! The state of a closed schedule, and how its events change that.
 
 ghost use Rattle.std.specs.Prelude.{◌≡◌, ◌+◌, ◌≤◌, All, IfOk};
 ghost use Rattle.dimacs.specs.logic.Base.{numbers_from};
 ghost use Rattle.dimacs.specs.logic.Cnf.{Cnf};
 ghost use Rattle.cube_split.specs.Pairs.{AreOf, Definitions, IsBaseWith};
-ghost use Rattle.evidence.specs.Jobs.{IsInside};
-ghost use Rattle.closed_schedules.specs.ClosedSchedule.{HappensClosed, HappensDeliver, HappensWork, HappensPoll, HappensRestart, new_closed};
+ghost use Rattle.evidence.specs.Jobs.{IsOverBase};
+ghost use Rattle.honest_cluster.specs.ClosedSchedule.{HappensClosed, HappensDeliver, HappensWork, HappensPoll, HappensRestart, new_closed};
 ghost use Rattle.cluster.specs.Members.{state_of};
 
 use crate::members::Members;
-use closed_schedules::ClosedEvent;
 use dimacs::Formula;
 use frames::Frame;
+use honest_cluster::ClosedEvent;
 use icnf::Tree;
 use lrat_check::Reaction;
 use std::alloc::{AllocError, Global};
 
-/// The nodes, the frames that polls gave so far, and the numbers that nodes have used.
+/// The state of a closed schedule.
 pub(crate) struct Schedule {
+    /// The nodes.
     pub(crate) members: Members,
+    /// The frames that polls have returned so far, in order.
     pub(crate) frames: Vec<Frame>,
+    /// The numbers that nodes have used: sessions and incarnations.
     pub(crate) used: Vec<u64>,
 }
 
@@ -33,7 +36,7 @@ impl Drop for Schedule {
     }
 }
 
-/// The numbers from 1 to `count`.
+/// The numbers from 1 to `count`, in order. An error is want of memory.
 fn first_numbers(alloc: Global, count: u32) -> Result<Vec<u64>, AllocError>
     ensures { IfOk result (λ v. v.items ≡ numbers_from 1 count) }
 {
@@ -45,7 +48,7 @@ fn first_numbers(alloc: Global, count: u32) -> Result<Vec<u64>, AllocError>
 }
 
 impl Schedule {
-    /// It begins: no frame was sent yet, and the numbers of the new nodes are used.
+    /// The beginning of a closed schedule: no frame was sent, and the numbers 1 to `workers + 1` are used. An error is want of memory.
     pub(crate) fn new(
         alloc: Global,
         formula: &Formula,
@@ -54,7 +57,7 @@ impl Schedule {
         workers: u32,
         defs: u32,
     ) -> Result<Schedule, AllocError>
-        requires inside { (B : Cnf) → IsBaseWith formula.now defs B → All (IsInside B) tree }
+        requires inside { (B : Cnf) → IsBaseWith formula.now defs B → All (IsOverBase B) tree }
         requires workers { (1 ≤ workers) × (workers ≤ 64) }
         requires defs { defs ≤ 64 }
         ensures { IfOk result (λ s. (d : Definitions) × AreOf formula.now d × (d.wanted ≡ defs)
@@ -67,7 +70,7 @@ impl Schedule {
         })
     }
 
-    /// One event, and what its node answers.
+    /// Plays one event, and answers the reaction of its node.
     pub(crate) fn happen(&mut self, event: &ClosedEvent) -> Reaction
         ensures { HappensClosed (state_of self.old) event.now result (state_of self.new) }
     {
@@ -79,7 +82,7 @@ impl Schedule {
         }
     }
 
-    /// The frame at a place of the list comes to a node.
+    /// Delivers to a node the frame at an index of the list of frames, counted from 0. `Ignored` if there is no such node or index.
     fn deliver(&mut self, node: usize, place: usize) -> Reaction
         ensures { HappensDeliver (state_of self.old) node place result (state_of self.new) }
     {
@@ -89,7 +92,7 @@ impl Schedule {
         self.members.deliver(node, &self.frames[place])
     }
 
-    /// A node is to work; a coordinator has nothing to do.
+    /// Lets a worker search, and answers the worker's reaction. `Ignored` at the coordinator, or if there is no such node.
     fn work(&mut self, node: usize) -> Reaction
         ensures { HappensWork (state_of self.old) node result (state_of self.new) }
     {
@@ -99,14 +102,15 @@ impl Schedule {
         self.members.work(node)
     }
 
-    /// A node is asked what it has to send to a worker; the frame joins the list.
+    /// Polls a node for its next frame, the coordinator for the frame to `worker`, and appends that to the list. `Ignored` if the node
+    /// cannot be polled; `NoMemory` changes nothing.
     fn poll(&mut self, node: usize, worker: u32) -> Reaction
         ensures { HappensPoll (state_of self.old) node worker result (state_of self.new) }
     {
         if !self.members.may_be_polled(node, worker) {
             return Reaction::Ignored;
         }
-        // Its place comes first: no frame that was sent is left out for want of memory.
+        // The entry is reserved first, so that no frame that was sent is missing from the list if memory is refused.
         if self.frames.reserve(1).is_err() {
             return Reaction::NoMemory;
         }
@@ -119,14 +123,15 @@ impl Schedule {
         }
     }
 
-    /// A node begins anew, under a number that no node has used.
+    /// Restarts a node under a number that no node has used. `Ignored` if there is no such node or the number was used; `NoMemory` changes
+    /// nothing.
     fn restart(&mut self, node: usize, number: u64) -> Reaction
         ensures { HappensRestart (state_of self.old) node number result (state_of self.new) }
     {
         if !self.members.has(node) || self.used.contains(&number) {
             return Reaction::Ignored;
         }
-        // Its place comes first: no number that was used is left out for want of memory.
+        // The entry is reserved first, so that no number that was used is missing from the list if memory is refused.
         if self.used.reserve(1).is_err() {
             return Reaction::NoMemory;
         }

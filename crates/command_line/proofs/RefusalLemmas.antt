@@ -2,11 +2,11 @@
 use Rattle.std.proofs.Common.{◌≡◌, List, [], ◌∷◌, ◌∙◌, ap, sym}
 use Rattle.clap.specs.Words.{Text}
 use Rattle.clap.specs.declared.error.kind.ErrorKind.TheVariants as kind
-use Rattle.word_rules.specs.Parsing.{IsRefusalOf}
-use Rattle.word_rules.specs.declared.parsing.Refusal.{Refusal}
-use Rattle.word_rules.specs.declared.parsing.Refusal.TheVariants as refusal
+use Rattle.option_table.specs.Refusals.{IsRefusalOf}
+use Rattle.option_table.specs.declared.parser.Refusal.{Refusal}
+use Rattle.option_table.specs.declared.parser.Refusal.TheVariants as refusal
 use Rattle.command_line.specs.CommandLine.{AsksForHelp, AsksForVersion, IsParsed, IsRefusal}
-use Rattle.command_line.specs.inner.Refusing.{fault_of_refusal}
+use Rattle.command_line.specs.inner.Refusals.{fault_of_refusal}
 use Rattle.command_line.specs.Program.{program}
 use Rattle.command_line.specs.declared.request.UsageFault.TheVariants.{NoMemory}
 

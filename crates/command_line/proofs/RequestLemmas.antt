@@ -1,4 +1,4 @@
--- Which requests the words behind a command's name make.
+-- Which requests the words after a command's name make.
 use Rattle.std.proofs.Common.{◌≡◌, ◌∙◌, ℕ, Bool, true, false, List, ◌∷◌, Option, Some, None, Vec, Global, ap, codes, refl, subst, sym}
 use Rattle.std.specs.Borrow.{Bor}
 use Rattle.std.specs.Str.{bytes_eq}
@@ -6,7 +6,7 @@ use Rattle.clap.specs.Words.{Row, Text, subcommand_of}
 use Rattle.command_line.specs.CommandLine.{AsksFor, Makes, NamesFiles, NamesJoined}
 use Rattle.command_line.specs.Program.{program}
 use Rattle.command_line.specs.declared.options.Options.{Options}
-use Rattle.command_line.specs.declared.printing.Printing.{Printing}
+use Rattle.command_line.specs.declared.output.Printing.{Printing}
 use Rattle.command_line.specs.declared.request.Request.{Request}
 use Rattle.command_line.specs.declared.request.Request.TheVariants.{Check, Complete, Cover, Cubes, Drill, Join, Leaf, Lift, Look, Model, Receipt, Refute, Serve, Session, Solve, Split, SplitByLook, Trim, Work}
 

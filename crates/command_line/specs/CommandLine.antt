@@ -10,7 +10,7 @@ use Rattle.command_line.specs.Options.{AreOptions}
 use Rattle.command_line.specs.declared.commands.run_words.Place.{Place}
 use Rattle.command_line.specs.declared.commands.run_words.Place.TheVariants.{AtPort, Here}
 use Rattle.command_line.specs.declared.options.Options.{Options}
-use Rattle.command_line.specs.declared.printing.Printing.{Printing}
+use Rattle.command_line.specs.declared.output.Printing.{Printing}
 use Rattle.command_line.specs.declared.request.Request.{Request}
 use Rattle.command_line.specs.declared.request.Request.TheVariants.{Check, Complete, Cover, Cubes, Drill, Join, Leaf, Lift, Look, Model, Receipt, Refute, Serve, Session, Solve, Split, SplitByLook, Trim, Work}
 use Rattle.command_line.specs.declared.request.UsageFault.{UsageFault}
@@ -29,7 +29,7 @@ pub record NamesNumber (rows : List Row) (name : Text) (low high : ℕ) (number 
   pub given : first_of name rows ≡ Some written
   pub read : IsNumber low high written number
 
--- the number in a range that the words give to an option, or the usual one where the option is left out or the command has none such
+-- the number in a range that the words give to an option, or the usual one if the option is left out or the command has none such
 pub record NamesNumberOr (rows : List Row) (name : Text) (low high usual : ℕ) (number : ℕ) : Type 0 where
   pub given : (written : Text) → first_of name rows ≡ Some written → IsNumber low high written number
   pub left_out : first_of name rows ≡ None → number ≡ usual
@@ -62,7 +62,7 @@ pub record NamesFiles (rows : List Row) (name : Text) (files : List (Bor Text)) 
 abbrev pub IsDry : List Row → Type 0
 IsDry rows = first_of (codes "dry") rows ≡ Some (codes "true")
 
--- the files to be joined, one at least: all that the words name with `--dry`, and else those behind the first one, to which a proof goes
+-- the files to be joined, one at least: all that the words name with `--dry`, and else those after the first one, to which a proof goes
 abbrev pub NamesJoined : List Row → Option (Bor Text) → List (Bor Text) → Type 0
 NamesJoined rows None files = IsDry rows × NamesFiles rows (codes "NAME") files
 NamesJoined rows (Some proof) files = (IsDry rows → ⊥) × NamesFiles rows (codes "NAME") (proof ∷ files) × (1 ≤ length files)
@@ -76,7 +76,7 @@ pub record NamesPrinting (rows : List Row) (printing : Printing) : Type 0 where
   pub quiet_is : NamesFlag rows (codes "quiet") printing.quiet
   pub witness_is : NamesFlag rows (codes "no-witness") (not printing.witness)
 
--- how deep a run splits the formula where its words do not say it: at a port by how many workers there may be
+-- how deep a run splits the formula if its words do not say it: at a port by how many workers there may be
 abbrev pub usual_depth : Place → ℕ → ℕ
 usual_depth Here workers = 4
 usual_depth AtPort workers = if nat_le workers 1 then 6 else (if nat_le workers 8 then 8 else 10)
@@ -171,7 +171,7 @@ pub record AreTaken (words : List Text) : Type 0 where
 abbrev pub IsParsed : List Text → Type 0
 IsParsed words = fault_of program words ≡ []
 
--- the words ask for what the request says: they name its command, and behind it what the request holds
+-- the words ask for what the request says: they name its command, and after it what the request holds
 pub record AsksFor (words : List Text) (request : Request) : Type 0 where
   pub name : Text
   pub rows : List Row

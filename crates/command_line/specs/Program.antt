@@ -3,7 +3,7 @@ use Rattle.std.specs.Prelude.{◌-◌, ◌^◌, true, false, codes}
 use Rattle.std.specs.Str.{byte}
 use Rattle.clap.specs.Simple.{on_top}
 use Rattle.clap.specs.Words.{App, Rule, Text, new_app, with_rule, with_subcommand}
-use Rattle.word_rules.specs.Rules.{any_number_rule, file_rule, files_rule, flag_rule, long_flag_rule, named_file_rule, needed_file_rule, needed_number_rule, number_rule}
+use Rattle.option_table.specs.Rules.{any_number_rule, file_rule, files_rule, flag_rule, long_flag_rule, named_file_rule, needed_file_rule, needed_number_rule, number_rule}
 
 -- `[--workers N] [--depth D] [--limit L] [--cubes FILE]`: N from 1 to 64, else 2, D by its rule, and L from 1 to 1,000,000,000, else
 -- this one
@@ -76,7 +76,7 @@ abbrev pub leaf_app : App
 leaf_app = with_rule (with_leaf (new_app (codes "leaf"))) (file_rule (codes "INPUT") true)
 
 -- `refute --cubes FILE --leaf I [--to J] [--limit L] [--binary] [-q] [-n] INPUT [FRAGMENT]`: J from 1 to 4,294,967,295, and L from 1 to
--- 140,737,488,355,328 = 2 ^ 47, which is what stands where it is left out
+-- 140,737,488,355,328 = 2 ^ 47, which is what stands if it is left out
 abbrev pub refute_app : App
 refute_app =
     with_rule (with_rule (with_printing (with_binary (with_rule (with_rule (with_leaf (new_app (codes "refute"))) (any_number_rule (codes "to") 1 (2 ^ 32 - 1)))

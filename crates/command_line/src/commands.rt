@@ -1,4 +1,4 @@
-//! The words of the commands, a room each, and what they share.
+//! The words of the commands, a file each, and what they share.
 
 pub(crate) mod check;
 pub(crate) mod cover;

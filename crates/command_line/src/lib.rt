@@ -6,11 +6,11 @@
 
 mod commands;
 mod options;
-mod parsing;
-mod printing;
+mod output;
+mod parser;
 mod request;
 
 pub use options::{Options, USUAL};
-pub use parsing::command;
-pub use printing::Printing;
+pub use output::Printing;
+pub use parser::command;
 pub use request::{Request, UsageFault};

@@ -5,7 +5,7 @@
 pub struct Options {
     /// How many workers there are, from 1 to 64; else 2.
     pub workers: u32,
-    /// How deep the formula is split, from 0 to 16, where no cubes are handed in; else 4, and at a port 6, 8 or 10 by its workers.
+    /// How deep the formula is split, from 0 to 16, if no cubes are handed in; else 4, and at a port 6, 8 or 10 by its workers.
     pub depth: u32,
     /// The most lemmas that the search under a leaf learns before the leaf is split, from 1 to 1,000,000,000; else 100,000, and at a port
     /// 1,000,000.
@@ -34,7 +34,7 @@ pub struct Options {
     pub witness: bool,
 }
 
-/// What stands where no word names another, if the workers are of this process.
+/// The defaults of a run whose workers are of this process.
 pub const USUAL: Options = Options {
     workers: 2,
     depth: 4,

@@ -4,21 +4,21 @@ ghost use Rattle.std.specs.Prelude.{◌≡◌};
 ghost use Rattle.command_line.specs.declared.request.UsageFault.TheVariants.{NoMemory};
 
 use crate::options::Options;
-use crate::printing::Printing;
+use crate::output::Printing;
 use std::alloc::AllocError;
 use thiserror::Error;
 
 /// What is to be done, and with which files.
 #[derive(Drop, PartialEq, Eq)]
 pub enum Request<'a> {
-    /// Decide a formula, split by the cubes of a file where one is named, and write the proof to a file where one is named.
+    /// Decide a formula, split by the cubes of a file if one is named, and write the proof to a file if one is named.
     Solve {
         input: &'a str,
         cubes: Option<&'a str>,
         proof: Option<&'a str>,
         options: Options,
     },
-    /// Check a proof of a formula; or the proof of a session, where the input is what was sent.
+    /// Check a proof of a formula; or the proof of a session, if the input is what was sent.
     Check {
         input: &'a str,
         proof: &'a str,

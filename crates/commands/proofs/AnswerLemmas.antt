@@ -1,4 +1,4 @@
--- A query that is answered, a clause that is given: what is so behind each, and where nobody reads any more.
+-- A query that is answered, a clause that is given: what is so after each, and where nobody reads any more.
 use Rattle.std.proofs.Common.{◌≡◌, ◌⊎◌, inl, inr, ℕ, ◌+◌, ◌≤◌, Bool, true, false, List, [], ◌∷◌, ◌++◌, Option, Some, None, Result, Ok, Err, OnErr, All, refl, sym, ◌∙◌, ap, subst, append-nil, arith}
 use Rattle.std.specs.Prelude.{IsTrue}
 use Rattle.cube_solve.specs.Session.{IfUnknown, IsRightAnswer}
@@ -12,14 +12,14 @@ use Rattle.sessions.specs.Heard.{greatest}
 use Rattle.sessions.specs.Rows.{event_of}
 use Rattle.sessions.specs.declared.event_lines.Sent.{Sent}
 use Rattle.sessions.specs.declared.event_lines.Sent.TheVariants as sent
-use Rattle.incremental.specs.Answering.{IsAccepted, Stands, Told, last_in, told_of, vars_in}
-use Rattle.incremental.specs.declared.session.Session.{Session}
+use Rattle.incremental.specs.SessionHistory.{IsAccepted, HasHistory, Told, last_in, told_of, vars_in}
+use Rattle.incremental.specs.declared.proved_session.Session.{Session}
 use Rattle.commands.specs.SessionLines.{answer_text, cut, status_of}
 use Rattle.commands.specs.SessionMoments.{GivesUp, IsAnswered, IsCutShort, Moment, last_proof, moment, told_all}
-use Rattle.commands.specs.declared.answering.Asking.{Asking}
-use Rattle.commands.specs.declared.answering.Run.{Run}
-use Rattle.commands.specs.inner.Answering.{HasWritten, IsHandedOut, IsLeftOf, IsPaused, IsRunning}
-use Rattle.commands.specs.inner.Events.{HasHeard, Hears}
+use Rattle.commands.specs.declared.session_loop.Asking.{Asking}
+use Rattle.commands.specs.declared.session_loop.Run.{Run}
+use Rattle.commands.specs.inner.SessionLoop.{HasWritten, IsHandedOut, IsLeftOf, IsPaused, IsRunning}
+use Rattle.commands.specs.inner.EventSource.{HasHeard, Hears}
 use Rattle.commands.proofs.AnsweringLemmas.{gives_up, left_so, left_with, running_clause, running_query}
 use Rattle.commands.proofs.CutLemmas.{clauses_up_to, right_cut}
 use Rattle.commands.proofs.SessionLemmas.{last_proof_is}
@@ -39,8 +39,8 @@ clauses_before [] A = refl
 clauses_before (Given C ∷ E) A = ap (λ (F : List Clause). C ∷ F) (clauses_before E A)
 clauses_before (Asked B ∷ E) A = clauses_before E A
 
--- a query is given up behind as many lemmas as the limit allows
-limited : {P : Type 0} (a : Answer) (limit : ℕ) (E : List Event) (A : List Literal) (told : Told) (text more : List ℕ) (s t : Session P) → Stands E told text s → Stands (E ++ Asked A ∷ []) (told ++ told_of a ∷ []) text t
+-- a query is given up after as many lemmas as the limit allows
+limited : {P : Type 0} (a : Answer) (limit : ℕ) (E : List Event) (A : List Literal) (told : Told) (text more : List ℕ) (s t : Session P) → HasHistory E told text s → HasHistory (E ++ Asked A ∷ []) (told ++ told_of a ∷ []) text t
     → t.out.items ≡ s.out.items ++ more → IfUnknown a (last_in t ≡ last_in s + limit) → IfUnknown a (GivesUp limit E A told (text ++ t.out.items))
 limited (answer.Satisfied values) limit E A told text more s t h k grows last = tt
 limited (answer.Failed failure) limit E A told text more s t h k grows last = tt
@@ -79,7 +79,7 @@ module _ {B P : Type 0} (all : Option (List ℕ)) (remaining : B → Option (Lis
   -- the answer was printed, or only a front of it
   printed_so : (after : List ℕ → List Moment → Type 0) (unheard : Type 0) (has : List ℕ → List Moment → Type 0) (A : List Literal) (a : Answer) (text proof : List ℕ) (b : Bool) (x y : Run B) (s t : Session P)
       (r : IsRunning all remaining has (Some (Asked A)) x s) → y.events ≡ x.events → y.asking ≡ x.asking → y.status ≡ status_of a
-      → Stands (r.events ++ Asked A ∷ []) (told_all r.answers ++ told_of a ∷ []) proof t → IsAnswered x.asking r.events A (told_all r.answers) a (moment text proof)
+      → HasHistory (r.events ++ Asked A ∷ []) (told_all r.answers ++ told_of a ∷ []) proof t → IsAnswered x.asking r.events A (told_all r.answers) a (moment text proof)
       → (IsTrue b → after proof (r.moments ++ moment text proof ∷ []))
       → (b ≡ false → (front : List ℕ) × (rest : List ℕ) × (text ≡ front ++ rest) × after proof (r.moments ++ moment front proof ∷ [])) → (b ≡ false → unheard)
       → IsPaused all remaining after unheard b y t
@@ -103,18 +103,18 @@ module _ {B P : Type 0} (all : Option (List ℕ)) (remaining : B → Option (Lis
   pub query_goes : {O : Type 0} (has : O → List ℕ → List Moment → Type 0) (unheard : O → Type 0) (old new last : O) (A q : List Literal) (a : Answer) (b : Bool) (text : List ℕ) (x y : Run B) (s one t : Session P)
       (r : IsRunning all remaining (has old) (Some (Asked A)) x s) → q ≡ A → y.events ≡ x.events → y.asking ≡ x.asking → y.status ≡ status_of a
       → x.events.greatest ≤ vars_in s → All (IsWithin x.events.greatest) A
-      → ((E : List Event) (told : Told) (bytes : List ℕ) → Stands E told bytes s → Stands (E ++ Asked q ∷ []) (told ++ told_of a ∷ []) bytes one)
-      → ((E : List Event) (told : Told) (bytes : List ℕ) → Stands E told bytes s → IsRightAnswer (vars_in s) (clauses_of E) q a)
+      → ((E : List Event) (told : Told) (bytes : List ℕ) → HasHistory E told bytes s → HasHistory (E ++ Asked q ∷ []) (told ++ told_of a ∷ []) bytes one)
+      → ((E : List Event) (told : Told) (bytes : List ℕ) → HasHistory E told bytes s → IsRightAnswer (vars_in s) (clauses_of E) q a)
       → IfUnknown a (last_in one ≡ last_in s + x.asking.limit)
-      → ((E : List Event) (told : Told) (bytes : List ℕ) → Stands E told bytes s → (more : List ℕ) × (one.out.items ≡ s.out.items ++ more))
+      → ((E : List Event) (told : Told) (bytes : List ℕ) → HasHistory E told bytes s → (more : List ℕ) × (one.out.items ≡ s.out.items ++ more))
       → text ≡ answer_text x.asking.witness (cut x.events.greatest a) → HasWritten has old new one t
       → (IsTrue b → (proof : List ℕ) (moments : List Moment) → has new proof moments → has last proof (moments ++ moment text proof ∷ []))
       → (b ≡ false → (proof : List ℕ) (moments : List Moment) → has new proof moments
       → (front : List ℕ) × (rest : List ℕ) × (text ≡ front ++ rest) × has last proof (moments ++ moment front proof ∷ []))
       → (b ≡ false → unheard last) → IsPaused all remaining (has last) (unheard last) b y t
   query_goes has unheard old new last A q a b text x y s one t r e events asking status less within stands_ right_ unknown grows printed written whole front refused =
-      let stands = subst (λ (Q : List Literal). (E : List Event) (told : Told) (bytes : List ℕ) → Stands E told bytes s → Stands (E ++ Asked Q ∷ []) (told ++ told_of a ∷ []) bytes one) e stands_ in
-      let right = subst (λ (Q : List Literal). (E : List Event) (told : Told) (bytes : List ℕ) → Stands E told bytes s → IsRightAnswer (vars_in s) (clauses_of E) Q a) e right_ in
+      let stands = subst (λ (Q : List Literal). (E : List Event) (told : Told) (bytes : List ℕ) → HasHistory E told bytes s → HasHistory (E ++ Asked Q ∷ []) (told ++ told_of a ∷ []) bytes one) e stands_ in
+      let right = subst (λ (Q : List Literal). (E : List Event) (told : Told) (bytes : List ℕ) → HasHistory E told bytes s → IsRightAnswer (vars_in s) (clauses_of E) Q a) e right_ in
       let E = r.events in
       let told = told_all r.answers in
       let before = last_proof r.moments in
@@ -130,10 +130,10 @@ module _ {B P : Type 0} (all : Option (List ℕ)) (remaining : B → Option (Lis
 
   -- a clause was given to a session
   pub clause_goes : (has : List ℕ → List Moment → Type 0) (said : Sent) (C q : Clause) (x : Run B) (s t : Session P) → said ≡ sent.Clause → q ≡ C
-      → ((E : List Event) (told : Told) (bytes : List ℕ) → Stands E told bytes s → Stands (E ++ Given q ∷ []) told bytes t)
+      → ((E : List Event) (told : Told) (bytes : List ℕ) → HasHistory E told bytes s → HasHistory (E ++ Given q ∷ []) told bytes t)
       → IsRunning all remaining has (event_of said C) x s → IsRunning all remaining has None x t
   clause_goes has said C q x s t says e stands_ r_ =
-      let stands = subst (λ (D : Clause). (E : List Event) (told : Told) (bytes : List ℕ) → Stands E told bytes s → Stands (E ++ Given D ∷ []) told bytes t) e stands_ in
+      let stands = subst (λ (D : Clause). (E : List Event) (told : Told) (bytes : List ℕ) → HasHistory E told bytes s → HasHistory (E ++ Given D ∷ []) told bytes t) e stands_ in
       let r = subst (λ (m : Sent). IsRunning all remaining has (event_of m C) x s) says r_ in
       running_clause all remaining has C x s t r (stands r.events (told_all r.answers) (last_proof r.moments) r.stands)
 

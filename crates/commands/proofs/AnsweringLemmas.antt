@@ -6,15 +6,15 @@ use Rattle.sessions.specs.Answers.{Event, Given, Asked, Unknown}
 use Rattle.sessions.specs.Heard.{Heard, heard}
 use Rattle.sessions.specs.Sides.{Ends}
 use Rattle.sessions.specs.Texts.{session_of}
-use Rattle.incremental.specs.Answering.{Stands, Told, last_in, told_of}
-use Rattle.incremental.specs.declared.session.Session.{Session}
+use Rattle.incremental.specs.SessionHistory.{HasHistory, Told, last_in, told_of}
+use Rattle.incremental.specs.declared.proved_session.Session.{Session}
 use Rattle.commands.specs.SessionLines.{status_of}
 use Rattle.commands.specs.SessionMoments.{AreAnswered, GivesUp, IsAnswered, IsCutShort, IsLeft, Moment, last_proof, told_all}
-use Rattle.commands.specs.declared.answering.Asking.{Asking}
-use Rattle.commands.specs.declared.answering.Run.{Run}
+use Rattle.commands.specs.declared.session_loop.Asking.{Asking}
+use Rattle.commands.specs.declared.session_loop.Run.{Run}
 use Rattle.commands.specs.declared.event_source.EventSource.{EventSource}
-use Rattle.commands.specs.inner.Answering.{IsLeftOf, IsRunning}
-use Rattle.commands.specs.inner.Events.{HasHeard, Hears, coming_by, listed}
+use Rattle.commands.specs.inner.SessionLoop.{IsLeftOf, IsRunning}
+use Rattle.commands.specs.inner.EventSource.{HasHeard, Hears, coming_by, listed}
 use Rattle.commands.specs.inner.Texts.{IsTaken}
 use Rattle.commands.proofs.SessionLemmas.{answered_clause, answered_query, last_proof_is, last_status_is, told_behind}
 
@@ -41,7 +41,7 @@ left_by (Some a) (Some l) bytes E D x has o taken h k =
     subst P (sym taken.0) (k (heard (bytes ++ l)) front.0 front.1)
 
 module _ {B P : Type 0} (all : Option (List ℕ)) (remaining : B → Option (List ℕ)) (has : List ℕ → List Moment → Type 0) (waiting : Option Event) (x : Run B) (s : Session P) (r : IsRunning all remaining has waiting x s) where
-  -- other bytes came behind the last answer's, or of what was printed at last only a front was
+  -- other bytes came after the last answer's, or of what was printed at last only a front was
   pub left_with : (after : List ℕ → List Moment → Type 0) (more : List ℕ) (cuts : List Moment) → (cuts ≡ r.moments) ⊎ IsCutShort r.moments cuts → after (last_proof r.moments ++ more) cuts → IsLeftOf all after x.asking
   left_with after more cuts cut out =
       let h = r.hears in
@@ -68,7 +68,7 @@ module _ {B P : Type 0} (all : Option (List ℕ)) (remaining : B → Option (Lis
 -- ---- one event more
 -- a clause was given
 pub running_clause : {B P : Type 0} (all : Option (List ℕ)) (remaining : B → Option (List ℕ)) (has : List ℕ → List Moment → Type 0) (C : Clause) (x : Run B) (s t : Session P) (r : IsRunning all remaining has (Some (Given C)) x s)
-    → Stands (r.events ++ Given C ∷ []) (told_all r.answers) (last_proof r.moments) t → IsRunning all remaining has None x t
+    → HasHistory (r.events ++ Given C ∷ []) (told_all r.answers) (last_proof r.moments) t → IsRunning all remaining has None x t
 running_clause all remaining has C x s t r stands =
     let P : List Event → Type 0 = λ E. Hears all remaining E x.events in
     record {
@@ -85,14 +85,14 @@ running_clause all remaining has C x s t r stands =
 -- a query was answered, and the answer printed
 unfoldable pub running_query : {B P : Type 0} (all : Option (List ℕ)) (remaining : B → Option (List ℕ)) (has after : List ℕ → List Moment → Type 0) (A : List Literal) (a : Answer) (m : Moment) (x y : Run B) (s t : Session P)
     (r : IsRunning all remaining has (Some (Asked A)) x s) → y.events ≡ x.events → y.asking ≡ x.asking → y.status ≡ status_of a
-    → Stands (r.events ++ Asked A ∷ []) (told_all r.answers ++ told_of a ∷ []) m.proof t → IsAnswered x.asking r.events A (told_all r.answers) a m → after m.proof (r.moments ++ m ∷ [])
+    → HasHistory (r.events ++ Asked A ∷ []) (told_all r.answers ++ told_of a ∷ []) m.proof t → IsAnswered x.asking r.events A (told_all r.answers) a m → after m.proof (r.moments ++ m ∷ [])
     → IsRunning all remaining after None y t
 running_query all remaining has after A a m x y s t r events asking status stands answered out =
     let E : List Event = r.events ++ Asked A ∷ [] in
     let P : List Event → Type 0 = λ D. Hears all remaining D x.events in
     let Q : Asking → Type 0 = λ o. AreAnswered o [] [] E (r.answers ++ a ∷ []) (r.moments ++ m ∷ []) in
-    let R : Told → Type 0 = λ told. Stands E told m.proof t in
-    let S : List ℕ → Type 0 = λ proof. Stands E (told_all (r.answers ++ a ∷ [])) proof t in
+    let R : Told → Type 0 = λ told. HasHistory E told m.proof t in
+    let S : List ℕ → Type 0 = λ proof. HasHistory E (told_all (r.answers ++ a ∷ [])) proof t in
     let T : List ℕ → Type 0 = λ proof. after proof (r.moments ++ m ∷ []) in
     let last = last_proof_is [] r.moments m in
     record {
@@ -107,7 +107,7 @@ running_query all remaining has after A a m x y s t r events asking status stand
     }
 
 -- ---- a query that is given up
-pub gives_up : {P : Type 0} (limit : ℕ) (E : List Event) (A : List Literal) (told : Told) (text more : List ℕ) (s t : Session P) → Stands E told text s → Stands (E ++ Asked A ∷ []) (told ++ Unknown ∷ []) text t
+pub gives_up : {P : Type 0} (limit : ℕ) (E : List Event) (A : List Literal) (told : Told) (text more : List ℕ) (s t : Session P) → HasHistory E told text s → HasHistory (E ++ Asked A ∷ []) (told ++ Unknown ∷ []) text t
     → t.out.items ≡ s.out.items ++ more → last_in t ≡ last_in s + limit → GivesUp limit E A told (text ++ t.out.items)
 gives_up limit E A told text more s t h k grows last = record {
   front = text ++ s.out.items;

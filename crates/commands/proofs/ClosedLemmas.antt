@@ -10,7 +10,7 @@ use Rattle.commands.specs.inner.Receipts.{IsAt, is_first}
 use Rattle.dimacs.specs.logic.Cnf.{AreWithin}
 use Rattle.dimacs.specs.logic.Literal.{Clause, IsWithin}
 use Rattle.dimacs.proofs.BuilderLemmas.{within_more}
-use Rattle.gathering.specs.Closing.{Leaf, is_closed, open_from, with_open}
+use Rattle.log_join.specs.ClosedLeaves.{Leaf, is_closed, open_from, with_open}
 
 -- ---- the tree of a formula
 -- what is within the variables of a formula is within those of lemmas
@@ -28,7 +28,7 @@ other_of : (b : Bool) (place from : ℕ) (rest : List ℕ) → place < from → 
 other_of true place from rest h e = e
 other_of false place from rest h e = ne_eqb from place (λ same. omega (arith, same, h))
 
--- a place is not the first of those behind it
+-- a place is not the first of those after it
 not_behind : (place from : ℕ) (rest : List Leaf) → place < from → is_first place (open_from from rest) ≡ false
 not_behind place from [] h = refl
 not_behind place from (k ∷ rest) h = other_of (is_closed k) place from (open_from (from + 1) rest) h (not_behind place (from + 1) rest (omega (arith, h)))

@@ -11,6 +11,6 @@ core_step core i l below is =
     let front : drop i core ≡ get_or core i l ∷ drop (i + 1) core = rw add-one (drop-cons core i l below) in
     ap core_items front ∙ ap (λ (x : Literal). signed_decimal (number_of x) ∷ core_items (drop (i + 1) core)) (sym is)
 
--- behind the last literal
+-- after the last literal
 pub core_end : (core : List Literal) (i : ℕ) → length core ≤ i → core_items (drop i core) ≡ codes "0" ∷ []
 core_end core i all = let none : drop i core ≡ [] = drop_all i core all in ap core_items none

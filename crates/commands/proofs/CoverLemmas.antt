@@ -3,26 +3,26 @@ use Rattle.std.specs.Prelude.{◌↔◌}
 use Rattle.std.specs.Global.{Vec}
 use Rattle.std.proofs.Common.{◌≡◌, ◌∙◌, ◌++◌, ◌≤◌, ◌<◌, inl, inr, ℕ, Bool, true, false, List, [], ◌∷◌, Option, codes, refl, sym, ap, subst, length, map, take, get_or, ◌+◌, arith}
 use Rattle.std.proofs.lemmas.List.{length-map, map-append, take_more}
-use Rattle.commands.specs.Beginning.{Begins, IsHushed, OfQuietTree}
-use Rattle.commands.specs.declared.beginning.Begun.{Begun}
-use Rattle.commands.specs.declared.beginning.Begun.TheVariants as begun
-use Rattle.commands.specs.Covering.{EndsCover, ReadsText, TakesText, covers, leaves_out, misses, most_bytes, takes, with_text, without_text}
+use Rattle.commands.specs.FormulaTree.{Begins, IsHushed, OfQuietTree}
+use Rattle.commands.specs.declared.formula_tree.Begun.{Begun}
+use Rattle.commands.specs.declared.formula_tree.Begun.TheVariants as begun
+use Rattle.commands.specs.Cover.{EndsCover, ReadsText, TakesText, covers, leaves_out, misses, most_bytes, takes, with_text, without_text}
 use Rattle.commands.specs.Names.{AreTaken, Gone}
 use Rattle.commands.specs.Known.{Of}
-use Rattle.commands.specs.declared.small.SmallText.{SmallText}
-use Rattle.commands.specs.declared.small.SmallText.TheVariants.{Whole, TooLong, Unread}
-use Rattle.commands.specs.inner.Covering.{IsGone, IsText, IsTextOf}
-use Rattle.commands.specs.declared.covering.Run.{Run}
+use Rattle.commands.specs.declared.small_file.SmallText.{SmallText}
+use Rattle.commands.specs.declared.small_file.SmallText.TheVariants.{Whole, TooLong, Unread}
+use Rattle.commands.specs.inner.Cover.{IsGone, IsText, IsTextOf}
+use Rattle.commands.specs.declared.cover_receipts.Run.{Run}
 use Rattle.commands.proofs.OfLemmas.{of_map}
 use Rattle.dimacs.specs.logic.Cnf.{Cnf}
-use Rattle.gathering.specs.Closing.{Leaf, open_from}
+use Rattle.log_join.specs.ClosedLeaves.{Leaf, open_from}
 use Rattle.icnf.specs.Leaves.{Cube}
 use Rattle.leaves.specs.Leaf.{Prints}
 use Rattle.leaves.specs.declared.split.Split.{Split}
 use Rattle.leaves.specs.Notes.{missing_text}
 use Rattle.leaves.specs.declared.notes.Note.TheVariants as noted
-use Rattle.receipts.specs.Covering.{AreCovered, LeavesAre, TellsText}
-use Rattle.receipts.specs.declared.cover.Taken.{Taken}
+use Rattle.receipts.specs.ClosedLeaves.{AreCovered, LeavesClosedByTexts, ClassifiesText}
+use Rattle.receipts.specs.declared.cover.TextKind.{TextKind}
 use Rattle.reports.specs.declared.report.Report.{Report}
 
 -- one name more
@@ -32,8 +32,8 @@ seen_more Takes [] name a b c e h = (c, subst (λ (x : Gone). Takes name x c) e 
 seen_more Takes (n ∷ names) name a b c e h = (e.0, e.1, seen_more Takes names name e.0 b c e.2 h)
 
 -- ---- what is told of a file
-pub takes_whole : (F : Cnf) (cubes : List Cube) (quiet : Bool) (known : Option (List ℕ)) (name : List ℕ) (text : Vec ℕ) (taken : Taken) (s : Gone)
-    → IsText known (Whole text) → TellsText F cubes s.files text.items taken → TakesText F cubes quiet known name s (with_text quiet name text.items taken s)
+pub takes_whole : (F : Cnf) (cubes : List Cube) (quiet : Bool) (known : Option (List ℕ)) (name : List ℕ) (text : Vec ℕ) (taken : TextKind) (s : Gone)
+    → IsText known (Whole text) → ClassifiesText F cubes s.files text.items taken → TakesText F cubes quiet known name s (with_text quiet name text.items taken s)
 takes_whole F cubes quiet known name text taken s (inl h) tells =
     let new = with_text quiet name text.items taken s in
     inl (of_map (λ bytes. IsTextOf bytes (Whole text)) (λ bytes. ReadsText F cubes quiet name bytes s new) known
@@ -50,11 +50,11 @@ takes_long F cubes quiet known name s (inr e) = absurd (cc)
 
 -- ---- a file more
 pub took_whole : (F : Cnf) (cubes : List Cube) (quiet : Bool) (known : Option (List ℕ)) (name read : List ℕ) (text : Vec ℕ) (s : Gone) (run : Run)
-    → read ≡ text.items → IsText known (Whole text) → (taken : Taken) × TellsText F cubes s.files read taken × IsGone F cubes (with_text quiet name read taken s) run
+    → read ≡ text.items → IsText known (Whole text) → (taken : TextKind) × ClassifiesText F cubes s.files read taken × IsGone F cubes (with_text quiet name read taken s) run
     → (t : Gone) × TakesText F cubes quiet known name s t × IsGone F cubes t run
 took_whole F cubes quiet known name read text s run e is h = (
   with_text quiet name text.items h.0 s,
-  takes_whole F cubes quiet known name text h.0 s is (subst (λ (xs : List ℕ). TellsText F cubes s.files xs h.0) e h.1),
+  takes_whole F cubes quiet known name text h.0 s is (subst (λ (xs : List ℕ). ClassifiesText F cubes s.files xs h.0) e h.1),
   subst (λ (xs : List ℕ). IsGone F cubes (with_text quiet name xs h.0 s) run) e h.2,
 )
 
@@ -75,14 +75,14 @@ not_true : (b : Bool) → b ≡ false → b ≡ true → ⊥
 not_true b f t = cc
 
 pub misses_some : (F : Cnf) (cubes : List Cube) (s : Gone) (notes places : List ℕ) (b : Bool) (leaves : List Leaf) (r : Report) → (b ≡ true) ↔ AreCovered F cubes s.files → b ≡ false
-    → notes ≡ s.notes → LeavesAre F cubes s.files leaves → places ≡ open_from 0 leaves → Prints 1 (notes ++ missing_text places ++ codes "s NOT COVERED\n") r
+    → notes ≡ s.notes → LeavesClosedByTexts F cubes s.files leaves → places ≡ open_from 0 leaves → Prints 1 (notes ++ missing_text places ++ codes "s NOT COVERED\n") r
     → EndsCover F cubes s r
 misses_some F cubes s notes places b leaves r tells is e are open_are prints =
     misses leaves (λ all. not_true b is (tells.1 all)) are
     (subst (λ (ps : List ℕ). Prints 1 (s.notes ++ missing_text ps ++ codes "s NOT COVERED\n") r) open_are
     (subst (λ (xs : List ℕ). Prints 1 (xs ++ missing_text places ++ codes "s NOT COVERED\n") r) e prints))
 
-pub few_leaves : (F : Cnf) (cubes : List Cube) (texts : List (List ℕ)) (leaves : List Leaf) → LeavesAre F cubes texts leaves → length cubes ≤ 65536 → length leaves ≤ 65536
+pub few_leaves : (F : Cnf) (cubes : List Cube) (texts : List (List ℕ)) (leaves : List Leaf) → LeavesClosedByTexts F cubes texts leaves → length cubes ≤ 65536 → length leaves ≤ 65536
 few_leaves F cubes texts leaves are few =
     let same : length leaves ≡ length cubes = sym (length-map leaves (λ (k : Leaf). k.cube)) ∙ ap length are.cubes_are in
     omega (arith, same, few)

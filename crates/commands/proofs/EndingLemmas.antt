@@ -8,20 +8,20 @@ use Rattle.sessions.specs.Answers.{Event}
 use Rattle.sessions.specs.Heard.{Heard, heard}
 use Rattle.sessions.specs.Rows.{event_of}
 use Rattle.sessions.specs.declared.event_lines.Sent.{Sent}
-use Rattle.incremental.specs.Answering.{IsAccepted, Stands, Told}
-use Rattle.incremental.specs.declared.session.Session.{Session}
+use Rattle.incremental.specs.SessionHistory.{IsAccepted, HasHistory, Told}
+use Rattle.incremental.specs.declared.proved_session.Session.{Session}
 use Rattle.commands.specs.Known.{Of}
 use Rattle.commands.specs.SessionMoments.{AllAnswered, AreAnswered, Ends, EndsAs, IsLeft, IsWhole, Moment, last_proof, told_all}
-use Rattle.commands.specs.declared.answering.Asking.{Asking}
-use Rattle.commands.specs.declared.answering.Ended.{Ended}
-use Rattle.commands.specs.declared.answering.Ended.TheVariants as ended
-use Rattle.commands.specs.declared.answering.Pause.{Pause}
-use Rattle.commands.specs.declared.answering.Pause.TheVariants as pause
-use Rattle.commands.specs.declared.answering.Run.{Run}
+use Rattle.commands.specs.declared.session_loop.Asking.{Asking}
+use Rattle.commands.specs.declared.session_loop.Ended.{Ended}
+use Rattle.commands.specs.declared.session_loop.Ended.TheVariants as ended
+use Rattle.commands.specs.declared.session_loop.Pause.{Pause}
+use Rattle.commands.specs.declared.session_loop.Pause.TheVariants as pause
+use Rattle.commands.specs.declared.session_loop.Run.{Run}
 use Rattle.commands.specs.declared.event_source.Next.{Next}
 use Rattle.commands.specs.declared.event_source.Next.TheVariants as next
-use Rattle.commands.specs.inner.Answering.{CanRun, EndsSo, HasWritten, IsAtEnd, IsLeftOf, IsPaused, IsRunning}
-use Rattle.commands.specs.inner.Events.{Hears, HearsNext}
+use Rattle.commands.specs.inner.SessionLoop.{CanRun, EndsSo, HasWritten, IsAtEnd, IsLeftOf, IsPaused, IsRunning}
+use Rattle.commands.specs.inner.EventSource.{Hears, HearsNext}
 use Rattle.commands.proofs.KnownLemmas.{of_any}
 use Rattle.commands.proofs.OfLemmas.{of_map, of_ok}
 
@@ -43,7 +43,7 @@ left_at_start all has o out =
     })
 
 module _ {B P : Type 0} (all : Option (List ℕ)) (remaining : B → Option (List ℕ)) where
-  pub running_at_start : (has : List ℕ → List Moment → Type 0) (x : Run B) (s : Session P) → Hears all remaining [] x.events → Stands [] [] [] s → x.status ≡ 0 → has [] [] → IsRunning all remaining has None x s
+  pub running_at_start : (has : List ℕ → List Moment → Type 0) (x : Run B) (s : Session P) → Hears all remaining [] x.events → HasHistory [] [] [] s → x.status ≡ 0 → has [] [] → IsRunning all remaining has None x s
   running_at_start has x s hears stands status out = record {
     events = [];
     hears = hears;
@@ -57,7 +57,7 @@ module _ {B P : Type 0} (all : Option (List ℕ)) (remaining : B → Option (Lis
 
   -- a session that has grown stands where the one before it stood
   pub grown_goes : (has : List ℕ → List Moment → Type 0) (waiting : Option Event) (x : Run B) (s t : Session P)
-      → ((E : List Event) (told : Told) (text : List ℕ) → Stands E told text s → Stands E told text t) → IsRunning all remaining has waiting x s → IsRunning all remaining has waiting x t
+      → ((E : List Event) (told : Told) (text : List ℕ) → HasHistory E told text s → HasHistory E told text t) → IsRunning all remaining has waiting x s → IsRunning all remaining has waiting x t
   grown_goes has waiting x s t grows r = record {
     events = r.events;
     hears = r.hears;

@@ -10,7 +10,7 @@ use Rattle.dimacs.specs.text.Rows.{Fails}
 use Rattle.dimacs.specs.text.Words.{lines, words_of}
 use Rattle.icnf.specs.declared.fault.IcnfFault.{IcnfFault}
 use Rattle.icnf.specs.declared.fault.Kind.TheVariants.{NoHeader, NoMemory}
-use Rattle.icnf.specs.Reading.{no_memory}
+use Rattle.icnf.specs.Parser.{no_memory}
 use Rattle.lrat_text.specs.Lines.{IsOpen}
 use Rattle.reports.specs.declared.refusal.Refusal.{Refusal}
 use Rattle.sessions.specs.Answers.{Event, Given, Asked}
@@ -27,7 +27,7 @@ use Rattle.commands.specs.Refusals.{IsWanting}
 use Rattle.commands.specs.declared.event_source.EventSource.{EventSource}
 use Rattle.commands.specs.declared.event_source.Next.{Next}
 use Rattle.commands.specs.declared.event_source.Next.TheVariants as next
-use Rattle.commands.specs.inner.Events.{AreWithin, Hears, HearsNext, IsClosed, IsWaiting, TakesLine, after_events, coming_by, counted, listed}
+use Rattle.commands.specs.inner.EventSource.{AreWithin, Hears, HearsNext, IsClosed, IsWaiting, TakesLine, after_events, coming_by, counted, listed}
 use Rattle.commands.specs.inner.Texts.{IsTaken}
 use Rattle.commands.proofs.CutLemmas.{AreSmall, up_to}
 
@@ -94,7 +94,7 @@ pub greatest_on : (E : List Event) (e : Event) → greatest (E ++ e ∷ []) ≡ 
 greatest_on [] e = refl
 greatest_on (d ∷ E) e = ap (λ (n : ℕ). max (greatest_of (literals_of d)) n) (greatest_on E e) ∙ swap (greatest_of (literals_of d)) (greatest_of (literals_of e)) (greatest E)
 
--- the greatest variable behind a line
+-- the greatest variable after a line
 counted_is : (E : List Event) (says : Sent) (ls : List Literal) → counted says ls (greatest E) ≡ greatest (E ++ listed (event_of says ls))
 counted_is E sent.Nothing ls = ap greatest (sym (append-nil E))
 counted_is E sent.Clause ls = sym (greatest_on E (Given ls))

@@ -2,8 +2,8 @@
 use Rattle.std.specs.Prelude.{◌≡◌, ◌++◌, ℕ, List, [], Option, Some, None, refl}
 use Rattle.std.specs.Io.KnownBytes.{Keeps, Consumes, IsAtEnd}
 use Rattle.std.proofs.Common.{sym, ◌∙◌, ap, subst, append_assoc, append-nil}
-use Rattle.commands.specs.Feeding.{IsFed}
-use Rattle.commands.specs.inner.Feeding.{HasFed}
+use Rattle.commands.specs.Feed.{IsFed}
+use Rattle.commands.specs.inner.Feed.{HasFed}
 
 pub keeps_same : (k : Option (List ℕ)) → Keeps k k
 keeps_same None = tt

@@ -1,37 +1,37 @@
 -- Files that are joined go together step by step.
 use Rattle.std.specs.Prelude.{◌≡◌, ◌≢◌, ◌⊎◌, ◌++◌, ◌∷◌, ℕ, Bool, true, false, MatchBool, List, [], map, Option, Some, None, Result, Ok, Err, IfOk, IfSome, refl, if◌then◌else◌, codes}
 use Rattle.std.proofs.Common.{sym, ◌∙◌, ap, subst, inl, inr, arith}
-use Rattle.answers.specs.Reading.{answer_of}
+use Rattle.answers.specs.Parse.{answer_of}
 use Rattle.answers.specs.Reports.{first_missed}
 use Rattle.answers.specs.declared.fault.AnswerFault.{AnswerFault}
 use Rattle.commands.specs.Known.{Of}
-use Rattle.commands.specs.Beginning.{Begins, IsHushed, OfFormula, OfQuietTree, RefusesCubes, RefusesInput}
+use Rattle.commands.specs.FormulaTree.{Begins, IsHushed, OfFormula, OfQuietTree, RefusesCubes, RefusesInput}
 use Rattle.commands.specs.Names.{Gone, OfListed, OfNames, lists, names_of, none_gone, one_more}
-use Rattle.commands.specs.Joining.{AnswersBy, IsStored, Joins, Misses, OneStops, ReadsFile, Refutes, Stops, StopsAt, Takes, TakesFile, end_line, with_file, without_file}
-use Rattle.commands.specs.declared.beginning.Begun.{Begun}
-use Rattle.commands.specs.declared.beginning.Begun.TheVariants.{With, Refused as RefusedBegun}
+use Rattle.commands.specs.Join.{AnswersBy, IsStored, Joins, Misses, OneStops, ReadsFile, Refutes, Stops, StopsAt, Takes, TakesFile, end_line, with_file, without_file}
+use Rattle.commands.specs.declared.formula_tree.Begun.{Begun}
+use Rattle.commands.specs.declared.formula_tree.Begun.TheVariants.{With, Refused as RefusedBegun}
 use Rattle.commands.specs.declared.drafts.Target.{Target}
-use Rattle.commands.specs.declared.joining.Ended.{Ended}
-use Rattle.commands.specs.declared.joining.JoinOptions.{JoinOptions}
-use Rattle.commands.specs.declared.joining.Sheet.{Sheet}
-use Rattle.commands.specs.declared.parts.Part.{Part}
-use Rattle.commands.specs.Feeding.{IsFedSo}
-use Rattle.commands.specs.declared.feeding.Fed.{Fed}
-use Rattle.commands.specs.declared.feeding.Fed.TheVariants.{Whole, Unread as UnreadSource}
-use Rattle.commands.specs.inner.Joining.{Ends, Goes, HasJoined, HasJoinedOn, HasPart, IsAt, IsKept, IsSettled, Stands, Tells, TakesSome}
+use Rattle.commands.specs.declared.join_run.Ended.{Ended}
+use Rattle.commands.specs.declared.join_run.JoinOptions.{JoinOptions}
+use Rattle.commands.specs.declared.join_run.Sheet.{Sheet}
+use Rattle.commands.specs.declared.part_file.Part.{Part}
+use Rattle.commands.specs.Feed.{IsFedSo}
+use Rattle.commands.specs.declared.feed_loop.Fed.{Fed}
+use Rattle.commands.specs.declared.feed_loop.Fed.TheVariants.{Whole, Unread as UnreadSource}
+use Rattle.commands.specs.inner.Join.{Ends, Goes, HasJoined, HasJoinedOn, HasPart, IsAt, IsKept, IsSettled, Stands, Tells, TakesSome}
 use Rattle.commands.specs.inner.Parts.{IsPart}
 use Rattle.dimacs.specs.logic.Cnf.{Cnf, Sat, assignment_of}
 use Rattle.dimacs.specs.logic.Propagation.{Assumed}
-use Rattle.either_form.specs.Joining.{Holds}
-use Rattle.either_form.specs.declared.join.FormJoin.{FormJoin}
+use Rattle.text_or_binary.specs.FormJoin.{HasReadFormFiles}
+use Rattle.text_or_binary.specs.declared.form_join.FormJoin.{FormJoin}
 use Rattle.icnf.specs.Leaves.{Cube}
-use Rattle.leaves.specs.Joining.{Concludes, ReportsOpen, TellsAnswer, TellsFile, TellsLog, TellsNamed, is_answer, misses, proves}
+use Rattle.leaves.specs.Join.{Concludes, ReportsOpen, IsAnswerOutcome, IsFileOutcome, IsLogOutcome, IsNamedOutcome, is_answer, misses, proves}
 use Rattle.leaves.specs.Notes.{note_text}
 use Rattle.leaves.specs.declared.join.Join.{Join}
 use Rattle.leaves.specs.declared.notes.Note.TheVariants.{Unread}
 use Rattle.leaves.specs.declared.split.Split.{Split}
-use Rattle.leaves.specs.declared.ending.FileEnd.{FileEnd}
-use Rattle.leaves.specs.declared.ending.FileEnd.TheVariants.{Satisfies}
+use Rattle.leaves.specs.declared.file_outcome.FileOutcome.{FileOutcome}
+use Rattle.leaves.specs.declared.file_outcome.FileOutcome.TheVariants.{Satisfies}
 use Rattle.dimacs.specs.text.Answer.{satisfied_lines}
 use Rattle.leaves.specs.Leaf.{Prints}
 use Rattle.lrat_check.specs.Logs.{log_of}
@@ -40,7 +40,7 @@ use Rattle.reports.specs.declared.refusal.Refusal.{Refusal}
 use Rattle.reports.specs.declared.report.Report.{Report}
 use Rattle.commands.proofs.OfLemmas.{of_map, of_ok, of_opened}
 use Rattle.commands.proofs.TreeLemmas.{of_both}
-use Rattle.lrat_check.specs.declared.checking.CheckFault.{CheckFault}
+use Rattle.lrat_check.specs.declared.line_checker.CheckFault.{CheckFault}
 
 -- ---- an answer that is told to satisfy the formula does so
 same_values : (F : Cnf) (a b : List Bool) → Satisfies a ≡ Satisfies b → Sat (assignment_of b) F → Sat (assignment_of a) F
@@ -49,25 +49,25 @@ same_values F a b e h =
     let P : List Bool → Type 0 = λ values. Sat (assignment_of values) F in
     subst P is h
 
-sat_named : (F : Cnf) (values : List Bool) (k : Option ℕ) → TellsNamed F k (Satisfies values) → Sat (assignment_of values) F
+sat_named : (F : Cnf) (values : List Bool) (k : Option ℕ) → IsNamedOutcome F k (Satisfies values) → Sat (assignment_of values) F
 sat_named F values None h = same_values F values h.0 h.1 h.2
 sat_named F values (Some k) h = absurd (cc)
 
-sat_answer : (F : Cnf) (values : List Bool) (a : Result Assumed AnswerFault) → TellsAnswer F a (Satisfies values) → Sat (assignment_of values) F
+sat_answer : (F : Cnf) (values : List Bool) (a : Result Assumed AnswerFault) → IsAnswerOutcome F a (Satisfies values) → Sat (assignment_of values) F
 sat_answer F values (Ok named) h = sat_named F values (first_missed named F) h
 sat_answer F values (Err fault) h = absurd (cc)
 
-no_log : (F : Cnf) (cubes : List Cube) (files : List (List ℕ)) (text : List ℕ) (values : List Bool) (l : Result (Unit {0}) CheckFault) → TellsLog F cubes files text l (Satisfies values) → ⊥
+no_log : (F : Cnf) (cubes : List Cube) (files : List (List ℕ)) (text : List ℕ) (values : List Bool) (l : Result (Unit {0}) CheckFault) → IsLogOutcome F cubes files text l (Satisfies values) → ⊥
 no_log F cubes files text values (Ok x) (inl h) = let e = h.0 in cc
 no_log F cubes files text values (Ok x) (inr h) = let e = h.0 in cc
 no_log F cubes files text values (Err fault) h = cc
 
 sat_file : (F : Cnf) (cubes : List Cube) (files : List (List ℕ)) (text : List ℕ) (values : List Bool) (b : Bool)
-    → MatchBool b (TellsAnswer F (answer_of text) (Satisfies values)) (TellsLog F cubes files text (log_of F text) (Satisfies values)) → Sat (assignment_of values) F
+    → MatchBool b (IsAnswerOutcome F (answer_of text) (Satisfies values)) (IsLogOutcome F cubes files text (log_of F text) (Satisfies values)) → Sat (assignment_of values) F
 sat_file F cubes files text values true h = sat_answer F values (answer_of text) h
 sat_file F cubes files text values false h = absurd (no_log F cubes files text values (log_of F text) h)
 
-pub satisfies_of : (F : Cnf) (cubes : List Cube) (files : List (List ℕ)) (text : List ℕ) (values : List Bool) → TellsFile F cubes files text (Satisfies values) → Sat (assignment_of values) F
+pub satisfies_of : (F : Cnf) (cubes : List Cube) (files : List (List ℕ)) (text : List ℕ) (values : List Bool) → IsFileOutcome F cubes files text (Satisfies values) → Sat (assignment_of values) F
 satisfies_of F cubes files text values h = sat_file F cubes files text values (is_answer text) h
 
 -- ---- the part
@@ -84,9 +84,9 @@ no_part_more made (Some target) written text h = absurd h
 
 -- ---- a piece, the end of a file, and a file that is left
 pub joined_piece : {E : Type 0} (made : E → List ℕ → List ℕ → Type 0) (a b c : FormJoin) (p q : Option (Part E)) (piece out : List ℕ)
-    → ((F : Cnf) (cubes : List Cube) (files : List (List ℕ)) (bytes written : List ℕ) → Holds F cubes files bytes written a → Holds F cubes files (bytes ++ piece) written b)
+    → ((F : Cnf) (cubes : List Cube) (files : List (List ℕ)) (bytes written : List ℕ) → HasReadFormFiles F cubes files bytes written a → HasReadFormFiles F cubes files (bytes ++ piece) written b)
     → ((target : Option Target) (written : List ℕ) → HasPart made target written p → HasPart made target (written ++ out) q)
-    → ((F : Cnf) (cubes : List Cube) (files : List (List ℕ)) (bytes written : List ℕ) → Holds F cubes files bytes written b → Holds F cubes files bytes (written ++ out) c)
+    → ((F : Cnf) (cubes : List Cube) (files : List (List ℕ)) (bytes written : List ℕ) → HasReadFormFiles F cubes files bytes written b → HasReadFormFiles F cubes files bytes (written ++ out) c)
     → HasJoined made a c p q piece
 joined_piece made a b c p q piece out fed put moved target F cubes files bytes h = record {
   written = h.written ++ out;
@@ -95,9 +95,9 @@ joined_piece made a b c p q piece out fed put moved target F cubes files bytes h
 }
 
 pub left_stands : {E : Type 0} (made : E → List ℕ → List ℕ → Type 0) (a b c : FormJoin) (p q : Option (Part E)) (out : List ℕ)
-    → ((F : Cnf) (cubes : List Cube) (files : List (List ℕ)) (bytes written : List ℕ) → Holds F cubes files bytes written a → Holds F cubes files [] written b)
+    → ((F : Cnf) (cubes : List Cube) (files : List (List ℕ)) (bytes written : List ℕ) → HasReadFormFiles F cubes files bytes written a → HasReadFormFiles F cubes files [] written b)
     → ((target : Option Target) (written : List ℕ) → HasPart made target written p → HasPart made target (written ++ out) q)
-    → ((F : Cnf) (cubes : List Cube) (files : List (List ℕ)) (bytes written : List ℕ) → Holds F cubes files bytes written b → Holds F cubes files bytes (written ++ out) c)
+    → ((F : Cnf) (cubes : List Cube) (files : List (List ℕ)) (bytes written : List ℕ) → HasReadFormFiles F cubes files bytes written b → HasReadFormFiles F cubes files bytes (written ++ out) c)
     → (target : Option Target) (F : Cnf) (cubes : List Cube) (files : List (List ℕ)) (bytes : List ℕ) → Stands made target F cubes files bytes a p → Stands made target F cubes files [] c q
 left_stands made a b c p q out left put moved target F cubes files bytes h = record {
   written = h.written ++ out;
@@ -125,7 +125,7 @@ file_goes made F cubes s bytes name a b p q old new e None ends tells kept at =
     )
 file_goes made F cubes s bytes name a b p q old new e (Some r) ends tells kept at =
     let file = ends old.options.proof F cubes s.files bytes at.stands in
-    let P : FileEnd → Type 0 = λ x. TellsFile F cubes (map text_form s.files) (text_form bytes) x in
+    let P : FileOutcome → Type 0 = λ x. IsFileOutcome F cubes (map text_form s.files) (text_form bytes) x in
     let told = subst P tells.1 file.tells in
     let Text : List ℕ → Type 0 = λ notes. Prints 10 (notes ++ satisfied_lines tells.0 old.options.witness) r in
     record { values = tells.0; tells = told; satisfies = satisfies_of F cubes (map text_form s.files) (text_form bytes) tells.0 told; prints = subst Text at.noted tells.2 }

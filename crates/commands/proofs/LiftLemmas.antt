@@ -3,21 +3,21 @@ use Rattle.std.specs.Prelude.{IfOk, ◌≡◌, ◌≢◌, ◌⊎◌, ◌++◌, �
 use Rattle.std.specs.Global.{Vec}
 use Rattle.std.proofs.Common.{sym, ◌∙◌, subst, inl, inr, arith}
 use Rattle.commands.specs.Known.{Of}
-use Rattle.commands.specs.Lifting.{LiftsAt, LiftsBlock, LiftsEach, LiftsLeaf, fault_lines, lifts, lifts_all, refuses, refuses_all}
+use Rattle.commands.specs.Lift.{LiftsAt, LiftsBlock, LiftsEach, LiftsLeaf, fault_lines, lifts, lifts_all, refuses, refuses_all}
 use Rattle.commands.specs.Written.{Keeps}
 use Rattle.commands.specs.declared.lift.LeafLift.{LeafLift}
-use Rattle.commands.specs.inner.Lifting.{EndsEach, EndsLeaf, IsRefused, each_moves, leaf_moves}
-use Rattle.commands.specs.inner.Pouring.{IsPoured, drops, keeps}
+use Rattle.commands.specs.inner.Lift.{EndsEach, EndsLeaf, IsRefused, each_moves, leaf_moves}
+use Rattle.commands.specs.inner.Filter.{IsFiltered, drops, keeps}
 use Rattle.dimacs.specs.logic.Cnf.{Cnf}
-use Rattle.either_form.specs.Lifting.{Begins, FormLifts}
-use Rattle.either_form.specs.declared.lift.FormLift.{FormLift}
+use Rattle.text_or_binary.specs.FormLift.{BeginsFormCube, HasTakenFormProof}
+use Rattle.text_or_binary.specs.declared.form_lift.FormLift.{FormLift}
 use Rattle.icnf.specs.Leaves.{Cube}
-use Rattle.leaves.specs.Closing.{BeginsFor, LiftsAll, are_closed}
+use Rattle.leaves.specs.BlockLift.{BeginsBlockOf, HasTakenBlock, are_closed}
 use Rattle.leaves.specs.Leaf.{Prints, leaf_at, leaf_of, no_leaf_text}
-use Rattle.leaves.specs.Lifting.{lifted_text}
-use Rattle.leaves.specs.declared.closing.LiftAll.{LiftAll}
-use Rattle.lrat_check.specs.Checking.{no_memory}
-use Rattle.lrat_check.specs.declared.checking.CheckFault.{CheckFault}
+use Rattle.leaves.specs.LeafLift.{lifted_text}
+use Rattle.leaves.specs.declared.block_lift.BlockLift.{BlockLift}
+use Rattle.lrat_check.specs.ProofFaults.{no_memory}
+use Rattle.lrat_check.specs.declared.line_checker.CheckFault.{CheckFault}
 use Rattle.lrat_forms.specs.Forms.{is_binary, text_form}
 use Rattle.lrat_forms.specs.Pieces.{is_cut}
 use Rattle.proof_lift.specs.Leaves.{IsRefutation}
@@ -37,12 +37,12 @@ other_is fault (inl e) other = absurd (other e)
 other_is fault (inr h) other = h
 
 pub refused_of : (l : FormLift) (fault : CheckFault) (b : Bool) (r : Report)
-    → ((F : Cnf) (q : Cube) (bytes written : List ℕ) → FormLifts F q bytes written l → IsRefutation (leaf_of q F) (text_form bytes) → fault ≡ no_memory)
-    → ((F : Cnf) (q : Cube) (bytes written : List ℕ) → FormLifts F q bytes written l → (fault ≡ no_memory) ⊎ IsFaultOf F q (text_form bytes) fault)
+    → ((F : Cnf) (q : Cube) (bytes written : List ℕ) → HasTakenFormProof F q bytes written l → IsRefutation (leaf_of q F) (text_form bytes) → fault ≡ no_memory)
+    → ((F : Cnf) (q : Cube) (bytes written : List ℕ) → HasTakenFormProof F q bytes written l → (fault ≡ no_memory) ⊎ IsFaultOf F q (text_form bytes) fault)
     → is_cut l.form.stage ≡ false
-    → ((F : Cnf) (q : Cube) (bytes written : List ℕ) → FormLifts F q bytes written l → is_cut l.form.stage ≡ false → b ≡ is_binary bytes)
+    → ((F : Cnf) (q : Cube) (bytes written : List ℕ) → HasTakenFormProof F q bytes written l → is_cut l.form.stage ≡ false → b ≡ is_binary bytes)
     → fault ≢ no_memory → Prints 1 (fault_lines b fault) r
-    → (F : Cnf) (q : Cube) (bytes written : List ℕ) → FormLifts F q bytes written l → IsRefused F q bytes r
+    → (F : Cnf) (q : Cube) (bytes written : List ℕ) → HasTakenFormProof F q bytes written l → IsRefused F q bytes r
 refused_of l fault b r complete exact uncut form other prints F q bytes written h =
     let P : Bool → Type 0 = λ x. Prints 1 (fault_lines x fault) r in
     record {
@@ -54,7 +54,7 @@ refused_of l fault b r complete exact uncut form other prints F q bytes written 
 
 pub leaf_lifts : {D : Type 0} (kept : D → D → List ℕ → List ℕ → Type 0) (old new : D) (binary : Bool) (path : List ℕ)
     (F : Cnf) (q : Cube) (l : LeafLift) (proof : List ℕ) (r : Report)
-    → FormLifts F q [] [] l.lift → IsPoured leaf_moves EndsLeaf kept old new binary path l proof r
+    → HasTakenFormProof F q [] [] l.lift → IsFiltered leaf_moves EndsLeaf kept old new binary path l proof r
     → LiftsLeaf (Keeps kept old new binary path) (new ≡ old) F q l.leaf proof r
 leaf_lifts kept old new binary path F q l proof r start (keeps s out rest moves ends stays) =
     let at = moves.1 F q [] [] start in
@@ -65,8 +65,8 @@ leaf_lifts kept old new binary path F q l proof r start (drops s out moves ends 
     refuses refusal.fault refusal.first refusal.wrong same refusal.prints
 
 pub each_lifts : {D : Type 0} (kept : D → D → List ℕ → List ℕ → Type 0) (old new : D) (binary : Bool) (path : List ℕ)
-    (F : Cnf) (place : ℕ) (cubes : List Cube) (l : LiftAll) (text : List ℕ) (r : Report)
-    → LiftsAll F place cubes [] [] l → IsPoured each_moves EndsEach kept old new binary path l text r
+    (F : Cnf) (place : ℕ) (cubes : List Cube) (l : BlockLift) (text : List ℕ) (r : Report)
+    → HasTakenBlock F place cubes [] [] l → IsFiltered each_moves EndsEach kept old new binary path l text r
     → LiftsEach (Keeps kept old new binary path) (new ≡ old) F place cubes text r
 each_lifts kept old new binary path F place cubes l text r start (keeps s out rest moves ends stays) =
     let told = ends F place cubes text out (moves F place cubes [] [] start) in
@@ -116,21 +116,21 @@ of_block_left stays left F place cubes (Some text) r h e = block_left stays left
 
 pub at_lifts : {D : Type 0} (kept : D → D → List ℕ → List ℕ → Type 0) (old new : D) (binary : Bool) (path : List ℕ)
     (F : Cnf) (q : Option Cube) (l : FormLift) (leaf : ℕ) (proof : List ℕ) (r : Report)
-    → Begins F q (Some l) → IsPoured leaf_moves EndsLeaf kept old new binary path (record { lift = l; leaf = leaf }) proof r
+    → BeginsFormCube F q (Some l) → IsFiltered leaf_moves EndsLeaf kept old new binary path (record { lift = l; leaf = leaf }) proof r
     → LiftsAt (Keeps kept old new binary path) (new ≡ old) F q leaf proof r
 at_lifts kept old new binary path F None l leaf proof r start poured = absurd (cc)
 at_lifts kept old new binary path F (Some q) l leaf proof r start poured = leaf_lifts kept old new binary path F q (record { lift = l; leaf = leaf }) proof r start poured
 
 pub none_lifts : (stays : List ℕ → Type 0) (left : Type 0) (F : Cnf) (q : Option Cube) (leaf : ℕ) (proof : List ℕ) (r : Report)
-    → Begins F q None → left → Prints 1 no_leaf_text r → LiftsAt stays left F q leaf proof r
+    → BeginsFormCube F q None → left → Prints 1 no_leaf_text r → LiftsAt stays left F q leaf proof r
 none_lifts stays left F None leaf proof r start h prints = (h, prints)
 none_lifts stays left F (Some q) leaf proof r start h prints = absurd start
 
 -- a text for a block that was begun, or there are no such leaves
 pub text_lifts : {D : Type 0} (holds : D → List ℕ → Option (List ℕ)) (old : D) (stays : List ℕ → Type 0) (left : Type 0) (name : List ℕ)
-    (F : Cnf) (place : ℕ) (cubes : Option (List Cube)) (l : LiftAll) (result : Result Report Refusal)
-    → BeginsFor F place cubes (Some l)
-    → ((G : Cnf) (p : ℕ) (qs : List Cube) → LiftsAll G p qs [] [] l → IfOk result (λ r. Of (holds old name) (λ text. LiftsEach stays left G p qs text r)))
+    (F : Cnf) (place : ℕ) (cubes : Option (List Cube)) (l : BlockLift) (result : Result Report Refusal)
+    → BeginsBlockOf F place cubes (Some l)
+    → ((G : Cnf) (p : ℕ) (qs : List Cube) → HasTakenBlock G p qs [] [] l → IfOk result (λ r. Of (holds old name) (λ text. LiftsEach stays left G p qs text r)))
     → IfOk result (λ r. Of (holds old name) (λ text. LiftsBlock stays left F place cubes text r))
 text_lifts holds old stays left name F place None l result begins goes = absurd (cc)
 text_lifts holds old stays left name F place (Some cubes) l result begins goes = goes F place cubes begins

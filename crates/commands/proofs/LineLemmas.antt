@@ -9,7 +9,7 @@ use Rattle.std.proofs.lemmas.Bool.{both_ways, cases_Bool, eqb-true, lt-ltb, ne_e
 use Rattle.std.proofs.lemmas.List.{get_or_default, take_more}
 use Rattle.std.proofs.lemmas.List.Elements.{All-head, All-nil, All-tail, All-weaker}
 use Rattle.lrat_text.specs.Lines.{IsOpen}
-use Rattle.commands.specs.inner.Events.{TakesLine}
+use Rattle.commands.specs.inner.EventSource.{TakesLine}
 
 is_open : (bytes : List ℕ) → All (λ b. b ≢ 10) bytes → IsOpen bytes
 is_open bytes h = All-weaker (λ b. b ≢ 10) (λ b. eqb b 10 ≡ false) (λ b other. ne_eqb b 10 other) bytes h
@@ -22,7 +22,7 @@ through (x ∷ xs) = elim (cases_Bool (eqb x 10)) [
   | inr not ↦ rw not (ap (λ (ys : List ℕ). x ∷ ys) (through xs))
 ]
 
--- where none of what is taken is an LF nothing is left
+-- if none of what is taken is an LF nothing is left
 nothing_by : (b : Bool) (x : ℕ) (xs : List ℕ) → eqb x 10 ≡ b → All (λ y. y ≢ 10) (cond b (x ∷ []) (x ∷ take_through 10 xs)) → (All (λ y. y ≢ 10) (take_through 10 xs) → drop_through 10 xs ≡ []) → cond b xs (drop_through 10 xs) ≡ []
 nothing_by true x xs is h later = absurd (All-head (λ y. y ≢ 10) x [] h (eqb-true x 10 is))
 nothing_by false x xs is h later = later (All-tail (λ y. y ≢ 10) x (take_through 10 xs) h)

@@ -5,8 +5,8 @@ use Rattle.std.proofs.Math.Seq.{drop-cons}
 use Rattle.std.proofs.lemmas.Bool.{eqb-true}
 use Rattle.std.proofs.lemmas.List.{map-append, nil_from_length, take_more, take-append-drop}
 use Rattle.commands.specs.Names.{AreTaken, Gone, names_behind, names_of, none_gone}
-use Rattle.commands.specs.Joining.{OneStops}
-use Rattle.commands.specs.inner.Joining.{Goes, IsListed}
+use Rattle.commands.specs.Join.{OneStops}
+use Rattle.commands.specs.inner.Join.{Goes, IsListed}
 use Rattle.reports.specs.declared.report.Report.{Report}
 
 -- ---- names in turn
@@ -70,7 +70,7 @@ listed_name At Then Takes Stops list begun b None e h g = (
 listed_name At Then Takes Stops list begun b (Some r) e h g = λ rest.
     stops_on Takes Stops list b rest r (h.3 (b ∷ rest) r (let P : List (List ℕ) → Type 0 = λ ns. OneStops Takes Stops ns h.0 r in subst P (sym (names_step b begun rest true e)) (inl g)))
 
--- a byte behind the end of the run
+-- a byte after the end of the run
 pub listed_on : (At Then : Gone → Type 0) (Takes : List ℕ → Gone → Gone → Type 0) (Stops : List ℕ → Gone → Report → Type 0) (list begun more : List ℕ) (b : ℕ) (r : Report)
     → IsListed At Takes Stops list begun (Some r) → IsListed Then Takes Stops (list ++ b ∷ []) more (Some r)
 listed_on At Then Takes Stops list begun more b r h = λ rest. stops_on Takes Stops list b rest r (h (b ∷ rest))
@@ -86,7 +86,7 @@ pub listed_found : (At : Gone → Type 0) (Takes : List ℕ → Gone → Gone �
     → IsListed At Takes Stops list begun (Some r) → OneStops Takes Stops (names_of list) none_gone r
 listed_found At Takes Stops list begun r h = stops_end Takes Stops list r (h [])
 
--- behind a whole name
+-- after a whole name
 pub listed_all : (At : Gone → Type 0) (Takes : List ℕ → Gone → Gone → Type 0) (Stops : List ℕ → Gone → Report → Type 0) (list : List ℕ)
     → IsListed At Takes Stops list [] None → Goes At (AreTaken Takes (names_of list) none_gone) (OneStops Takes Stops (names_of list) none_gone) None
 listed_all At Takes Stops list h = (h.0, taken_end Takes list h.0 (h.2 [] h.0 refl), h.1)

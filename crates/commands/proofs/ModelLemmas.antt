@@ -4,12 +4,12 @@ use Rattle.std.proofs.Common.{sym, ◌∙◌, ap, subst, inl, inr}
 use Rattle.answers.specs.Grammar.{Verifies}
 use Rattle.answers.specs.Reports.{IsModelReport}
 use Rattle.answers.specs.declared.report.ModelReport.{ModelReport}
-use Rattle.commands.specs.Beginning.{RefusesInput}
+use Rattle.commands.specs.FormulaTree.{RefusesInput}
 use Rattle.commands.specs.Known.{Of}
-use Rattle.commands.specs.Testing.{Tests, TestsAnswer}
+use Rattle.commands.specs.Model.{Tests, TestsAnswer}
 use Rattle.commands.proofs.OfLemmas.{of_map}
 use Rattle.dimacs.specs.logic.Cnf.{Cnf}
-use Rattle.dimacs.specs.text.Reading.{no_memory, parse}
+use Rattle.dimacs.specs.text.Parser.{no_memory, parse}
 use Rattle.dimacs.specs.text.Rows.{Fails}
 use Rattle.dimacs.specs.declared.fault.DimacsFault.{DimacsFault}
 use Rattle.leaves.specs.Leaf.{Prints}

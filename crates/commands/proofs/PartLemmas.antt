@@ -1,11 +1,11 @@
 -- What is written to a part goes together step by step.
 use Rattle.std.specs.Prelude.{◌≡◌, ◌++◌, ◌∷◌, ℕ, Bool, true, false, List, [], Option, Some, None, refl}
 use Rattle.std.proofs.Common.{sym, ◌∙◌, ap, subst, append-nil}
-use Rattle.commands.specs.declared.parts.Part.{Part}
+use Rattle.commands.specs.declared.part_file.Part.{Part}
 use Rattle.commands.specs.Written.{IsIn, Keeps}
 use Rattle.commands.specs.inner.Parts.{IsPart, IsEnded}
 use Rattle.lrat_binary.specs.Grammar.{Spells}
-use Rattle.lrat_forms.specs.Spelling.{HasWritten, SpellTheSame}
+use Rattle.lrat_forms.specs.SameSteps.{HasWritten, SpellTheSame}
 use Rattle.lrat_forms.specs.declared.binary_form.BinaryForm.{BinaryForm}
 use Rattle.lrat_text.specs.Grammar.{LineSpells, lf}
 use Rattle.lrat_text.specs.declared.step.Step.{Step}

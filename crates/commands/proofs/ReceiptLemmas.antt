@@ -8,25 +8,25 @@ use Rattle.commands.specs.inner.Receipts.{ComesTo, IsRefused, SaysFault}
 use Rattle.dimacs.specs.logic.Cnf.{Cnf}
 use Rattle.icnf.specs.Leaves.{Cube}
 use Rattle.lrat_check.specs.Logs.{log_of}
-use Rattle.lrat_check.specs.declared.checking.CheckFault.{CheckFault}
-use Rattle.receipts.specs.Receiving.{ClosesNone, HasMet, HasRead, ReadsSo}
-use Rattle.receipts.specs.declared.fault.ReceiveFault.{ReceiveFault}
-use Rattle.receipts.specs.declared.fault.ReceiveFault.TheVariants.{Log, ClosesNothing, NoMemory}
-use Rattle.receipts.specs.declared.receiving.Receiving.{Receiving}
+use Rattle.lrat_check.specs.declared.line_checker.CheckFault.{CheckFault}
+use Rattle.receipts.specs.LogReceipt.{ClosesNone, HasLogFault, HasReadLog, IsLogOrFault}
+use Rattle.receipts.specs.declared.fault.BuildFault.{BuildFault}
+use Rattle.receipts.specs.declared.fault.BuildFault.TheVariants.{Log, ClosesNothing, NoMemory}
+use Rattle.receipts.specs.declared.receipt_builder.ReceiptBuilder.{ReceiptBuilder}
 use Rattle.reports.specs.declared.report.Report.{Report}
 
 -- ---- whatever follows a fault
-reads_on : (F : Cnf) (bytes rest : List ℕ) (r : Receiving) (found : Option CheckFault) → is_some found ≡ true → ReadsSo found F bytes r → ReadsSo found F (bytes ++ rest) r
+reads_on : (F : Cnf) (bytes rest : List ℕ) (r : ReceiptBuilder) (found : Option CheckFault) → is_some found ≡ true → IsLogOrFault found F bytes r → IsLogOrFault found F (bytes ++ rest) r
 reads_on F bytes rest r None e h = absurd (cc)
 reads_on F bytes rest r (Some fault) e (inl memory) = inl memory
 reads_on F bytes rest r (Some fault) e (inr met) =
     inr (λ more. subst (λ (xs : List ℕ). log_of F xs ≡ Err fault) (sym (append_assoc bytes rest more)) (met (rest ++ more)))
 
-pub reads_rest : (F : Cnf) (cubes : List Cube) (bytes rest : List ℕ) (r : Receiving) → is_some r.fault ≡ true → HasRead F cubes bytes r → HasRead F cubes (bytes ++ rest) r
+pub reads_rest : (F : Cnf) (cubes : List Cube) (bytes rest : List ℕ) (r : ReceiptBuilder) → is_some r.fault ≡ true → HasReadLog F cubes bytes r → HasReadLog F cubes (bytes ++ rest) r
 reads_rest F cubes bytes rest r e h = record { formula = h.formula; covers = h.covers; read = reads_on F bytes rest r r.fault e h.read }
 
 -- ---- the report of a log without a receipt
-pub refused_is : (F : Cnf) (cubes : List Cube) (log : List ℕ) (fault : ReceiveFault) (r : Report)
+pub refused_is : (F : Cnf) (cubes : List Cube) (log : List ℕ) (fault : BuildFault) (r : Report)
     → ((f : CheckFault) → fault ≡ Log f → log_of F log ≡ Err f) → (fault ≡ ClosesNothing → ClosesNone F cubes log) → SaysFault fault r → IsRefused F cubes log r
 refused_is F cubes log (Log f) r first none says = inl (f, first f refl, says)
 refused_is F cubes log ClosesNothing r first none says = inr (none refl, says)

@@ -1,11 +1,11 @@
 -- What comes of a tree that was read, or of what is refused.
 use Rattle.std.specs.Prelude.{◌≡◌, ◌⊎◌, ℕ, List, Option}
 use Rattle.std.proofs.Common.{inl, inr, subst}
-use Rattle.commands.specs.Beginning.{Begins, OfFormula, RefusesCubes, RefusesInput}
+use Rattle.commands.specs.FormulaTree.{Begins, OfFormula, RefusesCubes, RefusesInput}
 use Rattle.commands.specs.Known.{Of}
 use Rattle.commands.specs.Trees.{OfTree}
-use Rattle.commands.specs.declared.beginning.Begun.{Begun}
-use Rattle.commands.specs.declared.beginning.Begun.TheVariants.{With, Refused}
+use Rattle.commands.specs.declared.formula_tree.Begun.{Begun}
+use Rattle.commands.specs.declared.formula_tree.Begun.TheVariants.{With, Refused}
 use Rattle.commands.proofs.OfLemmas.{of_map}
 use Rattle.dimacs.specs.logic.Cnf.{Cnf}
 use Rattle.icnf.specs.Leaves.{Cube}

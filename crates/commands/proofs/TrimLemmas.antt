@@ -2,29 +2,29 @@
 use Rattle.std.specs.Prelude.{◌≡◌, ◌≢◌, ◌==◌, length, ◌⊎◌, ◌++◌, ℕ, Bool, true, false, List, [], ◌∷◌, Option, Result, Ok, Err, IfOk, OnOk, refl, is_ok, if◌then◌else◌}
 use Rattle.std.proofs.Common.{sym, ◌∙◌, ap, subst, inl, inr, append_assoc, append-nil}
 use Rattle.commands.specs.Known.{Of}
-use Rattle.commands.specs.Trimming.{TellsTrimming, Trims}
+use Rattle.commands.specs.Trim.{TellsTrimming, Trims}
 use Rattle.commands.specs.declared.trim.Faulty.{Faulty}
-use Rattle.commands.specs.inner.Trimming.{IsFaulty}
+use Rattle.commands.specs.inner.Trim.{IsFaulty}
 use Rattle.commands.proofs.KnownLemmas.{of_any}
 use Rattle.commands.proofs.OfLemmas.{of_map}
 use Rattle.dimacs.specs.logic.Cnf.{Cnf}
-use Rattle.dimacs.specs.text.Reading.{no_memory as no_input_memory, parse}
+use Rattle.dimacs.specs.text.Parser.{no_memory as no_input_memory, parse}
 use Rattle.dimacs.specs.text.Rows.{Fails}
 use Rattle.dimacs.specs.declared.fault.DimacsFault.{DimacsFault}
 use Rattle.leaves.specs.Leaf.{Prints}
 use Rattle.reports.specs.Faults.{input_fault_text}
-use Rattle.either_form.specs.Trimming.{HasTaken}
-use Rattle.either_form.specs.declared.trim.FormTrimming.{FormTrimming}
-use Rattle.lrat_check.specs.Checking.{check_of, no_memory}
+use Rattle.text_or_binary.specs.FormTrim.{HasTakenForm}
+use Rattle.text_or_binary.specs.declared.form_trim.FormTrimming.{FormTrimming}
+use Rattle.lrat_check.specs.ProofFaults.{check_of, no_memory}
 use Rattle.lrat_check.specs.Stream as stream
-use Rattle.lrat_check.specs.Stream.{Progress, Failed, Within, answer_in}
-use Rattle.lrat_check.specs.declared.checking.CheckFault.{CheckFault}
+use Rattle.lrat_check.specs.Stream.{CheckProgress, Failed, Within, answer_in}
+use Rattle.lrat_check.specs.declared.line_checker.CheckFault.{CheckFault}
 use Rattle.lrat_forms.specs.Forms.{is_binary, text_form}
 use Rattle.lrat_forms.specs.Pieces.{is_cut, text_behind}
 use Rattle.reports.specs.declared.report.Report.{Report}
-use Rattle.trimming.specs.Reports.{trim_text, trimmed_text}
-use Rattle.trimming.specs.Trimming as of_text
-use Rattle.trimming.specs.declared.trimming.Trimmed.{Trimmed}
+use Rattle.lrat_trim.specs.Reports.{trim_text, trimmed_text}
+use Rattle.lrat_trim.specs.TrimmedProof as of_text
+use Rattle.lrat_trim.specs.declared.trimmer.Trimmed.{Trimmed}
 
 err_is : {T : Type 0} (a b : CheckFault) (x : Result T CheckFault) → x ≡ Err a → x ≡ Err b → a ≡ b
 err_is a b x h k = cc
@@ -35,7 +35,7 @@ form_stays [] more some = absurd (some refl)
 form_stays (b ∷ bytes) more some = refl
 
 -- what a checker that failed answers to a text, whatever follows
-failed_is : (F : Cnf) (p : Progress) (fault : CheckFault) (r : Result (Unit {0}) CheckFault) (text : List ℕ) → r ≡ Err fault → r ≡ answer_in p → stream.HasTaken F p text
+failed_is : (F : Cnf) (p : CheckProgress) (fault : CheckFault) (r : Result (Unit {0}) CheckFault) (text : List ℕ) → r ≡ Err fault → r ≡ answer_in p → stream.HasTaken F p text
     → (fault ≡ no_memory) ⊎ ((more : List ℕ) → check_of F (text ++ more) ≡ Err fault)
 failed_is F (Within s line begun) fault r text e is h = let clash : Ok tt ≡ Err fault = sym is ∙ e in absurd (cc)
 failed_is F (Failed g) fault r text e is (inl wants) =
@@ -44,7 +44,7 @@ failed_is F (Failed g) fault r text e is (inr tells) =
     inr (λ more. tells more ∙ sym is ∙ e)
 
 faulty_uncut : (F : Cnf) (t : FormTrimming) (f : Faulty) (r : Result (Unit {0}) CheckFault) (bytes : List ℕ)
-    → ¬ (bytes ≡ []) → r ≡ Err f.fault → is_cut t.form.stage ≡ false → r ≡ answer_in t.trimming.progress → f.is_binary ≡ is_binary bytes → HasTaken F t bytes → IsFaulty F bytes f
+    → ¬ (bytes ≡ []) → r ≡ Err f.fault → is_cut t.form.stage ≡ false → r ≡ answer_in t.trimming.progress → f.is_binary ≡ is_binary bytes → HasTakenForm F t bytes → IsFaulty F bytes f
 faulty_uncut F t f r bytes some e uncut answers form h =
     elim (failed_is F t.trimming.progress f.fault r h.text e answers h.taken.checked) [
       | inl wants ↦ inl wants
@@ -55,17 +55,17 @@ faulty_uncut F t f r bytes some e uncut answers form h =
 faulty_at : (F : Cnf) (t : FormTrimming) (f : Faulty) (r : Result (Unit {0}) CheckFault) (bytes : List ℕ) (cut : Bool)
     → ¬ (bytes ≡ []) → r ≡ Err f.fault → is_cut t.form.stage ≡ cut
     → (is_cut t.form.stage ≡ false → r ≡ answer_in t.trimming.progress) → (is_cut t.form.stage ≡ true → r ≡ Err no_memory)
-    → (is_cut t.form.stage ≡ false → f.is_binary ≡ is_binary bytes) → HasTaken F t bytes → IsFaulty F bytes f
+    → (is_cut t.form.stage ≡ false → f.is_binary ≡ is_binary bytes) → HasTakenForm F t bytes → IsFaulty F bytes f
 faulty_at F t f r bytes true some e cut answers wanting form h = inl (err_is f.fault no_memory r e (wanting cut))
 faulty_at F t f r bytes false some e cut answers wanting form h = faulty_uncut F t f r bytes some e cut (answers cut) (form cut) h
 
 pub faulty_of : (F : Cnf) (t : FormTrimming) (f : Faulty) (r : Result (Unit {0}) CheckFault) (bytes : List ℕ)
     → ¬ (bytes ≡ []) → r ≡ Err f.fault
     → (is_cut t.form.stage ≡ false → r ≡ answer_in t.trimming.progress) → (is_cut t.form.stage ≡ true → r ≡ Err no_memory)
-    → (is_cut t.form.stage ≡ false → f.is_binary ≡ is_binary bytes) → HasTaken F t bytes → IsFaulty F bytes f
+    → (is_cut t.form.stage ≡ false → f.is_binary ≡ is_binary bytes) → HasTakenForm F t bytes → IsFaulty F bytes f
 faulty_of F t f r bytes some e answers wanting form h = faulty_at F t f r bytes (is_cut t.form.stage) some e refl answers wanting form h
 
--- nothing changes behind a fault
+-- nothing changes after a fault
 pub faulty_more : (F : Cnf) (bytes more : List ℕ) (f : Faulty) → IsFaulty F bytes f → IsFaulty F (bytes ++ more) f
 faulty_more F bytes more f (inl wants) = inl wants
 faulty_more F bytes more f (inr fails) = inr (λ rest.

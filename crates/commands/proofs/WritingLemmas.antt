@@ -4,7 +4,7 @@ use Rattle.std.proofs.Common.{sym, ◌∙◌, ap, arith}
 use Rattle.std.proofs.Math.Seq.{take-add}
 use Rattle.std.proofs.lemmas.List.{take_all}
 
--- what is written is a front of the text, and the next piece comes behind it
+-- what is written is a front of the text, and the next piece comes after it
 pub front_more : (i : ℕ) (text piece : List ℕ) → piece ≡ take 65536 (drop (65536 * i) text) → take (65536 * i) text ++ piece ≡ take (65536 * (i + 1)) text
 front_more i text piece e =
     let next : 65536 * i + 65536 ≡ 65536 * (i + 1) = omega arith in

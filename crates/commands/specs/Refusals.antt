@@ -3,22 +3,23 @@ use Rattle.std.specs.Prelude.{◌≡◌, ◌⊎◌}
 use Rattle.reports.specs.declared.refusal.Refusal.{Refusal}
 use Rattle.reports.specs.declared.refusal.Refusal.TheVariants.{Cubes, Input, Proof, Writing, NoMemory}
 
--- want of memory
+-- the refusal is want of memory
 abbrev pub IsWanting : Refusal → Type 0
 IsWanting f = f ≡ NoMemory
 
--- want of memory, or this
+-- the refusal `f` is want of memory, or `refusal`
 abbrev pub IsRefusedAs : Refusal → Refusal → Type 0
 IsRefusedAs refusal f = (f ≡ NoMemory) ⊎ (f ≡ refusal)
 
--- want of memory, or one of two texts cannot be read
+-- the refusal `f` is want of memory, or one of these two refusals
 abbrev pub IsUnread : Refusal → Refusal → Refusal → Type 0
 IsUnread one other f = (f ≡ NoMemory) ⊎ ((f ≡ one) ⊎ (f ≡ other))
 
--- want of memory, or the input, the cubes or the proofs cannot be read, or what is written cannot be
+-- a refusal of a command over leaves that writes a file: want of memory, or the input, the cubes or the proofs cannot be read, or the file
+-- not be written
 abbrev pub IsUnlifted : Refusal → Type 0
 IsUnlifted f = IsUnread Input Cubes f ⊎ ((f ≡ Proof) ⊎ (f ≡ Writing))
 
--- the same where there are no cubes
+-- a refusal of `trim`: want of memory, or the input or the proof cannot be read, or the file not be written
 abbrev pub IsUntrimmed : Refusal → Type 0
 IsUntrimmed f = IsUnread Input Proof f ⊎ (f ≡ Writing)

@@ -1,20 +1,20 @@
-//! `check`: an input is read, and a proof checked, while their files are read.
+//! `check`: reads a formula, and checks a proof of it while the proof's file is read.
 
 ghost use Rattle.std.specs.Prelude.{◌≡◌, ◌++◌, ℕ, List, [], IfOk, IfErr};
-ghost use Rattle.commands.specs.Checking.{Checks};
-ghost use Rattle.commands.specs.inner.Feeding.{Extends};
+ghost use Rattle.commands.specs.Check.{Checks};
+ghost use Rattle.commands.specs.inner.Feed.{Extends};
 ghost use Rattle.commands.specs.Known.{Of};
 ghost use Rattle.commands.specs.Refusals.{IsUnread};
 ghost use Rattle.node_main.specs.ProofChecks.{HasTaken};
 
 use crate::disk::Disk;
-use crate::feeding::{Feeds, feed_all};
+use crate::feed_loop::{Feeds, feed_all};
 use crate::formula::read_formula;
 use node_main::ProofCheck;
 use reports::{Refusal, Report};
 
 impl Feeds for ProofCheck {
-    ghost use Rattle.commands.specs.inner.Feeding.{extends_nothing, extends_more};
+    ghost use Rattle.commands.specs.inner.Feed.{extends_nothing, extends_more};
 
     ghost took = { λ old new more. (input : List ℕ) → Extends (λ proof c. HasTaken input c proof) old new more };
 
@@ -32,7 +32,8 @@ impl Feeds for ProofCheck {
     }
 }
 
-/// Checks the proof in a file, of the formula in another.
+/// Checks the proof in the file `proof` of the formula in the file `input`, and reports the result. A fault of either text is reported; it
+/// errs if a file cannot be read or memory runs out.
 pub fn check_files<D: Disk>(disk: &D, input: &str, proof: &str) -> Result<Report, Refusal>
     ensures report { IfOk result (λ r. Of (D.holds disk.now input.now) (λ text. Of (D.holds disk.now proof.now) (λ bytes. Checks text bytes r))) }
     ensures refused { IfErr result (IsUnread Refusal.Input Refusal.Proof) }

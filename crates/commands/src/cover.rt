@@ -1,29 +1,31 @@
-//! `cover`: the receipts of any machines are read, and tell whether they close all leaves.
+//! `cover`: reads the receipts of any machines, and reports whether they close all leaves of a tree.
 
 ghost use Rattle.std.specs.Prelude.{map, IfOk, IfErr};
-ghost use Rattle.commands.specs.Beginning.{OfQuietTree};
+ghost use Rattle.commands.specs.FormulaTree.{OfQuietTree};
 ghost use Rattle.commands.specs.Names.{OfNames};
-ghost use Rattle.commands.specs.Covering.{IsUncovered, TellsCover};
+ghost use Rattle.commands.specs.Cover.{IsUncovered, TellsCover};
 ghost use Rattle.commands.specs.Known.{Of};
 ghost use Rattle.commands.specs.Refusals.{IsRefusedAs, IsWanting};
 
-use crate::beginning::{Begun, begin_files, hushed};
-use crate::covering::{begin_run, take_all};
+use crate::cover_receipts::{begin_run, take_all};
 use crate::disk::Disk;
-use crate::listing::names_of_receipts;
+use crate::formula_tree::{Begun, begin_files, hushed};
+use crate::receipt_names::names_of_receipts;
 use leaves::Split;
 use reports::{Refusal, Report};
 
-/// The files of a cover that are read beside those of the names.
+/// The files of `cover` besides the receipts.
 #[derive(Clone, Copy)]
 pub struct CoverFiles<'a> {
+    /// The path of the formula.
     pub input: &'a str,
+    /// The path of the tree of its cubes.
     pub cubes: &'a str,
-    /// Whether files that close nothing have no line.
+    /// `-q`: no line for a receipt that closes nothing, and none for a fault of the formula or the cubes.
     pub quiet: bool,
 }
 
-/// Takes the receipts of these names over a formula and the tree of its cubes.
+/// Reads the receipts in the files of these names, and reports whether they close all leaves of the tree. It errs if memory runs out.
 fn cover_names<D: Disk>(
     disk: &D,
     split: &Split,
@@ -38,7 +40,8 @@ fn cover_names<D: Disk>(
     run.finish()
 }
 
-/// The same of names that are given, or that standard input lists.
+/// Reads the receipts in the files that the command line names (that standard input lists, if `-` is the only name), and reports whether
+/// they close all leaves of the tree.
 fn cover_tree<D: Disk>(
     disk: &D,
     split: &Split,
@@ -52,8 +55,8 @@ fn cover_tree<D: Disk>(
     cover_names(disk, split, &all, quiet)
 }
 
-/// Tells whether the receipts in the files of these names, or of those that standard input lists, where `-` is the only one, close all
-/// leaves of a tree of the formula of an input.
+/// Reads a formula, the tree of its cubes, and the receipts in the files of these names (of those that standard input lists, if `-` is the
+/// only name). Reports whether the receipts close all leaves of the tree.
 pub fn cover_files<D: Disk>(
     disk: &D,
     files: &CoverFiles<'_>,

@@ -1,4 +1,4 @@
-//! Files that are made.
+//! Files that are written: they are begun, appended to, and then kept or removed.
 
 ghost use Rattle.std.specs.Prelude.{◌≡◌, ◌++◌, ℕ, Bool, false, List, [], IfOk, IfErr, IfSome, IsTrue, OnOk};
 ghost use Rattle.commands.specs.Refusals.{IsRefusedAs};
@@ -10,58 +10,58 @@ use reports::Refusal;
 /// Where a text goes, and in which form.
 #[derive(Clone, Copy)]
 pub struct Target<'a> {
+    /// The path of the file.
     pub path: &'a str,
-    /// Whether it is written in binary form.
+    /// Whether the text, which is a proof, is converted to binary form.
     pub binary: bool,
 }
 
-/// How a file comes to its place.
+/// How a file is written.
 #[derive(Clone, Copy, Debug, PartialEq, Eq)]
 pub enum Way {
-    /// It is made beside its place, and takes it when it is whole.
+    /// A temporary file beside it, renamed once it is whole.
     Beside,
-    /// What stands there is written anew.
+    /// The file itself is truncated and written.
     InPlace,
 }
 
-/// Files that are made, by the paths of their places. What the system does with them is told by its implementation alone; the ghost relations
-/// are what an implementation says of it.
+/// Files that are written, by their paths. Only an implementation states what the operating system does, by the ghost relations.
 pub trait Drafts: Disk {
-    /// A file in the making. It cannot be let go: it is kept, or removed.
+    /// A file in the making. It has no `Drop`: each ends by a call of `keep` or `remove`.
     type Draft;
 
-    // the file in the making is for this path, and was given these bytes
+    // `made draft path bytes`: the file in the making is for this path, and was given these bytes
     ghost made: { Self.Draft → List ℕ → List ℕ → Type 0 } = { λ _ _ _. Unit {0} };
 
-    // by what was done, the file at this path has these bytes
+    // `kept old new path bytes`: by what was done from the disk `old` to the disk `new`, the file at this path has these bytes
     ghost kept: { Self → Self → List ℕ → List ℕ → Type 0 } = { λ _ _ _ _. Unit {0} };
 
-    // these paths lead to two files
+    // `apart disk path other`: the two paths lead to two different files
     ghost apart: { Self → List ℕ → List ℕ → Type 0 } = { λ _ _ _. Unit {0} };
 
-    /// Whether two paths lead to one file, or are the same where there is none.
+    /// Whether two paths lead to the same file; if one of them leads to no file yet, whether the paths are equal.
     fn is_same(&self, path: &str, other: &str) -> bool
         ensures { result ≡ false → apart self.now path.now other.now };
 
-    /// Begins a file that comes to its place in this way; none where it cannot.
+    /// Creates a file that is to be written to a path in the given way; `None` if it cannot be created so.
     fn begin(&self, path: &str, way: Way) -> Result<Option<Self::Draft>, Refusal>
         ensures begun { IfOk result (λ found. IfSome found (λ draft. made draft path.now [])) }
         ensures refused { IfErr result (IsRefusedAs Refusal.Writing) };
 
-    /// Writes behind what the file has.
+    /// Appends bytes to a file in the making.
     fn append(&self, draft: &mut Self::Draft, bytes: &[u8]) -> Result<(), Refusal>
         ensures written { OnOk result ((path before : List ℕ) → made draft.old path before → made draft.new path (before ++ bytes.now)) }
         ensures refused { IfErr result (IsRefusedAs Refusal.Writing) };
 
-    /// Whether a path leads to the file in the making, or to its place.
+    /// Whether a path leads to a file in the making, or to the file at the path for which that is made.
     fn leads_to(&self, draft: &Self::Draft, path: &str) -> bool;
 
-    /// Lets the file take its place, and tells whether it could; else it is gone.
+    /// Puts a file in the making at its path; a temporary file is renamed. Answers false, and removes the file, if it cannot be renamed.
     fn keep(&mut self, draft: Self::Draft) -> Result<bool, Refusal>
         ensures kept { IfOk result (λ b. IsTrue b → (path bytes : List ℕ) → made draft path bytes → kept self.old self.new path bytes) }
         ensures left { IsLeft self.old self.new result }
         ensures refused { IfErr result (IsRefusedAs Refusal.Writing) };
 
-    /// The file is gone.
+    /// Gives up a file in the making: a temporary file is removed.
     fn remove(&self, draft: Self::Draft);
 }

@@ -1,4 +1,4 @@
-//! The events of a session, line by line as they come.
+//! The events of a session, which are read line by line as they come.
 
 ghost use Rattle.std.specs.Prelude.{◌≡◌, ◌≢◌, ◌≤◌, ◌++◌, ℕ, List, [], Option, true, false, max, IfOk, IfErr, MatchResult, OnOk, if◌then◌else◌};
 ghost use Rattle.std.specs.Io.BufRead.{ends_with_byte, strip_last};
@@ -7,7 +7,7 @@ ghost use Rattle.dimacs.specs.logic.Cnf.{greatest_of as greatest_of_clause};
 ghost use Rattle.icnf.specs.declared.fault.Kind.TheVariants.{NoMemory};
 ghost use Rattle.sessions.specs.Answers.{Event};
 
-use crate::pieces::refused;
+use crate::piece_reader::refused;
 use dimacs::Lit;
 use icnf::{IcnfFault, Kind};
 use reports::Refusal;
@@ -15,34 +15,34 @@ use sessions::{EventLines, Sent};
 use std::alloc::Global;
 use std::io::BufRead;
 
-/// What comes next of the events.
+/// What comes next of the events: a line, their end, or a fault.
 #[derive(Clone, Copy)]
 pub(crate) enum Next {
-    /// A line that says this.
+    /// A line without a fault: a clause, a query, or one that is neither.
     Line(Sent),
-    /// Nothing, and the events have no fault.
+    /// The end of the events, none of whose lines has a fault.
     Ended,
-    /// Their first fault.
+    /// The first fault of the events.
     Faulty(IcnfFault),
 }
 
-/// Events that come line by line. No more is read of the source than the line has that is wanted, and what came with it.
+/// A reader of events. It reads one line at a time, so that a query is answered before the next line is awaited.
 pub(crate) struct EventSource<B> {
+    /// The source after the lines that were read.
     pub(crate) source: B,
-    /// What was read of the lines.
+    /// The parser of lines, with the literals of the last one.
     pub(crate) lines: EventLines,
-    /// How many lines were read.
+    /// How many lines were read and had no fault.
     pub(crate) read: u64,
-    /// The last one of them, without its LF.
+    /// The last line that was read, without its LF.
     pub(crate) line: Vec<u8>,
-    /// Whether no line stands behind it.
+    /// Whether the last line that was read is the last one of the source.
     pub(crate) has_ended: bool,
-    /// The greatest variable of an event so far.
+    /// The greatest variable of the events so far; 0 without one.
     pub(crate) greatest: u32,
     ghost few: { greatest ≤ 1000000 },
 }
 
-// By hand, so that whoever owns one drops it by one call, and no proof there goes through its parts.
 impl<B: Drop> Drop for EventSource<B> {
     fn drop(self) {
         let EventSource {
@@ -56,7 +56,7 @@ impl<B: Drop> Drop for EventSource<B> {
     }
 }
 
-/// The greatest of a number and the variables of literals.
+/// Answers the greatest of `number` and the variables of the literals.
 fn greatest_with(literals: &[Lit], number: u32) -> u32
     ensures { result ≡ max (greatest_of_clause literals.now) number }
 {
@@ -67,7 +67,7 @@ fn greatest_with(literals: &[Lit], number: u32) -> u32
     greatest
 }
 
-/// What comes of a fault, unless it is want of memory.
+/// Answers a fault of the events as what comes next; out of memory is an error instead.
 fn faulty(fault: IcnfFault) -> Result<Next, Refusal>
     ensures { MatchResult result (λ next. (next ≡ Next.Faulty fault) × (fault.kind ≢ NoMemory)) IsWanting }
 {
@@ -78,9 +78,9 @@ fn faulty(fault: IcnfFault) -> Result<Next, Refusal>
 }
 
 impl<B: BufRead + Drop> EventSource<B> {
-    ghost use Rattle.commands.specs.inner.Events.{AreWithin, Hears, HearsNext, IsClosed, IsWaitingLine, TakesLine, counted};
+    ghost use Rattle.commands.specs.inner.EventSource.{AreWithin, Hears, HearsNext, IsClosed, IsWaitingLine, TakesLine, counted};
 
-    /// No line was read.
+    /// A reader of a source that has read no line.
     pub(crate) fn of(alloc: Global, source: B) -> EventSource<B>
         ensures { Hears (B.remaining source) B.remaining [] result }
     {
@@ -94,14 +94,14 @@ impl<B: BufRead + Drop> EventSource<B> {
         }
     }
 
-    /// The literals of the last event.
+    /// Answers the literals of the last line, if that is a clause or a query.
     pub(crate) fn literals(&self) -> &[Lit]
         ensures { result.now ≡ self.now.lines.read.literals }
     {
         self.lines.literals()
     }
 
-    /// The greatest variable of an event so far; 0 without one.
+    /// Answers the greatest variable of the events so far; 0 without one.
     pub(crate) fn greatest(&self) -> u32
         ensures value { result ≡ self.now.greatest }
         ensures limit { result ≤ 1000000 }
@@ -109,7 +109,7 @@ impl<B: BufRead + Drop> EventSource<B> {
         self.greatest
     }
 
-    /// Takes the LF from the line, or finds that it has none: then it is the last one.
+    /// Removes the LF at the end of the line that was read. A line without one is the last of the source.
     fn end_line(&mut self)
         ensures same { self.new ≡ record self.old { line = self.new.line; has_ended = self.new.has_ended } }
         ensures line { self.new.line.items ≡ strip_last 10 self.old.line.items }
@@ -123,7 +123,7 @@ impl<B: BufRead + Drop> EventSource<B> {
         self.line.truncate(len - 1);
     }
 
-    /// Reads the bytes of the next line.
+    /// Reads the next line, without its LF, into the field `line`; blocks until it is there. It errs if the read fails.
     fn read_line(&mut self) -> Result<(), Refusal>
         requires more { self.old.has_ended ≡ false }
         ensures line { OnOk result (TakesLine (B.remaining self.old.source) (B.remaining self.new.source) self.new.has_ended self.new.line.items) }
@@ -140,7 +140,7 @@ impl<B: BufRead + Drop> EventSource<B> {
         }
     }
 
-    /// The event of the last line, if it has one, counts.
+    /// Raises the greatest variable so far to those of the last line, if that is a clause or a query.
     fn count(&mut self, sent: Sent)
         requires { AreWithin sent self.old.lines.read.literals }
         ensures greatest { self.new.greatest ≡ counted sent self.old.lines.read.literals self.old.greatest }
@@ -154,7 +154,7 @@ impl<B: BufRead + Drop> EventSource<B> {
         }
     }
 
-    /// What comes of the end of the lines.
+    /// Answers what comes at the end of the source: `Ended`, or the fault that the events have no header.
     fn close(&self) -> Next
         ensures { IsClosed self.now.read self.now.lines.progress result }
     {
@@ -167,7 +167,8 @@ impl<B: BufRead + Drop> EventSource<B> {
         })
     }
 
-    /// Reads the next line, and waits until it is there. At the end it tells so each time; behind a fault nothing is promised.
+    /// Reads and parses the next line; blocks until it is there. At the end of the source each call answers `Ended`, or the fault that
+    /// there is no header. After the fault of a line nothing is promised of later calls. It errs if a read fails or memory runs out.
     pub(crate) fn next(&mut self) -> Result<Next, Refusal>
         ensures heard { (all : Option (List ℕ)) (E : List Event) → Hears all B.remaining E self.old → IfOk result (HearsNext all B.remaining E self.new) }
         ensures waits { IfOk result (λ next. IsWaitingLine next self.new.greatest self.new.lines.read.literals) }

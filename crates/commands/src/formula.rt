@@ -1,20 +1,20 @@
-//! A formula, or all bytes, of a source.
+//! Reads a source to its end: as a formula, or as bytes.
 
 ghost use Rattle.std.specs.Prelude.{◌≡◌, IfOk, IfErr};
 ghost use Rattle.dimacs.specs.text.Pieces.{HasRead};
-ghost use Rattle.dimacs.specs.text.Reading.{GivesFormula, parse};
-ghost use Rattle.commands.specs.inner.Feeding.{Extends};
+ghost use Rattle.dimacs.specs.text.Parser.{GivesFormula, parse};
+ghost use Rattle.commands.specs.inner.Feed.{Extends};
 ghost use Rattle.commands.specs.Known.{Of};
 ghost use Rattle.commands.specs.Refusals.{IsRefusedAs};
 
-use crate::feeding::{Feeds, feed_all};
-use crate::pieces::Pieces;
+use crate::feed_loop::{Feeds, feed_all};
+use crate::piece_reader::Pieces;
 use dimacs::{DimacsFault, Formula, FormulaReader};
 use reports::Refusal;
 use std::alloc::Global;
 use std::io::Read;
 
-/// The refusal of a growth.
+/// Answers the refusal for an allocation that failed: out of memory.
 pub(crate) fn out_of_memory<E: Drop>(_error: E) -> Refusal
     ensures { result ≡ Refusal.NoMemory }
 {
@@ -22,7 +22,7 @@ pub(crate) fn out_of_memory<E: Drop>(_error: E) -> Refusal
 }
 
 impl Feeds for FormulaReader {
-    ghost use Rattle.commands.specs.inner.Feeding.{extends_nothing, extends_more};
+    ghost use Rattle.commands.specs.inner.Feed.{extends_nothing, extends_more};
 
     ghost took = { Extends (λ bytes r. HasRead r bytes) };
 
@@ -40,7 +40,8 @@ impl Feeds for FormulaReader {
     }
 }
 
-/// The formula of a source, or the first fault of its text. It is read while the source is, so that its text takes no memory.
+/// Reads the formula of a source, or the first fault of its text, which is the inner error. The text is parsed piece by piece and takes no
+/// memory. The outer error is a read that fails, or want of memory.
 pub fn read_formula<S: Read + Drop>(
     alloc: Global,
     pieces: &mut Pieces<S>,
@@ -53,15 +54,15 @@ pub fn read_formula<S: Read + Drop>(
     Ok(reader.finish())
 }
 
-/// Bytes as they come.
+/// The bytes of a source that were read so far.
 #[derive(Drop)]
 struct Bytes {
     items: Vec<u8>,
 }
 
 impl Feeds for Bytes {
-    ghost use Rattle.commands.specs.inner.Feeding.{grows_nothing, grows_more};
-    ghost use Rattle.commands.specs.inner.Feeding.{Grows};
+    ghost use Rattle.commands.specs.inner.Feed.{grows_nothing, grows_more};
+    ghost use Rattle.commands.specs.inner.Feed.{Grows};
 
     ghost took = { λ old new more. Grows old.items.items new.items.items more };
 
@@ -78,7 +79,8 @@ impl Feeds for Bytes {
     }
 }
 
-/// All bytes of a source. Room for `len` of them is taken at once: a vector that grows is copied.
+/// Reads all bytes of a source. Room for `len` of them is taken at once, since a vector that grows is copied. It errs if a read fails or
+/// memory runs out.
 pub fn read_bytes<S: Read + Drop>(
     alloc: Global,
     pieces: &mut Pieces<S>,

@@ -1,38 +1,42 @@
-//! `join`: the files of any machines are read, and become one proof, which is written meanwhile.
+//! `join`: reads the files of any machines, and joins them to one proof, which is written meanwhile.
 
 ghost use Rattle.std.specs.Prelude.{◌≡◌, ◌≢◌, ◌⊎◌, ◌++◌, ℕ, List, [], map, Option, IfOk, IfErr, IsOk, OnErr, OnOk};
-ghost use Rattle.commands.specs.Beginning.{OfQuietTree};
+ghost use Rattle.commands.specs.FormulaTree.{OfQuietTree};
 ghost use Rattle.commands.specs.Names.{AreTaken, Gone, OfNames, none_gone};
-ghost use Rattle.commands.specs.Joining.{IsApart, IsStored, Joins, Misses, OneStops, Refutes, Stops, Takes};
+ghost use Rattle.commands.specs.Join.{IsApart, IsStored, Joins, Misses, OneStops, Refutes, Stops, Takes};
 ghost use Rattle.commands.specs.Known.{Of};
 ghost use Rattle.commands.specs.Refusals.{IsRefusedAs, IsUnlifted, IsUnread, IsWanting};
 ghost use Rattle.commands.specs.declared.drafts.Target.{Target};
-ghost use Rattle.commands.specs.declared.joining.JoinOptions.{JoinOptions};
-ghost use Rattle.commands.specs.inner.Joining.{Goes, HasPart, IsAt, IsSettled};
+ghost use Rattle.commands.specs.declared.join_run.JoinOptions.{JoinOptions};
+ghost use Rattle.commands.specs.inner.Join.{Goes, HasPart, IsAt, IsSettled};
 ghost use Rattle.dimacs.specs.logic.Cnf.{Cnf};
-ghost use Rattle.either_form.specs.Joining.{Holds};
+ghost use Rattle.text_or_binary.specs.FormJoin.{HasReadFormFiles};
 ghost use Rattle.icnf.specs.Leaves.{Cube};
 
-use crate::beginning::{Begun, begin_files, hushed};
 use crate::drafts::{Drafts, Way};
+use crate::file_names::{Through, go_through};
 use crate::formula::out_of_memory;
-use crate::joining::{JoinOptions, Joined, Run, Sheet, stopped, write};
-use crate::names::{Through, go_through};
-use crate::parts::{Part, keep, part_of, remove};
-use either_form::FormJoin;
+use crate::formula_tree::{Begun, begin_files, hushed};
+use crate::join_run::{JoinOptions, Joined, Run, Sheet, stopped, write};
+use crate::part_file::{Part, keep, part_of, remove};
 use leaves::Split;
 use reports::{Refusal, Report};
 use std::alloc::Global;
+use text_or_binary::FormJoin;
 
-/// The files of a join that are read beside those of the names, and where its proof goes.
+/// The files of `join` besides those that are joined: the two inputs, and, in the options, the file of the proof.
 #[derive(Clone, Copy)]
 pub struct JoinFiles<'a> {
+    /// The path of the formula.
     pub input: &'a str,
+    /// The path of the tree of its cubes.
     pub cubes: &'a str,
+    /// The file of the proof, and what is printed.
     pub options: JoinOptions<'a>,
 }
 
-/// Ends a join of which all names were gone through.
+/// Ends a join after its last file, and appends the last bytes of the proof to its file. Reports that the formula is unsatisfiable, or
+/// which leaves are open.
 fn finish<D: Drafts>(run: &mut Run<'_, D>) -> Result<Report, Refusal>
     ensures ends { (F : Cnf) (cubes : List Cube) (s : Gone) → IsAt D.made F cubes s [] s.count run.old.joined.join run.old.joined.part run.old.sheet
         → IfOk result (λ r. Refutes (λ proof. HasPart D.made run.old.sheet.options.proof proof run.new.joined.part) F cubes s r ⊎ Misses (Unit {0}) F cubes s r) }
@@ -45,7 +49,7 @@ fn finish<D: Drafts>(run: &mut Run<'_, D>) -> Result<Report, Refusal>
     Ok(report)
 }
 
-/// The report of a run that was stopped, or has gone through all names.
+/// Answers the report of a join: `found`, if a file is an answer that satisfies the formula, else that of the end of the join.
 fn reported<D: Drafts>(run: &mut Run<'_, D>, found: Option<Report>) -> Result<Report, Refusal>
     ensures joins { (disk : D) (options : JoinOptions) (F : Cnf) (cubes : List Cube) (names : List (List ℕ))
         → Goes (λ t. IsAt D.made F cubes t [] t.count run.old.joined.join run.old.joined.part run.old.sheet)
@@ -60,13 +64,14 @@ fn reported<D: Drafts>(run: &mut Run<'_, D>, found: Option<Report>) -> Result<Re
     }
 }
 
-/// What came of a join. It cannot be let go, as the part.
+/// The report of a join, and the file in the making of its proof, which has no `Drop`.
 struct Outcome<E> {
+    /// `None` if no proof is written.
     part: Option<Part<E>>,
     found: Result<Report, Refusal>,
 }
 
-/// What a run comes to that ends so.
+/// Answers this report of a join with the file in the making of its proof.
 fn outcome_of<D: Drafts>(run: Run<'_, D>, found: Result<Report, Refusal>) -> Outcome<D::Draft>
     ensures part { result.part ≡ run.entry.joined.part }
     ensures found { result.found ≡ found }
@@ -80,7 +85,7 @@ fn outcome_of<D: Drafts>(run: Run<'_, D>, found: Result<Report, Refusal>) -> Out
     Outcome { part, found }
 }
 
-/// What came of the names of a run.
+/// Ends a join after the last of its names: answers its report, and the file in the making of its proof.
 fn concluded<D: Drafts>(through: Through<'_, D>) -> Outcome<D::Draft>
     ensures joins { (disk : D) (options : JoinOptions) (F : Cnf) (cubes : List Cube) (known : List ℕ → Option (List ℕ)) (names : List (List ℕ))
         → IfOk through.entry.found (λ found. OfNames known names (λ all. Goes (λ t. IsAt D.made F cubes t [] t.count through.entry.run.joined.join through.entry.run.joined.part through.entry.run.sheet)
@@ -100,7 +105,8 @@ fn concluded<D: Drafts>(through: Through<'_, D>) -> Outcome<D::Draft>
     }
 }
 
-/// Joins the files of these names.
+/// Joins the files of these names, or of those that standard input lists if `-` is the only one, and appends the proof to `part`. Answers
+/// the report and the file in the making.
 fn join_names<D: Drafts>(
     disk: &D,
     join: FormJoin,
@@ -108,7 +114,7 @@ fn join_names<D: Drafts>(
     options: JoinOptions<'_>,
     names: &[&str],
 ) -> Outcome<D::Draft>
-    ensures joins { (F : Cnf) (cubes : List Cube) → Holds F cubes [] [] [] join → HasPart D.made options.entry.proof [] part
+    ensures joins { (F : Cnf) (cubes : List Cube) → HasReadFormFiles F cubes [] [] [] join → HasPart D.made options.entry.proof [] part
         → IfOk result.found (λ r. OfNames (D.holds disk.now) (map (λ n. n.now) names.now) (λ all. Joins (Takes D.holds D.apart disk.now options.entry F cubes) (Stops D.holds D.apart disk.now options.entry F cubes) (λ proof. HasPart D.made options.entry.proof proof result.part) (Unit {0}) F cubes all r)) }
     ensures refused { IfErr result.found (IsUnread Refusal.Proof Refusal.Writing) }
 {
@@ -124,7 +130,7 @@ fn join_names<D: Drafts>(
     concluded(go_through(run, names))
 }
 
-/// Keeps the part, if there is one.
+/// Keeps the file of the proof, if one is written. It errs if the file cannot be put at its path.
 fn keep_some<D: Drafts>(disk: &mut D, part: Option<Part<D::Draft>>) -> Result<(), Refusal>
     ensures kept { OnOk result ((target : Option Target) (proof : List ℕ) → HasPart D.made target proof part → IsStored D.kept disk.old disk.new target proof) }
     ensures left { OnErr result (disk.new ≡ disk.old) }
@@ -142,7 +148,7 @@ fn keep_some<D: Drafts>(disk: &mut D, part: Option<Part<D::Draft>>) -> Result<()
     }
 }
 
-/// The part is gone, if there is one.
+/// Removes the file of the proof, if one is written.
 fn remove_some<D: Drafts>(disk: &D, part: Option<Part<D::Draft>>) {
     match part {
         Some(part) => remove(disk, part),
@@ -150,7 +156,7 @@ fn remove_some<D: Drafts>(disk: &D, part: Option<Part<D::Draft>>) {
     }
 }
 
-/// Lets the part take its place if the report has a proof; else it is gone.
+/// Keeps the file of the proof if the status of the report is 20, and else removes it. Answers the report.
 fn settle<D: Drafts>(disk: &mut D, outcome: Outcome<D::Draft>) -> Result<Report, Refusal>
     ensures settled { IfOk result (IsSettled D.made D.kept disk.old disk.new outcome.part outcome.found) }
     ensures left { OnErr result (disk.new ≡ disk.old) }
@@ -173,7 +179,8 @@ fn settle<D: Drafts>(disk: &mut D, outcome: Outcome<D::Draft>) -> Result<Report,
     }
 }
 
-/// Begins the proof, which is none of the files that are read, if it is to be written.
+/// Creates the file of the proof; `None` if none is asked for. It errs if its path leads to one of the two inputs, or if it cannot be
+/// created beside that path.
 fn begin_proof<D: Drafts>(
     disk: &D,
     files: &JoinFiles<'_>,
@@ -194,15 +201,16 @@ fn begin_proof<D: Drafts>(
     }
 }
 
-/// No file was joined.
+/// A join over a formula and the tree of its cubes that has read no file. It errs if memory runs out.
 fn begin_join(alloc: Global, split: Split) -> Result<FormJoin, Refusal>
-    ensures holds { IfOk result (Holds split.formula split.tree [] [] []) }
+    ensures holds { IfOk result (HasReadFormFiles split.formula split.tree [] [] []) }
     ensures refused { IfErr result IsWanting }
 {
     FormJoin::of(alloc, split).map_err(out_of_memory)
 }
 
-/// Joins the files of these names over a formula and the tree of its cubes.
+/// Joins the files of these names over a formula and the tree of its cubes, and keeps the proof if they close all leaves. Answers the
+/// report.
 fn gather<D: Drafts>(
     disk: &mut D,
     files: &JoinFiles<'_>,
@@ -222,8 +230,8 @@ fn gather<D: Drafts>(
     settle(disk, outcome)
 }
 
-/// Joins the files of these names, or of those that standard input lists, where `-` is the only one, into a proof of the formula of an input.
-/// The proof is written whole or not at all, and to none of the files that are read.
+/// Joins the files of these names, or of those that standard input lists if `-` is the only one, to a proof of the formula in
+/// `files.input`, and answers the report. The proof is written whole or not at all, and never over a file that is read.
 pub fn join_files<D: Drafts>(
     disk: &mut D,
     files: &JoinFiles<'_>,

@@ -1,20 +1,21 @@
-//! `leaf` and `cubes --split`: a formula and the tree of its cubes are read, and a leaf is worked on.
+//! `leaf` and `cubes --split`: the formula of a leaf, and the tree with a leaf cut in two.
 
 ghost use Rattle.std.specs.Prelude.{◌≡◌, ℕ, List, IfOk, IfErr};
 ghost use Rattle.commands.specs.Known.{Of};
 ghost use Rattle.commands.specs.Refusals.{IsUnread};
 ghost use Rattle.commands.specs.Trees.{OfTree};
 ghost use Rattle.leaves.specs.Leaf.{PrintsLeaf};
-ghost use Rattle.leaves.specs.Looking.{PrintsCut};
-ghost use Rattle.leaves.specs.Splitting.{PrintsSplit};
+ghost use Rattle.leaves.specs.LookaheadSplit.{PrintsCut};
+ghost use Rattle.leaves.specs.LeafSplit.{PrintsSplit};
 
-use crate::beginning::{Begun, begin_files};
 use crate::disk::Disk;
 use crate::formula::out_of_memory;
+use crate::formula_tree::{Begun, begin_files};
 use leaves::{run_leaf, run_split, run_split_by_look};
 use reports::{Refusal, Report};
 
-/// The leaf of a number as a formula of its own.
+/// Reports the formula of the leaf of this number, from 1: that in the file `input` under the leaf's cube in the file `cubes`. A fault of a
+/// file, or a number that no leaf has, is reported instead.
 pub fn leaf_files<D: Disk>(disk: &D, input: &str, cubes: &str, leaf: u64) -> Result<Report, Refusal>
     ensures report { IfOk result (λ r. Of (D.holds disk.now input.now) (λ text. Of (D.holds disk.now cubes.now) (λ lines. OfTree text lines (λ F tree. PrintsLeaf F tree leaf r) r))) }
     ensures refused { IfErr result (IsUnread Refusal.Input Refusal.Cubes) }
@@ -26,7 +27,8 @@ pub fn leaf_files<D: Disk>(disk: &D, input: &str, cubes: &str, leaf: u64) -> Res
     }
 }
 
-/// The tree with the leaf of a number cut in two, on a variable that is named or chosen.
+/// Reports the tree in the file `cubes` with the leaf of this number, from 1, cut in two on the variable `on`, or on one that is chosen if
+/// `on` is `None`.
 pub fn split_files<D: Disk>(
     disk: &D,
     input: &str,
@@ -44,7 +46,7 @@ pub fn split_files<D: Disk>(
     }
 }
 
-/// The tree with the leaf of a number cut in two by a look ahead.
+/// Reports the tree in the file `cubes` with the leaf of this number, from 1, cut in two on a variable that a look ahead chooses.
 pub fn split_by_look_files<D: Disk>(
     disk: &D,
     input: &str,

@@ -1,57 +1,57 @@
-//! Commands over the files that they read, and what is printed at the end.
+//! Commands over the files that they read and write. Each answers a report: what is printed at its end, and the exit status.
 //!
-//! The files are a type parameter, so a contract can name their bytes. What a layer above may rest on: what is told of a file is told of all
-//! its bytes, and what is printed, and the status, are those of the report.
+//! The files are a type parameter (`Disk`, `Drafts`), so a contract can name their bytes. A layer above may rest on this: what is promised
+//! of a file is promised of all its bytes, and what is printed, and the status, are those of the report.
 #![tactic(auto)]
 
-mod answering;
-mod beginning;
+mod atomic_write;
 mod check;
-mod closed;
+mod check_session;
+mod closed_leaves;
 mod cover;
-mod covering;
+mod cover_receipts;
 mod disk;
 mod drafts;
 mod event_source;
-mod feeding;
+mod feed_loop;
+mod file_names;
+mod filter;
 mod formula;
+mod formula_tree;
 mod join;
-mod joining;
+mod join_run;
 mod leaf;
 mod lift;
-mod listing;
 mod model;
-mod names;
+mod outcome;
 mod outputs;
-mod parts;
-mod pieces;
-mod pouring;
-mod printing;
+mod part_file;
+mod pending_text;
+mod piece_reader;
 mod receipt;
-mod session;
+mod receipt_names;
 mod session_lines;
-mod small;
-mod text;
+mod session_loop;
+mod small_file;
 mod trim;
-mod writing;
 
-pub use answering::{Asking, answer_session};
-pub use beginning::{Begun, begin_files, hushed, refused_input};
+pub use atomic_write::write_text;
 pub use check::check_files;
+pub use check_session::check_session_files;
 pub use cover::{CoverFiles, cover_files};
 pub use disk::Disk;
 pub use drafts::{Drafts, Target, Way};
-pub use feeding::{Fed, Feeds, feed_all, feed_on};
+pub use feed_loop::{Fed, Feeds, feed_all, feed_on};
 pub use formula::{read_bytes, read_formula};
+pub use formula_tree::{Begun, begin_files, hushed, refused_input};
 pub use join::{JoinFiles, join_files};
-pub use joining::{JoinOptions, stopped};
+pub use join_run::{JoinOptions, stopped};
 pub use leaf::{leaf_files, split_by_look_files, split_files};
 pub use lift::{LiftFiles, Lifted, lift_files};
 pub use model::test_files;
+pub use outcome::{deliver, print};
 pub use outputs::Outputs;
-pub use pieces::{Pieces, refused};
-pub use printing::{deliver, print};
+pub use piece_reader::{Pieces, refused};
 pub use receipt::{ReceiptFiles, receipt_files};
-pub use session::check_session_files;
+pub use session_loop::{Asking, answer_session};
 pub use trim::{TrimFiles, trim_files};
-pub use writing::write_text;

@@ -1,65 +1,70 @@
-//! `lift`: a foreign proof of the formula of a leaf, or what a solver wrote for a block of leaves, is read, and the log that it comes to is
-//! written meanwhile.
+//! `lift`: reads another solver's proof of the formula of a leaf, or its LIDRUP text for several leaves, and writes meanwhile the log over
+//! the whole formula to which it is lifted.
 
 ghost use Rattle.std.specs.Prelude.{◌≡◌, ◌≢◌, ◌++◌, ◌-◌, ℕ, List, [], IfOk, IfErr, OnErr, OnOk};
 ghost use Rattle.commands.specs.Known.{Of};
-ghost use Rattle.commands.specs.Lifting.{IsApart, LiftsAt, LiftsBlock, LiftsEach, LiftsTree, fault_lines};
+ghost use Rattle.commands.specs.Lift.{IsApart, LiftsAt, LiftsBlock, LiftsEach, LiftsTree, fault_lines};
 ghost use Rattle.commands.specs.Refusals.{IsRefusedAs, IsUnlifted, IsUnread, IsWanting};
 ghost use Rattle.commands.specs.Trees.{OfTree};
 ghost use Rattle.commands.specs.Written.{Keeps};
 ghost use Rattle.commands.specs.inner.Parts.{Begins};
-ghost use Rattle.commands.specs.inner.Pouring.{IsPoured};
+ghost use Rattle.commands.specs.inner.Filter.{IsFiltered};
 ghost use Rattle.dimacs.specs.logic.Cnf.{Cnf};
-ghost use Rattle.either_form.specs.Lifting.{BeginsAt};
+ghost use Rattle.text_or_binary.specs.FormLift.{BeginsFormLeaf};
 ghost use Rattle.icnf.specs.Leaves.{Cube};
-ghost use Rattle.leaves.specs.Closing.{BeginsBlock, LiftsAll, PrintsAll, block_of};
+ghost use Rattle.leaves.specs.BlockLift.{BeginsBlock, HasTakenBlock, PrintsBlock, block_of};
 ghost use Rattle.leaves.specs.Leaf.{Prints, leaf_at, no_leaf_text};
 ghost use Rattle.lidrup.specs.CubeLog.{IsEnded};
-ghost use Rattle.lrat_check.specs.Checking.{no_memory};
+ghost use Rattle.lrat_check.specs.ProofFaults.{no_memory};
 
-use crate::beginning::{Begun, begin_files};
 use crate::drafts::{Drafts, Target, Way};
+use crate::filter::{Ending, Filter, run_filter};
 use crate::formula::out_of_memory;
-use crate::parts::{Part, part_of};
-use crate::pouring::{Ending, Pours, pour};
-use either_form::FormLift;
-use leaves::{LiftAll, LiftEnd, Split, lift_report};
+use crate::formula_tree::{Begun, begin_files};
+use crate::part_file::{Part, part_of};
+use leaves::{BlockLift, LiftOutcome, Split, lift_report};
 use lrat_check::CheckFault;
 use reports::{Refusal, Report};
 use std::alloc::Global;
+use text_or_binary::FormLift;
 
-/// The files of a lift: three that are read, and the one that is written.
+/// The files of a lift: three that are read, and one that is written.
 #[derive(Clone, Copy)]
 pub struct LiftFiles<'a> {
+    /// The path of the formula.
     pub input: &'a str,
+    /// The path of the tree of its cubes.
     pub cubes: &'a str,
+    /// The path of the other solver's proof, or of its LIDRUP text.
     pub proof: &'a str,
+    /// The file of the log.
     pub log: Target<'a>,
 }
 
-/// What is lifted: the proof of the formula of a leaf, by its number, from 1; or a LIDRUP text for all leaves, or for those from one number
-/// to another.
+/// What is lifted, and for which leaves, which are numbered from 1.
 #[derive(Clone, Copy)]
 pub enum Lifted {
+    /// A proof of the formula of the leaf of this number.
     Leaf(u64),
+    /// A LIDRUP text for all leaves.
     All,
+    /// A LIDRUP text for the leaves from the number `first` to the number `last`.
     Block { first: u64, last: u64 },
 }
 
-/// The lift of the proof of a leaf.
+/// The lift of a proof of the formula of a leaf, and the leaf's number, from 1.
 struct LeafLift {
     lift: FormLift,
     leaf: u64,
 }
 
-// By hand, so that whoever owns one drops it by one call, and no proof there goes through its parts.
 impl Drop for LeafLift {
     fn drop(self) {
         let LeafLift { lift: _, leaf: _ } = self;
     }
 }
 
-/// The report of the first fault of a proof, by line or, in binary form, by step.
+/// Reports, with status 1, the first fault of a proof, by its line, or in binary form by its step. Out of memory is an error instead.
 fn faulty(alloc: Global, fault: CheckFault, is_binary: bool) -> Result<Report, Refusal>
     ensures text { IfOk result (Prints 1 (fault_lines is_binary fault)) }
     ensures memory { OnOk result (fault ≢ no_memory) }
@@ -69,12 +74,12 @@ fn faulty(alloc: Global, fault: CheckFault, is_binary: bool) -> Result<Report, R
         return Err(Refusal::NoMemory);
     }
     let end = if is_binary {
-        LiftEnd::RefusedStep {
+        LiftOutcome::RefusedStep {
             step: fault.line,
             number: fault.number,
         }
     } else {
-        LiftEnd::Refused {
+        LiftOutcome::Refused {
             line: fault.line,
             number: fault.number,
         }
@@ -82,16 +87,16 @@ fn faulty(alloc: Global, fault: CheckFault, is_binary: bool) -> Result<Report, R
     lift_report(alloc, 0, end).map_err(out_of_memory)
 }
 
-/// The report where there is no such leaf.
+/// Reports, with status 1, that no leaf has the number.
 fn no_leaf(alloc: Global) -> Result<Report, Refusal>
     ensures text { IfOk result (Prints 1 no_leaf_text) }
     ensures refused { IfErr result IsWanting }
 {
-    lift_report(alloc, 0, LiftEnd::NoLeaf).map_err(out_of_memory)
+    lift_report(alloc, 0, LiftOutcome::NoLeaf).map_err(out_of_memory)
 }
 
-impl Pours for LeafLift {
-    ghost use Rattle.commands.specs.inner.Lifting.{EndsLeaf, leaf_moves, leaf_more, leaf_nothing};
+impl Filter for LeafLift {
+    ghost use Rattle.commands.specs.inner.Lift.{EndsLeaf, leaf_moves, leaf_more, leaf_nothing};
 
     ghost moved = { leaf_moves };
 
@@ -121,7 +126,7 @@ impl Pours for LeafLift {
         let is_binary = lift.is_binary();
         match lift.finish() {
             Ok(rest) => {
-                let report = lift_report(alloc, leaf, LiftEnd::Lifted).map_err(out_of_memory)?;
+                let report = lift_report(alloc, leaf, LiftOutcome::Lifted).map_err(out_of_memory)?;
                 Ok(Ending::Kept { rest, report })
             }
             Err(fault) => {
@@ -132,25 +137,25 @@ impl Pours for LeafLift {
     }
 }
 
-/// The bytes of a log for several leaves that are not handed out yet.
-fn rest_of(alloc: Global, lift: &LiftAll) -> Result<Vec<u8>, Refusal>
+/// Copies the bytes of the log of several leaves that are not yet handed out.
+fn rest_of(alloc: Global, lift: &BlockLift) -> Result<Vec<u8>, Refusal>
     ensures rest { IfOk result (λ rest. rest.items ≡ lift.now.log.lines.out.items) }
     ensures refused { IfErr result IsWanting }
 {
     Vec::from_slice(alloc, lift.written()).map_err(out_of_memory)
 }
 
-/// Which leaves such a log closes, where its text has ended.
-fn told_all(alloc: Global, lift: &LiftAll) -> Result<Report, Refusal>
+/// Reports which of the leaves the log closes.
+fn told_all(alloc: Global, lift: &BlockLift) -> Result<Report, Refusal>
     requires { IsEnded lift.now.log }
-    ensures prints { IfOk result (λ r. (F : Cnf) (place : ℕ) (cubes : List Cube) (bytes written : List ℕ) → LiftsAll F place cubes bytes written lift.now → PrintsAll F place cubes bytes (written ++ lift.now.log.lines.out.items) r) }
+    ensures prints { IfOk result (λ r. (F : Cnf) (place : ℕ) (cubes : List Cube) (bytes written : List ℕ) → HasTakenBlock F place cubes bytes written lift.now → PrintsBlock F place cubes bytes (written ++ lift.now.log.lines.out.items) r) }
     ensures refused { IfErr result IsWanting }
 {
     lift.report(alloc).map_err(out_of_memory)
 }
 
-impl Pours for LiftAll {
-    ghost use Rattle.commands.specs.inner.Lifting.{EndsEach, each_moves, each_more, each_nothing};
+impl Filter for BlockLift {
+    ghost use Rattle.commands.specs.inner.Lift.{EndsEach, each_moves, each_more, each_nothing};
 
     ghost moved = { each_moves };
 
@@ -190,7 +195,8 @@ impl Pours for LiftAll {
     }
 }
 
-/// Begins the log, which is none of the files that are read.
+/// Creates the file of the log. It errs if its path leads to one of the three files that are read, or if it cannot be created beside that
+/// path.
 fn begin_log<D: Drafts>(disk: &D, files: &LiftFiles<'_>) -> Result<Part<D::Draft>, Refusal>
     ensures begins { IfOk result (Begins D.made files.now.log.binary files.now.log.path.now) }
     ensures apart { OnOk result (IsApart D.apart disk.now files.now) }
@@ -209,53 +215,56 @@ fn begin_log<D: Drafts>(disk: &D, files: &LiftFiles<'_>) -> Result<Part<D::Draft
     }
 }
 
-/// Reads the proof, which is opened before the log is begun.
-fn pour_proof<D: Drafts, P: Pours + Drop>(
+/// Runs the filter `taker` over the file of the proof, writes the log, and answers the filter's report. The proof is opened before the log
+/// is created.
+fn lift_proof<D: Drafts, P: Filter + Drop>(
     disk: &mut D,
     files: &LiftFiles<'_>,
     taker: P,
 ) -> Result<Report, Refusal>
     ensures poured { IfOk result (λ r. Of (D.holds disk.old files.now.proof.now)
-        (λ bytes. IsPoured P.moved P.ended D.kept disk.old disk.new files.now.log.binary files.now.log.path.now taker bytes r)) }
+        (λ bytes. IsFiltered P.moved P.ended D.kept disk.old disk.new files.now.log.binary files.now.log.path.now taker bytes r)) }
     ensures apart { OnOk result (IsApart D.apart disk.old files.now) }
     ensures left { OnErr result (disk.new ≡ disk.old) }
     ensures refused { IfErr result (IsUnread Refusal.Proof Refusal.Writing) }
 {
     let pieces = disk.open(files.proof, Refusal::Proof)?;
     let part = begin_log(disk, files)?;
-    pour(disk, pieces, part, taker)
+    run_filter(disk, pieces, part, taker)
 }
 
-/// No byte was taken of a proof of the formula of the leaf of this number; none where there is no such leaf.
+/// A lift of a proof of the leaf of this number, from 1, that has taken no byte; `None` if there is no such leaf.
 fn begin_leaf(alloc: Global, split: Split, leaf: u64) -> Result<Option<FormLift>, Refusal>
-    ensures begins { IfOk result (BeginsAt split.formula split.tree leaf) }
+    ensures begins { IfOk result (BeginsFormLeaf split.formula split.tree leaf) }
     ensures refused { IfErr result IsWanting }
 {
     FormLift::of(alloc, split, leaf).map_err(out_of_memory)
 }
 
-/// No byte was taken of a text for the leaves of a tree.
-fn begin_all(alloc: Global, split: Split) -> Result<LiftAll, Refusal>
-    ensures begins { IfOk result (LiftsAll split.formula 0 split.tree [] []) }
+/// A lift of a LIDRUP text for all leaves of a tree that has taken no byte.
+fn begin_all(alloc: Global, split: Split) -> Result<BlockLift, Refusal>
+    ensures begins { IfOk result (HasTakenBlock split.formula 0 split.tree [] []) }
     ensures refused { IfErr result IsWanting }
 {
-    LiftAll::of(alloc, split).map_err(out_of_memory)
+    BlockLift::of(alloc, split).map_err(out_of_memory)
 }
 
-/// No byte was taken of a text for the leaves from one number to another; none where there are no such leaves.
+/// A lift of a LIDRUP text for the leaves from number `first` to number `last`, from 1, that has taken no byte; `None` if there are no such
+/// leaves.
 fn begin_block(
     alloc: Global,
     split: Split,
     first: u64,
     last: u64,
-) -> Result<Option<LiftAll>, Refusal>
+) -> Result<Option<BlockLift>, Refusal>
     ensures begins { IfOk result (BeginsBlock split.formula split.tree first last) }
     ensures refused { IfErr result IsWanting }
 {
-    LiftAll::block(alloc, split, first, last).map_err(out_of_memory)
+    BlockLift::block(alloc, split, first, last).map_err(out_of_memory)
 }
 
-/// Lifts the proof of the leaf of this number.
+/// Lifts a proof of the formula of the leaf of this number, from 1, and writes its log. Answers the report, also that there is no such
+/// leaf.
 fn lift_leaf<D: Drafts>(
     disk: &mut D,
     files: &LiftFiles<'_>,
@@ -270,27 +279,27 @@ fn lift_leaf<D: Drafts>(
 {
     let begun = begin_leaf(disk.alloc(), split, leaf)?;
     match begun {
-        Some(lift) => pour_proof(disk, files, LeafLift { lift, leaf }),
+        Some(lift) => lift_proof(disk, files, LeafLift { lift, leaf }),
         None => no_leaf(disk.alloc()),
     }
 }
 
-/// Lifts a text for several leaves, of which no byte was taken.
+/// Lifts a LIDRUP text for the leaves of `lift`, and writes its log. Answers the report.
 fn lift_text<D: Drafts>(
     disk: &mut D,
     files: &LiftFiles<'_>,
-    lift: LiftAll,
+    lift: BlockLift,
 ) -> Result<Report, Refusal>
-    ensures lifts { (F : Cnf) (place : ℕ) (cubes : List Cube) → LiftsAll F place cubes [] [] lift → IfOk result (λ r. Of (D.holds disk.old files.now.proof.now)
+    ensures lifts { (F : Cnf) (place : ℕ) (cubes : List Cube) → HasTakenBlock F place cubes [] [] lift → IfOk result (λ r. Of (D.holds disk.old files.now.proof.now)
         (λ text. LiftsEach (Keeps D.kept disk.old disk.new files.now.log.binary files.now.log.path.now) (disk.new ≡ disk.old) F place cubes text r)) }
     ensures apart { OnOk result (IsApart D.apart disk.old files.now) }
     ensures left { OnErr result (disk.new ≡ disk.old) }
     ensures refused { IfErr result (IsUnread Refusal.Proof Refusal.Writing) }
 {
-    pour_proof(disk, files, lift)
+    lift_proof(disk, files, lift)
 }
 
-/// Lifts a text for all leaves.
+/// Lifts a LIDRUP text for all leaves of a tree, and writes its log. Answers the report.
 fn lift_all<D: Drafts>(disk: &mut D, files: &LiftFiles<'_>, split: Split) -> Result<Report, Refusal>
     ensures lifts { IfOk result (λ r. Of (D.holds disk.old files.now.proof.now)
         (λ text. LiftsEach (Keeps D.kept disk.old disk.new files.now.log.binary files.now.log.path.now) (disk.new ≡ disk.old) split.formula 0 split.tree text r)) }
@@ -302,7 +311,8 @@ fn lift_all<D: Drafts>(disk: &mut D, files: &LiftFiles<'_>, split: Split) -> Res
     lift_text(disk, files, lift)
 }
 
-/// Lifts a text for the leaves from one number to another.
+/// Lifts a LIDRUP text for the leaves from number `first` to number `last`, from 1, and writes its log. Answers the report, also that there
+/// are no such leaves.
 fn lift_block<D: Drafts>(
     disk: &mut D,
     files: &LiftFiles<'_>,
@@ -323,7 +333,7 @@ fn lift_block<D: Drafts>(
     }
 }
 
-/// Lifts the proof of a leaf, or a text for several.
+/// Lifts a proof for the leaves that `lifted` names, and writes its log. Answers the report.
 fn lift_tree<D: Drafts>(
     disk: &mut D,
     files: &LiftFiles<'_>,
@@ -344,8 +354,8 @@ fn lift_tree<D: Drafts>(
     }
 }
 
-/// The proof in a file, of the formula of a leaf, or what was written for a block of leaves or for all, becomes a log over the formula,
-/// which is written to another file: whole or not at all, and to none of the files that are read.
+/// Lifts the proof in `files.proof`, for the leaves that `lifted` names of the tree in `files.cubes`, to a log over the formula in
+/// `files.input`. Answers the report. The log is written to `files.log`, whole or not at all, and never over a file that is read.
 pub fn lift_files<D: Drafts>(
     disk: &mut D,
     files: &LiftFiles<'_>,

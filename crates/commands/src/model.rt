@@ -1,24 +1,24 @@
-//! `model`: a formula is read, and a solver's answer tested against it, while their files are read.
+//! `model`: reads a formula, and tests a solver's answer against it while the answer is read.
 
 ghost use Rattle.std.specs.Prelude.{◌≡◌, ◌++◌, ℕ, List, [], IfOk, IfErr};
-ghost use Rattle.commands.specs.inner.Feeding.{Extends};
-ghost use Rattle.commands.specs.inner.Testing.{IsTesting};
+ghost use Rattle.commands.specs.inner.Feed.{Extends};
+ghost use Rattle.commands.specs.inner.Model.{IsTesting};
 ghost use Rattle.commands.specs.Known.{Of};
 ghost use Rattle.commands.specs.Refusals.{IsRefusedAs, IsWanting};
-ghost use Rattle.commands.specs.Testing.{TellsAnswer, Tests, TestsAnswer, cannot_read_answer_text};
+ghost use Rattle.commands.specs.Model.{TellsAnswer, Tests, TestsAnswer, cannot_read_answer_text};
 ghost use Rattle.dimacs.specs.logic.Cnf.{Cnf};
 ghost use Rattle.leaves.specs.Leaf.{Prints};
 
-use crate::beginning::refused_input;
 use crate::disk::Disk;
-use crate::feeding::{Feeds, feed_all};
+use crate::feed_loop::{Feeds, feed_all};
 use crate::formula::{out_of_memory, read_formula};
+use crate::formula_tree::refused_input;
 use answers::ModelCheck;
 use reports::{Refusal, Report};
 use std::alloc::Global;
 
 impl Feeds for ModelCheck {
-    ghost use Rattle.commands.specs.inner.Feeding.{extends_nothing, extends_more};
+    ghost use Rattle.commands.specs.inner.Feed.{extends_nothing, extends_more};
 
     ghost took = { λ old new more. (F : Cnf) → Extends (IsTesting F) old new more };
 
@@ -36,7 +36,7 @@ impl Feeds for ModelCheck {
     }
 }
 
-/// The report of an answer that cannot be read; want of memory stays.
+/// Reports, with status 1, that an answer cannot be read; out of memory stays an error.
 fn unread(alloc: Global, refusal: Refusal) -> Result<Report, Refusal>
     ensures text { IfOk result (Prints 1 cannot_read_answer_text) }
     ensures refused { IsRefusedAs Refusal.Proof refusal → IfErr result IsWanting }
@@ -47,7 +47,7 @@ fn unread(alloc: Global, refusal: Refusal) -> Result<Report, Refusal>
     }
 }
 
-/// The report of an answer that was read to its end.
+/// Ends the test of an answer that was read to its end, and reports its result.
 fn finished(check: ModelCheck) -> Result<Report, Refusal>
     ensures tests { (F : Cnf) (bytes : List ℕ) → IsTesting F bytes check → IfOk result (Tests F bytes) }
     ensures refused { IfErr result IsWanting }
@@ -62,7 +62,8 @@ fn finished(check: ModelCheck) -> Result<Report, Refusal>
     }
 }
 
-/// Reads an answer to its end, also behind a fault, and reports it.
+/// Reads an answer to its end, also after a fault, tests it, and reports the result. It errs if the answer cannot be read or memory runs
+/// out.
 fn tested<D: Disk>(disk: &D, mut check: ModelCheck, answer: &str) -> Result<Report, Refusal>
     ensures tests { (F : Cnf) → IsTesting F [] check → IfOk result (λ r. Of (D.holds disk.now answer.now) (λ bytes. Tests F bytes r)) }
     ensures refused { IfErr result (IsRefusedAs Refusal.Proof) }
@@ -72,7 +73,7 @@ fn tested<D: Disk>(disk: &D, mut check: ModelCheck, answer: &str) -> Result<Repo
     finished(check)
 }
 
-/// The report of an answer, also of one that cannot be read.
+/// Tests an answer and reports the result; that it cannot be read is a report too. It errs if memory runs out.
 fn told<D: Disk>(disk: &D, check: ModelCheck, answer: &str) -> Result<Report, Refusal>
     ensures tells { (F : Cnf) → IsTesting F [] check → IfOk result (TellsAnswer F (D.holds disk.now answer.now)) }
     ensures refused { IfErr result IsWanting }
@@ -83,7 +84,8 @@ fn told<D: Disk>(disk: &D, check: ModelCheck, answer: &str) -> Result<Report, Re
     }
 }
 
-/// Tests the answer in a file against the formula in another. Of a faulty formula nothing more is read.
+/// Tests the answer in the file `answer` against the formula in the file `input`, and reports the result. If the formula has a fault, that
+/// is reported, and the answer is not opened.
 pub fn test_files<D: Disk>(disk: &D, input: &str, answer: &str) -> Result<Report, Refusal>
     ensures report { IfOk result (λ r. Of (D.holds disk.now input.now) (λ text. TestsAnswer text (D.holds disk.now answer.now) r)) }
     ensures refused { IfErr result (IsRefusedAs Refusal.Input) }

@@ -1,80 +1,84 @@
-//! `receipt`: a log is checked while its file is read, and a small file tells what it closes.
+//! `receipt`: checks a log while its file is read, and writes a small file, the receipt, that tells which leaves the log closes.
 
 ghost use Rattle.std.specs.Prelude.{◌≡◌, ◌≢◌, ℕ, List, [], false, IfOk, IfErr, OnErr, OnOk};
 ghost use Rattle.commands.specs.Known.{Of};
 ghost use Rattle.commands.specs.Receipts.{IsApart, TellsReceipt, log_fault_text};
 ghost use Rattle.commands.specs.Refusals.{IsRefusedAs, IsUnlifted, IsUnread, IsWanting};
 ghost use Rattle.commands.specs.Trees.{OfTree};
-ghost use Rattle.commands.specs.inner.Feeding.{Extends};
+ghost use Rattle.commands.specs.inner.Feed.{Extends};
 ghost use Rattle.commands.specs.inner.Receipts.{ComesTo, SaysFault};
 ghost use Rattle.dimacs.specs.logic.Cnf.{Cnf};
 ghost use Rattle.icnf.specs.Leaves.{Cube};
 ghost use Rattle.leaves.specs.Leaf.{Prints};
 ghost use Rattle.receipts.specs.Receipts.{receipt_text};
-ghost use Rattle.receipts.specs.Receiving.{HasRead, IsReceiptOf};
-ghost use Rattle.receipts.specs.Telling.{told_of};
+ghost use Rattle.receipts.specs.LogReceipt.{HasReadLog, IsReceiptOf};
+ghost use Rattle.receipts.specs.Contents.{contents_of};
 
-use crate::beginning::{Begun, begin_files};
-use crate::closed::closed_report;
+use crate::closed_leaves::closed_report;
 use crate::drafts::{Drafts, Way};
-use crate::feeding::{Feeds, feed_all};
+use crate::feed_loop::{Feeds, feed_all};
 use crate::formula::out_of_memory;
+use crate::formula_tree::{Begun, begin_files};
 use leaves::Split;
 use lrat_check::CheckFault;
-use receipts::{Receipt, ReceiveFault, Receiving, write};
+use receipts::{BuildFault, Receipt, ReceiptBuilder, write};
 use reports::{Refusal, Report, put_fault};
 use std::alloc::{AllocError, Global};
 
-/// The files of a receipt: three that are read, and the one that is written.
+/// The files of `receipt`: three that are read, and one that is written.
 #[derive(Clone, Copy)]
 pub struct ReceiptFiles<'a> {
+    /// The path of the formula.
     pub input: &'a str,
+    /// The path of the tree of its cubes.
     pub cubes: &'a str,
+    /// The path of the log.
     pub log: &'a str,
+    /// The path of the receipt.
     pub receipt: &'a str,
 }
 
-/// What a log comes to.
+/// What comes of a log that was read: its receipt, or why it has none.
 #[derive(Drop)]
 enum Received {
-    /// The text of its receipt, and the report of the leaves that it closes.
+    /// The text of the receipt, and the report of the leaves that the receipt closes.
     Told { text: Vec<u8>, report: Report },
-    /// There is none: what is reported.
+    /// The report of why the log has no receipt.
     Refused(Report),
 }
 
-impl Feeds for Receiving {
-    ghost use Rattle.commands.specs.inner.Feeding.{extends_nothing, extends_more};
+impl Feeds for ReceiptBuilder {
+    ghost use Rattle.commands.specs.inner.Feed.{extends_nothing, extends_more};
 
-    ghost took = { λ old new more. (F : Cnf) (cubes : List Cube) → Extends (HasRead F cubes) old new more };
+    ghost took = { λ old new more. (F : Cnf) (cubes : List Cube) → Extends (HasReadLog F cubes) old new more };
 
-    ghost nothing = { λ s F cubes. extends_nothing (HasRead F cubes) s };
+    ghost nothing = { λ s F cubes. extends_nothing (HasReadLog F cubes) s };
 
-    ghost more = { λ a b c xs ys h k F cubes. extends_more (HasRead F cubes) a b c xs ys (h F cubes) (k F cubes) };
+    ghost more = { λ a b c xs ys h k F cubes. extends_more (HasReadLog F cubes) a b c xs ys (h F cubes) (k F cubes) };
 
     fn feed(&mut self, piece: &[u8]) -> Result<(), Refusal> {
-        Receiving::feed(self, piece);
+        ReceiptBuilder::feed(self, piece);
         Ok(())
     }
 
     fn is_settled(&self) -> bool {
-        Receiving::is_settled(self)
+        ReceiptBuilder::is_settled(self)
     }
 }
 
-/// No byte of a log was read.
-fn opened(alloc: Global, split: &Split) -> Result<Receiving, Refusal>
-    ensures reads { IfOk result (HasRead split.now.formula split.now.tree []) }
+/// A check of a log, over a formula and the tree of its cubes, that has taken no byte.
+fn opened(alloc: Global, split: &Split) -> Result<ReceiptBuilder, Refusal>
+    ensures reads { IfOk result (HasReadLog split.now.formula split.now.tree []) }
     ensures refused { IfErr result IsWanting }
 {
     let formula = split.formula();
     let _ = formula.vars(); // with it comes that they are 2,000,000 at most
-    Receiving::of(alloc, formula, split.tree()).map_err(out_of_memory)
+    ReceiptBuilder::of(alloc, formula, split.tree()).map_err(out_of_memory)
 }
 
-/// The text of a receipt.
+/// Answers the text of a receipt. It errs if memory runs out.
 fn text_of(alloc: Global, receipt: &Receipt) -> Result<Vec<u8>, Refusal>
-    ensures text { IfOk result (λ text. text.items ≡ receipt_text (told_of receipt.now)) }
+    ensures text { IfOk result (λ text. text.items ≡ receipt_text (contents_of receipt.now)) }
     ensures refused { IfErr result IsWanting }
 {
     let mut text = Vec::new(alloc);
@@ -84,9 +88,9 @@ fn text_of(alloc: Global, receipt: &Receipt) -> Result<Vec<u8>, Refusal>
     }
 }
 
-/// The text of a receipt, and the report of the leaves that it closes.
+/// Answers the text of a receipt, and the report of the leaves that it closes. It errs if memory runs out.
 fn told(alloc: Global, split: &Split, receipt: &Receipt) -> Result<Received, Refusal>
-    ensures tells { IfOk result (λ x. (log : List ℕ) → IsReceiptOf split.now.formula split.now.tree log (told_of receipt.now) → ComesTo split.now.formula split.now.tree log x) }
+    ensures tells { IfOk result (λ x. (log : List ℕ) → IsReceiptOf split.now.formula split.now.tree log (contents_of receipt.now) → ComesTo split.now.formula split.now.tree log x) }
     ensures refused { IfErr result IsWanting }
 {
     let text = text_of(alloc, receipt)?;
@@ -94,7 +98,7 @@ fn told(alloc: Global, split: &Split, receipt: &Receipt) -> Result<Received, Ref
     Ok(Received::Told { text, report })
 }
 
-/// The report of a log's first fault.
+/// Reports, with status 1, the first fault of a log.
 fn faulty(alloc: Global, fault: CheckFault) -> Result<Report, AllocError>
     ensures { IfOk result (Prints 1 (log_fault_text fault)) }
 {
@@ -103,23 +107,23 @@ fn faulty(alloc: Global, fault: CheckFault) -> Result<Report, AllocError>
     Ok(report)
 }
 
-/// The report of a log that has no receipt.
-fn unreceived(alloc: Global, fault: ReceiveFault) -> Result<Report, Refusal>
+/// Reports, with status 1, why a log has no receipt: its first fault, or that it closes nothing. Out of memory is an error instead.
+fn unreceived(alloc: Global, fault: BuildFault) -> Result<Report, Refusal>
     ensures says { IfOk result (SaysFault fault) }
     ensures refused { IfErr result IsWanting }
 {
     match fault {
-        ReceiveFault::Log(fault) => faulty(alloc, fault).map_err(out_of_memory),
-        ReceiveFault::ClosesNothing => {
+        BuildFault::Log(fault) => faulty(alloc, fault).map_err(out_of_memory),
+        BuildFault::ClosesNothing => {
             Report::of(alloc, b"c closes nothing\n", 1).map_err(out_of_memory)
         }
-        ReceiveFault::NoMemory => Err(Refusal::NoMemory),
+        BuildFault::NoMemory => Err(Refusal::NoMemory),
     }
 }
 
-/// What a log comes to that was read to its end, or to its first fault.
-fn finished(alloc: Global, split: &Split, receiving: Receiving) -> Result<Received, Refusal>
-    ensures comes { (log : List ℕ) → HasRead split.now.formula split.now.tree log receiving → IfOk result (ComesTo split.now.formula split.now.tree log) }
+/// Ends the check of a log: answers the text of its receipt with the report of the leaves that it closes, or the report of why it has none.
+fn finished(alloc: Global, split: &Split, receiving: ReceiptBuilder) -> Result<Received, Refusal>
+    ensures comes { (log : List ℕ) → HasReadLog split.now.formula split.now.tree log receiving → IfOk result (ComesTo split.now.formula split.now.tree log) }
     ensures refused { IfErr result IsWanting }
 {
     match receiving.finish() {
@@ -131,7 +135,8 @@ fn finished(alloc: Global, split: &Split, receiving: Receiving) -> Result<Receiv
     }
 }
 
-/// Reads a log to its end, also behind a fault. What has no size is read up to the first fault.
+/// Checks the log in the file `log`, and answers its receipt, or why it has none. A regular file is read to its end even after a fault, a
+/// pipe up to the first fault. It errs if the log cannot be read or memory runs out.
 fn read_log<D: Drafts>(disk: &D, log: &str, split: &Split) -> Result<Received, Refusal>
     ensures comes { IfOk result (λ x. Of (D.holds disk.now log.now) (λ bytes. ComesTo split.now.formula split.now.tree bytes x)) }
     ensures refused { IfErr result (IsRefusedAs Refusal.Proof) }
@@ -142,7 +147,8 @@ fn read_log<D: Drafts>(disk: &D, log: &str, split: &Split) -> Result<Received, R
     finished(disk.alloc(), split, receiving)
 }
 
-/// Writes a file beside its place, which it then takes.
+/// Writes a text to a temporary file beside the path, and renames that to the path. It errs if one of these cannot be done; the temporary
+/// file is then removed.
 fn keep_text<D: Drafts>(disk: &mut D, path: &str, text: &[u8]) -> Result<(), Refusal>
     ensures kept { OnOk result (D.kept disk.old disk.new path.now text.now) }
     ensures left { OnErr result (disk.new ≡ disk.old) }
@@ -162,7 +168,7 @@ fn keep_text<D: Drafts>(disk: &mut D, path: &str, text: &[u8]) -> Result<(), Ref
     }
 }
 
-/// Writes the receipt of a log that has one.
+/// Writes the receipt of a log, if it has one, to the path, and answers the report.
 fn settle<D: Drafts>(disk: &mut D, path: &str, received: Received) -> Result<Report, Refusal>
     ensures tells { (F : Cnf) (cubes : List Cube) (log : List ℕ) → ComesTo F cubes log received
         → IfOk result (TellsReceipt (D.kept disk.old disk.new path.now) (disk.new ≡ disk.old) F cubes log) }
@@ -178,7 +184,7 @@ fn settle<D: Drafts>(disk: &mut D, path: &str, received: Received) -> Result<Rep
     }
 }
 
-/// Whether the receipt would be one of the files that are read.
+/// Whether the path of the receipt leads to one of the three files that are read.
 fn is_read<D: Drafts>(disk: &D, files: &ReceiptFiles<'_>) -> bool
     ensures { result ≡ false → IsApart D.apart disk.now files.now }
 {
@@ -187,7 +193,8 @@ fn is_read<D: Drafts>(disk: &D, files: &ReceiptFiles<'_>) -> bool
         || disk.is_same(files.receipt, files.log)
 }
 
-/// The receipt of a log over a formula and the tree of its cubes.
+/// Checks a log over a formula and the tree of its cubes, writes its receipt, and answers the report. It errs if the path of the receipt
+/// leads to a file that is read.
 fn receipt_tree<D: Drafts>(
     disk: &mut D,
     files: &ReceiptFiles<'_>,
@@ -206,8 +213,8 @@ fn receipt_tree<D: Drafts>(
     settle(disk, files.receipt, received)
 }
 
-/// The log in a file, over the formula of an input, is checked, and what it closes of the tree of cubes is told in a receipt, which is
-/// written to another file: whole or not at all, and to none of the files that are read.
+/// Checks the log in `files.log` over the formula in `files.input`, and writes to `files.receipt` which leaves of the tree in `files.cubes`
+/// the log closes. Answers the report. The receipt is written whole or not at all, and never over a file that is read.
 pub fn receipt_files<D: Drafts>(disk: &mut D, files: &ReceiptFiles<'_>) -> Result<Report, Refusal>
     ensures tells { IfOk result (λ r. Of (D.holds disk.old files.now.input.now) (λ text. Of (D.holds disk.old files.now.cubes.now) (λ lines. OfTree text lines (λ F tree. Of (D.holds disk.old files.now.log.now)
         (λ log. TellsReceipt (D.kept disk.old disk.new files.now.receipt.now) (disk.new ≡ disk.old) F tree log r)) r))) }

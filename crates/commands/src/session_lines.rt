@@ -1,4 +1,4 @@
-//! What is printed of an answer in a session.
+//! What is printed of an answer in a session, and the status of the answer.
 
 ghost use Rattle.std.specs.Prelude.{◌≡◌, ◌≤◌, ◌∷◌, ◌++◌, ℕ, List, length, take, codes, IfOk, OnOk};
 ghost use Rattle.std.specs.Fmt.{signed_decimal};
@@ -11,10 +11,11 @@ use incremental::Answer;
 use itoa::Buffer;
 use std::alloc::AllocError;
 
-/// The most bytes of a line, its end not counted.
+/// The most bytes of an `f` line, its LF not counted.
 const WIDTH: usize = 78;
 
-/// Puts an item on the line, or on a new one, and answers how many bytes that line has then.
+/// Appends an item to an `f` line that has `used` bytes, after a space, or to a new line if the line would have more than 78 bytes. Answers
+/// how many bytes the line of the item has then.
 fn put_item(out: &mut Vec<u8>, used: usize, item: &[u8]) -> Result<usize, AllocError>
     requires used { used ≤ 78 }
     requires item { length item.now ≤ 40 }
@@ -32,7 +33,8 @@ fn put_item(out: &mut Vec<u8>, used: usize, item: &[u8]) -> Result<usize, AllocE
     Ok(2 + item.len())
 }
 
-/// Puts a literal so.
+/// Appends a literal to an `f` line that has `used` bytes, after a space, or to a new line if the line would have more than 78 bytes.
+/// Answers how many bytes the line of the literal has then.
 fn put_literal(out: &mut Vec<u8>, used: usize, literal: Lit) -> Result<usize, AllocError>
     requires used { used ≤ 78 }
     ensures filled { IfOk result (λ n. (more : List (List ℕ)) → out.new.items ++ core_filled n more ≡ out.old.items ++ core_filled used (signed_decimal (number_of literal) ∷ more)) }
@@ -43,7 +45,7 @@ fn put_literal(out: &mut Vec<u8>, used: usize, literal: Lit) -> Result<usize, Al
     put_item(out, used, text.as_bytes())
 }
 
-/// Appends the `f` lines of a core, of at most 78 bytes.
+/// Appends the `f` lines of a core, each of at most 78 bytes: its literals, and then 0.
 fn put_core(out: &mut Vec<u8>, core: &[Lit]) -> Result<(), AllocError>
     ensures { OnOk result (out.new.items ≡ out.old.items ++ core_lines core.now) }
 {
@@ -57,7 +59,7 @@ fn put_core(out: &mut Vec<u8>, core: &[Lit]) -> Result<(), AllocError>
     Ok(())
 }
 
-/// Appends what is printed of a core.
+/// Appends what is printed of a core: the `s` line, and its `f` lines if `witness`.
 fn put_failed(out: &mut Vec<u8>, core: &[Lit], witness: bool) -> Result<(), AllocError>
     ensures { OnOk result (out.new.items ≡ out.old.items ++ failed_lines core.now witness) }
 {
@@ -68,7 +70,7 @@ fn put_failed(out: &mut Vec<u8>, core: &[Lit], witness: bool) -> Result<(), Allo
     Ok(())
 }
 
-/// The values of the variables from 1 to `vars`, as far as they have one.
+/// Copies the values of the variables from 1 to `vars`; if the assignment has fewer variables, all of its values.
 fn front_of(out: &Vec<u8>, values: &Assignment, vars: u32) -> Result<Assignment, AllocError>
     ensures { IfOk result (λ front. front ≡ take vars values.now) }
 {
@@ -77,7 +79,7 @@ fn front_of(out: &Vec<u8>, values: &Assignment, vars: u32) -> Result<Assignment,
     Ok(Assignment::new(front))
 }
 
-/// Appends what is printed of an assignment, for the variables from 1 to `vars`.
+/// Appends what is printed of an assignment: the `s` line, and if `witness` the `v` lines of the variables from 1 to `vars`.
 fn put_satisfied(
     out: &mut Vec<u8>,
     values: &Assignment,
@@ -90,7 +92,8 @@ fn put_satisfied(
     answer_lines(dimacs::Answer::Satisfiable(&front), witness, out)
 }
 
-/// Appends what is printed of an answer, for the variables from 1 to `vars`.
+/// Appends what is printed of an answer: its `s` line, and if `witness` the `v` lines of the variables from 1 to `vars`, or the `f` lines
+/// of the core.
 pub(crate) fn put_answer(
     out: &mut Vec<u8>,
     answer: &Answer,
@@ -106,7 +109,7 @@ pub(crate) fn put_answer(
     }
 }
 
-/// The status of an answer.
+/// Answers the exit status of an answer: 10 if the query is satisfiable, 20 if it is not, 0 if that is not known.
 pub(crate) fn status_of(answer: &Answer) -> u8
     ensures { result ≡ status answer.now }
 {

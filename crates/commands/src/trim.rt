@@ -1,50 +1,52 @@
-//! `trim`: a formula is read, a proof of it checked while its file is read, and what stays of it is written.
+//! `trim`: reads a formula, checks a proof of it while the proof is read, and writes the proof without the lines that it does not need.
 
 ghost use Rattle.std.specs.Prelude.{◌≡◌, ◌≢◌, ◌++◌, ℕ, List, [], Err, IfOk, IfErr, IsSome, OnErr, OnOk, is_ok, if◌then◌else◌};
 ghost use Rattle.commands.specs.Known.{Of};
 ghost use Rattle.commands.specs.Refusals.{IsRefusedAs, IsUnread, IsUntrimmed, IsWanting};
-ghost use Rattle.commands.specs.Trimming.{IsApart, TellsTrimming, Trims};
+ghost use Rattle.commands.specs.Trim.{IsApart, TellsTrimming, Trims};
 ghost use Rattle.commands.specs.Written.{IsWritten};
-ghost use Rattle.commands.specs.inner.Feeding.{Extends};
-ghost use Rattle.commands.specs.inner.Trimming.{IsTaken, IsTrimming};
+ghost use Rattle.commands.specs.inner.Feed.{Extends};
+ghost use Rattle.commands.specs.inner.Trim.{IsTaken, IsTrimming};
 ghost use Rattle.dimacs.specs.logic.Cnf.{Cnf};
-ghost use Rattle.either_form.specs.Trimming.{HasTaken};
-ghost use Rattle.lrat_check.specs.Checking.{no_memory};
-ghost use Rattle.trimming.specs.Reports.{trim_text, trimmed_text};
+ghost use Rattle.text_or_binary.specs.FormTrim.{HasTakenForm};
+ghost use Rattle.lrat_check.specs.ProofFaults.{no_memory};
+ghost use Rattle.lrat_trim.specs.Reports.{trim_text, trimmed_text};
 
-use crate::beginning::refused_input;
+use crate::atomic_write::write_text;
 use crate::disk::Disk;
 use crate::drafts::{Drafts, Target};
-use crate::feeding::{Feeds, feed_all};
+use crate::feed_loop::{Feeds, feed_all};
 use crate::formula::{out_of_memory, read_formula};
-use crate::writing::write_text;
+use crate::formula_tree::refused_input;
 use dimacs::Formula;
-use either_form::FormTrimming;
 use lrat_check::CheckFault;
+use lrat_trim::{Trimmed, trim_report};
 use packed_text::PackedText;
 use reports::{Refusal, Report};
 use std::alloc::Global;
-use trimming::{Trimmed, trim_report};
+use text_or_binary::FormTrimming;
 
 /// The first fault of a proof: of a line, or in binary form of a step.
 #[derive(Clone, Copy)]
 struct Faulty {
+    /// The fault, at a line of the text or a step of the binary form.
     fault: CheckFault,
+    /// Whether the proof is in binary form.
     is_binary: bool,
 }
 
-/// What is read of a proof that is trimmed.
+/// A proof that is read, and checked meanwhile.
 #[derive(Drop)]
 enum TrimText {
     /// It has no fault so far.
     Right(FormTrimming),
-    /// It is refused.
+    /// It is refused for its first fault.
     Refused(Faulty),
 }
 
-/// Takes the next piece of a proof that has no fault so far.
+/// Takes the next piece of a proof that has no fault so far. It errs with the first fault of the proof.
 fn take(trimming: &mut FormTrimming, piece: &[u8]) -> Result<(), Faulty>
-    ensures { (F : Cnf) (bytes : List ℕ) → HasTaken F trimming.old bytes → IsTaken F (bytes ++ piece.now) trimming.new result }
+    ensures { (F : Cnf) (bytes : List ℕ) → HasTakenForm F trimming.old bytes → IsTaken F (bytes ++ piece.now) trimming.new result }
 {
     if piece.is_empty() {
         return Ok(());
@@ -59,7 +61,7 @@ fn take(trimming: &mut FormTrimming, piece: &[u8]) -> Result<(), Faulty>
 }
 
 impl Feeds for TrimText {
-    ghost use Rattle.commands.specs.inner.Feeding.{extends_nothing, extends_more};
+    ghost use Rattle.commands.specs.inner.Feed.{extends_nothing, extends_more};
 
     ghost took = { λ old new more. (F : Cnf) → Extends (IsTrimming F) old new more };
 
@@ -84,7 +86,7 @@ impl Feeds for TrimText {
     }
 }
 
-/// The report of what trimming answered.
+/// Reports what trimming answered: the trimmed proof, with status 0, or the first fault, with status 1. Out of memory is an error instead.
 fn reported(
     alloc: Global,
     is_binary: bool,
@@ -99,7 +101,7 @@ fn reported(
     trim_report(alloc, is_binary, found).map_err(out_of_memory)
 }
 
-/// The report of a proof of which no further byte comes, or matters.
+/// Ends a proof, and reports the trimmed proof or the first fault.
 fn finished(alloc: Global, text: TrimText) -> Result<Report, Refusal>
     ensures tells { (F : Cnf) (proof : List ℕ) → IsTrimming F proof text → IfOk result (TellsTrimming F proof) }
     ensures refused { IfErr result IsWanting }
@@ -113,7 +115,7 @@ fn finished(alloc: Global, text: TrimText) -> Result<Report, Refusal>
     }
 }
 
-/// No byte of a proof of the formula was read.
+/// A trimming of a proof of the formula that has taken no byte. It errs if memory runs out.
 fn opened(alloc: Global, formula: Formula) -> Result<TrimText, Refusal>
     ensures trims { IfOk result (IsTrimming formula []) }
     ensures refused { IfErr result IsWanting }
@@ -122,7 +124,8 @@ fn opened(alloc: Global, formula: Formula) -> Result<TrimText, Refusal>
     Ok(TrimText::Right(trimming))
 }
 
-/// Reads a proof to its end, also behind a fault, and reports it. What has no size is read up to the first fault, or up to want of memory.
+/// Reads the proof in the file `proof`, trims it, and reports the trimmed proof or the first fault. A regular file is read to its end even
+/// after a fault, a pipe up to the first fault. It errs if the proof cannot be read or memory runs out.
 fn trimmed<D: Disk>(disk: &D, formula: Formula, proof: &str) -> Result<Report, Refusal>
     ensures tells { IfOk result (λ r. Of (D.holds disk.now proof.now) (λ bytes. TellsTrimming formula bytes r)) }
     ensures refused { IfErr result (IsRefusedAs Refusal.Proof) }
@@ -133,15 +136,19 @@ fn trimmed<D: Disk>(disk: &D, formula: Formula, proof: &str) -> Result<Report, R
     finished(disk.alloc(), text)
 }
 
-/// The files of a proof that is trimmed: two that are read, and the one that is written.
+/// The files of `trim`: two that are read, and one that is written.
 #[derive(Clone, Copy)]
 pub struct TrimFiles<'a> {
+    /// The path of the formula.
     pub input: &'a str,
+    /// The path of the proof.
     pub proof: &'a str,
+    /// The file of the trimmed proof.
     pub out: Target<'a>,
 }
 
-/// The report of a proof of a formula, where none of the files that are read would be written.
+/// Trims the proof in `files.proof`, and reports the trimmed proof or the first fault. It errs if the path of the output leads to one of
+/// the files that are read.
 fn told_apart<D: Drafts>(
     disk: &D,
     files: &TrimFiles<'_>,
@@ -158,7 +165,8 @@ fn told_apart<D: Drafts>(
     trimmed(disk, formula, files.proof)
 }
 
-/// The report of a proof in a file, of the formula in another. Of a faulty formula nothing more is read.
+/// Reads the formula in `files.input`, trims the proof in `files.proof`, and reports the trimmed proof or the first fault. If the formula
+/// has a fault, that is reported, and the proof is not opened.
 fn told<D: Drafts>(disk: &D, files: &TrimFiles<'_>) -> Result<Report, Refusal>
     ensures tells { IfOk result (λ r. Of (D.holds disk.now files.now.input.now) (λ text. Of (D.holds disk.now files.now.proof.now) (λ bytes. Trims text bytes r))) }
     ensures apart { IfOk result (λ r. IsSome r.proof → IsApart D.apart disk.now files.now) }
@@ -172,7 +180,7 @@ fn told<D: Drafts>(disk: &D, files: &TrimFiles<'_>) -> Result<Report, Refusal>
     }
 }
 
-/// Writes what stays of a proof, where there is some.
+/// Writes the trimmed proof to a file, if there is one.
 fn write_out<D: Drafts>(
     disk: &mut D,
     out: Target<'_>,
@@ -188,7 +196,8 @@ fn write_out<D: Drafts>(
     }
 }
 
-/// Writes what stays of the proof in a file, of the formula in another, to a third one, which is none of the files that are read.
+/// Trims the proof in `files.proof` of the formula in `files.input`, writes the trimmed proof to `files.out`, and answers the report.
+/// Nothing is written if a fault is reported, and never over a file that is read.
 pub fn trim_files<D: Drafts>(disk: &mut D, files: &TrimFiles<'_>) -> Result<Report, Refusal>
     ensures tells { IfOk result (λ r. Of (D.holds disk.old files.now.input.now) (λ text. Of (D.holds disk.old files.now.proof.now) (λ bytes. Trims text bytes r))) }
     ensures written { IfOk result (λ r. IsWritten D.kept disk.old disk.new files.now.out.binary files.now.out.path.now r.proof) }

@@ -1,4 +1,4 @@
--- What a conflict teaches: a lemma with one literal of the present level, or the negations of assumptions.
+-- The lemmas of conflicts: asserting ones, with one literal of the present level, and those of negated assumptions.
 use Rattle.std.specs.Prelude.{◌≡◌, ◌≢◌, ℕ, ◌-◌, ◌<◌, ◌≤◌, Bool, true, false, if◌then◌else◌, List, [], ◌∷◌, ◌++◌, ◌⊎◌, None, Some, map, nat_eq, reverse, sum_by, All, Contains}
 use Rattle.std.specs.List.{IsDistinct, count_by, filter_map}
 use Rattle.dimacs.specs.logic.ClauseMap.{Live}
@@ -6,17 +6,18 @@ use Rattle.dimacs.specs.logic.Literal.{Literal, Clause, IsWithin, negation, same
 use Rattle.dimacs.specs.logic.Propagation.{IsFalse, Rup}
 use Rattle.watches.specs.Law.{IsConflict}
 use Rattle.watches.specs.Trails.{TrailValue, holds, up_to, present}
-use Rattle.conflict_analysis.specs.Built.{AreBuilt, AreInside}
+use Rattle.conflict_analysis.specs.BuiltTrails.{AreBuilt, AreInside}
 use Rattle.conflict_analysis.specs.declared.lemma.Lemma.{Lemma}
 use Rattle.watches.specs.declared.trail.Assigned.{Assigned}
-use Rattle.conflict_analysis.specs.declared.closing.Closing.{Closing}
-use Rattle.conflict_analysis.specs.declared.closing.Closing.TheVariants as closing
+use Rattle.conflict_analysis.specs.declared.final_analysis.Closing.{Closing}
+use Rattle.conflict_analysis.specs.declared.final_analysis.Closing.TheVariants as closing
 
 -- a false clause of this number is false only since the present level
-abbrev pub IsPresent : Live → List Assigned → ℕ → Type 0
-IsPresent live entries number = (C : Clause) → live number C → ¬ (IsFalse (up_to entries (present entries - 1)) C)
+abbrev pub IsFalseSincePresent : Live → List Assigned → ℕ → Type 0
+IsFalseSincePresent live entries number = (C : Clause) → live number C → ¬ (IsFalse (up_to entries (present entries - 1)) C)
 
--- the lemma's literals are false; one has the present level, and `level` is the greatest of the others, 0 where there is none
+-- an asserting lemma: its literals are false, one is of the present level, and `level` is the greatest level of the others, 0 if there is
+-- none
 pub record IsAsserting (entries : List Assigned) (lits : Clause) (level : ℕ) : Type 0 where
   pub literal : Literal
   pub member : Contains lits literal
@@ -26,67 +27,67 @@ pub record IsAsserting (entries : List Assigned) (lits : Clause) (level : ℕ) :
   pub others : (k : Literal) → Contains lits k → k ≢ literal → up_to entries level (negation k) ≡ true
   pub reached : (level ≡ 0) ⊎ ((k : Literal) × Contains lits k × (k ≢ literal) × ((j : ℕ) → j < level → up_to entries j (negation k) ≡ false))
 
--- the hints are the reasons of some entries, in trail order, and the false clause behind them
+-- the hints are the reasons of some entries, in trail order, and then the false clause
 abbrev pub AreInTrailOrder : List Assigned → ℕ → List ℕ → Type 0
 AreInTrailOrder entries number hints =
     (used : Literal → Bool) × (hints ≡ filter_map (λ e. if used e.literal then e.reason else None) entries ++ number ∷ [])
 
--- a false clause whose lemma can be asked for
+-- a conflict that can be analysed
 pub record IsPresentConflict (live : Live) (t : TrailValue) (number : ℕ) : Type 0 where
-  -- each entry was decided, or implied by a live clause, when it came
+  -- each entry was a decision, or implied by a live clause, when it was pushed
   pub built : AreBuilt live [] t.entries
   -- live clauses have variables of the trail alone
   pub inside : AreInside live t.vars
   -- the clause of this number is live, and false
   pub conflict : IsConflict live t.entries number
   -- it is false only since the present level
-  pub here : IsPresent live t.entries number
+  pub here : IsFalseSincePresent live t.entries number
   -- which is above 0
   pub above : 0 < present t.entries
 
--- what a lemma of that clause is
+-- the lemma of a conflict
 pub record IsLemmaOf (live : Live) (t : TrailValue) (number : ℕ) (lemma : Lemma) : Type 0 where
-  -- its hints lead from the negations of its literals to a clause that is false, over the live clauses
+  -- it follows from the live clauses by reverse unit propagation along its hints
   pub rup : Rup live lemma.lits.items lemma.hints.items
-  -- they are reasons in trail order, with the false clause last
+  -- the hints are reasons in trail order, with the false clause last
   pub ordered : AreInTrailOrder t.entries number lemma.hints.items
-  -- its literals are false, exactly one of them of the present level; its level is the greatest of the others, 0 where there is none
+  -- its literals are false, exactly one of them of the present level; its level is the greatest of the others, 0 if there is none
   pub asserting : IsAsserting t.entries lemma.lits.items lemma.level
   -- no literal comes twice
   pub distinct : IsDistinct same lemma.lits.items
   -- each is of a variable of the trail
   pub within : All (IsWithin t.vars) lemma.lits.items
 
--- the variables that an analysis met: each once, and those that it met again, as often as it did
+-- the variables that an analysis met: all of them once, and the repeated ones as often as they were repeated
 pub record Met : Type 0 where
   pub once : List ℕ
   pub again : List ℕ
 
 -- variables from 1 to `vars`, no one twice
-pub record AreApart (vars : ℕ) (listed : List ℕ) : Type 0 where
+pub record AreDistinctVars (vars : ℕ) (listed : List ℕ) : Type 0 where
   pub within : All (λ v. (0 < v) × (v ≤ vars)) listed
   pub distinct : IsDistinct nat_eq listed
 
--- variables from 1 to `vars`, each one of those that are listed
-pub record AreAgain (vars : ℕ) (listed again : List ℕ) : Type 0 where
+-- variables from 1 to `vars`, each of them in the list
+pub record AreListedVars (vars : ℕ) (listed again : List ℕ) : Type 0 where
   pub within : All (λ v. (0 < v) × (v ≤ vars)) again
   pub among : All (Contains listed) again
 
--- how often a variable stands in a clause
-abbrev pub times : ℕ → Clause → ℕ
-times v C = count_by (λ k. nat_eq v (var_of k)) C
+-- the number of literals of a variable in a clause
+abbrev pub occurrences : ℕ → Clause → ℕ
+occurrences v C = count_by (λ k. nat_eq v (var_of k)) C
 
--- and in clauses with their numbers
-abbrev pub often : ℕ → List (ℕ × Clause) → ℕ
-often v named = sum_by (λ (c : ℕ × Clause). times v c.1) named
+-- the number of literals of a variable in clauses, which come with their numbers
+abbrev pub occurrences_in : ℕ → List (ℕ × Clause) → ℕ
+occurrences_in v named = sum_by (λ (c : ℕ × Clause). occurrences v c.1) named
 
--- the live clause of a number is the reason of an entry, whose level a test takes
+-- a live clause, with its number, is the reason of an entry whose level passes a test
 abbrev pub IsReason : Live → List Assigned → (ℕ → Type 0) → ℕ × Clause → Type 0
 IsReason live entries at c = live c.0 c.1 × ((e : Assigned) × Contains entries e × (e.reason ≡ Some c.0) × at e.level)
 
--- what the analysis of a false clause met: the variables of the clauses that the hints name
+-- the variables that the analysis of a false clause met are those of the clauses that the hints name
 pub record IsTally (live : Live) (t : TrailValue) (number : ℕ) (hints : List ℕ) (m : Met) : Type 0 where
-  -- the false clause, the reasons of the present level and those of lower ones: what the hints name, the last first
+  -- the clauses that the hints name, in reverse: the false one, the reasons of the present level, those of lower levels
   pub conflict : Clause
   pub here : List (ℕ × Clause)
   pub lower : List (ℕ × Clause)
@@ -95,21 +96,21 @@ pub record IsTally (live : Live) (t : TrailValue) (number : ℕ) (hints : List �
   pub of_lower : All (IsReason live t.entries (λ level. level < present t.entries)) lower
   pub named : reverse hints ≡ number ∷ map (λ c. c.0) (here ++ lower)
   -- all their variables were met, and no others
-  pub were : (v : ℕ) → Contains m.once v → 0 < often v ((number, conflict) ∷ here ++ lower)
-  pub all : (v : ℕ) → 0 < often v ((number, conflict) ∷ here ++ lower) → Contains m.once v
-  -- and met again, each as often as it stands in the false clause and the reasons of the present level, but for the first time
-  pub again : (v : ℕ) → count_by (nat_eq v) m.again ≡ often v ((number, conflict) ∷ here) - 1
+  pub were : (v : ℕ) → Contains m.once v → 0 < occurrences_in v ((number, conflict) ∷ here ++ lower)
+  pub all : (v : ℕ) → 0 < occurrences_in v ((number, conflict) ∷ here ++ lower) → Contains m.once v
+  -- a variable of n literals in the false clause and the reasons of the present level was repeated n - 1 times
+  pub again : (v : ℕ) → count_by (nat_eq v) m.again ≡ occurrences_in v ((number, conflict) ∷ here) - 1
 
--- a literal that was decided
+-- a decision of the trail
 abbrev pub IsDecision : List Assigned → Literal → Type 0
 IsDecision entries l = (e : Assigned) × Contains entries e × (e.literal ≡ l) × (e.reason ≡ None)
 
--- what is false: a clause, or an assumption whose negation was implied
+-- the conflict that closes a cube: a false clause, or an assumption whose negation was implied
 abbrev pub IsClosing : Live → List Assigned → Closing → Type 0
 IsClosing live entries (closing.Clause number) = IsConflict live entries number
 IsClosing live entries (closing.Assumption l) = (holds entries (negation l) ≡ true) × ¬ (IsDecision entries (negation l))
 
--- each literal is the negation of a decision, or of the assumption that is false
+-- each literal is the negation of a decision, or of the false assumption
 abbrev pub NegatesAssumptions : List Assigned → Closing → Clause → Type 0
 NegatesAssumptions entries (closing.Clause number) lits = (l : Literal) → Contains lits l → IsDecision entries (negation l)
 NegatesAssumptions entries (closing.Assumption a) lits = (l : Literal) → Contains lits l → IsDecision entries (negation l) ⊎ (negation l ≡ a)

@@ -1,3 +1,3 @@
-pub mod Built
+pub mod BuiltTrails
 pub mod Lemmas
 pub mod inner

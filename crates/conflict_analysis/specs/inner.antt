@@ -1,7 +1,7 @@
 -- What only private contracts, invariants and proofs name. Nothing here is to be believed.
-pub mod Built
-pub mod Minimising
+pub mod Sizes
+pub mod Minimiser
 pub mod Seen
 pub mod Tallies
-pub mod Traces
-pub mod Walks
+pub mod FinalAnalysis
+pub mod TrailWalk

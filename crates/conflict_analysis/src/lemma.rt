@@ -1,4 +1,4 @@
-//! Lemmas.
+//! Lemmas with their hints.
 
 ghost use Rattle.std.specs.Prelude.{◌≡◌, max, [], ◌∷◌, ◌++◌, reverse, OnOk};
 ghost use Rattle.dimacs.specs.logic.Literal.{negation};
@@ -7,7 +7,8 @@ use dimacs::Lit;
 use std::alloc::{AllocError, Global};
 use watches::Assigned;
 
-/// A lemma, the numbers of the clauses that lead to it by reverse unit propagation, and the level to go back to.
+/// A lemma, its hints (the numbers of the clauses by which it follows by reverse unit propagation, in their order), and the level to
+/// which the search backjumps.
 #[derive(Drop)]
 pub struct Lemma {
     pub lits: Vec<Lit>,
@@ -16,7 +17,7 @@ pub struct Lemma {
 }
 
 impl Lemma {
-    /// No literal yet.
+    /// A lemma without literals and hints.
     pub fn new(alloc: Global) -> Lemma
         ensures lits { result.lits.items ≡ [] }
         ensures hints { result.hints.items ≡ [] }
@@ -29,7 +30,7 @@ impl Lemma {
         }
     }
 
-    /// Takes out all, and keeps the room.
+    /// Removes all literals and hints, and keeps the memory.
     pub(crate) fn clear(&mut self)
         ensures lits { self.new.lits.items ≡ [] }
         ensures hints { self.new.hints.items ≡ [] }
@@ -40,7 +41,7 @@ impl Lemma {
         self.level = 0;
     }
 
-    /// Keeps the negation of an entry's literal; one below the present level may raise the level to go back to.
+    /// Adds the negation of an entry's literal. If the entry is below the present level, the backjump level is at least the entry's.
     pub(crate) fn keep(&mut self, entry: &Assigned, present: u32) -> Result<(), AllocError>
         ensures lits { OnOk result (self.new.lits.items ≡ self.old.lits.items ++ negation entry.now.literal ∷ []) }
         ensures hints { self.new.hints.items ≡ self.old.hints.items }
@@ -54,7 +55,7 @@ impl Lemma {
         Ok(())
     }
 
-    /// Ends a lemma of which the hints came the last first: they are turned, and behind them comes the false clause.
+    /// Ends a lemma: reverses the hints, which were pushed in reverse trail order, and appends the false clause.
     pub(crate) fn conclude(&mut self, number: u64) -> Result<(), AllocError>
         ensures lits { self.new.lits.items ≡ self.old.lits.items }
         ensures hints { OnOk result (self.new.hints.items ≡ reverse self.old.hints.items ++ number ∷ []) }

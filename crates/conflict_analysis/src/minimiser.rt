@@ -1,10 +1,10 @@
-//! Which entries a lemma can do without: those that follow from others (Sörensson and Biere 2009).
+//! Recursive minimisation of lemmas: a literal is removable if it follows from the others (Sörensson and Biere 2009).
 
 ghost use Rattle.std.specs.Prelude.{◌≡◌, ◌<◌, length, OnOk};
 ghost use Rattle.clause_arena.specs.Clauses.{live_of};
 ghost use Rattle.dimacs.specs.logic.Literal.{IsWithin};
-ghost use Rattle.conflict_analysis.specs.Built.{AreInside};
-ghost use Rattle.conflict_analysis.specs.inner.Minimising.{HasRoom};
+ghost use Rattle.conflict_analysis.specs.BuiltTrails.{AreInside};
+ghost use Rattle.conflict_analysis.specs.inner.Minimiser.{HasRoom};
 
 use crate::seen::{Seen, clear, make_room};
 use clause_arena::Arena;
@@ -12,31 +12,31 @@ use dimacs::{Lit, Var};
 use std::alloc::{AllocError, Global};
 use watches::{Trail, Truth};
 
-/// What is known of a literal of a reason.
-enum Standing {
-    /// It was met, is false since level 0, or follows from such.
-    Follows,
+/// What is known of a literal of a reason, without following its reason.
+enum Removability {
+    /// It was met, is false at level 0, or follows from such literals.
+    Removable,
     /// It does not follow.
-    Fails,
-    /// It follows where the others of the clause of this number do.
+    Poison,
+    /// It follows if the other literals of its reason, the clause of this number, do.
     Open(u64),
 }
 
-/// Finds out which entries follow, by their reasons, from entries that a walk has met. It keeps what it found until the next
-/// walk begins: what a walk meets on its way follows from what it met before, so that no answer changes.
+/// Tests whether an entry follows, by its reason, from entries that the analysis has met. It caches answers until the next analysis
+/// begins. They stay right as the analysis goes on, since what it meets later follows from what it met before.
 ///
-/// An answer is a stamp in one table, by variable, so that it costs one look: new stamps forget all answers.
+/// An answer is a stamp in a table by variable, `removable` or `poison`. New stamps invalidate all answers at once.
 #[derive(Drop)]
 pub(crate) struct Minimiser {
     pub(crate) answers: Vec<u32>,
-    /// The stamp of a variable whose entry follows.
+    /// The stamp of a variable whose entry is removable.
     pub(crate) removable: u32,
-    /// The stamp of one whose entry does not.
+    /// The stamp of a variable whose entry is not removable.
     pub(crate) poison: u32,
 }
 
 impl Minimiser {
-    /// Without room for a variable.
+    /// A minimiser without room for variables.
     pub(crate) fn new(alloc: Global) -> Minimiser {
         Minimiser {
             answers: Vec::new(alloc),
@@ -45,7 +45,7 @@ impl Minimiser {
         }
     }
 
-    /// Forgets all answers, and has room for the variables from 1 to `vars`.
+    /// Invalidates all answers, and makes room for the variables from 1 to `vars`.
     pub(crate) fn begin(&mut self, vars: u32) -> Result<(), AllocError>
         ensures { OnOk result (HasRoom vars self.new) }
     {
@@ -59,7 +59,7 @@ impl Minimiser {
         Ok(())
     }
 
-    /// Whether each literal of the clause of a number follows from those that were `met`, by at most `depth` reasons in a row.
+    /// Whether each literal of the clause of a number follows from literals that were `met`, by chains of at most `depth` reasons.
     pub(crate) fn follows(
         &mut self,
         arena: &Arena,
@@ -79,10 +79,10 @@ impl Minimiser {
         match arena.find(number) {
             Some(at) => {
                 for &literal in arena.clause(at) {
-                    match self.standing(trail, met, literal) {
-                        Standing::Follows => {}
-                        Standing::Fails => return false,
-                        Standing::Open(reason) => {
+                    match self.removability(trail, met, literal) {
+                        Removability::Removable => {}
+                        Removability::Poison => return false,
+                        Removability::Open(reason) => {
                             let removable = self.follows(arena, trail, met, reason, depth - 1);
                             self.note(literal.var(), removable);
                             if !removable {
@@ -97,38 +97,38 @@ impl Minimiser {
         }
     }
 
-    /// What is known of a literal. One that is not false is the one that the clause implied.
-    fn standing(&self, trail: &Trail, met: &Seen, literal: Lit) -> Standing
+    /// What is known of a literal of a reason. A literal that is not false is the one that the reason implied.
+    fn removability(&self, trail: &Trail, met: &Seen, literal: Lit) -> Removability
         requires within { IsWithin trail.now.vars literal }
         requires met { trail.now.vars < length met.now }
         requires room { HasRoom trail.now.vars self.now }
     {
         let var = literal.var();
         if met.has(var) {
-            return Standing::Follows;
+            return Removability::Removable;
         }
         let answer = self.answers[var.number() as usize];
         if answer == self.removable {
-            return Standing::Follows;
+            return Removability::Removable;
         }
         if answer == self.poison {
-            return Standing::Fails;
+            return Removability::Poison;
         }
         match trail.value(literal) {
             Truth::False => {}
-            _ => return Standing::Follows,
+            _ => return Removability::Removable,
         }
         let entry = trail.entry_of(literal.negate());
         if entry.level == 0 {
-            return Standing::Follows;
+            return Removability::Removable;
         }
         match entry.reason {
-            Some(number) => Standing::Open(number),
-            None => Standing::Fails,
+            Some(number) => Removability::Open(number),
+            None => Removability::Poison,
         }
     }
 
-    /// Keeps an answer.
+    /// Caches an answer.
     fn note(&mut self, var: Var, removable: bool)
         requires { var < length self.old.answers.items }
         ensures { length self.new.answers.items ≡ length self.old.answers.items }

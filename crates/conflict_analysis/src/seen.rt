@@ -1,4 +1,4 @@
-//! The variables that were met.
+//! A set of numbers that is emptied in constant time.
 
 ghost use Rattle.std.specs.Prelude.{◌≡◌, ℕ, ◌<◌, ◌≤◌, true, false, [], length, slice_set, All, IfOk, OnOk};
 ghost use Rattle.conflict_analysis.specs.inner.Seen.{met};
@@ -7,7 +7,8 @@ use dimacs::Var;
 use std::alloc::{AllocError, Global};
 use std::marker::Model;
 
-/// A set of variables, or of other numbers. One is in it where its stamp is the present one, so that a new stamp empties it.
+/// A set of variables, or of other small numbers, as a table of stamps. A number is in the set if its stamp is the present one, so that a
+/// new stamp empties the set.
 #[derive(Drop)]
 pub(crate) struct Seen {
     stamps: Vec<u32>,
@@ -26,7 +27,7 @@ impl Model for Seen {
 }
 
 impl Seen {
-    /// Without room for a variable.
+    /// An empty set, without room.
     pub(crate) fn new(alloc: Global) -> Seen
         ensures { result ≡ [] }
     {
@@ -36,7 +37,7 @@ impl Seen {
         }
     }
 
-    /// With room for the variables from 1 to `vars`.
+    /// An empty set, with room for the variables from 1 to `vars`.
     pub(crate) fn with_room(alloc: Global, vars: u32) -> Result<Seen, AllocError>
         ensures { IfOk result (λ seen. vars < length seen) }
     {
@@ -46,7 +47,7 @@ impl Seen {
         })
     }
 
-    /// Takes all out, and has room for the variables from 1 to `vars`.
+    /// Empties the set, and makes room for the variables from 1 to `vars`.
     pub(crate) fn restart(&mut self, vars: u32) -> Result<(), AllocError>
         ensures room { OnOk result (vars < length self.new) }
         ensures none { OnOk result ((v : ℕ) → met self.new v ≡ false) }
@@ -60,7 +61,7 @@ impl Seen {
         Ok(())
     }
 
-    /// Whether a number is in.
+    /// Whether a number is in the set.
     #[inline(always)]
     pub(crate) fn has_at(&self, row: usize) -> bool
         requires { row < length self.now }
@@ -69,7 +70,7 @@ impl Seen {
         self.stamps[row] == self.stamp
     }
 
-    /// Puts a number in.
+    /// Adds a number.
     #[inline(always)]
     pub(crate) fn insert_at(&mut self, row: usize)
         requires { row < length self.old }
@@ -78,7 +79,7 @@ impl Seen {
         self.stamps[row] = self.stamp;
     }
 
-    /// Whether a variable is in.
+    /// Whether a variable is in the set.
     #[inline(always)]
     pub(crate) fn has(&self, var: Var) -> bool
         requires { var < length self.now }
@@ -87,7 +88,7 @@ impl Seen {
         self.has_at(var.number() as usize)
     }
 
-    /// Puts a variable in.
+    /// Adds a variable.
     #[inline(always)]
     pub(crate) fn insert(&mut self, var: Var)
         requires { var < length self.old }
@@ -97,7 +98,7 @@ impl Seen {
     }
 }
 
-/// Makes at least so many places. The new ones have no stamp.
+/// Grows a table to at least `places` stamps. New stamps are 0, which is never the present one.
 pub(crate) fn make_room(stamps: &mut Vec<u32>, places: usize) -> Result<(), AllocError>
     ensures room { OnOk result (places ≤ length stamps.new.items) }
     ensures bounded { (n : ℕ) → All (λ s. s ≤ n) stamps.old.items → All (λ s. s ≤ n) stamps.new.items }
@@ -108,7 +109,7 @@ pub(crate) fn make_room(stamps: &mut Vec<u32>, places: usize) -> Result<(), Allo
     Ok(())
 }
 
-/// Takes each stamp away.
+/// Sets each stamp to 0.
 pub(crate) fn clear(stamps: &mut Vec<u32>)
     ensures len { length stamps.new.items ≡ length stamps.old.items }
     ensures cleared { All (λ s. s ≤ 0) stamps.new.items }

@@ -11,13 +11,13 @@ use Rattle.icnf.specs.Leaves.{Cube, IsFree}
 use Rattle.lrat_check.specs.declared.verdict.Reaction.TheVariants.{Ignored, Taken}
 use Rattle.frames.specs.declared.frame.Frame.TheVariants.{Task, Rest}
 use Rattle.cube_split.specs.Choice.{IsChoice, has_variable, is_apart, stands_in}
-use Rattle.cube_split.specs.Choosing.{IsChosen, IsOpen}
+use Rattle.cube_split.specs.ChoiceWithDefinitions.{IsChosen, IsUndecided}
 use Rattle.cube_split.specs.Definitions.{IsPairOf}
 use Rattle.cube_split.specs.Pairs.{AreDefined, AreOf, Precedes, together}
 use Rattle.cube_split.specs.declared.pair.Pair.{Pair}
 use Rattle.cube_split.proofs.ChoiceLemmas.{stands_nowhere}
-use Rattle.coordinator_core.specs.Coordinator.{CoordinatorState, DeliversDone, AnswersFirst, MeetsLimit, IsAwaited, split}
-use Rattle.coordinator_core.specs.declared.desks.Job.{Job}
+use Rattle.coordinator_core.specs.Coordinator.{CoordinatorState, DeliversDone, DeliversFirstDone, DeliversLimit, IsAwaited, split}
+use Rattle.coordinator_core.specs.declared.job_state.Job.{Job}
 use Rattle.coordinator_core.specs.Examples.{four, begun, begun_with_one, one_defined, polled, same_two, sent, MetLimit}
 
 same_some : {X : Type 0} (a b : X) → Some a ≡ Some b → a ≡ b
@@ -28,7 +28,7 @@ one_at_most true true = omega arith
 one_at_most true false = omega arith
 one_at_most false b = omega arith
 
--- a variable stands in no more clauses than are open
+-- a variable is in at most as many open clauses as there are
 stands_le : (clauses : List Clause) (S : List Literal) (w : ℕ) → stands_in clauses S w ≤ count_by (is_apart S) clauses
 stands_le [] S w = omega arith
 stands_le (C ∷ clauses) S w =
@@ -73,7 +73,7 @@ second_choice = record {
 pos_neg : (a b : Literal) → IsWithin 2 a → IsWithin 2 b → All (IsWithin 2) (a ∷ b ∷ [])
 pos_neg a b p q = All-from_recursion (IsWithin 2) (a ∷ b ∷ []) (p, (q, tt))
 
--- both variables have a literal in the cube of 1 and 2
+-- both variables are in the cube `1 2`
 no_choice : (v : ℕ) → ¬ (IsChoice four (Pos 1 ∷ Pos 2 ∷ []) v)
 no_choice zero choice = let some : 0 < 0 = choice.some in absurd (omega (arith, some))
 no_choice (suc zero) choice = choice.free 0 (Pos 1) (omega arith) refl
@@ -92,7 +92,7 @@ no_choice (suc (suc (suc v))) choice =
     )
 
 -- without definitions the choice is that among the formula's variables
-none_open : (F : Cnf) (S : List Literal) (j : ℕ) → IsOpen F [] S j → ⊥
+none_open : (F : Cnf) (S : List Literal) (j : ℕ) → IsUndecided F [] S j → ⊥
 none_open F S j is = never is.pair is.there
   where
     never : (p : Pair) → None ≡ Some p → ⊥
@@ -116,19 +116,19 @@ c3 = record (polled c2) { stuck = true }
 
 first_split : MetLimit (polled begun) 1 Taken c1
 first_split = DeliversDone.first (job 1) (record { deciding = record { undecided = refl; going = refl }; session_is = refl; job = refl; number_is = refl }) refl
-    (AnswersFirst.limited refl (MeetsLimit.splits 1 (record { may = record { short = omega arith; few = omega arith }; choice = IsChosen.plain (none_open four []) first_choice }) refl refl))
+    (DeliversFirstDone.limited refl (DeliversLimit.splits 1 (record { may = record { short = omega arith; few = omega arith }; choice = IsChosen.plain (none_open four []) first_choice }) refl refl))
 
 second_split : MetLimit (polled c1) 2 Taken c2
 second_split = DeliversDone.first (job 2) (record { deciding = record { undecided = refl; going = refl }; session_is = refl; job = refl; number_is = refl }) refl
-    (AnswersFirst.limited refl (MeetsLimit.splits 2 (record { may = record { short = omega arith; few = omega arith }; choice = IsChosen.plain (none_open four (Pos 1 ∷ [])) second_choice }) refl refl))
+    (DeliversFirstDone.limited refl (DeliversLimit.splits 2 (record { may = record { short = omega arith; few = omega arith }; choice = IsChosen.plain (none_open four (Pos 1 ∷ [])) second_choice }) refl refl))
 
 stopped : MetLimit (polled c2) 3 Taken c3
 stopped = DeliversDone.first (job 3) (record { deciding = record { undecided = refl; going = refl }; session_is = refl; job = refl; number_is = refl }) refl
-    (AnswersFirst.limited refl (MeetsLimit.stops (λ v can. never_chosen v can.choice) refl refl))
+    (DeliversFirstDone.limited refl (DeliversLimit.stops (λ v can. never_chosen v can.choice) refl refl))
 
--- an answer to the job before is none to this one
+-- a Done of the job before is not of this job
 once : MetLimit (polled c1) 1 Ignored (polled c1)
-once = DeliversDone.strays other refl refl
+once = DeliversDone.is_ignored other refl refl
   where
     other : (j : Job) → IsAwaited (polled c1) 1 1 1 j → ⊥
     other j awaited =
@@ -173,13 +173,13 @@ each_pair P a b c d q is =
 abbrev times : Literal → Literal → ℕ
 times l k = together same_two.clauses (record { first = l; second = k })
 
--- 1 and -2 stand together as often as -1 and 2, and come first
+-- 1 and -2 are together in as many clauses as -1 and 2, and come first
 pub pair_is : AreOf same_two one_defined
 pair_is = record {
   defined = AreDefined.next the_pair (record {
     candidate = record {
       of_formula = record { from_1 = omega arith; rise = omega arith; up_to = omega arith };
-      first_open = Contains-nil (Pos 1);
+      first_undecided = Contains-nil (Pos 1);
       second_open = Contains-nil (Neg 2);
     };
     new = Contains-nil the_pair;
@@ -194,16 +194,16 @@ pair_is = record {
     zero_or_one : {n : ℕ} → zero ≡ suc n → ⊥
     zero_or_one e = cc
 
--- nothing is known of 3
+-- 3 has no value yet
 defined_choice : IsChosen same_two (the_pair ∷ []) [] (Some 3)
 defined_choice = IsChosen.defined 0 (record { pair = the_pair; there = refl; itself = All-nil (λ l. var_of l ≢ 3); first = All-nil (λ l. var_of l ≢ 1); second = All-nil (λ l. var_of l ≢ 2) })
     (λ j lt. absurd (omega (arith, lt))) refl
 
--- with 3 both of its pair hold
+-- with 3 both literals of its pair are true
 abbrev held : List Literal
 held = Pos 3 ∷ Pos 1 ∷ Neg 2 ∷ []
 
-not_two : (i : ℕ) → IsOpen same_two (the_pair ∷ []) held i → ⊥
+not_two : (i : ℕ) → IsUndecided same_two (the_pair ∷ []) held i → ⊥
 not_two zero is = is.itself 0 (Pos 3) (omega arith) refl
 not_two (suc i) is = never is.pair is.there
   where
@@ -236,11 +236,11 @@ d2 = record (polled d1) { stuck = true }
 
 defined_split : MetLimit (polled begun_with_one) 1 Taken d1
 defined_split = DeliversDone.first (job 1) (record { deciding = record { undecided = refl; going = refl }; session_is = refl; job = refl; number_is = refl }) refl
-    (AnswersFirst.limited refl (MeetsLimit.splits 3 (record { may = record { short = omega arith; few = omega arith }; choice = defined_choice }) refl refl))
+    (DeliversFirstDone.limited refl (DeliversLimit.splits 3 (record { may = record { short = omega arith; few = omega arith }; choice = defined_choice }) refl refl))
 
 defined_stopped : MetLimit (polled d1) 2 Taken d2
 defined_stopped = DeliversDone.first (job 2) (record { deciding = record { undecided = refl; going = refl }; session_is = refl; job = refl; number_is = refl }) refl
-    (AnswersFirst.limited refl (MeetsLimit.stops (λ v can. none_left v can.choice) refl refl))
+    (DeliversFirstDone.limited refl (DeliversLimit.stops (λ v can. none_left v can.choice) refl refl))
 
 pub defined_is : (c d : CoordinatorState) × MetLimit (polled begun_with_one) 1 Taken c × (c.tree ≡ (Pos 3 ∷ []) ∷ (Neg 3 ∷ []) ∷ [])
     × (sent c ≡ Task 1 2 100 (Pos 3 ∷ [])) × MetLimit (polled c) 2 Taken d × (d.stuck ≡ true)

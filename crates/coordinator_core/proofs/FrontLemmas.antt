@@ -1,4 +1,4 @@
--- What is joined of the first leaves stays so, whatever changes behind them.
+-- The joined fragments of the first leaves stay so, whatever changes after these leaves.
 use Rattle.std.proofs.Common.{◌≡◌, ◌≢◌, ℕ, zero, suc, ◌+◌, ◌<◌, ◌≤◌, List, [], ◌∷◌, length, take, get_or, Option, Some, None, Result, Ok, Err, IfOk, refl, sym, ap, ◌∙◌, subst, arith, inl, inr}
 use Rattle.std.specs.Prelude.{position, slice_get, slice_set}
 use Rattle.std.proofs.lemmas.Bool.{cases_lt}
@@ -16,12 +16,12 @@ use Rattle.proof_join.proofs.FrontLemmas.{front_next, front_count}
 use Rattle.coordinator_core.specs.Coordinator.{is_open}
 use Rattle.coordinator_core.specs.Splits.{doubled}
 use Rattle.coordinator_core.specs.inner.Fronts.{IsFrontOfTree, IsJoined}
-use Rattle.coordinator_core.specs.inner.Tables.{LeafRows}
-use Rattle.coordinator_core.specs.declared.desks.LeafState.{LeafState}
-use Rattle.coordinator_core.specs.declared.desks.LeafState.TheVariants.{Open, Closed}
+use Rattle.coordinator_core.specs.inner.LeafTable.{LeafRows}
+use Rattle.coordinator_core.specs.declared.job_state.LeafState.{LeafState}
+use Rattle.coordinator_core.specs.declared.job_state.LeafState.TheVariants.{Open, Closed}
 use Rattle.coordinator_core.proofs.TableLemmas.{open_leaf}
 
--- ---- lists that change behind a front
+-- ---- lists that change after a prefix
 slice_get_set : {X : Type 0} (xs : List X) (i k : ℕ) (x : X) → k < i → slice_get (slice_set xs i x) k ≡ slice_get xs k
 slice_get_set [] i k x h = refl
 slice_get_set (y ∷ xs) zero k x h = absurd (omega arith)
@@ -51,7 +51,7 @@ length_branched [] i v = omega arith
 length_branched (q ∷ cubes) zero v = omega arith
 length_branched (q ∷ cubes) (suc i) v = let up = length_branched cubes i v in omega arith
 
--- a leaf that is not closed stands behind those that are joined
+-- a leaf that is not closed comes after those that are joined
 module _ (F : Cnf) (pairs : List Pair) (tree : List Cube) (leaves : List LeafState) (fragments : List (List ℕ)) where
   behind : (f : Front) (leaf : ℕ) → IsFrontOfTree F pairs tree leaves fragments f → get_or leaves leaf Closed ≢ Closed → f.count ≤ leaf
   behind f leaf h unclosed = elim (cases_lt leaf f.count) [
@@ -103,7 +103,7 @@ module _ (F : Cnf) (pairs : List Pair) (tree : List Cube) (leaves : List LeafSta
 
 -- ---- the same over a table of leaves
 module _ (F : Cnf) (pairs : List Pair) (tree : List Cube) (rows new : LeafRows) (o : Option Front) (leaf : ℕ) where
-  -- a leaf is closed, or given back
+  -- a leaf is closed, or given again
   pub rows_set : (l : LeafState) (text : List ℕ) → new ≡ record rows { states = slice_set rows.states leaf l; fragments = slice_set rows.fragments leaf text } → get_or rows.states leaf Closed ≢ Closed
       → IsJoined F pairs tree rows.states rows.fragments o → IsJoined F pairs tree new.states new.fragments o
   rows_set l text e unclosed h =
@@ -139,11 +139,11 @@ module _ (F : Cnf) (pairs : List Pair) (tree : List Cube) (rows new : LeafRows) 
 pub none_joined : (F : Cnf) (pairs : List Pair) (tree : List Cube) (leaves : List LeafState) (fragments : List (List ℕ)) (o : Option Front) → o ≡ None → IsJoined F pairs tree leaves fragments o
 none_joined F pairs tree leaves fragments o e = subst (IsJoined F pairs tree leaves fragments) (sym e) tt
 
--- so much is joined
+-- the leaves that are joined
 pub some_joined_of : (F : Cnf) (pairs : List Pair) (tree : List Cube) (leaves : List LeafState) (fragments : List (List ℕ)) (o : Option Front) (f : Front) → o ≡ Some f → IsJoined F pairs tree leaves fragments o → IsFrontOfTree F pairs tree leaves fragments f
 some_joined_of F pairs tree leaves fragments o f e h = let g : IsJoined F pairs tree leaves fragments (Some f) = subst (IsJoined F pairs tree leaves fragments) e h in g
 
--- ---- what calls answer
+-- ---- what calls return
 pub at_ok : {A E : Type 0} (r : Result A E) (x : A) (P : A → Type 0) → r ≡ Ok x → IfOk r P → P x
 at_ok (Ok y) x P e h = let same : y ≡ x = cc in subst P same h
 at_ok (Err y) x P e h = absurd cc
@@ -162,7 +162,7 @@ pub begun_count : (F : Cnf) (pairs : List Pair) (r : Result Front JoinFault) →
 begun_count F pairs (Err e) h = tt
 begun_count F pairs (Ok f) h = h.count
 
--- the next leaf is appended
+-- the fragment of the next leaf is appended
 pub next_joined : (F : Cnf) (pairs : List Pair) (tree : List Cube) (leaves : List LeafState) (fragments : List (List ℕ)) (f : Front) (q : Cube) (text : List ℕ) (place : ℕ) (r : Result Front JoinFault)
     → IsFrontOfTree F pairs tree leaves fragments f → f.count ≡ place → place < length tree → place < length fragments → slice_get leaves place ≡ Some Closed → q ≡ get_or tree place [] → text ≡ get_or fragments place []
     → IfOk r (λ j. j ≡ appended f q (steps_in text)) → IfOk r (IsFrontOfTree F pairs tree leaves fragments)

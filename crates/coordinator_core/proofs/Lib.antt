@@ -1,9 +1,9 @@
-pub mod BeginLemmas
-pub mod ClosingLemmas
+pub mod NewCoordinatorLemmas
+pub mod FragmentLemmas
 pub mod ExampleLemmas
 pub mod FrontLemmas
-pub mod GatherLemmas
-pub mod KeptLemmas
+pub mod JobEvidenceLemmas
+pub mod InvariantLemmas
 pub mod Places
 pub mod ProgressLemmas
 pub mod SplitLemmas
@@ -11,4 +11,4 @@ pub mod SplitStates
 pub mod PollLemmas
 pub mod TableLemmas
 pub mod StepLemmas
-pub mod ExtendingLemmas
+pub mod AddedClausesLemmas

@@ -1,8 +1,8 @@
--- What stands at a place after another was written.
+-- The entries of a list after one was written.
 use Rattle.std.proofs.Common.{◌≡◌, ◌≢◌, ℕ, zero, suc, ◌<◌, ◌≤◌, List, [], ◌∷◌, length, Option, Some, None, slice_get, slice_set, get_or, refl, sym, ap, ◌∙◌, ◌⊎◌, inl, inr, arith}
 use Rattle.std.proofs.lemmas.List.{set-set}
 
--- what is read after a write was written there, or was there before at another place
+-- an entry that is read after a write was written, or is at another place and unchanged
 pub got_set_cases : {X : Type 0} (xs : List X) (k i : ℕ) (y x : X) → slice_get (slice_set xs k y) i ≡ Some x
     → ((i ≡ k) × (i < length xs) × (y ≡ x)) ⊎ ((i ≢ k) × (slice_get xs i ≡ Some x))
 got_set_cases {X} [] k i y x h = absurd (nothing h)
@@ -22,7 +22,7 @@ got_set_cases {X} (a ∷ xs) (suc k) (suc i) y x h = next (got_set_cases xs k i 
     next (inl p) = let at : i ≡ k = p.0 in let lt : i < length xs = p.1 in inl (ap suc at, omega (arith, lt), p.2)
     next (inr p) = inr (λ e. p.0 (omega (arith, e)), p.1)
 
--- what stands at another place stays
+-- an entry at another place is unchanged
 pub got_set_other : {X : Type 0} (xs : List X) (k i : ℕ) (y x : X) → i ≢ k → slice_get xs i ≡ Some x → slice_get (slice_set xs k y) i ≡ Some x
 got_set_other [] k i y x n h = h
 got_set_other (a ∷ xs) zero zero y x n h = absurd (n refl)
@@ -30,13 +30,13 @@ got_set_other (a ∷ xs) zero (suc i) y x n h = h
 got_set_other (a ∷ xs) (suc k) zero y x n h = h
 got_set_other (a ∷ xs) (suc k) (suc i) y x n h = got_set_other xs k i y x (λ e. n (ap suc e)) h
 
--- what is written within a list stands there
+-- an entry that was written is read
 pub got_set_same : {X : Type 0} (xs : List X) (k : ℕ) (y : X) → k < length xs → slice_get (slice_set xs k y) k ≡ Some y
 got_set_same [] k y h = absurd (omega (arith, h))
 got_set_same (a ∷ xs) zero y h = refl
 got_set_same (a ∷ xs) (suc k) y h = got_set_same xs k y (omega (arith, h))
 
--- the same of a read with a default
+-- the same for a read with a default
 pub read_set_cases : {X : Type 0} (xs : List X) (k i : ℕ) (y d x : X) → get_or (slice_set xs k y) i d ≡ x
     → ((i ≡ k) × (y ≡ x)) ⊎ (((i ≢ k) ⊎ (length xs ≤ k)) × (get_or xs i d ≡ x))
 read_set_cases [] k i y d x h = inr (inr (omega arith), h)
@@ -54,7 +54,7 @@ read_set_cases {X} (a ∷ xs) (suc k) (suc i) y d x h = next (read_set_cases xs 
     next (inl p) = inl (ap suc p.0, p.1)
     next (inr p) = inr (other p.0, p.1)
 
--- what is read other than the default stands within the list
+-- if the entry that is read is not the default, its place is within the list
 pub read_within : {X : Type 0} (xs : List (Option X)) (i : ℕ) (x : X) → get_or xs i None ≡ Some x → i < length xs
 read_within {X} [] i x h = absurd (nothing h)
   where
@@ -71,17 +71,17 @@ got_within {X} [] i x h = absurd (nothing h)
 got_within (a ∷ xs) zero x h = omega arith
 got_within (a ∷ xs) (suc i) x h = let lt : i < length xs = got_within xs i x h in omega (arith, lt)
 
--- what stands at a place is written there again
+-- an entry is written to its own place
 pub set_read : {X : Type 0} (xs : List X) (i : ℕ) (d : X) → slice_set xs i (get_or xs i d) ≡ xs
 set_read [] i d = refl
 set_read (a ∷ xs) zero d = refl
 set_read (a ∷ xs) (suc i) d = ap (λ ys. a ∷ ys) (set_read xs i d)
 
--- another thing was written in between
+-- something else was written in between
 pub set_back : {X : Type 0} (xs : List X) (i : ℕ) (y z d : X) → get_or xs i d ≡ z → slice_set (slice_set xs i y) i z ≡ xs
 set_back xs i y z d here = set-set xs i y z ∙ ap (slice_set xs i) (sym here) ∙ set_read xs i d
 
--- what is read within a list is the same whatever the default
+-- an entry within the list is the same for each default
 pub any_default : {X : Type 0} (xs : List X) (i : ℕ) (a b : X) → i < length xs → get_or xs i a ≡ get_or xs i b
 any_default [] i a b lt = absurd (omega (arith, lt))
 any_default (x ∷ xs) zero a b lt = refl

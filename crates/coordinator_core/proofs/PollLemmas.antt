@@ -1,4 +1,4 @@
--- What a poll needs to know, over plain values.
+-- What a poll needs, over plain values.
 use Rattle.std.proofs.Common.{◌≡◌, ◌≢◌, ℕ, suc, ◌+◌, ◌-◌, ◌<◌, ◌≤◌, ◌^◌, List, [], ◌∷◌, ◌++◌, zero, length, Option, Some, None, get_or, ◌⊎◌, inl, inr, refl, subst, sym, ap, ◌∙◌, arith}
 use Rattle.std.specs.Prelude.{nat_eq, map, drop, take, min, Bool, position, slice_get, slice_set, SomeIff}
 use Rattle.std.proofs.lemmas.List.Quantifiers.{position-Some}
@@ -11,7 +11,7 @@ use Rattle.dimacs.specs.logic.Cnf.{Cnf}
 use Rattle.lrat_text.specs.Grammar.{LineSpells}
 use Rattle.lrat_text.specs.Proof.{Accepts, Refutation}
 use Rattle.lrat_text.specs.declared.step.Step.{Step}
-use Rattle.lrat_check.specs.Judging.{value_byte}
+use Rattle.lrat_check.specs.Judgement.{value_byte}
 use Rattle.lrat_check.specs.Verdicts.{Right}
 use Rattle.lrat_check.specs.declared.verdict.Verdict.{Verdict}
 use Rattle.lrat_check.specs.declared.verdict.Verdict.TheVariants.{Nothing, Model, Proof}
@@ -23,16 +23,16 @@ use Rattle.icnf.proofs.DistinctLemmas.{leaves_distinct}
 use Rattle.frames.specs.Cubes.{IsCube}
 use Rattle.frames.specs.Answers.{length_of}
 use Rattle.coordinator_core.specs.Coordinator.{CoordinatorState, job_at, is_open, gives}
-use Rattle.coordinator_core.specs.Tables.{next_of}
-use Rattle.coordinator_core.specs.inner.Tables.{LeafRows}
-use Rattle.coordinator_core.specs.declared.desks.LeafState.{LeafState}
-use Rattle.coordinator_core.specs.declared.desks.LeafState.TheVariants.{Open, GivenTo, Closed}
+use Rattle.coordinator_core.specs.NextJob.{next_of}
+use Rattle.coordinator_core.specs.inner.LeafTable.{LeafRows}
+use Rattle.coordinator_core.specs.declared.job_state.LeafState.{LeafState}
+use Rattle.coordinator_core.specs.declared.job_state.LeafState.TheVariants.{Open, GivenTo, Closed}
 use Rattle.coordinator_core.specs.Invariant.{IsCoordinator}
-use Rattle.coordinator_core.specs.declared.desks.Fixed.{Fixed}
-use Rattle.coordinator_core.specs.declared.desks.Job.{Job}
+use Rattle.coordinator_core.specs.declared.job_state.Fixed.{Fixed}
+use Rattle.coordinator_core.specs.declared.job_state.Job.{Job}
 use Rattle.coordinator_core.proofs.Places.{any_default}
 use Rattle.coordinator_core.proofs.TableLemmas.{open_leaf}
-use Rattle.coordinator_core.proofs.KeptLemmas.{HasLeaf, task_leaf, job_is, is_given, pairs_few}
+use Rattle.coordinator_core.proofs.InvariantLemmas.{HasLeaf, task_leaf, job_is, is_given, pairs_few}
 
 pub leaf_there : (c s : CoordinatorState) (w leaf : ℕ) → c ≡ s → IsCoordinator c → HasLeaf s w leaf → leaf < length s.tree
 leaf_there c s w leaf same is has = subst (λ (d : CoordinatorState). leaf < length d.tree) same (task_leaf c s w leaf same is has)
@@ -52,11 +52,11 @@ cube_is c s leaf q same is inside here =
       distinct = leaves_distinct none_twice t.is_tree.leaves leaf [] lt;
     })
 
--- the bytes so far are no more than were announced
+-- at most as many bytes were received as were announced
 pub few_bytes : (c s : CoordinatorState) (w : ℕ) (j : Job) (x : Fixed) → c ≡ s → IsCoordinator c → job_at s w ≡ Some j → j.fixed ≡ Some x → length x.evidence.bytes ≤ length_of x.evidence.finding
 few_bytes c s w j x same is at fixed = (job_is c w j (subst (λ (d : CoordinatorState). job_at d w ≡ Some j) (sym same) at) is).fits x fixed
 
--- a text that spells a step has a byte
+-- a text that spells a step has at least one byte
 some_byte : (text : List ℕ) (step : Step) (steps : List Step) → LineSpells text (step ∷ steps) → 1 ≤ length text
 some_byte text step steps spells =
     let line : List ℕ = spells.0 in
@@ -71,7 +71,7 @@ accepts_some F text accepts = go accepts.0 accepts.1 accepts.2
     go [] spells refutation = absurd refutation
     go (step ∷ steps) spells refutation = some_byte text step steps spells
 
--- a proof that is held has a byte
+-- a proof that is held has at least one byte
 pub some_bytes : (F : Cnf) (v : Verdict) → v ≢ Nothing → Right F v → answer_in v ≡ answers.Refuted → 1 ≤ length (bytes_in v)
 some_bytes F Nothing some right refuted = absurd (some refl)
 some_bytes F (Model values) some right refuted = cc
@@ -80,14 +80,14 @@ some_bytes F (Proof text) some right refuted = accepts_some F text right
 pub held_bytes : (c s : CoordinatorState) → c ≡ s → IsCoordinator c → s.verdict ≢ Nothing → answer_in c.verdict ≡ answers.Refuted → 1 ≤ length (bytes_in c.verdict)
 held_bytes c s same is some = some_bytes c.formula c.verdict (subst (λ (d : CoordinatorState). d.verdict ≢ Nothing) (sym same) some) is.right
 
--- the noted offset of a worker is one of a byte
+-- the noted offset of a worker is below the number of bytes
 pub wanted_here : (c s : CoordinatorState) (w n offset : ℕ) (o : Option ℕ) → c ≡ s → n ≡ w → 1 ≤ n → w ≤ length s.jobs → IsCoordinator c → o ≡ get_or c.wants (n - 1) o → o ≡ Some offset → offset < length (bytes_in c.verdict)
 wanted_here c s w zero offset o same number from_1 known is here some = absurd (omega (arith, from_1))
 wanted_here c s w (suc k) offset o same number from_1 known is here some =
-    let desk : suc k - 1 ≡ k = omega arith in
+    let slot : suc k - 1 ≡ k = omega arith in
     let jobs : length c.jobs ≡ length s.jobs = ap (λ (d : CoordinatorState). length d.jobs) same in
     let inside : k < length c.wants = omega (arith, jobs, known, number, is.tables.each_want) in
-    let read : o ≡ get_or c.wants k o = here ∙ ap (λ (i : ℕ). get_or c.wants i o) desk in
+    let read : o ≡ get_or c.wants k o = here ∙ ap (λ (i : ℕ). get_or c.wants i o) slot in
     is.wanted (suc k) offset (any_default c.wants k None o inside ∙ sym read ∙ some)
 
 -- at most 4,000 items of a rest
@@ -101,7 +101,7 @@ model_part v values part offset out is bytes front =
     let there : take 4000 (drop offset (bytes_in v)) ≡ take 4000 (drop offset (map value_byte values)) = ap (λ (u : Verdict). take 4000 (drop offset (bytes_in u))) is in
     bytes ∙ ap (map value_byte) front ∙ sym (take-map value_byte 4000 (drop offset values)) ∙ ap (take 4000) (sym (drop-map value_byte offset values)) ∙ sym there
 
--- the leftmost open leaf is given under the next number
+-- the leftmost open leaf is given with the next number
 pub given_is : (c : CoordinatorState) (w n leaf number next : ℕ) (rows : LeafRows) → 1 ≤ n → n ≡ w → IsCoordinator c → c.next ≡ number → number < 2 ^ 64 → position is_open c.leaves ≡ Some leaf
     → rows ≡ record { states = slice_set c.leaves leaf (GivenTo w); fragments = c.fragments } → next ≡ number + 1
     → IsCoordinator (record c { leaves = rows.states; fragments = rows.fragments; jobs = slice_set c.jobs (n - 1) (Some (record { number = number; leaf = leaf; fixed = None })); next = next })

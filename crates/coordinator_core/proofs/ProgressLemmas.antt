@@ -1,11 +1,11 @@
--- How many leaves are closed.
+-- The number of closed leaves.
 use Rattle.std.proofs.Common.{◌≡◌, ℕ, ◌+◌, ◌-◌, cond, List, [], ◌∷◌, length, refl, arith}
 use Rattle.std.specs.Prelude.{count_by}
 use Rattle.std.proofs.lemmas.List.Sums.{sum_by-cons}
 use Rattle.coordinator_core.specs.Progress.{is_closed}
-use Rattle.coordinator_core.specs.inner.Tables.{IsLeafTable, is_unclosed}
-use Rattle.coordinator_core.specs.declared.desks.LeafState.{LeafState}
-use Rattle.coordinator_core.specs.declared.desks.LeafState.TheVariants.{Open, GivenTo, Closed}
+use Rattle.coordinator_core.specs.inner.LeafTable.{IsLeafTable, is_unclosed}
+use Rattle.coordinator_core.specs.declared.job_state.LeafState.{LeafState}
+use Rattle.coordinator_core.specs.declared.job_state.LeafState.TheVariants.{Open, GivenTo, Closed}
 
 one_more : (l : LeafState) (states : List LeafState) → count_by is_closed (l ∷ states) ≡ cond (is_closed l) 1 0 + count_by is_closed states
 one_more l states = sum_by-cons (λ x. cond (is_closed x) 1 0) l states

@@ -1,4 +1,4 @@
--- What stands where after a leaf was split.
+-- The places of leaves after a split.
 use Rattle.std.proofs.Common.{◌≡◌, ◌≢◌, ℕ, zero, suc, ◌+◌, ◌<◌, ◌≤◌, Bool, List, [], ◌∷◌, ◌++◌, length, map, take, drop, Option, Some, None, slice_get, slice_set, get_or, refl, sym, ap, ◌∙◌, ◌⊎◌, inl, inr, arith, add-one}
 use Rattle.std.specs.Prelude.{if◌then◌else◌}
 use Rattle.std.specs.List.{All, insert}
@@ -8,7 +8,7 @@ use Rattle.std.proofs.lemmas.List.Elements.{All-cons, All-head, All-tail}
 use Rattle.dimacs.specs.logic.Literal.{Pos, Neg}
 use Rattle.icnf.specs.Leaves.{Cube, branched}
 use Rattle.coordinator_core.specs.Splits.{shifted, doubled, shifted_job}
-use Rattle.coordinator_core.specs.declared.desks.Job.{Job}
+use Rattle.coordinator_core.specs.declared.job_state.Job.{Job}
 use Rattle.coordinator_core.proofs.Places.{any_default}
 
 -- the same place by recursion
@@ -72,7 +72,7 @@ doubled_same [] i y lt = absurd (omega (arith, lt))
 doubled_same (x ∷ xs) zero y lt = (refl, refl)
 doubled_same (x ∷ xs) (suc i) y lt = doubled_same xs i y (omega (arith, lt))
 
--- what stood in the doubled place does not matter
+-- the old entry at the doubled place does not matter
 pub doubled_set : {X : Type 0} (xs : List X) (i : ℕ) (x y : X) → doubled i x (slice_set xs i y) ≡ doubled i x xs
 doubled_set [] i x y = refl
 doubled_set (a ∷ xs) zero x y = refl
@@ -88,14 +88,14 @@ branched_length [] i v lt = absurd (omega (arith, lt))
 branched_length (x ∷ xs) zero v lt = refl
 branched_length (x ∷ xs) (suc i) v lt = ap suc (branched_length xs i v (omega (arith, lt)))
 
--- before the doubled place nothing changes
+-- entries before the doubled place are unchanged
 pub doubled_before : {X : Type 0} (xs : List X) (i k : ℕ) (y d : X) → k < i → get_or (doubled i y xs) k d ≡ get_or xs k d
 doubled_before [] i k y d lt = refl
 doubled_before (x ∷ xs) zero k y d lt = absurd (omega (arith, lt))
 doubled_before (x ∷ xs) (suc i) zero y d lt = refl
 doubled_before (x ∷ xs) (suc i) (suc k) y d lt = doubled_before xs i k y d (omega (arith, lt))
 
--- each place is one of the two branches, or another leaf's
+-- each place is that of one of the two branches, or of another leaf
 abbrev pub IsUnshifted : ℕ → ℕ → Type 0
 IsUnshifted i p = (p ≡ i) ⊎ ((p ≡ suc i) ⊎ ((k : ℕ) × (k ≢ i) × (p ≡ shifted i k)))
 
@@ -152,7 +152,7 @@ inserted_map f [] i a b y lt p q = absurd (omega (arith, lt))
 inserted_map f (x ∷ xs) zero a b y lt p q = rw (p, q) refl
 inserted_map {X} {Y} f (x ∷ xs) (suc i) a b y lt p q = ap (λ (zs : List Y). f x ∷ zs) (inserted_map f xs i a b y (omega (arith, lt)) p q)
 
--- a list of which a front was changed, entry by entry
+-- a list of which a prefix was changed, entry by entry
 abbrev pub walked : {X : Type 0} → (X → X) → List X → ℕ → List X
 walked f xs i = map f (take i xs) ++ drop i xs
 
@@ -173,12 +173,12 @@ walked_suc f (x ∷ xs) (suc i) d y lt e = ap (λ zs. f x ∷ zs) (walked_suc f 
 pub walked_more : {X : Type 0} (f : X → X) (xs : List X) (i : ℕ) (d y : X) → i < length xs → y ≡ f (get_or xs i d) → slice_set (walked f xs i) i y ≡ walked f xs (i + 1)
 walked_more f xs i d y lt e = walked_suc f xs i d y lt e ∙ ap (walked f xs) (sym (add-one i))
 
--- what is read next was there from the beginning
+-- the next entry is unchanged so far
 pub walked_read : {X : Type 0} (f : Option X → Option X) (xs now : List (Option X)) (i : ℕ) (o p : Option X) → i < length xs → now ≡ walked f xs i → p ≡ get_or now i p → o ≡ p → o ≡ get_or xs i None
 walked_read f xs now i o p lt e read took =
     took ∙ read ∙ ap (λ zs. get_or zs i p) e ∙ walked_at f xs i p lt ∙ any_default xs i p None lt
 
--- and what is written in its place is changed
+-- and is replaced by the changed one
 pub walked_next : {X : Type 0} (f : Option X → Option X) (xs now : List (Option X)) (i : ℕ) (o y z : Option X) → i < length xs → now ≡ walked f xs i → o ≡ get_or xs i None → y ≡ f o
     → slice_set (slice_set now i z) i y ≡ walked f xs (i + 1)
 walked_next f xs now i o y z lt e read made =

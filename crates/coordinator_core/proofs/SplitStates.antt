@@ -1,4 +1,4 @@
--- A leaf is split: what a coordinator keeps, over plain values.
+-- A leaf is split: the invariant of the coordinator, over plain values.
 use Rattle.std.proofs.Common.{◌≡◌, ◌≢◌, ℕ, suc, ◌+◌, ◌-◌, ◌<◌, ◌≤◌, true, List, [], ◌∷◌, length, map, Option, Some, None, slice_get, slice_set, get_or, refl, subst, sym, ap, ◌∙◌, ◌⊎◌, inl, inr, arith}
 use Rattle.std.proofs.lemmas.List.{length-append, length-map, length-set}
 use Rattle.std.proofs.lemmas.List.Elements.{All-push}
@@ -8,18 +8,18 @@ use Rattle.icnf.specs.Leaves.{Cube, IsFree, branched}
 use Rattle.icnf.proofs.LeavesLemmas.{leaves_branched}
 use Rattle.lrat_text.specs.Log.{Closes}
 use Rattle.lrat_check.specs.declared.verdict.Reaction.TheVariants as reaction
-use Rattle.cube_split.specs.Choosing.{Chooses}
+use Rattle.cube_split.specs.ChoiceWithDefinitions.{Chooses}
 use Rattle.cube_split.proofs.ChosenLemmas.{chosen_free, chosen_within}
 use Rattle.cube_split.proofs.OnceLemmas.{one_choice}
-use Rattle.evidence.specs.Jobs.{IsInside}
+use Rattle.evidence.specs.Jobs.{IsOverBase}
 use Rattle.coordinator_core.specs.Splits.{doubled, shifted, shifted_job}
-use Rattle.coordinator_core.specs.Coordinator.{CoordinatorState, CanSplit, MaySplit, MeetsLimit, coordinator_base, coordinator_opening, cube_at, job_at, split}
+use Rattle.coordinator_core.specs.Coordinator.{CoordinatorState, CanSplit, MaySplit, DeliversLimit, coordinator_base, coordinator_opening, cube_at, job_at, split}
 use Rattle.coordinator_core.specs.Invariant.{IsCoordinator, IsTreeOf, IsJobAt}
-use Rattle.coordinator_core.specs.inner.Tables.{LeafRows}
-use Rattle.coordinator_core.specs.declared.desks.Job.{Job}
-use Rattle.coordinator_core.specs.declared.desks.LeafState.{LeafState}
-use Rattle.coordinator_core.specs.declared.desks.LeafState.TheVariants.{Open, GivenTo, Closed}
-use Rattle.coordinator_core.proofs.KeptLemmas.{HasLeaf, dropped_jobs, job_is, leaf_within}
+use Rattle.coordinator_core.specs.inner.LeafTable.{LeafRows}
+use Rattle.coordinator_core.specs.declared.job_state.Job.{Job}
+use Rattle.coordinator_core.specs.declared.job_state.LeafState.{LeafState}
+use Rattle.coordinator_core.specs.declared.job_state.LeafState.TheVariants.{Open, GivenTo, Closed}
+use Rattle.coordinator_core.proofs.InvariantLemmas.{HasLeaf, dropped_jobs, job_is, leaf_within}
 use Rattle.coordinator_core.proofs.Places.{got_within, got_set_same, read_set_cases}
 use Rattle.coordinator_core.proofs.SplitLemmas.{IsUnshifted, all_branched, branched_length, branched_read, doubled_at, doubled_length, doubled_read, doubled_same, doubled_set, job_before, shift_at, unshifted}
 
@@ -32,14 +32,14 @@ none_some a e = cc
 open_is_not_closed : Open ≢ Closed
 open_is_not_closed e = cc
 
--- a leaf that is split leaves a tree over the base's variables
+-- after a split the tree is over the base's variables
 split_tree : (c : CoordinatorState) (leaf v : ℕ) → IsCoordinator c → leaf < length c.tree → CanSplit c leaf v → IsTreeOf (coordinator_base c) (branched leaf v c.tree)
 split_tree c leaf v is inside can =
     let t = is.grounds.tree_is in
     let within = chosen_within c.formula (coordinator_opening c) (cube_at c leaf) v is.grounds.formula.within can.choice in
     let short = can.may.short in
     let free : IsFree (cube_at c leaf) v = chosen_free c.formula (coordinator_opening c) (cube_at c leaf) v can.choice in
-    let cube_inside : IsInside (coordinator_base c) (cube_at c leaf) = t.inside leaf [] inside in
+    let cube_inside : IsOverBase (coordinator_base c) (cube_at c leaf) = t.inside leaf [] inside in
     let few = can.may.few in
     record {
       is_tree = record {
@@ -48,7 +48,7 @@ split_tree c leaf v is inside can =
         short = all_branched (λ (q : Cube). length q ≤ 64) c.tree leaf v
             (omega (arith, short, length-append (cube_at c leaf) (Pos v ∷ []))) (omega (arith, short, length-append (cube_at c leaf) (Neg v ∷ []))) t.is_tree.short;
       };
-      inside = all_branched (IsInside (coordinator_base c)) c.tree leaf v
+      inside = all_branched (IsOverBase (coordinator_base c)) c.tree leaf v
           (All-push (IsWithin (coordinator_base c).vars) (cube_at c leaf) (Pos v) cube_inside within) (All-push (IsWithin (coordinator_base c).vars) (cube_at c leaf) (Neg v) cube_inside within) t.inside;
     }
 
@@ -57,7 +57,7 @@ pub is_split : (c : CoordinatorState) (worker : ℕ) (j : Job) (v : ℕ) → job
 is_split c worker j v at can is = record {
   right = is.right;
   ended = λ all. absurd (open_is_not_closed (sym (get_or_from_slice_get (doubled j.leaf Open c.leaves) j.leaf Open Open branches.0) ∙ all j.leaf Open (got_within (doubled j.leaf Open c.leaves) j.leaf Open branches.0)));
-  grounds = record { formula = is.grounds.formula; defined = is.grounds.defined; planted_is = is.grounds.planted_is; tree_is = split_tree c j.leaf v is in_tree can };
+  grounds = record { formula = is.grounds.formula; defined = is.grounds.defined; initial_is = is.grounds.initial_is; tree_is = split_tree c j.leaf v is in_tree can };
   tables = record {
     each_leaf = doubled_length c.leaves j.leaf Open inside ∙ ap suc is.tables.each_leaf ∙ sym (branched_length c.tree j.leaf v in_tree);
     each_fragment = doubled_length c.fragments j.leaf [] (omega (arith, in_tree, is.tables.each_fragment)) ∙ ap suc is.tables.each_fragment ∙ sym (branched_length c.tree j.leaf v in_tree);
@@ -109,7 +109,7 @@ is_split c worker j v at can is = record {
         subst (λ (q : Cube). Closes (coordinator_base c) q (get_or (doubled j.leaf [] c.fragments) i [])) (sym cube)
         (subst (Closes (coordinator_base c) (cube_at c k)) (sym text) (is.closing k was))
 
--- the same by the names that the code has for its tables
+-- the same in the names of the code's tables
 abbrev pub torn : CoordinatorState → List Cube → LeafRows → List (Option Job) → CoordinatorState
 torn c tree rows jobs = record c { tree = tree; leaves = rows.states; fragments = rows.fragments; jobs = jobs }
 
@@ -138,12 +138,12 @@ pub torn_same : (c s : CoordinatorState) (w n leaf v : ℕ) (tree : List Cube) (
 torn_same c s w n leaf v tree rows jobs same number (i, there, at) t j job =
     torn_is c w n leaf v tree rows jobs number t j (ap (λ (k : Job). k.leaf) (same_some j i (sym job ∙ there)) ∙ at) ∙ ap (λ (d : CoordinatorState). split d w j v) same
 
--- no literal of the leaf is of the variable that was chosen
+-- the chosen variable is not in the leaf's cube
 pub leaf_free : (c s : CoordinatorState) (leaf v : ℕ) → c ≡ s → CanSplit s leaf v → IsFree (get_or c.tree leaf []) v
 leaf_free c s leaf v same can =
     subst (λ (d : CoordinatorState). IsFree (get_or d.tree leaf []) v) (sym same) (chosen_free s.formula (coordinator_opening s) (cube_at s leaf) v can.choice)
 
--- each job has a leaf among the 65,536 that there are at most
+-- the leaf of each job has a place below 65,536
 pub jobs_low : (c : CoordinatorState) (n : ℕ) → IsCoordinator c → (k : ℕ) (j : Job) → get_or (slice_set c.jobs n None) k None ≡ Some j → j.leaf < 65536
 jobs_low c n is k j h = go (read_set_cases c.jobs n k None None (Some j) h)
   where
@@ -151,19 +151,19 @@ jobs_low c n is k j h = go (read_set_cases c.jobs n k None None (Some j) h)
     go (inl p) = absurd (none_some j p.1)
     go (inr p) = let lt = leaf_within c.leaves k j (is.jobs k j p.1) in omega (arith, lt, is.tables.each_leaf, is.grounds.tree_is.is_tree.count)
 
--- a limit that is met by a leaf that can be split
+-- a limit that was met under a leaf that can be split
 pub limit_splits : (s t new : CoordinatorState) (w leaf v : ℕ) → t ≡ s → HasLeaf s w leaf → MaySplit s leaf → Chooses s.formula (coordinator_opening s) (cube_at s leaf) (Some v)
-    → ((j : Job) → job_at t w ≡ Some j → new ≡ split t w j v) → (j : Job) → job_at s w ≡ Some j → MeetsLimit s w j reaction.Taken new
+    → ((j : Job) → job_at t w ≡ Some j → new ≡ split t w j v) → (j : Job) → job_at s w ≡ Some j → DeliversLimit s w j reaction.Taken new
 limit_splits s t new w leaf v same (i, there, at) may choice now j job =
     let leaf_is : j.leaf ≡ leaf = ap (λ (k : Job). k.leaf) (same_some j i (sym job ∙ there)) ∙ at in
     let can : CanSplit s leaf v = record { may = may; choice = choice } in
-    MeetsLimit.splits v (subst (λ (l : ℕ). CanSplit s l v) (sym leaf_is) can) refl
+    DeliversLimit.splits v (subst (λ (l : ℕ). CanSplit s l v) (sym leaf_is) can) refl
     (now j (subst (λ (d : CoordinatorState). job_at d w ≡ Some j) (sym same) job) ∙ ap (λ (d : CoordinatorState). split d w j v) same)
 
--- and by a leaf for which the rule chooses no variable
+-- and under a leaf for which the split rule chooses no variable
 pub limit_stops : (s t new : CoordinatorState) (w leaf : ℕ) → t ≡ s → HasLeaf s w leaf → Chooses s.formula (coordinator_opening s) (cube_at s leaf) None → new ≡ record t { stuck = true }
-    → (j : Job) → job_at s w ≡ Some j → MeetsLimit s w j reaction.Taken new
+    → (j : Job) → job_at s w ≡ Some j → DeliversLimit s w j reaction.Taken new
 limit_stops s t new w leaf same (i, there, at) none now j job =
     let leaf_is : j.leaf ≡ leaf = ap (λ (k : Job). k.leaf) (same_some j i (sym job ∙ there)) ∙ at in
-    MeetsLimit.stops (λ v can. none_some v (one_choice s.formula (coordinator_opening s) (cube_at s leaf) None (Some v) none (subst (λ (l : ℕ). Chooses s.formula (coordinator_opening s) (cube_at s l) (Some v)) leaf_is can.choice)))
+    DeliversLimit.stops (λ v can. none_some v (one_choice s.formula (coordinator_opening s) (cube_at s leaf) None (Some v) none (subst (λ (l : ℕ). Chooses s.formula (coordinator_opening s) (cube_at s l) (Some v)) leaf_is can.choice)))
     refl (now ∙ ap (λ (d : CoordinatorState). record d { stuck = true }) same)

@@ -1,4 +1,4 @@
--- Every step of a coordinator keeps what it is.
+-- Every step of a coordinator keeps its invariant.
 use Rattle.std.proofs.Common.{◌≡◌, ℕ, ◌+◌, ◌<◌, ◌≤◌, ◌^◌, nat_lt, Bool, true, false, List, length, map, Option, Some, None, refl, subst, sym, ap, ◌∙◌, inl, inr, arith, length-append}
 use Rattle.std.specs.Prelude.{All, position}
 use Rattle.std.proofs.lemmas.Bool.{ltb-true}
@@ -8,7 +8,7 @@ use Rattle.std.proofs.lemmas.Option.{slice_get-get_or}
 use Rattle.dimacs.specs.logic.Cnf.{Cnf, IsFormula}
 use Rattle.icnf.specs.Leaves.{Cube}
 use Rattle.lrat_text.specs.Proof.{Accepts}
-use Rattle.lrat_check.specs.Judging.{value_byte}
+use Rattle.lrat_check.specs.Judgement.{value_byte}
 use Rattle.lrat_check.specs.declared.verdict.Reaction.{Reaction}
 use Rattle.lrat_check.specs.declared.verdict.Verdict.{Verdict}
 use Rattle.lrat_check.specs.declared.verdict.Verdict.TheVariants.{Nothing, Model, Proof}
@@ -21,24 +21,24 @@ use Rattle.frames.specs.declared.frame.Frame.TheVariants.{Task, Done, Fetch, Pie
 use Rattle.cube_split.specs.Definitions.{IsPairOf, base_with}
 use Rattle.cube_split.specs.declared.pair.Pair.{Pair}
 use Rattle.proof_join.specs.Definitions.{JoinedOver}
-use Rattle.proof_join.specs.Joining.{AllClose}
+use Rattle.proof_join.specs.JoinedProof.{AllClose}
 use Rattle.evidence.specs.Evidence.{bytes_in, with_bytes, IsRightEvidence}
 use Rattle.evidence.specs.Events.{Event, Delivered, Worked, Polled, Lost, Given, Reacted, Sent, Silent}
-use Rattle.coordinator_core.specs.Coordinator.{CoordinatorState, IsDeciding, EndsFragment, EndsAssignment, Gathers, MeetsLimit, AnswersFirst, DeliversDone, DeliversPiece, DeliversIdle, DeliversWant, CoordinatorDelivers, CoordinatorPolls, CoordinatorStep, coordinator_base, with_job, fixing, job_at, want_at, is_open, verdict_poll, leaf_poll, fixed_poll, job_poll, stuck_poll, poll_by, lost_by}
+use Rattle.coordinator_core.specs.Coordinator.{CoordinatorState, IsDeciding, CompletesFragment, CompletesAssignment, ReceivesJobEvidence, DeliversLimit, DeliversFirstDone, DeliversDone, DeliversPiece, DeliversIdle, DeliversWant, CoordinatorDelivers, CoordinatorPolls, CoordinatorStep, coordinator_base, with_job, with_fixed, job_at, want_at, is_open, verdict_poll, leaf_poll, fixed_poll, job_poll, stuck_poll, poll_by, lost_by}
 use Rattle.coordinator_core.specs.Invariant.{IsCoordinator, IsNote}
-use Rattle.coordinator_core.specs.declared.desks.Fixed.{Fixed}
-use Rattle.coordinator_core.specs.declared.desks.Job.{Job}
-use Rattle.coordinator_core.specs.declared.desks.LeafState.{LeafState}
-use Rattle.coordinator_core.specs.declared.desks.LeafState.TheVariants.{Open, GivenTo, Closed}
+use Rattle.coordinator_core.specs.declared.job_state.Fixed.{Fixed}
+use Rattle.coordinator_core.specs.declared.job_state.Job.{Job}
+use Rattle.coordinator_core.specs.declared.job_state.LeafState.{LeafState}
+use Rattle.coordinator_core.specs.declared.job_state.LeafState.TheVariants.{Open, GivenTo, Closed}
 use Rattle.coordinator_core.proofs.SplitStates.{is_split}
-use Rattle.coordinator_core.proofs.KeptLemmas.{pairs_few, pairs_inside, with_fixed_is, is_reopened, is_given, is_stuck, is_decided, closed_all, is_closed, is_noted}
+use Rattle.coordinator_core.proofs.InvariantLemmas.{pairs_few, pairs_inside, with_fixed_is, is_reopened, is_given, is_stuck, is_decided, closed_all, is_closed, is_noted}
 
--- what is joined of fragments that close all leaves is an accepted proof
+-- fragments that close the cubes of all leaves are joined into an accepted proof
 abbrev pub JoiningLaw : Type 0
 JoiningLaw = (F : Cnf) (pairs : List Pair) (leaves : List Cube) (texts : List (List ℕ)) (text : List ℕ)
     → IsFormula F → All (IsPairOf F.vars) pairs → length pairs ≤ 64 → AllClose (base_with F pairs) leaves texts → JoinedOver F pairs leaves texts text → length text < 2 ^ 32 → Accepts F text
 
--- the values of a formula's variables are few
+-- the number of a formula's variables is below 2^32
 values_short : (F : Cnf) (bytes : List ℕ) (v : Verdict) → IsFormula F → IsRightEvidence F answers.Assignment bytes v → length (bytes_in v) < 2 ^ 32
 values_short F bytes v formula e =
     let a = e.bears.0 in
@@ -52,75 +52,75 @@ fits_some x y h e = subst (λ (z : Fixed). length z.evidence.bytes ≤ length_of
     same p = cc
 
 module _ (law : JoiningLaw) where
-  -- so is what is joined at a coordinator
+  -- the same for the fragments of a coordinator
   joined_accepts : (c : CoordinatorState) (texts : List (List ℕ)) (text : List ℕ) → IsCoordinator c → AllClose (coordinator_base c) c.tree texts
       → JoinedOver c.formula c.definitions.pairs c.tree texts text → length text < 2 ^ 32 → Accepts c.formula text
   joined_accepts c texts text is closes joined short =
       law c.formula c.definitions.pairs c.tree texts text is.grounds.formula (pairs_inside c is) (pairs_few c is) closes joined short
 
   fragment_keeps : (c : CoordinatorState) (worker : ℕ) (j : Job) (text : List ℕ) (answer : Reaction) (new : CoordinatorState)
-      → IsCoordinator c → job_at c worker ≡ Some j → IsDeciding c → EndsFragment c worker j text answer new → IsCoordinator new
-  fragment_keeps c worker j text answer new is at deciding (EndsFragment.wrong never a now) = subst IsCoordinator (sym now) (is_reopened c worker j at is)
-  fragment_keeps c worker j text answer new is at deciding (EndsFragment.closes closes some a now) =
+      → IsCoordinator c → job_at c worker ≡ Some j → IsDeciding c → CompletesFragment c worker j text answer new → IsCoordinator new
+  fragment_keeps c worker j text answer new is at deciding (CompletesFragment.wrong never a now) = subst IsCoordinator (sym now) (is_reopened c worker j at is)
+  fragment_keeps c worker j text answer new is at deciding (CompletesFragment.closes closes some a now) =
       subst IsCoordinator (sym now) (is_closed c worker j text c.verdict c.stuck at is deciding.undecided closes is.right is.short is.stuck (λ all. absurd (some all)))
-  fragment_keeps c worker j text answer new is at deciding (EndsFragment.joins closes all proof joined short a now) =
+  fragment_keeps c worker j text answer new is at deciding (CompletesFragment.joins closes all proof joined short a now) =
       subst IsCoordinator (sym now) (is_closed c worker j text (Proof proof) c.stuck at is deciding.undecided closes
       (joined_accepts c _ proof is (closed_all c worker j text is closes all) joined short) short (λ stuck. not_both stuck)
       (λ _. record { text = proof; joined = joined; end = inl refl }))
     where
       not_both : c.stuck ≡ true → Proof proof ≡ Nothing
       not_both stuck = let e : false ≡ true = sym deciding.going ∙ stuck in cc
-  fragment_keeps c worker j text answer new is at deciding (EndsFragment.too_long closes all proof joined long a now) =
+  fragment_keeps c worker j text answer new is at deciding (CompletesFragment.too_long closes all proof joined long a now) =
       subst IsCoordinator (sym now) (is_closed c worker j text c.verdict true at is deciding.undecided closes is.right is.short (λ _. deciding.undecided)
       (λ _. record { text = proof; joined = joined; end = inr (refl, long) }))
 
   assignment_keeps : (c : CoordinatorState) (worker : ℕ) (j : Job) (x : Fixed) (answer : Reaction) (new : CoordinatorState)
-      → IsCoordinator c → job_at c worker ≡ Some j → IsDeciding c → length x.evidence.bytes ≤ length_of x.evidence.finding → EndsAssignment c worker j x answer new → IsCoordinator new
-  assignment_keeps c worker j x answer new is at deciding fits (EndsAssignment.holds v right a now) =
-      let kept : IsCoordinator (with_job c worker (Some (fixing j x))) = with_fixed_is c worker j (fixing j x) at refl (λ y e. fits_some x y fits e) is in
-      let still : IsDeciding (with_job c worker (Some (fixing j x))) = record { undecided = deciding.undecided; going = deciding.going } in
-      subst IsCoordinator (sym now) (is_decided (with_job c worker (Some (fixing j x))) v still right.right (values_short c.formula _ v is.grounds.formula right) kept)
-  assignment_keeps c worker j x answer new is at deciding fits (EndsAssignment.wrong never a now) = subst IsCoordinator (sym now) (is_reopened c worker j at is)
+      → IsCoordinator c → job_at c worker ≡ Some j → IsDeciding c → length x.evidence.bytes ≤ length_of x.evidence.finding → CompletesAssignment c worker j x answer new → IsCoordinator new
+  assignment_keeps c worker j x answer new is at deciding fits (CompletesAssignment.holds v right a now) =
+      let kept : IsCoordinator (with_job c worker (Some (with_fixed j x))) = with_fixed_is c worker j (with_fixed j x) at refl (λ y e. fits_some x y fits e) is in
+      let still : IsDeciding (with_job c worker (Some (with_fixed j x))) = record { undecided = deciding.undecided; going = deciding.going } in
+      subst IsCoordinator (sym now) (is_decided (with_job c worker (Some (with_fixed j x))) v still right.right (values_short c.formula _ v is.grounds.formula right) kept)
+  assignment_keeps c worker j x answer new is at deciding fits (CompletesAssignment.wrong never a now) = subst IsCoordinator (sym now) (is_reopened c worker j at is)
 
   gathers_keeps : (c : CoordinatorState) (worker : ℕ) (j : Job) (x : Fixed) (answer : Reaction) (new : CoordinatorState)
-      → IsCoordinator c → job_at c worker ≡ Some j → IsDeciding c → length x.evidence.bytes ≤ length_of x.evidence.finding → Gathers c worker j x answer new → IsCoordinator new
-  gathers_keeps c worker j x answer new is at deciding fits (Gathers.waits more a now) =
-      subst IsCoordinator (sym now) (with_fixed_is c worker j (fixing j x) at refl (λ y e. fits_some x y fits e) is)
-  gathers_keeps c worker j x answer new is at deciding fits (Gathers.fragment complete refuted ends) = fragment_keeps c worker j x.evidence.bytes answer new is at deciding ends
-  gathers_keeps c worker j x answer new is at deciding fits (Gathers.assignment complete assigned ends) = assignment_keeps c worker j x answer new is at deciding fits ends
-  gathers_keeps c worker j x answer new is at deciding fits (Gathers.no_memory grows a now) = subst IsCoordinator (sym now) is
+      → IsCoordinator c → job_at c worker ≡ Some j → IsDeciding c → length x.evidence.bytes ≤ length_of x.evidence.finding → ReceivesJobEvidence c worker j x answer new → IsCoordinator new
+  gathers_keeps c worker j x answer new is at deciding fits (ReceivesJobEvidence.waits more a now) =
+      subst IsCoordinator (sym now) (with_fixed_is c worker j (with_fixed j x) at refl (λ y e. fits_some x y fits e) is)
+  gathers_keeps c worker j x answer new is at deciding fits (ReceivesJobEvidence.fragment complete refuted ends) = fragment_keeps c worker j x.evidence.bytes answer new is at deciding ends
+  gathers_keeps c worker j x answer new is at deciding fits (ReceivesJobEvidence.assignment complete assigned ends) = assignment_keeps c worker j x answer new is at deciding fits ends
+  gathers_keeps c worker j x answer new is at deciding fits (ReceivesJobEvidence.no_memory grows a now) = subst IsCoordinator (sym now) is
 
   limit_keeps : (c : CoordinatorState) (worker : ℕ) (j : Job) (answer : Reaction) (new : CoordinatorState)
-      → IsCoordinator c → job_at c worker ≡ Some j → IsDeciding c → MeetsLimit c worker j answer new → IsCoordinator new
-  limit_keeps c worker j answer new is at deciding (MeetsLimit.splits v can a now) = subst IsCoordinator (sym now) (is_split c worker j v at can is)
-  limit_keeps c worker j answer new is at deciding (MeetsLimit.stops whole a now) = subst IsCoordinator (sym now) (is_stuck c deciding is)
-  limit_keeps c worker j answer new is at deciding (MeetsLimit.no_memory may a now) = subst IsCoordinator (sym now) is
+      → IsCoordinator c → job_at c worker ≡ Some j → IsDeciding c → DeliversLimit c worker j answer new → IsCoordinator new
+  limit_keeps c worker j answer new is at deciding (DeliversLimit.splits v can a now) = subst IsCoordinator (sym now) (is_split c worker j v at can is)
+  limit_keeps c worker j answer new is at deciding (DeliversLimit.stops whole a now) = subst IsCoordinator (sym now) (is_stuck c deciding is)
+  limit_keeps c worker j answer new is at deciding (DeliversLimit.no_memory may a now) = subst IsCoordinator (sym now) is
 
   first_keeps : (c : CoordinatorState) (attempt : Attempt) (j : Job) (ending : Ending) (answer : Reaction) (new : CoordinatorState)
-      → IsCoordinator c → job_at c attempt.worker ≡ Some j → IsDeciding c → AnswersFirst c attempt j ending answer new → IsCoordinator new
-  first_keeps c attempt j ending answer new is at deciding (AnswersFirst.limited end meets) = limit_keeps c attempt.worker j answer new is at deciding meets
-  first_keeps c attempt j ending answer new is at deciding (AnswersFirst.wrong_length finding end wrong a now) = subst IsCoordinator (sym now) (is_reopened c attempt.worker j at is)
-  first_keeps c attempt j ending answer new is at deciding (AnswersFirst.fixes finding end right gathers) = gathers_keeps c attempt.worker j _ answer new is at deciding (omega arith) gathers
+      → IsCoordinator c → job_at c attempt.worker ≡ Some j → IsDeciding c → DeliversFirstDone c attempt j ending answer new → IsCoordinator new
+  first_keeps c attempt j ending answer new is at deciding (DeliversFirstDone.limited end meets) = limit_keeps c attempt.worker j answer new is at deciding meets
+  first_keeps c attempt j ending answer new is at deciding (DeliversFirstDone.wrong_length finding end wrong a now) = subst IsCoordinator (sym now) (is_reopened c attempt.worker j at is)
+  first_keeps c attempt j ending answer new is at deciding (DeliversFirstDone.fixes finding end right gathers) = gathers_keeps c attempt.worker j _ answer new is at deciding (omega arith) gathers
 
   done_keeps : (c : CoordinatorState) (attempt : Attempt) (ending : Ending) (answer : Reaction) (new : CoordinatorState) → IsCoordinator c → DeliversDone c attempt ending answer new → IsCoordinator new
-  done_keeps c attempt ending answer new is (DeliversDone.strays none a now) = subst IsCoordinator (sym now) is
+  done_keeps c attempt ending answer new is (DeliversDone.is_ignored none a now) = subst IsCoordinator (sym now) is
   done_keeps c attempt ending answer new is (DeliversDone.first j awaited free answers) = first_keeps c attempt j ending answer new is awaited.job awaited.deciding answers
   done_keeps c attempt ending answer new is (DeliversDone.again j x fetched a now) = subst IsCoordinator (sym now) is
   done_keeps c attempt ending answer new is (DeliversDone.anew j x awaited fixed other a now) = subst IsCoordinator (sym now) (is_reopened c attempt.worker j awaited.job is)
 
   piece_keeps : (c : CoordinatorState) (attempt : Attempt) (offset : ℕ) (bytes : List ℕ) (answer : Reaction) (new : CoordinatorState) → IsCoordinator c → DeliversPiece c attempt offset bytes answer new → IsCoordinator new
-  piece_keeps c attempt offset bytes answer new is (DeliversPiece.strays none a now) = subst IsCoordinator (sym now) is
+  piece_keeps c attempt offset bytes answer new is (DeliversPiece.is_ignored none a now) = subst IsCoordinator (sym now) is
   piece_keeps c attempt offset bytes answer new is (DeliversPiece.appends j x fits gathers) =
       let long : length x.evidence.bytes + length bytes ≤ length_of x.evidence.finding = fits.comes.within in
       gathers_keeps c attempt.worker j (record x { evidence = with_bytes x.evidence bytes }) answer new is fits.fetched.awaited.job fits.fetched.awaited.deciding
       (omega (arith, long, length-append x.evidence.bytes bytes)) gathers
 
   idle_keeps : (c : CoordinatorState) (worker incarnation : ℕ) (answer : Reaction) (new : CoordinatorState) → IsCoordinator c → DeliversIdle c worker incarnation answer new → IsCoordinator new
-  idle_keeps c worker incarnation answer new is (DeliversIdle.strays none a now) = subst IsCoordinator (sym now) is
+  idle_keeps c worker incarnation answer new is (DeliversIdle.is_ignored none a now) = subst IsCoordinator (sym now) is
   idle_keeps c worker incarnation answer new is (DeliversIdle.anew j stale a now) = subst IsCoordinator (sym now) (is_reopened c worker j stale.job is)
 
   want_keeps : (c : CoordinatorState) (session worker offset : ℕ) (answer : Reaction) (new : CoordinatorState) → IsCoordinator c → DeliversWant c session worker offset answer new → IsCoordinator new
-  want_keeps c session worker offset answer new is (DeliversWant.strays none a now) = subst IsCoordinator (sym now) is
+  want_keeps c session worker offset answer new is (DeliversWant.is_ignored none a now) = subst IsCoordinator (sym now) is
   want_keeps c session worker offset answer new is (DeliversWant.notes wanted a now) =
       subst IsCoordinator (sym now) (is_noted c worker (Some offset) wanted.known.0 (λ o e. subst (λ (k : ℕ). k < length (bytes_in c.verdict)) (same offset o e) wanted.within) is)
     where

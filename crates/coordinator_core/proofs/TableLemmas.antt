@@ -9,12 +9,12 @@ use Rattle.std.proofs.lemmas.List.Sums.{sum_by-set, sum_by-cons, position_or_len
 use Rattle.std.proofs.lemmas.Bool.{lt-ltb, le-ltb}
 use Rattle.coordinator_core.specs.Coordinator.{AreClosed, IsClosed, is_open}
 use Rattle.coordinator_core.specs.Splits.{doubled}
-use Rattle.coordinator_core.specs.inner.Tables.{IsLeafTable, is_unclosed}
-use Rattle.coordinator_core.specs.declared.desks.LeafState.{LeafState}
-use Rattle.coordinator_core.specs.declared.desks.LeafState.TheVariants.{Open, GivenTo, Closed}
+use Rattle.coordinator_core.specs.inner.LeafTable.{IsLeafTable, is_unclosed}
+use Rattle.coordinator_core.specs.declared.job_state.LeafState.{LeafState}
+use Rattle.coordinator_core.specs.declared.job_state.LeafState.TheVariants.{Open, GivenTo, Closed}
 use Rattle.coordinator_core.proofs.SplitLemmas.{doubled_before, doubled_length}
 
--- lists that grow, and whose places are written
+-- lists that grow, and whose entries are written
 pub ruleset rows = (replicate_more, map-append, map-set)
 
 count_cons : (l : LeafState) (states : List LeafState) → count_by is_unclosed (l ∷ states) ≡ cond (is_unclosed l) 1 0 + count_by is_unclosed states
@@ -86,7 +86,7 @@ none_is states i past before =
     let e : position_or_len is_open states ≡ length states = position_or_len_is is_open states (length states) Closed (omega arith) (λ k lt. before k (omega (arith, lt, past))) (λ lt. absurd (omega (arith, lt))) in
     ap (λ (n : ℕ). cond (nat_lt n (length states)) (Some n) None) e ∙ ap (λ (b : Bool). cond b (Some (length states)) None) (le-ltb (length states) (length states) (omega arith))
 
--- a place that is open, and none before it
+-- an open place, and no open place before it
 pub first_is : (states : List LeafState) (i : ℕ) → i < length states → get_or states i Closed ≡ Open → ((k : ℕ) → k < i → is_open (get_or states k Closed) ≡ false) → position is_open states ≡ Some i
 first_is states i lt here before =
     let e : position_or_len is_open states ≡ i = position_or_len_is is_open states i Closed (omega (arith, lt)) before (λ _. ap is_open here) in

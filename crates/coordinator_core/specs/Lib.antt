@@ -1,9 +1,9 @@
 pub mod Coordinator
 pub mod Examples
-pub mod Extending
+pub mod AddedClauses
 pub mod Invariant
 pub mod Laws
 pub mod Progress
 pub mod Splits
-pub mod Tables
+pub mod NextJob
 pub mod inner

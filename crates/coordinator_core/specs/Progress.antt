@@ -1,9 +1,9 @@
--- How far a coordinator has come.
+-- The progress of a coordinator.
 use Rattle.std.specs.Prelude.{Bool, true, false}
-use Rattle.coordinator_core.specs.declared.desks.LeafState.{LeafState}
-use Rattle.coordinator_core.specs.declared.desks.LeafState.TheVariants.{Open, GivenTo, Closed}
+use Rattle.coordinator_core.specs.declared.job_state.LeafState.{LeafState}
+use Rattle.coordinator_core.specs.declared.job_state.LeafState.TheVariants.{Open, GivenTo, Closed}
 
--- whether it is closed
+-- tells whether a leaf is closed
 abbrev pub is_closed : LeafState → Bool
 is_closed Open = false
 is_closed (GivenTo worker) = false

@@ -1,4 +1,4 @@
 -- What only private contracts, invariants and proofs name. Nothing here is to be believed.
-pub mod Calls
+pub mod PrivateCalls
 pub mod Fronts
-pub mod Tables
+pub mod LeafTable

@@ -1,4 +1,4 @@
-//! The coordinator: what it keeps, and how it begins.
+//! A coordinator: its fields, and how it is made and restarted.
 
 ghost use Rattle.std.specs.Prelude.{◌≡◌, ◌-◌, ◌≤◌, ◌<◌, ◌^◌, ◌↔◌, IsTrue, length, true, replicate, All, IfOk, OnOk, OnErr, OnSome, IfSome, MatchOption, None, Some};
 ghost use Rattle.dimacs.specs.logic.Cnf.{Cnf};
@@ -8,49 +8,51 @@ ghost use Rattle.lrat_check.specs.Verdicts.{Right};
 ghost use Rattle.lrat_check.specs.declared.verdict.Verdict.TheVariants.{Nothing};
 ghost use Rattle.evidence.specs.Evidence.{bytes_in};
 ghost use Rattle.evidence.specs.Events.{Lost, Silent};
-ghost use Rattle.evidence.specs.Jobs.{IsInside};
+ghost use Rattle.evidence.specs.Jobs.{IsOverBase};
 ghost use Rattle.coordinator_core.specs.Coordinator.{CoordinatorStep, IsDeciding, IsWorker, job_at, new_coordinator, restarted_coordinator, with_job};
 ghost use Rattle.coordinator_core.specs.Invariant.{IsCoordinator, IsJobAt};
-ghost use Rattle.coordinator_core.specs.declared.desks.Job.{Job};
+ghost use Rattle.coordinator_core.specs.declared.job_state.Job.{Job};
 
-use crate::desks::Job;
-use crate::leaves::LeafTable;
+use crate::job_state::Job;
+use crate::leaf_table::LeafTable;
 use cube_split::{Chooser, Opened, Preamble};
 use dimacs::{Base, Formula};
 use frames::WorkerNumber;
 use icnf::Tree;
 use lrat_check::Verdict;
-use proof_join::Joining;
+use proof_join::Joiner;
 use std::alloc::{AllocError, Global};
 use std::marker::Model;
 
-/// What gives the leaves of a tree to workers, checks what they found, and hands out the verdict on its formula.
+/// A coordinator: it gives the leaves of a tree to workers, checks the evidence that they send, and sends the verdict to them.
 pub struct Coordinator {
     pub(crate) alloc: Global,
     pub(crate) formula: Formula,
-    // how many definitions it wants, at most 64
+    // the number of definitions asked for, at most 64
     pub(crate) defs: u32,
     pub(crate) preamble: Preamble,
-    // made at the first split, so that later ones take no memory for it
+    // the tables of the split rule, made at the first split, so that later splits take no memory for them
     pub(crate) chooser: Option<Chooser>,
-    // what fragments close their cubes over, where that is not the formula alone
+    // the base over which fragments close their cubes, if that is not the formula alone
     pub(crate) base: Option<Base>,
     pub(crate) session: u64,
     pub(crate) limit: u64,
-    // the tree that it was made with, and the tree as it is
-    pub(crate) planted: Tree,
+    // the tree that the coordinator was made with
+    pub(crate) initial_tree: Tree,
+    // the present tree, after splits
     pub(crate) tree: Tree,
     pub(crate) leaves: LeafTable,
-    // of each worker its job, and the offset of the verdict that it wants
+    // for each worker, from 1 on, its job if it has one
     pub(crate) jobs: Vec<Option<Job>>,
+    // for each worker, from 1 on, the noted offset of its Want if there is one
     pub(crate) wants: Vec<Option<u32>>,
-    // the number of the next job, while one is left
+    // the number of the next job; `None` if no number is left after 2^64 - 1
     pub(crate) next: Option<u64>,
     pub(crate) stuck: bool,
     pub(crate) verdict: Verdict,
-    // what is joined of the first leaves before the last one is closed
-    pub(crate) front: Option<Joining>,
-    // whether joining begins before that: not where the text came to be too long
+    // the joined fragments of the first leaves, until the last leaf is closed
+    pub(crate) front: Option<Joiner>,
+    // whether fragments are joined before the last leaf is closed: no longer after the joined text became too long
     pub(crate) is_joining: bool,
 }
 
@@ -60,9 +62,9 @@ impl Model for Coordinator {
     ghost use Rattle.dimacs.specs.logic.Base.{pure_literals};
     ghost use Rattle.coordinator_core.specs.Coordinator.{CoordinatorState};
     ghost use Rattle.coordinator_core.specs.Invariant.{IsCoordinator};
-    ghost use Rattle.coordinator_core.specs.Tables.{next_of};
+    ghost use Rattle.coordinator_core.specs.NextJob.{next_of};
     ghost use Rattle.coordinator_core.specs.inner.Fronts.{IsJoined};
-    ghost use Rattle.coordinator_core.specs.inner.Tables.{HasRoom};
+    ghost use Rattle.coordinator_core.specs.inner.LeafTable.{HasRoom};
 
     ghost Value = { CoordinatorState };
 
@@ -71,7 +73,7 @@ impl Model for Coordinator {
       definitions = record { wanted = c.defs; pairs = c.preamble.pairs };
       session = c.session;
       limit = c.limit;
-      planted = c.planted;
+      initial_tree = c.initial_tree;
       tree = c.tree;
       leaves = c.leaves.states;
       fragments = c.leaves.fragments;
@@ -87,7 +89,7 @@ impl Model for Coordinator {
       definitions = record { wanted = c.defs; pairs = c.preamble.pairs };
       session = c.session;
       limit = c.limit;
-      planted = c.planted;
+      initial_tree = c.initial_tree;
       tree = c.tree;
       leaves = c.leaves.states;
       fragments = c.leaves.fragments;
@@ -110,7 +112,7 @@ impl Drop for Coordinator {
             base: _,
             session: _,
             limit: _,
-            planted: _,
+            initial_tree: _,
             tree: _,
             leaves: _,
             jobs: _,
@@ -124,7 +126,7 @@ impl Drop for Coordinator {
     }
 }
 
-/// The desks of so many workers, all without a job.
+/// Makes the slots of `workers` workers, all without a job.
 #[tactic(auto, using(crate::proofs::TableLemmas::rows))]
 fn no_jobs(alloc: Global, workers: usize) -> Result<Vec<Option<Job>>, AllocError>
     ensures { IfOk result (λ v. v.items ≡ replicate workers None) }
@@ -136,7 +138,7 @@ fn no_jobs(alloc: Global, workers: usize) -> Result<Vec<Option<Job>>, AllocError
     Ok(jobs)
 }
 
-/// The notes of so many workers, of which none wants the verdict.
+/// Makes the slots of `workers` workers, all without a noted offset.
 fn no_wants(alloc: Global, workers: usize) -> Result<Vec<Option<u32>>, AllocError>
     ensures { IfOk result (λ v. v.items ≡ replicate workers None) }
 {
@@ -144,8 +146,8 @@ fn no_wants(alloc: Global, workers: usize) -> Result<Vec<Option<u32>>, AllocErro
 }
 
 impl Coordinator {
-    /// A coordinator that begins: all leaves are open, and nothing is held. It asks that the tree's variables are the formula's,
-    /// and for 1 to 64 workers. All that it needs until the first answer comes is reserved here.
+    /// Makes a coordinator without definitions: all leaves are open, and no verdict is held. The tree has to be over the formula's
+    /// variables, and there are 1 to 64 workers. All memory that the coordinator itself needs before the first Done is reserved here.
     pub fn new(
         alloc: Global,
         formula: Formula,
@@ -154,15 +156,15 @@ impl Coordinator {
         workers: u32,
         session: u64,
     ) -> Result<Coordinator, AllocError>
-        requires inside { All (IsInside formula) tree }
+        requires inside { All (IsOverBase formula) tree }
         requires workers { (1 ≤ workers) × (workers ≤ 64) }
         ensures { IfOk result (λ c. c ≡ new_coordinator formula tree limit workers session) }
     {
         Coordinator::with_defs(alloc, formula, tree, limit, workers, session, 0)
     }
 
-    /// The same, over a base with as many definitions, 0 to 64, or fewer where no pair is left. It asks that the tree's variables are
-    /// the base's.
+    /// Makes a coordinator over a base with `defs` definitions, 0 to 64, or fewer if no further pair of literals can be defined. All leaves
+    /// are open, and no verdict is held. The tree has to be over the base's variables.
     pub fn with_defs(
         alloc: Global,
         formula: Formula,
@@ -173,7 +175,7 @@ impl Coordinator {
         defs: u32,
     ) -> Result<Coordinator, AllocError>
         requires defs { defs ≤ 64 }
-        requires inside { (B : Cnf) → IsBaseWith formula defs B → All (IsInside B) tree }
+        requires inside { (B : Cnf) → IsBaseWith formula defs B → All (IsOverBase B) tree }
         requires workers { (1 ≤ workers) × (workers ≤ 64) }
         ensures { IfOk result (λ c. (d : Definitions) × AreOf formula d × (d.wanted ≡ defs) × (c ≡ record (new_coordinator formula tree limit workers session) { definitions = d })) }
     {
@@ -181,7 +183,8 @@ impl Coordinator {
         Coordinator::of(alloc, opened, tree, limit, workers, session)
     }
 
-    /// The same of a formula whose preamble is known.
+    /// Makes a coordinator over a formula whose preamble (pure literals and definitions) is known. All leaves are open, and no verdict is
+    /// held.
     pub fn of(
         alloc: Global,
         opened: Opened,
@@ -190,14 +193,14 @@ impl Coordinator {
         workers: u32,
         session: u64,
     ) -> Result<Coordinator, AllocError>
-        requires inside { (B : Cnf) → IsBaseWith opened.formula opened.definitions.wanted B → All (IsInside B) tree }
+        requires inside { (B : Cnf) → IsBaseWith opened.formula opened.definitions.wanted B → All (IsOverBase B) tree }
         requires workers { (1 ≤ workers) × (workers ≤ 64) }
         ensures { IfOk result (λ c. c ≡ record (new_coordinator opened.formula tree limit workers session) { definitions = opened.definitions }) }
     {
         let (formula, defs, preamble) = opened.into_parts();
-        let _ = formula.vars(); // with it comes that the formula is within its limits
+        let _ = formula.vars(); // ensures that the formula is within its limits
         let base = preamble.own_base(alloc, &formula)?;
-        let planted = tree.copy(alloc)?;
+        let initial_tree = tree.copy(alloc)?;
         let leaves = LeafTable::new(alloc, tree.leaves())?;
         let jobs = no_jobs(alloc, workers as usize)?;
         let wants = no_wants(alloc, workers as usize)?;
@@ -210,7 +213,7 @@ impl Coordinator {
             base,
             session,
             limit,
-            planted,
+            initial_tree,
             tree,
             leaves,
             jobs,
@@ -223,12 +226,13 @@ impl Coordinator {
         })
     }
 
-    /// Begins anew in another session, with the tree of its making; the definitions stay. Want of memory leaves it as it was.
+    /// Restarts the coordinator in another session, with its initial tree and its definitions. If memory is refused, the coordinator is
+    /// unchanged.
     pub fn restart(&mut self, session: u64) -> Result<(), AllocError>
         ensures ok { OnOk result (self.new ≡ restarted_coordinator self.old session) }
         ensures err { OnErr result (self.new ≡ self.old) }
     {
-        let tree = self.planted.copy(self.alloc)?;
+        let tree = self.initial_tree.copy(self.alloc)?;
         let leaves = LeafTable::new(self.alloc, tree.leaves())?;
         let workers = self.jobs.len();
         let jobs = no_jobs(self.alloc, workers)?;
@@ -246,14 +250,14 @@ impl Coordinator {
         Ok(())
     }
 
-    /// Its formula.
+    /// Returns the formula.
     pub fn formula(&self) -> &Formula
         ensures { result.now ≡ self.now.formula }
     {
         &self.formula
     }
 
-    /// The number of its session.
+    /// Returns the number of the session.
     #[inline]
     pub fn session(&self) -> u64
         ensures { result ≡ self.now.session }
@@ -261,7 +265,7 @@ impl Coordinator {
         self.session
     }
 
-    /// How many workers it has, 1 to 64.
+    /// Returns the number of workers, 1 to 64.
     #[inline]
     pub fn workers(&self) -> u32
         ensures value { result ≡ length self.now.jobs }
@@ -271,7 +275,7 @@ impl Coordinator {
         self.jobs.len() as u32
     }
 
-    /// The verdict, for keeps.
+    /// Returns the verdict and drops the rest of the coordinator.
     pub fn into_verdict(self) -> Verdict
         ensures value { result ≡ self.verdict }
         ensures right { Right self.formula result }
@@ -285,7 +289,7 @@ impl Coordinator {
             base: _,
             session: _,
             limit: _,
-            planted: _,
+            initial_tree: _,
             tree: _,
             leaves: _,
             jobs: _,
@@ -299,7 +303,7 @@ impl Coordinator {
         verdict
     }
 
-    /// What it takes memory from.
+    /// Returns the allocator.
     #[inline]
     pub(crate) fn alloc(&self) -> Global {
         self.alloc

@@ -1,28 +1,28 @@
-//! The coordinator: it gives the leaves of a tree to workers, checks what they found, and hands out the verdict.
+//! The coordinator: it gives the leaves of a tree to workers, checks the evidence that they send, and sends the verdict to them.
 //!
-//! What a layer above may rest on: each call is a step of the written rules (`CoordinatorStep`; where clauses are added,
-//! `ExtendsCoordinator`), for whatever frames come, and what is held is right for the formula. Where memory is refused, a call answers that and leaves all as it was.
+//! What a layer above may rest on: each call is a step of the written rules, for whatever frames are delivered (`CoordinatorStep`; for
+//! `extend`, `ExtendsCoordinator`). The verdict of a coordinator is right for its formula. A call that answers `NoMemory` changes nothing.
 #![tactic(auto)]
 
-mod answering;
-mod closing;
+mod added_clauses;
 mod coordinator;
-mod deciding;
-mod delivering;
-mod desks;
+mod delivery;
+mod done_idle;
 mod examples;
-mod extending;
-mod gathering;
-mod jobs;
-mod joining;
+mod fragment_join;
+mod fragments;
+mod held_verdict;
+mod job_evidence;
+mod job_state;
 mod laws;
-mod leaves;
-mod polling;
+mod leaf_table;
+mod poll;
 mod progress;
-mod splitting;
-mod wanting;
+mod split;
+mod want;
+mod worker_slots;
 
 pub use coordinator::Coordinator;
-pub use desks::{Fixed, Job, LeafState};
 pub use examples::worked_splits;
+pub use job_state::{Fixed, Job, LeafState};
 pub use laws::{coordinators_keep_what_they_hold, extended_coordinators_are_sound};

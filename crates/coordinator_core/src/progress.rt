@@ -1,11 +1,11 @@
-//! How far a coordinator has come.
+//! The progress of a coordinator: counts of leaves and jobs.
 
 ghost use Rattle.std.specs.Prelude.{◌≡◌, count_by, is_some, length};
 ghost use Rattle.coordinator_core.specs.Progress.{is_closed};
 
 use crate::coordinator::Coordinator;
 
-/// How many are there.
+/// Counts the slots with a value.
 fn some_in<T>(slots: &[Option<T>]) -> usize
     ensures { result ≡ count_by (λ slot. is_some slot) slots.now }
 {
@@ -13,28 +13,28 @@ fn some_in<T>(slots: &[Option<T>]) -> usize
 }
 
 impl Coordinator {
-    /// How many leaves its tree has.
+    /// Returns the number of leaves of the present tree.
     pub fn leaf_count(&self) -> usize
         ensures { result ≡ length self.now.tree }
     {
         self.tree.leaves()
     }
 
-    /// How many leaves its tree had when it began.
-    pub fn planted_count(&self) -> usize
-        ensures { result ≡ length self.now.planted }
+    /// Returns the number of leaves of the tree that the coordinator was made with.
+    pub fn initial_leaf_count(&self) -> usize
+        ensures { result ≡ length self.now.initial_tree }
     {
-        self.planted.leaves()
+        self.initial_tree.leaves()
     }
 
-    /// How many leaves are closed.
+    /// Returns the number of closed leaves.
     pub fn closed_count(&self) -> usize
         ensures { result ≡ count_by is_closed self.now.leaves }
     {
         self.leaves.closed()
     }
 
-    /// How many workers have a job.
+    /// Returns the number of workers with a job.
     pub fn job_count(&self) -> usize
         ensures { result ≡ count_by (λ job. is_some job) self.now.jobs }
     {

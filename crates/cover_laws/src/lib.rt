@@ -1,4 +1,4 @@
-//! What `cover` and `join` have to do with each other, as laws.
+//! How the answers of the commands `cover` and `join` agree, as a law.
 #![tactic(auto)]
 
 mod laws;

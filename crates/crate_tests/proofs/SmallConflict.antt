@@ -12,8 +12,8 @@ use Rattle.dimacs.proofs.Members.{Contains-head, Contains-cons_cases, Contains-n
 use Rattle.watches.specs.Law.{IsConflict}
 use Rattle.watches.specs.Trails.{TrailValue, holds, up_to, present}
 use Rattle.watches.specs.declared.trail.Assigned.{Assigned}
-use Rattle.conflict_analysis.specs.Built.{AreBuilt, AreInside}
-use Rattle.conflict_analysis.specs.Lemmas.{IsPresent, IsPresentConflict}
+use Rattle.conflict_analysis.specs.BuiltTrails.{AreBuilt, AreInside}
+use Rattle.conflict_analysis.specs.Lemmas.{IsFalseSincePresent, IsPresentConflict}
 
 abbrev pub first : Clause
 first = Neg 1 ∷ Pos 2 ∷ []
@@ -73,7 +73,7 @@ false_second k i = elim (pair (Neg 1) (Neg 2) k i) [
 pub small_conflict : (m : Clauses) → live_of m 2 second → IsConflict (live_of m) entries 2
 small_conflict m lives = (second, lives, false_second)
 
-pub small_present : (m : Clauses) → live_of m 2 second → IsPresent (live_of m) entries 2
+pub small_present : (m : Clauses) → live_of m 2 second → IsFalseSincePresent (live_of m) entries 2
 small_present m lives = λ C h f. let q = live_once m 2 C second h lives in
     false≢true (subst (λ D. (k : Literal) → Contains D k → up_to entries 0 (negation k) ≡ true) q f (Neg 1) (Contains-head (Neg 1) (Neg 2 ∷ [])))
 
@@ -83,7 +83,7 @@ is_present_conflict m t vars is one two inside = record {
   built = subst (AreBuilt (live_of m) []) (sym is) (small_built m one);
   inside = subst (AreInside (live_of m)) (sym vars) inside;
   conflict = subst (λ es. IsConflict (live_of m) es 2) (sym is) (small_conflict m two);
-  here = subst (λ es. IsPresent (live_of m) es 2) (sym is) (small_present m two);
+  here = subst (λ es. IsFalseSincePresent (live_of m) es 2) (sym is) (small_present m two);
   above = subst (λ es. 0 < present es) (sym is) (omega arith);
 }
 

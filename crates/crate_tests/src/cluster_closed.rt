@@ -2,9 +2,9 @@
 
 use crate::inputs::UNITS;
 use crate::told::formula_of;
-use closed_schedules::ClosedEvent;
 use cluster::ClosedCluster;
 use frames::Frame;
+use honest_cluster::ClosedEvent;
 use icnf::Tree;
 use lrat_check::{Reaction, Verdict};
 use std::alloc::Global;

@@ -3,7 +3,7 @@
 ghost use Rattle.std.specs.Prelude.{◌≡◌, ◌≤◌, [], ◌∷◌, Some, None, IfOk};
 ghost use Rattle.clause_arena.specs.Clauses.{live_of};
 ghost use Rattle.dimacs.specs.logic.Literal.{Pos, Neg};
-ghost use Rattle.conflict_analysis.specs.Built.{AreInside};
+ghost use Rattle.conflict_analysis.specs.BuiltTrails.{AreInside};
 
 use clause_arena::Arena;
 use conflict_analysis::{Analyser, Closing, Lemma, analyse, close_cube};

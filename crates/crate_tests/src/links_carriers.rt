@@ -1,8 +1,8 @@
 //! Links: what is counted, and carriers that refuse, end or lie.
 
 use links::{
-    Bytewise, Carrier, Counted, End, Joined, LinkFault, Links, Loopback, Memory, RefusesAll,
-    RefusesAt, Script, Served,
+    Bytewise, Carrier, CoordinatorEnds, Counted, End, LinkFault, Links, Loopback, Memory,
+    RefusesAll, RefusesAt, Script, WorkerEnd,
 };
 use std::alloc::Global;
 use std::io;
@@ -146,8 +146,8 @@ fn hands_in_what_nobody_sent(rt: HostRuntime) -> Result<(), Fail> {
 }
 
 /// Worker 2 of two has linked, and three bytes of it were read.
-fn served(rt: &impl Abort, alloc: Global) -> Served<Interrupted> {
-    let mut served = Served::new(alloc, 2).expect(rt, "memory");
+fn served(rt: &impl Abort, alloc: Global) -> CoordinatorEnds<Interrupted> {
+    let mut served = CoordinatorEnds::new(alloc, 2).expect(rt, "memory");
     assert!(rt; served.lacks(2) && !served.lacks(0) && !served.lacks(3));
     let stream = Interrupted {
         left: 1,
@@ -178,11 +178,11 @@ fn what_was_read_before_comes_first(rt: HostRuntime) {
 fn two_ends<R: Net>(
     net: &R,
     alloc: Global,
-) -> Result<(Joined<R::Stream>, Served<R::Stream>), Fail> {
+) -> Result<(WorkerEnd<R::Stream>, CoordinatorEnds<R::Stream>), Fail> {
     let listener = TcpListener::bind(net, SocketAddr::from((Ipv4Addr::LOCALHOST, 0)))?;
-    let worker = Joined::connect(net, listener.local_addr()?.port())?;
+    let worker = WorkerEnd::connect(net, listener.local_addr()?.port())?;
     let (stream, _) = listener.accept()?;
-    let mut served = Served::new(alloc, 1)?;
+    let mut served = CoordinatorEnds::new(alloc, 1)?;
     let _ = served.link(1, stream, Vec::new(alloc));
     Ok((worker, served))
 }

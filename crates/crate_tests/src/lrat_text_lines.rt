@@ -1,6 +1,6 @@
 //! Lines of proofs.
 
-use lrat_text::{StepBuffer, next, put, read_line, written_id};
+use lrat_text::{StepBuffer, canonical_id, next, put, read_line};
 use std::alloc::Global;
 use std::process::Abort;
 
@@ -114,7 +114,7 @@ fn what_was_put_is_read_back(rt: HostRuntime) {
 fn id_of(alloc: Global, line: &[u8]) -> Option<u64> {
     let mut buffer = StepBuffer::new(alloc);
     match read_line(&mut buffer, line) {
-        Ok(()) => written_id(line),
+        Ok(()) => canonical_id(line),
         Err(_) => None,
     }
 }

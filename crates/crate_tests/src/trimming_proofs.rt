@@ -2,9 +2,9 @@
 
 use dimacs::read;
 use lrat_check::check;
+use lrat_trim::{Trimmed, trim};
 use std::alloc::Global;
 use std::process::Abort;
-use trimming::{Trimmed, trim};
 
 /// The four clauses over two variables, which nothing satisfies, and one more that holds a third variable.
 const FIVE: &[u8] = b"p cnf 3 5\n1 2 0\n-1 2 0\n1 -2 0\n-1 -2 0\n3 -1 0\n";

@@ -18,16 +18,16 @@ use Rattle.lrat_text.specs.Grammar.{LineSpells}
 use Rattle.lrat_text.specs.Log.{additions}
 use Rattle.lrat_text.specs.Proof.{without}
 use Rattle.lrat_text.specs.Runs.{after_steps}
-use Rattle.lrat_text.specs.Writing.{line_text}
+use Rattle.lrat_text.specs.WrittenLine.{line_text}
 use Rattle.lrat_text.specs.declared.step.Step.{Step}
 use Rattle.lrat_text.specs.declared.step.Step.TheVariants.{Add, Delete}
 use Rattle.lrat_text.proofs.ClauseMapLemmas.{apart_test, none_some, numbered_between, numbered_at}
 use Rattle.lrat_text.proofs.LineLemmas.{written_spells, written_one_line}
 use Rattle.watches.specs.Trails.{TrailValue}
 use Rattle.watches.proofs.TrailLemmas.{head_alone}
-use Rattle.cube_solve.specs.inner.Forgetting.{AreRising, AreLemmas, AreLess, Forgets, MayForget}
-use Rattle.cube_solve.specs.inner.Learning.{IsLearnt, IsSearch}
-use Rattle.cube_solve.specs.inner.Levels.{AreTwins, AreLinked}
+use Rattle.cube_solve.specs.inner.Reduction.{AreRising, AreLemmas, AreAllExcept, Reduces, MayReduce}
+use Rattle.cube_solve.specs.inner.LearntLog.{IsLearnt, IsSearch}
+use Rattle.cube_solve.specs.inner.Twins.{AreTwins, AreLinked}
 use Rattle.cube_solve.proofs.LogLemmas.{spells_push, log_push, fresh_push, after_push, top_push}
 
 -- ---- members of a list of numbers
@@ -100,13 +100,13 @@ get_without M ids n = get-retain_keys M (λ id. not (list_any (nat_eq id) ids)) 
 not_any : (ids : List ℕ) (n : ℕ) → ¬ (Contains ids n) → list_any (nat_eq n) ids ≡ false
 not_any ids n out = elim (cases_Bool (list_any (nat_eq n) ids)) [ inl t ↦ absurd (out (from_any ids n t)) | inr f ↦ f ]
 
-pub map_less : (M : ClauseMap) (ids : List ℕ) → AreLess (live_in M) ids (live_in (without M ids))
+pub map_less : (M : ClauseMap) (ids : List ℕ) → AreAllExcept (live_in M) ids (live_in (without M ids))
 map_less M ids = record {
   stays = λ n C h out. get_without M ids n ∙ ap (λ t. cond (not t) (get M n) None) (not_any ids n out) ∙ h;
   was = λ n C h. test_in ids n (list_any (nat_eq n) ids) refl (get M n) C (sym (get_without M ids n) ∙ h);
 }
 
-pub linked_less : (a b old new : Live) (ids : List ℕ) → AreLinked a old → AreLess a ids b → AreLess old ids new → AreLinked b new
+pub linked_less : (a b old new : Live) (ids : List ℕ) → AreLinked a old → AreAllExcept a ids b → AreAllExcept old ids new → AreLinked b new
 linked_less a b old new ids h f g = record {
   forth = λ n C i. let w = f.was n C i in let d = h.forth n C w.1 in (d.0, g.stays n d.0 d.1 w.0, d.2);
   back = λ n D i. let w = g.was n D i in let c = h.back n D w.1 in (c.0, f.stays n c.0 c.1 w.0, c.2);
@@ -121,7 +121,7 @@ pub some_is : (o : Option Clause) (C : Clause) → o ≡ Some C → IsSome o
 some_is o C e = subst IsSome (sym e) refl
 
 -- ---- the log with one deletion more
-module _ (B : Cnf) (n : ℕ) (old new : Live) (before text : List ℕ) (l : IsLearnt B before n old) (f : Forgets (length B.clauses + 1) old new before text)
+module _ (B : Cnf) (n : ℕ) (old new : Live) (before text : List ℕ) (l : IsLearnt B before n old) (f : Reduces (length B.clauses + 1) old new before text)
     (base : (k : ℕ) (C : Clause) → live_in (map_of B) k C → (D : Clause) × old k D × AreTwins C D) where
   abbrev M : ClauseMap
   M = after_steps (map_of B) l.steps
@@ -169,7 +169,7 @@ module _ (B : Cnf) (n : ℕ) (old new : Live) (before text : List ℕ) (l : IsLe
   }
 
 -- ---- a search that kept pace
-search_less : (B : Cnf) (n : ℕ) (m k : Clauses) (t u : TrailValue) (before text : List ℕ) (ids : List ℕ) → IsSearch B n m t before → AreLess (live_of m) ids (live_of k)
+search_less : (B : Cnf) (n : ℕ) (m k : Clauses) (t u : TrailValue) (before text : List ℕ) (ids : List ℕ) → IsSearch B n m t before → AreAllExcept (live_of m) ids (live_of k)
     → ((j : ℕ) → Contains ids j → length B.clauses < j) → u.vars ≡ t.vars → IsLearnt B text n (live_of k) → IsSearch B n k u text
 search_less B n m k t u before text ids h less above v learnt = record {
   vars = v ∙ h.vars;
@@ -182,7 +182,7 @@ search_less B n m k t u before text ids h less above v learnt = record {
   learnt = learnt;
 }
 
-learnt_same : (B : Cnf) (n : ℕ) (old new : Live) (text : List ℕ) → AreLess old [] new → IsLearnt B text n old → IsLearnt B text n new
+learnt_same : (B : Cnf) (n : ℕ) (old new : Live) (text : List ℕ) → AreAllExcept old [] new → IsLearnt B text n old → IsLearnt B text n new
 learnt_same B n old new text less l = record {
   steps = l.steps;
   spells = l.spells;
@@ -194,7 +194,7 @@ learnt_same B n old new text less l = record {
       (record { stays = λ n C h k. h; was = λ n C h. (Contains-nil n, h) }) less;
 }
 
-pub search_kept : (B : Cnf) (n : ℕ) (m k : Clauses) (t u : TrailValue) (before text : List ℕ) → IsSearch B n m t before → MayForget (length B.clauses + 1) (live_of m) (live_of k) before text
+pub search_kept : (B : Cnf) (n : ℕ) (m k : Clauses) (t u : TrailValue) (before text : List ℕ) → IsSearch B n m t before → MayReduce (length B.clauses + 1) (live_of m) (live_of k) before text
     → u.vars ≡ t.vars → IsSearch B n k u text
 search_kept B n m k t u before text h c v = elim c [
   | inl same ↦ search_less B n m k t u before text [] h same.0 (λ j i. absurd (Contains-nil j i)) v

@@ -1,4 +1,4 @@
--- What each turn makes of a search, and what its ends come to.
+-- The invariant of a search is kept by each lemma, and gives the outcomes.
 use Rattle.std.proofs.Common.{◌≡◌, ℕ, ◌+◌, ◌^◌, ◌<◌, ◌≤◌, ◌⊎◌, inl, inr, Bool, true, false, eqb, List, [], ◌∷◌, ◌++◌, length, map, get_or, refl, sym, ◌∙◌, ap, subst, arith, None}
 use Rattle.std.specs.List.{All, Contains, IsDistinct, list_any}
 use Rattle.std.specs.FinMap.{get, insert}
@@ -15,28 +15,28 @@ use Rattle.clause_arena.specs.Clauses.{Clauses, live_of}
 use Rattle.lrat_text.specs.Grammar.{LineSpells, IsClauseNumber}
 use Rattle.lrat_text.specs.Log.{Cube, Closes, IsHonest}
 use Rattle.lrat_text.specs.Runs.{after_steps, top_of}
-use Rattle.lrat_text.specs.Writing.{line_text}
+use Rattle.lrat_text.specs.WrittenLine.{line_text}
 use Rattle.lrat_text.specs.declared.step.Step.{Step}
 use Rattle.lrat_text.specs.declared.step.Step.TheVariants.{Add}
 use Rattle.lrat_text.proofs.ClauseMapLemmas.{not_in, numbered_between, numbered_at}
 use Rattle.lrat_text.proofs.LineLemmas.{written_spells, written_one_line}
 use Rattle.watches.specs.declared.trail.Assigned.{Assigned}
-use Rattle.watches.specs.Law.{AllCalm, AreSame, IsCalm, IsConflict}
+use Rattle.watches.specs.Law.{NoneFalseOrUnit, SameUpToOrder, NeitherFalseNorUnit, IsConflict}
 use Rattle.watches.specs.Trails.{TrailValue, IsTrailValue, holds, present, up_to}
 use Rattle.watches.proofs.TrailLemmas.{head_alone}
-use Rattle.conflict_analysis.specs.Built.{AreBuilt}
+use Rattle.conflict_analysis.specs.BuiltTrails.{AreBuilt}
 use Rattle.conflict_analysis.specs.Lemmas.{IsDecision, NegatesAssumptions}
-use Rattle.conflict_analysis.specs.declared.closing.Closing.TheVariants as closing
-use Rattle.conflict_analysis.proofs.Concluding.{above_cut}
+use Rattle.conflict_analysis.specs.declared.final_analysis.Closing.TheVariants as closing
+use Rattle.conflict_analysis.proofs.WalkEndLemmas.{above_cut}
 use Rattle.cube_solve.specs.Conflicts.{AllHold, MeetsConflict}
-use Rattle.cube_solve.specs.inner.Learning.{AreBelow, IsLearnt, IsWritten, Learns, IsSearch}
-use Rattle.cube_solve.specs.inner.Levels.{AreLinked, IsAdded}
+use Rattle.cube_solve.specs.inner.LearntLog.{AreBelow, IsLearnt, IsWritten, Learns, IsSearch}
+use Rattle.cube_solve.specs.inner.Twins.{AreLinked, IsAdded}
 use Rattle.cube_solve.specs.Outcome.{IsModel, IsBrief, IsFresh}
 use Rattle.cube_solve.specs.inner.State.{IsState, IsAssuming, IsTotal}
-use Rattle.cube_solve.proofs.AssumingLemmas.{assuming_all, assuming_up_to, assuming_below, level_le}
+use Rattle.cube_solve.proofs.AssumptionLemmas.{assuming_all, assuming_up_to, assuming_below, level_le}
 use Rattle.cube_solve.proofs.BuiltLemmas.{sound, built_same, decision_above}
 use Rattle.cube_solve.proofs.ClauseLemmas.{same_back, same_forth, twins_trans, linked_same, linked_more, linked_turned}
-use Rattle.cube_solve.proofs.LevelLemmas.{quiet_fewer}
+use Rattle.cube_solve.proofs.LevelCutLemmas.{quiet_fewer}
 use Rattle.cube_solve.proofs.LogLemmas.{spells_push, log_push, fresh_push, additions_push, after_push, top_push, rup_same, new_same}
 use Rattle.cube_solve.proofs.MapLemmas.{map_added}
 
@@ -128,7 +128,7 @@ search_begins B m t text h v empty = record {
   learnt = subst (λ x. IsLearnt B x 0 (live_of m)) (sym empty) (learnt_none B (live_of m) h);
 }
 
-pub search_same : (B : Cnf) (n : ℕ) (m k : Clauses) (t u : TrailValue) (text : List ℕ) → IsSearch B n m t text → AreSame m k → u.vars ≡ t.vars → IsSearch B n k u text
+pub search_same : (B : Cnf) (n : ℕ) (m k : Clauses) (t u : TrailValue) (text : List ℕ) → IsSearch B n m t text → SameUpToOrder m k → u.vars ≡ t.vars → IsSearch B n k u text
 search_same B n m k t u text h s v = record {
   vars = v ∙ h.vars;
   below = λ j D i. let c = same_back m k s j D i in h.below j c.0 c.1;
@@ -195,7 +195,7 @@ true_or_false t (x ∷ C) b h = elim (h x (b x (Contains-head x C))) [
   ]
 ]
 
-pub calm_is_true : (t : TrailValue) (C : Clause) → ((l : Literal) → Contains C l → IsWithin t.vars l) → IsTotal t → IsCalm (holds t.entries) C
+pub calm_is_true : (t : TrailValue) (C : Clause) → ((l : Literal) → Contains C l → IsWithin t.vars l) → IsTotal t → NeitherFalseNorUnit (holds t.entries) C
     → (l : Literal) × Contains C l × (holds t.entries l ≡ true) × IsWithin t.vars l
 calm_is_true t C b h k = elim (true_or_false t C b h) [ inl y ↦ y | inr f ↦ absurd (k.0 f) ]
 
@@ -206,7 +206,7 @@ pub record Satisfies (B : Cnf) (q : Cube) (t : TrailValue) : Type 0 where
   pub cube : AllHold t.entries q
 
 pub satisfied : (B : Cnf) (q : Cube) (n : ℕ) (att : List ℕ) (m : Clauses) (t : TrailValue) (text : List ℕ) → IsSearch B n m t text → IsState att m t
-    → AllCalm (live_of m) (holds t.entries) → AllHold t.entries q → IsTotal t → Satisfies B q t
+    → NoneFalseOrUnit (live_of m) (holds t.entries) → AllHold t.entries q → IsTotal t → Satisfies B q t
 satisfied B q n att m t text h s calm all total = record {
   vars = h.vars;
   clauses = λ j C i.
@@ -240,14 +240,14 @@ next_number B len n valid is few = (omega arith, (let b = valid.clauses in omega
 pub next_below : (B : Cnf) (len n : ℕ) (m : Clauses) (t : TrailValue) (text : List ℕ) → len ≡ length B.clauses → IsSearch B n m t text → AreBelow (len + 1 + n) (live_of m)
 next_below B len n m t text is h = subst (λ (k : ℕ). AreBelow (k + 1 + n) (live_of m)) (sym is) h.below
 
-pub below_next : (B : Cnf) (n id : ℕ) (m k : Clauses) (t : TrailValue) (text : List ℕ) → id ≡ length B.clauses + 1 + n → IsSearch B n m t text → AreSame m k → AreBelow id (live_of k)
+pub below_next : (B : Cnf) (n id : ℕ) (m k : Clauses) (t : TrailValue) (text : List ℕ) → id ≡ length B.clauses + 1 + n → IsSearch B n m t text → SameUpToOrder m k → AreBelow id (live_of k)
 below_next B n id m k t text is h s = λ j D i.
     let c = same_back m k s j D i in
     let b = h.below j c.0 c.1 in
     let up = b.1 in
     (b.0, omega arith)
 
--- behind the lemma of a number the live numbers are below the next
+-- after the lemma of a number the live numbers are below the next
 pub below_more : (id : ℕ) (old new : Live) (lits : Clause) → IsClauseNumber id → AreBelow id old → IsAdded old id lits new → AreBelow (id + 1) new
 below_more id old new lits number below add j D i = elim (add.only j D i) [
   | inl o ↦ (let b = below j o.0 o.1 in let up = b.1 in (b.0, omega arith))

@@ -1,4 +1,4 @@
--- What each call makes of the clauses that were given to a session, and what its answers come to.
+-- The clauses that were given to a session are kept by each call; its answers are right.
 use Rattle.std.proofs.Common.{◌≡◌, ℕ, ◌+◌, ◌-◌, ◌^◌, ◌<◌, ◌≤◌, inl, inr, Bool, true, false, nat_eq, cond, List, [], ◌∷◌, ◌++◌, length, map, get_or, refl, sym, ◌∙◌, ap, subst, arith}
 use Rattle.std.specs.List.{All, Contains, IsDistinct, filter}
 use Rattle.std.proofs.lemmas.Bool.{eqb-true, eq-eqb}
@@ -16,26 +16,26 @@ use Rattle.conflict_analysis.specs.declared.lemma.Lemma.{Lemma}
 use Rattle.lrat_text.specs.Grammar.{IsClauseNumber}
 use Rattle.lrat_text.specs.Log.{Cube}
 use Rattle.lrat_text.proofs.ClauseMapLemmas.{numbered_between, numbered_at, some_is}
-use Rattle.watches.specs.Law.{AllCalm, AreSame}
+use Rattle.watches.specs.Law.{NoneFalseOrUnit, SameUpToOrder}
 use Rattle.watches.specs.Trails.{TrailValue, holds}
 use Rattle.cube_solve.specs.Conflicts.{AllHold}
 use Rattle.cube_solve.specs.Session.{AreGiven, IsReady, IsSolution, IsCore, live_in_session, vars_of}
 use Rattle.cube_solve.specs.declared.search.Search.{Search}
 use Rattle.cube_solve.specs.declared.session.Session.{Session}
-use Rattle.cube_solve.specs.inner.Forgetting.{AreLemmas, Drops}
-use Rattle.cube_solve.specs.inner.Learning.{AreBelow}
-use Rattle.cube_solve.specs.inner.Levels.{AreLinked, AreTwins, IsAdded}
+use Rattle.cube_solve.specs.inner.Reduction.{AreLemmas, DeletesLemmas}
+use Rattle.cube_solve.specs.inner.LearntLog.{AreBelow}
+use Rattle.cube_solve.specs.inner.Twins.{AreLinked, AreTwins, IsAdded}
 use Rattle.cube_solve.specs.inner.Marks.{AreMarks}
-use Rattle.cube_solve.specs.inner.Sessions.{AreStamped, ArePicked, Fails, HasClauses}
+use Rattle.cube_solve.specs.inner.Queries.{AreStamped, ArePicked, RefutesQuery, HasClauses}
 use Rattle.cube_solve.specs.inner.State.{IsState, IsTotal}
-use Rattle.cube_solve.specs.inner.Steady.{IsSteady}
-use Rattle.cube_solve.specs.inner.Units.{AreNoted}
+use Rattle.cube_solve.specs.inner.SearchInvariants.{IsSteady}
+use Rattle.cube_solve.specs.inner.UnitClauses.{AreNoted}
 use Rattle.cube_solve.proofs.ClauseLemmas.{same_back, same_forth, twins_trans}
-use Rattle.cube_solve.proofs.ForgettingLemmas.{lemmas_same}
-use Rattle.cube_solve.specs.Parts.{IsPartOf}
-use Rattle.cube_solve.proofs.PartLemmas.{part_filter, part_trans}
+use Rattle.cube_solve.proofs.ReductionLemmas.{lemmas_same}
+use Rattle.cube_solve.specs.Subsequences.{IsSubsequenceOf}
+use Rattle.cube_solve.proofs.SubsequenceLemmas.{part_filter, part_trans}
 use Rattle.cube_solve.proofs.SearchLemmas.{calm_is_true}
-use Rattle.cube_solve.proofs.UnitLemmas.{noted_same}
+use Rattle.cube_solve.proofs.UnitClauseLemmas.{noted_same}
 use Rattle.cube_solve.proofs.TruthLemmas.{not_both, true_twin, tautology_true, rup_true}
 
 -- ---- the clauses that were given
@@ -59,7 +59,7 @@ has_base B live h = record {
       true_twin a c.0 D c.2 (All-contains (IsTrueIn a) B.clauses c.0 sat (in_base B n c.0 b.0 b.1 c.1));
 }
 
-pub has_same : (F : List Clause) (m k : Clauses) (lemmas : List ℕ) → AreSame m k → HasClauses F (live_of m) lemmas → HasClauses F (live_of k) lemmas
+pub has_same : (F : List Clause) (m k : Clauses) (lemmas : List ℕ) → SameUpToOrder m k → HasClauses F (live_of m) lemmas → HasClauses F (live_of k) lemmas
 has_same F m k lemmas s h = record {
   there = λ C i.
       let d = h.there C i in
@@ -84,7 +84,7 @@ has_learnt F old new id lits hints before after e below add rup h = record {
 }
 
 -- lemmas go
-pub has_dropped : (F : List Clause) (top : ℕ) (old new : Live) (before after text more : List ℕ) → Drops top before after old new text more → HasClauses F old before → HasClauses F new after
+pub has_dropped : (F : List Clause) (top : ℕ) (old new : Live) (before after text more : List ℕ) → DeletesLemmas top before after old new text more → HasClauses F old before → HasClauses F new after
 has_dropped F top old new before after text more f h = record {
   there = λ C i.
       let d = h.there C i in
@@ -124,7 +124,7 @@ has_given F old new id C lits lemmas twins below live add h = record {
 
 -- ---- answers
 pub solution : (F : List Clause) (A q : Cube) (att : List ℕ) (m : Clauses) (t : TrailValue) (lemmas : List ℕ) (values : List Bool) → HasClauses F (live_of m) lemmas → IsState att m t
-    → AllCalm (live_of m) (holds t.entries) → AllHold t.entries q → IsTotal t → AreTwins A q → All (IsWithin t.vars) A → length values ≡ t.vars
+    → NoneFalseOrUnit (live_of m) (holds t.entries) → AllHold t.entries q → IsTotal t → AreTwins A q → All (IsWithin t.vars) A → length values ≡ t.vars
     → ((l : Literal) → IsWithin t.vars l → holds t.entries l ≡ true → literal_true (assignment_of values) l ≡ true) → IsSolution t.vars F A values
 solution F A q att m t lemmas values h s calm all total twins within len reads = record {
   whole = len;
@@ -136,8 +136,8 @@ solution F A q att m t lemmas values h s calm all total twins within len reads =
   query = λ l i. reads l (All-contains (IsWithin t.vars) A l within i) (all l ((twins l).0 i));
 }
 
-pub core_fails : (F : List Clause) (A q : Cube) (live : Live) (vars : ℕ) (lemmas : List ℕ) (lemma : Lemma) (core : List Literal) → HasClauses F live lemmas → Fails live vars q lemma
-    → ArePicked q lemma.lits.items core → AreTwins A q → IsPartOf q A → IsDistinct same q → IsCore F A core
+pub core_fails : (F : List Clause) (A q : Cube) (live : Live) (vars : ℕ) (lemmas : List ℕ) (lemma : Lemma) (core : List Literal) → HasClauses F live lemmas → RefutesQuery live vars q lemma
+    → ArePicked q lemma.lits.items core → AreTwins A q → IsSubsequenceOf q A → IsDistinct same q → IsCore F A core
 core_fails F A q live vars lemmas lemma core h f p twins part distinct = record {
   ordered = part_trans core q A p.part part;
   within = λ l i. (twins l).1 (p.within l i);
@@ -199,7 +199,7 @@ picked q lits others kept stamps stamp core e m is = record {
   all = λ l i j.
       let k = (m.stamped l).1 ((m.twins l).0 (subst (λ xs. Contains xs l) (sym e) (in_map lits l j))) in
       subst (λ xs. Contains xs l) (sym is) (kept_by (marked stamps stamp) q l i (eq-eqb (get_or stamps (index_of l) 0) stamp k));
-  part = subst (λ xs. IsPartOf xs q) (sym is) (part_filter (marked stamps stamp) q);
+  part = subst (λ xs. IsSubsequenceOf xs q) (sym is) (part_filter (marked stamps stamp) q);
   distinct = λ d. subst (IsDistinct same) (sym is) (distinct_filter (marked stamps stamp) q d);
 }
 
@@ -212,7 +212,7 @@ lemmas_stay old new id lits xs ys e add h = subst (AreLemmas 0 new) (sym e) (rec
 })
 
 -- ---- why a query fails
-pub pair_fails : (live : Live) (vars : ℕ) (q : Cube) (lemma : Lemma) (l : Literal) → lemma.lits.items ≡ l ∷ negation l ∷ [] → lemma.hints.items ≡ [] → IsWithin vars l → Contains q l → Contains q (negation l) → Fails live vars q lemma
+pub pair_fails : (live : Live) (vars : ℕ) (q : Cube) (lemma : Lemma) (l : Literal) → lemma.lits.items ≡ l ∷ negation l ∷ [] → lemma.hints.items ≡ [] → IsWithin vars l → Contains q l → Contains q (negation l) → RefutesQuery live vars q lemma
 pair_fails live vars q lemma l e bare within i j = record {
   numbers = subst (All IsClauseNumber) (sym bare) (All-nil IsClauseNumber);
   follows = inl (subst IsTautology (sym e) (l, Contains-head l (negation l ∷ []), Contains-cons l (negation l) (negation l ∷ []) (Contains-head (negation l) [])));
@@ -228,7 +228,7 @@ pair_fails live vars q lemma l e bare within i j = record {
 
 -- the search went on over the same clauses
 module _ {P : Type 0} (is_ready : P → Clauses → TrailValue → Type 0) (attached : P → List ℕ) (s u : Session P)
-    (same : AreSame s.search.state.arena u.search.state.arena) (vars : vars_of u ≡ vars_of s) (top : u.top ≡ s.top) (lemmas : u.search.lemmas.items ≡ s.search.lemmas.items)
+    (same : SameUpToOrder s.search.state.arena u.search.state.arena) (vars : vars_of u ≡ vars_of s) (top : u.top ≡ s.top) (lemmas : u.search.lemmas.items ≡ s.search.lemmas.items)
     (units : u.search.units.numbers.items ≡ s.search.units.numbers.items) where
   pub ready_same : IsSteady is_ready attached u.search.state → AreStamped (vars_of u) u.marks → IsReady is_ready attached s → IsReady is_ready attached u
   ready_same steady stamped h = record {
@@ -249,10 +249,10 @@ module _ {P : Type 0} (is_ready : P → Clauses → TrailValue → Type 0) (atta
   given_same F h = subst (HasClauses F (live_in_session u)) (sym lemmas) (has_same F s.search.state.arena u.search.state.arena s.search.lemmas.items same h)
 
 -- the same arena
-pub same_arena : (m k : Clauses) → k ≡ m → AreSame m k
-same_arena m k e = subst (AreSame m) (sym e) (record { there = λ n p C h. (C, h, record { len = refl; literals = λ l. (λ y. y, λ y. y) }); none = λ n h. h })
+pub same_arena : (m k : Clauses) → k ≡ m → SameUpToOrder m k
+same_arena m k e = subst (SameUpToOrder m) (sym e) (record { there = λ n p C h. (C, h, record { len = refl; literals = λ l. (λ y. y, λ y. y) }); none = λ n h. h })
 
--- but for its marks a session is as it was
+-- except its marks a session is as it was
 module _ {P : Type 0} (is_ready : P → Clauses → TrailValue → Type 0) (attached : P → List ℕ) (s u : Session P) (e : u.search ≡ s.search) (top : u.top ≡ s.top) where
   pub ready_marked : AreStamped (vars_of u) u.marks → IsReady is_ready attached s → IsReady is_ready attached u
   ready_marked stamped h = ready_same is_ready attached s u (same_arena s.search.state.arena u.search.state.arena (ap (λ (x : Search P). x.state.arena) e)) (ap (λ (x : Search P). x.state.trail.vars) e) top
@@ -261,7 +261,7 @@ module _ {P : Type 0} (is_ready : P → Clauses → TrailValue → Type 0) (atta
   pub given_marked : (F : List Clause) → AreGiven F s → AreGiven F u
   given_marked F h = subst (λ (x : Search P). HasClauses F (live_of x.state.arena) x.lemmas.items) (sym e) h
 
--- but for its log a session is as it was
+-- except its log a session is as it was
 module _ {P : Type 0} (is_ready : P → Clauses → TrailValue → Type 0) (attached : P → List ℕ) (s : Session P) (x : Search P) (e : x ≡ record s.search { log = [] }) where
   pub ready_logged : IsReady is_ready attached s → IsReady is_ready attached (record s { search = x })
   ready_logged h = subst (λ (y : Search P). IsReady is_ready attached (record s { search = y })) (sym e)

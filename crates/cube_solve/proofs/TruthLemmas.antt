@@ -1,4 +1,4 @@
--- What follows by reverse unit propagation is true where the live clauses are.
+-- What follows by reverse unit propagation is true if the live clauses are.
 use Rattle.std.proofs.Common.{◌≡◌, ℕ, Bool, true, not, List, [], ◌∷◌, ◌⊎◌, inl, inr, refl, sym, ◌∙◌, ap, subst}
 use Rattle.std.specs.List.{Contains}
 use Rattle.std.proofs.lemmas.Bool.{both_ways, not-true, cases_Bool, or_cases}
@@ -7,7 +7,7 @@ use Rattle.dimacs.specs.logic.Literal.{Literal, Pos, Neg, negation, same, litera
 use Rattle.dimacs.specs.logic.Propagation.{Assumed, negations, with_literal, Leads, Rup}
 use Rattle.dimacs.proofs.LiteralLemmas.{same-true, same_or_not}
 use Rattle.dimacs.proofs.Members.{Contains-head, Contains-cons, Contains-cons_cases, Contains-nil, has-Contains}
-use Rattle.cube_solve.specs.inner.Levels.{AreTwins}
+use Rattle.cube_solve.specs.inner.Twins.{AreTwins}
 
 pub not_both : (a : ℕ → Bool) (l : Literal) → literal_true a l ≡ true → literal_true a (negation l) ≡ true → ⊥
 not_both a (Pos v) t n = both_ways (a v) (not-true (a v) n) t

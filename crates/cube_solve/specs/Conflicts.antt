@@ -1,4 +1,4 @@
--- Why a search ends at its limit: at a conflict that is not the cube's alone, so that a lemma would have to be learnt.
+-- The conflict at which a search ends at its limit: one decision is not of the cube, so that a lemma would have to be learnt.
 use Rattle.std.specs.Prelude.{◌≡◌, ℕ, ◌<◌, true, List, [], All, Contains}
 use Rattle.dimacs.specs.logic.Cnf.{Cnf}
 use Rattle.dimacs.specs.logic.ClauseMap.{Live, map_of, live_in}
@@ -7,22 +7,22 @@ use Rattle.lrat_text.specs.Grammar.{LineSpells}
 use Rattle.lrat_text.specs.Log.{Cube}
 use Rattle.lrat_text.specs.Runs.{after_steps}
 use Rattle.lrat_text.specs.declared.step.Step.{Step}
-use Rattle.watches.specs.Law.{AllCalm, IsConflict}
+use Rattle.watches.specs.Law.{NoneFalseOrUnit, IsConflict}
 use Rattle.watches.specs.Trails.{holds, up_to, present}
 use Rattle.watches.specs.declared.trail.Assigned.{Assigned}
-use Rattle.conflict_analysis.specs.Built.{AreBuilt}
+use Rattle.conflict_analysis.specs.BuiltTrails.{AreBuilt}
 use Rattle.conflict_analysis.specs.Lemmas.{IsDecision}
 
--- under the trail cut to any level below the present one no live clause is false or unit
+-- under the trail cut to any level below the present one, no live clause is false or unit
 abbrev pub QuietBelow : Live → List Assigned → Type 0
-QuietBelow live entries = (k : ℕ) → k < present entries → AllCalm live (up_to entries k)
+QuietBelow live entries = (k : ℕ) → k < present entries → NoneFalseOrUnit live (up_to entries k)
 
 -- each literal is on the trail
 abbrev pub AllHold : List Assigned → List Literal → Type 0
 AllHold entries cube = (l : Literal) → Contains cube l → holds entries l ≡ true
 
--- under a trail of these variables a live clause is false: each literal was decided or implied when it came, nothing was left to
--- propagate before a decision, the cube is true, and one decision is no literal of it
+-- under a trail of these variables a live clause is false: each literal was decided or implied when it was pushed, nothing was left to
+-- propagate before a decision, the cube is true, and one decision is no literal of the cube
 pub record IsOpenConflict (live : Live) (vars : ℕ) (q : Cube) : Type 0 where
   pub trail : List Assigned
   pub within : All (λ e. IsWithin vars e.literal) trail
@@ -35,7 +35,7 @@ pub record IsOpenConflict (live : Live) (vars : ℕ) (q : Cube) : Type 0 where
   pub number : ℕ
   pub conflict : IsConflict live trail number
 
--- the text spells steps over the base, and the clauses that are live after them meet such a conflict
+-- the text spells steps over the base, after which the live clauses have such a conflict
 pub record MeetsConflict (B : Cnf) (q : Cube) (text : List ℕ) : Type 0 where
   pub steps : List Step
   pub spells : LineSpells text steps

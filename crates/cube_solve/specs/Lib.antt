@@ -1,6 +1,6 @@
 pub mod Conflicts
 pub mod Outcome
-pub mod Parts
+pub mod Subsequences
 pub mod Session
-pub mod Telling
+pub mod SessionLog
 pub mod inner

@@ -1,13 +1,13 @@
 -- What only private contracts, invariants and proofs name. Nothing here is to be believed.
-pub mod Forgetting
-pub mod Growing
-pub mod Learning
-pub mod Levels
+pub mod Reduction
+pub mod CopiedClauses
+pub mod LearntLog
+pub mod Twins
 pub mod Marks
-pub mod Order
-pub mod Pace
-pub mod Sessions
+pub mod DecisionOrder
+pub mod Luby
+pub mod Queries
 pub mod State
-pub mod Steady
+pub mod SearchInvariants
 pub mod Steps
-pub mod Units
+pub mod UnitClauses

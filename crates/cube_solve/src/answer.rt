@@ -1,13 +1,13 @@
-//! What a query is answered.
+//! Answers of queries.
 
 use dimacs::{Assignment, Lit};
 
 /// Why a query fails.
 #[derive(Drop)]
 pub struct Failure {
-    /// Literals of the query, in its order and none twice, that no assignment which satisfies the clauses makes true.
+    /// The core: literals of the query, in its order and none twice, that no assignment that satisfies the clauses makes true together.
     pub core: Vec<Lit>,
-    /// The numbers of clauses that lead from the core to a clause that is false; none where the core has a pair.
+    /// The numbers of clauses by which the core leads to a false clause (hints); none if the core has a literal and its negation.
     pub hints: Vec<u64>,
 }
 
@@ -16,8 +16,8 @@ pub struct Failure {
 pub enum Answer {
     /// An assignment that satisfies the clauses, and makes the query true.
     Satisfied(Assignment),
-    /// No assignment does.
+    /// No assignment satisfies the clauses and makes the query true.
     Failed(Failure),
-    /// As many lemmas were learnt as the limit allows.
+    /// The limit of lemmas was reached.
     Unknown,
 }

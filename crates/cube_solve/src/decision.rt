@@ -1,29 +1,29 @@
-//! What to assume or decide next.
+//! The next assumption or decision.
 
 ghost use Rattle.std.specs.Prelude.{List, All};
 ghost use Rattle.dimacs.specs.logic.Literal.{Literal, IsWithin};
 ghost use Rattle.cube_solve.specs.Conflicts.{AllHold};
-ghost use Rattle.cube_solve.specs.inner.Order.{IsOrder, IsTaken};
+ghost use Rattle.cube_solve.specs.inner.DecisionOrder.{IsOrder, IsTaken};
 ghost use Rattle.cube_solve.specs.inner.State.{IsAssuming};
 ghost use Rattle.cube_solve.specs.inner.Steps.{AreHeld, IsNext};
 
-use crate::order::Order;
+use crate::decision_order::Order;
 use dimacs::Lit;
 use watches::{Trail, Truth};
 
-/// What is to be done where nothing is left to propagate.
+/// The next step when nothing is left to propagate.
 pub(crate) enum Next {
-    /// A literal of the cube has no value.
+    /// Assume this literal of the cube, which is unassigned.
     Assume(Lit),
-    /// A literal of the cube is false.
+    /// This literal of the cube is false.
     Fails(Lit),
-    /// The cube is true, and this literal has no value.
+    /// The cube is true: decide this unassigned literal.
     Decide(Lit),
-    /// The cube is true, and each variable has a value.
+    /// The cube is true, and each variable is assigned.
     Done,
 }
 
-/// The best variable without a value, with its last one, where the cube is true.
+/// Decides the next variable of the decision order; `Done` if each variable is assigned. The cube is true.
 fn decide(trail: &Trail, order: &mut Order) -> Next
     requires { IsOrder trail.now order.old }
     ensures next { (cube : List Literal) → AllHold trail.now.entries cube → IsNext trail.now cube result }
@@ -35,8 +35,8 @@ fn decide(trail: &Trail, order: &mut Order) -> Next
     }
 }
 
-/// The first literal of the cube that is not true, and then the best variable without a value. Above the levels of
-/// assumptions the cube is true, so that no decision there looks at it. Its first `held` literals are known to be true.
+/// Picks the first literal of the cube that is not true; if the cube is true, the next decision. Above the levels of assumptions the
+/// cube is true and is not read. Its first `held` literals are known to be true.
 pub(crate) fn pick(
     trail: &Trail,
     cube: &[Lit],

@@ -1,14 +1,14 @@
-//! Propagation and decisions, down to a conflict or a model.
+//! Descent: propagation, assumptions and decisions, down to a conflict or a model.
 
 ghost use Rattle.std.specs.Prelude.{◌≡◌, ◌+◌, ◌<◌, ◌≤◌, ◌∷◌, [], ◌++◌, List, length, All, IfSome, IfNone};
 ghost use Rattle.clause_arena.specs.Clauses.{live_of};
-ghost use Rattle.conflict_analysis.specs.Built.{IsDecided};
+ghost use Rattle.conflict_analysis.specs.BuiltTrails.{IsDecided};
 ghost use Rattle.dimacs.specs.logic.Literal.{IsWithin};
 ghost use Rattle.lrat_text.specs.Log.{Cube};
-ghost use Rattle.watches.specs.Law.{AreSame, IsConflict, IsQuiet};
+ghost use Rattle.watches.specs.Law.{SameUpToOrder, IsConflict, IsFixpoint};
 ghost use Rattle.watches.specs.declared.trail.Assigned.{Assigned};
 ghost use Rattle.cube_solve.specs.inner.State.{IsState, IsAssuming};
-ghost use Rattle.cube_solve.specs.inner.Steady.{IsSteady};
+ghost use Rattle.cube_solve.specs.inner.SearchInvariants.{IsSteady};
 ghost use Rattle.cube_solve.specs.inner.Steps.{IsFound, IsUnassigned};
 
 use crate::decision::{Next, pick};
@@ -17,7 +17,7 @@ use clause_arena::Arena;
 use dimacs::Lit;
 use watches::{Assigned, Propagator, Trail};
 
-/// What ended a descent.
+/// The end of a descent.
 pub(crate) enum Found {
     /// Each variable has a value, and no clause is false.
     Model,
@@ -27,11 +27,11 @@ pub(crate) enum Found {
     Assumption(Lit),
 }
 
-/// Opens a level with a literal, where nothing is left to propagate.
+/// Opens a level with a literal, when nothing is left to propagate.
 fn open_level<P: Propagator>(propagator: &P, arena: &Arena, trail: &mut Trail, literal: Lit)
     requires ready { P.is_ready propagator.now arena.now trail.old }
     requires state { IsState (P.attached propagator.now) arena.now trail.old }
-    requires quiet { IsQuiet (live_of arena.now) trail.old.entries }
+    requires quiet { IsFixpoint (live_of arena.now) trail.old.entries }
     requires free { IsUnassigned trail.old literal }
     requires limit { trail.old.vars ≤ 2000000 }
     ensures ready { P.is_ready propagator.now arena.now trail.new }
@@ -41,7 +41,7 @@ fn open_level<P: Propagator>(propagator: &P, arena: &Arena, trail: &mut Trail, l
     ensures len { length trail.new.entries ≡ length trail.old.entries + 1 }
     ensures room { length trail.old.entries < trail.old.vars }
 {
-    let _len = trail.len(); // at most the number of variables, and so is the level
+    let _ = trail.len(); // tells the proof that levels are at most the number of variables
     let level = trail.level() + 1;
     trail.push(Assigned {
         literal,
@@ -51,17 +51,17 @@ fn open_level<P: Propagator>(propagator: &P, arena: &Arena, trail: &mut Trail, l
 }
 
 impl<P: Propagator> State<'_, P> {
-    /// Propagates until the clause of the number is false, or nothing more follows.
-    fn settle(&mut self) -> Option<u64>
+    /// Propagates until a clause is false, whose number is returned, or no clause is unit. Counts ticks.
+    fn propagate_all(&mut self) -> Option<u64>
         requires { IsSteady P.is_ready P.attached self.old }
         ensures steady { IsSteady P.is_ready P.attached self.new }
-        ensures clauses { AreSame self.old.arena self.new.arena }
+        ensures clauses { SameUpToOrder self.old.arena self.new.arena }
         ensures vars { self.new.trail.vars ≡ self.old.trail.vars }
         ensures longer { length self.old.trail.entries ≤ length self.new.trail.entries }
         ensures grows { (more : List Assigned) × (self.new.trail.entries ≡ self.old.trail.entries ++ more) }
         ensures assuming { (q : Cube) → IsAssuming q self.old.trail.entries self.old.assumed → IsAssuming q self.new.trail.entries self.new.assumed }
         ensures conflict { IfSome result (IsConflict (live_of self.new.arena) self.new.trail.entries) }
-        ensures quiet { IfNone result (IsQuiet (live_of self.new.arena) self.new.trail.entries) }
+        ensures quiet { IfNone result (IsFixpoint (live_of self.new.arena) self.new.trail.entries) }
     {
         let before = self.trail.len() as u64;
         let found = self.propagator.propagate(&mut self.arena, &mut self.trail);
@@ -78,13 +78,13 @@ impl<P: Propagator> State<'_, P> {
         requires cube { All (IsWithin self.old.trail.vars) cube.now }
         ensures steady { IsSteady P.is_ready P.attached self.new }
         ensures assuming { IsAssuming cube.now self.new.trail.entries self.new.assumed }
-        ensures clauses { AreSame self.old.arena self.new.arena }
+        ensures clauses { SameUpToOrder self.old.arena self.new.arena }
         ensures vars { self.new.trail.vars ≡ self.old.trail.vars }
         ensures found { IsFound self.new.arena self.new.trail cube.now result }
     {
-        let mut held = 0; // so many of the cube's first literals are true: the trail only grows
+        let mut held = 0; // the number of first literals of the cube that are true; the trail only grows
         'descending: loop {
-            match self.settle() {
+            match self.propagate_all() {
                 Some(number) => return Found::Clause(number),
                 None => {}
             }

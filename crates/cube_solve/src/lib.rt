@@ -1,40 +1,41 @@
-//! Solving under a cube.
+//! Conflict-driven clause learning under a cube of assumptions (Marques-Silva and Sakallah 1996).
 //!
-//! A conflict-driven search (Marques-Silva and Sakallah 1996) under a cube of assumptions: it propagates, assumes the cube's
-//! literals, decides a free variable, and learns from each conflict. Focused phases decide what was bumped last and restart
-//! often, stable ones decide by scores and restart seldom. Lemmas that are used least are forgotten when there are many.
-//! What a layer above may rest on: the three outcomes of [`solve`], each by its clause. It ends for every limit. A [`Session`]
-//! keeps clauses and lemmas from one query to the next.
+//! The search propagates, assumes the cube's literals, decides an unassigned variable, and learns a lemma from each conflict. Focused
+//! phases decide by VMTF and restart often; stable phases decide by scores and restart seldom. The least used lemmas are deleted if there
+//! are many.
+//!
+//! What a layer above may rest on: the three outcomes of [`solve`], each by its clause. It returns for every limit. A [`Session`] keeps
+//! clauses and lemmas from one query to the next.
 #![tactic(auto)]
 
 mod answer;
-mod asking;
-mod average;
+mod base_loader;
 mod decision;
+mod decision_order;
 mod descent;
-mod fixing;
-mod forgetting;
-mod gaps;
-mod growing;
-mod levels;
-mod loading;
+mod garbage;
+mod lbd;
+mod lemma_stats;
 mod log;
+mod luby;
 mod marks;
 mod model;
-mod order;
+mod modes;
+mod more_variables;
+mod moving_average;
 mod outcome;
-mod pace;
-mod phases;
-mod queue;
+mod query;
+mod reduce;
+mod root_units;
+mod saved_phases;
 mod search;
 mod session;
-mod solving;
+mod solve_cube;
 mod state;
-mod units;
-mod uses;
-mod values;
+mod unit_clauses;
+mod vmtf_queue;
 
 pub use answer::{Answer, Failure};
 pub use outcome::Outcome;
 pub use session::Session;
-pub use solving::{solve, solve_by};
+pub use solve_cube::{solve, solve_by};

@@ -1,15 +1,15 @@
-//! Literals that are marked.
+//! Marks of literals.
 
 ghost use Rattle.std.specs.Prelude.{◌≡◌, ◌+◌, ◌<◌, true, false, [], ◌∷◌, ◌++◌, length, filter, nat_eq, slice_index_or, All, IfOk, OnOk};
 ghost use Rattle.dimacs.specs.logic.Literal.{IsWithin, index_of};
 ghost use Rattle.cube_solve.specs.inner.Marks.{AreMarks};
-ghost use Rattle.cube_solve.specs.inner.Sessions.{AreStamped};
+ghost use Rattle.cube_solve.specs.inner.Queries.{AreStamped};
 
-use crate::loading::keep_first;
+use crate::base_loader::keep_first;
 use dimacs::Lit;
 use std::alloc::{AllocError, Global};
 
-/// A stamp for each literal, at its index. Those with the present stamp are marked.
+/// A stamp for each literal, at its index. A literal is marked if its stamp is the present one, so that a new stamp clears all marks.
 #[derive(Drop)]
 pub(crate) struct Marks {
     pub(crate) stamps: Vec<u32>,
@@ -26,7 +26,7 @@ fn is_marked(marks: &Marks, literal: Lit) -> bool
     }
 }
 
-/// Puts a literal behind others, where it is to be kept.
+/// Pushes a literal if it is to be kept.
 fn keep_if(kept: bool, literal: Lit, literals: &mut Vec<Lit>) -> Result<(), AllocError>
     ensures yes { OnOk result (kept ≡ true → literals.new.items ≡ literals.old.items ++ literal ∷ []) }
     ensures no { OnOk result (kept ≡ false → literals.new.items ≡ literals.old.items) }
@@ -37,7 +37,7 @@ fn keep_if(kept: bool, literal: Lit, literals: &mut Vec<Lit>) -> Result<(), Allo
     Ok(())
 }
 
-/// The literals that are marked, in their order.
+/// The marked literals among these, in their order.
 pub(crate) fn marked_of(
     alloc: Global,
     marks: &Marks,
@@ -53,7 +53,7 @@ pub(crate) fn marked_of(
 }
 
 impl Marks {
-    /// For the literals of the variables from 1 to `vars`, none of them marked.
+    /// Marks for the literals of the variables from 1 to `vars`, none of them marked.
     pub(crate) fn new(alloc: Global, vars: u32) -> Result<Marks, AllocError>
         ensures { IfOk result (AreStamped vars) }
     {
@@ -64,7 +64,7 @@ impl Marks {
         })
     }
 
-    /// Takes a stamp that no literal has.
+    /// Clears all marks: takes a stamp that no literal has.
     fn renew(&mut self) -> Result<(), AllocError>
         requires { All (λ s. s < self.old.stamp + 1) self.old.stamps.items }
         ensures some { OnOk result (0 < self.new.stamp) }
@@ -81,7 +81,7 @@ impl Marks {
         Ok(())
     }
 
-    /// Marks the literals of a clause, and no others; the first of each is kept, in the clause's order.
+    /// Marks exactly the literals of a clause, and writes them to `kept`, each once, in the order of their first occurrences.
     pub(crate) fn mark(
         &mut self,
         vars: u32,

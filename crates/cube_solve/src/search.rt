@@ -1,4 +1,4 @@
-//! The loop of the search: descend to a conflict, learn a lemma from it, and descend again.
+//! The CDCL loop: propagate and decide down to a conflict, learn a lemma from it, and go on.
 
 ghost use Rattle.std.specs.Prelude.{◌≡◌, ℕ, ◌+◌, ◌<◌, ◌≤◌, ◌^◌, [], ◌∷◌, ◌++◌, map, nat_eq, All, IfOk, OnOk};
 ghost use Rattle.std.specs.List.{IsDistinct};
@@ -10,25 +10,25 @@ ghost use Rattle.lrat_text.specs.Log.{Cube};
 ghost use Rattle.watches.specs.Law.{IsConflict};
 ghost use Rattle.watches.specs.Trails.{present};
 ghost use Rattle.conflict_analysis.specs.Lemmas.{IsClosing, NegatesAssumptions};
-ghost use Rattle.cube_solve.specs.inner.Forgetting.{AreRising, AreLemmas, Drops, MayForget};
-ghost use Rattle.cube_solve.specs.inner.Learning.{AreBelow, IsWritten, Learns};
-ghost use Rattle.cube_solve.specs.inner.Levels.{AreLinked, IsAdded};
+ghost use Rattle.cube_solve.specs.inner.Reduction.{AreRising, AreLemmas, DeletesLemmas, MayReduce};
+ghost use Rattle.cube_solve.specs.inner.LearntLog.{AreBelow, IsWritten, Learns};
+ghost use Rattle.cube_solve.specs.inner.Twins.{AreLinked, IsAdded};
 ghost use Rattle.cube_solve.specs.Outcome.{IsRightOutcome};
 ghost use Rattle.cube_solve.specs.inner.State.{IsAssuming};
-ghost use Rattle.cube_solve.specs.inner.Steady.{IsSteady, IsSearching};
-ghost use Rattle.cube_solve.specs.inner.Units.{AreNoted, IsFixing};
+ghost use Rattle.cube_solve.specs.inner.SearchInvariants.{IsSteady, IsSearching};
+ghost use Rattle.cube_solve.specs.inner.UnitClauses.{AreNoted, IsRootUnitLemma};
 
 use crate::descent::Found;
-use crate::fixing::{want, write_next};
-use crate::gaps::Gaps;
-use crate::levels::Levels;
+use crate::garbage::Garbage;
+use crate::lbd::LbdCounter;
+use crate::lemma_stats::LemmaStats;
 use crate::log::Log;
 use crate::model::read_model;
+use crate::modes::Modes;
 use crate::outcome::Outcome;
-use crate::phases::Phases;
+use crate::root_units::{list_root_literals, make_next_unit};
 use crate::state::State;
-use crate::units::Units;
-use crate::uses::Uses;
+use crate::unit_clauses::UnitClauses;
 use conflict_analysis::{Analyser, Closing, Lemma, close_cube};
 use dimacs::{Base, Lit};
 use packed_text::PackedText;
@@ -36,23 +36,23 @@ use std::alloc::{AllocError, Global};
 use std::mem::replace;
 use watches::{Propagator, add_clause};
 
-/// A search: what it works on, and what it has learnt.
+/// A search: its state, its lemmas, and its heuristics.
 pub(crate) struct Search<'a, P> {
     pub(crate) alloc: Global,
     pub(crate) state: State<'a, P>,
-    /// The numbers of the live lemmas, rising.
+    /// The numbers of the live lemmas, in ascending order.
     pub(crate) lemmas: Vec<u64>,
-    pub(crate) uses: Uses,
+    pub(crate) uses: LemmaStats,
     pub(crate) log: Log,
-    pub(crate) gaps: Gaps,
-    pub(crate) units: Units,
-    /// The literals of level 0 that want a lemma of their own, the next one last.
+    pub(crate) garbage: Garbage,
+    pub(crate) units: UnitClauses,
+    /// The literals of level 0 that are to get a unit lemma, the next one last.
     wanted: Vec<Lit>,
     analyser: Analyser,
-    /// The lemma of the last conflict, whose room the next one takes.
+    /// The lemma of the last conflict, whose memory the next one reuses.
     lemma: Lemma,
-    levels: Levels,
-    phases: Phases,
+    levels: LbdCounter,
+    phases: Modes,
 }
 
 impl<P> Drop for Search<'_, P> {
@@ -63,7 +63,7 @@ impl<P> Drop for Search<'_, P> {
             lemmas: _,
             uses: _,
             log: _,
-            gaps: _,
+            garbage: _,
             units: _,
             wanted: _,
             analyser: _,
@@ -88,25 +88,25 @@ impl<'a, P: Propagator> Search<'a, P> {
         ensures log { IfOk result (λ s. s.log ≡ []) }
         ensures assuming { IfOk result (λ s. (q : Cube) → IsAssuming q s.state.trail.entries s.state.assumed) }
     {
-        let vars = base.vars(); // with it comes the bound of the number of clauses
+        let vars = base.vars(); // tells the proof a bound of the number of clauses too
         let state = State::new(alloc, propagator, base)?;
         Ok(Search {
             alloc,
             state,
             lemmas: Vec::new(alloc),
-            uses: Uses::new(alloc, base.len() as u64 + 1),
+            uses: LemmaStats::new(alloc, base.len() as u64 + 1),
             log: Log::new(alloc),
-            gaps: Gaps::new(base),
-            units: Units::new(alloc, base)?,
+            garbage: Garbage::new(base),
+            units: UnitClauses::new(alloc, base)?,
             wanted: Vec::new(alloc),
             analyser: Analyser::new(alloc),
             lemma: Lemma::new(alloc),
-            levels: Levels::new(alloc, base.vars())?,
-            phases: Phases::new(base.len() as u64, vars),
+            levels: LbdCounter::new(alloc, base.vars())?,
+            phases: Modes::new(base.len() as u64, vars),
         })
     }
 
-    /// The log alone: the room of all else is given back.
+    /// The log; frees all else.
     fn into_log(self) -> Log
         ensures { result ≡ self.entry.log }
     {
@@ -116,7 +116,7 @@ impl<'a, P: Propagator> Search<'a, P> {
             lemmas: _,
             uses: _,
             log,
-            gaps: _,
+            garbage: _,
             units: _,
             wanted: _,
             analyser: _,
@@ -127,14 +127,14 @@ impl<'a, P: Propagator> Search<'a, P> {
         log
     }
 
-    /// The text of the log as it lies. The room of all else is given back.
+    /// The packed text of the log; frees all else.
     fn into_packed(self) -> PackedText
         ensures { result ≡ self.entry.log }
     {
         self.into_log().into_packed()
     }
 
-    /// The log, ended by the lemma that closes the cube.
+    /// Writes the lemma that closes the cube, and returns the log.
     fn close(mut self, closing: Closing, id: u64) -> Result<PackedText, AllocError>
         requires steady { IsSteady P.is_ready P.attached self.state }
         requires closing { IsClosing (live_of self.state.arena) self.state.trail.entries closing }
@@ -148,8 +148,8 @@ impl<'a, P: Propagator> Search<'a, P> {
         Ok(self.into_packed())
     }
 
-    /// Learns the lemma of a conflict: it is written, and joins the clauses behind a return to its level.
-    fn learn_from(&mut self, conflict: u64, id: u64) -> Result<(), AllocError>
+    /// Learns the lemma of a conflict: writes it, bumps variables, backjumps to the lemma's level, and adds it to the clauses.
+    fn learn_conflict(&mut self, conflict: u64, id: u64) -> Result<(), AllocError>
         requires steady { IsSteady P.is_ready P.attached self.old.state }
         requires conflict { IsConflict (live_of self.old.state.arena) self.old.state.trail.entries conflict }
         requires above { 0 < present self.old.state.trail.entries }
@@ -168,7 +168,7 @@ impl<'a, P: Propagator> Search<'a, P> {
         self.analyser
             .analyse_into(&state.arena, &state.trail, conflict, &mut self.lemma)?;
         self.log.write(id, &self.lemma)?;
-        want(
+        list_root_literals(
             &mut self.wanted,
             &self.units,
             &state.arena,
@@ -183,13 +183,13 @@ impl<'a, P: Propagator> Search<'a, P> {
             &self.lemma.hints,
         );
         let levels = self.levels.count(&state.trail, &self.lemma.lits, u8::MAX);
-        let levels = levels.saturating_sub(1); // but the present one
+        let levels = levels.saturating_sub(1); // without the present level
         self.phases.learn(levels, state.trail.level());
         state
             .order
             .bump(self.analyser.met(), self.analyser.met_again())?;
         state.order.note(&state.trail);
-        state.go_back(self.lemma.level);
+        state.backtrack(self.lemma.level);
         add_clause(
             state.propagator,
             &mut state.arena,
@@ -203,7 +203,7 @@ impl<'a, P: Propagator> Search<'a, P> {
         Ok(())
     }
 
-    /// Learns the lemma of a literal that is true at level 0: it is written, and is the literal's reason from then on.
+    /// Learns the unit lemma of a literal that is true at level 0: writes it, and makes it the literal's reason.
     fn learn_unit(&mut self, literal: Lit, id: u64) -> Result<(), AllocError>
         requires steady { IsSteady P.is_ready P.attached self.old.state }
         requires above { 0 < present self.old.state.trail.entries }
@@ -211,7 +211,7 @@ impl<'a, P: Propagator> Search<'a, P> {
         requires id { IsClauseNumber id }
         requires numbers { AreBelow id (live_of self.old.state.arena) }
         requires noted { AreNoted (live_of self.old.state.arena) self.old.units.numbers.items }
-        requires fixing { IsFixing (live_of self.old.state.arena) self.old.state.trail self.old.units.numbers.items literal self.old.lemma }
+        requires fixing { IsRootUnitLemma (live_of self.old.state.arena) self.old.state.trail self.old.units.numbers.items literal self.old.lemma }
         ensures steady { OnOk result (IsSteady P.is_ready P.attached self.new.state) }
         ensures noted { OnOk result (AreNoted (live_of self.new.state.arena) self.new.units.numbers.items) }
         ensures learns { OnOk result (Learns self.old.state.trail.vars id (live_of self.old.state.arena) (live_of self.new.state.arena) self.old.log self.new.log) }
@@ -220,14 +220,14 @@ impl<'a, P: Propagator> Search<'a, P> {
         ensures assuming { OnOk result ((q : Cube) → IsAssuming q self.old.state.trail.entries self.old.state.assumed → IsAssuming q self.new.state.trail.entries self.new.state.assumed) }
     {
         self.log.write(id, &self.lemma)?;
-        self.state.fix(literal, id, &self.lemma.lits)?;
+        self.state.add_root_unit(literal, id, &self.lemma.lits)?;
         self.units.note(&self.lemma.lits, id);
         self.lemmas.push(id)?;
         self.uses.learn_unit()?;
         Ok(())
     }
 
-    /// Learns the lemma of a literal that wants one, or else that of the conflict: whether it was the conflict's.
+    /// Learns the next unit lemma of a literal of level 0, or the conflict's lemma if there is none. Returns whether it was the conflict's.
     pub(crate) fn learn(&mut self, conflict: u64, id: u64) -> Result<bool, AllocError>
         requires steady { IsSteady P.is_ready P.attached self.old.state }
         requires conflict { IsConflict (live_of self.old.state.arena) self.old.state.trail.entries conflict }
@@ -244,7 +244,7 @@ impl<'a, P: Propagator> Search<'a, P> {
         ensures assuming { OnOk result ((q : Cube) → IsAssuming q self.old.state.trail.entries self.old.state.assumed → IsAssuming q self.new.state.trail.entries self.new.state.assumed) }
     {
         let state = &self.state;
-        let next = write_next(
+        let next = make_next_unit(
             &mut self.wanted,
             &self.units,
             &state.arena,
@@ -257,14 +257,14 @@ impl<'a, P: Propagator> Search<'a, P> {
                 Ok(false)
             }
             None => {
-                self.learn_from(conflict, id)?;
+                self.learn_conflict(conflict, id)?;
                 Ok(true)
             }
         }
     }
 
-    /// Halves the uses, restarts and forgets lemmas when it is time.
-    pub(crate) fn keep_pace(&mut self, top: u64) -> Result<(), AllocError>
+    /// Ages the use counts, restarts, and reduces the lemmas, each if it is due.
+    pub(crate) fn restart_and_reduce(&mut self, top: u64) -> Result<(), AllocError>
         requires steady { IsSteady P.is_ready P.attached self.old.state }
         requires rising { AreRising self.old.lemmas.items }
         requires top { IsClauseNumber top }
@@ -273,23 +273,23 @@ impl<'a, P: Propagator> Search<'a, P> {
         ensures vars { OnOk result (self.new.state.trail.vars ≡ self.old.state.trail.vars) }
         ensures assuming { OnOk result ((q : Cube) → IsAssuming q self.old.state.trail.entries self.old.state.assumed → IsAssuming q self.new.state.trail.entries self.new.state.assumed) }
         ensures lemmas { OnOk result ((first : ℕ) → AreLemmas first (live_of self.old.state.arena) self.old.lemmas.items → AreLemmas first (live_of self.new.state.arena) self.new.lemmas.items) }
-        ensures kept { OnOk result ((first : ℕ) → AreLemmas first (live_of self.old.state.arena) self.old.lemmas.items → MayForget first (live_of self.old.state.arena) (live_of self.new.state.arena) self.old.log self.new.log) }
-        ensures drops { OnOk result (Drops top self.old.lemmas.items self.new.lemmas.items (live_of self.old.state.arena) (live_of self.new.state.arena) self.old.log self.new.log) }
+        ensures kept { OnOk result ((first : ℕ) → AreLemmas first (live_of self.old.state.arena) self.old.lemmas.items → MayReduce first (live_of self.old.state.arena) (live_of self.new.state.arena) self.old.log self.new.log) }
+        ensures drops { OnOk result (DeletesLemmas top self.old.lemmas.items self.new.lemmas.items (live_of self.old.state.arena) (live_of self.new.state.arena) self.old.log self.new.log) }
         ensures units { self.new.units ≡ self.old.units }
     {
         self.uses.halve_if(self.phases.halves(), &self.lemmas);
-        let beat = self.phases.beat(self.state.ticks);
-        self.state.follow(beat);
+        let after_conflict = self.phases.after_conflict(self.state.ticks);
+        self.state.restart_or_rephase(after_conflict);
         if self.lemmas.len() <= self.uses.most() {
             return Ok(());
         }
-        self.state.go_back(0);
-        self.forget(top)?;
+        self.state.backtrack(0);
+        self.reduce(top)?;
         Ok(())
     }
 
-    /// Takes in a clause that is no lemma, behind a return to level 0.
-    pub(crate) fn take_in(&mut self, id: u64, lits: &[Lit]) -> Result<(), AllocError>
+    /// Backtracks to level 0, and adds a clause that is no lemma.
+    pub(crate) fn add_given(&mut self, id: u64, lits: &[Lit]) -> Result<(), AllocError>
         requires steady { IsSteady P.is_ready P.attached self.old.state }
         requires distinct { IsDistinct same lits.now }
         requires within { All (IsWithin self.old.state.trail.vars) lits.now }
@@ -303,15 +303,15 @@ impl<'a, P: Propagator> Search<'a, P> {
         ensures vars { OnOk result (self.new.state.trail.vars ≡ self.old.state.trail.vars) }
         ensures log { self.new.log ≡ self.old.log }
     {
-        self.state.take_in(id, lits)?;
+        self.state.add_given(id, lits)?;
         self.units.note(lits, id);
-        self.gaps.give(lits);
-        self.uses.learn(0)?; // a place among the counts, which are by number
+        self.garbage.give(lits);
+        self.uses.learn(0)?; // the statistics are by number, so each clause has a place
         Ok(())
     }
 
-    /// Takes over what another search has learnt and written, whose clauses it has, and the last values of its variables.
-    pub(crate) fn learnt_by(&mut self, other: Search<'_, P>)
+    /// Takes over the lemmas' numbers and statistics, the log, and the saved values of another search, whose clauses this one has.
+    pub(crate) fn take_over_lemmas(&mut self, other: Search<'_, P>)
         ensures { self.new ≡ record self.old { lemmas = other.entry.lemmas; uses = other.entry.uses; log = other.entry.log } }
     {
         let state = &other.state;
@@ -322,7 +322,7 @@ impl<'a, P: Propagator> Search<'a, P> {
             lemmas,
             uses,
             log,
-            gaps: _,
+            garbage: _,
             units: _,
             wanted: _,
             analyser: _,
@@ -335,7 +335,7 @@ impl<'a, P: Propagator> Search<'a, P> {
         self.log = log;
     }
 
-    /// The text of the log, which begins anew.
+    /// Takes the text of the log, and empties the log.
     pub(crate) fn take_log(&mut self) -> PackedText
         ensures text { result ≡ self.old.log }
         ensures rest { self.new ≡ record self.old { log = [] } }
@@ -344,8 +344,8 @@ impl<'a, P: Propagator> Search<'a, P> {
         log.into_packed()
     }
 
-    /// Learns one lemma after others, and keeps pace where it is that of the conflict.
-    fn turn(&mut self, base: &Base, conflict: u64, learnt: u64) -> Result<(), AllocError>
+    /// Learns one lemma, after `learnt` others. If it is the conflict's, restarts and reduces if due.
+    fn handle_conflict(&mut self, base: &Base, conflict: u64, learnt: u64) -> Result<(), AllocError>
         requires searching { IsSearching P.is_ready P.attached base.now learnt self.old }
         requires conflict { IsConflict (live_of self.old.state.arena) self.old.state.trail.entries conflict }
         requires above { 0 < present self.old.state.trail.entries }
@@ -353,12 +353,12 @@ impl<'a, P: Propagator> Search<'a, P> {
         ensures searching { OnOk result (IsSearching P.is_ready P.attached base.now (learnt + 1) self.new) }
         ensures assuming { OnOk result ((q : Cube) → IsAssuming q self.old.state.trail.entries self.old.state.assumed → IsAssuming q self.new.state.trail.entries self.new.state.assumed) }
     {
-        let _vars = base.vars(); // with it comes the bound of the number of clauses
+        let _ = base.vars(); // tells the proof a bound of the number of clauses
         let id = base.len() as u64 + 1 + learnt;
         if !self.learn(conflict, id)? {
             return Ok(());
         }
-        self.keep_pace(id)?;
+        self.restart_and_reduce(id)?;
         Ok(())
     }
 
@@ -375,7 +375,7 @@ impl<'a, P: Propagator> Search<'a, P> {
         requires within { All (IsWithin base.now.vars) cube.now }
         ensures { IfOk result (IsRightOutcome base.now cube.now limit) }
     {
-        let _vars = base.vars(); // with it comes the bound of the number of clauses
+        let _ = base.vars(); // tells the proof a bound of the number of clauses
         let most = limit.min(1 << 47);
         let mut learnt = 0;
         'turns: loop {
@@ -395,10 +395,10 @@ impl<'a, P: Propagator> Search<'a, P> {
                         return Ok(Outcome::Refuted(text));
                     }
                     if learnt == most {
-                        let _entries = self.state.trail.entries(); // of the base's variables, no two of one
+                        let _ = self.state.trail.entries(); // tells the proof that no two have one variable
                         return Ok(Outcome::Limit(self.into_packed()));
                     }
-                    self.turn(base, number, learnt)?;
+                    self.handle_conflict(base, number, learnt)?;
                     learnt += 1;
                 }
             }

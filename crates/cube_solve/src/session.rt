@@ -1,16 +1,12 @@
-//! Clauses that are given one after the other, and what was learnt of them.
+//! Sessions: an incremental solver, to which clauses are given between queries.
 
 ghost use Rattle.std.specs.Prelude.{◌≡◌, ℕ, ◌+◌, ◌^◌, ◌≤◌, List, [], ◌∷◌, ◌++◌, length, All, Contains, IfOk, OnOk};
 ghost use Rattle.std.specs.FinMap.{insert};
-ghost use Rattle.clause_arena.specs.Clauses.{live_of};
 ghost use Rattle.dimacs.specs.logic.ClauseMap.{ClauseMap, map_of};
 ghost use Rattle.dimacs.specs.logic.Literal.{Clause, IsWithin};
 ghost use Rattle.lrat_text.specs.Grammar.{IsClauseNumber};
-ghost use Rattle.cube_solve.specs.inner.Learning.{AreBelow};
-ghost use Rattle.cube_solve.specs.inner.Levels.{IsAdded};
-ghost use Rattle.cube_solve.specs.inner.Units.{AreNoted};
 ghost use Rattle.cube_solve.specs.Session.{IsReady, AreGiven, vars_of, last_of, log_of};
-ghost use Rattle.cube_solve.specs.Telling.{IsKnown};
+ghost use Rattle.cube_solve.specs.SessionLog.{IsKnown};
 
 use crate::marks::Marks;
 use crate::search::Search;
@@ -19,10 +15,10 @@ use packed_text::PackedText;
 use std::alloc::{AllocError, Global};
 use watches::Propagator;
 
-/// Clauses, over a number of variables that does not change, and the lemmas that were learnt under the queries so far.
+/// An incremental solver: the clauses given so far, over a fixed number of variables, and the lemmas that were learnt from them.
 pub struct Session<'a, P> {
     pub(crate) search: Search<'a, P>,
-    /// The greatest number of a clause so far, be it given or a lemma.
+    /// The greatest number of a clause so far, given or learnt.
     pub(crate) top: u64,
     pub(crate) marks: Marks,
 }
@@ -37,11 +33,11 @@ impl<P> Drop for Session<'_, P> {
     }
 }
 
-/// The greatest number that a clause may have here.
+/// The greatest number of a clause.
 const LAST: u64 = 1 << 47;
 
 impl<'a, P: Propagator> Session<'a, P> {
-    /// A session whose first clauses are those of a base, over its variables, by a propagator that has no clause yet.
+    /// A session over the variables of a base, with its clauses. The propagator has no clause yet.
     pub fn new(
         alloc: Global,
         propagator: &'a mut P,
@@ -55,7 +51,7 @@ impl<'a, P: Propagator> Session<'a, P> {
         ensures log { IfOk result (λ s. log_of s ≡ []) }
         ensures known { IfOk result (λ s. (given : List ℕ) → ((n : ℕ) → Contains given n → n ≤ length base.now.clauses) → IsKnown given (map_of base.now) s) }
     {
-        let vars = base.vars(); // with it comes the bound of the number of clauses
+        let vars = base.vars(); // tells the proof a bound of the number of clauses too
         let mut search = Search::new(alloc, propagator, base)?;
         search.uses.keep_more();
         Ok(Session {
@@ -65,7 +61,7 @@ impl<'a, P: Propagator> Session<'a, P> {
         })
     }
 
-    /// The search, and the greatest number so far.
+    /// The search, and the greatest number of a clause so far.
     pub(crate) fn into_parts(self) -> (Search<'a, P>, u64)
         ensures { result ≡ (self.entry.search, self.entry.top) }
     {
@@ -77,7 +73,7 @@ impl<'a, P: Propagator> Session<'a, P> {
         (search, top)
     }
 
-    /// The number of the next clause. There is an error if numbers have run out, behind 2^47.
+    /// The number of the next clause. There is an error after number 2^47.
     pub(crate) fn next_number(&self) -> Result<u64, AllocError>
         ensures next { IfOk result (λ id. id ≡ self.now.top + 1) }
         ensures number { IfOk result IsClauseNumber }
@@ -89,8 +85,8 @@ impl<'a, P: Propagator> Session<'a, P> {
         Ok(self.top + 1)
     }
 
-    /// Takes in a clause of the session's variables: literals may repeat, and a pair may stand in it. After an error nothing is
-    /// known of the session. There is one if memory was wanting, or 2^47 clauses and lemmas came before.
+    /// Adds a clause over the session's variables. It may repeat literals, and may have a literal and its negation. There is an error if
+    /// memory is refused, or after 2^47 clauses and lemmas. After an error, nothing is known of the session.
     pub fn give(&mut self, clause: &[Lit]) -> Result<(), AllocError>
         requires ready { IsReady P.is_ready P.attached self.old }
         requires within { All (IsWithin (vars_of self.old)) clause.now }
@@ -106,19 +102,19 @@ impl<'a, P: Propagator> Session<'a, P> {
         let vars = self.search.state.trail.vars();
         let mut kept = Vec::new(self.search.alloc);
         self.marks.mark(vars, clause, &mut kept)?;
-        self.search.take_in(id, &kept)?;
+        self.search.add_given(id, &kept)?;
         self.top = id;
         Ok(())
     }
 
-    /// The greatest number of a clause so far, be it given or a lemma.
+    /// The greatest number of a clause so far, given or learnt.
     pub fn last(&self) -> u64
         ensures { result ≡ last_of self.now }
     {
         self.top
     }
 
-    /// The lemmas that were learnt, and deleted, since the beginning or the last call, as lines of LRAT text.
+    /// The lemmas that were learnt and deleted since the last call, or the beginning, as lines of LRAT text.
     pub fn take_log(&mut self) -> PackedText
         ensures text { result ≡ log_of self.old }
         ensures empty { log_of self.new ≡ [] }

@@ -1,4 +1,4 @@
-//! What a search works on.
+//! The state of a search: clauses, propagator, trail, and the order of decisions.
 
 ghost use Rattle.std.specs.Prelude.{◌≡◌, ◌<◌, ◌≤◌, true, List, [], ◌∷◌, ◌++◌, All, IfOk, OnOk};
 ghost use Rattle.clause_arena.specs.Clauses.{live_of};
@@ -8,28 +8,28 @@ ghost use Rattle.dimacs.specs.logic.Literal.{IsWithin, same};
 ghost use Rattle.lrat_text.specs.Log.{Cube};
 ghost use Rattle.watches.specs.Trails.{up_to};
 ghost use Rattle.watches.specs.declared.trail.Assigned.{Assigned};
-ghost use Rattle.cube_solve.specs.inner.Learning.{AreBelow};
-ghost use Rattle.cube_solve.specs.inner.Levels.{AreLinked, IsAdded};
+ghost use Rattle.cube_solve.specs.inner.LearntLog.{AreBelow};
+ghost use Rattle.cube_solve.specs.inner.Twins.{AreLinked, IsAdded};
 ghost use Rattle.cube_solve.specs.inner.State.{IsAssuming};
-ghost use Rattle.cube_solve.specs.inner.Steady.{IsSteady};
+ghost use Rattle.cube_solve.specs.inner.SearchInvariants.{IsSteady};
 
-use crate::loading::load;
-use crate::order::Order;
-use crate::phases::Beat;
+use crate::base_loader::load;
+use crate::decision_order::Order;
+use crate::modes::AfterConflict;
 use clause_arena::Arena;
 use dimacs::{Base, Lit};
 use std::alloc::{AllocError, Global};
 use watches::{Propagator, Trail, add_clause};
 
-/// The clauses, each attached to the propagator, the literals that are true, and the variables that wait to be decided.
+/// The state of a search. Each clause of the arena is attached to the propagator; each unassigned variable is in the decision order.
 pub(crate) struct State<'a, P> {
     pub(crate) propagator: &'a mut P,
     pub(crate) arena: Arena,
     pub(crate) trail: Trail,
     pub(crate) order: Order,
-    /// How many levels, from the first on, are those of assumptions.
+    /// The levels from 1 to this one are those of assumptions.
     pub(crate) assumed: u32,
-    /// How many literals were propagated.
+    /// The number of literals that were propagated.
     pub(crate) ticks: u64,
 }
 
@@ -47,7 +47,7 @@ impl<P> Drop for State<'_, P> {
 }
 
 impl<'a, P: Propagator> State<'a, P> {
-    /// The clauses of the base under their numbers, from 1, and no literal.
+    /// The clauses of the base, numbered from 1, and an empty trail.
     pub(crate) fn new(
         alloc: Global,
         propagator: &'a mut P,
@@ -74,8 +74,8 @@ impl<'a, P: Propagator> State<'a, P> {
         })
     }
 
-    /// Goes back to a level: the variables above it wait again.
-    pub(crate) fn go_back(&mut self, level: u32)
+    /// Backtracks to a level, and puts the unassigned variables back into the decision order.
+    pub(crate) fn backtrack(&mut self, level: u32)
         requires { IsSteady P.is_ready P.attached self.old }
         ensures steady { IsSteady P.is_ready P.attached self.new }
         ensures attached { P.attached self.new.propagator.now ≡ P.attached self.old.propagator.now }
@@ -89,7 +89,7 @@ impl<'a, P: Propagator> State<'a, P> {
         self.propagator.undo(&mut self.trail, level);
     }
 
-    /// Goes back to level 0, where nothing is assumed.
+    /// Backtracks to level 0, and drops all assumptions.
     pub(crate) fn begin(&mut self)
         requires { IsSteady P.is_ready P.attached self.old }
         ensures steady { IsSteady P.is_ready P.attached self.new }
@@ -97,12 +97,12 @@ impl<'a, P: Propagator> State<'a, P> {
         ensures vars { self.new.trail.vars ≡ self.old.trail.vars }
         ensures assuming { (q : Cube) → IsAssuming q self.new.trail.entries self.new.assumed }
     {
-        self.go_back(0);
+        self.backtrack(0);
         self.assumed = 0;
     }
 
-    /// Takes in a clause, behind a return to level 0.
-    pub(crate) fn take_in(&mut self, id: u64, lits: &[Lit]) -> Result<(), AllocError>
+    /// Backtracks to level 0, and adds a clause.
+    pub(crate) fn add_given(&mut self, id: u64, lits: &[Lit]) -> Result<(), AllocError>
         requires steady { IsSteady P.is_ready P.attached self.old }
         requires distinct { IsDistinct same lits.now }
         requires within { All (IsWithin self.old.trail.vars) lits.now }
@@ -111,13 +111,18 @@ impl<'a, P: Propagator> State<'a, P> {
         ensures added { OnOk result (IsAdded (live_of self.old.arena) id lits.now (live_of self.new.arena)) }
         ensures vars { OnOk result (self.new.trail.vars ≡ self.old.trail.vars) }
     {
-        self.go_back(0);
+        self.backtrack(0);
         add_clause(self.propagator, &mut self.arena, &self.trail, id, lits)?;
         Ok(())
     }
 
-    /// Takes in the lemma of a literal that is true at level 0, which is its reason from then on.
-    pub(crate) fn fix(&mut self, literal: Lit, id: u64, lits: &[Lit]) -> Result<(), AllocError>
+    /// Adds the unit lemma of a literal that is true at level 0, and makes it the literal's reason.
+    pub(crate) fn add_root_unit(
+        &mut self,
+        literal: Lit,
+        id: u64,
+        lits: &[Lit],
+    ) -> Result<(), AllocError>
         requires steady { IsSteady P.is_ready P.attached self.old }
         requires lits { lits.now ≡ literal ∷ [] }
         requires within { IsWithin self.old.trail.vars literal }
@@ -128,29 +133,29 @@ impl<'a, P: Propagator> State<'a, P> {
         ensures vars { OnOk result (self.new.trail.vars ≡ self.old.trail.vars) }
         ensures assuming { OnOk result ((q : Cube) → IsAssuming q self.old.trail.entries self.old.assumed → IsAssuming q self.new.trail.entries self.new.assumed) }
     {
-        let _entries = self.trail.entries(); // no two of one variable
+        let _ = self.trail.entries(); // tells the proof that no two entries have one variable
         add_clause(self.propagator, &mut self.arena, &self.trail, id, lits)?;
         self.trail.explain(literal, id);
         Ok(())
     }
 
-    /// Does what a conflict is followed by: a restart leaves the levels of assumptions.
-    pub(crate) fn follow(&mut self, beat: Beat)
+    /// Restarts, switches the mode or rephases. A restart keeps the levels of assumptions.
+    pub(crate) fn restart_or_rephase(&mut self, after_conflict: AfterConflict)
         requires { IsSteady P.is_ready P.attached self.old }
         ensures steady { IsSteady P.is_ready P.attached self.new }
         ensures arena { self.new.arena ≡ self.old.arena }
         ensures vars { self.new.trail.vars ≡ self.old.trail.vars }
         ensures assuming { (q : Cube) → IsAssuming q self.old.trail.entries self.old.assumed → IsAssuming q self.new.trail.entries self.new.assumed }
     {
-        match beat {
-            Beat::Go => {}
-            Beat::Restart => self.go_back(self.assumed),
-            Beat::Change(by_scores) => {
-                self.go_back(0);
+        match after_conflict {
+            AfterConflict::Continue => {}
+            AfterConflict::Restart => self.backtrack(self.assumed),
+            AfterConflict::SwitchMode(by_scores) => {
+                self.backtrack(0);
                 self.order.change(by_scores);
             }
-            Beat::Rephase(kind) => {
-                self.go_back(0);
+            AfterConflict::Rephase(kind) => {
+                self.backtrack(0);
                 self.order.rephase(kind);
             }
         }

@@ -1,4 +1,4 @@
--- Trees over definitions.
+-- Trees by the split rule with definitions.
 use Rattle.std.proofs.Common.{◌≡◌, ◌≢◌, ℕ, suc, ◌+◌, ◌<◌, ◌≤◌, ◌⊎◌, inl, inr, List, [], ◌∷◌, ◌++◌, length, Some, None, sym, ap, ◌∙◌, subst, arith, append_assoc, Result, Ok, Err, IfOk}
 use Rattle.std.specs.List.{All}
 use Rattle.std.proofs.lemmas.Bool.{cases_eq, cases_lt}
@@ -7,8 +7,9 @@ use Rattle.std.proofs.lemmas.Option.{slice_get_within}
 use Rattle.dimacs.specs.logic.Cnf.{Cnf, AreWithin}
 use Rattle.dimacs.specs.logic.Literal.{Literal, Pos, Neg, IsWithin, var_of}
 use Rattle.icnf.specs.Leaves.{Cube, IsFree, Leaves}
-use Rattle.cube_split.specs.Choosing.{Chooses, IsChosen, IsSplitBy, held_by, holding, IsTreeWith}
-use Rattle.cube_split.specs.inner.Choosing.{AppendsChosen}
+use Rattle.cube_split.specs.ChoiceWithDefinitions.{Chooses, IsChosen, held_by, holding, IsTreeWith}
+use Rattle.cube_split.specs.SplitTree.{IsSplitBy}
+use Rattle.cube_split.specs.inner.AppendedCubes.{AppendsChosen}
 use Rattle.cube_split.specs.Definitions.{Opening}
 use Rattle.cube_split.proofs.ChoiceLemmas.{stands_nowhere}
 use Rattle.cube_split.proofs.LowestLemmas.{all_back, all_front}

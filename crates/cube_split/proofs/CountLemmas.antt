@@ -8,7 +8,7 @@ use Rattle.dimacs.specs.logic.Literal.{Literal, Pos, Neg, Clause, var_of, index_
 use Rattle.cube_split.specs.Choice.{has_variable}
 use Rattle.cube_split.specs.inner.Marks.{AreMarked}
 
--- the tables behind a clause of this number, of which the literals so far are counted
+-- the tables after a clause of this number, of which the literals so far are counted
 pub record AreCounted (old_counts old_last counts last : List ℕ) (number : ℕ) (C : Clause) : Type 0 where
   pub long : length counts ≡ length old_counts
   pub size : length last ≡ length old_counts
@@ -89,14 +89,14 @@ count_met oc ol counts last nc nl n C i l v below is var inside early lc ll coun
   other : (w : ℕ) → (w ≡ v → ⊥) → has_variable (take (i + 1) C) w ≡ has_variable (take i C) w
   other w ne = variable_other C i l w below is (λ e. ne (sym e ∙ sym var))
 
--- behind a whole clause
+-- after a whole clause
 pub count_last : (oc ol counts last : List ℕ) (n : ℕ) (C : Clause) (w : ℕ) → AreCounted oc ol counts last n C → w < length oc → get_or ol w 0 < n → get_or last w 0 ≤ n
 count_last oc ol counts last n C w h below early = ⊎_elim
     (λ (t : has_variable C w ≡ true). let e : get_or last w 0 ≡ n = h.marked w below ∙ cond-true (has_variable C w) n (get_or ol w 0) t in omega arith)
     (λ (f : has_variable C w ≡ false). let e : get_or last w 0 ≡ get_or ol w 0 = h.marked w below ∙ cond-false (has_variable C w) n (get_or ol w 0) f in omega arith)
     (cases_Bool (has_variable C w))
 
--- the tables behind the first i clauses
+-- the tables after the first i clauses
 pub record AreAllCounted (marks : List Bool) (counts last : List ℕ) (size i : ℕ) (clauses : List Clause) : Type 0 where
   pub long : length counts ≡ size
   pub also : length last ≡ size

@@ -29,38 +29,38 @@ signs : (l : Literal) → sign l ≤ 1
 signs (Pos v) = omega arith
 signs (Neg v) = omega arith
 
-parts_back : (a b s t : ℕ) → b < 1048576 → s ≤ 1 → t ≤ 1 → (k : ℕ) → k ≡ (a * 1048576 + b) * 4 + s * 2 + t
-    → (k / 4194304 ≡ a) × (k / 2 % 2 ≡ s) × (k / 4 % 1048576 ≡ b) × (k % 2 ≡ t)
+parts_back : (a b s t : ℕ) → b < 134217728 → s ≤ 1 → t ≤ 1 → (k : ℕ) → k ≡ (a * 134217728 + b) * 4 + s * 2 + t
+    → (k / 536870912 ≡ a) × (k / 2 % 2 ≡ s) × (k / 4 % 134217728 ≡ b) × (k % 2 ≡ t)
 parts_back a b s t lb ls lt k e = (omega arith, omega arith, omega arith, omega arith)
 
-pair_back : (p : Pair) → var_of p.second < 1048576 → pair_of (key_of p) ≡ p
+pair_back : (p : Pair) → var_of p.second < 134217728 → pair_of (key_of p) ≡ p
 pair_back p low =
     let h = parts_back (var_of p.first) (var_of p.second) (sign p.first) (sign p.second) low (signs p.first) (signs p.second) (key_of p) refl in
     same_pair (pair_of (key_of p)) p
     (ap (λ (v : ℕ). literal_by v (key_of p / 2 % 2)) h.0 ∙ ap (literal_by (var_of p.first)) h.1 ∙ literal_back p.first)
     (ap (λ (v : ℕ). literal_by v (key_of p % 2)) h.2 ∙ ap (literal_by (var_of p.second)) h.3 ∙ literal_back p.second)
 
-key_small : (p : Pair) → var_of p.first < 1048576 → var_of p.second < 1048576 → key_of p < 4398046511104
+key_small : (p : Pair) → var_of p.first < 134217728 → var_of p.second < 134217728 → key_of p < 72057594037927936
 key_small p a b = small (var_of p.first) (var_of p.second) (sign p.first) (sign p.second) a b (signs p.first) (signs p.second)
   where
-    small : (a b s t : ℕ) → a < 1048576 → b < 1048576 → s ≤ 1 → t ≤ 1 → (a * 1048576 + b) * 4 + s * 2 + t < 4398046511104
+    small : (a b s t : ℕ) → a < 134217728 → b < 134217728 → s ≤ 1 → t ≤ 1 → (a * 134217728 + b) * 4 + s * 2 + t < 72057594037927936
     small a b s t la lb ls lt = omega arith
 
-key_back : (count key : ℕ) → key < 4398046511104 → rank_of count key % 4398046511104 ≡ key
-key_back count key low = parts (4194303 - count) key low
+key_back : (count key : ℕ) → key < 72057594037927936 → rank_of count key % 72057594037927936 ≡ key
+key_back count key low = parts (134217727 - count) key low
   where
-    parts : (x key : ℕ) → key < 4398046511104 → (x * 4398046511104 + key) % 4398046511104 ≡ key
+    parts : (x key : ℕ) → key < 72057594037927936 → (x * 72057594037927936 + key) % 72057594037927936 ≡ key
     parts x key low = omega arith
 
-ranked_back : (count : ℕ) (p : Pair) → var_of p.first < 1048576 → var_of p.second < 1048576 → pair_ranked (rank_of count (key_of p)) ≡ p
+ranked_back : (count : ℕ) (p : Pair) → var_of p.first < 134217728 → var_of p.second < 134217728 → pair_ranked (rank_of count (key_of p)) ≡ p
 ranked_back count p a b = ap pair_of (key_back count (key_of p) (key_small p a b)) ∙ pair_back p b
 
 -- ---- ranks and the order of pairs
-rank_parts : (a b k l : ℕ) → a ≤ 4000000 → b ≤ 4000000 → k < 4398046511104 → l < 4398046511104 → rank_of a k ≤ rank_of b l → (b ≤ a) × (a ≡ b → k ≤ l)
+rank_parts : (a b k l : ℕ) → a < 134217728 → b < 134217728 → k < 72057594037927936 → l < 72057594037927936 → rank_of a k ≤ rank_of b l → (b ≤ a) × (a ≡ b → k ≤ l)
 rank_parts a b k l la lb lk ll le = (omega arith, λ e. omega arith)
 
-lexicographic : (a b s t c d u v : ℕ) → b < 1048576 → s ≤ 1 → t ≤ 1 → d < 1048576 → u ≤ 1 → v ≤ 1
-    → (a * 1048576 + b) * 4 + s * 2 + t ≤ (c * 1048576 + d) * 4 + u * 2 + v
+lexicographic : (a b s t c d u v : ℕ) → b < 134217728 → s ≤ 1 → t ≤ 1 → d < 134217728 → u ≤ 1 → v ≤ 1
+    → (a * 134217728 + b) * 4 + s * 2 + t ≤ (c * 134217728 + d) * 4 + u * 2 + v
     → (a < c) ⊎ ((a ≡ c) × ((b < d) ⊎ ((b ≡ d) × ((s < u) ⊎ ((s ≡ u) × (t ≤ v))))))
 lexicographic a b s t c d u v lb ls lt ld lu lv le = elim (cases_lt a c) [
   | inl less ↦ inl less
@@ -83,7 +83,7 @@ lexicographic a b s t c d u v lb ls lt ld lu lv le = elim (cases_lt a c) [
       )
 ]
 
-precedes : (p q : Pair) → var_of p.second < 1048576 → var_of q.second < 1048576 → key_of p ≤ key_of q → q ≢ p → Precedes p q
+precedes : (p q : Pair) → var_of p.second < 134217728 → var_of q.second < 134217728 → key_of p ≤ key_of q → q ≢ p → Precedes p q
 precedes p q low high le ne =
     last p q ne (lexicographic (var_of p.first) (var_of p.second) (sign p.first) (sign p.second) (var_of q.first) (var_of q.second) (sign q.first) (sign q.second) low (signs p.first) (signs p.second) high (signs q.first) (signs q.second) le)
   where
@@ -114,15 +114,15 @@ record AreRanked (F : Cnf) (ranks : List ℕ) : Type 0 where
   there : (p : Pair) → IsCandidate F p → 0 < together F.clauses p → Contains ranks (rank_of (together F.clauses p) (key_of p))
   made : All (λ r. (p : Pair) × IsCandidate F p × (0 < together F.clauses p) × (r ≡ rank_of (together F.clauses p) (key_of p))) ranks
 
-few_together : (F : Cnf) → IsFormula F → (p : Pair) → together F.clauses p ≤ 4000000
+few_together : (F : Cnf) → IsFormula F → (p : Pair) → together F.clauses p < 134217728
 few_together F limits p =
     let a = count_by-le-length (λ (C : Clause). is_short C && (has C p.first && has C p.second)) F.clauses in
     let b = limits.clauses in
     omega arith
 
 record IsLow (p : Pair) : Type 0 where
-  one : var_of p.first < 1048576
-  two : var_of p.second < 1048576
+  one : var_of p.first < 134217728
+  two : var_of p.second < 134217728
 
 low_pair : (F : Cnf) → IsFormula F → (p : Pair) → IsCandidate F p → IsLow p
 low_pair F limits p h =
@@ -255,14 +255,14 @@ unit_not : (S : List Literal) (l : Literal) → has S l ≡ false → ¬ (Contai
 unit_not S l e h = both_ways (has S l) e (Contains-has S l h)
 
 candidate_of : (F : Cnf) (p : Pair) → IsPairOf F.vars p → has (pure_literals F) p.first ≡ false → has (pure_literals F) p.second ≡ false → IsCandidate F p
-candidate_of F p h a b = record { of_formula = h; first_open = unit_not (pure_literals F) p.first a; second_open = unit_not (pure_literals F) p.second b }
+candidate_of F p h a b = record { of_formula = h; first_undecided = unit_not (pure_literals F) p.first a; second_open = unit_not (pure_literals F) p.second b }
 
-key_below : (F : Cnf) → IsFormula F → (test : Literal → Bool) (k : ℕ) → IsKey F.vars test k → k < 4398046511104
+key_below : (F : Cnf) → IsFormula F → (test : Literal → Bool) (k : ℕ) → IsKey F.vars test k → k < 72057594037927936
 key_below F limits test k (p, is, a, b, e) =
     let f = is.rise in
     let g = is.up_to in
     let c = limits.vars in
-    subst (λ (n : ℕ). n < 4398046511104) (sym e) (key_small p (omega arith) (omega arith))
+    subst (λ (n : ℕ). n < 72057594037927936) (sym e) (key_small p (omega arith) (omega arith))
 
 some_times : (k : ℕ) (keys : List ℕ) → 0 < times k keys → Contains keys k
 some_times k [] h = absurd (omega arith)
@@ -274,9 +274,9 @@ some_times k (x ∷ keys) h = elim (cases_eq x k) [
       Contains-cons x k keys (some_times k keys (omega arith))
 ]
 
-pub keys_below : (F : Cnf) → IsFormula F → (keys sorted : List ℕ) → AreKeys F.vars (has (pure_literals F)) F.clauses keys → IsPermutation keys sorted → All (λ k. k < 4398046511104) sorted
+pub keys_below : (F : Cnf) → IsFormula F → (keys sorted : List ℕ) → AreKeys F.vars (has (pure_literals F)) F.clauses keys → IsPermutation keys sorted → All (λ k. k < 72057594037927936) sorted
 keys_below F limits keys sorted h moved =
-    All-weaker (IsKey F.vars (has (pure_literals F))) (λ k. k < 4398046511104) (key_below F limits (has (pure_literals F))) sorted
+    All-weaker (IsKey F.vars (has (pure_literals F))) (λ k. k < 72057594037927936) (key_below F limits (has (pure_literals F))) sorted
     (All-permutation (IsKey F.vars (has (pure_literals F))) keys sorted moved h.made)
 
 ranked_from : (F : Cnf) → IsFormula F → (keys sorted : List ℕ) → AreKeys F.vars (has (pure_literals F)) F.clauses keys → IsPermutation keys sorted → IsNonDecreasing sorted → AreRanked F (ranks_from 0 0 sorted)
@@ -285,7 +285,7 @@ ranked_from F limits keys sorted h moved up =
     record {
       there = λ p candidate some.
           let t : times (key_of p) sorted ≡ together F.clauses p =
-          times_permuted (key_of p) keys sorted moved ∙ h.counted p candidate.of_formula (not_unit units p.first candidate.first_open) (not_unit units p.second candidate.second_open) in
+          times_permuted (key_of p) keys sorted moved ∙ h.counted p candidate.of_formula (not_unit units p.first candidate.first_undecided) (not_unit units p.second candidate.second_open) in
           subst (λ (n : ℕ). Contains (ranks_from 0 0 sorted) (rank_of n (key_of p))) t (ranks_there sorted (sorted_from sorted up) (key_of p) (omega arith));
       made = All-weaker (λ r. (k : ℕ) × (0 < times k sorted) × (r ≡ rank_of (times k sorted) k))
           (λ r. (p : Pair) × IsCandidate F p × (0 < together F.clauses p) × (r ≡ rank_of (together F.clauses p) (key_of p)))
@@ -313,23 +313,23 @@ keys_are F units marks lent keys e marked same_marks h =
 
 -- each rank is that of a pair
 pub ranks_are_pairs : (F : Cnf) → IsFormula F → (K : ℕ) (keys sorted best : List ℕ) → AreKeys F.vars (has (pure_literals F)) F.clauses keys → IsPermutation keys sorted → IsNonDecreasing sorted
-    → AreLowest K (ranks_from 0 0 sorted) best → All (λ r. (4194304 ≤ r % 4398046511104) × (0 < r % 4398046511104 / 4 % 1048576)) best
+    → AreLowest K (ranks_from 0 0 sorted) best → All (λ r. (536870912 ≤ r % 72057594037927936) × (0 < r % 72057594037927936 / 4 % 134217728)) best
 ranks_are_pairs F limits K keys sorted best h moved up lowest =
     let ranked = ranked_from F limits keys sorted h moved up in
-    All-weaker (Contains (ranks_from 0 0 sorted)) (λ r. (4194304 ≤ r % 4398046511104) × (0 < r % 4398046511104 / 4 % 1048576))
+    All-weaker (Contains (ranks_from 0 0 sorted)) (λ r. (536870912 ≤ r % 72057594037927936) × (0 < r % 72057594037927936 / 4 % 134217728))
     (λ r inside.
     let from : (p : Pair) × IsCandidate F p × (0 < together F.clauses p) × (r ≡ rank_of (together F.clauses p) (key_of p)) =
     All-contains (λ r. (p : Pair) × IsCandidate F p × (0 < together F.clauses p) × (r ≡ rank_of (together F.clauses p) (key_of p))) (ranks_from 0 0 sorted) r ranked.made inside in
     let p : Pair = from.0 in
     let low = low_pair F limits p from.1 in
-    let e : r % 4398046511104 ≡ key_of p = ap (λ (n : ℕ). n % 4398046511104) from.3 ∙ key_back (together F.clauses p) (key_of p) (key_small p low.one low.two) in
+    let e : r % 72057594037927936 ≡ key_of p = ap (λ (n : ℕ). n % 72057594037927936) from.3 ∙ key_back (together F.clauses p) (key_of p) (key_small p low.one low.two) in
     let one = from.1.of_formula.from_1 in
     let up = from.1.of_formula.rise in
-    subst (λ (k : ℕ). (4194304 ≤ k) × (0 < k / 4 % 1048576)) (sym e) (key_parts (var_of p.first) (var_of p.second) (sign p.first) (sign p.second) one (omega arith) low.two (signs p.first) (signs p.second)))
+    subst (λ (k : ℕ). (536870912 ≤ k) × (0 < k / 4 % 134217728)) (sym e) (key_parts (var_of p.first) (var_of p.second) (sign p.first) (sign p.second) one (omega arith) low.two (signs p.first) (signs p.second)))
     best lowest.seen_all
   where
-    key_parts : (a b s t : ℕ) → 0 < a → 0 < b → b < 1048576 → s ≤ 1 → t ≤ 1
-        → (4194304 ≤ (a * 1048576 + b) * 4 + s * 2 + t) × (0 < ((a * 1048576 + b) * 4 + s * 2 + t) / 4 % 1048576)
+    key_parts : (a b s t : ℕ) → 0 < a → 0 < b → b < 134217728 → s ≤ 1 → t ≤ 1
+        → (536870912 ≤ (a * 134217728 + b) * 4 + s * 2 + t) × (0 < ((a * 134217728 + b) * 4 + s * 2 + t) / 4 % 134217728)
     key_parts a b s t sa sb lb ls lt = (omega arith, omega arith)
 
 -- ---- which pairs are chosen

@@ -1,4 +1,4 @@
--- What defined variables bring with them, and which are open.
+-- The literals that hold with defined variables, and which of these variables are undecided.
 use Rattle.std.proofs.Common.{◌≡◌, ℕ, ◌+◌, ◌*◌, ◌<◌, ◌≤◌, Bool, true, false, not, ◌||◌, ◌&&◌, cond, List, [], ◌∷◌, ◌++◌, length, get_or, take, Option, Some, refl, sym, ◌∙◌, ap, subst, arith, inl, inr, append_assoc}
 use Rattle.std.specs.List.{All}
 use Rattle.std.proofs.lemmas.Bool.{cases_Bool, or_from, or_parts, cond-true, cond-false, true≢false}
@@ -11,9 +11,9 @@ use Rattle.dimacs.specs.logic.Literal.{Literal, Pos, same, has, index_of, var_of
 use Rattle.dimacs.proofs.LiteralLemmas.{same-false}
 use Rattle.icnf.specs.Leaves.{Cube}
 use Rattle.cube_split.specs.Choice.{Choice}
-use Rattle.cube_split.specs.Choosing.{IsChosen, IsOpen, held_by}
+use Rattle.cube_split.specs.ChoiceWithDefinitions.{IsChosen, IsUndecided, held_by}
 use Rattle.cube_split.specs.Definitions.{IsPairOf}
-use Rattle.cube_split.specs.inner.Marks.{AreMarked, IsOpenBy, IsUnmarked, literals_of}
+use Rattle.cube_split.specs.inner.Marks.{AreMarked, IsUndecidedBy, IsUnmarked, literals_of}
 use Rattle.cube_split.specs.declared.pair.Pair.{Pair}
 use Rattle.cube_split.proofs.ChoiceLemmas.{free_unmarked, unmarked_from}
 use Rattle.cube_split.proofs.MarkLemmas.{marked_at, marked_same}
@@ -162,7 +162,7 @@ all_unmarked marks units cube d pairs h =
 
 -- ---- open by the table, and open
 open_from : (F : Cnf) (pairs : List Pair) (S : List Literal) (marks : List Bool) (i : ℕ) → All (IsPairOf F.vars) pairs → AreMarked marks (has S) → 2 * (F.vars + length pairs + 1) ≤ length marks
-    → IsOpen F pairs S i → IsOpenBy marks F.vars pairs i
+    → IsUndecided F pairs S i → IsUndecidedBy marks F.vars pairs i
 open_from F pairs S marks i are m room h =
     let within = slice_get_within pairs i h.pair h.there in
     let is : IsPairOf F.vars h.pair = subst (IsPairOf F.vars) (get_or_from_slice_get pairs i h.pair h.pair h.there) (All-get_or (IsPairOf F.vars) pairs i h.pair within are) in
@@ -177,7 +177,7 @@ open_from F pairs S marks i are m room h =
     }
 
 open_back : (F : Cnf) (pairs : List Pair) (S : List Literal) (marks : List Bool) (i : ℕ) → All (IsPairOf F.vars) pairs → AreMarked marks (has S) → 2 * (F.vars + length pairs + 1) ≤ length marks
-    → IsOpenBy marks F.vars pairs i → IsOpen F pairs S i
+    → IsUndecidedBy marks F.vars pairs i → IsUndecided F pairs S i
 open_back F pairs S marks i are m room h =
     let within = slice_get_within pairs i h.pair h.there in
     let is : IsPairOf F.vars h.pair = subst (IsPairOf F.vars) (get_or_from_slice_get pairs i h.pair h.pair h.there) (All-get_or (IsPairOf F.vars) pairs i h.pair within are) in
@@ -192,18 +192,18 @@ open_back F pairs S marks i are m room h =
     }
 
 defined_at : (F : Cnf) (pairs : List Pair) (S : List Literal) (marks : List Bool) (v : ℕ) → All (IsPairOf F.vars) pairs → AreMarked marks (has S) → 2 * (F.vars + length pairs + 1) ≤ length marks
-    → (i : ℕ) × (v ≡ F.vars + 1 + i) × IsOpenBy marks F.vars pairs i × ((j : ℕ) → j < i → ¬ (IsOpenBy marks F.vars pairs j)) → IsChosen F pairs S (Some v)
-defined_at F pairs S marks v are m room (i, e, is_open, lowest) =
-    IsChosen.defined i (open_back F pairs S marks i are m room is_open) (λ j below h. lowest j below (open_from F pairs S marks j are m room h)) (ap (λ (n : ℕ). Some n) e)
+    → (i : ℕ) × (v ≡ F.vars + 1 + i) × IsUndecidedBy marks F.vars pairs i × ((j : ℕ) → j < i → ¬ (IsUndecidedBy marks F.vars pairs j)) → IsChosen F pairs S (Some v)
+defined_at F pairs S marks v are m room (i, e, is_undecided, lowest) =
+    IsChosen.defined i (open_back F pairs S marks i are m room is_undecided) (λ j below h. lowest j below (open_from F pairs S marks j are m room h)) (ap (λ (n : ℕ). Some n) e)
 
 pub defined_by : (F : Cnf) (pairs : List Pair) (S : List Literal) (marks : List Bool) (vars v : ℕ) → vars ≡ F.vars → All (IsPairOf F.vars) pairs → AreMarked marks (has S) → 2 * (F.vars + length pairs + 1) ≤ length marks
-    → (i : ℕ) × (v ≡ vars + 1 + i) × IsOpenBy marks vars pairs i × ((j : ℕ) → j < i → ¬ (IsOpenBy marks vars pairs j)) → IsChosen F pairs S (Some v)
+    → (i : ℕ) × (v ≡ vars + 1 + i) × IsUndecidedBy marks vars pairs i × ((j : ℕ) → j < i → ¬ (IsUndecidedBy marks vars pairs j)) → IsChosen F pairs S (Some v)
 defined_by F pairs S marks vars v e are m room h =
-    defined_at F pairs S marks v are m room (subst (λ (n : ℕ). (i : ℕ) × (v ≡ n + 1 + i) × IsOpenBy marks n pairs i × ((j : ℕ) → j < i → ¬ (IsOpenBy marks n pairs j))) e h)
+    defined_at F pairs S marks v are m room (subst (λ (n : ℕ). (i : ℕ) × (v ≡ n + 1 + i) × IsUndecidedBy marks n pairs i × ((j : ℕ) → j < i → ¬ (IsUndecidedBy marks n pairs j))) e h)
 
 pub plain_by : (F : Cnf) (pairs : List Pair) (S : List Literal) (marks : List Bool) (vars : ℕ) (v : Option ℕ) → vars ≡ F.vars → All (IsPairOf F.vars) pairs → AreMarked marks (has S) → 2 * (F.vars + length pairs + 1) ≤ length marks
-    → ((j : ℕ) → ¬ (IsOpenBy marks vars pairs j)) → Choice F S v → IsChosen F pairs S v
-plain_by F pairs S marks vars v e are m room none choice = IsChosen.plain (λ j h. none j (subst (λ (n : ℕ). IsOpenBy marks n pairs j) (sym e) (open_from F pairs S marks j are m room h))) choice
+    → ((j : ℕ) → ¬ (IsUndecidedBy marks vars pairs j)) → Choice F S v → IsChosen F pairs S v
+plain_by F pairs S marks vars v e are m room none choice = IsChosen.plain (λ j h. none j (subst (λ (n : ℕ). IsUndecidedBy marks n pairs j) (sym e) (open_from F pairs S marks j are m room h))) choice
 
 -- without definitions
 pub plain_choice : (F : Cnf) (units : List Literal) (pairs : List Pair) (cube : Cube) (v : Option ℕ) → pairs ≡ [] → IsChosen F pairs ((units ++ cube) ++ held_by (units ++ cube) (F.vars + 1) pairs) v → Choice F (units ++ cube) v
@@ -212,18 +212,18 @@ plain_choice F units pairs cube v none h =
     go F S v (subst (λ (ps : List Pair). IsChosen F ps (S ++ held_by S (F.vars + 1) ps) v) none h)
   where
     go : (F : Cnf) (S : List Literal) (v : Option ℕ) → IsChosen F [] (S ++ []) v → Choice F S v
-    go F S v (IsChosen.defined i is_open lowest e) = let within = slice_get_within [] i is_open.pair is_open.there in absurd (omega arith)
+    go F S v (IsChosen.defined i is_undecided lowest e) = let within = slice_get_within [] i is_undecided.pair is_undecided.there in absurd (omega arith)
     go F S v (IsChosen.plain none choice) = subst (λ (T : List Literal). Choice F T v) (append-nil S) choice
 
 -- ---- the walk that looks for an open one
 pub not_open : (marks : List Bool) (vars : ℕ) (pairs : List Pair) (i v : ℕ) (p : Pair) → i < length pairs → p ≡ get_or pairs i p → v ≡ vars + 1 + i
-    → (IsUnmarked marks v → IsUnmarked marks (var_of p.first) → IsUnmarked marks (var_of p.second) → ⊥) → ¬ (IsOpenBy marks vars pairs i)
+    → (IsUnmarked marks v → IsUnmarked marks (var_of p.first) → IsUnmarked marks (var_of p.second) → ⊥) → ¬ (IsUndecidedBy marks vars pairs i)
 not_open marks vars pairs i v p below is e apart h =
     let same_one : h.pair ≡ p = sym (get_or_from_slice_get pairs i h.pair p h.there) ∙ sym is in
     apart (subst (IsUnmarked marks) (sym e) h.itself) (subst (λ (q : Pair). IsUnmarked marks (var_of q.first)) same_one h.first) (subst (λ (q : Pair). IsUnmarked marks (var_of q.second)) same_one h.second)
 
 pub is_open_at : (marks : List Bool) (vars : ℕ) (pairs : List Pair) (i v : ℕ) (p : Pair) → i < length pairs → p ≡ get_or pairs i p → v ≡ vars + 1 + i
-    → IsUnmarked marks v × IsUnmarked marks (var_of p.first) × IsUnmarked marks (var_of p.second) → IsOpenBy marks vars pairs i
+    → IsUnmarked marks v × IsUnmarked marks (var_of p.first) × IsUnmarked marks (var_of p.second) → IsUndecidedBy marks vars pairs i
 is_open_at marks vars pairs i v p below is e h = record {
   pair = p;
   there = slice_get_read pairs (length pairs) i p refl below is;
@@ -232,5 +232,5 @@ is_open_at marks vars pairs i v p below is e h = record {
   second = h.2;
 }
 
-pub not_past : (marks : List Bool) (vars : ℕ) (pairs : List Pair) (j : ℕ) → length pairs ≤ j → ¬ (IsOpenBy marks vars pairs j)
+pub not_past : (marks : List Bool) (vars : ℕ) (pairs : List Pair) (j : ℕ) → length pairs ≤ j → ¬ (IsUndecidedBy marks vars pairs j)
 not_past marks vars pairs j over h = let within = slice_get_within pairs j h.pair h.there in omega arith

@@ -9,7 +9,7 @@ use Rattle.dimacs.proofs.LiteralLemmas.{same-flips}
 use Rattle.icnf.specs.Leaves.{Cube}
 use Rattle.cube_split.specs.Choice.{has_variable, is_apart, stands_in}
 use Rattle.cube_split.specs.inner.Open.{AreTurned, open_count}
-use Rattle.cube_split.specs.inner.Walking.{level_of, closed_at}
+use Rattle.cube_split.specs.inner.WalkInvariant.{level_of, closed_at}
 use Rattle.cube_split.proofs.CountLemmas.{one_if_true, one_if_false}
 
 level_yes : (n : ℕ) (l : Literal) (path : Cube) (C : Clause) → has C l ≡ true → level_of n (l ∷ path) C ≡ n
@@ -141,7 +141,7 @@ apart_zero n (l ∷ path) C far =
     let parts = or_parts (has C l) (list_any (has path) C) (sym (apart_cons l path C) ∙ far) in
     level_no n l path C parts.0 ∙ apart_zero (n + 1) path C parts.1
 
--- a clause is open exactly where no literal of units and path stands in it
+-- a clause is open exactly if no literal of units and path stands in it
 open_is : (units : List Literal) (path : Cube) (C : Clause) → eqb (closed_at units path C) 0 ≡ is_apart (units ++ path) C
 open_is units path C = ⊎_elim
     (λ (far : is_apart units C ≡ true).

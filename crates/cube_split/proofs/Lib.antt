@@ -3,7 +3,7 @@ pub mod ChosenLemmas
 pub mod CountLemmas
 pub mod DefinedLemmas
 pub mod DescentLemmas
-pub mod GatherLemmas
+pub mod DistinctLemmas
 pub mod GreatestLemmas
 pub mod HeldLemmas
 pub mod LevelLemmas

@@ -1,4 +1,4 @@
--- The rules settle what they choose.
+-- The rules determine what they choose.
 use Rattle.std.proofs.Common.{◌≡◌, ◌≢◌, ℕ, ◌+◌, ◌≤◌, ◌⊎◌, inl, inr, List, [], ◌∷◌, ◌++◌, Option, Some, None, refl, sym, ◌∙◌, ap, subst, arith}
 use Rattle.std.specs.List.{Contains}
 use Rattle.std.proofs.lemmas.Bool.{cases_lt}
@@ -7,7 +7,7 @@ use Rattle.dimacs.specs.logic.Literal.{Literal}
 use Rattle.dimacs.proofs.LiteralLemmas.{same_or_not}
 use Rattle.icnf.specs.Leaves.{Cube}
 use Rattle.cube_split.specs.Choice.{Choice, IsChoice}
-use Rattle.cube_split.specs.Choosing.{Chooses, IsChosen, holding}
+use Rattle.cube_split.specs.ChoiceWithDefinitions.{Chooses, IsChosen, holding}
 use Rattle.cube_split.specs.Definitions.{Opening}
 use Rattle.cube_split.specs.Pairs.{AreDefined, IsCandidate, IsNext, Precedes, together}
 use Rattle.cube_split.specs.declared.pair.Pair.{Pair}

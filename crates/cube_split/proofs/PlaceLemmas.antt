@@ -56,7 +56,7 @@ last_kept xs e n l q fits h = record {
   none = λ r a b same. h.none r a b (sym (ap (λ (x : Place). x.literal) (before_end xs e r (omega arith))) ∙ same);
 }
 
--- a place behind the others, and the table that leads to it
+-- a place after the others, and the table that leads to it
 pub chain_push : (places : List Place) (latest : List ℕ) (e : Place) (n : ℕ) → AreChained places latest → e.before ≡ get_or latest (index_of e.literal) 0 → index_of e.literal < length latest
     → n ≡ length places + 1 → AreChained (places ++ e ∷ []) (set latest (index_of e.literal) n)
 chain_push places latest e n h is inside count =
@@ -153,7 +153,7 @@ first_of start last i v b t low e is = is ∙ ap not (⊎_elim
     (λ (ne : get_or last v 0 ≡ i + 1 → ⊥). ne_eqb _ _ ne ∙ sym (not_met start last i v b low e ne))
     (cases_eq (get_or last v 0) (i + 1)))
 
--- behind a whole clause
+-- after a whole clause
 pub begun_last : (old places : List Place) (latest start last : List ℕ) (i : ℕ) (C : Clause) (w : ℕ) → IsBegun old places latest start last i C → w < length start → get_or start w 0 ≤ i → get_or last w 0 ≤ i + 1
 begun_last old places latest start last i C w h below low = at_most (has_variable C w) (h.met w below) where
   at_most : (b : Bool) → get_or last w 0 ≡ cond b (i + 1) (get_or start w 0) → get_or last w 0 ≤ i + 1

@@ -22,7 +22,7 @@ sorted_from (x ∷ xs) h = (
   sorted_from xs (λ i j d le below. h (suc i) (suc j) d (omega arith) (omega arith)),
 )
 
--- ---- how often a key stands in a run that has begun and behind it
+-- ---- how often a key stands in a run that has begun and after it
 abbrev total : ℕ → ℕ → List ℕ → ℕ → ℕ
 total last count keys k = times k keys + cond (eqb k last) count 0
 
@@ -115,7 +115,7 @@ closed_apart key count more new h = elim (cases_eq count 0) [
 record IsRunOf (last count : ℕ) (keys : List ℕ) (r : ℕ) : Type 0 where
   key : ℕ
   low : last ≤ key
-  small : key < 4398046511104
+  small : key < 72057594037927936
   some : 0 < total last count keys key
   is : r ≡ rank_of (total last count keys key) key
 
@@ -129,7 +129,7 @@ above : (last key : ℕ) (keys : List ℕ) → last ≤ key → key ≢ last →
 above last key keys low ne h = All-cons (λ y. last < y) key keys (omega arith) (All-weaker (λ y. key ≤ y) (λ y. last < y) (λ y le. omega arith) keys h)
 
 abbrev Small : ℕ → Type 0
-Small k = k < 4398046511104
+Small k = k < 72057594037927936
 
 made : (last count : ℕ) (keys : List ℕ) → Small last → All (λ y. last ≤ y) keys → AreSorted keys → All Small keys → All (IsRunOf last count keys) (ranks_from last count keys)
 made last count [] small low up few = closed_all (IsRunOf last count []) last count (λ some.
@@ -193,10 +193,10 @@ there last count (key ∷ keys) low up k some = elim (cases_eq key last) [
 ]
 
 -- ranks of different keys differ
-pub rank_apart : (a b k l : ℕ) → k < 4398046511104 → l < 4398046511104 → rank_of a k ≡ rank_of b l → k ≡ l
-rank_apart a b k l s t e = parts (4194303 - a) (4194303 - b) k l s t e
+pub rank_apart : (a b k l : ℕ) → k < 72057594037927936 → l < 72057594037927936 → rank_of a k ≡ rank_of b l → k ≡ l
+rank_apart a b k l s t e = parts (134217727 - a) (134217727 - b) k l s t e
   where
-    parts : (x y k l : ℕ) → k < 4398046511104 → l < 4398046511104 → x * 4398046511104 + k ≡ y * 4398046511104 + l → k ≡ l
+    parts : (x y k l : ℕ) → k < 72057594037927936 → l < 72057594037927936 → x * 72057594037927936 + k ≡ y * 72057594037927936 + l → k ≡ l
     parts x y k l s t e = omega arith
 
 apart : (last count : ℕ) (keys : List ℕ) → Small last → All (λ y. last ≤ y) keys → AreSorted keys → All Small keys → AreApart (ranks_from last count keys)

@@ -15,7 +15,7 @@ use Rattle.dimacs.specs.logic.Propagation.{negations}
 use Rattle.dimacs.specs.logic.Rat.{Rat}
 use Rattle.dimacs.proofs.LiteralLemmas.{same-true, negation_apart}
 use Rattle.dimacs.proofs.Members.{Contains-has}
-use Rattle.cube_split.specs.Splitting.{with_units}
+use Rattle.cube_split.specs.SplitTree.{with_units}
 
 -- a clause that a number finds is one of the clauses
 fails_found : (P : Clause → Bool) (clauses : List Clause) (n q : ℕ) (D : Clause) → list_any P clauses ≡ false → find nat_cmp q (enumerate_from n clauses) ≡ Some D → P D ≡ false

@@ -10,10 +10,10 @@ use Rattle.dimacs.specs.logic.Cnf.{Cnf, AreWithin, greatest_in}
 use Rattle.dimacs.specs.logic.Literal.{Literal, Pos, Neg, IsWithin}
 use Rattle.icnf.specs.Leaves.{Cube}
 use Rattle.icnf.proofs.StateLemmas.{clauses_within}
-use Rattle.cube_split.specs.Choice.{IsChoice}
-use Rattle.cube_split.specs.Choosing.{Chooses, IsSplitBy, IsTreeWith}
+use Rattle.cube_split.specs.Choice.{Choice, IsChoice}
+use Rattle.cube_split.specs.ChoiceWithDefinitions.{Chooses, IsTreeWith}
 use Rattle.cube_split.specs.Definitions.{Opening, pure_opening}
-use Rattle.cube_split.specs.Splitting.{IsSplit, full, whole, split, IsTreeOf}
+use Rattle.cube_split.specs.SplitTree.{IsSplitBy, IsTreeOf}
 use Rattle.cube_split.proofs.ChoiceLemmas.{stands_nowhere}
 use Rattle.cube_split.proofs.HeldLemmas.{plain_choice}
 
@@ -39,30 +39,30 @@ choice_within f S v within h =
     (cases_lt (greatest_in f.clauses) v))
     (cases_eq v 0)
 
--- no cube has a variable that stands in no clause
-pub split_within : {f : Cnf} {units : List Literal} {levels : ℕ} {path : Cube} {cubes : List Cube} → AreWithin f.vars f.clauses → All (IsWithin (greatest_in f.clauses)) path
-    → IsSplit f units levels path cubes → AreWithin (greatest_in f.clauses) cubes
-split_within {f = f} {path = path} within h full = one_within (greatest_in f.clauses) path h
-split_within {f = f} {path = path} within h (whole none) = one_within (greatest_in f.clauses) path h
-split_within {f = f} {units = units} within h (split {path = path} {left = l} {right = r} v choice left right) =
+-- no cube has a variable above the greatest that occurs in a clause
+pub split_within : (f : Cnf) (units : List Literal) (levels : ℕ) (path : Cube) (cubes : List Cube) → AreWithin f.vars f.clauses → All (IsWithin (greatest_in f.clauses)) path
+    → IsSplitBy (λ q v. Choice f (units ++ q) v) levels path cubes → AreWithin (greatest_in f.clauses) cubes
+split_within f units _ path _ within h IsSplitBy.full = one_within (greatest_in f.clauses) path h
+split_within f units _ path _ within h (IsSplitBy.whole none) = one_within (greatest_in f.clauses) path h
+split_within f units _ path _ within h (IsSplitBy.split {levels = levels} {left = l} {right = r} v choice left right) =
     let here = choice_within f (units ++ path) v within choice in
     All-append (All (IsWithin (greatest_in f.clauses))) l r
-    (split_within within (All-push (IsWithin (greatest_in f.clauses)) path (Pos v) h here) left)
-    (split_within within (All-push (IsWithin (greatest_in f.clauses)) path (Neg v) h here) right)
+    (split_within f units levels (path ++ Pos v ∷ []) l within (All-push (IsWithin (greatest_in f.clauses)) path (Pos v) h here) left)
+    (split_within f units levels (path ++ Neg v ∷ []) r within (All-push (IsWithin (greatest_in f.clauses)) path (Neg v) h here) right)
 
 -- without definitions they are the trees of the plain rule
-pub plain_split : (F : Cnf) (units : List Literal) (levels : ℕ) (path : Cube) (cubes : List Cube) → IsSplitBy (Chooses F (record { units = units; pairs = [] })) levels path cubes → IsSplit F units levels path cubes
-plain_split F units _ path _ IsSplitBy.full = full
-plain_split F units _ path _ (IsSplitBy.whole none) = whole (plain_choice F units [] path None refl none)
+pub plain_split : (F : Cnf) (units : List Literal) (levels : ℕ) (path : Cube) (cubes : List Cube) → IsSplitBy (Chooses F (record { units = units; pairs = [] })) levels path cubes → IsSplitBy (λ q v. Choice F (units ++ q) v) levels path cubes
+plain_split F units _ path _ IsSplitBy.full = IsSplitBy.full
+plain_split F units _ path _ (IsSplitBy.whole none) = IsSplitBy.whole (plain_choice F units [] path None refl none)
 plain_split F units _ path _ (IsSplitBy.split {levels = levels} {left = left} {right = right} v choice one two) =
-    split v (plain_choice F units [] path (Some v) refl choice) (plain_split F units levels (path ++ Pos v ∷ []) left one) (plain_split F units levels (path ++ Neg v ∷ []) right two)
+    IsSplitBy.split v (plain_choice F units [] path (Some v) refl choice) (plain_split F units levels (path ++ Pos v ∷ []) left one) (plain_split F units levels (path ++ Neg v ∷ []) right two)
 
 pub plain_tree : (E : Type 0) (F : Cnf) (o : Opening) (depth : ℕ) (r : Result (List Cube) E) → o ≡ pure_opening F → IfOk r (IsTreeWith F o depth) → IfOk r (IsTreeOf F depth)
 plain_tree E F o depth (Ok t) pure h = plain_split F (pure_literals F) depth [] t (subst (λ (q : Opening). IsTreeWith F q depth t) pure h)
 plain_tree E F o depth (Err e) pure h = tt
 
 pub plain_within : (E : Type 0) (F : Cnf) (depth : ℕ) (r : Result (List Cube) E) → AreWithin F.vars F.clauses → IfOk r (IsTreeOf F depth) → IfOk r (AreWithin (greatest_in F.clauses))
-plain_within E F depth (Ok t) within h = split_within within (All-nil (IsWithin (greatest_in F.clauses))) h
+plain_within E F depth (Ok t) within h = split_within F (pure_literals F) depth [] t within (All-nil (IsWithin (greatest_in F.clauses))) h
 plain_within E F depth (Err e) within h = tt
 
 -- a fact of what an Ok leaves

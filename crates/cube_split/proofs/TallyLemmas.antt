@@ -55,7 +55,7 @@ has_row counts last met len h = omega (arith, zero_size met len h.few, length-le
   below : (q : ℕ) → list_any (eqb q) (with_zero met len) ≡ true → q < length counts
   below q e = let at = found_at q (with_zero met len) e in at_place q at.0 at.1 at.2
 
--- a variable is met: it is written behind the others, and counts among them where it is new
+-- a variable is met: it is written after the others, and counts among them where it is new
 pub met_one : (counts last met : List ℕ) (len v n c more : ℕ) → AreMet counts last met len → 0 < v → v < length counts → 0 < n → (get_or last v 0 ≡ 0 → more ≡ 1) → (get_or last v 0 ≢ 0 → more ≡ 0)
     → AreMet (set counts v c) (set last v n) (set met len v) (len + more)
 met_one counts last met len v n c more h above below some new old = ⊎_elim
@@ -145,7 +145,7 @@ met_listed counts last met len h = record {
       (λ (more : get_or last w 0 ≡ 0 → ⊥). omega arith)
       (cases_eq (get_or last w 0) 0)
 
--- nothing is met where no variable has a number
+-- nothing is met if no variable has a number
 pub met_none : (counts last met : List ℕ) → 0 < length counts → length last ≡ length counts → length met ≡ length counts → ((w : ℕ) → w < length counts → get_or counts w 0 ≡ 0) → ((w : ℕ) → w < length counts → get_or last w 0 ≡ 0)
     → AreMet counts last met 0
 met_none counts last met some rows room zero_counts zero_last = record {
@@ -193,7 +193,7 @@ cleared_one old_counts old_last counts last variables i v is below h = record {
       (λ (ne : w ≡ v → ⊥). (get_or-set_other counts v w 0 0 ne ∙ c, get_or-set_other last v w 0 0 ne ∙ l))
       (cases_eq w v)
 
--- behind all that were met nothing is counted
+-- after all that were met nothing is counted
 pub all_cleared : (old_counts old_last counts last met : List ℕ) (len : ℕ) → AreMet old_counts old_last met len
     → ((k : ℕ) → k < length (take len met) → (get_or counts (get_or (take len met) k 0) 0 ≡ 0) × (get_or last (get_or (take len met) k 0) 0 ≡ 0))
     → ((w : ℕ) → ((get_or counts w 0 ≡ get_or old_counts w 0) × (get_or last w 0 ≡ get_or old_last w 0)) ⊎ ((get_or counts w 0 ≡ 0) × (get_or last w 0 ≡ 0)))

@@ -1,4 +1,4 @@
--- How often the key of a pair stands among the keys of literals.
+-- How often the key of a pair occurs among the keys of a clause's pairs.
 use Rattle.std.proofs.Common.{◌≡◌, ◌≢◌, ℕ, ◌+◌, ◌*◌, ◌<◌, ◌≤◌, nat_lt, Bool, true, false, ◌||◌, ◌&&◌, cond, List, [], ◌∷◌, ◌++◌, length, get_or, take, eqb, refl, sym, ap, subst, ◌∙◌, arith, inl, inr}
 use Rattle.std.specs.List.{All}
 use Rattle.std.proofs.lemmas.Bool.{true≢false, cases_Bool, or_from, or_parts, or_cases, and_left, and_right, and_from, and_parts, le-ltb, lt-ltb, ltb-true, eq-eqb, ne_eqb, cond-true, cond-false, false_from_ne_true, both_ways}
@@ -8,7 +8,7 @@ use Rattle.dimacs.specs.logic.Literal.{Literal, Clause, Pos, Neg, same, has, var
 use Rattle.dimacs.proofs.LiteralLemmas.{same-true, same-is}
 use Rattle.cube_split.specs.Definitions.{IsPairOf}
 use Rattle.cube_split.specs.Pairs.{is_short, sign, together}
-use Rattle.cube_split.specs.inner.Ranks.{AreKeys, AreOnce, IsGathered, IsKey, keys_of_two, keys_with, keys_among, key_of, times}
+use Rattle.cube_split.specs.inner.Ranks.{AreKeys, AreOnce, AreDistinctOf, IsKey, keys_of_two, keys_with, keys_among, key_of, times}
 use Rattle.cube_split.specs.declared.pair.Pair.{Pair}
 
 -- ---- keys
@@ -25,17 +25,17 @@ same_literal (Neg v) (Pos w) e s = absurd (omega arith)
 pub same_pair : (p q : Pair) → p.first ≡ q.first → p.second ≡ q.second → p ≡ q
 same_pair p q a b = ap (λ (l : Literal). record { first = l; second = p.second }) a ∙ ap (λ (l : Literal). record { first = q.first; second = l }) b
 
-parts_of_key : (a b s t : ℕ) → b < 1048576 → s ≤ 1 → t ≤ 1 → (c d u v : ℕ) → d < 1048576 → u ≤ 1 → v ≤ 1
-    → (a * 1048576 + b) * 4 + s * 2 + t ≡ (c * 1048576 + d) * 4 + u * 2 + v → (a ≡ c) × (b ≡ d) × (s ≡ u) × (t ≡ v)
+parts_of_key : (a b s t : ℕ) → b < 134217728 → s ≤ 1 → t ≤ 1 → (c d u v : ℕ) → d < 134217728 → u ≤ 1 → v ≤ 1
+    → (a * 134217728 + b) * 4 + s * 2 + t ≡ (c * 134217728 + d) * 4 + u * 2 + v → (a ≡ c) × (b ≡ d) × (s ≡ u) × (t ≡ v)
 parts_of_key a b s t lb ls lt c d u v ld lu lv e =
     let one : t ≡ v = omega arith in
     let two : s ≡ u = omega arith in
-    let both : a * 1048576 + b ≡ c * 1048576 + d = omega arith in
+    let both : a * 134217728 + b ≡ c * 134217728 + d = omega arith in
     let three : b ≡ d = omega arith in
     (omega arith, three, two, one)
 
--- pairs of variables below 2 ^ 20 with one key are one pair
-pub key_apart : (p q : Pair) → var_of p.second < 1048576 → var_of q.second < 1048576 → key_of p ≡ key_of q → p ≡ q
+-- pairs of variables below 2 ^ 27 with one key are one pair
+pub key_apart : (p q : Pair) → var_of p.second < 134217728 → var_of q.second < 134217728 → key_of p ≡ key_of q → p ≡ q
 key_apart p q a b e =
     let h = parts_of_key (var_of p.first) (var_of p.second) (sign p.first) (sign p.second) a (signs p.first) (signs p.second) (var_of q.first) (var_of q.second) (sign q.first) (sign q.second) b (signs q.first) (signs q.second) e in
     same_pair p q (same_literal p.first q.first h.0 h.2) (same_literal p.second q.second h.1 h.3)
@@ -52,7 +52,7 @@ abbrev meets : Literal → Literal → Pair → Bool
 meets x y p = same p.first x && same p.second y || same p.second x && same p.first y
 
 record IsAsked (vars : ℕ) (test : Literal → Bool) (p : Pair) : Type 0 where
-  few : vars < 1048576
+  few : vars < 134217728
   pair : IsPairOf vars p
   first : test p.first ≡ false
   second : test p.second ≡ false
@@ -225,8 +225,8 @@ keys_same vars test clauses i C keys below is long h = record {
   made = h.made;
 }
 
-pub keys_more : (vars : ℕ) (test : Literal → Bool) (clauses : List Clause) (i : ℕ) (C D : Clause) (keys : List ℕ) → vars < 1048576 → i < length clauses → C ≡ get_or clauses i [] → is_short C ≡ true
-    → All (IsWithin vars) D → IsGathered C D → AreKeys vars test (take i clauses) keys → AreKeys vars test (take (i + 1) clauses) (keys ++ keys_among test D)
+pub keys_more : (vars : ℕ) (test : Literal → Bool) (clauses : List Clause) (i : ℕ) (C D : Clause) (keys : List ℕ) → vars < 134217728 → i < length clauses → C ≡ get_or clauses i [] → is_short C ≡ true
+    → All (IsWithin vars) D → AreDistinctOf C D → AreKeys vars test (take i clauses) keys → AreKeys vars test (take (i + 1) clauses) (keys ++ keys_among test D)
 keys_more vars test clauses i C D keys few below is short low gathered h = record {
   counted = λ p pair a b.
       let T : Clause → Bool = λ (E : Clause). is_short E && (has E p.first && has E p.second) in

@@ -1,4 +1,4 @@
--- The trail of a walk over a tree: a path, with what each of its literals holds.
+-- The trail of a descent: the path's literals, each followed by the pair that it defines.
 use Rattle.std.proofs.Common.{◌≡◌, ◌≢◌, ℕ, zero, suc, ◌+◌, ◌<◌, ◌≤◌, Bool, true, false, ◌||◌, ◌&&◌, cond, List, [], ◌∷◌, ◌++◌, length, Some, refl, sym, ◌∙◌, ap, subst, arith, inr, append_assoc, length-append}
 use Rattle.std.specs.List.{All, slice_get}
 use Rattle.std.proofs.lemmas.Bool.{cond-true, cond-false, eq-eqb, ne_eqb, or_from}
@@ -8,10 +8,10 @@ use Rattle.dimacs.specs.logic.Cnf.{Cnf, AreWithin}
 use Rattle.dimacs.specs.logic.Literal.{Literal, Pos, Neg, same, has, var_of}
 use Rattle.dimacs.proofs.LiteralLemmas.{same-false}
 use Rattle.icnf.specs.Leaves.{Cube, IsFree}
-use Rattle.cube_split.specs.Choosing.{Chooses, IsChosen, held_by, holding}
+use Rattle.cube_split.specs.ChoiceWithDefinitions.{Chooses, IsChosen, held_by, holding}
 use Rattle.cube_split.specs.Definitions.{IsPairOf, Opening}
-use Rattle.cube_split.specs.inner.Descending.{IsTrailOf}
-use Rattle.cube_split.specs.inner.Walking.{from_start}
+use Rattle.cube_split.specs.inner.DescentInvariant.{IsTrailOf}
+use Rattle.cube_split.specs.inner.WalkInvariant.{from_start}
 use Rattle.cube_split.specs.declared.pair.Pair.{Pair}
 use Rattle.cube_split.proofs.ChoiceLemmas.{free_from, free_positive, free_negative, stands_nowhere}
 use Rattle.cube_split.proofs.HeldLemmas.{brings, has_append}
@@ -105,7 +105,7 @@ trail_more F o path trail l two h = record {
 
 -- ---- what is free
 
--- a variable is free of two lists alike, where they have the same literals
+-- a variable is free of two lists alike, if they have the same literals
 pub free_same : (S T : List Literal) (w : ℕ) → ((x : Literal) → has S x ≡ has T x) → IsFree T w → IsFree S w
 free_same S T w e h = free_from S w (e (Pos w) ∙ free_positive T w h) (e (Neg w) ∙ free_negative T w h)
 

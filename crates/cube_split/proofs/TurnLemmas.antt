@@ -1,4 +1,4 @@
--- A walk along the places of a literal, which turns the clauses that hold it.
+-- A walk along the places of a literal, which closes or reopens the clauses that have it.
 use Rattle.std.proofs.Common.{◌≡◌, ◌≢◌, ℕ, suc, ◌+◌, ◌-◌, ◌<◌, ◌≤◌, true, false, List, [], ◌∷◌, length, get_or, set, map, drop, refl, sym, ap, subst, ◌∙◌, arith, ⊎_elim, ◌⊎◌, inl, inr, get_or-set_same, get_or-set_other, length-set, length-drop}
 use Rattle.std.specs.List.{slice_range}
 use Rattle.std.proofs.lemmas.Bool.{cases_eq, cases_lt, or_cases, both_ways}
@@ -127,7 +127,7 @@ turning_set n places starts latest l from to old new at x rows apart some stands
           (cases_eq (place_at places p).clause c);
     }
 
--- behind the first place
+-- after the first place
 pub turning_end : (n : ℕ) (places : List Place) (starts latest : List ℕ) (l : Literal) (from to : ℕ) (old new : List ℕ) (at : ℕ) → AreIndexed n places starts latest → at ≡ 0
     → IsTurning n places starts l from to old new at → AreTurned n (clause_of places starts) l from to old new
 turning_end n places starts latest l from to old new at x none h = record {

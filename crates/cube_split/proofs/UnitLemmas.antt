@@ -1,10 +1,10 @@
--- Unit clauses behind a formula.
+-- Unit clauses after a formula.
 use Rattle.std.proofs.Common.{◌≡◌, ℕ, ◌+◌, ◌*◌, ◌<◌, List, [], ◌∷◌, ◌++◌, map, length, get_or, take, refl, sym, ap, ◌∙◌, arith, length-append, append_assoc}
 use Rattle.std.proofs.lemmas.List.{length-map, map_more, length-take-le, take_more}
 use Rattle.dimacs.specs.logic.Cnf.{Cnf, literal_count}
 use Rattle.dimacs.specs.logic.Literal.{Literal, Clause}
 use Rattle.cube_split.specs.Definitions.{all_clauses, both_clause, part_clause}
-use Rattle.cube_split.specs.Splitting.{with_units}
+use Rattle.cube_split.specs.SplitTree.{with_units}
 use Rattle.cube_split.specs.declared.pair.Pair.{Pair}
 
 pub count_append : (xs ys : List Clause) → literal_count (xs ++ ys) ≡ literal_count xs + literal_count ys
@@ -18,7 +18,7 @@ count_units : (units : List Literal) → literal_count (map (λ l. l ∷ []) uni
 count_units [] = refl
 count_units (l ∷ units) = omega (arith, count_units units)
 
--- how many clauses and literals there are behind so many units
+-- how many clauses and literals there are after so many units
 pub units_len : (f : Cnf) (units : List Literal) → length (with_units f units).clauses ≡ length f.clauses + length units
 units_len f units = omega (arith, length-append f.clauses (map (λ l. l ∷ []) units), length-map units (λ (l : Literal). l ∷ []))
 

@@ -16,7 +16,7 @@ use Rattle.cube_split.specs.inner.Marks.{AreMarked, IsUnmarked, IsGreatest}
 use Rattle.cube_split.specs.inner.Open.{AreTurned, open_count}
 use Rattle.cube_split.specs.inner.Places.{clause_of, ArePlaced, AreChained}
 use Rattle.cube_split.specs.inner.Tallies.{AreListed}
-use Rattle.cube_split.specs.inner.Walking.{StandsAt, IsClosedBy, closed_at, from_start, widened}
+use Rattle.cube_split.specs.inner.WalkInvariant.{IsWalkAt, IsClosedBy, closed_at, from_start, widened}
 use Rattle.cube_split.specs.declared.walk.Walk.{Walk}
 use Rattle.cube_split.proofs.ChoiceLemmas.{free_positive, free_negative, AreTables, choice_is}
 use Rattle.cube_split.proofs.LevelLemmas.{closed_more, closed_less, stands_are, stands_less}
@@ -28,11 +28,11 @@ abbrev pub clauses_of : Walk → ℕ → Clause
 clauses_of s = clause_of s.places.places.items s.places.starts.items
 
 -- the levels, over the clauses by their places
-pub closed_by : (f : Cnf) (units : List Literal) (path : Cube) (s : Walk) → StandsAt f units path s → (i : ℕ) → i < length f.clauses → get_or s.closed.items i 0 ≡ closed_at units path (clauses_of s i)
+pub closed_by : (f : Cnf) (units : List Literal) (path : Cube) (s : Walk) → IsWalkAt f units path s → (i : ℕ) → i < length f.clauses → get_or s.closed.items i 0 ≡ closed_at units path (clauses_of s i)
 closed_by f units path s h i b = h.closed i b ∙ ap (closed_at units path) (sym (h.clauses i b))
 
 -- the counts are those of the open clauses
-pub walk_counted : (f : Cnf) (units : List Literal) (path : Cube) (s : Walk) → StandsAt f units path s → (w : ℕ) → w < length s.counts.items → get_or s.counts.items w 0 ≡ open_count (length s.closed.items) (clauses_of s) s.closed.items w
+pub walk_counted : (f : Cnf) (units : List Literal) (path : Cube) (s : Walk) → IsWalkAt f units path s → (w : ℕ) → w < length s.counts.items → get_or s.counts.items w 0 ≡ open_count (length s.closed.items) (clauses_of s) s.closed.items w
 walk_counted f units path s h w b =
     h.counted w b ∙ sym (stands_are f.clauses (clauses_of s) units path s.closed.items w h.clauses (closed_by f units path s h)) ∙ ap (λ (n : ℕ). open_count n (clauses_of s) s.closed.items w) (sym h.size)
 
@@ -67,9 +67,9 @@ marked_less marks units path l inside free h = record {
   drop_last false false e = refl
 
 -- one literal on
-pub entered : (f : Cnf) (units : List Literal) (path : Cube) (l : Literal) (s t : Walk) → StandsAt f units path s → index_of l < length s.marks.items → t.places ≡ s.places → t.variables ≡ s.variables
+pub entered : (f : Cnf) (units : List Literal) (path : Cube) (l : Literal) (s t : Walk) → IsWalkAt f units path s → index_of l < length s.marks.items → t.places ≡ s.places → t.variables ≡ s.variables
     → t.level ≡ s.level + 1 → t.marks.items ≡ set s.marks.items (index_of l) true → AreTurned (length s.closed.items) (clauses_of s) l 0 s.level s.closed.items t.closed.items → length t.counts.items ≡ length s.counts.items
-    → ((w : ℕ) → w < length s.counts.items → get_or t.counts.items w 0 ≡ open_count (length s.closed.items) (clauses_of s) t.closed.items w) → StandsAt f units (path ++ l ∷ []) t
+    → ((w : ℕ) → w < length s.counts.items → get_or t.counts.items w 0 ≡ open_count (length s.closed.items) (clauses_of s) t.closed.items w) → IsWalkAt f units (path ++ l ∷ []) t
 entered f units path l s t h inside places variables level marks turned size counted =
     let rows : (i : ℕ) → i < length f.clauses → get_or t.closed.items i 0 ≡ closed_at units (path ++ l ∷ []) (clauses_of s i) =
     closed_more (length f.clauses) (clauses_of s) units path l s.closed.items t.closed.items (rw (← h.level, ← h.size) turned) (closed_by f units path s h) in
@@ -92,9 +92,9 @@ entered f units path l s t h inside places variables level marks turned size cou
     }
 
 -- and back
-pub left : (f : Cnf) (units : List Literal) (path : Cube) (l : Literal) (s t : Walk) → StandsAt f units (path ++ l ∷ []) s → IsFree (units ++ path) (var_of l) → index_of l < length s.marks.items → t.places ≡ s.places → t.variables ≡ s.variables
+pub left : (f : Cnf) (units : List Literal) (path : Cube) (l : Literal) (s t : Walk) → IsWalkAt f units (path ++ l ∷ []) s → IsFree (units ++ path) (var_of l) → index_of l < length s.marks.items → t.places ≡ s.places → t.variables ≡ s.variables
     → t.level + 1 ≡ s.level → t.marks.items ≡ set s.marks.items (index_of l) false → AreTurned (length s.closed.items) (clauses_of s) l t.level 0 s.closed.items t.closed.items → length t.counts.items ≡ length s.counts.items
-    → ((w : ℕ) → w < length s.counts.items → get_or t.counts.items w 0 ≡ open_count (length s.closed.items) (clauses_of s) t.closed.items w) → StandsAt f units path t
+    → ((w : ℕ) → w < length s.counts.items → get_or t.counts.items w 0 ≡ open_count (length s.closed.items) (clauses_of s) t.closed.items w) → IsWalkAt f units path t
 left f units path l s t h free inside places variables level marks turned size counted =
     let here : t.level ≡ length path + 2 = omega (arith, level, h.level, length-append path (l ∷ [])) in
     let rows : (i : ℕ) → i < length f.clauses → get_or t.closed.items i 0 ≡ closed_at units path (clauses_of s i) =
@@ -123,18 +123,18 @@ index_fits (Pos v) vars n m h e x = omega arith
 index_fits (Neg v) vars n m h e x = omega arith
 
 -- the same, where the tables were lent
-pub entered_by : (f : Cnf) (units : List Literal) (path : Cube) (l : Literal) (s t : Walk) (oc on nc nn : List ℕ) → StandsAt f units path s → index_of l < length s.marks.items → t.places ≡ s.places → t.variables ≡ s.variables
+pub entered_by : (f : Cnf) (units : List Literal) (path : Cube) (l : Literal) (s t : Walk) (oc on nc nn : List ℕ) → IsWalkAt f units path s → index_of l < length s.marks.items → t.places ≡ s.places → t.variables ≡ s.variables
     → t.level ≡ s.level + 1 → t.marks.items ≡ set s.marks.items (index_of l) true → oc ≡ s.closed.items → on ≡ s.counts.items → t.closed.items ≡ nc → t.counts.items ≡ nn → AreTurned (length oc) (clauses_of s) l 0 s.level oc nc → length nn ≡ length on
-    → ((w : ℕ) → w < length on → get_or nn w 0 ≡ open_count (length oc) (clauses_of s) nc w) → StandsAt f units (path ++ l ∷ []) t
+    → ((w : ℕ) → w < length on → get_or nn w 0 ≡ open_count (length oc) (clauses_of s) nc w) → IsWalkAt f units (path ++ l ∷ []) t
 entered_by f units path l s t oc on nc nn h inside places variables level marks olds oldn news newn turned size counted =
     entered f units path l s t h inside places variables level marks
     (rw (news, ← olds) turned)
     (rw (newn, ← oldn) size)
     (rw (newn, news, ← olds, ← oldn) counted)
 
-pub left_by : (f : Cnf) (units : List Literal) (path : Cube) (l : Literal) (s t : Walk) (oc on nc nn : List ℕ) → StandsAt f units (path ++ l ∷ []) s → IsFree (units ++ path) (var_of l) → index_of l < length s.marks.items → t.places ≡ s.places → t.variables ≡ s.variables
+pub left_by : (f : Cnf) (units : List Literal) (path : Cube) (l : Literal) (s t : Walk) (oc on nc nn : List ℕ) → IsWalkAt f units (path ++ l ∷ []) s → IsFree (units ++ path) (var_of l) → index_of l < length s.marks.items → t.places ≡ s.places → t.variables ≡ s.variables
     → t.level + 1 ≡ s.level → t.marks.items ≡ set s.marks.items (index_of l) false → oc ≡ s.closed.items → on ≡ s.counts.items → t.closed.items ≡ nc → t.counts.items ≡ nn → AreTurned (length oc) (clauses_of s) l t.level 0 oc nc → length nn ≡ length on
-    → ((w : ℕ) → w < length on → get_or nn w 0 ≡ open_count (length oc) (clauses_of s) nc w) → StandsAt f units path t
+    → ((w : ℕ) → w < length on → get_or nn w 0 ≡ open_count (length oc) (clauses_of s) nc w) → IsWalkAt f units path t
 left_by f units path l s t oc on nc nn h free inside places variables level marks olds oldn news newn turned size counted =
     left f units path l s t h free inside places variables level marks
     (rw (news, ← olds) turned)
@@ -144,7 +144,7 @@ left_by f units path l s t oc on nc nn h free inside places variables level mark
 -- ---- the choice
 
 -- the variables of a walk are all that have a count
-pub listed_at : (f : Cnf) (units : List Literal) (path : Cube) (s : Walk) → StandsAt f units path s → AreListed s.counts.items s.variables.items
+pub listed_at : (f : Cnf) (units : List Literal) (path : Cube) (s : Walk) → IsWalkAt f units path s → AreListed s.counts.items s.variables.items
 listed_at f units path s h = record {
   inside = λ k b. let was = h.listed.inside k b in (was.0, omega (arith, was.1, h.rows));
   listed = λ w a b some. ⊎_elim
@@ -154,7 +154,7 @@ listed_at f units path s h = record {
 }
 
 -- the greatest count is the choice
-pub choice_at : (f : Cnf) (units : List Literal) (path : Cube) (s : Walk) (r : Option ℕ) → StandsAt f units path s → IfSome r (IsGreatest s.marks.items s.counts.items (length s.counts.items - 1))
+pub choice_at : (f : Cnf) (units : List Literal) (path : Cube) (s : Walk) (r : Option ℕ) → IsWalkAt f units path s → IfSome r (IsGreatest s.marks.items s.counts.items (length s.counts.items - 1))
     → IfNone r ((w : ℕ) → 0 < w → w < length s.counts.items → IsUnmarked s.marks.items w → get_or s.counts.items w 0 ≡ 0) → Choice f (units ++ path) r
 choice_at f units path s r h some none =
     let tables : AreTables f (units ++ path) s.marks.items s.counts.items = record {
@@ -198,7 +198,7 @@ pub begins : (F : Cnf) (o : Opening) (rows : ℕ) (s : Walk) → IsFormula F →
     → ArePlaced F.clauses (length F.clauses) s.places.places.items s.places.starts.items → AreChained s.places.places.items s.places.latest.items
     → All (λ e. var_of e.literal < rows) s.places.places.items → length s.places.latest.items ≡ 2 * rows → AreMarked s.marks.items (has (from_start F o)) → length s.marks.items ≡ 2 * rows
     → IsClosedBy (has (from_start F o)) F.clauses s.closed.items → ((w : ℕ) → w < rows → get_or s.counts.items w 0 ≡ stands_in F.clauses (from_start F o) w) → length s.counts.items ≡ rows
-    → AreListed s.counts.items s.variables.items → s.level ≡ 2 → StandsAt (widened F o) (from_start F o) [] s
+    → AreListed s.counts.items s.variables.items → s.level ≡ 2 → IsWalkAt (widened F o) (from_start F o) [] s
 begins F o rows s valid few number placed chained within latest marked marks closed counted size listed level =
     let units : List Literal = from_start F o in
     let all : units ++ [] ≡ units = append-nil units in

@@ -1,30 +1,30 @@
--- The split rule: which variable a cube is split on.
+-- The split rule without definitions: which variable a cube is split on.
 use Rattle.std.specs.Prelude.{◌≡◌, ℕ, ◌<◌, ◌≤◌, ◌==◌, Bool, not, ◌&&◌, List, Option, Some, None, count_by}
 use Rattle.std.specs.List.{list_any}
 use Rattle.dimacs.specs.logic.Cnf.{Cnf}
 use Rattle.dimacs.specs.logic.Literal.{Literal, Clause, var_of, has}
 use Rattle.icnf.specs.Leaves.{IsFree}
 
--- whether a literal of the variable stands in the clause
+-- whether the variable occurs in the clause
 abbrev pub has_variable : Clause → ℕ → Bool
 has_variable C v = list_any (λ l. var_of l == v) C
 
--- whether no literal of S stands in the clause
+-- whether no literal of S is in the clause
 abbrev pub is_apart : List Literal → Clause → Bool
 is_apart S C = not (list_any (has S) C)
 
--- in how many clauses without a literal of S the variable stands; a clause counts once
+-- in how many clauses without a literal of S the variable occurs; a clause counts once
 abbrev pub stands_in : List Clause → List Literal → ℕ → ℕ
 stands_in clauses S v = count_by (λ C. is_apart S C && has_variable C v) clauses
 
--- of the variables without a literal in S, v is the one that stands in the most clauses without a literal of S, and of several the lowest
+-- of the variables without a literal in S, v is the one that occurs in the most clauses without a literal of S, and of several the lowest
 pub record IsChoice (f : Cnf) (S : List Literal) (v : ℕ) : Type 0 where
   pub free : IsFree S v
   pub some : 0 < stands_in f.clauses S v
   pub most : (w : ℕ) → IsFree S w → stands_in f.clauses S w ≤ stands_in f.clauses S v
   pub lowest : (w : ℕ) → IsFree S w → stands_in f.clauses S w ≡ stands_in f.clauses S v → v ≤ w
 
--- no variable without a literal in S stands in a clause without a literal of S
+-- no variable without a literal in S occurs in a clause without a literal of S
 pub record HasNoChoice (f : Cnf) (S : List Literal) : Type 0 where
   pub none : (w : ℕ) → IsFree S w → stands_in f.clauses S w ≡ 0
 

@@ -1,12 +1,13 @@
--- Defined variables: each stands for two literals together.
+-- Defined variables: each is equivalent to the conjunction of two literals.
 use Rattle.std.specs.Prelude.{ℕ, ◌+◌, ◌<◌, ◌≤◌, List, [], ◌∷◌, ◌++◌, length}
 use Rattle.dimacs.specs.logic.Base.{pure_literals, base_of}
 use Rattle.dimacs.specs.logic.Cnf.{Cnf}
 use Rattle.dimacs.specs.logic.Literal.{Literal, Pos, Neg, Clause, negation, var_of}
-use Rattle.cube_split.specs.Splitting.{with_units}
+use Rattle.cube_split.specs.SplitTree.{with_units}
 use Rattle.cube_split.specs.declared.pair.Pair.{Pair}
 
--- what is added to a formula before it is split: the literals of unit clauses, and the pairs for each of which a variable is defined
+-- what is added to a formula before it is split: the literals of unit clauses, and the pairs for each of which a variable is defined;
+-- pair i, from 0, defines the variable vars + 1 + i
 pub record Opening : Type 0 where
   pub units : List Literal
   pub pairs : List Pair
@@ -15,25 +16,25 @@ pub record Opening : Type 0 where
 abbrev pub pure_opening : Cnf → Opening
 pure_opening F = record { units = pure_literals F; pairs = [] }
 
--- literals of two variables, of which the first is the lower and both are from 1 to vars
+-- two literals of variables from 1 to vars, the first one's variable being the lower
 pub record IsPairOf (vars : ℕ) (p : Pair) : Type 0 where
   pub from_1 : 0 < var_of p.first
   pub rise : var_of p.first < var_of p.second
   pub up_to : var_of p.second ≤ vars
 
--- where d is false, not both are true; where d is true, each is
+-- d is true exactly if both literals are: if d is false, one is false; if d is true, each is true
 abbrev pub both_clause : ℕ → Pair → Clause
 both_clause d p = Pos d ∷ negation p.first ∷ negation p.second ∷ []
 
 abbrev pub part_clause : ℕ → Literal → Clause
 part_clause d l = Neg d ∷ l ∷ []
 
--- the clauses that define d and the variables behind it, a pair each
+-- the clauses that define the variables d, d + 1, .., one for each pair
 abbrev pub all_clauses : ℕ → List Pair → List Clause
 all_clauses d [] = []
 all_clauses d (p ∷ pairs) = both_clause d p ∷ part_clause d p.first ∷ part_clause d p.second ∷ all_clauses (d + 1) pairs
 
--- a variable more for each pair, and the clauses that define it
+-- the formula with one more variable for each pair, and the clauses that define these variables
 abbrev pub with_definitions : Cnf → List Pair → Cnf
 with_definitions F pairs = record { vars = F.vars + length pairs; clauses = F.clauses ++ all_clauses (F.vars + 1) pairs }
 

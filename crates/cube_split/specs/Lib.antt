@@ -1,6 +1,6 @@
 pub mod Choice
-pub mod Choosing
+pub mod ChoiceWithDefinitions
 pub mod Definitions
 pub mod Pairs
-pub mod Splitting
+pub mod SplitTree
 pub mod inner

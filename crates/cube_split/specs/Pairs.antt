@@ -1,4 +1,4 @@
--- Which pairs are defined: those that stand together in the most short clauses.
+-- For which pairs variables are defined: those that occur together in the most short clauses.
 use Rattle.std.specs.Prelude.{◌≡◌, ◌≢◌, ℕ, zero, suc, ◌<◌, ◌≤◌, nat_le, Bool, ◌&&◌, ◌⊎◌, List, [], ◌∷◌, ◌++◌, Contains, count_by, if◌then◌else◌}
 use Rattle.dimacs.specs.logic.Base.{pure_literals}
 use Rattle.dimacs.specs.logic.Cnf.{Cnf}
@@ -11,25 +11,25 @@ abbrev pub distinct : Clause → ℕ
 distinct [] = 0
 distinct (l ∷ C) = if has C l then distinct C else suc (distinct C)
 
--- a clause is short where it has two or three distinct literals
+-- a clause is short if it has two or three distinct literals
 abbrev pub is_short : Clause → Bool
 is_short C = nat_le 2 (distinct C) && nat_le (distinct C) 3
 
--- in how many short clauses both literals of the pair stand
+-- how many short clauses have both literals of the pair
 abbrev pub together : List Clause → Pair → ℕ
 together clauses p = count_by (λ C. is_short C && (has C p.first && has C p.second)) clauses
 
--- two literals of variables of the formula, of which neither is a unit of the preamble
+-- two literals of variables of the formula, neither of them pure
 pub record IsCandidate (F : Cnf) (p : Pair) : Type 0 where
   pub of_formula : IsPairOf F.vars p
-  pub first_open : ¬ (Contains (pure_literals F) p.first)
+  pub first_undecided : ¬ (Contains (pure_literals F) p.first)
   pub second_open : ¬ (Contains (pure_literals F) p.second)
 
 -- 0 for a positive literal, 1 for a negative one
 abbrev pub sign : Literal → ℕ
 sign l = if is_negative l then 1 else 0
 
--- by the first one's variable, then by the second one's, then the first one's sign, then the second one's
+-- the order of pairs: by the first literal's variable, then the second's variable, then the first's sign, then the second's
 abbrev pub Precedes : Pair → Pair → Type 0
 Precedes p q =
     (var_of p.first < var_of q.first)
@@ -37,7 +37,7 @@ Precedes p q =
     × ((var_of p.second < var_of q.second)
     ⊎ ((var_of p.second ≡ var_of q.second) × ((sign p.first < sign q.first) ⊎ ((sign p.first ≡ sign q.first) × (sign p.second < sign q.second))))))
 
--- of the pairs that are not taken, p is the one that stands together in the most short clauses, and of several the first
+-- of the candidates that are not taken, p is the one that occurs in the most short clauses, at least one, and of several the first
 pub record IsNext (F : Cnf) (taken : List Pair) (p : Pair) : Type 0 where
   pub candidate : IsCandidate F p
   pub new : ¬ (Contains taken p)
@@ -45,13 +45,13 @@ pub record IsNext (F : Cnf) (taken : List Pair) (p : Pair) : Type 0 where
   pub most : (q : Pair) → IsCandidate F q → ¬ (Contains taken q) → together F.clauses q ≤ together F.clauses p
   pub first : (q : Pair) → IsCandidate F q → ¬ (Contains taken q) → together F.clauses q ≡ together F.clauses p → q ≢ p → Precedes p q
 
--- as many pairs as are wanted, each the next behind those taken, or fewer where none is left
+-- as many pairs as wanted, each the next after those taken; fewer if no candidate that occurs in a short clause is left
 pub data AreDefined (F : Cnf) : ℕ → List Pair → List Pair → Type 0 where
   all : {taken : List Pair} → AreDefined F zero taken []
   none : {left : ℕ} {taken : List Pair} → ((q : Pair) → IsCandidate F q → ¬ (Contains taken q) → together F.clauses q ≡ 0) → AreDefined F left taken []
   next : {left : ℕ} {taken pairs : List Pair} (p : Pair) → IsNext F taken p → AreDefined F left (taken ++ p ∷ []) pairs → AreDefined F (suc left) taken (p ∷ pairs)
 
--- how many definitions are wanted, and the pairs that are defined
+-- how many definitions are wanted, and the pairs for which variables are defined
 pub record Definitions : Type 0 where
   pub wanted : ℕ
   pub pairs : List Pair
@@ -59,12 +59,12 @@ pub record Definitions : Type 0 where
 abbrev pub no_definitions : Definitions
 no_definitions = record { wanted = 0; pairs = [] }
 
--- they are the formula's, and few
+-- the definitions are those of the formula, and at most 64
 pub record AreOf (F : Cnf) (d : Definitions) : Type 0 where
   pub defined : AreDefined F d.wanted [] d.pairs
   pub few : d.wanted ≤ 64
 
--- the base of a formula with as many definitions as are wanted
+-- B is the base of a formula with as many definitions as wanted
 pub record IsBaseWith (F : Cnf) (wanted : ℕ) (B : Cnf) : Type 0 where
   pub pairs : List Pair
   pub defined : AreDefined F wanted [] pairs

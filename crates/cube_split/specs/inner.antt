@@ -1,9 +1,9 @@
 -- What only private contracts, invariants and proofs name. Nothing here is to be believed.
-pub mod Choosing
-pub mod Descending
+pub mod AppendedCubes
+pub mod DescentInvariant
 pub mod Marks
 pub mod Open
 pub mod Places
 pub mod Ranks
 pub mod Tallies
-pub mod Walking
+pub mod WalkInvariant

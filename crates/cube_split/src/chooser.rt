@@ -3,12 +3,12 @@
 ghost use Rattle.std.specs.Prelude.{◌≡◌, ◌+◌, ◌*◌, ◌<◌, ◌≤◌, ◌++◌, false, List, [], length, All, IfOk};
 ghost use Rattle.dimacs.specs.logic.Literal.{Literal, has};
 ghost use Rattle.cube_split.specs.Choice.{Choice};
-ghost use Rattle.cube_split.specs.Choosing.{Chooses, IsChosen};
+ghost use Rattle.cube_split.specs.ChoiceWithDefinitions.{Chooses, IsChosen};
 ghost use Rattle.cube_split.specs.Definitions.{IsPairOf};
 ghost use Rattle.cube_split.specs.inner.Marks.{AreMarked};
 ghost use Rattle.cube_split.specs.inner.Tallies.{IsClear};
 
-use crate::definitions::{first_open, mark_held, unmark_pairs};
+use crate::definitions::{first_undecided, mark_held, unmark_pairs};
 use crate::greatest::greatest;
 use crate::marks::{mark, unmark};
 use crate::pair::Pair;
@@ -18,9 +18,9 @@ use dimacs::{Formula, Lit, Var};
 use std::alloc::{AllocError, Global};
 use std::marker::Model;
 
-/// The tables in which the split rule counts, for formulas of so many variables. Only `reserve` takes memory.
+/// The tables in which the split rule counts, for formulas of at most the reserved number of variables. Only `reserve` takes memory.
 ///
-/// From one choice to the next no literal is marked, and nothing is counted.
+/// Between two choices no literal is marked, and every count is 0.
 #[derive(Drop)]
 pub struct Chooser {
     marks: Vec<bool>,
@@ -40,7 +40,7 @@ impl Model for Chooser {
 }
 
 impl Chooser {
-    /// Tables for formulas of at most so many variables, those that are defined among them.
+    /// Tables for formulas of at most `vars` variables, defined variables included.
     pub fn reserve(alloc: Global, vars: u32) -> Result<Chooser, AllocError>
         ensures { IfOk result (λ c. c ≡ vars) }
     {
@@ -51,15 +51,17 @@ impl Chooser {
         })
     }
 
-    /// The variable on which a cube is split, with S the literals of preamble and cube, and those of each pair whose variable is
-    /// in S: the lowest defined variable without a literal in S whose pair's variables have none either; where there is none, of
-    /// the variables without a literal in S the one that stands in the most clauses without a literal of S, and of several the
-    /// lowest; None where each of them stands in none.
+    /// The variable on which a cube is split. Let S be the literals of preamble and cube, and those of each pair whose defined
+    /// variable is in S.
+    ///
+    /// The lowest defined variable comes first, if neither it nor a variable of its pair has a literal in S. Else it is, of the
+    /// variables without a literal in S, the one that occurs in the most clauses without a literal of S (open clauses), and of
+    /// several the lowest. None if no such variable occurs in an open clause.
     pub fn choose(&mut self, formula: &Formula, preamble: &Preamble, cube: &[Lit]) -> Option<Var>
         requires room { formula.now.vars + length preamble.now.pairs ≤ self.old }
         requires pairs { All (IsPairOf formula.now.vars) preamble.now.pairs }
         ensures choice { Chooses formula.now preamble.now cube.now result }
-        // Without definitions the second rule is left.
+        // Without definitions the second rule decides.
         ensures plain { preamble.now.pairs ≡ [] → Choice formula.now (preamble.now.units ++ cube.now) result }
         ensures room { self.new ≡ self.old }
     {
@@ -74,7 +76,7 @@ impl Chooser {
     }
 }
 
-/// The choice, by tables that are clear, and are so again.
+/// The choice, by tables that are clear before and after.
 fn choose_in(
     marks: &mut [bool],
     tally: &mut Tally,
@@ -105,7 +107,7 @@ fn choose_in(
     choice
 }
 
-/// The choice, where the literals of S are marked.
+/// The choice, if the literals of S are marked.
 fn choose_marked(
     marks: &[bool],
     tally: &mut Tally,
@@ -121,13 +123,13 @@ fn choose_marked(
     ensures clear { IsClear (length tally.old.counts.items) tally.new }
 {
     let vars = formula.vars();
-    if let Some(defined) = first_open(marks, vars, pairs) {
+    if let Some(defined) = first_undecided(marks, vars, pairs) {
         return Some(defined);
     }
     choose_counted(marks, tally, formula)
 }
 
-/// The variable that stands in the most clauses without a marked literal.
+/// The variable that occurs in the most clauses without a marked literal.
 fn choose_counted(marks: &[bool], tally: &mut Tally, formula: &Formula) -> Option<Var>
     requires clear { IsClear (length tally.old.counts.items) tally.old }
     requires size { length marks.now ≡ 2 * length tally.old.counts.items }
@@ -135,7 +137,7 @@ fn choose_counted(marks: &[bool], tally: &mut Tally, formula: &Formula) -> Optio
     ensures choice { (S : List Literal) → AreMarked marks.now (has S) → Choice formula.now S result }
     ensures clear { IsClear (length tally.old.counts.items) tally.new }
 {
-    let _ = formula.vars(); // with it comes that no literal is of another variable
+    let _ = formula.vars(); // a model's invariant: every literal's variable is at most vars
     tally.count_clauses(marks, formula);
     let choice = greatest(marks, &tally.counts, tally.variables());
     tally.clear();

@@ -1,17 +1,17 @@
-//! Defined variables in a table of marks: what they bring with them, and which are open.
+//! Defined variables in a table of marks: which literals hold with them, and which of them are undecided.
 
 ghost use Rattle.std.specs.Prelude.{◌≡◌, ◌≢◌, ℕ, ◌+◌, ◌*◌, ◌<◌, ◌≤◌, ◌++◌, ◌&&◌, not, Bool, List, Some, true, false, length, slice_get, All, IfSome, IfNone};
 ghost use Rattle.dimacs.specs.logic.Literal.{Literal, Pos, has, var_of};
-ghost use Rattle.cube_split.specs.Choosing.{held_by};
+ghost use Rattle.cube_split.specs.ChoiceWithDefinitions.{held_by};
 ghost use Rattle.cube_split.specs.Definitions.{IsPairOf};
-ghost use Rattle.cube_split.specs.inner.Marks.{AreMarked, IsUnmarked, IsOpenBy, literals_of};
+ghost use Rattle.cube_split.specs.inner.Marks.{AreMarked, IsUnmarked, IsUndecidedBy, literals_of};
 
 use crate::greatest::is_unmarked;
 use crate::marks::{mark, unmark};
 use crate::pair::Pair;
 use dimacs::{Lit, Var};
 
-/// Marks both literals of each pair whose variable is marked. The variables of the pairs stand behind `vars`.
+/// Marks both literals of each pair whose defined variable is marked. The pairs define the variables from `vars` + 1 on.
 pub(crate) fn mark_held(marks: &mut [bool], vars: u32, pairs: &[Pair])
     requires few { (vars ≤ 1000000) × (length pairs.now ≤ 64) }
     requires room { 2 * (vars + length pairs.now + 1) ≤ length marks.old }
@@ -27,7 +27,8 @@ pub(crate) fn mark_held(marks: &mut [bool], vars: u32, pairs: &[Pair])
     }
 }
 
-/// The pair that holds with a literal, which is then a defined variable.
+/// The pair that a literal defines: both of its literals hold if this literal does. None unless it is a positive literal of a defined
+/// variable.
 pub(crate) fn held_pair(vars: u32, pairs: &[Pair], literal: Lit) -> Option<Pair>
     ensures some { IfSome result (λ p. (i : ℕ) × (literal ≡ Pos (vars + 1 + i)) × (slice_get pairs.now i ≡ Some p)) }
     ensures none { IfNone result ((i : ℕ) → i < length pairs.now → literal ≢ Pos (vars + 1 + i)) }
@@ -44,7 +45,7 @@ pub(crate) fn held_pair(vars: u32, pairs: &[Pair], literal: Lit) -> Option<Pair>
     }
 }
 
-/// Takes the marks of all literals of some pairs away.
+/// Clears the marks of both literals of each pair.
 pub(crate) fn unmark_pairs(marks: &mut [bool], pairs: &[Pair])
     ensures { (test : Literal → Bool) → AreMarked marks.old test → AreMarked marks.new (λ l. test l && not (has (literals_of pairs.now) l)) }
 {
@@ -53,8 +54,8 @@ pub(crate) fn unmark_pairs(marks: &mut [bool], pairs: &[Pair])
     }
 }
 
-/// Whether no literal of a defined variable is marked, nor one of its pair's variables.
-fn is_open(marks: &[bool], variable: Var, pair: Pair) -> bool
+/// Whether no literal of a defined variable is marked, and none of its pair's two variables.
+fn is_undecided(marks: &[bool], variable: Var, pair: Pair) -> bool
     requires variable { 2 * variable + 1 < length marks.now }
     requires pair { IsPairOf variable pair }
     ensures yes { result ≡ true → IsUnmarked marks.now variable × IsUnmarked marks.now (var_of pair.first) × IsUnmarked marks.now (var_of pair.second) }
@@ -65,17 +66,17 @@ fn is_open(marks: &[bool], variable: Var, pair: Pair) -> bool
         && is_unmarked(marks, pair.second.var())
 }
 
-/// The lowest defined variable of which nothing is marked, nor of its pair's variables.
-pub(crate) fn first_open(marks: &[bool], vars: u32, pairs: &[Pair]) -> Option<Var>
+/// The lowest defined variable that is undecided.
+pub(crate) fn first_undecided(marks: &[bool], vars: u32, pairs: &[Pair]) -> Option<Var>
     requires few { (vars ≤ 1000000) × (length pairs.now ≤ 64) }
     requires room { 2 * (vars + length pairs.now + 1) ≤ length marks.now }
     requires pairs { All (IsPairOf vars) pairs.now }
-    ensures some { IfSome result (λ v. (i : ℕ) × (v ≡ vars + 1 + i) × IsOpenBy marks.now vars pairs.now i × ((j : ℕ) → j < i → ¬ (IsOpenBy marks.now vars pairs.now j))) }
-    ensures none { IfNone result ((j : ℕ) → ¬ (IsOpenBy marks.now vars pairs.now j)) }
+    ensures some { IfSome result (λ v. (i : ℕ) × (v ≡ vars + 1 + i) × IsUndecidedBy marks.now vars pairs.now i × ((j : ℕ) → j < i → ¬ (IsUndecidedBy marks.now vars pairs.now j))) }
+    ensures none { IfNone result ((j : ℕ) → ¬ (IsUndecidedBy marks.now vars pairs.now j)) }
 {
     for i in 0..pairs.len() {
         let variable = Var::new(vars + 1 + i as u32);
-        if is_open(marks, variable, pairs[i]) {
+        if is_undecided(marks, variable, pairs[i]) {
             return Some(variable);
         }
     }

@@ -1,27 +1,27 @@
-//! A walk over the tree that the split rule makes.
+//! A depth-first walk over the tree that the split rule makes, which also follows the pairs of defined variables.
 
 ghost use Rattle.std.specs.Prelude.{ℕ, ◌+◌, ◌≤◌, ◌++◌, ◌∷◌, List, [], Some, length, All, IfOk};
 ghost use Rattle.dimacs.specs.logic.Cnf.{Cnf};
 ghost use Rattle.dimacs.specs.logic.Literal.{Literal, var_of};
 ghost use Rattle.icnf.specs.Leaves.{Cube};
-ghost use Rattle.cube_split.specs.Choosing.{Chooses, held_by};
+ghost use Rattle.cube_split.specs.ChoiceWithDefinitions.{Chooses, held_by};
 ghost use Rattle.cube_split.specs.Definitions.{IsPairOf, Opening};
-ghost use Rattle.cube_split.specs.inner.Descending.{IsAt, IsTrailOf};
+ghost use Rattle.cube_split.specs.inner.DescentInvariant.{IsDescentAt, IsTrailOf};
 
-use crate::definitions::{first_open, held_pair};
+use crate::definitions::{first_undecided, held_pair};
 use crate::pair::Pair;
 use crate::units::Preamble;
 use crate::walk::Walk;
 use dimacs::{Formula, Lit, Var};
 use std::alloc::{AllocError, Global};
 
-/// A walk along a path from the root, and with each of its literals along those that it holds.
+/// A walk along a path from the root. With a literal that defines a pair it also enters both literals of the pair.
 #[derive(Drop)]
 pub(crate) struct Descent {
     pub walk: Walk,
     /// The number of the formula's variables.
     pub vars: u32,
-    /// The pairs for which the variables behind these are defined.
+    /// The pairs that define the variables after these.
     pub pairs: Vec<Pair>,
 }
 
@@ -33,7 +33,7 @@ impl Descent {
         preamble: &Preamble,
     ) -> Result<Descent, AllocError>
         requires { All (IsPairOf formula.now.vars) preamble.now.pairs }
-        ensures { IfOk result (IsAt formula.now preamble.now [] []) }
+        ensures { IfOk result (IsDescentAt formula.now preamble.now [] []) }
     {
         let walk = Walk::begin(alloc, formula, preamble)?;
         let mut pairs = Vec::new(alloc);
@@ -47,20 +47,20 @@ impl Descent {
 
     /// The variable on which the cube of the path is split.
     pub(crate) fn choice(&self) -> Option<Var>
-        requires { (F : Cnf) × (opening : Opening) × (path : Cube) × (trail : Cube) × IsAt F opening path trail self.now }
-        ensures { (F : Cnf) (opening : Opening) (path trail : Cube) → IsAt F opening path trail self.now → Chooses F opening path result }
+        requires { (F : Cnf) × (opening : Opening) × (path : Cube) × (trail : Cube) × IsDescentAt F opening path trail self.now }
+        ensures { (F : Cnf) (opening : Opening) (path trail : Cube) → IsDescentAt F opening path trail self.now → Chooses F opening path result }
     {
-        if let Some(defined) = first_open(&self.walk.marks, self.vars, &self.pairs) {
+        if let Some(defined) = first_undecided(&self.walk.marks, self.vars, &self.pairs) {
             return Some(defined);
         }
         self.walk.choice()
     }
 
-    /// Goes on along a literal.
+    /// Goes down to the branch of a literal.
     pub(crate) fn enter(&mut self, literal: Lit)
-        requires { (F : Cnf) × (opening : Opening) × (path : Cube) × (trail : Cube) × IsAt F opening path trail self.old × (var_of literal ≤ F.vars + length opening.pairs) × (length path ≤ 64) }
-        ensures { (F : Cnf) (opening : Opening) (path trail : Cube) → IsAt F opening path trail self.old →
-            IsAt F opening (path ++ literal ∷ []) (trail ++ literal ∷ held_by (literal ∷ []) (F.vars + 1) opening.pairs) self.new }
+        requires { (F : Cnf) × (opening : Opening) × (path : Cube) × (trail : Cube) × IsDescentAt F opening path trail self.old × (var_of literal ≤ F.vars + length opening.pairs) × (length path ≤ 64) }
+        ensures { (F : Cnf) (opening : Opening) (path trail : Cube) → IsDescentAt F opening path trail self.old →
+            IsDescentAt F opening (path ++ literal ∷ []) (trail ++ literal ∷ held_by (literal ∷ []) (F.vars + 1) opening.pairs) self.new }
     {
         self.walk.enter(literal);
         if let Some(pair) = held_pair(self.vars, &self.pairs, literal) {
@@ -69,12 +69,12 @@ impl Descent {
         }
     }
 
-    /// Goes back along the last literal of a path, a literal of the variable that was chosen before it.
+    /// Goes back up from the branch of this literal, the last of the path. It is a literal of the variable that was chosen there.
     pub(crate) fn leave(&mut self, literal: Lit)
         requires { (F : Cnf) × (opening : Opening) × (path : Cube) × (trail : Cube) × IsTrailOf F opening path trail × Chooses F opening path (Some (var_of literal))
-            × IsAt F opening (path ++ literal ∷ []) (trail ++ literal ∷ held_by (literal ∷ []) (F.vars + 1) opening.pairs) self.old }
+            × IsDescentAt F opening (path ++ literal ∷ []) (trail ++ literal ∷ held_by (literal ∷ []) (F.vars + 1) opening.pairs) self.old }
         ensures { (F : Cnf) (opening : Opening) (path trail : Cube) → IsTrailOf F opening path trail → Chooses F opening path (Some (var_of literal)) →
-            IsAt F opening (path ++ literal ∷ []) (trail ++ literal ∷ held_by (literal ∷ []) (F.vars + 1) opening.pairs) self.old → IsAt F opening path trail self.new }
+            IsDescentAt F opening (path ++ literal ∷ []) (trail ++ literal ∷ held_by (literal ∷ []) (F.vars + 1) opening.pairs) self.old → IsDescentAt F opening path trail self.new }
     {
         if let Some(pair) = held_pair(self.vars, &self.pairs, literal) {
             self.walk.leave(pair.second);

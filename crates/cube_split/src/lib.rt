@@ -1,14 +1,15 @@
-//! Splits a formula into cubes: the units that hold from the start, the variable that a cube is split on, and the trees that
-//! are grown by it.
+//! Splits a formula into cubes: the preamble (unit clauses and defined variables), the variable that a cube is split on, and the
+//! splitting tree.
 //!
-//! What a layer above may rest on: the preamble is the unit of each pure literal, `choose` is the split rule, and `tree`
-//! splits by it as deep as it is told to. Nothing of the tables that count shows.
+//! What a layer above may rest on: `preamble` is the unit clause of each pure literal, `choose` is the split rule, and `tree` splits by
+//! this rule down to the depth that it is given. The tables that count are private.
 #![tactic(auto)]
 
 mod chooser;
+mod cooccurrences;
 mod definitions;
 mod descent;
-mod gathering;
+mod frequent_pairs;
 mod greatest;
 mod laws;
 mod marks;
@@ -17,8 +18,7 @@ mod opened;
 mod pair;
 mod places;
 mod pure;
-mod ranking;
-mod splitting;
+mod split_tree;
 mod tally;
 mod units;
 mod walk;
@@ -28,5 +28,5 @@ pub use laws::{choices_are_free, definitions_are_settled, units_are_rat, without
 pub use opened::Opened;
 pub use pair::Pair;
 pub use pure::{preamble, preamble_with};
-pub use splitting::{grow, tree, tree_with};
+pub use split_tree::{grow, tree, tree_with};
 pub use units::{Preamble, base_or};

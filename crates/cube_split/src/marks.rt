@@ -1,4 +1,4 @@
-//! A table that says of each literal whether it was marked.
+//! Tables of marks, one for each literal.
 
 ghost use Rattle.std.specs.Prelude.{◌≡◌, ◌+◌, ◌*◌, ◌<◌, ◌≤◌, ◌↔◌, IfOk, ◌||◌, ◌&&◌, length, IsTrue, Bool, All, not, false};
 ghost use Rattle.std.specs.List.{list_any};
@@ -8,7 +8,7 @@ ghost use Rattle.cube_split.specs.inner.Marks.{AreMarked};
 use dimacs::Lit;
 use std::alloc::{AllocError, Global};
 
-/// Marks literals; those beyond the table are passed over.
+/// Marks literals. A literal outside the table is ignored.
 pub(crate) fn mark(marks: &mut [bool], literals: &[Lit])
     ensures { (test : Literal → Bool) → AreMarked marks.old test → AreMarked marks.new (λ l. test l || has literals.now l) }
 {
@@ -20,7 +20,7 @@ pub(crate) fn mark(marks: &mut [bool], literals: &[Lit])
     }
 }
 
-/// The marks of some literals, by which each variable up to `vars` has two places.
+/// A table for the variables up to `vars`, in which these literals are marked.
 pub(crate) fn marks_of(alloc: Global, literals: &[Lit], vars: u32) -> Result<Vec<bool>, AllocError>
     requires { vars ≤ 1000064 }
     ensures marked { IfOk result (λ m. AreMarked m.items (has literals.now)) }
@@ -31,7 +31,7 @@ pub(crate) fn marks_of(alloc: Global, literals: &[Lit], vars: u32) -> Result<Vec
     Ok(marks)
 }
 
-/// Takes the marks of literals away; those beyond the table are passed over.
+/// Clears the marks of literals. A literal outside the table is ignored.
 pub(crate) fn unmark(marks: &mut [bool], literals: &[Lit])
     ensures { (test : Literal → Bool) → AreMarked marks.old test → AreMarked marks.new (λ l. test l && not (has literals.now l)) }
 {

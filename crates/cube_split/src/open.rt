@@ -1,4 +1,5 @@
-//! Which clauses are open, and in how many of them each variable stands.
+//! Closes and reopens clauses along a walk, and counts by variable the open clauses in which it occurs. A clause is open if it has no
+//! literal of units and trail.
 
 ghost use Rattle.std.specs.Prelude.{◌≡◌, ℕ, ◌+◌, ◌<◌, ◌≤◌, length, map, cond, slice_index, All};
 ghost use Rattle.dimacs.specs.logic.Literal.{var_of, index_of};
@@ -9,7 +10,7 @@ ghost use Rattle.cube_split.specs.inner.Places.{clause_of, places_of};
 use crate::places::{Place, Places};
 use dimacs::Lit;
 
-/// Takes a clause out of the counts of its variables.
+/// Takes a clause out of the counts: one less for each of its variables.
 fn withdraw(counts: &mut [usize], places: &[Place])
     requires within { All (λ e. var_of e.literal < length counts.old) places.now }
     requires flagged { AreFlagged (map (λ e. e.literal) places.now) places.now }
@@ -23,7 +24,7 @@ fn withdraw(counts: &mut [usize], places: &[Place])
     }
 }
 
-/// Puts a clause into the counts of its variables.
+/// Puts a clause back into the counts: one more for each of its variables.
 fn restore(counts: &mut [usize], places: &[Place])
     requires within { All (λ e. var_of e.literal < length counts.old) places.now }
     requires flagged { AreFlagged (map (λ e. e.literal) places.now) places.now }
@@ -48,7 +49,7 @@ fn clause_places(places: &Places, clause: u32) -> &[Place]
     &places.places[start..end]
 }
 
-/// Closes the open clauses that hold a literal, at this level.
+/// Closes, at this level, the open clauses that contain a literal.
 pub(crate) fn close(
     places: &Places,
     closed: &mut [u32],
@@ -76,7 +77,7 @@ pub(crate) fn close(
     }
 }
 
-/// Opens the clauses that hold a literal and were closed at this level.
+/// Reopens the clauses that contain a literal and were closed at this level.
 pub(crate) fn reopen(
     places: &Places,
     closed: &mut [u32],

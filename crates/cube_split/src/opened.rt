@@ -11,16 +11,15 @@ use dimacs::Formula;
 use std::alloc::{AllocError, Global};
 use std::marker::Model;
 
-/// A formula with its preamble: the units of its pure literals, and as many definitions as are wanted, or fewer where no pair is left.
-/// Whoever begins several machines on one formula finds the preamble once.
+/// A formula with its preamble: the units of its pure literals, and as many definitions as wanted, or fewer if no pair is left.
+/// Several machines can begin on one of these, so that the preamble is computed once.
 pub struct Opened {
     formula: Formula,
-    // how many definitions are wanted, at most 64
+    // how many definitions are wanted, 0 to 64
     defs: u32,
     preamble: Preamble,
 }
 
-// By hand, so that whoever owns one drops it by one call, and no proof there goes through its parts.
 impl Drop for Opened {
     fn drop(self) {
         let Opened {
@@ -44,7 +43,7 @@ impl Model for Opened {
 }
 
 impl Opened {
-    /// The formula with as many definitions as this, 0 to 64, or fewer where no pair is left.
+    /// The formula with `defs` definitions, 0 to 64, or fewer if no pair is left.
     pub fn of(alloc: Global, formula: Formula, defs: u32) -> Result<Opened, AllocError>
         requires { defs ≤ 64 }
         ensures formula { IfOk result (λ o. o.formula ≡ formula) }

@@ -1,4 +1,4 @@
-//! Pairs of literals, and the numbers by which they are counted and ranked.
+//! Pairs of literals, the keys by which they are counted, and the ranks by which they are chosen.
 
 ghost use Rattle.std.specs.Prelude.{◌≡◌, ℕ, ◌+◌, ◌*◌, ◌<◌, ◌≤◌, ◌%◌, ◌/◌, ◌^◌, map, length, All, IfOk};
 ghost use Rattle.dimacs.specs.logic.Literal.{var_of};
@@ -8,26 +8,26 @@ ghost use Rattle.cube_split.specs.inner.Ranks.{key_of, rank_of, pair_of, pair_ra
 use dimacs::{Lit, Var};
 use std::alloc::{AllocError, Global};
 
-/// Two literals, the one of the lower variable first.
+/// Two literals of different variables, that of the lower variable first.
 #[derive(Clone, Copy)]
 pub struct Pair {
     pub first: Lit,
     pub second: Lit,
 }
 
-/// Above every variable of a formula.
-const VARIABLES: u64 = 1 << 20;
-/// Above the key of every pair.
-const KEYS: u64 = 1 << 42;
-/// Above the number of clauses of every formula.
-const COUNTS: u64 = (1 << 22) - 1;
+/// Every variable is below: 27 bits of a key for each of the two.
+const VARIABLES: u64 = 1 << 27;
+/// Every key is below: two variables and two signs, 56 bits.
+const KEYS: u128 = 1 << 56;
+/// No count is above, as there are no more clauses.
+const COUNTS: u64 = (1 << 27) - 1;
 
 impl Pair {
-    /// Its key. Keys rise by the first variable, then by the second, then a positive literal comes before a negative one, the
-    /// first literal's sign before the second's.
+    /// Its key: from the highest bits down the first variable, the second variable, the first literal's sign, the second's
+    /// (1 for negative). So keys are in the order of pairs.
     pub(crate) fn key(self) -> u64
-        requires first { var_of self.first < 1048576 }
-        requires second { var_of self.second < 1048576 }
+        requires first { var_of self.first < 134217728 }
+        requires second { var_of self.second < 134217728 }
         ensures { result ≡ key_of self }
     {
         let first = u64::from(self.first.var().number());
@@ -38,12 +38,12 @@ impl Pair {
     }
 
     /// The pair of a rank.
-    fn of_rank(rank: u64) -> Pair
-        requires first { 4194304 ≤ rank % 4398046511104 }
-        requires second { 0 < rank % 4398046511104 / 4 % 1048576 }
+    fn of_rank(rank: u128) -> Pair
+        requires first { 536870912 ≤ rank % 72057594037927936 }
+        requires second { 0 < rank % 72057594037927936 / 4 % 134217728 }
         ensures { result ≡ pair_ranked rank }
     {
-        let key = rank % KEYS;
+        let key = (rank % KEYS) as u64;
         Pair {
             first: literal(key / (4 * VARIABLES), key / 2 % 2),
             second: literal(key / 4 % VARIABLES, key % 2),
@@ -51,7 +51,7 @@ impl Pair {
     }
 }
 
-/// The literal of a variable, negative unless the sign is 0.
+/// The literal of a variable: positive if the sign is 0, else negative.
 fn literal(variable: u64, sign: u64) -> Lit
     requires some { 0 < variable }
     requires below { variable < 2 ^ 31 }
@@ -65,17 +65,18 @@ fn literal(variable: u64, sign: u64) -> Lit
     }
 }
 
-/// The rank of a key that was counted so often: the more often the lower, and then by the key.
-pub(crate) fn rank(count: u64, key: u64) -> u64
-    requires { key < 4398046511104 }
+/// The rank of a key that occurred `count` times: keys of higher counts have lower ranks, and keys of one count are in their order.
+/// The count's 27 bits are above the key's 56.
+pub(crate) fn rank(count: u64, key: u64) -> u128
+    requires { key < 72057594037927936 }
     ensures { result ≡ rank_of count key }
 {
-    COUNTS.saturating_sub(count) * KEYS + key
+    u128::from(COUNTS.saturating_sub(count)) * KEYS + u128::from(key)
 }
 
-/// The pairs of some ranks.
-pub(crate) fn pairs_of(alloc: Global, ranks: &[u64]) -> Result<Vec<Pair>, AllocError>
-    requires { All (λ r. (4194304 ≤ r % 4398046511104) × (0 < r % 4398046511104 / 4 % 1048576)) ranks.now }
+/// The pair of each rank.
+pub(crate) fn pairs_of(alloc: Global, ranks: &[u128]) -> Result<Vec<Pair>, AllocError>
+    requires { All (λ r. (536870912 ≤ r % 72057594037927936) × (0 < r % 72057594037927936 / 4 % 134217728)) ranks.now }
     ensures { IfOk result (λ pairs. pairs.items ≡ map pair_ranked ranks.now) }
 {
     let mut pairs = Vec::new(alloc);

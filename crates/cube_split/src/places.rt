@@ -1,4 +1,4 @@
-//! Where each literal stands in a formula.
+//! Occurrence lists: for each literal the places where it occurs in a formula, as a linked list through one array.
 
 ghost use Rattle.std.specs.Prelude.{◌≡◌, ℕ, ◌+◌, ◌*◌, ◌<◌, ◌≤◌, ◌++◌, List, [], ◌∷◌, length, slice_index, All, IfOk, OnOk};
 ghost use Rattle.dimacs.specs.logic.Literal.{var_of, index_of};
@@ -7,28 +7,27 @@ ghost use Rattle.cube_split.specs.inner.Places.{ArePlaced, AreChained, Appends};
 use dimacs::{Formula, Lit};
 use std::alloc::{AllocError, Global};
 
-/// One place at which a literal stands in a formula.
+/// An occurrence of a literal in a formula.
 #[derive(Clone, Copy)]
 pub(crate) struct Place {
     pub literal: Lit,
-    /// The clause that it stands in, from 0.
+    /// The number of its clause, from 0.
     pub clause: u32,
-    /// The place before this one where the same literal stood last, from 1; 0 where there is none.
+    /// The previous place of the same literal, from 1; 0 if there is none.
     pub before: u32,
-    /// Whether no literal before it in its clause is of its variable.
+    /// Whether no literal before it in its clause has its variable, so that a clause counts once for a variable.
     pub first: bool,
 }
 
-/// The places of a formula's literals, clause behind clause.
+/// The places of a formula's literals, clause after clause.
 pub(crate) struct Places {
     pub places: Vec<Place>,
-    /// By clause, its first place; and behind the last clause the number of places.
+    /// By clause, its first place; after the last clause the number of places.
     pub starts: Vec<u32>,
-    /// By literal, the place where it stands last, from 1; 0 where it stands nowhere.
+    /// By literal, its last place, from 1; 0 if it does not occur.
     pub latest: Vec<u32>,
 }
 
-// By hand, so that whoever owns one drops it by one call, and no proof there goes through its parts.
 impl Drop for Places {
     fn drop(self) {
         let Places {
@@ -39,7 +38,7 @@ impl Drop for Places {
     }
 }
 
-/// Appends the places of a clause. `last` says in which clause each variable stood last, from 1.
+/// Appends the places of a clause. By variable, `last` has the last clause in which it occurred so far, from 1.
 fn append_clause(
     places: &mut Vec<Place>,
     latest: &mut [u32],
@@ -90,7 +89,7 @@ fn append_clauses(
     ensures chained { OnOk result (AreChained places.new.items latest.new) }
     ensures within { OnOk result (All (λ e. var_of e.literal < length last.old) places.new.items) }
 {
-    let _ = formula.vars(); // with it comes that the formula is within its limits
+    let _ = formula.vars(); // a model's invariant: the formula is within its limits
     for i in 0..formula.len() {
         append_clause(places, latest, last, formula.clause(i), i as u32)?;
         starts.push(places.len() as u32)?;
@@ -99,7 +98,7 @@ fn append_clauses(
 }
 
 impl Places {
-    /// The places of a formula's literals, with so many rows for variables.
+    /// The places of a formula's literals, with tables of `rows` variables, 0 included.
     pub(crate) fn of(alloc: Global, formula: &Formula, rows: usize) -> Result<Places, AllocError>
         requires rows { (formula.now.vars < rows) × (rows ≤ 1000065) }
         ensures placed { IfOk result (λ p. ArePlaced formula.now.clauses (length formula.now.clauses) p.places.items p.starts.items) }

@@ -1,4 +1,4 @@
-//! Counts in how many clauses each variable stands.
+//! Counts in how many clauses each variable occurs.
 
 ghost use Rattle.std.specs.Prelude.{◌≡◌, ◌≢◌, ℕ, ◌+◌, ◌*◌, ◌<◌, ◌≤◌, ◌⊎◌, length, slice_index, take, All, Bool, IfOk, cond, count_by, not, ◌&&◌};
 ghost use Rattle.std.specs.List.{list_any};
@@ -11,21 +11,21 @@ use crate::marks::is_apart;
 use dimacs::{Formula, Lit, Var};
 use std::alloc::{AllocError, Global};
 
-/// In how many clauses each variable stands. What clears it costs as much as what was counted, however many variables there are.
+/// In how many clauses each variable occurs. Clearing costs as much as counting did, independent of the number of variables.
 #[derive(Drop)]
 pub(crate) struct Tally {
-    /// By variable, its clauses.
+    /// By variable, how many clauses.
     pub counts: Vec<usize>,
-    /// By variable, the number of the last of its clauses; 0 where it stands in none.
+    /// By variable, the number of the last of its clauses; 0 if it occurs in none.
     pub last: Vec<usize>,
-    /// In front, the variables that stand in a clause, in the order in which they came.
+    /// The first `len` entries are the variables that occur in a clause, in the order in which they came.
     pub met: Vec<Var>,
-    /// How many these are.
+    /// How many variables occur in a clause.
     pub len: usize,
 }
 
 impl Tally {
-    /// Nothing counted, with a row for each number below `rows`.
+    /// Every count 0, for variables below `rows`.
     pub(crate) fn new(alloc: Global, rows: usize) -> Result<Tally, AllocError>
         requires { 0 < rows }
         ensures { IfOk result (IsClear rows) }
@@ -38,7 +38,7 @@ impl Tally {
         })
     }
 
-    /// Counts the clause of this number for a variable that stands in it, unless it counted for it before.
+    /// Counts the clause of this number for one of its variables, unless the clause counted for this variable before.
     fn meet(&mut self, var: Var, number: usize)
         requires tally { IsTally self.old }
         requires inside { var < length self.old.counts.items }
@@ -55,14 +55,14 @@ impl Tally {
         if self.last[row] == number {
             return;
         }
-        // Behind the variables there is room for one more, which counts only where it is new.
+        // No branch: the variable is always written after the others, and `len` grows only if it is new.
         self.met[self.len] = var;
         self.len += (self.last[row] == 0) as usize;
         self.last[row] = number;
         self.counts[row] += 1;
     }
 
-    /// Counts a clause for each variable that stands in it, once.
+    /// Counts a clause once for each of its variables.
     fn count_clause(&mut self, clause: &[Lit], number: usize)
         requires tally { IsTally self.old }
         requires within { All (λ l. var_of l < length self.old.counts.items) clause.now }
@@ -79,7 +79,7 @@ impl Tally {
         }
     }
 
-    /// Counts for each variable the clauses in which it stands and no literal is marked. Nothing is counted before.
+    /// Counts for each variable the clauses in which it occurs and no literal is marked. All counts are 0 before.
     pub(crate) fn count_clauses(&mut self, marks: &[bool], formula: &Formula)
         requires clear { IsClear (length self.old.counts.items) self.old }
         requires marks { length marks.now ≡ 2 * length self.old.counts.items }
@@ -97,7 +97,7 @@ impl Tally {
         }
     }
 
-    /// The variables that stand in a clause.
+    /// The variables that occur in a counted clause.
     pub(crate) fn variables(&self) -> &[Var]
         requires { IsTally self.now }
         ensures { AreListed self.now.counts.items result.now }
@@ -105,7 +105,7 @@ impl Tally {
         &self.met[..self.len]
     }
 
-    /// The variables that stand in a clause, and the counts.
+    /// The variables that occur in a counted clause, and the counts.
     pub(crate) fn into_parts(self) -> (Vec<Var>, Vec<usize>)
         requires { IsTally self }
         ensures listed { AreListed self.counts.items result.0.items }
@@ -116,7 +116,7 @@ impl Tally {
         (variables, self.counts)
     }
 
-    /// Takes all counts away.
+    /// Sets all counts to 0.
     pub(crate) fn clear(&mut self)
         requires { IsTally self.old }
         ensures { IsClear (length self.old.counts.items) self.new }
@@ -126,7 +126,7 @@ impl Tally {
     }
 }
 
-/// Clears the rows of these variables.
+/// Sets the rows of these variables to 0.
 fn clear(counts: &mut [usize], last: &mut [usize], variables: &[Var])
     requires last { length last.old ≡ length counts.old }
     requires within { All (λ v. v < length counts.old) variables.now }

@@ -1,19 +1,19 @@
-//! What may be added to a formula before it is split: unit clauses, and definitions.
+//! The preamble: what is added to a formula before it is split, unit clauses and definitions.
 
 ghost use Rattle.std.specs.Prelude.{◌≡◌, ◌↔◌, ◌+◌, ◌*◌, ◌≤◌, ◌++◌, ◌∷◌, [], None, length, unwrap_or, All, IfOk, OnOk, OnErr};
 ghost use Rattle.dimacs.specs.logic.Base.{pure_literals, base_of};
 ghost use Rattle.dimacs.specs.logic.Cnf.{IsFormula, literal_count};
 ghost use Rattle.dimacs.specs.logic.Literal.{IsWithin};
 ghost use Rattle.cube_split.specs.Definitions.{IsPairOf, all_clauses, base_with, opened, pure_opening, with_definitions};
-ghost use Rattle.cube_split.specs.Splitting.{with_units};
+ghost use Rattle.cube_split.specs.SplitTree.{with_units};
 
 use crate::pair::Pair;
 use dimacs::{Base, Formula, Lit, Var};
 use std::alloc::{AllocError, Global};
 use std::marker::Model;
 
-/// What may be added to a formula before it is split: the literals of unit clauses, as many as it has variables at most, and
-/// behind them the pairs that are defined, 64 at most, the first by the variable behind the formula's.
+/// What is added to a formula before it is split: the literals of unit clauses, at most one for each variable, and the pairs for which
+/// variables are defined, at most 64. The first pair defines the variable after the formula's last one, and so on.
 #[derive(Drop)]
 pub struct Preamble {
     units: Vec<Lit>,
@@ -48,7 +48,7 @@ impl Preamble {
         &self.units
     }
 
-    /// The pairs that are defined, each by the variable behind the one before.
+    /// The pairs for which variables are defined: pair i, from 0, defines the variable `vars` + 1 + i.
     pub fn pairs(&self) -> &[Pair]
         ensures value { result.now ≡ self.now.pairs }
         ensures limit { length result.now ≤ 64 }
@@ -61,19 +61,19 @@ impl Preamble {
         requires units { All (IsWithin formula.now.vars) self.now.units }
         requires pairs { All (IsPairOf formula.now.vars) self.now.pairs }
         ensures opened { IfOk result (λ b. b ≡ opened formula.now self.now) }
-        // The base of the formula, where these are its own units.
+        // With the formula's own pure literals as units it is the base that the formula's definition says.
         ensures base { self.now.units ≡ pure_literals formula.now → IfOk result (λ b. b ≡ base_with formula.now self.now.pairs) }
-        // And without definitions.
+        // The same without definitions.
         ensures plain { self.now ≡ pure_opening formula.now → IfOk result (λ b. b ≡ base_of formula.now) }
     {
-        let _ = formula.vars(); // with it comes that the formula is within its limits
+        let _ = formula.vars(); // a model's invariant: the formula is within its limits
         append_definitions(
             append_units(Base::of(alloc, formula)?, &self.units)?,
             &self.pairs,
         )
     }
 
-    /// The same; `None` where nothing is added, and the formula is its own base, which takes no memory.
+    /// The same; `None` if nothing is added, so that the formula is its own base, which takes no memory.
     pub fn own_base(&self, alloc: Global, formula: &Formula) -> Result<Option<Base>, AllocError>
         requires units { self.now.units ≡ pure_literals formula.now }
         requires pairs { All (IsPairOf formula.now.vars) self.now.pairs }
@@ -88,7 +88,7 @@ impl Preamble {
     }
 }
 
-/// What was made of a formula by [`Preamble::own_base`], as a base.
+/// The base that [`Preamble::own_base`] answered, or the formula itself.
 pub fn base_or<'a>(own: &'a Option<Base>, formula: &'a Formula) -> &'a Base
     ensures { result.now ≡ unwrap_or own.now formula.now }
 {
@@ -98,7 +98,7 @@ pub fn base_or<'a>(own: &'a Option<Base>, formula: &'a Formula) -> &'a Base
     }
 }
 
-/// Appends unit clauses to a base that is a formula alone.
+/// Appends unit clauses to a base that is a formula.
 fn append_units(front: Base, units: &[Lit]) -> Result<Base, AllocError>
     requires formula { IsFormula front }
     requires limit { length units.now ≤ 1000000 }
@@ -112,7 +112,7 @@ fn append_units(front: Base, units: &[Lit]) -> Result<Base, AllocError>
     Ok(base)
 }
 
-/// Appends the clauses that define a variable by a pair of lower ones.
+/// Appends the three clauses that define a variable as the conjunction of a pair of literals of lower variables.
 fn push_definition(base: &mut Base, variable: Var, pair: Pair) -> Result<(), AllocError>
     requires pair { IsPairOf variable pair }
     requires variable { variable ≤ base.old.vars }
@@ -127,7 +127,7 @@ fn push_definition(base: &mut Base, variable: Var, pair: Pair) -> Result<(), All
     Ok(())
 }
 
-/// Appends the clauses that define a variable by each pair, and adds these variables.
+/// Adds a variable for each pair, and appends the clauses that define it.
 fn append_definitions(front: Base, pairs: &[Pair]) -> Result<Base, AllocError>
     requires vars { front.vars ≤ 1000000 }
     requires clauses { length front.clauses ≤ 5000000 }

@@ -1,4 +1,4 @@
-//! A walk along literals: the clauses that they leave open, and which variable stands in the most of these.
+//! A walk along literals: which clauses they leave open, and which variable occurs in the most of these.
 
 ghost use Rattle.std.specs.Prelude.{◌≡◌, ℕ, ◌+◌, ◌*◌, ◌<◌, ◌≤◌, ◌++◌, ◌∷◌, ◌&&◌, not, Bool, List, [], length, slice_index, count_by, All, IfOk};
 ghost use Rattle.std.specs.List.{list_any};
@@ -9,7 +9,7 @@ ghost use Rattle.cube_split.specs.Choice.{Choice, has_variable};
 ghost use Rattle.cube_split.specs.inner.Marks.{AreMarked};
 ghost use Rattle.cube_split.specs.inner.Tallies.{IsTally};
 ghost use Rattle.cube_split.specs.Definitions.{IsPairOf};
-ghost use Rattle.cube_split.specs.inner.Walking.{StandsAt, IsClosedBy, from_start, widened};
+ghost use Rattle.cube_split.specs.inner.WalkInvariant.{IsWalkAt, IsClosedBy, from_start, widened};
 
 use crate::definitions::mark_held;
 use crate::greatest::greatest;
@@ -24,20 +24,18 @@ use std::alloc::{AllocError, Global};
 /// The tables of a walk.
 pub(crate) struct Walk {
     pub places: Places,
-    /// The variables that stand in clauses apart from the units.
+    /// The variables that occur in a clause that has none of the units.
     pub variables: Vec<Var>,
-    /// By literal, whether it is one of the units or of the trail.
+    /// By literal, whether it is a unit or on the trail.
     pub marks: Vec<bool>,
-    /// By clause, the level at which it was closed: 1 by the units, 2 by the first literal of the trail, and so on; 0 while it
-    /// is open.
+    /// By clause, the level at which it was closed: 1 by the units, 2 by the first literal of the trail, and so on; 0 if it is open.
     pub closed: Vec<u32>,
-    /// By variable, in how many open clauses it stands.
+    /// By variable, in how many open clauses it occurs.
     pub counts: Vec<usize>,
-    /// The level of the next literal.
+    /// The level of the next literal that is entered.
     pub level: u32,
 }
 
-// By hand, so that whoever owns one drops it by one call, and no proof there goes through its parts.
 impl Drop for Walk {
     fn drop(self) {
         let Walk {
@@ -51,12 +49,12 @@ impl Drop for Walk {
     }
 }
 
-/// By clause, whether it holds a literal that is marked: 1 or 0.
+/// By clause, 1 if it contains a marked literal, else 0.
 fn closed_by_units(alloc: Global, marks: &[bool], formula: &Formula) -> Result<Vec<u32>, AllocError>
     requires { 2 * formula.now.vars + 1 < length marks.now }
     ensures { IfOk result (λ v. (test : Literal → Bool) → AreMarked marks.now test → IsClosedBy test formula.now.clauses v.items) }
 {
-    let _ = formula.vars(); // with it comes that the formula is within its limits
+    let _ = formula.vars(); // a model's invariant: the formula is within its limits
     let mut closed = Vec::new(alloc);
     for i in 0..formula.len() {
         let level = if is_apart(marks, formula.clause(i)) {
@@ -69,7 +67,7 @@ fn closed_by_units(alloc: Global, marks: &[bool], formula: &Formula) -> Result<V
     Ok(closed)
 }
 
-/// Counts for each variable the clauses without a marked literal in which it stands.
+/// Counts for each variable the clauses without a marked literal in which it occurs.
 fn tally_of(
     alloc: Global,
     marks: &[bool],
@@ -89,14 +87,14 @@ fn tally_of(
 }
 
 impl Walk {
-    /// A walk that has not gone anywhere, over the preamble's units and what they hold.
+    /// A walk at the root: the trail is empty, and what holds are the preamble's units and the pairs of those that are defined variables.
     pub(crate) fn begin(
         alloc: Global,
         formula: &Formula,
         preamble: &Preamble,
     ) -> Result<Walk, AllocError>
         requires { All (IsPairOf formula.now.vars) preamble.now.pairs }
-        ensures { IfOk result (λ s. StandsAt (widened formula.now preamble.now) (from_start formula.now preamble.now) [] s) }
+        ensures { IfOk result (λ s. IsWalkAt (widened formula.now preamble.now) (from_start formula.now preamble.now) [] s) }
     {
         let vars = formula.vars();
         let pairs = preamble.pairs();
@@ -118,18 +116,18 @@ impl Walk {
         })
     }
 
-    /// The variable without a literal in units and trail that stands in the most open clauses.
+    /// Of the variables without a literal in units and trail the one that occurs in the most open clauses.
     pub(crate) fn choice(&self) -> Option<Var>
-        requires { (f : Cnf) × (units : List Literal) × (trail : Cube) × StandsAt f units trail self.now }
-        ensures { (f : Cnf) (units : List Literal) (trail : Cube) → StandsAt f units trail self.now → Choice f (units ++ trail) result }
+        requires { (f : Cnf) × (units : List Literal) × (trail : Cube) × IsWalkAt f units trail self.now }
+        ensures { (f : Cnf) (units : List Literal) (trail : Cube) → IsWalkAt f units trail self.now → Choice f (units ++ trail) result }
     {
         greatest(&self.marks, &self.counts, &self.variables)
     }
 
-    /// Goes on along a literal.
+    /// Puts a literal on the trail, and closes the clauses that contain it.
     pub(crate) fn enter(&mut self, literal: Lit)
-        requires { (f : Cnf) × (units : List Literal) × (trail : Cube) × StandsAt f units trail self.old × (var_of literal ≤ f.vars) × (length trail ≤ 1000) }
-        ensures { (f : Cnf) (units : List Literal) (trail : Cube) → StandsAt f units trail self.old → StandsAt f units (trail ++ literal ∷ []) self.new }
+        requires { (f : Cnf) × (units : List Literal) × (trail : Cube) × IsWalkAt f units trail self.old × (var_of literal ≤ f.vars) × (length trail ≤ 1000) }
+        ensures { (f : Cnf) (units : List Literal) (trail : Cube) → IsWalkAt f units trail self.old → IsWalkAt f units (trail ++ literal ∷ []) self.new }
     {
         self.marks[literal.index()] = true;
         close(
@@ -142,10 +140,10 @@ impl Walk {
         self.level += 1;
     }
 
-    /// Goes back along this literal, the last of the trail and the only one of its variable.
+    /// Takes this literal, the last one, off the trail, and reopens the clauses that it closed. It is the only one of its variable.
     pub(crate) fn leave(&mut self, literal: Lit)
-        requires { (f : Cnf) × (units : List Literal) × (trail : Cube) × StandsAt f units (trail ++ literal ∷ []) self.old × IsFree (units ++ trail) (var_of literal) × (var_of literal ≤ f.vars) }
-        ensures { (f : Cnf) (units : List Literal) (trail : Cube) → StandsAt f units (trail ++ literal ∷ []) self.old → IsFree (units ++ trail) (var_of literal) → StandsAt f units trail self.new }
+        requires { (f : Cnf) × (units : List Literal) × (trail : Cube) × IsWalkAt f units (trail ++ literal ∷ []) self.old × IsFree (units ++ trail) (var_of literal) × (var_of literal ≤ f.vars) }
+        ensures { (f : Cnf) (units : List Literal) (trail : Cube) → IsWalkAt f units (trail ++ literal ∷ []) self.old → IsFree (units ++ trail) (var_of literal) → IsWalkAt f units trail self.new }
     {
         self.level -= 1;
         self.marks[literal.index()] = false;

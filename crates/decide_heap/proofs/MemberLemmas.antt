@@ -1,4 +1,4 @@
--- Which variables are in, after an exchange and after moves among those that are in.
+-- Which variables are in the heap, after an exchange and after moves among its first places.
 use Rattle.std.proofs.Common.{◌≡◌, ◌≢◌, ◌⊎◌, inl, inr, ℕ, ◌+◌, ◌<◌, ◌≤◌, Bool, true, false, List, length, get_or, set, sym, ap, ◌∙◌, arith, ⊎_elim, nat_lt}
 use Rattle.std.proofs.lemmas.Bool.{cases_eq, cases_lt, lt-ltb, le-ltb}
 use Rattle.std.proofs.lemmas.List.{get_or-set_same, get_or-set_other, get_or-map, length-set, length-map, ext_get_or}
@@ -21,7 +21,7 @@ members_by places new len long same =
           let lt' : v < length new = omega arith in
           member_at new len v lt' ∙ same v lt ∙ sym (member_at places len v lt)
 
--- the same tests but for one variable
+-- the same tests except one variable
 pub members_set : (places new : List ℕ) (len more var : ℕ) (b : Bool) → length new ≡ length places → var < length places → nat_lt (get_or new var 0) more ≡ b
     → ((v : ℕ) → v < length places → v ≢ var → nat_lt (get_or new v 0) more ≡ nat_lt (get_or places v 0) len) → members_of new more ≡ set (members_of places len) var b
 members_set places new len more var b long lt one same =
@@ -69,7 +69,7 @@ place_after heap places new_heap new_places i j v p q long s lt ni nj =
     let is : v ≡ get_or heap r 0 = sym (q.there v lt') ∙ s.others r ni nj in
     ap (λ w. get_or places w 0) is ∙ p.place r (omega (arith, q.within v lt'))
 
--- a variable from behind the first len places comes to the first place behind them
+-- a variable from after the first len places comes to the first place after them
 pub members_in : (heap places new_heap new_places : List ℕ) (len at : ℕ) → ArePaired heap places → ArePaired new_heap new_places → length new_heap ≡ length heap → AreSwapped heap new_heap at len
     → len ≤ at → at < length heap → members_of new_places (len + 1) ≡ set (members_of places len) (get_or heap at 0) true
 members_in heap places new_heap new_places len at p q long s out lt =

@@ -1,4 +1,4 @@
--- Moves in the heap, one after another, and the hole that a variable on its way leaves.
+-- Moves in the heap, one after another, and the hole that a sifted variable leaves.
 use Rattle.std.proofs.Common.{◌≡◌, ◌≢◌, ℕ, ◌<◌, ◌≤◌, List, length, get_or, set, refl, sym, ap, ◌∙◌, arith}
 use Rattle.std.proofs.lemmas.List.{get_or-set_other, length-set, set-get_or, get_or_read}
 use Rattle.decide_heap.specs.inner.Heap.{Tables, filled, AreRows, AreMoved}

@@ -1,4 +1,4 @@
--- Rows added behind the others.
+-- Rows added after the others.
 use Rattle.std.proofs.Common.{◌≡◌, ℕ, ◌+◌, ◌-◌, ◌^◌, ◌<◌, ◌≤◌, false, List, [], ◌∷◌, ◌++◌, length, replicate, get_or, sym, ap, ◌∙◌, arith, ⊎_elim, nat_lt, append_assoc, length-append}
 use Rattle.std.proofs.lemmas.Bool.{cases_lt, le-ltb}
 use Rattle.std.proofs.lemmas.List.{get_or_append_left, map-append, replicate-append-replicate}
@@ -8,11 +8,11 @@ use Rattle.decide_heap.specs.Heap.{members_of}
 use Rattle.decide_heap.specs.inner.Heap.{Tables, parent, ArePaired, IsHeap}
 use Rattle.decide_heap.proofs.OrderLemmas.{no_worse_at}
 
--- the entry behind a list
+-- the entry after a list
 at_end : (xs : List ℕ) (y n : ℕ) → n ≡ length xs → get_or (xs ++ y ∷ []) n 0 ≡ y
 at_end xs y n e = ap (λ k. get_or (xs ++ y ∷ []) k 0) e ∙ get_or-append_seam xs y [] 0
 
--- one more variable, behind all others
+-- one more variable, after all others
 pub paired_push : (heap places : List ℕ) (n : ℕ) → ArePaired heap places → n ≡ length heap → ArePaired (heap ++ n ∷ []) (places ++ n ∷ [])
 paired_push heap places n p e =
     let size = length-append heap (n ∷ []) in

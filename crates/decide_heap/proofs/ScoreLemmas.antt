@@ -1,13 +1,13 @@
--- The order of a heap where scores or members change.
+-- The heap order after scores or members change.
 use Rattle.std.proofs.Common.{◌≡◌, ◌≢◌, ℕ, ◌+◌, ◌-◌, ◌<◌, ◌≤◌, ◌^◌, List, length, get_or, set, refl, sym, ap, ◌∙◌, arith, ⊎_elim}
 use Rattle.std.proofs.lemmas.Bool.{cases_eq, cases_lt, cond_below, cond_above}
 use Rattle.std.proofs.lemmas.List.{get_or-set_same, get_or-set_other}
-use Rattle.decide_heap.specs.Decisions.{one_more}
+use Rattle.decide_heap.specs.Decisions.{saturating_successor}
 use Rattle.decide_heap.specs.inner.Heap.{Tables, parent, ArePaired, AreSwapped, IsOrdered, IsRising, IsHeap}
 use Rattle.decide_heap.proofs.OrderLemmas.{NoWorse, no_worse_at, no_worse_through}
 
 -- a score does not fall
-pub one_more_above : (n : ℕ) → n ≤ one_more n
+pub one_more_above : (n : ℕ) → n ≤ saturating_successor n
 one_more_above n = ⊎_elim
     (λ (lt : n < 2 ^ 64 - 1). let e = cond_below n (2 ^ 64 - 1) (n + 1) n lt in omega (arith, e))
     (λ (le : 2 ^ 64 - 1 ≤ n). let e = cond_above n (2 ^ 64 - 1) (n + 1) n n le refl in omega (arith, e))

@@ -1,7 +1,7 @@
--- The variables that wait to be decided, and in which order.
+-- The value of a decision heap: scores, members, and the order of decisions.
 use Rattle.std.specs.Prelude.{◌≡◌, ℕ, ◌+◌, ◌-◌, ◌^◌, ◌<◌, ◌≤◌, max, min, Bool, true, false, List, ◌++◌, replicate, slice_index, slice_index_or, slice_set, nat_lt, if◌then◌else◌}
 
--- how many variables there are, the score of each, that of variable 1 first, and whether each is in
+-- the number of variables; by variable, that of variable 1 first: the score, and whether the variable is in the heap
 pub record Decisions : Type 0 where
   pub vars : ℕ
   pub scores : List ℕ
@@ -15,30 +15,30 @@ IsWithin d v = (0 < v) × (v ≤ d.vars)
 abbrev pub score_of : Decisions → ℕ → ℕ
 score_of d v = slice_index d.scores (v - 1)
 
--- whether a variable is in
+-- whether a variable is in the heap
 abbrev pub is_in : Decisions → ℕ → Bool
 is_in d v = slice_index_or d.members (v - 1) false
 
--- v comes no later than w: by the greater score, and at the same score by the lower number
+-- v comes no later than w: the greater score comes first, and at the same score the lower number
 pub record IsNoWorse (score : ℕ → ℕ) (v w : ℕ) : Type 0 where
   pub greater : score w ≤ score v
   pub lower : score w ≡ score v → v ≤ w
 
--- v is in, and comes no later than any variable that is in
+-- v is in the heap, and comes no later than any variable in the heap
 pub record IsBest (d : Decisions) (v : ℕ) : Type 0 where
   pub within : IsWithin d v
   pub inside : is_in d v ≡ true
   pub first : (w : ℕ) → 0 < w → is_in d w ≡ true → IsNoWorse (score_of d) v w
 
--- one more, up to the greatest number of 64 bits
-abbrev pub one_more : ℕ → ℕ
-one_more n = if nat_lt n (2 ^ 64 - 1) then n + 1 else n
+-- n + 1, saturating at 2^64 - 1
+abbrev pub saturating_successor : ℕ → ℕ
+saturating_successor n = if nat_lt n (2 ^ 64 - 1) then n + 1 else n
 
--- so much more, up to the greatest number of 64 bits
-abbrev pub so_much_more : ℕ → ℕ → ℕ
-so_much_more n amount = min (n + amount) (2 ^ 64 - 1)
+-- n + amount, saturating at 2^64 - 1
+abbrev pub saturating_sum : ℕ → ℕ → ℕ
+saturating_sum n amount = min (n + amount) (2 ^ 64 - 1)
 
--- with room for the variables from 1 to vars: new ones have the score 0, and are not in
+-- with room for the variables from 1 to vars: new ones have the score 0, and are not in the heap
 abbrev pub with_room : Decisions → ℕ → Decisions
 with_room d vars = record {
   vars = max d.vars vars;
@@ -46,7 +46,7 @@ with_room d vars = record {
   members = d.members ++ replicate (vars - d.vars) false;
 }
 
--- with a variable in, or out
+-- with a variable in the heap, or out of it
 abbrev pub with_member : Decisions → ℕ → Bool → Decisions
 with_member d v inside = record d { members = slice_set d.members (v - 1) inside }
 

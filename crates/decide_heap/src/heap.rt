@@ -1,14 +1,14 @@
-//! The heap as its callers see it.
+//! The decision heap: its public calls.
 
 ghost use Rattle.std.specs.Prelude.{◌≡◌, ℕ, ◌+◌, ◌/◌, ◌^◌, ◌<◌, ◌≤◌, true, false, [], map, OnOk, OnErr, IfNone, IfSome};
-ghost use Rattle.decide_heap.specs.Decisions.{Decisions, IsWithin, IsBest, score_of, is_in, one_more, so_much_more, with_room, with_member, with_score};
+ghost use Rattle.decide_heap.specs.Decisions.{Decisions, IsWithin, IsBest, score_of, is_in, saturating_successor, saturating_sum, with_room, with_member, with_score};
 
 use crate::rows::Rows;
 use dimacs::Var;
 use std::alloc::{AllocError, Global};
 use std::marker::Model;
 
-/// Variables, each with a score and either in or out. Only `reserve` takes memory.
+/// A heap of variables by score. Each variable has a score, in the heap or out of it. Only `reserve` takes memory.
 #[derive(Drop)]
 pub struct DecideHeap {
     rows: Rows,
@@ -28,7 +28,7 @@ impl Model for DecideHeap {
 }
 
 impl DecideHeap {
-    /// No variable yet.
+    /// A heap without variables.
     pub fn new(alloc: Global) -> DecideHeap
         ensures { result ≡ record { vars = 0; scores = []; members = [] } }
     {
@@ -37,8 +37,8 @@ impl DecideHeap {
         }
     }
 
-    /// Makes room for the variables from 1 to `vars`: new ones have the score 0, and are not in. Want of memory leaves
-    /// all as it was.
+    /// Makes room for the variables from 1 to `vars`. New ones have the score 0, and are not in the heap. If memory is refused, nothing
+    /// changes.
     pub fn reserve(&mut self, vars: u32) -> Result<(), AllocError>
         requires { vars < 2 ^ 31 }
         ensures ok { OnOk result (self.new ≡ with_room self.old vars) }
@@ -49,16 +49,16 @@ impl DecideHeap {
         Ok(())
     }
 
-    /// Puts a variable in. One that is in stays.
+    /// Inserts a variable. Nothing changes if it is in the heap.
     pub fn insert(&mut self, var: Var)
         requires { IsWithin self.old var }
         ensures member { self.new ≡ with_member self.old var true }
         ensures inside { is_in self.new var ≡ true }
     {
-        self.rows.put_in(var.number() as usize - 1);
+        self.rows.insert_row(var.number() as usize - 1);
     }
 
-    /// Whether a variable is in.
+    /// Whether a variable is in the heap.
     #[inline]
     pub fn is_in(&self, var: Var) -> bool
         requires { IsWithin self.now var }
@@ -67,7 +67,7 @@ impl DecideHeap {
         (self.rows.places[var.number() as usize - 1] as usize) < self.rows.len
     }
 
-    /// The score of a variable, which it keeps while it is out.
+    /// The score of a variable, in the heap or out of it.
     #[inline]
     pub fn score(&self, var: Var) -> u64
         requires { IsWithin self.now var }
@@ -76,30 +76,30 @@ impl DecideHeap {
         self.rows.scores[var.number() as usize - 1]
     }
 
-    /// Adds one to the score of a variable, in or out. A score stays at 2^64 - 1.
+    /// Adds 1 to the score of a variable, in the heap or out of it. The score saturates at 2^64 - 1.
     pub fn bump(&mut self, var: Var)
         requires { IsWithin self.old var }
-        ensures { self.new ≡ with_score self.old var (one_more (score_of self.old var)) }
+        ensures { self.new ≡ with_score self.old var (saturating_successor (score_of self.old var)) }
     {
         self.rows.raise(var.number() as usize - 1);
     }
 
-    /// Adds to the score of a variable, in or out. A score is 2^64 - 1 at the most.
+    /// Adds `amount` to the score of a variable, in the heap or out of it. The score saturates at 2^64 - 1.
     pub fn add(&mut self, var: Var, amount: u64)
         requires { IsWithin self.old var }
-        ensures { self.new ≡ with_score self.old var (so_much_more (score_of self.old var) amount) }
+        ensures { self.new ≡ with_score self.old var (saturating_sum (score_of self.old var) amount) }
     {
         self.rows.raise_by(var.number() as usize - 1, amount);
     }
 
-    /// Halves all scores, rounding down. It takes time linear in the number of variables.
+    /// Halves all scores, rounding down. Linear in the number of variables.
     pub fn halve(&mut self)
         ensures { self.new ≡ record self.old { scores = map (λ n. n / 2) self.old.scores } }
     {
         self.rows.divide_all(2);
     }
 
-    /// Divides all scores, rounding down. It takes time linear in the number of variables.
+    /// Divides all scores by `by`, rounding down (rescoring). Linear in the number of variables.
     pub fn divide(&mut self, by: u64)
         requires { 0 < by }
         ensures { self.new ≡ record self.old { scores = map (λ n. n / by) self.old.scores } }
@@ -107,7 +107,7 @@ impl DecideHeap {
         self.rows.divide_all(by);
     }
 
-    /// Takes out the variable with the greatest score, and of several the lowest; None where no variable is in.
+    /// Removes the variable with the greatest score, of several the one with the lowest number. None if the heap is empty.
     pub fn pop_best(&mut self) -> Option<Var>
         ensures empty { IfNone result ((v : ℕ) → 0 < v → is_in self.old v ≡ false) }
         ensures none { IfNone result (self.new ≡ self.old) }
@@ -117,7 +117,7 @@ impl DecideHeap {
         if self.rows.len == 0 {
             return None;
         }
-        let best = self.rows.take_first();
+        let best = self.rows.pop_first();
         Some(Var::new(best + 1))
     }
 }

@@ -1,12 +1,12 @@
-//! The order in which a solver decides its variables: the one with the greatest score first, and of several the lowest.
-//! A score tells how often and how late the search met its variable: what is added grows, and all scores are divided from
-//! time to time (the activity of MiniSat's heuristic, Eén and Sörensson 2003). The layer above may rest on the
-//! contracts alone: how the variables lie in the heap does not show.
+//! The decision heap: a priority queue of variables by score (the activity of VSIDS, Eén and Sörensson 2003). The variable with the
+//! greatest score comes first, and of several the one with the lowest number. Scores are bumped by growing amounts and rescaled from
+//! time to time, so that they favour variables met often and lately. The layer above may rest on the contracts alone, which do not
+//! show how the variables lie in the heap.
 #![tactic(auto)]
 
 mod heap;
-mod moves;
 mod rows;
-mod sifting;
+mod sift;
+mod updates;
 
 pub use heap::DecideHeap;

@@ -1,4 +1,4 @@
-//! The tables, and rows for more variables.
+//! The heap's three tables, and their growth by rows for more variables.
 
 ghost use Rattle.std.specs.Prelude.{◌≡◌, ◌^◌, ◌<◌, [], OnOk};
 ghost use Rattle.decide_heap.specs.Decisions.{with_room};
@@ -6,8 +6,9 @@ ghost use Rattle.decide_heap.specs.inner.Heap.{tables_of, decisions_of, AreRows,
 
 use std::alloc::{AllocError, Global};
 
-/// A row for each variable, one below its number. `heap` holds each variable as its row, and `places` says where: the
-/// variables that are in stand first, as a binary heap of `len` entries, and those that are out behind them.
+/// Three tables with a row for each variable; the row of a variable is its number less 1. `heap` is a permutation of the rows: the first
+/// `len` are a binary heap of the variables that are in, and those that are out follow. `places` is its inverse: the place of each row
+/// in `heap`.
 #[derive(Drop)]
 pub struct Rows {
     pub heap: Vec<u32>,
@@ -17,7 +18,7 @@ pub struct Rows {
 }
 
 impl Rows {
-    /// No row.
+    /// Tables without rows.
     pub fn new(alloc: Global) -> Rows
         ensures { tables_of result ≡ record { heap = []; places = []; scores = []; len = 0 } }
     {
@@ -29,7 +30,7 @@ impl Rows {
         }
     }
 
-    /// Takes memory for `vars` rows, and changes nothing else.
+    /// Reserves memory for `vars` rows. The tables are unchanged.
     pub fn make_room(&mut self, vars: usize) -> Result<(), AllocError>
         requires { AreRows (tables_of self.old) }
         ensures same { tables_of self.new ≡ tables_of self.old }
@@ -42,7 +43,7 @@ impl Rows {
         Ok(())
     }
 
-    /// Adds rows up to `vars`: each new variable stands behind the others in the heap, out of it, and has the score 0.
+    /// Adds rows until there are `vars`. Each new variable is out of the heap, after the others, and has the score 0.
     pub fn add_rows(&mut self, vars: usize)
         requires limit { vars < 2 ^ 31 }
         requires heap { IsHeap (tables_of self.old) }

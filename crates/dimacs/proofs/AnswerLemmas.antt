@@ -5,7 +5,7 @@ use Rattle.std.proofs.lemmas.List.{drop_all}
 use Rattle.std.specs.Fmt.{signed_decimal}
 use Rattle.dimacs.specs.logic.Literal.{Pos, Neg, number_of}
 use Rattle.dimacs.specs.text.Answer.{true_literals}
-use Rattle.dimacs.specs.text.Spelling.{Begins}
+use Rattle.dimacs.specs.text.Grammar.{Begins}
 
 -- the items of the values from variable v on
 abbrev pub items_from : ℕ → List Bool → List (List ℕ)
@@ -23,7 +23,7 @@ items_step values i d h =
     let e : drop i values ≡ slice_index_or values i d ∷ drop (i + 1) values = rw add-one (drop-cons values i d h) in
     first_item (i + 1) (i + 1 + 1) (slice_index_or values i d) (drop i values) (drop (i + 1) values) refl e
 
--- behind the last value
+-- after the last value
 pub items_end : (values : List Bool) (i : ℕ) → length values ≤ i → items_from (i + 1) (drop i values) ≡ codes "0" ∷ []
 items_end values i h = rw (drop_all i values h) refl
 

@@ -3,8 +3,8 @@ use Rattle.std.proofs.Common.{◌≡◌, ℕ, zero, suc, ◌+◌, ◌-◌, ◌<�
 use Rattle.std.proofs.Math.Seq.{get_or-append_seam}
 use Rattle.std.proofs.lemmas.Bool.{cases_lt}
 use Rattle.std.proofs.lemmas.List.{take_all, drop_all, take-append-le, take-append-drop, drop-append-le, get_or_append_left, get_or_read}
-use Rattle.dimacs.specs.layout.Building.{Building}
-use Rattle.dimacs.specs.inner.Building.{IsLaid}
+use Rattle.dimacs.specs.layout.BuilderState.{BuilderState}
+use Rattle.dimacs.specs.inner.BuilderLayout.{IsLaid}
 use Rattle.dimacs.specs.logic.Cnf.{AreWithin, greatest_of, greatest_in}
 use Rattle.dimacs.proofs.WithinLemmas.{EachWithin, each_within}
 use Rattle.dimacs.specs.logic.Literal.{Literal, Clause, IsWithin, var_of}
@@ -13,7 +13,7 @@ use Rattle.std.proofs.lemmas.List.Elements.{All-weaker, All-push, All-nil}
 use Rattle.dimacs.specs.layout.Flat.{parts, ArePlaces, Fills, last_place}
 use Rattle.dimacs.proofs.FormulaLemmas.{places_tail}
 
-abbrev pub state : List Clause → Clause → ℕ → Building
+abbrev pub state : List Clause → Clause → ℕ → BuilderState
 state done open_clause total = record { done = done; open_clause = open_clause; total = total }
 
 slice_stays : (xs ys : List Literal) (a b : ℕ) → a ≤ b → b ≤ length xs → take (b - a) (drop a (xs ++ ys)) ≡ take (b - a) (drop a xs)
@@ -84,7 +84,7 @@ last_inside places len h = h.inside (length places - 1) (omega (arith, h.some))
 pub last_read : (places : List ℕ) (n r : ℕ) → n ≡ length places → 0 < length places → r ≡ get_or places (n - 1) r → r ≡ last_place places
 last_read places n r e some h = get_or_read places (n - 1) r (omega arith) h 0 ∙ ap (λ k. get_or places (k - 1) 0) e
 
--- behind the new end
+-- after the new end
 pub last_push : (places : List ℕ) (n : ℕ) → last_place (places ++ n ∷ []) ≡ n
 last_push places n =
     let at : length (places ++ n ∷ []) - 1 ≡ length places = omega (arith, length-append places (n ∷ [])) in
@@ -187,14 +187,14 @@ clauses_greatest : (vars : ℕ) (cs : List Clause) → EachWithin vars cs → gr
 clauses_greatest vars [] h = omega arith
 clauses_greatest vars (c ∷ cs) h = omega (arith, clause_greatest vars c h.0, clauses_greatest vars cs h.1)
 
--- literals within the variables, where no clause is open
+-- literals within the variables, if no clause is open
 pub closed_within : (xs : Clause) (places : List ℕ) (g vars : ℕ) → IsLaid xs places g → drop (last_place places) xs ≡ [] → AreWithin vars (parts xs places) → All (IsWithin vars) xs
 closed_within xs places g vars h closed w =
     let top = greatest_is xs places g h in
     let none = ap greatest_of closed in
     within_more g vars xs (omega (arith, top, none, clauses_greatest vars (parts xs places) (each_within vars (parts xs places) w))) h.within
 
--- they fill the list, where no clause is open
+-- they fill the list, if no clause is open
 pub closed_fills : (xs : Clause) (places : List ℕ) (g : ℕ) → IsLaid xs places g → drop (last_place places) xs ≡ [] → Fills xs places
 closed_fills xs places g h closed =
     let none = ap length closed in

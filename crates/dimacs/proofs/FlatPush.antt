@@ -1,4 +1,4 @@
--- One more clause behind the clauses of a list.
+-- One more clause after the clauses of a list.
 use Rattle.std.proofs.Common.{◌≡◌, ℕ, ◌+◌, ◌-◌, ◌≤◌, ◌<◌, List, [], ◌∷◌, ◌++◌, length, drop, refl, ◌∙◌, arith, length-append, length-take, length-drop}
 use Rattle.std.proofs.Math.Seq.{drop-append_seam}
 use Rattle.std.proofs.lemmas.List.{get_or_append_left}
@@ -20,7 +20,7 @@ pub fills_count : (xs : List Literal) (places : List ℕ) → Fills xs places �
 fills_count xs [] h = absurd (omega (arith, h.rise.some))
 fills_count xs (a ∷ places) h = omega (arith, count_behind xs a places h.rise, h.begins, h.ends)
 
--- a clause behind them
+-- a clause after them
 pub fills_push : (xs : List Literal) (places : List ℕ) (n : ℕ) (C : Clause) → n ≡ length xs → Fills xs places → Fills (xs ++ C) (places ++ (n + length C) ∷ [])
 fills_push xs places n C e h =
     let some : 0 < length places = h.rise.some in

@@ -7,7 +7,7 @@ use Rattle.std.proofs.lemmas.List.Elements.{All-cons, All-drop, All-nil, All-tak
 use Rattle.dimacs.specs.layout.Flat.{parts, ArePlaces}
 use Rattle.dimacs.proofs.FlatLemmas.{length_parts}
 
--- behind the first place
+-- after the first place
 pub places_tail : (a b : ℕ) (places : List ℕ) (len : ℕ) → ArePlaces (a ∷ b ∷ places) len → ArePlaces (b ∷ places) len
 places_tail a b places len h = record {
   some = omega arith;

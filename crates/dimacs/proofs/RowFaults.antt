@@ -1,6 +1,7 @@
 -- Which faults the reading of a text tells.
 use Rattle.std.proofs.Common.{ℕ, ◌+◌, Bool, true, false, cond, List, [], ◌∷◌, Result, Ok, Err}
 use Rattle.std.specs.Prelude.{IfErr}
+use Rattle.dimacs.specs.logic.Limits.{Limits}
 use Rattle.dimacs.specs.text.Rows.{Format, by_tokens, read_lines, read_text, read_words, ◌>>=◌}
 use Rattle.dimacs.specs.text.Words.{words_of}
 
@@ -15,7 +16,7 @@ bind_told P (Err e) f h k = h
 -- each part of a format tells such faults alone
 pub record AllFaults {S V E : Type 0} (format : Format S V E) (P : E → Type 0) : Type 0 where
   pub no_header : (n : ℕ) → P (format.no_header n)
-  pub header : (line : ℕ) (ws : List (List ℕ)) → IfErr (format.header line ws) P
+  pub header : (L : Limits) (line : ℕ) (ws : List (List ℕ)) → IfErr (format.header L line ws) P
   pub token : (line : ℕ) (w : List ℕ) (s : S) → IfErr (format.token line w s) P
   pub finish : (n : ℕ) (s : S) → IfErr (format.finish n s) P
 
@@ -30,11 +31,11 @@ module _ {S V E : Type 0} (format : Format S V E) (P : E → Type 0) (all : AllF
   lines_told n [] s = all.finish n s
   lines_told n (l ∷ ls) s = bind_told P (read_words format (n + 1) (words_of l) s) (read_lines format (n + 1) ls) (words_told (n + 1) (words_of l) s) (λ c. lines_told (n + 1) ls c)
 
-  row_told : (n : ℕ) (more ws : List (List ℕ)) → IfErr (read_text format (n + 1) more) P → IfErr (by_tokens ws (read_text format (n + 1) more) (λ header. format.header (n + 1) header >>= read_lines format (n + 1) more)) P
-  row_told n more [] later = later
-  row_told n more (w ∷ ws) later = bind_told P (format.header (n + 1) (w ∷ ws)) (read_lines format (n + 1) more) (all.header (n + 1) (w ∷ ws)) (λ s. lines_told (n + 1) more s)
+  row_told : (L : Limits) (n : ℕ) (more ws : List (List ℕ)) → IfErr (read_text format L (n + 1) more) P → IfErr (by_tokens ws (read_text format L (n + 1) more) (λ header. format.header L (n + 1) header >>= read_lines format (n + 1) more)) P
+  row_told L n more [] later = later
+  row_told L n more (w ∷ ws) later = bind_told P (format.header L (n + 1) (w ∷ ws)) (read_lines format (n + 1) more) (all.header L (n + 1) (w ∷ ws)) (λ s. lines_told (n + 1) more s)
 
-  pub text_told : (n : ℕ) (ls : List (List ℕ)) → IfErr (read_text format n ls) P
+  pub text_told : (L : Limits) (n : ℕ) (ls : List (List ℕ)) → IfErr (read_text format L n ls) P
   unfolding read_text
-  text_told n [] = all.no_header n
-  text_told n (l ∷ ls) = row_told n ls (words_of l) (text_told (n + 1) ls)
+  text_told L n [] = all.no_header n
+  text_told L n (l ∷ ls) = row_told L n ls (words_of l) (text_told L (n + 1) ls)

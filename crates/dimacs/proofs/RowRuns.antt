@@ -33,7 +33,7 @@ pub record IsRun {T S V E : Type 0} (format : Format S V E) (token_of : List ℕ
   pub back : (line : ℕ) (w : List ℕ) (t : T) (s c : S) → token_of w ≡ Some t → step t s ≡ Ok c → format.token line w s ≡ Ok c
   pub ends : (m n : ℕ) (s : S) (v : V) → format.finish m s ≡ Ok v → format.finish n s ≡ Ok v
 
--- a text behind its header: what its tokens are, and what was read at its end
+-- a text after its header: what its tokens are, and what was read at its end
 pub record Body {T S V E : Type 0} (format : Format S V E) (token_of : List ℕ → Option T) (step : T → S → Result S E) (tokens : List (List ℕ)) (s : S) (v : V) : Type 0 where
   pub read : List T
   pub end : S

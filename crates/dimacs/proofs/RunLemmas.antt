@@ -7,7 +7,7 @@ use Rattle.dimacs.specs.text.BodyState.{BodyState}
 use Rattle.dimacs.specs.logic.Cnf.{Cnf}
 use Rattle.dimacs.specs.logic.Literal.{Clause, literal_of_number}
 use Rattle.dimacs.specs.text.Numbers.{number}
-use Rattle.dimacs.specs.text.Reading.{read_token, read_number, read_found, finish, fault, format}
+use Rattle.dimacs.specs.text.Parser.{read_token, read_number, read_found, finish, fault, format}
 use Rattle.dimacs.proofs.RowRuns.{IsRun}
 
 pub fault≢ok : {A : Type 0} (k : Kind) (n : ℕ) (x : A) → fault k n ≡ Ok x → ⊥
@@ -21,27 +21,27 @@ added z b = cond (eqb (nat_abs z) 0) (record b { done = b.done ++ b.open_clause 
 pub record Takes (z : ℤ) (b : BodyState) : Type 0 where
   pub room : length b.done < b.count
   pub within : nat_abs z ≤ b.vars
-  pub limit : (nat_abs z ≡ 0 → ⊥) → b.total < 50000000
+  pub limit : (nat_abs z ≡ 0 → ⊥) → b.total < b.limit
 
 pub number_takes : (line : ℕ) (z : ℤ) (b c : BodyState) → read_number line z b ≡ Ok c → Takes z b × (added z b ≡ c)
 unfolding added
 number_takes line z b c h = one (leb b.count (length b.done)) refl h where
-  four : (t : Bool) → leb b.count (length b.done) ≡ false → eqb (nat_abs z) 0 ≡ false → ltb b.vars (nat_abs z) ≡ false → leb 50000000 b.total ≡ t
+  four : (t : Bool) → leb b.count (length b.done) ≡ false → eqb (nat_abs z) 0 ≡ false → ltb b.vars (nat_abs z) ≡ false → leb b.limit b.total ≡ t
       → cond t (fault AboveLimit line) (Ok (record b { open_clause = b.open_clause ++ literal_of_number z ∷ []; total = b.total + 1 })) ≡ Ok c → Takes z b × (added z b ≡ c)
   four true p q r s h = absurd (fault≢ok _ _ _ h)
   four false p q r s h = (record { room = leb-false _ _ p; within = ltb-false _ _ r; limit = λ _. leb-false _ _ s }, rw q (cc))
 
   three : (t : Bool) → leb b.count (length b.done) ≡ false → eqb (nat_abs z) 0 ≡ false → ltb b.vars (nat_abs z) ≡ t
-      → cond t (fault VariableAboveHeader line) (cond (leb 50000000 b.total) (fault AboveLimit line) (Ok (record b { open_clause = b.open_clause ++ literal_of_number z ∷ []; total = b.total + 1 }))) ≡ Ok c → Takes z b × (added z b ≡ c)
+      → cond t (fault VariableAboveHeader line) (cond (leb b.limit b.total) (fault AboveLimit line) (Ok (record b { open_clause = b.open_clause ++ literal_of_number z ∷ []; total = b.total + 1 }))) ≡ Ok c → Takes z b × (added z b ≡ c)
   three true p q r h = absurd (fault≢ok _ _ _ h)
-  three false p q r h = four (leb 50000000 b.total) p q r refl h
+  three false p q r h = four (leb b.limit b.total) p q r refl h
 
   two : (t : Bool) → leb b.count (length b.done) ≡ false → eqb (nat_abs z) 0 ≡ t
-      → cond t (Ok (record b { done = b.done ++ b.open_clause ∷ []; open_clause = [] })) (cond (ltb b.vars (nat_abs z)) (fault VariableAboveHeader line) (cond (leb 50000000 b.total) (fault AboveLimit line) (Ok (record b { open_clause = b.open_clause ++ literal_of_number z ∷ []; total = b.total + 1 })))) ≡ Ok c → Takes z b × (added z b ≡ c)
+      → cond t (Ok (record b { done = b.done ++ b.open_clause ∷ []; open_clause = [] })) (cond (ltb b.vars (nat_abs z)) (fault VariableAboveHeader line) (cond (leb b.limit b.total) (fault AboveLimit line) (Ok (record b { open_clause = b.open_clause ++ literal_of_number z ∷ []; total = b.total + 1 })))) ≡ Ok c → Takes z b × (added z b ≡ c)
   two true p q h = (record { room = leb-false _ _ p; within = omega (arith, eqb-true _ _ q); limit = λ n. absurd (n (eqb-true _ _ q)) }, rw q (cc))
   two false p q h = three (ltb b.vars (nat_abs z)) p q refl h
 
-  one : (t : Bool) → leb b.count (length b.done) ≡ t → cond t (fault TooManyClauses line) (cond (eqb (nat_abs z) 0) (Ok (record b { done = b.done ++ b.open_clause ∷ []; open_clause = [] })) (cond (ltb b.vars (nat_abs z)) (fault VariableAboveHeader line) (cond (leb 50000000 b.total) (fault AboveLimit line) (Ok (record b { open_clause = b.open_clause ++ literal_of_number z ∷ []; total = b.total + 1 }))))) ≡ Ok c → Takes z b × (added z b ≡ c)
+  one : (t : Bool) → leb b.count (length b.done) ≡ t → cond t (fault TooManyClauses line) (cond (eqb (nat_abs z) 0) (Ok (record b { done = b.done ++ b.open_clause ∷ []; open_clause = [] })) (cond (ltb b.vars (nat_abs z)) (fault VariableAboveHeader line) (cond (leb b.limit b.total) (fault AboveLimit line) (Ok (record b { open_clause = b.open_clause ++ literal_of_number z ∷ []; total = b.total + 1 }))))) ≡ Ok c → Takes z b × (added z b ≡ c)
   one true p h = absurd (fault≢ok _ _ _ h)
   one false p h = two (eqb (nat_abs z) 0) p refl h
 
@@ -52,7 +52,7 @@ takes_number line z b t = by_zero (eqb (nat_abs z) 0) refl where
   by_zero true q = rw (lt-leb b.count (length b.done) t.room, q) refl
   by_zero false q =
       let room = t.limit (eqb-false _ _ q) in
-      rw (lt-leb b.count (length b.done) t.room, q, le-ltb b.vars (nat_abs z) t.within, lt-leb 50000000 b.total room) refl
+      rw (lt-leb b.count (length b.done) t.room, q, le-ltb b.vars (nat_abs z) t.within, lt-leb b.limit b.total room) refl
 
 found_number : (line : ℕ) (o : Option ℤ) (b c : BodyState) → read_found line o b ≡ Ok c → (z : ℤ) × (o ≡ Some z) × (read_number line z b ≡ Ok c)
 found_number line None b c h = absurd (fault≢ok _ _ _ h)
@@ -83,7 +83,7 @@ finish_is n b f h = by_open b.open_clause refl h where
   by_open [] e h = let p = by_few (ltb (length b.done) b.count) refl h in (e, p.0, p.1)
   by_open (x ∷ xs) e h = absurd (fault≢ok _ _ _ h)
 
--- the lines behind a header are a run over their numbers
+-- the lines after a header are a run over their numbers
 pub numbers_run : IsRun format number (read_number 0)
 unfolding read_token
 numbers_run = record {

@@ -85,7 +85,7 @@ capped_negated : (n : ℕ) → 1 ≤ n → n < 100000000 → option_map capped (
 capped_negated zero some small = absurd (omega arith)
 capped_negated (suc n) some small = let e : min 100000000 (suc n) ≡ suc n = omega arith in rw e refl
 
--- a short number behind a minus
+-- a short number after a minus
 pub short_minus : (text u : List ℕ) (len n : ℕ) → 0 < length text → get_or text 0 45 ≡ 45 → u ≡ take (length text - 1) (drop 1 text) → natural (take len u) ≡ Some n → 1 ≤ n → n < 100000000
     → option_map capped (number (take (len + 1) text)) ≡ Some (record { negative = true; size = n })
 short_minus text u len n some first is value low small =
@@ -116,7 +116,7 @@ front_or : (text : List ℕ) → 0 < length text → get_or text 0 0 ≡ 45 → 
 front_or [] some h = absurd (omega arith)
 front_or (b ∷ bs) some h = h
 
--- the sign, and a short number behind it
+-- the sign, and a short number after it
 pub signed_value : (text u : List ℕ) (b : Bool) (k len n : ℕ) → BeginsWithMinus b text → k ≡ cond b 1 0 → u ≡ take (length text - k) (drop k text) → natural (take len u) ≡ Some n → 1 ≤ n → n < 100000000
     → option_map capped (number (take (len + k) text)) ≡ Some (record { negative = b; size = n })
 signed_value text u true k len n first e is value low small =

@@ -8,7 +8,7 @@ use Rattle.dimacs.specs.text.BodyState.{BodyState}
 use Rattle.dimacs.specs.inner.Capped.{capped}
 use Rattle.dimacs.specs.logic.Literal.{Literal, Pos, Neg, literal_of_number}
 use Rattle.dimacs.specs.text.Numbers.{number}
-use Rattle.dimacs.specs.text.Reading.{read_token, read_number, fault}
+use Rattle.dimacs.specs.text.Parser.{read_token, read_number, fault}
 
 no_number : (o : Option ℤ) → option_map capped o ≡ None → o ≡ None
 no_number None h = refl
@@ -30,7 +30,7 @@ pub token_bad : (line : ℕ) (word : List ℕ) (b : BodyState) → option_map ca
 unfolding read_token
 token_bad line word b h = rw (no_number (number word) h) refl
 
-number_push : (line : ℕ) (z : ℤ) (b : BodyState) → length b.done < b.count → 0 < nat_abs z → nat_abs z ≤ b.vars → b.total < 50000000
+number_push : (line : ℕ) (z : ℤ) (b : BodyState) → length b.done < b.count → 0 < nat_abs z → nat_abs z ≤ b.vars → b.total < b.limit
     → read_number line z b ≡ Ok (record b { open_clause = b.open_clause ++ literal_of_number z ∷ []; total = b.total + 1 })
 number_push line z b h k v m = grind (arith, nat_tests)
 
@@ -59,7 +59,7 @@ module _ (line : ℕ) (word : List ℕ) (b : BodyState) (r : Number) (found : op
       let above : b.vars < nat_abs z.0 = omega arith in
       token_is z.0 z.1 ∙ grind (arith, nat_tests)
 
-  pub token_many : length b.done < b.count → 0 < r.size → r.size ≤ b.vars → b.vars ≤ 1000000 → 50000000 ≤ b.total → read_token line word b ≡ fault AboveLimit line
+  pub token_many : length b.done < b.count → 0 < r.size → r.size ≤ b.vars → b.vars ≤ 1000000 → b.limit ≤ b.total → read_token line word b ≡ fault AboveLimit line
   token_many h k v top m =
       let z = some_number (number word) r found in
       let size : r.size ≡ min 100000000 (nat_abs z.0) = ap (λ (x : Number). x.size) (sym z.2) ∙ capped_size z.0 in
@@ -67,7 +67,7 @@ module _ (line : ℕ) (word : List ℕ) (b : BodyState) (r : Number) (found : op
       let within : nat_abs z.0 ≤ b.vars = omega arith in
       token_is z.0 z.1 ∙ grind (arith, nat_tests)
 
-  pub token_push : (l : Literal) → length b.done < b.count → 0 < r.size → r.size ≤ b.vars → b.vars ≤ 1000000 → b.total < 50000000
+  pub token_push : (l : Literal) → length b.done < b.count → 0 < r.size → r.size ≤ b.vars → b.vars ≤ 1000000 → b.total < b.limit
       → l ≡ cond r.negative (Neg r.size) (Pos r.size) → read_token line word b ≡ Ok (record b { open_clause = b.open_clause ++ l ∷ []; total = b.total + 1 })
   token_push l h k v top m e =
       let z = some_number (number word) r found in

@@ -78,7 +78,7 @@ words_none line n e z =
     let some : length line ≤ n = omega (arith, ap length (tail_is line n), length-drop n line) in
     words_skip line ∙ ap (λ k. words (drop k line)) (sym e) ∙ rest_by line n some
 
--- the first token, behind white space
+-- the first token, after white space
 pub words_next : (line text a b : List ℕ) (n m : ℕ) → n ≡ prefix_len is_white line → text ≡ take (length line - n) (drop n line)
     → m ≡ position_or_len is_white text → m ≤ length text → 0 < length text → a ≡ take m text → b ≡ drop m text → words line ≡ a ∷ words b
 words_next line text a b n m e f g top some p q =

@@ -9,13 +9,14 @@ use Rattle.std.proofs.lemmas.List.{map-append, take_all, take_more, flat_map_mor
 use Rattle.std.proofs.lemmas.List.Elements.{All-from_recursion}
 use Rattle.std.proofs.lemmas.List.Splits.{slice_split_at, slice_split_none}
 use Rattle.std.proofs.lemmas.Fmt.{decimal_by_steps, first_decimal, decimal_nonempty, decimal_digit}
-use Rattle.dimacs.specs.logic.Cnf.{Cnf, IsFormula}
+use Rattle.dimacs.specs.logic.Cnf.{Cnf, FitsIn, IsFormula}
+use Rattle.dimacs.specs.logic.Limits.{Limits, written}
 use Rattle.dimacs.specs.logic.Literal.{Clause, IsWithin, number_of}
 use Rattle.dimacs.specs.text.Numbers.{number, natural, digits_from}
 use Rattle.dimacs.proofs.WithinLemmas.{EachWithin, each_within}
 use Rattle.dimacs.specs.text.Words.{words, words_of, lines, is_white, is_some_byte, is_comment}
 use Rattle.dimacs.specs.text.Rows.{AreRows}
-use Rattle.dimacs.specs.text.Spelling.{ended, AreClauses, IsHeader, Spells, literal_text, clause_text, clause_line, header_text, spelling, Begins}
+use Rattle.dimacs.specs.text.Grammar.{ended, AreClauses, IsHeader, SpellsWithin, literal_text, clause_text, clause_line, header_text, spelling, Begins}
 use Rattle.dimacs.proofs.LiteralLemmas.{number_size}
 use Rattle.dimacs.proofs.NumberLemmas.{digits_append}
 
@@ -157,7 +158,7 @@ lines_line l rest h = slice_split_at (λ b. eqb b 10) l 10 rest (All-from_recurs
 pub words_of_clause : (vars : ℕ) (c : Clause) → vars ≤ 1000000 → AllByRecursion (IsWithin vars) c → words_of (clause_text c) ≡ map signed_decimal (ended c)
 words_of_clause vars c v h = rw (not_comment (clause_text c) (clause_plain vars c v h)) (clause_words vars c v h)
 
--- the tokens behind the header
+-- the tokens after the header
 clauses_words : (vars : ℕ) (cs : List Clause) → vars ≤ 1000000 → EachWithin vars cs → flat_map words_of (lines (flat_map clause_line cs)) ≡ map signed_decimal (flat_map ended cs)
 unfolding words
 clauses_words vars [] v h = refl
@@ -212,8 +213,12 @@ header_line f v c =
 header_of : (f : Cnf) → f.vars < 2 ^ 63 → length f.clauses < 2 ^ 63 → words_of (header_text f) ≡ codes "p" ∷ codes "cnf" ∷ decimal f.vars ∷ decimal (length f.clauses) ∷ []
 header_of f v c = header_words f v c
 
-pub writing_spells : (f : Cnf) → IsFormula f → Spells (spelling f) f
-writing_spells f is =
+-- a formula fits into the written limits, which are the large ones
+pub formula_fits : (f : Cnf) → IsFormula f → FitsIn written f
+formula_fits f is = record { vars = omega (arith, is.vars); clauses = omega (arith, is.clauses); literals = omega (arith, is.literals) }
+
+pub writing_spells : (L : Limits) (f : Cnf) → IsFormula f → FitsIn L f → SpellsWithin L (spelling f) f
+writing_spells L f is fits =
     let v : f.vars < 2 ^ 63 = omega (arith, is.vars) in
     let c : length f.clauses < 2 ^ 63 = omega (arith, is.clauses) in
     let text : spelling f ≡ header_text f ++ 10 ∷ flat_map clause_line f.clauses = append_assoc (header_text f) (10 ∷ []) (flat_map clause_line f.clauses) in
@@ -223,11 +228,11 @@ writing_spells f is =
     let body : AreClauses (flat_map words_of (lines (flat_map clause_line f.clauses))) f =
     ap (map number) (clauses_words f.vars f.clauses is.vars within) ∙ numbers_back (flat_map ended f.clauses) (clauses_small f.vars f.clauses is.vars within) in
     let rows : AreRows (λ header. IsHeader header f) (λ tokens. AreClauses tokens f) (header_text f ∷ lines (flat_map clause_line f.clauses)) = rw (header_of f v c) (head, body) in
-    (is, rw l rows)
+    (is, rw l rows, fits)
 
 -- ---- what is written
 
--- the next item is written behind those before it
+-- the next item is written after those before it
 pub item_more : {X : Type 0} (f : X → List ℕ) (old items : List ℕ) (xs : List X) (i : ℕ) (x d : X) → i < length xs → x ≡ get_or xs i d → items ≡ old ++ flat_map f (take i xs) → items ++ f x ≡ old ++ flat_map f (take (i + 1) xs)
 item_more f old items xs i x d below is e =
     ap (λ ys. ys ++ f x) e ∙ flat_map_more f old (take i xs) x ∙ ap (λ ys. old ++ flat_map f ys) (ap (λ y. take i xs ++ y ∷ []) is ∙ sym (take_more xs i d below))

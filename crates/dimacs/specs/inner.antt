@@ -1,5 +1,5 @@
 -- What only private contracts, invariants and proofs name. Nothing here is to be believed.
-pub mod Building
+pub mod BuilderLayout
 pub mod Capped
 pub mod Codes
 pub mod Pieces

@@ -1,3 +1,3 @@
--- How formulas, clauses and numbers are held while they are made and handed out: no grammar, fault or law of logic rests on it.
-pub mod Building
+-- How formulas and clauses lie in memory. No grammar, fault or law of logic depends on it.
+pub mod BuilderState
 pub mod Flat

@@ -4,6 +4,7 @@ pub mod ClauseMap
 pub mod Cnf
 pub mod Examples
 pub mod Extension
+pub mod Limits
 pub mod Literal
 pub mod Propagation
 pub mod Rat

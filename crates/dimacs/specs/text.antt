@@ -4,7 +4,7 @@ pub mod BodyState
 pub mod Faults
 pub mod Numbers
 pub mod Pieces
-pub mod Reading
+pub mod Parser
 pub mod Rows
-pub mod Spelling
+pub mod Grammar
 pub mod Words

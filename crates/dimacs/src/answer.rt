@@ -3,11 +3,11 @@
 ghost use Rattle.std.specs.Prelude.{◌≡◌, ◌<◌, ◌≤◌, ◌^◌, ◌∷◌, ◌++◌, [], List, ℕ, length, codes, OnOk, OnErr, IfOk, if◌then◌else◌};
 ghost use Rattle.std.specs.Fmt.{signed_decimal};
 ghost use Rattle.dimacs.specs.logic.Literal.{Pos, Neg, number_of};
-ghost use Rattle.dimacs.specs.text.Spelling.{Begins};
+ghost use Rattle.dimacs.specs.text.Grammar.{Begins};
 ghost use Rattle.dimacs.specs.text.Answer.{filled, satisfied_lines, witness_lines, Lines};
 
 use crate::assignment::Assignment;
-use crate::writing::put;
+use crate::writer::put;
 use itoa::Buffer;
 use std::alloc::AllocError;
 
@@ -22,10 +22,10 @@ pub enum Answer<'a> {
     Unknown,
 }
 
-// The most bytes of a `v` line, its end not counted.
+// Maximal length of a `v` line in bytes, without its LF.
 const WIDTH: usize = 78;
 
-// Puts an item on the line, or on a new one, and answers how many bytes that line has then.
+// Appends an item to the `v` line, which has `used` bytes, or to a new `v` line if it does not fit. Returns the line's new length.
 fn put_item(out: &mut Vec<u8>, used: usize, item: &[u8]) -> Result<usize, AllocError>
     requires used { used ≤ 78 }
     requires item { length item.now ≤ 40 }
@@ -100,7 +100,7 @@ fn put_answer(out: &mut Vec<u8>, answer: Answer, witness: bool) -> Result<(), Al
 
 /// Appends the answer line, and for a satisfying assignment with `witness` its `v` lines of at most 78 bytes.
 ///
-/// Where memory is refused, `out` is as before.
+/// If memory is refused, `out` is unchanged.
 pub fn answer_lines(answer: Answer, witness: bool, out: &mut Vec<u8>) -> Result<(), AllocError>
     ensures ok { OnOk result (out.new.items ≡ out.old.items ++ Lines answer.entry witness) }
     ensures err { OnErr result (out.new.items ≡ out.old.items) }

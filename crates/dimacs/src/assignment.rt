@@ -1,4 +1,4 @@
-//! Truth values, and what they satisfy.
+//! Assignments, and whether they satisfy a formula.
 
 ghost use Rattle.std.specs.Prelude.{◌≡◌, ℕ, ◌-◌, ◌<◌, ◌≤◌, ◌↔◌, IsTrue, List, Bool, length, true, All};
 ghost use Rattle.dimacs.specs.logic.Cnf.{Sat, assignment_of};
@@ -28,7 +28,7 @@ impl Assignment {
         Assignment { values }
     }
 
-    /// How many variables have a value.
+    /// The number of variables that have a value.
     pub fn len(&self) -> usize
         ensures { result ≡ length self.now }
     {
@@ -64,7 +64,7 @@ fn clause_holds(assignment: &Assignment, clause: &[Lit]) -> bool
     false
 }
 
-/// Whether the assignment makes each clause true. It asks for one truth value for each variable, and takes no memory.
+/// Whether each clause has a true literal. The assignment has one value for each variable. Takes no memory.
 pub fn satisfies(assignment: &Assignment, formula: &Formula) -> bool
     requires { length assignment.now ≡ formula.now.vars }
     ensures { IsTrue result ↔ Sat (assignment_of assignment.now) formula.now }

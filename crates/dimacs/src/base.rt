@@ -1,4 +1,4 @@
-//! A formula with further clauses numbered on after it.
+//! The clauses that a proof starts from: a formula's, and those that were added after them.
 
 ghost use Rattle.std.specs.Prelude.{◌≡◌, ◌+◌, ◌<◌, ◌≤◌, [], ◌∷◌, ◌++◌, length, slice_index_or, All, IfOk, OnOk, OnErr, vec_len};
 ghost use Rattle.dimacs.specs.logic.Cnf.{IsBase, literal_count};
@@ -11,7 +11,7 @@ use crate::literal::Lit;
 use std::alloc::{AllocError, Global};
 use std::marker::Model;
 
-/// A formula and the clauses that were added to it: units of pure literals, and definitions over new variables.
+/// A formula's clauses, and those that were added after them: unit clauses of pure literals, and definitions of new variables.
 ///
 /// It has at most 2,000,000 variables, 5,000,192 clauses and 51,000,448 literals.
 pub struct Base {
@@ -20,7 +20,6 @@ pub struct Base {
     places: Vec<u32>,
 }
 
-// By hand, so that whoever owns one drops it by one call, and no proof there goes through its parts.
 impl Drop for Base {
     fn drop(self) {
         let Base {
@@ -55,7 +54,7 @@ impl Base {
         }
     }
 
-    // Its number of variables, and its literals and places.
+    // Takes the base apart: its number of variables, its literals, and the offsets of its clauses.
     pub(crate) fn into_parts(self) -> (u32, Vec<Lit>, Vec<u32>)
         ensures value { self ≡ record { vars = result.0; clauses = parts result.1.items result.2.items } }
         ensures fills { Fills result.1.items result.2.items }
@@ -68,7 +67,7 @@ impl Base {
         (vars, literals, places)
     }
 
-    // Its literals, clause after clause, and the places where its clauses begin, with the place where the last one ends.
+    // The literals, clause after clause, and the offsets at which the clauses begin, with the end of the last one.
     pub(crate) fn parts(&self) -> (&[Lit], &[u32])
         ensures clauses { parts result.0.now result.1.now ≡ self.now.clauses }
         ensures fills { Fills result.0.now result.1.now }
@@ -76,14 +75,14 @@ impl Base {
         (&self.literals, &self.places)
     }
 
-    /// The formula alone.
+    /// A copy of the formula's clauses, with none added.
     pub fn of(alloc: Global, formula: &Formula) -> Result<Base, AllocError>
         ensures { IfOk result (λ b. b ≡ formula.now) }
     {
         formula.as_base().copy(alloc)
     }
 
-    /// The same base again.
+    /// A copy.
     pub fn copy(&self, alloc: Global) -> Result<Base, AllocError>
         ensures { IfOk result (λ b. b ≡ self.now) }
     {
@@ -94,7 +93,7 @@ impl Base {
         })
     }
 
-    /// How many variables it has, the highest variable that a clause may name.
+    /// The number of variables: the greatest variable that a clause may name.
     pub fn vars(&self) -> u32
         ensures value { result ≡ self.now.vars }
         ensures limit { result ≤ 2000000 }
@@ -103,7 +102,7 @@ impl Base {
         self.vars
     }
 
-    /// How many clauses it has.
+    /// The number of clauses.
     #[tactic(auto, using(crate::proofs::FlatLemmas::length_parts))]
     pub fn len(&self) -> usize
         ensures { result ≡ length self.now.clauses }
@@ -111,7 +110,7 @@ impl Base {
         self.places.len() - 1
     }
 
-    /// The clause of this number, from 0.
+    /// The clause at this index, from 0.
     pub fn clause(&self, i: usize) -> &[Lit]
         requires { i < length self.now.clauses }
         ensures clause { result.now ≡ slice_index_or self.now.clauses i [] }
@@ -121,8 +120,7 @@ impl Base {
         flat::clause_at(&self.literals, &self.places, i)
     }
 
-    /// A copy of its literals, clause after clause, and of the places where its clauses begin, with the place where the last
-    /// one ends.
+    /// A copy of the literals, clause after clause, and of the offsets at which the clauses begin, with the end of the last one.
     pub fn copy_parts(&self, alloc: Global) -> Result<(Vec<Lit>, Vec<u32>), AllocError>
         ensures clauses { IfOk result (λ p. parts p.0.items p.1.items ≡ self.now.clauses) }
         ensures places { IfOk result (λ p. ArePlaces p.1.items (vec_len p.0)) }
@@ -133,7 +131,7 @@ impl Base {
         ))
     }
 
-    /// Appends a clause; where memory is refused, the base is as before.
+    /// Appends a clause. If memory is refused, the base is unchanged.
     pub fn push_clause(&mut self, clause: &[Lit]) -> Result<(), AllocError>
         requires room { length self.old.clauses < 5000192 }
         requires literals { literal_count self.old.clauses + length clause.now ≤ 51000448 }
@@ -145,7 +143,7 @@ impl Base {
         Ok(())
     }
 
-    /// Adds variables behind the highest.
+    /// Adds that many new variables after the existing ones.
     pub fn add_vars(&mut self, more: u32)
         requires { self.old.vars + more ≤ 2000000 }
         ensures { self.new ≡ record self.old { vars = self.old.vars + more } }

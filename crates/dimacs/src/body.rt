@@ -1,11 +1,11 @@
-//! The part of a DIMACS text behind its header: numbers, each clause ended by 0.
+//! The body of a DIMACS text, after the header: the clauses as numbers, each ended by 0.
 
 ghost use Rattle.std.specs.Prelude.{◌≡◌, ℕ, List, ◌+◌, ◌<◌, ◌≤◌, [], ◌∷◌, ◌++◌, length, OnOk, IfOk, nat_le, option_map};
 ghost use Rattle.dimacs.specs.inner.Capped.{capped};
 ghost use Rattle.dimacs.specs.logic.Literal.{IsWithin};
 ghost use Rattle.dimacs.specs.text.Numbers.{number};
 ghost use Rattle.dimacs.specs.text.Words.{words};
-ghost use Rattle.dimacs.specs.text.Reading.{read_token, format, no_memory};
+ghost use Rattle.dimacs.specs.text.Parser.{read_token, format, no_memory};
 ghost use Rattle.dimacs.specs.text.Rows.{read_words};
 ghost use Rattle.dimacs.specs.inner.Rows.{Gives};
 
@@ -13,6 +13,7 @@ use crate::builder::Builder;
 use crate::fault::{DimacsFault, Kind};
 use crate::formula::Formula;
 use crate::header::read_header;
+use crate::limits::Limits;
 use crate::literal::Lit;
 use crate::number::{Number, next_number};
 use crate::rows::Rows;
@@ -20,11 +21,12 @@ use crate::words::is_comment;
 use std::alloc::{AllocError, Global};
 use std::marker::Model;
 
-/// The header's numbers, and the clauses that were read so far.
+/// The header's numbers, the limit on literals, and the clauses read so far.
 #[derive(Drop)]
 pub(crate) struct Body {
     vars: u32,
     count: u32,
+    limit: u32,
     clauses: Builder,
 }
 
@@ -36,27 +38,29 @@ impl Model for Body {
 
     ghost Value = { BodyState };
 
-    ghost view = { λ b. record { vars = b.vars; count = b.count; done = b.clauses.done; open_clause = b.clauses.open_clause; total = b.clauses.total } };
+    ghost view = { λ b. record { vars = b.vars; count = b.count; limit = b.limit; done = b.clauses.done; open_clause = b.clauses.open_clause; total = b.clauses.total } };
 
-    ghost invariant = { λ b. (b.vars ≤ 1000000) × (b.count ≤ 4000000) × (length b.clauses.done ≤ b.count) × AreWithin b.vars b.clauses.done × All (IsWithin b.vars) b.clauses.open_clause };
+    ghost invariant = { λ b. (b.vars ≤ 1000000) × (b.count ≤ 4000000) × (b.limit ≤ 50000000) × (length b.clauses.done ≤ b.count) × AreWithin b.vars b.clauses.done × All (IsWithin b.vars) b.clauses.open_clause };
 }
 
 impl Body {
-    /// Nothing read yet.
-    fn new(alloc: Global, vars: u32, count: u32) -> Result<Body, AllocError>
+    /// No token of the body has been read.
+    fn new(alloc: Global, vars: u32, count: u32, limit: u32) -> Result<Body, AllocError>
         requires vars { vars ≤ 1000000 }
         requires count { count ≤ 4000000 }
-        ensures { IfOk result (λ b. b ≡ record { vars = vars; count = count; done = []; open_clause = []; total = 0 }) }
+        requires limit { limit ≤ 50000000 }
+        ensures { IfOk result (λ b. b ≡ record { vars = vars; count = count; limit = limit; done = []; open_clause = []; total = 0 }) }
     {
         Ok(Body {
             vars,
             count,
+            limit,
             clauses: Builder::new(alloc)?,
         })
     }
 
     fn push(&mut self, literal: Lit) -> Result<(), AllocError>
-        requires room { self.old.total < 50000000 }
+        requires room { self.old.total < self.old.limit }
         requires within { IsWithin self.old.vars literal }
         ensures { OnOk result (self.new ≡ record self.old { open_clause = self.old.open_clause ++ literal ∷ []; total = self.old.total + 1 }) }
     {
@@ -78,7 +82,7 @@ impl Body {
         self.clauses.len() >= self.count as usize
     }
 
-    /// Reads a token that was found to be this number, or none.
+    /// Reads a token: `found` is its number, or `None` if it is no number.
     fn read_token(&mut self, line: u64, found: Option<Number>) -> Result<(), DimacsFault>
         ensures { (word : List ℕ) → found ≡ option_map capped (number word) → Gives no_memory self.new result (read_token line word self.old) }
     {
@@ -95,14 +99,14 @@ impl Body {
         if number.size > self.vars {
             return Err(DimacsFault::at(Kind::VariableAboveHeader, line));
         }
-        if self.clauses.literals() >= 50_000_000 {
+        if self.clauses.literals() >= self.limit as usize {
             return Err(DimacsFault::at(Kind::AboveLimit, line));
         }
         self.push(number.literal())?;
         Ok(())
     }
 
-    /// Reads the numbers of a line. Not inlined, so that the loop over digits has the registers for itself.
+    /// Reads the tokens of a line. Not inlined, so that the loop over digits has the registers for itself.
     #[inline(never)]
     fn read_words(&mut self, line: u64, text: &[u8]) -> Result<(), DimacsFault>
         ensures { Gives no_memory self.new result (read_words format line (words text.now) self.old) }
@@ -117,7 +121,7 @@ impl Body {
 }
 
 impl Rows for Body {
-    ghost use Rattle.dimacs.specs.text.Reading as reading;
+    ghost use Rattle.dimacs.specs.text.Parser as reading;
 
     type Value = Formula;
 
@@ -131,9 +135,9 @@ impl Rows for Body {
         DimacsFault::at(Kind::NoHeader, lines)
     }
 
-    fn begin(alloc: Global, line: u64, header: &[u8]) -> Result<Body, DimacsFault> {
-        let (vars, count) = read_header(line, header)?;
-        Ok(Body::new(alloc, vars, count)?)
+    fn begin(alloc: Global, limits: Limits, line: u64, header: &[u8]) -> Result<Body, DimacsFault> {
+        let (vars, count) = read_header(limits, line, header)?;
+        Ok(Body::new(alloc, vars, count, limits.literals())?)
     }
 
     #[tactic(auto, unfolding(crate::specs::text::Rows::read_words))]
@@ -148,6 +152,7 @@ impl Rows for Body {
         let Body {
             vars,
             count,
+            limit: _,
             clauses,
         } = self;
         if clauses.is_open() {

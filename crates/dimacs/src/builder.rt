@@ -1,4 +1,4 @@
-//! A formula in the making.
+//! A builder of formulas, clause by clause.
 
 ghost use Rattle.std.specs.Prelude.{◌≡◌, ℕ, ◌+◌, ◌^◌, ◌<◌, ◌≤◌, max, [], ◌∷◌, ◌++◌, length, OnOk, OnErr, IfOk, MatchBool};
 ghost use Rattle.dimacs.specs.logic.Cnf.{AreWithin, greatest_of, greatest_in};
@@ -9,8 +9,8 @@ use crate::literal::Lit;
 use std::alloc::{AllocError, Global};
 use std::marker::Model;
 
-/// A formula in the making: the clauses that have ended, and an open one. Clauses lie one after the other, as in a
-/// formula; the number of variables is fixed at the end.
+/// Builds a formula: the clauses that have ended, and an open one. All literals lie in one vector, as in a formula. The number
+/// of variables is given at the end.
 #[derive(Drop)]
 pub struct Builder {
     literals: Vec<Lit>,
@@ -20,11 +20,11 @@ pub struct Builder {
 
 impl Model for Builder {
     ghost use Rattle.std.specs.Prelude.{ℕ, vec_len, drop};
-    ghost use Rattle.dimacs.specs.layout.Building.{Building};
-    ghost use Rattle.dimacs.specs.inner.Building.{IsLaid};
+    ghost use Rattle.dimacs.specs.layout.BuilderState.{BuilderState};
+    ghost use Rattle.dimacs.specs.inner.BuilderLayout.{IsLaid};
     ghost use Rattle.dimacs.specs.layout.Flat.{parts, last_place};
 
-    ghost Value = { Building };
+    ghost Value = { BuilderState };
 
     ghost view = { λ b. record { done = parts b.literals.items b.places.items; open_clause = drop (last_place b.places.items) b.literals.items; total = vec_len b.literals } };
 
@@ -32,7 +32,7 @@ impl Model for Builder {
 }
 
 impl Builder {
-    /// No clause yet, and none open.
+    /// No clause, and the open one is empty.
     pub fn new(alloc: Global) -> Result<Builder, AllocError>
         ensures { IfOk result (λ b. b ≡ record { done = []; open_clause = []; total = 0 }) }
     {
@@ -45,7 +45,7 @@ impl Builder {
         })
     }
 
-    /// Puts a literal at the end of the open clause. Want of memory leaves all as it was.
+    /// Appends a literal to the open clause. If memory is refused, the builder is unchanged.
     pub fn push(&mut self, literal: Lit) -> Result<(), AllocError>
         requires { self.old.total < 50000000 }
         ensures ok { OnOk result (self.new ≡ record self.old { open_clause = self.old.open_clause ++ literal ∷ []; total = self.old.total + 1 }) }
@@ -56,7 +56,7 @@ impl Builder {
         Ok(())
     }
 
-    /// Ends the open clause. Want of memory leaves all as it was.
+    /// Ends the open clause, which may be empty. If memory is refused, the builder is unchanged.
     pub fn end_clause(&mut self) -> Result<(), AllocError>
         requires { length self.old.done < 4000000 }
         ensures ok { OnOk result (self.new ≡ record self.old { done = self.old.done ++ self.old.open_clause ∷ []; open_clause = [] }) }
@@ -67,28 +67,28 @@ impl Builder {
         Ok(())
     }
 
-    /// How many clauses have ended.
+    /// The number of clauses that have ended.
     pub fn len(&self) -> usize
         ensures { result ≡ length self.now.done }
     {
         self.places.len() - 1
     }
 
-    /// How many literals there are, those of the open clause too.
+    /// The number of literals, including those of the open clause.
     pub fn literals(&self) -> usize
         ensures { result ≡ self.now.total }
     {
         self.literals.len()
     }
 
-    /// Whether literals stand behind the last clause that has ended.
+    /// Whether the open clause has literals.
     pub fn is_open(&self) -> bool
         ensures { MatchBool result (0 < length self.now.open_clause) (self.now.open_clause ≡ []) }
     {
         (self.places[self.places.len() - 1] as usize) < self.literals.len()
     }
 
-    /// The greatest variable so far, 0 where there is no literal.
+    /// The greatest variable so far, 0 if there is no literal.
     pub fn greatest(&self) -> u32
         ensures value { result ≡ max (greatest_in self.now.done) (greatest_of self.now.open_clause) }
         ensures within { AreWithin result self.now.done }
@@ -112,7 +112,7 @@ impl Builder {
         Formula::from_parts(vars, literals, places)
     }
 
-    /// The clauses as an extension, over the variables from 1 to `vars`; these may be more than a formula has.
+    /// The clauses as an extension, over the variables from 1 to `vars`, which may exceed a formula's limit.
     pub fn finish_extension(self, vars: u32) -> Extension
         requires closed { self.open_clause ≡ [] }
         requires within { AreWithin vars self.done }

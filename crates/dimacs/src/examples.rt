@@ -9,7 +9,7 @@ ghost use Rattle.dimacs.specs.logic.Examples.{one_or_two, one_or_not_two, small,
 ghost use Rattle.dimacs.specs.logic.Literal.{Pos, Neg};
 ghost use Rattle.dimacs.specs.logic.Propagation.{negations, with_literal, IsFalse, IsUnit, Rup};
 
-/// Pure literals, and the base of a formula: it has the further clause `1`, and none for variable 2.
+/// Pure literals, and the base of a formula: the unit clause `1` is added, and none for variable 2.
 pub fn worked_bases()
     ensures pure { is_pure small (Pos 1) ≡ true }
     ensures both_signs { (is_pure small (Pos 2) ≡ false) × (is_pure small (Neg 2) ≡ false) }
@@ -17,19 +17,19 @@ pub fn worked_bases()
     ensures base { (base_of small).clauses ≡ small.clauses ++ (Pos 1 ∷ []) ∷ [] }
 {}
 
-/// Clauses by number, units, false clauses, and a lemma that follows along its hints.
+/// Clauses by number, unit and false clauses, and a lemma that has RUP by its hints.
 pub fn worked_propagation()
     ensures first { get (map_of small) 1 ≡ Some one_or_two }
     ensures last { get (map_of small) 2 ≡ Some one_or_not_two }
     ensures outside { (get (map_of small) 0 ≡ None) × (get (map_of small) 3 ≡ None) }
     ensures unit { IsUnit (negations (Pos 1 ∷ [])) one_or_two (Pos 2) }
-    // A literal that stands in a clause twice counts once.
+    // A literal that a clause contains twice counts once.
     ensures repeated { IsUnit (negations []) (Pos 1 ∷ Pos 1 ∷ []) (Pos 1) }
     ensures refuted { IsFalse (with_literal (negations (Pos 1 ∷ [])) (Pos 2)) one_or_not_two }
     ensures lemma { Rup (live_in (map_of small)) (Pos 1 ∷ []) (1 ∷ 2 ∷ []) }
 {}
 
-/// The `v` lines: no variable, a false one, and a line of just 78 bytes.
+/// The `v` lines: no variable, a false one, and a line of exactly 78 bytes.
 pub fn worked_answers()
     ensures empty { witness_lines [] ≡ codes "v 0\n" }
     ensures signs { witness_lines (true ∷ false ∷ []) ≡ codes "v 1 -2 0\n" }

@@ -10,8 +10,8 @@ use crate::literal::Lit;
 use std::alloc::{AllocError, Global};
 use std::marker::Model;
 
-/// Clauses that may be added to a formula, with a number of variables that the formula is to have at least. They may be none, and
-/// there are at most 4,000,000 of them, with 50,000,000 literals; the number of variables may be above a formula's limit.
+/// Clauses to be added to a formula, and the least number of variables that it has then. There are at most 4,000,000 clauses,
+/// with 50,000,000 literals, and maybe none. The number of variables may exceed a formula's limit.
 #[derive(Drop)]
 pub struct Extension {
     vars: u32,
@@ -47,7 +47,7 @@ impl Extension {
         }
     }
 
-    /// How many variables the formula is to have at least: the greatest that a clause may name.
+    /// The least number of variables that the formula has then: the greatest variable that a clause may name.
     pub fn vars(&self) -> u32
         ensures value { result ≡ self.now.vars }
         ensures within { AreWithin self.now.vars self.now.clauses }
@@ -55,7 +55,7 @@ impl Extension {
         self.vars
     }
 
-    /// How many clauses are added, at most 4,000,000.
+    /// The number of clauses, at most 4,000,000.
     #[tactic(auto, using(crate::proofs::FlatLemmas::length_parts))]
     pub fn len(&self) -> usize
         ensures value { result ≡ length self.now.clauses }
@@ -64,7 +64,7 @@ impl Extension {
         self.places.len() - 1
     }
 
-    /// The clause of this number, from 0.
+    /// The clause at this index, from 0.
     pub fn clause(&self, i: usize) -> &[Lit]
         requires { i < length self.now.clauses }
         ensures clause { result.now ≡ slice_index_or self.now.clauses i [] }
@@ -73,7 +73,7 @@ impl Extension {
         flat::clause_at(&self.literals, &self.places, i)
     }
 
-    // Its literals, clause after clause, and the places where its clauses begin, with the place where the last one ends.
+    // The literals, clause after clause, and the offsets at which the clauses begin, with the end of the last one.
     pub(crate) fn parts(&self) -> (&[Lit], &[u32])
         ensures clauses { parts result.0.now result.1.now ≡ self.now.clauses }
         ensures fills { Fills result.0.now result.1.now }
@@ -81,7 +81,7 @@ impl Extension {
         (&self.literals, &self.places)
     }
 
-    /// The same extension again.
+    /// A copy.
     pub fn copy(&self, alloc: Global) -> Result<Extension, AllocError>
         ensures { IfOk result (λ x. x ≡ self.now) }
     {

@@ -1,14 +1,14 @@
-//! Why a text is no formula.
+//! The faults of DIMACS texts.
 
 ghost use Rattle.std.specs.Prelude.{◌≡◌};
 ghost use Rattle.dimacs.specs.text.Faults.{number_of_kind};
-ghost use Rattle.dimacs.specs.text.Reading.{no_memory};
+ghost use Rattle.dimacs.specs.text.Parser.{no_memory};
 
 use std::alloc::{AllocError, AllocFailed};
 use thiserror::Error;
 
-/// What is wrong. The first token that is wrong decides, and of several faults of one token the one that is tested first:
-/// in the header from left to right, behind it `BadToken`, `TooManyClauses`, `VariableAboveHeader`, `AboveLimit`.
+/// What is wrong. The first faulty token decides. If it has several faults, the first of these decides: in the header, from left
+/// to right; after the header, `BadToken`, `TooManyClauses`, `VariableAboveHeader`, `AboveLimit`.
 #[derive(Clone, Copy, Debug, PartialEq, Eq, Error)]
 pub enum Kind {
     /// There is no token, or the first one is not `p`.
@@ -17,7 +17,7 @@ pub enum Kind {
     /// A token of the header's line is not the one that must stand there, is missing, or is a fifth.
     #[error("the header is not `p cnf VARIABLES CLAUSES`")]
     BadHeader,
-    /// A token behind the header is no number.
+    /// A token after the header is no number.
     #[error("a token is no number")]
     BadToken,
     /// A literal's variable is above the header's number of variables.
@@ -26,10 +26,10 @@ pub enum Kind {
     /// The text ends within a clause.
     #[error("the text ends within a clause")]
     ClauseNotEnded,
-    /// The text ends before the header's number of clauses.
+    /// The text ends before as many clauses have ended as the header announces.
     #[error("the text ends before the last clause")]
     TooFewClauses,
-    /// A number stands behind the last of the header's number of clauses.
+    /// A number follows the last of the clauses that the header announces.
     #[error("a clause stands behind the last")]
     TooManyClauses,
     /// More than 1,000,000 variables, 4,000,000 clauses or 50,000,000 literals.
@@ -41,7 +41,7 @@ pub enum Kind {
 }
 
 impl Kind {
-    /// The number that stands for it where it is printed, from 1 to 9.
+    /// The fault number that is printed, from 1 to 9.
     pub fn number(self) -> u8
         ensures { result ≡ number_of_kind self }
     {
@@ -60,7 +60,7 @@ impl Kind {
 }
 
 /// The first fault of a text, and its line, from 1: the line of the token; of a missing token of the header, the header's
-/// line; at the end of the text, the number of line ends plus 1. Want of memory has line 0.
+/// line; at the end of the text, the number of line ends plus 1. `NoMemory` has line 0.
 #[derive(Clone, Copy, Debug, PartialEq, Eq, Error)]
 #[error("line {line}: {kind}")]
 pub struct DimacsFault {

@@ -1,4 +1,4 @@
-//! Clauses that lie one after the other in a vector of literals, each between a place and the next.
+//! Clauses in one vector of literals, each between one offset and the next.
 
 ghost use Rattle.std.specs.Prelude.{◌≡◌, ℕ, ◌+◌, ◌<◌, ◌^◌, [], ◌∷◌, ◌++◌, length, slice_index_or, vec_len, All, IfOk, OnOk, OnErr};
 ghost use Rattle.dimacs.specs.logic.Literal.{IsWithin};
@@ -7,7 +7,7 @@ ghost use Rattle.dimacs.specs.layout.Flat.{parts, ArePlaces, Fills};
 use crate::literal::Lit;
 use std::alloc::{AllocError, Global};
 
-/// The clause of this number, from 0.
+/// The clause at this index, from 0.
 #[tactic(auto, using(crate::proofs::FlatLemmas::flat))]
 pub(crate) fn clause_at<'a>(literals: &'a [Lit], places: &[u32], i: usize) -> &'a [Lit]
     requires places { ArePlaces places.now (length literals.now) }
@@ -18,7 +18,7 @@ pub(crate) fn clause_at<'a>(literals: &'a [Lit], places: &[u32], i: usize) -> &'
     &literals[places[i] as usize..places[i + 1] as usize]
 }
 
-/// Appends a clause; the clauses are as before where memory is refused.
+/// Appends a clause. If memory is refused, the clauses are unchanged.
 #[tactic(auto, using(crate::proofs::FlatPush::pushes))]
 pub(crate) fn push_clause(
     literals: &mut Vec<Lit>,
@@ -37,7 +37,7 @@ pub(crate) fn push_clause(
     literals.extend_from_slice(clause)
 }
 
-/// Appends clauses that lie in lists of their own. Where memory is refused, some of them have been appended.
+/// Appends the clauses of other lists. If memory is refused, some of them may have been appended.
 pub(crate) fn push_clauses(
     literals: &mut Vec<Lit>,
     places: &mut Vec<u32>,
@@ -56,7 +56,7 @@ pub(crate) fn push_clauses(
     Ok(())
 }
 
-/// The clauses of two pairs of lists, one behind the other, in lists of their own.
+/// The clauses of one pair of lists, followed by those of another, in new lists.
 pub(crate) fn joined(
     alloc: Global,
     literals: &[Lit],

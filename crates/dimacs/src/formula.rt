@@ -14,14 +14,13 @@ use std::alloc::{AllocError, Global};
 use std::marker::Model;
 use std::rc::Rc;
 
-/// A formula of at most 1,000,000 variables, 4,000,000 clauses and 50,000,000 literals. It lies as a base does, and can be lent as one.
+/// A formula of at most 1,000,000 variables, 4,000,000 clauses and 50,000,000 literals, held as a base, which can be lent.
 ///
-/// Copies share what lies there, since no call changes a formula: all the nodes of a process have its clauses once.
+/// No call changes a formula, so copies share its clauses (`Rc`): all nodes of a process hold them once.
 pub struct Formula {
     base: Rc<Base>,
 }
 
-// By hand, so that whoever owns one drops it by one call, and no proof there goes through its parts.
 impl Drop for Formula {
     fn drop(self) {
         let Formula { base: _ } = self;
@@ -38,7 +37,7 @@ impl Model for Formula {
     ghost invariant = { λ f. IsFormula f.base.value };
 }
 
-/// Whether so many variables, clauses and literals are within the limits of a formula.
+/// Whether these numbers of variables, clauses and literals are within the limits of a formula.
 fn are_few(vars: u32, clauses: usize, literals: usize) -> bool
     ensures { IsTrue result ↔ (vars ≤ 1000000) × (clauses ≤ 4000000) × (literals ≤ 50000000) }
 {
@@ -63,8 +62,8 @@ impl Formula {
         Ok(Formula { base })
     }
 
-    /// Its number of variables, its literals, clause after clause, and the places where its clauses begin, with the place where
-    /// the last one ends. They are copied where a copy of the formula stands beside.
+    /// Takes the formula apart: its number of variables, its literals, clause after clause, and the offsets at which the clauses
+    /// begin, with the end of the last one. They are copied if another copy of the formula shares them.
     pub fn into_parts(self, alloc: Global) -> Result<(u32, Vec<Lit>, Vec<u32>), AllocError>
         ensures value { IfOk result (λ p. self ≡ record { vars = p.0; clauses = parts p.1.items p.2.items }) }
         ensures fills { IfOk result (λ p. Fills p.1.items p.2.items) }
@@ -77,7 +76,7 @@ impl Formula {
         }
     }
 
-    /// How many variables it has, at most 1,000,000: the greatest that a clause may name.
+    /// The number of variables, at most 1,000,000: the greatest variable that a clause may name.
     pub fn vars(&self) -> u32
         ensures value { result ≡ self.now.vars }
         ensures limit { result ≤ 1000000 }
@@ -86,14 +85,14 @@ impl Formula {
         self.base.vars()
     }
 
-    /// How many clauses it has, at most 4,000,000.
+    /// The number of clauses, at most 4,000,000.
     pub fn len(&self) -> usize
         ensures { result ≡ length self.now.clauses }
     {
         self.base.len()
     }
 
-    /// The clause of this number, from 0.
+    /// The clause at this index, from 0.
     pub fn clause(&self, i: usize) -> &[Lit]
         requires { i < length self.now.clauses }
         ensures clause { result.now ≡ slice_index_or self.now.clauses i [] }
@@ -102,14 +101,14 @@ impl Formula {
         self.base.clause(i)
     }
 
-    /// The formula as a base to which nothing was added.
+    /// The formula as a base to which no clause was added.
     pub fn as_base(&self) -> &Base
         ensures { result.now ≡ self.now }
     {
         &self.base
     }
 
-    /// The same formula again, which takes no memory.
+    /// The same formula, sharing its clauses: takes no memory.
     pub fn copy(&self) -> Result<Formula, AllocError>
         ensures { IfOk result (λ f. f ≡ self.now) }
     {
@@ -118,8 +117,8 @@ impl Formula {
         })
     }
 
-    /// The formula with the extension's clauses behind its own, over the greater number of variables; `None` where that would be
-    /// above a limit, which takes no memory. It takes time in the size of both.
+    /// The formula with the extension's clauses after its own, over the greater number of variables; `None`, which takes no memory,
+    /// if that is above a limit. Takes time linear in the size of both.
     pub fn extended(
         &self,
         alloc: Global,
@@ -128,7 +127,7 @@ impl Formula {
         ensures found { IfOk result (λ found. MatchOption found
             (¬ (IsFormula (extended self.now extension.now)))
             (λ f. (f ≡ extended self.now extension.now) × IsFormula (extended self.now extension.now))) }
-        // memory is wanting for a formula within the limits alone
+        // memory is asked for only if the extended formula is within the limits
         ensures limits { OnErr result (IsFormula (extended self.now extension.now)) }
     {
         let (literals, places) = self.as_base().parts();

@@ -1,30 +1,32 @@
-//! A formula from the lines of its text, one after the other.
+//! A parser of DIMACS texts that takes one line at a time.
 
 ghost use Rattle.std.specs.Prelude.{◌≡◌, ℕ, ◌+◌, [], ◌∷◌, None, MatchBool};
 ghost use Rattle.dimacs.specs.inner.Pieces.{TakesLine, RefusesLine};
 ghost use Rattle.dimacs.specs.text.Pieces.{read_on};
-ghost use Rattle.dimacs.specs.text.Reading.{GivesFormula};
+ghost use Rattle.dimacs.specs.text.Parser.{GivesFormula};
 
 use crate::body::Body;
 use crate::fault::DimacsFault;
 use crate::formula::Formula;
+use crate::limits::Limits;
 use crate::rows::Rows;
 use crate::words::is_blank;
 use std::alloc::{AllocError, Global};
 use std::marker::Model;
 
-/// What was read of the first lines of a text: how many they are, and from the header on what stands there.
+/// The parser's state after the first lines of a text: the limits, the number of lines, and the body once the header was read.
 pub(crate) struct FormulaLines {
     alloc: Global,
+    limits: Limits,
     count: u64,
     body: Option<Body>,
 }
 
-// By hand, so that whoever owns one drops it by one call, and no proof there goes through its parts.
 impl Drop for FormulaLines {
     fn drop(self) {
         let FormulaLines {
             alloc: _,
+            limits: _,
             count: _,
             body: _,
         } = self;
@@ -36,21 +38,22 @@ impl Model for FormulaLines {
 
     ghost Value = { LinesRead };
 
-    ghost view = { λ l. record { count = l.count; body = l.body } };
+    ghost view = { λ l. record { limits = l.limits; count = l.count; body = l.body } };
 }
 
-/// Reads the line of this number, one behind the header or one up to it, and tells whether it was taken; if not, `fault` is why.
+/// Reads the line of this number, before, at or after the header. Returns whether it was taken; if not, sets `fault`.
 #[inline(always)]
 fn read_line(
     alloc: Global,
+    limits: Limits,
     body: &mut Option<Body>,
     number: u64,
     line: &[u8],
     fault: &mut DimacsFault,
 ) -> bool
     ensures { (before : ℕ) → number ≡ before + 1 → MatchBool result
-        (TakesLine (record { count = before; body = body.old }) line.now (record { count = number; body = body.new }))
-        (RefusesLine (record { count = before; body = body.old }) line.now fault.new) }
+        (TakesLine (record { limits = limits; count = before; body = body.old }) line.now (record { limits = limits; count = number; body = body.new }))
+        (RefusesLine (record { limits = limits; count = before; body = body.old }) line.now fault.new) }
 {
     match body {
         Some(rows) => match rows.read_line(number, line) {
@@ -64,7 +67,7 @@ fn read_line(
             if is_blank(line) {
                 return true;
             }
-            match Body::begin(alloc, number, line) {
+            match Body::begin(alloc, limits, number, line) {
                 Ok(rows) => {
                     *body = Some(rows);
                     true
@@ -79,22 +82,23 @@ fn read_line(
 }
 
 impl FormulaLines {
-    /// No line was read.
-    pub(crate) fn new(alloc: Global) -> FormulaLines
-        ensures { result ≡ record { count = 0; body = None } }
+    /// No line has been read.
+    pub(crate) fn new(alloc: Global, limits: Limits) -> FormulaLines
+        ensures { result ≡ record { limits = limits; count = 0; body = None } }
     {
         FormulaLines {
             alloc,
+            limits,
             count: 0,
             body: None,
         }
     }
 
-    /// Reads the next line, and tells whether it was taken; if not, `fault` is why, and what is kept is of no further use. A line
-    /// whose number has no room in 64 bits is refused as for want of memory.
+    /// Reads the next line. Returns whether it was taken; if not, sets `fault`, and the state is of no further use. A line whose
+    /// number exceeds 64 bits is refused as `NoMemory`.
     ///
-    /// A fault goes through a place of its own, and all is inlined: a result of three words that is handed on through two calls
-    /// for each line takes a sixth of the time in which a formula of short lines is read.
+    /// The fault is an out-parameter, and the calls are inlined: a `Result` of three words, handed up through two calls a line,
+    /// took a sixth of the time for a formula of short lines.
     #[inline(always)]
     pub(crate) fn take_line(&mut self, line: &[u8], fault: &mut DimacsFault) -> bool
         ensures { MatchBool result (TakesLine self.old line.now self.new) (RefusesLine self.old line.now fault.new) }
@@ -106,10 +110,17 @@ impl FormulaLines {
                 return false;
             }
         }
-        read_line(self.alloc, &mut self.body, self.count, line, fault)
+        read_line(
+            self.alloc,
+            self.limits,
+            &mut self.body,
+            self.count,
+            line,
+            fault,
+        )
     }
 
-    /// The formula of a text that ends here.
+    /// The formula, if the text ends here.
     fn end(self) -> Result<Formula, DimacsFault>
         ensures { GivesFormula result (read_on self []) }
     {
@@ -117,6 +128,7 @@ impl FormulaLines {
             count,
             body,
             alloc: _,
+            limits: _,
         } = self;
         match body {
             Some(body) => body.finish(count),
@@ -124,7 +136,7 @@ impl FormulaLines {
         }
     }
 
-    /// The formula of a text whose last line is this one.
+    /// The formula, if this is the text's last line.
     pub(crate) fn finish(self, last: &[u8]) -> Result<Formula, DimacsFault>
         ensures { GivesFormula result (read_on self (last.now ∷ [])) }
     {

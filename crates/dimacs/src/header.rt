@@ -1,10 +1,11 @@
-//! The header of a DIMACS text: `p cnf`, the number of variables and the number of clauses, one function a token.
+//! The header of a DIMACS text: `p cnf`, the number of variables and the number of clauses. One function reads one token.
 
 ghost use Rattle.std.specs.Prelude.{◌≡◌, ◌≤◌, IfOk, Err, bytes_eq};
 ghost use Rattle.dimacs.specs.text.Words.{words};
-ghost use Rattle.dimacs.specs.text.Reading.{read_header, header_two, header_three, header_four, header_end};
+ghost use Rattle.dimacs.specs.text.Parser.{read_header, header_two, header_three, header_four, header_end};
 
 use crate::fault::{DimacsFault, Kind};
+use crate::limits::Limits;
 use crate::number::natural;
 use crate::words::next_word;
 
@@ -14,7 +15,7 @@ fn is_word(word: &[u8], text: &[u8]) -> bool
     word == text
 }
 
-/// Reads what stands behind the header's four tokens.
+/// Reads the rest of the line after the header's four tokens: any token there is a fault.
 fn end_of_header(line: u64, vars: u32, count: u32, text: &[u8]) -> Result<(u32, u32), DimacsFault>
     requires vars { vars ≤ 1000000 }
     requires count { count ≤ 4000000 }
@@ -28,9 +29,14 @@ fn end_of_header(line: u64, vars: u32, count: u32, text: &[u8]) -> Result<(u32, 
 }
 
 /// Reads the number of clauses.
-fn clauses_of_header(line: u64, vars: u32, text: &[u8]) -> Result<(u32, u32), DimacsFault>
+fn clauses_of_header(
+    limits: Limits,
+    line: u64,
+    vars: u32,
+    text: &[u8],
+) -> Result<(u32, u32), DimacsFault>
     requires { vars ≤ 1000000 }
-    ensures value { result ≡ header_four line vars (words text.now) }
+    ensures value { result ≡ header_four limits line vars (words text.now) }
     ensures limits { IfOk result (λ h. (h.0 ≤ 1000000) × (h.1 ≤ 4000000)) }
 {
     let Some((word, rest)) = next_word(text) else {
@@ -39,15 +45,15 @@ fn clauses_of_header(line: u64, vars: u32, text: &[u8]) -> Result<(u32, u32), Di
     let Some(count) = natural(word) else {
         return Err(DimacsFault::at(Kind::BadHeader, line));
     };
-    if count > 4_000_000 {
+    if count > limits.clauses() {
         return Err(DimacsFault::at(Kind::AboveLimit, line));
     }
     end_of_header(line, vars, count, rest)
 }
 
 /// Reads the number of variables.
-fn vars_of_header(line: u64, text: &[u8]) -> Result<(u32, u32), DimacsFault>
-    ensures value { result ≡ header_three line (words text.now) }
+fn vars_of_header(limits: Limits, line: u64, text: &[u8]) -> Result<(u32, u32), DimacsFault>
+    ensures value { result ≡ header_three limits line (words text.now) }
     ensures limits { IfOk result (λ h. (h.0 ≤ 1000000) × (h.1 ≤ 4000000)) }
 {
     let Some((word, rest)) = next_word(text) else {
@@ -56,15 +62,15 @@ fn vars_of_header(line: u64, text: &[u8]) -> Result<(u32, u32), DimacsFault>
     let Some(vars) = natural(word) else {
         return Err(DimacsFault::at(Kind::BadHeader, line));
     };
-    if vars > 1_000_000 {
+    if vars > limits.vars() {
         return Err(DimacsFault::at(Kind::AboveLimit, line));
     }
-    clauses_of_header(line, vars, rest)
+    clauses_of_header(limits, line, vars, rest)
 }
 
 /// Reads the word `cnf`.
-fn format_of_header(line: u64, text: &[u8]) -> Result<(u32, u32), DimacsFault>
-    ensures value { result ≡ header_two line (words text.now) }
+fn format_of_header(limits: Limits, line: u64, text: &[u8]) -> Result<(u32, u32), DimacsFault>
+    ensures value { result ≡ header_two limits line (words text.now) }
     ensures limits { IfOk result (λ h. (h.0 ≤ 1000000) × (h.1 ≤ 4000000)) }
 {
     let Some((word, rest)) = next_word(text) else {
@@ -73,13 +79,13 @@ fn format_of_header(line: u64, text: &[u8]) -> Result<(u32, u32), DimacsFault>
     if !is_word(word, b"cnf") {
         return Err(DimacsFault::at(Kind::BadHeader, line));
     }
-    vars_of_header(line, rest)
+    vars_of_header(limits, line, rest)
 }
 
 /// Reads the header's two numbers from its line.
-#[tactic(auto, unfolding(crate::specs::text::Reading::read_header))]
-pub(crate) fn read_header(line: u64, text: &[u8]) -> Result<(u32, u32), DimacsFault>
-    ensures value { result ≡ read_header line (words text.now) }
+#[tactic(auto, unfolding(crate::specs::text::Parser::read_header))]
+pub(crate) fn read_header(limits: Limits, line: u64, text: &[u8]) -> Result<(u32, u32), DimacsFault>
+    ensures value { result ≡ read_header limits line (words text.now) }
     ensures limits { IfOk result (λ h. (h.0 ≤ 1000000) × (h.1 ≤ 4000000)) }
 {
     let Some((word, rest)) = next_word(text) else {
@@ -88,5 +94,5 @@ pub(crate) fn read_header(line: u64, text: &[u8]) -> Result<(u32, u32), DimacsFa
     if !is_word(word, b"p") {
         return Err(DimacsFault::at(Kind::NoHeader, line));
     }
-    format_of_header(line, rest)
+    format_of_header(limits, line, rest)
 }

@@ -1,23 +1,25 @@
-//! Laws of the definitions.
+//! Laws of the grammar and the parser, proved once and for all texts.
 
 ghost use Rattle.std.specs.Prelude.{◌≡◌, ◌≢◌, ℕ, List, Ok, IfErr};
-ghost use Rattle.dimacs.specs.logic.Cnf.{Cnf, IsFormula};
-ghost use Rattle.dimacs.specs.text.Spelling.{Spells, spelling};
-ghost use Rattle.dimacs.specs.text.Reading.{parse};
+ghost use Rattle.dimacs.specs.logic.Cnf.{Cnf, FitsIn, IsFormula};
+ghost use Rattle.dimacs.specs.logic.Limits.{Limits, AreNoMore, large};
+ghost use Rattle.dimacs.specs.text.Grammar.{SpellsWithin, spelling};
+ghost use Rattle.dimacs.specs.text.Parser.{parse_within};
 
 use crate::fault::Kind;
 
-/// Reading gives exactly the formula that a text spells.
+/// The parser gives a formula within limits if and only if the text spells it within them.
 pub fn reading_is_spelling()
-    ensures { (text : List ℕ) (f : Cnf) → (parse text ≡ Ok f → Spells text f) × (Spells text f → parse text ≡ Ok f) }
+    ensures { (L : Limits) (text : List ℕ) (f : Cnf) → AreNoMore L large
+        → (parse_within L text ≡ Ok f → SpellsWithin L text f) × (SpellsWithin L text f → parse_within L text ≡ Ok f) }
 {}
 
-/// What is written of a formula within the limits spells it.
+/// The text that is written of a formula spells it, within all limits that it fits into.
 pub fn writing_is_spelling()
-    ensures { (f : Cnf) → IsFormula f → Spells (spelling f) f }
+    ensures { (L : Limits) (f : Cnf) → IsFormula f → FitsIn L f → SpellsWithin L (spelling f) f }
 {}
 
-/// No text is told to want memory: only a call answers that.
+/// The parser's definition never gives `NoMemory`: only a call can return it.
 pub fn no_text_wants_memory()
-    ensures { (text : List ℕ) → IfErr (parse text) (λ f. f.kind ≢ Kind.NoMemory) }
+    ensures { (L : Limits) (text : List ℕ) → IfErr (parse_within L text) (λ f. f.kind ≢ Kind.NoMemory) }
 {}

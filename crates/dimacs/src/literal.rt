@@ -43,7 +43,7 @@ impl Var {
     }
 }
 
-/// A variable, or its negation. Its code is twice the variable's number, and one more where it is negated.
+/// A variable, or its negation. Its code is twice the variable's number, plus 1 if it is negated.
 #[derive(Clone, Copy, Debug, PartialEq, Eq)]
 pub struct Lit {
     code: u32,
@@ -112,7 +112,7 @@ impl Lit {
         self.code % 2 == 1
     }
 
-    /// Its place in a table of all literals, from 2.
+    /// Its index in a table of all literals, from 2.
     #[inline]
     pub fn index(self) -> usize
         ensures value { result ≡ index_of self }
@@ -122,7 +122,7 @@ impl Lit {
         self.code as usize
     }
 
-    /// The number that stands for it in a text: the variable's, with a minus where it is negated.
+    /// Its number in a text: that of the variable, with a minus if it is negated.
     pub fn number(self) -> i32
         ensures { result ≡ number_of self }
     {
@@ -135,7 +135,7 @@ impl Lit {
     }
 }
 
-/// Whether a clause holds the literal.
+/// Whether the clause contains the literal.
 pub fn has_literal(clause: &[Lit], literal: Lit) -> bool
     ensures { result ≡ has clause.now literal }
 {

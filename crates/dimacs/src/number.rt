@@ -12,7 +12,7 @@ ghost use Rattle.dimacs.specs.text.Words.{is_white, words};
 use crate::literal::{Lit, Var};
 use crate::words::{is_white, white_len, word_len};
 
-/// A number that was read. A size of 100,000,000 stands for every size from there on: no limit lies above it.
+/// A number that was read: its sign, and its size, capped at 100,000,000, which is above every limit.
 #[derive(Clone, Copy, Debug)]
 pub struct Number {
     pub negative: bool,
@@ -21,11 +21,11 @@ pub struct Number {
 
 const CAP: u32 = 100_000_000;
 
-/// How many digits a number may have that is surely below the cap.
+/// A number of at most so many digits is below the cap.
 const SHORT: usize = 8;
 
 impl Number {
-    /// The literal that a number other than 0 stands for, where the size is exact.
+    /// The literal of a number other than 0, whose size is below the cap and so exact.
     pub fn literal(self) -> Lit
         requires some { 0 < self.size }
         requires exact { self.size < 100000000 }
@@ -40,7 +40,7 @@ impl Number {
     }
 }
 
-/// How many bytes stand before the first white space, and their value: None where one of them is no digit.
+/// The number of bytes before the first white space, and their capped value: `None` if one of them is no digit.
 fn leading_digits(text: &[u8]) -> (usize, Option<u32>)
     ensures len { result.0 ≡ position_or_len is_white text.now }
     ensures bound { result.0 ≤ length text.now }
@@ -61,7 +61,7 @@ fn leading_digits(text: &[u8]) -> (usize, Option<u32>)
     (text.len(), Some(value))
 }
 
-/// The value of digits.
+/// The capped value of a word of digits: `None` if one of its bytes is no digit.
 fn digits(word: &[u8]) -> Option<u32>
     ensures value { result ≡ option_map (min 100000000) (digits_from 0 word.now) }
     ensures small { IfSome result (λ n. n ≤ 100000000) }
@@ -73,8 +73,8 @@ fn digits(word: &[u8]) -> Option<u32>
     value
 }
 
-/// A number without a sign: `0`, or digits of which the first is 1 to 9. None where the token is no such number. The
-/// answer 100,000,000 stands for every number from there on.
+/// A number without a sign, capped at 100,000,000: `0`, or digits of which the first is 1 to 9. `None` if the token is no such
+/// number.
 pub fn natural(word: &[u8]) -> Option<u32>
     ensures value { result ≡ option_map (min 100000000) (natural_of word.now) }
     ensures small { IfSome result (λ n. n ≤ 100000000) }
@@ -87,8 +87,8 @@ pub fn natural(word: &[u8]) -> Option<u32>
     }
 }
 
-/// The number of that size behind a minus, where there is one.
-fn behind_minus(size: Option<u32>) -> Option<Number>
+/// The number of this size after a minus: `None` if there is no size or it is 0, since `-0` is no number.
+fn after_minus(size: Option<u32>) -> Option<Number>
     ensures value { (n : Option ℕ) → size ≡ option_map (min 100000000) n → result ≡ option_map capped (option_and_then negated n) }
     ensures small { IfSome size (λ n. n ≤ 100000000) → IfSome result (λ n. n.size ≤ 100000000) }
 {
@@ -102,7 +102,7 @@ fn behind_minus(size: Option<u32>) -> Option<Number>
     })
 }
 
-/// The number of that size without a minus, where there is one.
+/// The number of this size without a minus: `None` if there is no size.
 fn without_minus(size: Option<u32>) -> Option<Number>
     ensures value { (n : Option ℕ) → size ≡ option_map (min 100000000) n → result ≡ option_map capped (option_and_then positive n) }
     ensures small { IfSome size (λ n. n ≤ 100000000) → IfSome result (λ n. n.size ≤ 100000000) }
@@ -114,18 +114,18 @@ fn without_minus(size: Option<u32>) -> Option<Number>
     })
 }
 
-/// A number with an optional minus; `-0` is none. None where the token is no number.
+/// A number with an optional minus; `-0` is no number. `None` if the token is no number.
 pub fn signed(word: &[u8]) -> Option<Number>
     ensures value { result ≡ option_map capped (number_of word.now) }
     ensures small { IfSome result (λ n. n.size ≤ 100000000) }
 {
     match word {
-        [b'-', rest @ ..] => behind_minus(natural(rest)),
+        [b'-', rest @ ..] => after_minus(natural(rest)),
         _ => without_minus(natural(word)),
     }
 }
 
-/// The number without a sign before the first white space, and what follows it.
+/// The number without a sign before the first white space, and the rest of the text.
 fn leading_natural(text: &[u8]) -> (Option<u32>, &[u8])
     ensures value { result.0 ≡ option_map (min 100000000) (natural_of (take (position_or_len is_white text.now) text.now)) }
     ensures small { IfSome result.0 (λ n. n ≤ 100000000) }
@@ -139,8 +139,8 @@ fn leading_natural(text: &[u8]) -> (Option<u32>, &[u8])
     (value, rest)
 }
 
-/// The number before the first white space, of which the first digit is 1 to 9 and no digit lies behind `end`, and how many
-/// digits it has: None also where something else stands there.
+/// The number before the first white space, if its first digit is 1 to 9 and its last lies before `end`, and the number of its
+/// digits. `None` also for any other token.
 #[inline(always)]
 fn short_size_within(text: &[u8], end: usize) -> Option<(u32, usize)>
     requires few { end ≤ 8 }
@@ -166,12 +166,12 @@ fn short_size_within(text: &[u8], end: usize) -> Option<(u32, usize)>
     Some((size, len))
 }
 
-/// The number of at most 8 digits before the first white space, of which the first is 1 to 9, and how many digits it has: None
-/// also where something else stands there.
+/// The number before the first white space, if it has at most 8 digits and begins with 1 to 9, and the number of its digits.
+/// `None` also for any other token.
 ///
-/// Nearly every token of a text is such a number, a minus before it, or `0`. So few digits need no cap. Nearly always as many bytes
-/// are there, so that the loop has a fixed end: it is compiled without a loop, one test a digit, each with a history of its own by
-/// which it is foretold.
+/// Nearly every token of a text is such a number, with or without a minus, or `0`. A number of 8 digits needs no cap. Nearly
+/// always 8 bytes are left, so the loop has a constant bound and is unrolled: one branch a digit, each predicted by its own
+/// history.
 #[inline(always)]
 fn short_size(text: &[u8]) -> Option<(u32, usize)>
     ensures len { IfSome result (λ p. p.1 ≡ position_or_len is_white text.now) }
@@ -203,11 +203,11 @@ fn begins_with_minus(text: &[u8]) -> bool
     !text.is_empty() && text[0] == b'-'
 }
 
-/// The number before the first white space, where it is `0` or has at most 8 digits, and how many bytes it has.
+/// The number before the first white space, if it is `0` or has at most 8 digits, and the number of its bytes.
 ///
-/// The signs of a formula are as good as random, so a branch on the sign would be foretold wrongly every other time, which costs
-/// more than all digits of the number. So both signs share one loop, behind as many bytes as the sign has: a formula of 23 MB is
-/// read in an eighth less time.
+/// The signs of a formula are as good as random, so a branch on the sign would be mispredicted every other time, which costs more
+/// than all digits of the number. So both signs share one loop, which starts after the sign, 0 or 1 bytes. This reads a formula
+/// of 23 MB in an eighth less time.
 #[inline(always)]
 fn short_number(text: &[u8]) -> Option<(Number, usize)>
     ensures len { IfSome result (λ p. p.1 ≡ position_or_len is_white text.now) }
@@ -232,7 +232,7 @@ fn short_number(text: &[u8]) -> Option<(Number, usize)>
     None
 }
 
-/// The number before the first white space, however many bytes it has, and what follows it.
+/// The number before the first white space, of any length, and the rest of the text.
 #[inline(never)]
 fn any_number(text: &[u8]) -> (Option<Number>, &[u8])
     ensures value { result.0 ≡ option_map capped (number_of (take (position_or_len is_white text.now) text.now)) }
@@ -244,13 +244,13 @@ fn any_number(text: &[u8]) -> (Option<Number>, &[u8])
         return (without_minus(size), rest);
     }
     let (size, rest) = leading_natural(&text[1..]);
-    (behind_minus(size), rest)
+    (after_minus(size), rest)
 }
 
-/// What follows the first token, which has that many bytes, without the white space that ends it: so the next token mostly stands
-/// first there.
+/// The rest of the text after the first token, of `len` bytes, and after the byte of white space that ends it. So the next token
+/// usually begins at once.
 #[inline(always)]
-fn behind_token(text: &[u8], len: usize) -> &[u8]
+fn after_token(text: &[u8], len: usize) -> &[u8]
     requires len { len ≡ position_or_len is_white text.now }
     requires inside { len ≤ length text.now }
     ensures words { words result.now ≡ words (drop len text.now) }
@@ -263,7 +263,7 @@ fn behind_token(text: &[u8], len: usize) -> &[u8]
     }
 }
 
-/// The number before the first white space, and what follows it, of which white space at the front may be missing.
+/// The number before the first white space, and the rest of the text, perhaps without white space at its front.
 #[inline(always)]
 fn leading_number(text: &[u8]) -> (Option<Number>, &[u8])
     ensures value { result.0 ≡ option_map capped (number_of (take (position_or_len is_white text.now) text.now)) }
@@ -272,13 +272,13 @@ fn leading_number(text: &[u8]) -> (Option<Number>, &[u8])
     ensures rest { length result.1.now ≤ length (drop (position_or_len is_white text.now) text.now) }
 {
     match short_number(text) {
-        Some((number, len)) => (Some(number), behind_token(text, len)),
+        Some((number, len)) => (Some(number), after_token(text, len)),
         None => any_number(text),
     }
 }
 
-/// The first token of a line as a number, in one pass, and what follows it: None where only white space is left, and no
-/// number where the token is none.
+/// The first token of a line as a number, in one pass, and the rest of the line. `None` if only white space is left; the number is
+/// `None` if the token is no number.
 #[inline]
 pub fn next_number(line: &[u8]) -> Option<(Option<Number>, &[u8])>
     ensures word { MatchOption result (words line.now ≡ []) (λ p. (word : List ℕ) × (words line.now ≡ word ∷ words p.1.now) × (p.0 ≡ option_map capped (number_of word))) }

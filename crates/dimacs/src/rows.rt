@@ -1,4 +1,4 @@
-//! Texts of lines of tokens, of which the first line with a token is a header.
+//! The parser that DIMACS and iCNF share: lines of tokens, of which the first line with a token is the header.
 
 ghost use Rattle.std.specs.Prelude.{◌≡◌, ◌+◌, ◌<◌, ◌^◌};
 ghost use Rattle.dimacs.specs.text.Rows.{Answers, Format, read_lines, read_text, read_words};
@@ -6,21 +6,22 @@ ghost use Rattle.dimacs.specs.inner.Rows.{Gives};
 ghost use Rattle.dimacs.specs.text.Words.{lines, words, words_of};
 ghost use Rattle.dimacs.specs.inner.Words.{left_len, lines_left};
 
+use crate::limits::Limits;
 use crate::words::{is_blank, next_line};
 use std::alloc::Global;
 
-/// What was read of such a text, from its header on.
+/// The state of such a parser, from the header on.
 pub trait Rows: Sized + Drop {
-    /// What a whole text is.
+    /// What a text gives.
     type Value: Drop;
 
-    /// Why a text is none.
+    /// Why a text is refused.
     type Fault: Drop;
 
-    /// How such texts are read.
+    /// The definition that the parser follows.
     ghost format: { Format Self Self.Value Self.Fault };
 
-    /// The fault where memory is refused.
+    /// The fault if memory is refused.
     ghost no_memory: { Self.Fault };
 
     /// The fault of a text of that many lines that has no header.
@@ -28,19 +29,19 @@ pub trait Rows: Sized + Drop {
         ensures { result ≡ format.no_header lines };
 
     /// Reads the header.
-    fn begin(alloc: Global, line: u64, header: &[u8]) -> Result<Self, Self::Fault>
-        ensures { Answers no_memory result (format.header line (words header.now)) };
+    fn begin(alloc: Global, limits: Limits, line: u64, header: &[u8]) -> Result<Self, Self::Fault>
+        ensures { Answers no_memory result (format.header limits line (words header.now)) };
 
-    /// Reads the tokens of a line behind the header.
+    /// Reads the tokens of a line after the header.
     fn read_line(&mut self, line: u64, text: &[u8]) -> Result<(), Self::Fault>
         ensures { Gives no_memory self.new result (read_words format line (words_of text.now) self.old) };
 
-    /// What the text is, at its end behind that many lines.
+    /// The value of the text, which ends after that many lines.
     fn finish(self, lines: u64) -> Result<Self::Value, Self::Fault>
         ensures { Answers no_memory result (format.finish lines self) };
 }
 
-/// Reads the lines behind the header.
+/// Reads the lines after the header.
 fn read_lines<R: Rows>(rows: R, lines: u64, rest: Option<&[u8]>) -> Result<R::Value, R::Fault>
     requires { lines + left_len rest < 2 ^ 64 }
     ensures { Answers R.no_memory result (read_lines R.format lines (lines_left rest.entry) rows) }
@@ -57,9 +58,9 @@ fn read_lines<R: Rows>(rows: R, lines: u64, rest: Option<&[u8]>) -> Result<R::Va
     rows.finish(lines)
 }
 
-/// Reads a text, or answers its first fault.
-pub fn read_text<R: Rows>(alloc: Global, bytes: &[u8]) -> Result<R::Value, R::Fault>
-    ensures { Answers R.no_memory result (read_text R.format 0 (lines bytes.now)) }
+/// Reads a text within limits, or returns its first fault.
+pub fn read_text<R: Rows>(alloc: Global, limits: Limits, bytes: &[u8]) -> Result<R::Value, R::Fault>
+    ensures { Answers R.no_memory result (read_text R.format limits 0 (lines bytes.now)) }
 {
     let mut lines = 0;
     let mut rest = Some(bytes);
@@ -68,7 +69,7 @@ pub fn read_text<R: Rows>(alloc: Global, bytes: &[u8]) -> Result<R::Value, R::Fa
         lines += 1;
         rest = after;
         if !is_blank(line) {
-            let rows = R::begin(alloc, lines, line)?;
+            let rows = R::begin(alloc, limits, lines, line)?;
             return read_lines(rows, lines, after);
         }
     }

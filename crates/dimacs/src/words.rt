@@ -8,7 +8,7 @@ ghost use Rattle.dimacs.specs.inner.Pieces.{IsCut, IsOpen};
 
 use memchr::memchr;
 
-/// The first line of a text, and what follows its end: None where the text ends with the line.
+/// The first line of a text, and the rest after its LF: `None` if the text has no LF.
 pub fn next_line(text: &[u8]) -> (&[u8], Option<&[u8]>)
     ensures line { lines text.now ≡ result.0.now ∷ lines_left result.1 }
     ensures shorter { IfSome result.1 (λ rest. length rest.now < length text.now) }
@@ -19,7 +19,7 @@ pub fn next_line(text: &[u8]) -> (&[u8], Option<&[u8]>)
     }
 }
 
-/// The line before the first LF, and what follows that LF; `None` where the text has no LF.
+/// The line before the first LF, and the rest after it; `None` if the text has no LF.
 pub(crate) fn cut_line(text: &[u8]) -> Option<(&[u8], &[u8])>
     ensures { MatchOption result (IsOpen text.now) (λ p. IsCut text.now p.0.now p.1.now) }
 {
@@ -36,7 +36,7 @@ pub(crate) fn is_white(byte: u8) -> bool
     byte == b' ' || byte == b'\t' || byte == b'\r' || byte == b'\n'
 }
 
-/// How many bytes of white space a text begins with.
+/// The number of bytes of white space at the front of a text.
 #[inline(always)]
 pub(crate) fn white_len(text: &[u8]) -> usize
     ensures value { result ≡ prefix_len is_white text.now }
@@ -50,7 +50,7 @@ pub(crate) fn white_len(text: &[u8]) -> usize
     text.len()
 }
 
-/// How many bytes stand before the first white space.
+/// The number of bytes before the first white space.
 pub(crate) fn word_len(text: &[u8]) -> usize
     ensures value { result ≡ position_or_len is_white text.now }
     ensures bound { result ≤ length text.now }
@@ -63,7 +63,7 @@ pub(crate) fn word_len(text: &[u8]) -> usize
     text.len()
 }
 
-/// The first token of a line, and what follows it: None where only white space is left.
+/// The first token of a line, and the rest of the line: `None` if only white space is left.
 pub fn next_word(line: &[u8]) -> Option<(&[u8], &[u8])>
     ensures word { MatchOption result (words line.now ≡ []) (λ p. words line.now ≡ p.0.now ∷ words p.1.now) }
     ensures shorter { IfSome result (λ p. length p.1.now < length line.now) }
@@ -82,7 +82,7 @@ pub fn is_comment(line: &[u8]) -> bool
     !line.is_empty() && line[0] == b'c'
 }
 
-/// Whether a line has no token: it is a comment, or white space alone.
+/// Whether a line has no token: it is a comment, or only white space.
 pub fn is_blank(line: &[u8]) -> bool
     ensures { MatchBool result (words_of line.now ≡ []) ((0 < length (words_of line.now)) × (words_of line.now ≡ words line.now)) }
 {

@@ -1,4 +1,4 @@
--- Evidence and the verdicts that it bears out.
+-- Evidence, and the verdict that it is.
 use Rattle.std.proofs.Common.{◌≡◌, ◌≢◌, ℕ, List, refl, subst, ap, sym}
 use Rattle.dimacs.specs.logic.Cnf.{Cnf}
 use Rattle.lrat_text.specs.Proof.{Accepts}
@@ -9,7 +9,7 @@ use Rattle.frames.specs.declared.answer.Answer.{Answer}
 use Rattle.frames.specs.declared.answer.Answer.TheVariants as answers
 use Rattle.evidence.specs.Evidence.{BearsOut, answer_in, bytes_in, IsRightEvidence, IsWrongEvidence}
 
--- a verdict that is borne out is held, and has that answer and those bytes
+-- the verdict has this answer, and these bytes are its evidence
 pub record IsBorneOut (answer : Answer) (bytes : List ℕ) (v : Verdict) : Type 0 where
   pub some : v ≢ Nothing
   pub answer_is : answer_in v ≡ answer
@@ -20,7 +20,7 @@ borne_out F answers.Refuted bytes v is = subst (IsBorneOut answers.Refuted bytes
 borne_out F answers.Assignment bytes v is =
     subst (IsBorneOut answers.Assignment bytes) (sym is.1) (record { some = λ e. cc; answer_is = refl; bytes_are = sym is.2 })
 
--- a right verdict that is held is borne out by its bytes
+-- the bytes of a right verdict are evidence for it
 pub bears_out : (F : Cnf) (answer : Answer) (bytes : List ℕ) (v : Verdict) → IsBorneOut answer bytes v → Right F v → IsRightEvidence F answer bytes v
 bears_out F answers.Refuted bytes Nothing is right = absurd (is.some refl)
 bears_out F answers.Refuted bytes (Model values) is right = cc

@@ -1,2 +1,2 @@
 pub mod EvidenceLemmas
-pub mod KeepingLemmas
+pub mod KeptVerdictLemmas

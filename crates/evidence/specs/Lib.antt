@@ -1,5 +1,5 @@
 pub mod Events
 pub mod Evidence
 pub mod Jobs
-pub mod Keeping
+pub mod KeptVerdict
 pub mod inner

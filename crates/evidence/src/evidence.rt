@@ -1,4 +1,4 @@
-//! Evidence: the bytes that bear out an answer.
+//! Evidence: the bytes of a proof or an assignment, which show that an answer is right.
 
 ghost use Rattle.std.specs.Prelude.{◌≡◌, ◌≤◌, [], ◌++◌, ℕ, List, length, IsTrue, ◌↔◌, OnOk, OnErr};
 ghost use Rattle.evidence.specs.Evidence.{ComeNext, HasWrongLength, IsComplete, announced, with_bytes};
@@ -8,7 +8,7 @@ use frames::Finding;
 use packed_text::PackedText;
 use std::alloc::{AllocError, Global};
 
-/// Whether an assignment is announced that has not a byte for each variable.
+/// Tells whether the finding is an assignment whose length is not the formula's number of variables. False for a refutation.
 pub fn has_wrong_length(formula: &Formula, finding: &Finding) -> bool
     ensures { IsTrue result ↔ HasWrongLength formula.now finding.now }
 {
@@ -18,7 +18,7 @@ pub fn has_wrong_length(formula: &Formula, finding: &Finding) -> bool
     }
 }
 
-/// Evidence that comes in pieces: what was announced, and the bytes so far.
+/// Evidence that is received in pieces: the announced answer and length, and the bytes received so far.
 #[derive(Drop)]
 pub struct Evidence {
     pub finding: Finding,
@@ -26,7 +26,7 @@ pub struct Evidence {
 }
 
 impl Evidence {
-    /// Of what was announced nothing is there yet. It takes no memory.
+    /// Makes evidence with this announced answer and length, of which no byte has been received. It takes no memory.
     pub fn new(alloc: Global, finding: Finding) -> Evidence
         ensures { result ≡ announced finding }
     {
@@ -36,7 +36,7 @@ impl Evidence {
         }
     }
 
-    /// Whether so many bytes from an offset on come next, and do not go beyond what was announced.
+    /// Tells whether `count` bytes from `offset` on follow the bytes received so far, and do not go beyond the announced length.
     pub fn comes_next(&self, offset: u32, count: usize) -> bool
         requires { count ≤ 4000 }
         ensures { (more : List ℕ) → length more ≡ count → IsTrue result ↔ ComeNext self.now offset more }
@@ -46,14 +46,14 @@ impl Evidence {
         offset as usize == there && there <= all && count <= all - there
     }
 
-    /// Whether all announced bytes are there.
+    /// Tells whether all announced bytes have been received.
     pub fn is_complete(&self) -> bool
         ensures { IsTrue result ↔ IsComplete self.now }
     {
         self.bytes.len() == self.finding.length() as usize
     }
 
-    /// Puts more bytes behind those that are there. Want of memory leaves it as it was.
+    /// Appends bytes to those received so far. If memory is refused, the evidence is unchanged.
     pub fn extend(&mut self, more: &[u8]) -> Result<(), AllocError>
         ensures ok { OnOk result (self.new ≡ with_bytes self.old more.now) }
         ensures err { OnErr result (self.new ≡ self.old) }

@@ -1,11 +1,11 @@
-//! Jobs: what a coordinator asks of workers.
+//! Jobs: the tasks that a coordinator gives to workers, by session and number.
 
 ghost use Rattle.std.specs.Prelude.{◌≡◌, IsTrue, ◌↔◌};
 ghost use Rattle.evidence.specs.Jobs.{IsBefore, name_of, attempt_at};
 
 use frames::{Attempt, WorkerNumber};
 
-/// The name of a job. A session is of one coordinator, between two of its restarts; within it jobs are numbered from 1.
+/// The name of a job. A session is one coordinator between two of its restarts. Within a session jobs are numbered from 1.
 #[derive(Clone, Copy, Debug, PartialEq, Eq)]
 pub struct JobName {
     pub session: u64,
@@ -13,7 +13,7 @@ pub struct JobName {
 }
 
 impl JobName {
-    /// The job of an attempt.
+    /// Returns the name of an attempt's job.
     pub fn of(attempt: &Attempt) -> JobName
         ensures { result ≡ name_of attempt.now }
     {
@@ -23,7 +23,7 @@ impl JobName {
         }
     }
 
-    /// The attempt of a worker, under an incarnation, at this job.
+    /// Returns the attempt at this job by this worker in this incarnation.
     pub fn attempt(self, worker: WorkerNumber, incarnation: u64) -> Attempt
         ensures { result ≡ attempt_at self worker incarnation }
     {
@@ -35,7 +35,7 @@ impl JobName {
         }
     }
 
-    /// Whether it comes before another job; sessions are compared first.
+    /// Tells whether this job is earlier than `other`: sessions are compared first, then numbers.
     pub fn is_before(self, other: JobName) -> bool
         ensures { IsTrue result ↔ IsBefore self other }
     {

@@ -2,7 +2,7 @@
 use Rattle.std.proofs.Common.{◌≡◌, ◌∙◌, ℕ, Bool, true, false, not, ◌&&◌, ◌||◌, List, [], ◌∷◌, ◌++◌, nat_eq, codes, refl, if◌then◌else◌}
 use Rattle.explanations.specs.Words.{asks_for_explain, same, without_explain}
 
--- what is kept of them; behind `--` all
+-- what is kept of them; after `--` all
 abbrev pub rest : Bool → List (List ℕ) → List (List ℕ)
 rest true words = words
 rest false words = without_explain words

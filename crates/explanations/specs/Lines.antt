@@ -7,10 +7,10 @@ use Rattle.explanations.specs.declared.lines.File.TheVariants.{Own, Input, Cubes
 use Rattle.explanations.specs.declared.lines.Unit.{Unit}
 use Rattle.explanations.specs.declared.lines.Unit.TheVariants.{Line, Step}
 use Rattle.explanations.specs.declared.lines.Fault.{Fault}
-use Rattle.explanations.specs.declared.other.Other.{Other}
-use Rattle.explanations.specs.declared.other.Other.TheVariants.{Usage, InputUnread, CubesUnread, ProofUnread, AnswerUnread, OtherFormula, CubesAboveLimit, NoLeaf, NoSplit, LeafAboveLimit, NoLinks, ProofUnwritten, NoMemory}
+use Rattle.explanations.specs.declared.other_lines.Other.{Other}
+use Rattle.explanations.specs.declared.other_lines.Other.TheVariants.{Usage, InputUnread, CubesUnread, ProofUnread, AnswerUnread, OtherFormula, CubesAboveLimit, NoLeaf, NoSplit, LeafAboveLimit, NoLinks, ProofUnwritten, NoMemory}
 
--- the first word of a text, and what stands behind the space that ends it
+-- the first word of a text, and what stands after the space that ends it
 abbrev pub first_word : List ℕ → List ℕ
 first_word text = before_first (λ byte. byte == 32) text
 

@@ -49,18 +49,18 @@ formula_look line =
     else if begins_with_number line then Some Clauses
     else None
 
--- what stands behind the first byte 00
-abbrev pub behind_zero_lem : List ℕ → Option (List ℕ)
-behind_zero_lem bytes = option_map (λ end. drop (end + 1) bytes) (first_of (places (is_byte 0) bytes))
+-- what stands after the first byte 00
+abbrev pub after_zero_lem : List ℕ → Option (List ℕ)
+after_zero_lem bytes = option_map (λ end. drop (end + 1) bytes) (first_of (places (is_byte 0) bytes))
 
--- what stands behind the first step of a binary DRAT proof: `a` or `d`, numbers, and 00
-abbrev pub behind_step_lem : List ℕ → Option (List ℕ)
-behind_step_lem [] = Some []
-behind_step_lem (letter ∷ bytes) = if (letter == 97) || (letter == 100) then behind_zero_lem (letter ∷ bytes) else None
+-- what stands after the first step of a binary DRAT proof: `a` or `d`, numbers, and 00
+abbrev pub after_step_lem : List ℕ → Option (List ℕ)
+after_step_lem [] = Some []
+after_step_lem (letter ∷ bytes) = if (letter == 97) || (letter == 100) then after_zero_lem (letter ∷ bytes) else None
 
--- and behind three steps
-abbrev pub behind_three_steps_lem : List ℕ → Option (List ℕ)
-behind_three_steps_lem bytes = option_and_then behind_step_lem (option_and_then behind_step_lem (behind_step_lem bytes))
+-- and after three steps
+abbrev pub after_three_steps_lem : List ℕ → Option (List ℕ)
+after_three_steps_lem bytes = option_and_then after_step_lem (option_and_then after_step_lem (after_step_lem bytes))
 
 -- a byte of a list of numbers
 abbrev pub is_of_numbers_lem : ℕ → Bool
@@ -81,7 +81,7 @@ is_drat_line_lem line = list_all is_of_numbers_lem line && ends_with_zero_lem li
 -- what is read as a proof in binary form
 abbrev pub binary_look : List ℕ → List ℕ → Option Look
 binary_look head line =
-    if is_some (behind_three_steps_lem head) then Some BinaryDrat
+    if is_some (after_three_steps_lem head) then Some BinaryDrat
     else if begins line (codes "d ") && is_drat_line_lem (drop 2 line) then Some Drat
     else if begins line (codes "a ") then Some Frat
     else None

@@ -6,7 +6,7 @@ use Rattle.std.specs.Cmp.Lexicographic.{pointwise}
 abbrev pub same : List ℕ → List ℕ → Bool
 same word other = pointwise nat_eq word other
 
--- the words without `--explain`; behind `--` every word is a file's name
+-- the words without `--explain`; after `--` every word is a file's name
 abbrev pub without_explain : List (List ℕ) → List (List ℕ)
 without_explain [] = []
 without_explain (word ∷ words) =

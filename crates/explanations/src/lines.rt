@@ -7,7 +7,7 @@ ghost use Rattle.explanations.specs.Lines.{IsFault, IsPlace, IsSpelled, IsUnread
 /// Which file has a fault.
 #[derive(Clone, Copy)]
 pub enum File {
-    /// The one that the command tests, as a proof or an answer.
+    /// The file that the command checks: a proof or an answer.
     Own,
     /// The input.
     Input,
@@ -17,7 +17,7 @@ pub enum File {
     Proof,
     /// A log of which a receipt is made.
     Log,
-    /// The one of this number of those that are joined.
+    /// The file of this number, from 1, among those that are joined.
     Joined(u64),
 }
 
@@ -35,12 +35,12 @@ pub enum Unit {
 pub struct Fault {
     pub file: File,
     pub unit: Unit,
-    /// The line or the step, from 1; 0 where there is none.
+    /// The line or the step, from 1; 0 if there is none.
     pub at: u64,
     pub number: u64,
 }
 
-/// The first word of a text, and what stands behind the space that ends it.
+/// The first word of a text, and what stands after the space that ends it.
 fn cut_word(text: &str) -> (&str, &str)
     ensures word { result.0.now ≡ first_word text.now }
     ensures rest { result.1.now ≡ behind_word text.now }

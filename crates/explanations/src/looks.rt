@@ -1,15 +1,15 @@
-//! What a file is, by its first bytes and by the line that has the fault, and what makes of it what was wanted.
+//! The kind of a file, by its first bytes (as `file` tells) and by the line that has the fault; and how to convert it to the wanted kind.
 
 ghost use Rattle.std.specs.Prelude.{◌≡◌};
 ghost use Rattle.std.specs.List.{list_all};
 ghost use Rattle.std.specs.Option.{option_copied};
-ghost use Rattle.explanations.specs.Looks.{behind_step_lem, behind_three_steps_lem, behind_zero_lem, binary_look, ends_with_zero_lem, formula_look, is_drat_line_lem, is_of_numbers_lem, lacks_inner_zero_lem, look, mark, packing, proof_look, session_look, text_look};
+ghost use Rattle.explanations.specs.Looks.{after_step_lem, after_three_steps_lem, after_zero_lem, binary_look, ends_with_zero_lem, formula_look, is_drat_line_lem, is_of_numbers_lem, lacks_inner_zero_lem, look, mark, packing, proof_look, session_look, text_look};
 
+use crate::sentences::Told;
 use crate::table::Subject;
-use crate::telling::Told;
 use memchr::{memchr, memmem};
 
-/// What a file is, other than what was wanted.
+/// The kind of a file that is not of the wanted kind.
 #[derive(Clone, Copy)]
 pub enum Look {
     /// Packed by gzip.
@@ -20,7 +20,7 @@ pub enum Look {
     Zstd,
     /// Packed by bzip2.
     Bzip2,
-    /// A text behind a byte order mark.
+    /// A text after a byte order mark.
     ByteOrderMark,
     /// A text in UTF-16.
     Utf16,
@@ -34,7 +34,7 @@ pub enum Look {
     Icnf,
     /// Clauses without a header.
     Clauses,
-    /// A proof in binary form, where none is wanted.
+    /// A proof in binary form, in the place of another file.
     BinaryProof,
     /// A binary file, where a text is wanted.
     Binary,
@@ -173,9 +173,9 @@ fn formula_look_of(line: &[u8]) -> Option<Look>
     }
 }
 
-/// What stands behind the first byte 00.
-fn behind_zero(bytes: &[u8]) -> Option<&[u8]>
-    ensures { option_copied result ≡ behind_zero_lem bytes.now }
+/// What stands after the first byte 00.
+fn after_zero(bytes: &[u8]) -> Option<&[u8]>
+    ensures { option_copied result ≡ after_zero_lem bytes.now }
 {
     match memchr(0, bytes) {
         Some(end) => {
@@ -186,24 +186,24 @@ fn behind_zero(bytes: &[u8]) -> Option<&[u8]>
     }
 }
 
-/// What stands behind the first step of a binary DRAT proof: a letter, numbers, and 00. Nothing stands behind nothing.
-fn behind_step(bytes: &[u8]) -> Option<&[u8]>
-    ensures { option_copied result ≡ behind_step_lem bytes.now }
+/// What stands after the first step of a binary DRAT proof: a letter, numbers, and 00. Nothing stands after nothing.
+fn after_step(bytes: &[u8]) -> Option<&[u8]>
+    ensures { option_copied result ≡ after_step_lem bytes.now }
 {
     match bytes.first() {
         None => Some(bytes),
-        Some(letter) if *letter == b'a' || *letter == b'd' => behind_zero(bytes),
+        Some(letter) if *letter == b'a' || *letter == b'd' => after_zero(bytes),
         _ => None,
     }
 }
 
-/// What stands behind three steps.
-fn behind_three_steps(bytes: &[u8]) -> Option<&[u8]>
-    ensures { option_copied result ≡ behind_three_steps_lem bytes.now }
+/// What stands after three steps.
+fn after_three_steps(bytes: &[u8]) -> Option<&[u8]>
+    ensures { option_copied result ≡ after_three_steps_lem bytes.now }
 {
-    let second = behind_step(bytes)?;
-    let third = behind_step(second)?;
-    behind_step(third)
+    let second = after_step(bytes)?;
+    let third = after_step(second)?;
+    after_step(third)
 }
 
 /// Whether a byte stands in a list of numbers.
@@ -248,7 +248,7 @@ fn is_drat_line(line: &[u8]) -> bool
 fn binary_look_of(head: &[u8], line: &[u8]) -> Option<Look>
     ensures { result ≡ binary_look head.now line.now }
 {
-    if behind_three_steps(head).is_some() {
+    if after_three_steps(head).is_some() {
         return Some(Look::BinaryDrat);
     }
     if line.starts_with(b"d ") && is_drat_line(&line[2..]) {

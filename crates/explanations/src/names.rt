@@ -11,21 +11,21 @@ fn is_printed(byte: u8) -> bool
     byte >= b' ' && byte != 127 && byte != 194
 }
 
-/// Whether no byte of a name does anything to a terminal.
+/// Whether a name has no control character, which a terminal would obey.
 fn is_harmless(name: &str) -> bool
     ensures { result ≡ list_all is_printed_lem name.now }
 {
     name.as_bytes().iter().all(|byte| is_printed(*byte))
 }
 
-/// A name as it is told: itself if no byte of it does anything to a terminal, else this other text.
+/// A name as it is printed: itself if it has no control character, else this other text.
 pub fn shown<'a>(name: &'a str, other: &'a str) -> &'a str
     ensures { result.now ≡ (if list_all is_printed_lem name.now then name.now else other.now) }
 {
     if is_harmless(name) { name } else { other }
 }
 
-/// Whether a byte stands for itself in a command line.
+/// Whether a shell takes a byte as itself.
 fn is_bare(byte: u8) -> bool
     ensures { result ≡ is_bare_lem byte }
 {

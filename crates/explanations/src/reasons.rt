@@ -1,8 +1,8 @@
 //! Why words are refused, and why a file cannot be read or written.
 
-use crate::telling::Told;
+use crate::sentences::Told;
 
-/// Such a reason. `WORD` in what is told of it is the word, and `FILE` the file.
+/// A reason. In its sentences `WORD` stands for the word, and `FILE` for the file.
 #[derive(Clone, Copy)]
 pub enum Reason {
     /// There are no words.
@@ -11,13 +11,13 @@ pub enum Reason {
     OtherCommand,
     /// A word that the command does not have.
     OtherWord,
-    /// A word that it has, but not so.
+    /// A word that the command has, in a wrong place or with a wrong value.
     WrongWord,
     /// A name too many.
     OtherName,
     /// Each word can stand here, but not all of them.
     NotTogether,
-    /// Standard input is named where it cannot be.
+    /// `-` stands for standard input, which cannot be read here.
     StandardInput,
     /// Neither a leaf nor `--lidrup`; or one end of a block alone.
     LeafOrLidrup,
@@ -27,7 +27,7 @@ pub enum Reason {
     Folder,
     /// It may not be read.
     Forbidden,
-    /// It is no regular file, and was read once.
+    /// It is a pipe or a device, whose bytes are gone.
     Passing,
     /// It is there, and cannot be read.
     Broken,

@@ -6,7 +6,7 @@ ghost use Rattle.std.specs.Prelude.{◌↔◌, IsSome};
 ghost use Rattle.explanations.specs.Table.{HasNumber};
 ghost use Rattle.explanations.specs.declared.table.Subject.TheVariants.{Answer, Cubes, Events, Input, Proof, Session};
 
-use crate::telling::{MEMORY, Told, row};
+use crate::sentences::{MEMORY, Told, row};
 
 /// What a file is read as, which tells what its numbers mean.
 #[derive(Clone, Copy)]

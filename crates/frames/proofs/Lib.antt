@@ -1,12 +1,12 @@
 pub mod CubeLemmas
-pub mod CubeReading
+pub mod CubeBytes
 pub mod FieldLemmas
 pub mod SameFields
 pub mod Payloads
-pub mod WritingLemmas
+pub mod PutsLemmas
 pub mod NoFrames
 pub mod NumberLemmas
-pub mod Heads
+pub mod Headers
 pub mod Streams
-pub mod FillingLemmas
+pub mod BufferLemmas
 pub mod ReaderLemmas

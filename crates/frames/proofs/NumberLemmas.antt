@@ -1,9 +1,9 @@
--- Numbers that are read from the front of some bytes, and written.
+-- Integers that are read from the first bytes, and written.
 use Rattle.std.proofs.Common.{◌≡◌, ℕ, ◌+◌, ◌≤◌, ◌-◌, List, [], ◌++◌, length, take, drop, ap, ◌∙◌, arith, append_assoc, length-drop}
 use Rattle.std.specs.Int.{w16, w32, w64, from_be_bytes}
 use Rattle.std.proofs.lemmas.List.{append-nil, drop-drop, drop_all, take_rest}
 use Rattle.byteorder.specs.Endian.{big_number}
-use Rattle.frames.specs.inner.Writing.{Puts}
+use Rattle.frames.specs.inner.Puts.{Puts}
 
 pub number_16 : (bytes : List ℕ) → big_number 2 bytes ≡ from_be_bytes w16 bytes
 number_16 bytes = omega arith
@@ -14,7 +14,7 @@ number_32 bytes = omega arith
 pub number_64 : (bytes : List ℕ) → big_number 8 bytes ≡ from_be_bytes w64 bytes
 number_64 bytes = omega arith
 
--- what is written at the front of the bytes from a place on, is written at that place
+-- a write at the beginning of the bytes from a place on is a write at that place
 pub written_at : (old : List ℕ) (at n : ℕ) (bytes new : List ℕ) → length bytes ≡ n → at + n ≤ length old → new ≡ bytes ++ drop n (take (length old - at) (drop at old))
     → Puts old at bytes (take at old ++ (new ++ drop (length old - at) (drop at old))) (at + n)
 written_at old at n bytes new size fits is = record {

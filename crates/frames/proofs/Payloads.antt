@@ -15,14 +15,14 @@ use Rattle.frames.specs.declared.frame.Frame.{Frame}
 use Rattle.frames.specs.declared.frame.Frame.TheVariants.{Task, Done, Fetch, Piece, Verdict, Want, Part, Idle, Rest}
 use Rattle.frames.specs.declared.frame.Kind.{Kind}
 use Rattle.frames.specs.declared.frame.Kind.TheVariants as kinds
-use Rattle.frames.specs.declared.head.Head.TheVariants.{Wrong, Whole}
+use Rattle.frames.specs.declared.header.Header.TheVariants.{Wrong, Whole}
 use Rattle.frames.specs.Answers.{answer_number}
-use Rattle.frames.specs.Spelling.{kind_number, kind_at, kind_of, may_have, literal_bytes, finding_bytes, ending_bytes, payload, FrameBytes, IsRight}
-use Rattle.frames.specs.Stream.{length_from, length_of_kind, head_of}
+use Rattle.frames.specs.WireFormat.{kind_number, kind_from_number, kind_of, allows_length, literal_bytes, finding_bytes, ending_bytes, payload, FrameBytes, IsRight}
+use Rattle.frames.specs.Stream.{length_from, length_of_kind, header_of}
 use Rattle.frames.proofs.SameFields.{Same, same_16, same_32, same_64, same_worker, same_attempt, same_answer, same_finding, same_ending, same_literals}
-use Rattle.frames.proofs.WritingLemmas.{length-literals}
+use Rattle.frames.proofs.PutsLemmas.{length-literals}
 
-pub kind_again : (k : Kind) → kind_at (kind_number k) ≡ Some k
+pub kind_again : (k : Kind) → kind_from_number (kind_number k) ≡ Some k
 kind_again kinds.Task = refl
 kind_again kinds.Done = refl
 kind_again kinds.Fetch = refl
@@ -34,7 +34,7 @@ kind_again kinds.Idle = refl
 kind_again kinds.Rest = refl
 
 pub kind_same : (k l : Kind) → kind_number k ≡ kind_number l → k ≡ l
-kind_same k l e = let s : Some k ≡ Some l = sym (kind_again k) ∙ ap kind_at e ∙ kind_again l in cc
+kind_same k l e = let s : Some k ≡ Some l = sym (kind_again k) ∙ ap kind_from_number e ∙ kind_again l in cc
 
 pub length-ending : (o : Ending) → length (ending_bytes o) ≡ 5
 length-ending (Decided f) = refl
@@ -44,18 +44,18 @@ and_true : (a b : Bool) → a ≡ true → b ≡ true → (a && b) ≡ true
 and_true true b p q = q
 and_true false b p q = absurd cc
 
-task_length : (k : ℕ) → k ≤ 64 → may_have kinds.Task (24 + 4 * k) ≡ true
+task_length : (k : ℕ) → k ≤ 64 → allows_length kinds.Task (24 + 4 * k) ≡ true
 task_length k le = and_true (leb 24 (24 + 4 * k)) (leb (24 + 4 * k) 280 && eqb ((24 + 4 * k) % 4) 0) (le-leb 24 (24 + 4 * k) (omega arith)) (and_true (leb (24 + 4 * k) 280) (eqb ((24 + 4 * k) % 4) 0) (le-leb (24 + 4 * k) 280 (omega arith)) (let z : (24 + 4 * k) % 4 ≡ 0 = omega arith in ap (λ n. eqb n 0) z))
 
 -- a right frame's payload has a length of its kind
-pub payload_may : (f : Frame) → IsRight f → may_have (kind_of f) (length (payload f)) ≡ true
-payload_may (Task session job limit cube) r = ap (may_have kinds.Task) (let n : length (payload (Task session job limit cube)) ≡ 24 + 4 * length cube = omega (arith, length-literals cube) in n) ∙ task_length (length cube) r.3.short
-payload_may (Done attempt ending) r = ap (may_have kinds.Done) (let n : length (payload (Done attempt ending)) ≡ 33 = omega (arith, length-ending ending) in n)
+pub payload_may : (f : Frame) → IsRight f → allows_length (kind_of f) (length (payload f)) ≡ true
+payload_may (Task session job limit cube) r = ap (allows_length kinds.Task) (let n : length (payload (Task session job limit cube)) ≡ 24 + 4 * length cube = omega (arith, length-literals cube) in n) ∙ task_length (length cube) r.3.short
+payload_may (Done attempt ending) r = ap (allows_length kinds.Done) (let n : length (payload (Done attempt ending)) ≡ 33 = omega (arith, length-ending ending) in n)
 payload_may (Fetch attempt offset) r = refl
-payload_may (Piece attempt offset bytes) r = let n = 32 + length bytes in ap (may_have kinds.Piece) (let e : length (payload (Piece attempt offset bytes)) ≡ 32 + length bytes = omega arith in e) ∙ and_true (leb 33 n) (leb n 4032) (le-leb 33 n (omega (arith, r.2.0))) (le-leb n 4032 (omega (arith, r.2.1)))
+payload_may (Piece attempt offset bytes) r = let n = 32 + length bytes in ap (allows_length kinds.Piece) (let e : length (payload (Piece attempt offset bytes)) ≡ 32 + length bytes = omega arith in e) ∙ and_true (leb 33 n) (leb n 4032) (le-leb 33 n (omega (arith, r.2.0))) (le-leb n 4032 (omega (arith, r.2.1)))
 payload_may (Verdict session finding) r = refl
 payload_may (Want session worker offset) r = refl
-payload_may (Part session answer offset bytes) r = let n = 13 + length bytes in ap (may_have kinds.Part) (let e : length (payload (Part session answer offset bytes)) ≡ 13 + length bytes = omega arith in e) ∙ and_true (leb 14 n) (leb n 4013) (le-leb 14 n (omega (arith, r.2.0))) (le-leb n 4013 (omega (arith, r.2.1)))
+payload_may (Part session answer offset bytes) r = let n = 13 + length bytes in ap (allows_length kinds.Part) (let e : length (payload (Part session answer offset bytes)) ≡ 13 + length bytes = omega arith in e) ∙ and_true (leb 14 n) (leb n 4013) (le-leb 14 n (omega (arith, r.2.0))) (le-leb n 4013 (omega (arith, r.2.1)))
 payload_may (Idle worker incarnation) r = refl
 payload_may Rest r = refl
 
@@ -70,8 +70,8 @@ payload_short (Part session answer offset bytes) r = omega (arith, r.2.1)
 payload_short (Idle worker incarnation) r = omega arith
 payload_short Rest r = omega arith
 
--- the head of a spelling
-pub head_again : (f : Frame) (a : List ℕ) → IsRight f → head_of (FrameBytes f ++ a) ≡ Whole (kind_of f) (length (payload f))
+-- the header of a frame's bytes
+pub head_again : (f : Frame) (a : List ℕ) → IsRight f → header_of (FrameBytes f ++ a) ≡ Whole (kind_of f) (length (payload f))
 head_again f a r =
     ap (λ k. length_of_kind k (to_be_bytes w16 (length (payload f)) ++ (payload f ++ a))) (kind_again (kind_of f))
     ∙ ap (length_from (kind_of f)) (from_be_bytes-to_be_bytes_2 (length (payload f)) (payload_short f r))
@@ -118,12 +118,12 @@ same_payload (Idle w i) (Idle w' i') r r' k e =
 same_payload Rest Rest r r' k e = refl
 same_payload f g r r' k e = absurd cc
 
--- the bytes behind a whole payload, and the payload
+-- a complete payload, and the bytes after it
 pub split_alike : (x y a b : List ℕ) → length x ≡ length y → x ++ a ≡ y ++ b → Same x y a b
 split_alike x y a b l e =
     record { value = sym (take_at x a (length x) refl) ∙ ap (take (length x)) e ∙ take_at y b (length x) (sym l); rest = sym (drop_at x a (length x) refl) ∙ ap (drop (length x)) e ∙ drop_at y b (length x) (sym l) }
 
--- no spelling begins another
+-- no encoding is a prefix of another
 pub same_frame : (f g : Frame) (a b : List ℕ) → IsRight f → IsRight g → FrameBytes f ++ a ≡ FrameBytes g ++ b → Same f g a b
 same_frame f g a b r r' e =
     let k = kind_same (kind_of f) (kind_of g) (ap first_of (ap (drop 2) e)) in

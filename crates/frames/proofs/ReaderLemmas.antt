@@ -27,7 +27,7 @@ joined_more ps i p lt e =
     let items : Vec ℕ → List ℕ = λ q. q.items in
     ap joined (take_more ps i p lt ∙ ap (λ q. take i ps ++ q ∷ []) (sym e)) ∙ flat_map-append items (take i ps) (p ∷ []) ∙ ap (λ (bytes : List ℕ). joined (take i ps) ++ bytes) (flat_map-cons items p [] ∙ append-nil p.items)
 
--- the pieces up to one, and those behind it
+-- the pieces up to one, and those after it
 pub joined_split : (ps : List (Vec ℕ)) (i : ℕ) (p : Vec ℕ) → i < length ps → p ≡ get_or ps i p → joined ps ≡ (joined (take i ps) ++ p.items) ++ joined (drop (i + 1) ps)
 joined_split ps i p lt e =
     ap joined (sym (take-append-drop (i + 1) ps)) ∙ flat_map-append (λ q. q.items) (take (i + 1) ps) (drop (i + 1) ps) ∙ ap (λ (bytes : List ℕ). bytes ++ joined (drop (i + 1) ps)) (joined_more ps i p lt e)
@@ -35,11 +35,11 @@ joined_split ps i p lt e =
 abbrev pub failing : FrameFault → Result (Unit {0}) FrameFault
 failing fault = Err fault
 
--- an answer without a fault is not want of memory
+-- a result without a fault is not `NoMemory`
 pub well_answered : (u : Unit {0}) → (let well : Result (Unit {0}) FrameFault = Ok u in well) ≢ failing NoMemory
 well_answered u = λ e. cc
 
--- where a fault stops the reading, it is the stream's
+-- if a fault stops the reading, it is the stream's
 pub record Stops (fault : FrameFault) (all : List ℕ) (before after : List Frame) : Type 0 where
   pub new : List Frame
   pub frames : after ≡ before ++ new
@@ -70,7 +70,7 @@ stops fault old new done piece rest all before mid after given frames taken whol
     by_fault BadLength e = other_fault (λ n. let q : BadLength ≡ NoMemory = sym e ∙ n in cc)
     by_fault BadField e = other_fault (λ n. let q : BadField ≡ NoMemory = sym e ∙ n in cc)
 
--- ---- want of memory
+-- ---- `NoMemory`
 
 pub open_stream : (old : Progress) (bytes : List ℕ) (frames : List Frame) → answer_in old ≡ Ok tt → HasTaken old bytes frames → Stream bytes frames Open
 open_stream (Within rest) bytes frames well taken = (rest, taken.0, taken.1)

@@ -1,4 +1,4 @@
--- No field begins another: what two spellings begin alike, they spell alike.
+-- No field's encoding is a prefix of another's: if two encodings of a field begin alike, the values are equal.
 use Rattle.std.proofs.Common.{◌≡◌, ℕ, zero, suc, ◌^◌, ◌<◌, List, [], ◌∷◌, ◌++◌, take, drop, refl, sym, ap, ◌∙◌, arith}
 use Rattle.std.specs.Int.{w16, w32, w64, to_be_bytes, from_be_bytes, cast_unsigned}
 use Rattle.std.specs.List.{flat_map, AllByRecursion}
@@ -13,7 +13,7 @@ use Rattle.frames.specs.declared.answer.Ending.{Ending}
 use Rattle.frames.specs.declared.answer.Ending.TheVariants.{Decided, Limit}
 use Rattle.frames.specs.declared.frame.Attempt.{Attempt}
 use Rattle.frames.specs.Answers.{answer_number}
-use Rattle.frames.specs.Spelling.{literal_bytes, attempt_bytes, finding_bytes, ending_bytes, IsWorker, IsAttempt, IsFinding, IsEnding}
+use Rattle.frames.specs.WireFormat.{literal_bytes, attempt_bytes, finding_bytes, ending_bytes, IsWorker, IsAttempt, IsFinding, IsEnding}
 
 -- equal values, and equal rests
 pub record Same {X : Type 0} (x y : X) (a b : List ℕ) : Type 0 where

@@ -10,23 +10,23 @@ use Rattle.frames.specs.declared.fault.FrameFault.{FrameFault}
 use Rattle.frames.specs.declared.fault.FrameFault.TheVariants.{BadField}
 use Rattle.frames.specs.declared.frame.Frame.{Frame}
 use Rattle.frames.specs.declared.frame.Kind.{Kind}
-use Rattle.frames.specs.declared.head.Head.{Head}
-use Rattle.frames.specs.declared.head.Head.TheVariants.{Short, Wrong, Whole}
-use Rattle.frames.specs.Spelling.{mark, kind_number, kind_of, payload, FrameBytes, IsRight}
-use Rattle.frames.specs.Stream.{head_of, End, Open, Fault, EndsAfter, Ends, Splits, Stream, Begins, BeginsNoFrame}
-use Rattle.frames.specs.inner.Reading.{Carries}
+use Rattle.frames.specs.declared.header.Header.{Header}
+use Rattle.frames.specs.declared.header.Header.TheVariants.{Short, Wrong, Whole}
+use Rattle.frames.specs.WireFormat.{mark, kind_number, kind_of, payload, FrameBytes, IsRight}
+use Rattle.frames.specs.Stream.{header_of, End, Open, Fault, EndsAfter, Ends, Splits, Stream, Begins, BeginsNoFrame}
+use Rattle.frames.specs.inner.Decoder.{IsPayloadOf}
 use Rattle.frames.proofs.FieldLemmas.{IsBytes}
 use Rattle.frames.proofs.Payloads.{head_again, same_frame}
-use Rattle.frames.proofs.Heads.{head_more, head_whole}
+use Rattle.frames.proofs.Headers.{head_more, head_whole}
 
--- of two lists that begin alike, the shorter begins the longer
+-- of two prefixes of one list, the shorter is a prefix of the longer
 front_of : (x y a b : List ℕ) → x ++ a ≡ y ++ b → length y ≤ length x → x ≡ y ++ drop (length y) x
 front_of x y a b e le =
     sym (take-append-drop (length y) x) ∙ ap (λ (z : List ℕ). z ++ drop (length y) x) (sym (take-append-le (length y) x a le) ∙ ap (take (length y)) e ∙ take_at y b (length y) refl)
 
 -- ---- a stream has one reading
 
-ends_after_one : (h : Head) (b : List ℕ) (d e : End) → EndsAfter h b d → EndsAfter h b e → d ≡ e
+ends_after_one : (h : Header) (b : List ℕ) (d e : End) → EndsAfter h b d → EndsAfter h b e → d ≡ e
 ends_after_one Short b d e p q = p ∙ sym q
 ends_after_one (Wrong f) b d e p q = p ∙ sym q
 ends_after_one (Whole k n) b Open Open p q = refl
@@ -44,12 +44,12 @@ frame_not_ends f rest e right ends = at_end e (subst (λ h. EndsAfter h (FrameBy
     at_end Open p = omega (arith, length-frame f rest)
     at_end (Fault g) p = p.2 f rest right refl
 
--- where a stream ends, no frame begins
+-- the end of a stream begins with no frame
 pub ends_begin_none : (b : List ℕ) (e : End) → Ends b e → BeginsNoFrame b
 ends_begin_none b e ends f rest right is = frame_not_ends f rest e right (subst (λ x. Ends x e) is ends)
 
 same_stream : (fs gs : List Frame) (r s : List ℕ) (d e : End) → AllByRecursion IsRight fs → AllByRecursion IsRight gs → flat_map FrameBytes fs ++ r ≡ flat_map FrameBytes gs ++ s → Ends r d → Ends s e → (fs ≡ gs) × (d ≡ e)
-same_stream [] [] r s d e hf hg same p q = (refl, ends_after_one (head_of r) r d e p (subst (λ b. Ends b e) (sym same) q))
+same_stream [] [] r s d e hf hg same p q = (refl, ends_after_one (header_of r) r d e p (subst (λ b. Ends b e) (sym same) q))
 same_stream [] (g ∷ gs) r s d e hf hg same p q =
     absurd (frame_not_ends g (flat_map FrameBytes gs ++ s) d hg.0 (subst (λ b. Ends b d) (same ∙ ap (λ (x : List ℕ). x ++ s) (flat_map-cons FrameBytes g gs) ∙ append_assoc (FrameBytes g) (flat_map FrameBytes gs) s) p))
 same_stream (f ∷ fs) [] r s d e hf hg same p q =
@@ -67,20 +67,20 @@ one_stream bytes fs gs d e p q = same_stream fs gs p.0 q.0 d e (recursion_from_A
 -- ---- a fault stays
 
 pub ends_more : (b x : List ℕ) (f : FrameFault) → Ends b (Fault f) → Ends (b ++ x) (Fault f)
-ends_more b x f p = by_head (head_of b) refl p
+ends_more b x f p = by_head (header_of b) refl p
   where
-    by_head : (h : Head) → head_of b ≡ h → EndsAfter h b (Fault f) → Ends (b ++ x) (Fault f)
+    by_head : (h : Header) → header_of b ≡ h → EndsAfter h b (Fault f) → Ends (b ++ x) (Fault f)
     by_head Short e p = absurd (let q : Fault f ≡ Open = p in cc)
     by_head (Wrong g) e p =
-        let stays : head_of (b ++ x) ≡ Wrong g = head_more b x (λ s. let t : Wrong g ≡ Short = sym e ∙ s in cc) ∙ e in
+        let stays : header_of (b ++ x) ≡ Wrong g = head_more b x (λ s. let t : Wrong g ≡ Short = sym e ∙ s in cc) ∙ e in
         subst (λ h. EndsAfter h (b ++ x) (Fault f)) (sym stays) p
     by_head (Whole k n) e p =
-        let stays : head_of (b ++ x) ≡ Whole k n = head_more b x (λ s. let t : Whole k n ≡ Short = sym e ∙ s in cc) ∙ e in
+        let stays : header_of (b ++ x) ≡ Whole k n = head_more b x (λ s. let t : Whole k n ≡ Short = sym e ∙ s in cc) ∙ e in
         subst (λ h. EndsAfter h (b ++ x) (Fault f)) (sym stays) (
           p.0,
           omega (arith, p.1, length-append b x),
           λ g rest right same.
-              let whole : Whole k n ≡ Whole (kind_of g) (length (payload g)) = sym stays ∙ ap head_of same ∙ head_again g rest right in
+              let whole : Whole k n ≡ Whole (kind_of g) (length (payload g)) = sym stays ∙ ap header_of same ∙ head_again g rest right in
               let n_is : n ≡ length (payload g) = cc in
               p.2 g (drop (length (FrameBytes g)) b) right (front_of b (FrameBytes g) x rest same (omega (arith, p.1))),
         )
@@ -97,7 +97,7 @@ splits_none b = record { whole = refl; right = All-from_recursion IsRight [] tt 
 pub splits_one : (b : List ℕ) (f : Frame) (rest : List ℕ) → Begins b f rest → Splits b (f ∷ []) rest
 splits_one b f rest p = record { whole = p.whole ∙ ap (λ (x : List ℕ). x ++ rest) (sym (append-nil (FrameBytes f)) ∙ sym (flat_map-cons FrameBytes f [])); right = All-from_recursion IsRight (f ∷ []) (p.right, tt) }
 
--- the rest of one stream, with more bytes behind it, is the next
+-- the rest of one stream, with more bytes after it, is the next stream
 pub splits_then : (a : List ℕ) (fs : List Frame) (r more : List ℕ) (gs : List Frame) (s : List ℕ) → Splits a fs r → Splits (r ++ more) gs s → Splits (a ++ more) (fs ++ gs) s
 splits_then a fs r more gs s p q =
     record {
@@ -115,7 +115,7 @@ stream_more a fs f more p = (p.0 ++ more, splits_then a fs p.0 more [] (p.0 ++ m
 
 -- ---- the first frame
 
-pub first_whole : (b : List ℕ) (k : Kind) (n : ℕ) (f : Frame) → IsBytes b → head_of b ≡ Whole k n → 5 + n ≤ length b → Carries k (take n (drop 5 b)) f → Begins b f (drop n (drop 5 b))
+pub first_whole : (b : List ℕ) (k : Kind) (n : ℕ) (f : Frame) → IsBytes b → header_of b ≡ Whole k n → 5 + n ≤ length b → IsPayloadOf k (take n (drop 5 b)) f → Begins b f (drop n (drop 5 b))
 first_whole b k n f fits head long c =
     let h = head_whole b k n fits head in
     let p = take n (drop 5 b) in
@@ -128,13 +128,13 @@ first_whole b k n f fits head long c =
       right = c.right;
     }
 
-pub first_bad : (b : List ℕ) (k : Kind) (n : ℕ) → head_of b ≡ Whole k n → 5 + n ≤ length b → ((f : Frame) → Carries k (take n (drop 5 b)) f → ⊥) → Ends b (Fault BadField)
+pub first_bad : (b : List ℕ) (k : Kind) (n : ℕ) → header_of b ≡ Whole k n → 5 + n ≤ length b → ((f : Frame) → IsPayloadOf k (take n (drop 5 b)) f → ⊥) → Ends b (Fault BadField)
 first_bad b k n head long none =
     subst (λ h. EndsAfter h b (Fault BadField)) (sym head) (
       refl,
       long,
       λ g rest right same.
-          let whole : Whole (kind_of g) (length (payload g)) ≡ Whole k n = sym (head_again g rest right) ∙ sym (ap head_of same) ∙ head in
+          let whole : Whole (kind_of g) (length (payload g)) ≡ Whole k n = sym (head_again g rest right) ∙ sym (ap header_of same) ∙ head in
           let k_is : kind_of g ≡ k = cc in
           let n_is : length (payload g) ≡ n = cc in
           let behind : drop 5 b ≡ payload g ++ rest = ap (drop 5) same in

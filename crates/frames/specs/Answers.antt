@@ -1,4 +1,4 @@
--- What a worker found, and what a verdict says.
+-- Answers: how a worker's search ended, and what a verdict says.
 use Rattle.std.specs.Prelude.{ℕ}
 use Rattle.frames.specs.declared.answer.Answer.{Answer}
 use Rattle.frames.specs.declared.answer.Answer.TheVariants as answers
@@ -15,7 +15,7 @@ abbrev pub answer_of : Finding → Answer
 answer_of (Refuted length) = answers.Refuted
 answer_of (Assignment length) = answers.Assignment
 
--- how many bytes bear it out
+-- the length in bytes of a finding's evidence
 abbrev pub length_of : Finding → ℕ
 length_of (Refuted length) = length
 length_of (Assignment length) = length

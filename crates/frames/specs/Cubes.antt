@@ -1,4 +1,4 @@
--- Cubes: what a task takes as given.
+-- Cubes: the literals that a task assumes.
 use Rattle.std.specs.Prelude.{ℕ, ◌≤◌, Bool, not, ◌&&◌, ◌==◌, nat_eq, nat_lt, nat_le, List, length, map, All}
 use Rattle.std.specs.List.{IsDistinct, list_any}
 use Rattle.dimacs.specs.logic.Literal.{Literal, var_of, IsWithin}
@@ -13,6 +13,6 @@ pub record IsCube (literals : List Literal) : Type 0 where
 abbrev pub names : ℕ → Literal → Bool
 names v l = var_of l == v
 
--- whether a cube may have this literal at its end
+-- whether the literal may be appended to the cube
 abbrev pub takes : List Literal → Literal → Bool
 takes literals l = nat_lt (length literals) 64 && (nat_le (var_of l) 2000000 && not (list_any (names (var_of l)) literals))

@@ -1,7 +1,7 @@
 pub mod Answers
 pub mod Cubes
-pub mod Offers
+pub mod MemoryNeeds
 pub mod Readers
-pub mod Spelling
+pub mod WireFormat
 pub mod Stream
 pub mod inner

@@ -1,6 +1,6 @@
 -- What only private contracts, invariants and proofs name. Nothing here is to be believed.
-pub mod Filling
+pub mod Buffer
 pub mod Readers
-pub mod Reading
-pub mod Spelling
-pub mod Writing
+pub mod Decoder
+pub mod AnswerField
+pub mod Puts

@@ -1,11 +1,11 @@
-//! What a worker found, and what a verdict says.
+//! Answers: how a worker's search ended, and what a verdict says.
 
 ghost use Rattle.std.specs.Prelude.{◌≡◌, ◌≤◌, ◌^◌, ◌<◌};
 ghost use Rattle.frames.specs.Answers.{answer_number, answer_of, length_of};
 
 use std::marker::Model;
 
-/// The bytes of a proof: at least one.
+/// The length of a proof in bytes: at least 1.
 #[derive(Clone, Copy, Debug, PartialEq, Eq)]
 pub struct ProofLength {
     bytes: u32,
@@ -24,7 +24,7 @@ impl Model for ProofLength {
 }
 
 impl ProofLength {
-    /// This many bytes.
+    /// A proof of `bytes` bytes.
     pub fn new(bytes: u32) -> ProofLength
         requires { 1 ≤ bytes }
         ensures { result ≡ bytes }
@@ -32,7 +32,7 @@ impl ProofLength {
         ProofLength { bytes }
     }
 
-    /// How many bytes, at least 1.
+    /// The number of bytes, at least 1.
     #[inline]
     pub fn bytes(self) -> u32
         ensures value { result ≡ self }
@@ -45,9 +45,9 @@ impl ProofLength {
 /// An answer that decides a formula.
 #[derive(Clone, Copy, Debug, PartialEq, Eq)]
 pub enum Answer {
-    /// No assignment makes it true.
+    /// No assignment satisfies the formula.
     Refuted,
-    /// An assignment makes it true.
+    /// An assignment satisfies the formula.
     Assignment,
 }
 
@@ -63,17 +63,17 @@ impl Answer {
     }
 }
 
-/// An answer that decides a formula, and how many bytes bear it out.
+/// An answer that decides a formula, with the length in bytes of its evidence.
 #[derive(Clone, Copy, Debug, PartialEq, Eq)]
 pub enum Finding {
-    /// A proof of this length says that no assignment makes the formula true.
+    /// No assignment satisfies the formula; a proof of this length shows it.
     Refuted { length: ProofLength },
-    /// An assignment makes it true: one byte a variable.
+    /// An assignment satisfies the formula; it is sent as one byte for each variable.
     Assignment { length: u32 },
 }
 
 impl Finding {
-    /// Which answer it is.
+    /// The answer without its length.
     pub fn answer(&self) -> Answer
         ensures { result ≡ answer_of self.now }
     {
@@ -83,7 +83,7 @@ impl Finding {
         }
     }
 
-    /// How many bytes bear it out.
+    /// The length in bytes of the evidence.
     pub fn length(&self) -> u32
         ensures { result ≡ length_of self.now }
     {
@@ -97,8 +97,8 @@ impl Finding {
 /// How a search ended.
 #[derive(Clone, Copy, Debug, PartialEq, Eq)]
 pub enum Ending {
-    /// It decided its cube.
+    /// The search decided the formula under its cube.
     Decided(Finding),
-    /// It reached its limit first.
+    /// The search reached its limit first.
     Limit,
 }

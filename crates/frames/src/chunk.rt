@@ -1,11 +1,11 @@
-//! The bytes that one frame carries.
+//! Chunks: the bytes that one frame carries.
 
 ghost use Rattle.std.specs.Prelude.{◌≡◌, ◌≤◌, length, IfOk};
 
 use std::alloc::{AllocError, Global};
 use std::marker::Model;
 
-/// A part of a longer run of bytes: 1 to 4,000 of them.
+/// A part of a longer text: 1 to 4,000 bytes.
 #[derive(Debug, Drop)]
 pub struct Chunk {
     bytes: Vec<u8>,
@@ -22,10 +22,10 @@ impl Model for Chunk {
 }
 
 impl Chunk {
-    /// The most bytes.
+    /// The most bytes of a chunk.
     pub const LONGEST: usize = 4000;
 
-    /// These bytes, 1 to 4,000.
+    /// A chunk of these 1 to 4,000 bytes.
     pub fn from_vec(bytes: Vec<u8>) -> Chunk
         requires above { 1 ≤ length bytes.items }
         requires below { length bytes.items ≤ 4000 }
@@ -34,7 +34,7 @@ impl Chunk {
         Chunk { bytes }
     }
 
-    /// A copy of these bytes, 1 to 4,000.
+    /// A chunk with a copy of these 1 to 4,000 bytes.
     pub fn from_slice(alloc: Global, bytes: &[u8]) -> Result<Chunk, AllocError>
         requires above { 1 ≤ length bytes.now }
         requires below { length bytes.now ≤ 4000 }
@@ -43,7 +43,7 @@ impl Chunk {
         Ok(Chunk::from_vec(Vec::from_slice(alloc, bytes)?))
     }
 
-    /// How many bytes, 1 to 4,000.
+    /// The number of bytes, 1 to 4,000.
     #[inline]
     #[allow(clippy::len_without_is_empty)]
     pub fn len(&self) -> usize
@@ -62,7 +62,7 @@ impl Chunk {
         self.bytes.as_slice()
     }
 
-    /// The bytes, for keeps.
+    /// The bytes, owned.
     pub fn into_vec(self) -> Vec<u8>
         ensures { result.items ≡ self }
     {

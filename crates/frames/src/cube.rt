@@ -1,4 +1,4 @@
-//! Cubes: what a task takes as given.
+//! Cubes: the literals that a task assumes.
 
 ghost use Rattle.std.specs.Prelude.{◌≡◌, ◌≤◌, ◌<◌, [], ◌∷◌, ◌++◌, length, IfOk, OnOk, OnErr, IsTrue, ◌↔◌};
 ghost use Rattle.std.specs.List.{list_any};
@@ -8,7 +8,7 @@ use dimacs::Lit;
 use std::alloc::{AllocError, Global};
 use std::marker::Model;
 
-/// Literals that are taken as true together, in their order: at most 64, of variables up to 2,000,000, no variable twice.
+/// Literals that are assumed together, in order: at most 64, of variables up to 2,000,000, no variable twice.
 #[derive(Debug, Drop)]
 pub struct Cube {
     literals: Vec<Lit>,
@@ -27,10 +27,10 @@ impl Model for Cube {
 }
 
 impl Cube {
-    /// The most literals.
+    /// The most literals of a cube.
     pub const LONGEST: usize = 64;
 
-    /// The greatest variable that a cube may name.
+    /// The greatest variable of a cube.
     pub const VARIABLES: u32 = 2000000;
 
     /// The cube of no literal.
@@ -51,7 +51,7 @@ impl Cube {
         Ok(Cube { literals })
     }
 
-    /// Whether the literal may be put at the end: there is room, its variable is at most 2,000,000 and is not named yet.
+    /// Whether `literal` may be appended: the cube has fewer than 64 literals, and the literal's variable is at most 2,000,000 and new.
     pub fn takes(&self, literal: Lit) -> bool
         ensures { result ≡ takes self.now literal }
     {
@@ -60,13 +60,13 @@ impl Cube {
             && !has_variable(&self.literals, literal.var().number())
     }
 
-    /// Puts a literal at the end. Want of memory leaves the cube as it was.
+    /// Appends a literal. If memory is refused, the cube is unchanged.
     pub fn push(&mut self, literal: Lit) -> Result<(), AllocError>
         requires { IsTrue (takes self.old literal) }
         ensures ok { OnOk result (self.new ≡ self.old ++ literal ∷ []) }
         ensures err { OnErr result (self.new ≡ self.old) }
     {
-        // That a variable is at least 1, which the cube keeps.
+        // `number` ensures that the variable is at least 1, which the invariant asks for.
         let _ = literal.var().number();
         self.literals.push(literal)?;
         Ok(())
@@ -80,7 +80,7 @@ impl Cube {
         Ok(Cube { literals })
     }
 
-    /// How many literals, at most 64.
+    /// The number of literals, at most 64.
     #[inline]
     pub fn len(&self) -> usize
         ensures value { result ≡ length self.now }
@@ -97,7 +97,7 @@ impl Cube {
         self.literals.is_empty()
     }
 
-    /// Its literals, in their order.
+    /// Its literals, in order.
     #[inline]
     pub fn as_slice(&self) -> &[Lit]
         ensures value { result.now ≡ self.now }

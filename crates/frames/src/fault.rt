@@ -1,4 +1,4 @@
-//! Why bytes are no frame.
+//! Faults of a stream of frames.
 
 ghost use Rattle.std.specs.Prelude.{◌≡◌};
 ghost use Rattle.frames.specs.declared.fault.FrameFault.TheVariants.{NoMemory};
@@ -6,7 +6,7 @@ ghost use Rattle.frames.specs.declared.fault.FrameFault.TheVariants.{NoMemory};
 use std::alloc::{AllocError, AllocFailed};
 use thiserror::Error;
 
-/// What is wrong with a stream, in the order of the tests.
+/// Why a stream is refused, in the order of the tests.
 #[derive(Clone, Copy, Debug, PartialEq, Eq, Error)]
 pub enum FrameFault {
     /// One of the first two bytes of a frame is not 0x43.
@@ -18,7 +18,7 @@ pub enum FrameFault {
     /// The length is not possible for the kind.
     #[error("the length is not possible for the kind")]
     BadLength,
-    /// The payload is whole, and a field is not right.
+    /// The payload is complete, and a field is not right.
     #[error("a field is not right")]
     BadField,
     /// Memory was refused.

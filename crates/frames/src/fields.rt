@@ -1,26 +1,26 @@
-//! Fields, as they are read from the front of a payload.
+//! The fields of a payload, each parsed from the front of the bytes.
 
 ghost use Rattle.std.specs.Prelude.{◌≡◌, ◌≢◌, ◌+◌, ◌*◌, ◌%◌, ◌≤◌, ◌<◌, ◌^◌, ◌++◌, length, take, drop, MatchOption, MatchResult, flat_map};
 ghost use Rattle.std.specs.Int.{w32, to_be_bytes};
 ghost use Rattle.dimacs.specs.logic.Literal.{Literal};
 ghost use Rattle.frames.specs.Cubes.{IsCube};
-ghost use Rattle.frames.specs.Spelling.{attempt_bytes, finding_bytes, ending_bytes, literal_bytes, IsWorker, IsAttempt, IsFinding, IsEnding};
-ghost use Rattle.frames.specs.inner.Spelling.{answer_bytes, IsAnswer};
-ghost use Rattle.frames.specs.inner.Reading.{StandsAt, NoneStandsAt, IsSpelled, SpellsNone, IsWord, NotRead};
+ghost use Rattle.frames.specs.WireFormat.{attempt_bytes, finding_bytes, ending_bytes, literal_bytes, IsWorker, IsAttempt, IsFinding, IsEnding};
+ghost use Rattle.frames.specs.inner.AnswerField.{answer_bytes, IsAnswer};
+ghost use Rattle.frames.specs.inner.Decoder.{BeginsWithField, BeginsWithNoField, IsSpelled, SpellsNone, IsTwosComplement, FaultMeans};
 
 use crate::answer::{Answer, Ending, Finding, ProofLength};
+use crate::big_endian::{u32_at, u64_at};
 use crate::cube::Cube;
 use crate::fault::FrameFault;
 use crate::frame::Attempt;
-use crate::numbers::{u32_at, u64_at};
 use crate::worker::WorkerNumber;
 use dimacs::{Lit, Var};
 use std::alloc::Global;
 
-/// The number of a worker, and the rest.
+/// The worker's number in the first four bytes, and the rest; `None` if it is not 1 to 64.
 pub(crate) fn worker_at(bytes: &[u8]) -> Option<(WorkerNumber, &[u8])>
     requires { 4 ≤ length bytes.now }
-    ensures { MatchOption result (NoneStandsAt (to_be_bytes w32) IsWorker bytes.now) (λ r. StandsAt (to_be_bytes w32) IsWorker bytes.now r.0 r.1.now) }
+    ensures { MatchOption result (BeginsWithNoField (to_be_bytes w32) IsWorker bytes.now) (λ r. BeginsWithField (to_be_bytes w32) IsWorker bytes.now r.0 r.1.now) }
 {
     let (number, rest) = u32_at(bytes);
     if 1 <= number && number <= 64 {
@@ -30,10 +30,10 @@ pub(crate) fn worker_at(bytes: &[u8]) -> Option<(WorkerNumber, &[u8])>
     }
 }
 
-/// An attempt, and the rest.
+/// The attempt in the first 28 bytes, and the rest; `None` if its worker's number is not 1 to 64.
 pub(crate) fn attempt_at(bytes: &[u8]) -> Option<(Attempt, &[u8])>
     requires { 28 ≤ length bytes.now }
-    ensures { MatchOption result (NoneStandsAt attempt_bytes IsAttempt bytes.now) (λ r. StandsAt attempt_bytes IsAttempt bytes.now r.0 r.1.now) }
+    ensures { MatchOption result (BeginsWithNoField attempt_bytes IsAttempt bytes.now) (λ r. BeginsWithField attempt_bytes IsAttempt bytes.now r.0 r.1.now) }
 {
     let (session, rest) = u64_at(bytes);
     let (job, rest) = u64_at(rest);
@@ -52,10 +52,10 @@ pub(crate) fn attempt_at(bytes: &[u8]) -> Option<(Attempt, &[u8])>
     }
 }
 
-/// An answer, and the rest.
+/// The answer in the first byte, and the rest; `None` if the byte is neither 1 nor 2.
 pub(crate) fn answer_at(bytes: &[u8]) -> Option<(Answer, &[u8])>
     requires { 1 ≤ length bytes.now }
-    ensures { MatchOption result (NoneStandsAt answer_bytes IsAnswer bytes.now) (λ r. StandsAt answer_bytes IsAnswer bytes.now r.0 r.1.now) }
+    ensures { MatchOption result (BeginsWithNoField answer_bytes IsAnswer bytes.now) (λ r. BeginsWithField answer_bytes IsAnswer bytes.now r.0 r.1.now) }
 {
     match bytes {
         [1, rest @ ..] => Some((Answer::Refuted, rest)),
@@ -64,7 +64,7 @@ pub(crate) fn answer_at(bytes: &[u8]) -> Option<(Answer, &[u8])>
     }
 }
 
-/// The finding that five bytes spell.
+/// The finding in these five bytes (answer and length); `None` if they are not right.
 pub(crate) fn finding_of(bytes: &[u8]) -> Option<Finding>
     requires { length bytes.now ≡ 5 }
     ensures { MatchOption result (SpellsNone finding_bytes IsFinding bytes.now) (λ f. IsSpelled finding_bytes IsFinding bytes.now f) }
@@ -81,7 +81,7 @@ pub(crate) fn finding_of(bytes: &[u8]) -> Option<Finding>
     None
 }
 
-/// The ending that five bytes spell.
+/// The ending in these five bytes (answer and length); `None` if they are not right.
 pub(crate) fn ending_of(bytes: &[u8]) -> Option<Ending>
     requires { length bytes.now ≡ 5 }
     ensures { MatchOption result (SpellsNone ending_bytes IsEnding bytes.now) (λ o. IsSpelled ending_bytes IsEnding bytes.now o) }
@@ -97,9 +97,9 @@ pub(crate) fn ending_of(bytes: &[u8]) -> Option<Ending>
     }
 }
 
-/// The literal that a number in two's complement stands for, where a cube may name its variable.
+/// The literal whose number is `word` in two's complement; `None` if a cube cannot have its variable.
 fn literal_from(word: u32) -> Option<Lit>
-    ensures { MatchOption result ((l : Literal) → IsWord word l → ⊥) (λ l. IsWord word l) }
+    ensures { MatchOption result ((l : Literal) → IsTwosComplement word l → ⊥) (λ l. IsTwosComplement word l) }
 {
     if 1 <= word && word <= Cube::VARIABLES {
         return Some(Lit::positive(Var::new(word)));
@@ -111,10 +111,10 @@ fn literal_from(word: u32) -> Option<Lit>
     None
 }
 
-/// The cube that the bytes spell.
+/// The cube of these bytes, four for each literal. `BadField` if they are not the literals of a cube.
 pub(crate) fn cube_of(alloc: Global, bytes: &[u8]) -> Result<Cube, FrameFault>
     requires { length bytes.now % 4 ≡ 0 }
-    ensures spelled { MatchResult result (λ c. IsSpelled (flat_map literal_bytes) IsCube bytes.now c) (λ e. NotRead e (SpellsNone (flat_map literal_bytes) IsCube bytes.now)) }
+    ensures spelled { MatchResult result (λ c. IsSpelled (flat_map literal_bytes) IsCube bytes.now c) (λ e. FaultMeans e (SpellsNone (flat_map literal_bytes) IsCube bytes.now)) }
     ensures room { result ≡ Err FrameFault.NoMemory → 0 < length bytes.now }
 {
     let mut cube = Cube::new(alloc);

@@ -1,15 +1,14 @@
 //! Frames: the messages between a coordinator and its workers.
 
 ghost use Rattle.std.specs.Prelude.{◌≡◌};
-ghost use Rattle.frames.specs.Spelling.{kind_number, kind_at, kind_of, may_have};
+ghost use Rattle.frames.specs.WireFormat.{kind_number, kind_from_number, kind_of, allows_length};
 
 use crate::answer::{Answer, Ending, Finding};
 use crate::chunk::Chunk;
 use crate::cube::Cube;
 use crate::worker::WorkerNumber;
 
-/// One worker at one job: a number of a job is never given twice in a session, and a worker that starts anew has
-/// another incarnation.
+/// One worker at one job. A job's number is given once in a session, and a restarted worker has another incarnation.
 #[derive(Clone, Copy, Debug, PartialEq, Eq)]
 pub struct Attempt {
     pub session: u64,
@@ -18,10 +17,10 @@ pub struct Attempt {
     pub incarnation: u64,
 }
 
-/// A message. Each value has right fields, so each has one spelling, and each spelling is of one frame.
+/// A message. Its types can hold right fields alone, so that each frame has one encoding, and each encoding is of one frame.
 #[derive(Debug, Drop)]
 pub enum Frame {
-    /// To a worker: search below this cube, with this limit.
+    /// To a worker: search under this cube, with this limit.
     Task {
         session: u64,
         job: u64,
@@ -33,12 +32,12 @@ pub enum Frame {
         attempt: Attempt,
         ending: Ending,
     },
-    /// To a worker: send what bears out your answer, from this byte on.
+    /// To a worker: send the evidence for your answer, from byte `offset` on.
     Fetch {
         attempt: Attempt,
         offset: u32,
     },
-    /// To the coordinator: bytes of an answer, from this one on.
+    /// To the coordinator: bytes of the evidence for an answer, from byte `offset` on.
     Piece {
         attempt: Attempt,
         offset: u32,
@@ -49,25 +48,25 @@ pub enum Frame {
         session: u64,
         finding: Finding,
     },
-    /// To the coordinator: send the verdict's bytes, from this one on.
+    /// To the coordinator: send the verdict's bytes, from byte `offset` on.
     Want {
         session: u64,
         worker: WorkerNumber,
         offset: u32,
     },
-    /// To a worker: bytes of a verdict, from this one on.
+    /// To a worker: bytes of the verdict, from byte `offset` on.
     Part {
         session: u64,
         answer: Answer,
         offset: u32,
         bytes: Chunk,
     },
-    /// To the coordinator: this worker has nothing to do.
+    /// To the coordinator: this worker is idle.
     Idle {
         worker: WorkerNumber,
         incarnation: u64,
     },
-    /// To a worker: there is nothing to do.
+    /// To a worker: there is no task for you now.
     Rest,
 }
 
@@ -104,8 +103,8 @@ impl Kind {
     }
 
     /// Whether a payload of this kind may have this length.
-    pub fn may_have(self, len: u16) -> bool
-        ensures { result ≡ may_have self len }
+    pub fn allows_length(self, len: u16) -> bool
+        ensures { result ≡ allows_length self len }
     {
         match self {
             Kind::Task => (24..=280).contains(&len) && len % 4 == 0,
@@ -122,7 +121,7 @@ impl Kind {
 
     /// The kind of this number.
     pub fn from_number(number: u8) -> Option<Kind>
-        ensures { result ≡ kind_at number }
+        ensures { result ≡ kind_from_number number }
     {
         match number {
             1 => Some(Kind::Task),

@@ -1,19 +1,19 @@
-//! What holds of all frames and streams.
+//! Laws of frames and streams, as contracts of calls that do nothing.
 
 ghost use Rattle.std.specs.Prelude.{◌≡◌, List, ℕ, ◌++◌, ◌<◌, ◌^◌};
 ghost use Rattle.frames.specs.declared.frame.Frame.{Frame};
-ghost use Rattle.frames.specs.Spelling.{FrameBytes, IsRight, IsAttempt, IsFinding, IsEnding};
+ghost use Rattle.frames.specs.WireFormat.{FrameBytes, IsRight, IsAttempt, IsFinding, IsEnding};
 ghost use Rattle.frames.specs.Stream.{End, Stream};
 
 use crate::answer::{Ending, Finding};
 use crate::frame::{Attempt, Frame};
 
-/// No spelling begins another: each frame has one spelling, and each spelling is of one frame.
+/// No encoding is a prefix of another: each frame has one encoding, and each encoding is of one frame.
 pub fn no_spelling_begins_another()
     ensures same { (f g : Frame) (a b : List ℕ) → IsRight f → IsRight g → FrameBytes f ++ a ≡ FrameBytes g ++ b → (f ≡ g) × (a ≡ b) }
 {}
 
-/// The bytes of a stream settle its frames and its end.
+/// The bytes of a stream determine its frames and its end.
 pub fn streams_are_read_one_way()
     ensures same { (bytes : List ℕ) (fs gs : List Frame) (d e : End) → Stream bytes fs d → Stream bytes gs e → (fs ≡ gs) × (d ≡ e) }
 {}
@@ -32,7 +32,7 @@ pub fn fields_are_right(frame: &Frame)
             fits_64(*session);
             fits_64(*job);
             fits_64(*limit);
-            let _ = cube.as_slice(); // with it comes `IsCube`
+            let _ = cube.as_slice(); // ensures `IsCube`
         }
         Frame::Done { attempt, ending } => {
             right_attempt(attempt);
@@ -49,7 +49,7 @@ pub fn fields_are_right(frame: &Frame)
         } => {
             right_attempt(attempt);
             fits_32(*offset);
-            let _ = bytes.len(); // with it comes that they are at most 4,000
+            let _ = bytes.len(); // ensures that they are 1 to 4,000
         }
         Frame::Verdict { session, finding } => {
             fits_64(*session);
@@ -62,7 +62,7 @@ pub fn fields_are_right(frame: &Frame)
         } => {
             fits_64(*session);
             fits_32(*offset);
-            let _ = worker.number(); // with it comes that it is one of 1 to 64
+            let _ = worker.number(); // ensures that it is 1 to 64
         }
         Frame::Part {
             session,
@@ -72,14 +72,14 @@ pub fn fields_are_right(frame: &Frame)
         } => {
             fits_64(*session);
             fits_32(*offset);
-            let _ = bytes.len(); // with it comes that they are at most 4,000
+            let _ = bytes.len(); // ensures that they are 1 to 4,000
         }
         Frame::Idle {
             worker,
             incarnation,
         } => {
             fits_64(*incarnation);
-            let _ = worker.number(); // with it comes that it is one of 1 to 64
+            let _ = worker.number(); // ensures that it is 1 to 64
         }
         Frame::Rest => {}
     }
@@ -91,7 +91,7 @@ fn right_attempt(attempt: &Attempt)
     fits_64(attempt.session);
     fits_64(attempt.job);
     fits_64(attempt.incarnation);
-    let _ = attempt.worker.number(); // with it comes that it is one of 1 to 64
+    let _ = attempt.worker.number(); // ensures that it is 1 to 64
 }
 
 fn right_finding(finding: &Finding)

@@ -1,24 +1,23 @@
-//! Reading a stream of frames, in any pieces.
+//! The reader of a stream of frames, which comes in any pieces.
 
 ghost use Rattle.std.specs.Prelude.{◌≡◌, ◌≢◌, ◌+◌, ◌≤◌, ◌++◌, List, [], length, take, min, vec_len, vec_capacity, MatchOption, MatchResult, OnErr, IfOk, Ok, Err};
 ghost use Rattle.frames.specs.declared.frame.Frame.{Frame};
 ghost use Rattle.frames.specs.declared.fault.FrameFault.{FrameFault};
 ghost use Rattle.frames.specs.Stream.{Open, Fault, Ends, Begins, BeginsNoFrame, BeginsWith, Splits, StopsBefore, Stream, Within, Failed, TakesPiece, joined};
-ghost use Rattle.frames.specs.Offers.{OffersRoom};
-ghost use Rattle.frames.specs.inner.Filling.{lacks, Fills};
+ghost use Rattle.frames.specs.MemoryNeeds.{MayNeedMemory};
+ghost use Rattle.frames.specs.inner.Buffer.{missing, Fills};
 
-use crate::decoding::frame_of;
+use crate::decoder::frame_of;
 use crate::fault::FrameFault;
 use crate::frame::Frame;
-use crate::head::{HEAD, Head, read_head};
+use crate::header::{HEADER_LEN, Header, read_header};
 use std::alloc::{AllocError, Global};
 use std::marker::Model;
 
-/// The bytes of the longest frame.
+/// The length of the longest frame in bytes.
 const LONGEST: usize = 4037;
 
-/// What takes a stream of bytes, in any pieces, and gives its frames. It holds the bytes of one frame at most, in a buffer
-/// that it reserves once.
+/// Parses a stream of bytes, fed in any pieces, into frames. Its buffer is reserved once, and holds at most one incomplete frame.
 #[derive(Debug, Drop)]
 pub struct Reader {
     buffer: Vec<u8>,
@@ -39,7 +38,7 @@ impl Model for Reader {
 }
 
 impl Reader {
-    /// A reader of which the stream has not begun.
+    /// A reader at the beginning of a stream.
     pub fn new(alloc: Global) -> Result<Reader, AllocError>
         ensures { IfOk result (λ r. r ≡ Within []) }
     {
@@ -50,9 +49,9 @@ impl Reader {
         })
     }
 
-    /// Takes the next piece of the stream, and appends each frame that is whole now. The faults 1 to 4 come with their
-    /// byte, behind the frames before them, and each later call answers the same one and appends nothing. Where memory is
-    /// refused nothing has changed, and the piece was not taken.
+    /// Takes the next piece of the stream, and appends each frame that is complete now. Faults 1 to 4 are returned as soon as their byte
+    /// has come, after the frames before it were appended; each later call returns the same fault and appends nothing. After `NoMemory`
+    /// reader and `frames` are unchanged, and the piece was not taken.
     #[tactic(auto, using(crate::proofs::ReaderLemmas::takes_within))]
     pub fn feed(
         &mut self,
@@ -84,8 +83,8 @@ impl Reader {
     }
 }
 
-/// Reads a stream that comes in these pieces, however it was cut, and appends its frames. A fault ends it; where memory is
-/// refused the frames of the pieces before have been appended.
+/// Reads a stream that was cut into these pieces, and appends its frames. A fault ends the reading; after `NoMemory` the frames of
+/// the earlier pieces have been appended.
 pub fn read_pieces(
     alloc: Global,
     pieces: &[Vec<u8>],
@@ -103,21 +102,21 @@ pub fn read_pieces(
     Ok(())
 }
 
-/// The frame at the front of the bytes, and the bytes behind it; none where it is not whole.
+/// The frame at the front of `bytes`, and the bytes after it; `None` if the frame is not complete.
 fn first(alloc: Global, bytes: &[u8]) -> Result<Option<(Frame, &[u8])>, FrameFault>
     ensures first { MatchResult result
         (λ found. MatchOption found (Ends bytes.now Open) (λ r. Begins bytes.now r.0 r.1.now))
         (λ fault. fault ≢ FrameFault.NoMemory → Ends bytes.now (Fault fault)) }
-    ensures room { result ≡ Err FrameFault.NoMemory → OffersRoom bytes.now }
+    ensures room { result ≡ Err FrameFault.NoMemory → MayNeedMemory bytes.now }
 {
-    match read_head(bytes) {
-        Head::Short => Ok(None),
-        Head::Wrong(fault) => Err(fault),
-        Head::Whole(kind, len) => {
-            if bytes.len() - HEAD < len {
+    match read_header(bytes) {
+        Header::Short => Ok(None),
+        Header::Wrong(fault) => Err(fault),
+        Header::Whole(kind, len) => {
+            if bytes.len() - HEADER_LEN < len {
                 return Ok(None);
             }
-            let (_, behind) = bytes.split_at(HEAD);
+            let (_, behind) = bytes.split_at(HEADER_LEN);
             let (payload, rest) = behind.split_at(len);
             let frame = frame_of(alloc, kind, payload)?;
             Ok(Some((frame, rest)))
@@ -125,12 +124,12 @@ fn first(alloc: Global, bytes: &[u8]) -> Result<Option<(Frame, &[u8])>, FrameFau
     }
 }
 
-/// The first frame of the bytes, where it is whole and its fields are right; what follows it is not looked at. Memory is wanting only where
-/// they offer a payload with literals or bytes.
+/// The first frame of `bytes`, or `None` if they begin with no complete frame with right fields. The bytes after it are not read.
+/// Memory can be refused only if the payload is complete and has literals or a chunk.
 #[tactic(auto, using(crate::proofs::Streams::ends_begin_none))]
 pub fn first_frame(alloc: Global, bytes: &[u8]) -> Result<Option<Frame>, AllocError>
     ensures first { IfOk result (λ found. MatchOption found (BeginsNoFrame bytes.now) (BeginsWith bytes.now)) }
-    ensures room { OnErr result (OffersRoom bytes.now) }
+    ensures room { OnErr result (MayNeedMemory bytes.now) }
 {
     match first(alloc, bytes) {
         Ok(Some((frame, _))) => Ok(Some(frame)),
@@ -140,31 +139,31 @@ pub fn first_frame(alloc: Global, bytes: &[u8]) -> Result<Option<Frame>, AllocEr
     }
 }
 
-/// How many bytes the head lacks, or behind a whole head the payload.
-fn lacking(bytes: &[u8]) -> usize
-    ensures { result ≡ lacks bytes.now }
+/// The number of bytes by which the header is incomplete; after a complete header, the same of the payload.
+fn missing_bytes(bytes: &[u8]) -> usize
+    ensures { result ≡ missing bytes.now }
 {
-    match read_head(bytes) {
-        Head::Short => HEAD - bytes.len(),
-        Head::Wrong(_) => 0,
-        Head::Whole(_, len) => len.saturating_sub(bytes.len() - HEAD),
+    match read_header(bytes) {
+        Header::Short => HEADER_LEN - bytes.len(),
+        Header::Wrong(_) => 0,
+        Header::Whole(_, len) => len.saturating_sub(bytes.len() - HEADER_LEN),
     }
 }
 
-/// Puts at the buffer's end as many of the piece's first bytes as it lacks, and answers how many.
+/// Appends to the buffer the piece's first bytes, as many as are missing, and returns how many.
 fn top_up(buffer: &mut Vec<u8>, piece: &[u8]) -> usize
-    requires { vec_len buffer.old + lacks buffer.old.items ≤ vec_capacity buffer.old }
+    requires { vec_len buffer.old + missing buffer.old.items ≤ vec_capacity buffer.old }
     ensures now { buffer.new.items ≡ buffer.old.items ++ take result piece.now }
-    ensures count { result ≡ min (lacks buffer.old.items) (length piece.now) }
+    ensures count { result ≡ min (missing buffer.old.items) (length piece.now) }
     ensures capacity { vec_capacity buffer.old ≤ vec_capacity buffer.new }
 {
-    let count = lacking(buffer).min(piece.len());
+    let count = missing_bytes(buffer).min(piece.len());
     buffer.extend_from_slice(&piece[..count]).unwrap();
     count
 }
 
-/// Fills the buffer up to the end of the frame that it begins: the head first, and then what it asks for. Answers how
-/// many bytes of the piece that took.
+/// Fills the buffer up to the end of its frame: first the header, and then the payload, whose length the header has. Returns how many
+/// bytes of the piece were used.
 fn fill(buffer: &mut Vec<u8>, piece: &[u8]) -> usize
     requires open { Ends buffer.old.items Open }
     requires room { 4037 ≤ vec_capacity buffer.old }
@@ -177,9 +176,9 @@ fn fill(buffer: &mut Vec<u8>, piece: &[u8]) -> usize
     head + payload
 }
 
-/// Goes on with the frame that the buffer begins. Answers it, with the bytes of the piece behind it, where it is whole
-/// now; the buffer keeps what it had at its front.
-fn go_on<'a>(
+/// Goes on with the frame in the buffer. If the frame is complete now, returns it with the bytes of the piece after it. What the
+/// buffer had before stays at its front, so that `feed` can truncate it to that.
+fn continue_frame<'a>(
     alloc: Global,
     buffer: &mut Vec<u8>,
     piece: &'a [u8],
@@ -204,8 +203,8 @@ fn go_on<'a>(
     }
 }
 
-/// Appends the whole frames at the front of the piece, and answers the bytes behind them.
-fn read_whole<'a>(
+/// Appends the complete frames at the front of the piece, and returns the bytes after them.
+fn read_whole_frames<'a>(
     alloc: Global,
     piece: &'a [u8],
     frames: &mut Vec<Frame>,
@@ -226,9 +225,9 @@ fn read_whole<'a>(
     }
 }
 
-/// Reads a piece of which the buffer holds nothing, and keeps the bytes behind its frames in the buffer. At an `Err` the
-/// buffer is as before.
-fn read_apart(
+/// Reads a piece that begins with a new frame, and keeps the bytes after its complete frames in the buffer. After an `Err` the buffer
+/// is unchanged.
+fn read_unbuffered(
     alloc: Global,
     buffer: &mut Vec<u8>,
     piece: &[u8],
@@ -241,13 +240,13 @@ fn read_apart(
     ensures kept { OnErr result (buffer.new.items ≡ buffer.old.items) }
     ensures room { 4037 ≤ vec_capacity buffer.new }
 {
-    let rest = read_whole(alloc, piece, frames)?;
+    let rest = read_whole_frames(alloc, piece, frames)?;
     buffer.clear();
     buffer.extend_from_slice(rest).unwrap();
     Ok(())
 }
 
-/// Reads a piece behind the bytes of the buffer. At an `Err` the buffer has what it had at its front.
+/// Reads a piece that continues the bytes of the buffer. After an `Err` the buffer begins with what it had before.
 fn read(
     alloc: Global,
     buffer: &mut Vec<u8>,
@@ -263,13 +262,13 @@ fn read(
     ensures room { 4037 ≤ vec_capacity buffer.new }
 {
     if buffer.is_empty() {
-        return read_apart(alloc, buffer, piece, frames);
+        return read_unbuffered(alloc, buffer, piece, frames);
     }
-    match go_on(alloc, buffer, piece)? {
+    match continue_frame(alloc, buffer, piece)? {
         None => Ok(()),
         Some((frame, rest)) => {
             frames.push(frame)?;
-            read_apart(alloc, buffer, rest, frames)
+            read_unbuffered(alloc, buffer, rest, frames)
         }
     }
 }

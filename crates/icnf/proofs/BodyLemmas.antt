@@ -2,8 +2,9 @@
 use Rattle.std.proofs.Common.{◌≡◌, ℕ, ◌+◌, ◌≤◌, max, true, false, List, [], ◌∷◌, ◌++◌, ℤ, Option, Some, None, Result, refl, arith, codes, bytes_eq}
 use Rattle.std.specs.Option.{option_map}
 use Rattle.dimacs.specs.declared.number.Number.{Number}
-use Rattle.dimacs.specs.layout.Building.{Building}
+use Rattle.dimacs.specs.layout.BuilderState.{BuilderState}
 use Rattle.dimacs.specs.logic.Cnf.{greatest_of, greatest_in}
+use Rattle.dimacs.specs.logic.Limits.{Limits}
 use Rattle.dimacs.specs.inner.Capped.{capped}
 use Rattle.dimacs.specs.logic.Literal.{Literal, Clause, var_of}
 use Rattle.dimacs.specs.inner.Rows.{Gives}
@@ -15,7 +16,7 @@ use Rattle.icnf.specs.declared.walk.Stage.TheVariants.{Clauses, Outside, Inside,
 use Rattle.icnf.specs.ReadState.{ReadState}
 use Rattle.icnf.specs.inner.ReadState.{IsRead, IsClosed}
 use Rattle.icnf.specs.Walk.{WalkState}
-use Rattle.icnf.specs.Reading.{no_memory, read_token, read_mark, read_number, fault}
+use Rattle.icnf.specs.Parser.{no_memory, read_token, read_mark, read_number, fault}
 
 pub greatest_append : (xs ys : Clause) → greatest_of (xs ++ ys) ≡ max (greatest_of xs) (greatest_of ys)
 greatest_append [] ys = omega arith
@@ -31,14 +32,14 @@ open_among Outside c e = absurd (cc)
 open_among Inside c e = absurd (cc)
 open_among Complete c e = absurd (cc)
 
-pub read_push : (walk : WalkState) (old new : Building) (l : Literal) → walk.stage ≡ Clauses → var_of l ≤ 1000000 → IsRead (record { clauses = old; walk = walk })
-    → new ≡ record old { open_clause = old.open_clause ++ l ∷ []; total = old.total + 1 } → IsRead (record { clauses = new; walk = walk })
-read_push walk old new l s small h e =
+pub read_push : (L : Limits) (walk : WalkState) (old new : BuilderState) (l : Literal) → walk.stage ≡ Clauses → var_of l ≤ 1000000 → IsRead (record { limits = L; clauses = old; walk = walk })
+    → new ≡ record old { open_clause = old.open_clause ++ l ∷ []; total = old.total + 1 } → IsRead (record { limits = L; clauses = new; walk = walk })
+read_push L walk old new l s small h e =
     rw e (record { greatest = omega (arith, h.greatest, greatest_append old.open_clause (l ∷ [])); closed = open_among walk.stage (old.open_clause ++ l ∷ []) s })
 
-pub read_end : (walk : WalkState) (old new : Building) → walk.stage ≡ Clauses → IsRead (record { clauses = old; walk = walk })
-    → new ≡ record old { done = old.done ++ old.open_clause ∷ []; open_clause = [] } → IsRead (record { clauses = new; walk = walk })
-read_end walk old new s h e =
+pub read_end : (L : Limits) (walk : WalkState) (old new : BuilderState) → walk.stage ≡ Clauses → IsRead (record { limits = L; clauses = old; walk = walk })
+    → new ≡ record old { done = old.done ++ old.open_clause ∷ []; open_clause = [] } → IsRead (record { limits = L; clauses = new; walk = walk })
+read_end L walk old new s h e =
     rw e (record { greatest = omega (arith, h.greatest, greatest_more old.done old.open_clause); closed = open_among walk.stage [] s })
 
 -- ---- tokens

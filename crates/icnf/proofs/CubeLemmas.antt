@@ -8,11 +8,11 @@ use Rattle.icnf.specs.declared.fault.IcnfFault.{IcnfFault}
 use Rattle.icnf.specs.declared.fault.Kind.TheVariants.{AboveLimit, RepeatedVariable, NotATree, CubeTooLong}
 use Rattle.icnf.specs.declared.place.Place.{Place}
 use Rattle.icnf.specs.ReadState.{ReadState}
-use Rattle.icnf.specs.Reading.{fault, no_memory, begin, end_cube, literal_in_cube}
+use Rattle.icnf.specs.Parser.{fault, no_memory, begin, end_cube, literal_in_cube}
 use Rattle.icnf.specs.Walk.{WalkState, names, fits}
 use Rattle.icnf.specs.inner.Cubes.{begin_cube, end_cube as cube_ends, end_behind, read_literal}
 
--- a test decides before and behind a step
+-- a test decides before and after a step
 pub test_goes : {A B E : Type 0} (b : Bool) (x y : Result B E) (x' y' : Result A E) (f : A → Result B E) → x ≡ (x' >>= f) → y ≡ (y' >>= f) → cond b x y ≡ (cond b x' y' >>= f)
 test_goes true x y x' y' f h k = h
 test_goes false x y x' y' f h k = k

@@ -2,6 +2,7 @@
 use Rattle.std.proofs.Common.{◌≡◌, ℕ, ◌+◌, ◌<◌, Bool, cond, List, [], ◌∷◌, ◌++◌, ℤ, nat_abs, Option, Some, None, Result, Ok, Err, length, refl, sym, ap, ◌∙◌, subst, inl, inr, eqb, ltb, leb}
 use Rattle.std.proofs.Math.Dec.{eqb-suc-zero}
 use Rattle.dimacs.specs.logic.Cnf.{Cnf, greatest_in}
+use Rattle.dimacs.specs.logic.Limits.{Limits}
 use Rattle.dimacs.specs.logic.Literal.{Clause, literal_of_number}
 use Rattle.dimacs.specs.text.Rows.{Fails, read_lines, read_text, read_words, ◌>>=◌}
 use Rattle.dimacs.specs.text.Words.{words, words_of}
@@ -13,12 +14,12 @@ use Rattle.icnf.specs.declared.walk.Stage.{Stage}
 use Rattle.icnf.specs.declared.walk.Stage.TheVariants.{Clauses, Outside, Inside, Complete}
 use Rattle.icnf.specs.Pieces.{kept}
 use Rattle.icnf.specs.ReadState.{ReadState}
-use Rattle.icnf.specs.Reading.{Token, Mark, Number, token, fault, format, no_memory, start, begin, begin_behind, read_mark, in_clause, end_cube, literal_in_cube, in_cube, read_number, read_found, read_token, read_header}
+use Rattle.icnf.specs.Parser.{Token, Mark, Number, token, fault, format, no_memory, start, begin, begin_behind, read_mark, in_clause, end_cube, literal_in_cube, in_cube, read_number, read_found, read_token, read_header}
 use Rattle.icnf.specs.Walk.{WalkState}
 use Rattle.icnf.specs.inner.Cubes.{begin_cube, end_cube as cube_ends, read_literal}
 use Rattle.icnf.specs.inner.Lines.{IsKept, TakesRow, RefusesRow}
 use Rattle.icnf.specs.inner.TreeBody.{walks, take_mark, take_in_clause, take_in_cube, take_number, take_found, take_token, none_read, format as tree_format}
-use Rattle.icnf.proofs.ComparingLemmas.{literal_kept, end_kept}
+use Rattle.icnf.proofs.ComparisonLemmas.{literal_kept, end_kept}
 use Rattle.icnf.proofs.CubeLemmas.{test_goes, walked, begin_walks, end_walks, literal_walks}
 
 -- ---- results
@@ -60,11 +61,11 @@ module _ (clauses : List Clause) where
   clause_kept : (line : ℕ) (z : ℤ) (s : ReadState) → take_in_clause clauses line z (kept clauses s) ≡ (in_clause line z s >>= keep)
   unfolding take_in_clause
   clause_kept line z s =
-      test_goes (leb 4000000 (length s.clauses.done)) _ _ (fault AboveLimit line) _ keep refl
+      test_goes (leb s.limits.clauses (length s.clauses.done)) _ _ (fault AboveLimit line) _ keep refl
       (test_goes (eqb (nat_abs z) 0) _ _ (Ok (record s { clauses = record s.clauses { done = s.clauses.done ++ s.clauses.open_clause ∷ []; open_clause = [] } })) _ keep
       (ap (λ c. Ok (record (kept clauses s) { clauses = c })) (end_kept clauses s.clauses))
-      (test_goes (ltb 1000000 (nat_abs z)) _ _ (fault AboveLimit line) _ keep refl
-      (test_goes (leb 50000000 s.clauses.total) _ _ (fault AboveLimit line) _ keep refl
+      (test_goes (ltb s.limits.vars (nat_abs z)) _ _ (fault AboveLimit line) _ keep refl
+      (test_goes (leb s.limits.literals s.clauses.total) _ _ (fault AboveLimit line) _ keep refl
       (ap (λ c. Ok (record (kept clauses s) { clauses = c })) (literal_kept clauses s.clauses (literal_of_number z))))))
 
   cube_kept : (line : ℕ) (z : ℤ) (s : ReadState) → take_in_cube line z (kept clauses s) ≡ (in_cube line z s >>= keep)
@@ -98,9 +99,9 @@ module _ (clauses : List Clause) where
 
 -- ---- a line
 
-module _ (F : Cnf) (n number : ℕ) (line : List ℕ) (e : number ≡ n + 1) where
-  -- behind the header
-  pub row_taken : (rows t : TreeBody) (s : Option ReadState) → IsKept F s (Some rows) → read_words (tree_format F.clauses) number (words_of line) rows ≡ Ok t → TakesRow F n line number (Some t) s
+module _ (L : Limits) (F : Cnf) (n number : ℕ) (line : List ℕ) (e : number ≡ n + 1) where
+  -- after the header
+  pub row_taken : (rows t : TreeBody) (s : Option ReadState) → IsKept F s (Some rows) → read_words (tree_format F.clauses) number (words_of line) rows ≡ Ok t → TakesRow L F n line number (Some t) s
   row_taken rows t None is h = absurd (cc)
   row_taken rows t (Some s) is h =
       let same : rows ≡ kept F.clauses s = cc in
@@ -112,7 +113,7 @@ module _ (F : Cnf) (n number : ℕ) (line : List ℕ) (e : number ≡ n + 1) whe
         goes = λ more. lines_more format n (line ∷ more) more line s read.0 refl goes ∙ ap (λ k. read_lines format k more read.0) (sym e);
       }
 
-  pub row_refused : (rows : TreeBody) (s : Option ReadState) (f : IcnfFault) → IsKept F s (Some rows) → Fails no_memory f (read_words (tree_format F.clauses) number (words_of line) rows) → RefusesRow n line f s
+  pub row_refused : (rows : TreeBody) (s : Option ReadState) (f : IcnfFault) → IsKept F s (Some rows) → Fails no_memory f (read_words (tree_format F.clauses) number (words_of line) rows) → RefusesRow L n line f s
   row_refused rows s f is (inl none) = λ more. inl none
   row_refused rows None f is (inr h) = absurd (cc)
   row_refused rows (Some s) f is (inr h) = λ more.
@@ -121,23 +122,23 @@ module _ (F : Cnf) (n number : ℕ) (line : List ℕ) (e : number ≡ n + 1) whe
       lines_fails format no_memory n (line ∷ more) more line s f (read_lines format n (line ∷ more) s) refl refl (inr (subst (λ k. read_words format k (words_of line) s ≡ Err f) e failed))
 
   -- without a token
-  pub blank_taken : (s : Option ReadState) → IsKept F s None → words_of line ≡ [] → TakesRow F n line number None s
+  pub blank_taken : (s : Option ReadState) → IsKept F s None → words_of line ≡ [] → TakesRow L F n line number None s
   blank_taken (Some s) is h = absurd (cc)
-  blank_taken None is h = record { read = None; keeps = refl; goes = λ more. text_blank format n (line ∷ more) more line refl h ∙ ap (λ k. read_text format k more) (sym e) }
+  blank_taken None is h = record { read = None; keeps = refl; goes = λ more. text_blank format L n (line ∷ more) more line refl h ∙ ap (λ k. read_text format L k more) (sym e) }
 
   -- the header
-  pub header_taken : (s : Option ReadState) (u : Unit {0}) (new : TreeBody) → IsKept F s None → (0 < length (words_of line)) × (words_of line ≡ words line) → Ok u ≡ read_header number (words line) → new ≡ none_read → TakesRow F n line number (Some new) s
+  pub header_taken : (s : Option ReadState) (u : Unit {0}) (new : TreeBody) → IsKept F s None → (0 < length (words_of line)) × (words_of line ≡ words line) → Ok u ≡ read_header number (words line) → new ≡ none_read L → TakesRow L F n line number (Some new) s
   header_taken (Some s) u new is some h begun = absurd (cc)
   header_taken None u new is some h begun =
-      let read = ap (λ (r : Result (Unit {0}) IcnfFault). r >>= λ x. Ok start) (sym h) in
+      let read = ap (λ (r : Result (Unit {0}) IcnfFault). r >>= λ x. Ok (start L)) (sym h) in
       record {
-        read = Some start;
+        read = Some (start L);
         keeps = ap Some begun;
-        goes = λ more. text_header format n (line ∷ more) more line start refl some (subst (λ k. format.header k (words line) ≡ Ok start) e read) ∙ ap (λ k. read_lines format k more start) (sym e);
+        goes = λ more. text_header format L n (line ∷ more) more line (start L) refl some (subst (λ k. format.header L k (words line) ≡ Ok (start L)) e read) ∙ ap (λ k. read_lines format k more (start L)) (sym e);
       }
 
-  pub header_refused : (s : Option ReadState) (f : IcnfFault) → IsKept F s None → (0 < length (words_of line)) × (words_of line ≡ words line) → Err f ≡ read_header number (words line) → RefusesRow n line f s
+  pub header_refused : (s : Option ReadState) (f : IcnfFault) → IsKept F s None → (0 < length (words_of line)) × (words_of line ≡ words line) → Err f ≡ read_header number (words line) → RefusesRow L n line f s
   header_refused (Some s) f is some h = absurd (cc)
   header_refused None f is some h = λ more.
-      let read = ap (λ (r : Result (Unit {0}) IcnfFault). r >>= λ x. Ok start) (sym h) in
-      text_fails format no_memory n (line ∷ more) more line f (read_text format n (line ∷ more)) refl some refl (inr (subst (λ k. format.header k (words line) ≡ Err f) e read))
+      let read = ap (λ (r : Result (Unit {0}) IcnfFault). r >>= λ x. Ok (start L)) (sym h) in
+      text_fails format L no_memory n (line ∷ more) more line f (read_text format L n (line ∷ more)) refl some refl (inr (subst (λ k. format.header L k (words line) ≡ Err f) e read))

@@ -1,5 +1,5 @@
 pub mod BodyLemmas
-pub mod ComparingLemmas
+pub mod ComparisonLemmas
 pub mod CubeLemmas
 pub mod DistinctLemmas
 pub mod KeptLemmas

@@ -11,7 +11,7 @@ use Rattle.icnf.specs.declared.walk.Stage.TheVariants.{Clauses, Outside, Inside,
 use Rattle.icnf.specs.Leaves.{Cube}
 use Rattle.icnf.specs.ReadState.{ReadState}
 use Rattle.icnf.specs.Walk.{names, fits}
-use Rattle.icnf.specs.Reading.{Token, Mark, Number, token, read_token, read_mark, read_number, read_found, begin, begin_behind, in_clause, in_cube, literal_in_cube, end_cube, finish, finish_at, end_behind, fault, format}
+use Rattle.icnf.specs.Parser.{Token, Mark, Number, token, read_token, read_mark, read_number, read_found, begin, begin_behind, in_clause, in_cube, literal_in_cube, end_cube, finish, finish_at, end_behind, fault, format}
 use Rattle.dimacs.proofs.RowRuns.{IsRun}
 
 -- ---- results
@@ -53,9 +53,9 @@ mark_any m n Complete s c h = absurd (fault≢ok _ _ _ h)
 
 clause_any : (m n : ℕ) (z : ℤ) (s c : ReadState) → in_clause m z s ≡ Ok c → in_clause n z s ≡ Ok c
 clause_any m n z s c h =
-    past_any (leb 4000000 (length s.clauses.done)) AboveLimit m n _ _ c
+    past_any (leb s.limits.clauses (length s.clauses.done)) AboveLimit m n _ _ c
     (λ e. either_any (eqb (nat_abs z) 0) _ _ _ _ c (λ x. x)
-    (λ f. past_any (ltb 1000000 (nat_abs z)) AboveLimit m n _ _ c (λ g. past_any (leb 50000000 s.clauses.total) AboveLimit m n _ _ c (λ x. x) g) f) e) h
+    (λ f. past_any (ltb s.limits.vars (nat_abs z)) AboveLimit m n _ _ c (λ g. past_any (leb s.limits.literals s.clauses.total) AboveLimit m n _ _ c (λ x. x) g) f) e) h
 
 end_any : (m n : ℕ) (forced : List Place) (s c : ReadState) → end_cube m forced s ≡ Ok c → end_cube n forced s ≡ Ok c
 end_any m n [] s c h = h
@@ -114,7 +114,7 @@ found_token : (line : ℕ) (o : Option Token) (s c : ReadState) → read_found l
 found_token line None s c h = absurd (fault≢ok _ _ _ h)
 found_token line (Some t) s c h = (t, refl, found_any line 0 t s c h)
 
--- the lines behind a header are a run over their tokens
+-- the lines after a header are a run over their tokens
 pub tokens_run : IsRun format token read_one
 unfolding read_token
 tokens_run = record {

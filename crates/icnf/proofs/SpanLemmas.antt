@@ -141,7 +141,7 @@ leaf_short xs spans i s lies below is h =
     let cube : length (get_or (cubes_in xs spans) i []) ≡ length (cube_in xs s) = ap length (get_or-map (cube_in xs) spans i s [] below ∙ ap (λ (x : Span). cube_in xs x) (sym is)) in
     omega (arith, length-take (s.to - s.from) (drop s.from xs), length-drop s.from xs, span.rise, span.inside)
 
--- a cube behind the others
+-- a cube after the others
 pub cubes_push : (xs ys cube : List Literal) (spans : List Span) (s : Span) → AreSpans xs spans → ys ≡ xs ++ cube → s.from ≡ length xs → s.to ≡ length xs + length cube → cubes_in ys (spans ++ s ∷ []) ≡ cubes_in xs spans ++ cube ∷ []
 cubes_push xs ys cube spans s lies e from to =
     let last : cube_in (xs ++ cube) s ≡ cube = ap (λ (zs : List Literal). cube_in zs s) (sym (append-nil (xs ++ cube))) ∙ cube_at_end xs cube [] s from to in

@@ -3,11 +3,12 @@ use Rattle.std.proofs.Common.{◌≢◌, ℕ, Bool, true, false, cond, List, [],
 use Rattle.std.specs.Prelude.{IfErr}
 use Rattle.icnf.specs.declared.fault.IcnfFault.{IcnfFault}
 use Rattle.icnf.specs.declared.fault.Kind.TheVariants.{AboveLimit, BadHeader, CubeTooLong, NoHeader, NoMemory, NotATree, RepeatedVariable, VariableAboveClauses}
+use Rattle.dimacs.specs.logic.Limits.{Limits}
 use Rattle.dimacs.specs.logic.Literal.{Literal, Clause, literal_of_number, var_of}
 use Rattle.icnf.specs.ReadState.{ReadState}
 use Rattle.icnf.specs.declared.walk.Stage.{Stage}
 use Rattle.icnf.specs.declared.walk.Stage.TheVariants.{Clauses, Outside, Inside, Complete}
-use Rattle.icnf.specs.Reading.{Token, Mark, Number, token, begin, begin_behind, end_behind, end_cube, fault, finish, finish_at, format, header_end, header_two, in_clause, in_cube, literal_in_cube, parse, read_found, read_header, read_mark, read_number, read_token, start}
+use Rattle.icnf.specs.Parser.{Token, Mark, Number, token, begin, begin_behind, end_behind, end_cube, fault, finish, finish_at, format, header_end, header_two, in_clause, in_cube, literal_in_cube, parse_within, read_found, read_header, read_mark, read_number, read_token, start}
 use Rattle.icnf.specs.declared.place.Place.{Place}
 use Rattle.icnf.specs.Walk.{names, fits}
 use Rattle.dimacs.specs.logic.Cnf.{greatest_in}
@@ -63,9 +64,9 @@ mark_told line Complete s = λ e. cc
 
 clause_told : (line : ℕ) (z : ℤ) (s : ReadState) → IsTold (in_clause line z s)
 clause_told line z s =
-    either_told (leb 4000000 (length s.clauses.done)) (fault AboveLimit line) _ (λ e. cc)
+    either_told (leb s.limits.clauses (length s.clauses.done)) (fault AboveLimit line) _ (λ e. cc)
     (either_told (eqb (nat_abs z) 0) (Ok _) _ tt
-    (either_told (ltb 1000000 (nat_abs z)) (fault AboveLimit line) _ (λ e. cc) (either_told (leb 50000000 s.clauses.total) (fault AboveLimit line) (Ok _) (λ e. cc) tt)))
+    (either_told (ltb s.limits.vars (nat_abs z)) (fault AboveLimit line) _ (λ e. cc) (either_told (leb s.limits.literals s.clauses.total) (fault AboveLimit line) (Ok _) (λ e. cc) tt)))
 
 cube_end_told : (line : ℕ) (forced : List Place) (s : ReadState) → IsTold (end_cube line forced s)
 cube_end_told line [] s = tt
@@ -96,11 +97,11 @@ token_told : (line : ℕ) (w : List ℕ) (s : ReadState) → IsTold (read_token 
 unfolding read_token
 token_told line w s = found_told line (token w) s
 
-pub parse_told : (text : List ℕ) → IsTold (parse text)
-parse_told text =
+pub parse_told : (L : Limits) (text : List ℕ) → IsTold (parse_within L text)
+parse_told L text =
     text_told format (λ f. f.kind ≢ NoMemory) (record {
       no_header = λ n e. cc;
-      header = λ line ws. bind_told (λ f. f.kind ≢ NoMemory) (read_header line ws) (λ h. Ok start) (header_told line ws) (λ h. tt);
+      header = λ L line ws. bind_told (λ f. f.kind ≢ NoMemory) (read_header line ws) (λ h. Ok (start L)) (header_told line ws) (λ h. tt);
       token = token_told;
       finish = finish_told;
-    }) 0 (lines text)
+    }) L 0 (lines text)

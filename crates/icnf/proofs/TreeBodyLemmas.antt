@@ -10,7 +10,7 @@ use Rattle.dimacs.specs.text.Numbers.{number}
 use Rattle.icnf.specs.declared.fault.IcnfFault.{IcnfFault}
 use Rattle.icnf.specs.declared.fault.Kind.TheVariants.{BadToken}
 use Rattle.icnf.specs.declared.tree_body.TreeBody.{TreeBody}
-use Rattle.icnf.specs.Reading.{no_memory, fault}
+use Rattle.icnf.specs.Parser.{no_memory, fault}
 use Rattle.icnf.specs.inner.TreeBody.{take_mark, take_number, take_token}
 use Rattle.icnf.proofs.BodyLemmas.{no_number, some_number}
 

@@ -37,20 +37,20 @@ place_push : (b : Bool) (other : Cube) (cubes : List Cube) (P Q : List Cube → 
 place_push true other cubes P Q f h = f cubes h
 place_push false other cubes P Q f h = (h.0, h.1, h.2, h.3, f h.1 h.4)
 
--- a free literal at the end leaves no cube behind
+-- a free literal at the end leaves no cube after
 pub begun_push : (path : List Place) (front : Cube) (cubes : List Cube) (l : Literal) → Begun front path cubes → IsFree (front ++ literals_of path) (var_of l) → Begun front (path ++ free_place l ∷ []) cubes
 begun_push [] front cubes l h free = (subst (λ (c : Cube). IsFree c (var_of l)) (append-nil front) free, h)
 begun_push (p ∷ path) front cubes l h free =
     let free' : IsFree ((front ++ p.literal ∷ []) ++ literals_of path) (var_of l) = subst (λ (c : Cube). IsFree c (var_of l)) (sym (append_assoc front (p.literal ∷ []) (literals_of path))) free in
     (h.0, place_push p.is_open (front ++ negation p.literal ∷ []) cubes _ _ (λ seen b. begun_push path (front ++ p.literal ∷ []) seen l b free') h.1)
 
--- what a cube's end leaves: leaves where no branch is missing
+-- what a cube's end leaves: leaves if no branch is missing
 abbrev pub Closed : Option (List Place) → Cube → List Cube → Type 0
 Closed None front cubes = Leaves front cubes
 Closed (Some path) front cubes = Begun front path cubes
 
 module _ (front : Cube) (l : Literal) (free : IsFree front (var_of l)) where
-  -- behind a place whose other branch is missing
+  -- after a place whose other branch is missing
   open_closed : (o : Option (List Place)) (cubes : List Cube) → Closed o (front ++ l ∷ []) cubes → Closed (front_behind (free_place l) o) front cubes
   open_closed None cubes h =
       let apart : IsFree front (var_of (negation l)) = subst (λ v. IsFree front v) (sym (var_of-negation l)) free in
@@ -58,7 +58,7 @@ module _ (front : Cube) (l : Literal) (free : IsFree front (var_of l)) where
       (apart, (cubes, [], sym (append-nil cubes), read, refl))
   open_closed (Some path) cubes h = (free, h)
 
-  -- behind a place whose other branch was read
+  -- after a place whose other branch was read
   shut_closed : (o : Option (List Place)) (first rest : List Cube) → Leaves (front ++ negation l ∷ []) first → Closed o (front ++ l ∷ []) rest → Closed (front_behind (record { literal = l; is_open = false }) o) front (first ++ rest)
   shut_closed None first rest a h =
       let apart : IsFree front (var_of (negation l)) = subst (λ v. IsFree front v) (sym (var_of-negation l)) free in

@@ -4,16 +4,17 @@ use Rattle.std.specs.Fmt.{signed_decimal}
 use Rattle.std.specs.List.{flat_map, AllByRecursion}
 use Rattle.std.proofs.lemmas.Slice.Eq.{bytes_eq-Decides}
 use Rattle.std.proofs.lemmas.List.{map-append}
-use Rattle.dimacs.specs.logic.Cnf.{Cnf, IsFormula, AreWithin, greatest_in}
+use Rattle.dimacs.specs.logic.Cnf.{Cnf, FitsIn, IsFormula, AreWithin, greatest_in}
+use Rattle.dimacs.specs.logic.Limits.{Limits}
 use Rattle.dimacs.specs.logic.Literal.{Clause, IsWithin}
 use Rattle.dimacs.specs.text.Rows.{AreRows}
 use Rattle.dimacs.specs.text.Words.{words, words_of, lines}
-use Rattle.dimacs.specs.text.Spelling.{ended, clause_text, clause_line}
+use Rattle.dimacs.specs.text.Grammar.{ended, clause_text, clause_line}
 use Rattle.dimacs.proofs.WritingLemmas.{IsInk, number_text, text_ink, clause_plain, no_end, lines_line, words_of_clause, clause_words, clause_small, words_plain}
 use Rattle.dimacs.proofs.WithinLemmas.{EachWithin, each_within}
 use Rattle.icnf.specs.Leaves.{Cube, IsTree}
-use Rattle.icnf.specs.Reading.{Token, Mark, Number, token}
-use Rattle.icnf.specs.Spelling.{cube_tokens, AreTokens, IsHeader, IsIcnf, Spells, cube_line, spelling, formula_of}
+use Rattle.icnf.specs.Parser.{Token, Mark, Number, token}
+use Rattle.icnf.specs.Grammar.{cube_tokens, AreTokens, IsHeader, IsIcnf, SpellsWithin, cube_line, spelling, formula_of}
 use Rattle.icnf.proofs.StateLemmas.{clauses_greatest, clauses_within}
 
 -- ---- tokens
@@ -85,8 +86,8 @@ header_words : words_of (codes "p inccnf") ≡ codes "p" ∷ codes "inccnf" ∷ 
 unfolding words
 header_words = refl
 
-pub writing_spells : (f : Cnf) (cubes : List Cube) → IsFormula f → IsTree cubes → AreWithin (greatest_in f.clauses) cubes → Spells (spelling f.clauses cubes) (formula_of f.clauses) cubes
-writing_spells f cubes is tree near =
+pub writing_spells : (L : Limits) (f : Cnf) (cubes : List Cube) → IsFormula f → FitsIn L f → IsTree cubes → AreWithin (greatest_in f.clauses) cubes → SpellsWithin L (spelling f.clauses cubes) (formula_of f.clauses) cubes
+writing_spells L f cubes is fits tree near =
     let top = clauses_greatest f.vars f.clauses is.within in
     let small : greatest_in f.clauses ≤ 1000000 = omega (arith, is.vars) in
     let body = flat_map clause_line f.clauses ++ flat_map cube_line cubes in
@@ -102,4 +103,4 @@ writing_spells f cubes is tree near =
       tree = tree;
       within = near;
     } in
-    (icnf, subst (λ (ls : List (List ℕ)). AreRows IsHeader (λ ts. AreTokens ts (formula_of f.clauses) cubes) ls) (sym l) rows)
+    (icnf, subst (λ (ls : List (List ℕ)). AreRows IsHeader (λ ts. AreTokens ts (formula_of f.clauses) cubes) ls) (sym l) rows, record { vars = omega (arith, fits.vars); clauses = fits.clauses; literals = fits.literals })

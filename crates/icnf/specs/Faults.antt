@@ -3,7 +3,7 @@ use Rattle.std.specs.Prelude.{ℕ}
 use Rattle.icnf.specs.declared.fault.Kind.{Kind}
 use Rattle.icnf.specs.declared.fault.Kind.TheVariants.{NoHeader, BadHeader, BadToken, VariableAboveClauses, ClauseNotEnded, AboveLimit, NoMemory, ClauseBehindCube, RepeatedVariable, NotATree, CubeTooLong}
 
--- the number that stands for a fault where it is printed
+-- the fault number that is printed
 abbrev pub number_of_kind : Kind → ℕ
 number_of_kind NoHeader = 1
 number_of_kind BadHeader = 2

@@ -10,7 +10,7 @@ Cube = List Literal
 abbrev pub IsFree : Cube → ℕ → Type 0
 IsFree path v = All (λ l. var_of l ≢ v) path
 
--- the leaves below a path, from left to right: the path itself, or the leaves behind a literal and then those behind its negation
+-- the leaves below a path, from left to right: the path itself, or the leaves below a literal and then those below its negation
 pub data Leaves : Cube → List Cube → Type 0 where
   leaf : {path : Cube} → Leaves path (path ∷ [])
   fork : {path : Cube} {left right : List Cube} (x : Literal) → IsFree path (var_of x)
@@ -22,7 +22,7 @@ pub record IsTree (cubes : List Cube) : Type 0 where
   pub count : length cubes ≤ 65536
   pub short : All (λ c. length c ≤ 64) cubes
 
--- the cubes with two branches, the variable and its negation, in the place of cube i
+-- the cubes, with cube i replaced by its two branches: on the variable, and on its negation
 abbrev pub branched : ℕ → ℕ → List Cube → List Cube
 branched i v [] = []
 branched zero v (c ∷ cubes) = (c ++ Pos v ∷ []) ∷ (c ++ Neg v ∷ []) ∷ cubes

@@ -1,10 +1,10 @@
-pub mod Comparing
+pub mod Comparison
 pub mod Faults
 pub mod Leaves
 pub mod Pieces
 pub mod ReadState
-pub mod Reading
+pub mod Parser
 pub mod Spans
-pub mod Spelling
+pub mod Grammar
 pub mod Walk
 pub mod inner

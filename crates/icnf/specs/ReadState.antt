@@ -1,8 +1,10 @@
--- What was read of an iCNF text behind its header.
-use Rattle.dimacs.specs.layout.Building.{Building}
+-- The state of the iCNF parser after the header.
+use Rattle.dimacs.specs.layout.BuilderState.{BuilderState}
+use Rattle.dimacs.specs.logic.Limits.{Limits}
 use Rattle.icnf.specs.Walk.{WalkState}
 
--- the clauses, and the cubes
+-- the limits, the clauses, and the cubes
 pub record ReadState : Type 0 where
-  pub clauses : Building
+  pub limits : Limits
+  pub clauses : BuilderState
   pub walk : WalkState

@@ -1,4 +1,4 @@
--- Cubes that lie in one list of literals.
+-- Cubes in one list of literals, each a span of it.
 use Rattle.std.specs.Prelude.{List, map, slice_range}
 use Rattle.dimacs.specs.logic.Literal.{Literal}
 use Rattle.icnf.specs.declared.span.Span.{Span}

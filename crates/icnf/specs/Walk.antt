@@ -1,4 +1,4 @@
--- Reading the cubes of a tree from left to right.
+-- The state while the cubes of a tree are read, from left to right.
 use Rattle.std.specs.Prelude.{ℕ, ◌==◌, Bool, true, false, List, [], ◌∷◌, ◌++◌, map, Option, Some, None, if◌then◌else◌}
 use Rattle.std.specs.List.{list_any}
 use Rattle.dimacs.specs.logic.Literal.{Literal, negation, var_of, same}
@@ -7,45 +7,45 @@ use Rattle.icnf.specs.declared.walk.Stage.{Stage}
 use Rattle.icnf.specs.declared.walk.Stage.TheVariants.{Outside, Complete}
 use Rattle.icnf.specs.Leaves.{Cube}
 
--- where the text stands, the cubes that have ended, what was read of the open one, and what it must go on with
+-- the position in the text, the cubes that have ended, the literals that were read of the open one, and those that must follow
 pub record WalkState : Type 0 where
   pub stage : Stage
   pub cubes : List Cube
   pub path : List Place
   pub forced : List Place
 
--- the literals of places
+-- the literals of decisions
 abbrev pub literals_of : List Place → Cube
 literals_of places = map (λ p. p.literal) places
 
--- the place of a free literal: its other branch is missing
+-- the decision of a free literal: its other branch is still to come
 abbrev pub free_place : Literal → Place
 free_place l = record { literal = l; is_open = true }
 
--- the place of the other branch, behind which nothing is missing
+-- the decision of the other branch, after which nothing is missing
 abbrev pub other_place : Place → Place
 other_place p = record { literal = negation p.literal; is_open = false }
 
--- the front of a path behind a place, or the place's other branch where none is missing behind it
+-- a decision and the forced prefix below it, or the decision's other branch if none is missing below it
 abbrev pub front_behind : Place → Option (List Place) → Option (List Place)
 front_behind p (Some front) = Some (p ∷ front)
 front_behind p None = if p.is_open then Some (other_place p ∷ []) else None
 
--- how the cube behind a path begins: as the path does up to the deepest place whose other branch is missing, and there with that branch
+-- the forced prefix of the next cube: the path up to the deepest decision whose other branch is missing, and then that branch
 abbrev pub next_front : List Place → Option (List Place)
 next_front [] = None
 next_front (p ∷ path) = front_behind p (next_front path)
 
--- a literal of this variable was read
+-- whether the path has a literal of this variable
 abbrev pub names : List Place → ℕ → Bool
 names path v = list_any (λ p. var_of p.literal == v) path
 
--- a cube may go on with this literal
+-- whether a cube may go on with this literal
 abbrev pub fits : Literal → List Place → Bool
 fits l [] = true
 fits l (p ∷ forced) = same l p.literal
 
--- one literal further, where the cube may go on with it
+-- appends a literal that the cube may go on with
 abbrev pub advanced_by : Literal → List Place → WalkState → WalkState
 advanced_by l [] w = record w { path = w.path ++ free_place l ∷ [] }
 advanced_by l (p ∷ forced) w = record w { path = w.path ++ p ∷ []; forced = forced }
@@ -53,7 +53,7 @@ advanced_by l (p ∷ forced) w = record w { path = w.path ++ p ∷ []; forced = 
 abbrev pub advanced : Literal → WalkState → WalkState
 advanced l w = advanced_by l w.forced w
 
--- behind a cube's end, by how the next one begins
+-- the state after a cube's end, by the forced prefix of the next one
 abbrev pub behind_cube : Option (List Place) → List Cube → WalkState
 behind_cube None cubes = record { stage = Complete; cubes = cubes; path = []; forced = [] }
 behind_cube (Some front) cubes = record { stage = Outside; cubes = cubes; path = []; forced = front }

@@ -1,5 +1,5 @@
 -- What only private contracts, invariants and proofs name. Nothing here is to be believed.
-pub mod Comparing
+pub mod Comparison
 pub mod Cubes
 pub mod Lines
 pub mod ReadState

@@ -1,10 +1,10 @@
-//! The part of an iCNF text behind its header: clauses, and then cubes.
+//! The body of an iCNF text, after the header: clauses, and then cubes.
 
 ghost use Rattle.std.specs.Prelude.{◌≡◌, ◌≢◌, ℤ, ◌+◌, ◌<◌, ◌≤◌, [], ◌∷◌, ◌++◌, length, OnOk, IfOk, bytes_eq, codes};
 ghost use Rattle.dimacs.specs.inner.Capped.{capped};
 ghost use Rattle.dimacs.specs.logic.Literal.{var_of};
 ghost use Rattle.dimacs.specs.text.Words.{words};
-ghost use Rattle.icnf.specs.Reading.{format, no_memory, start, begin, read_mark, in_clause, end_cube, literal_in_cube, in_cube, read_number, read_token};
+ghost use Rattle.icnf.specs.Parser.{format, no_memory, start, begin, read_mark, in_clause, end_cube, literal_in_cube, in_cube, read_number, read_token};
 ghost use Rattle.dimacs.specs.text.Rows.{read_words};
 ghost use Rattle.dimacs.specs.inner.Rows.{Gives};
 
@@ -16,20 +16,21 @@ use crate::walk::{Stage, Walk};
 use dimacs::number::{Number, signed};
 use dimacs::rows::Rows;
 use dimacs::words::{is_comment, next_word};
-use dimacs::{Builder, Formula, Lit};
+use dimacs::{Builder, Formula, Limits, Lit};
 use std::alloc::{AllocError, Global};
 use std::marker::Model;
 
-/// The clauses and the cubes that were read so far.
+/// The limits, and the clauses and the cubes read so far.
 pub(crate) struct Body {
+    limits: Limits,
     clauses: Builder,
     walk: Walk,
 }
 
-// By hand, so that whoever owns one drops it by one call, and no proof there goes through its parts.
 impl Drop for Body {
     fn drop(self) {
         let Body {
+            limits: _,
             clauses: _,
             walk: _,
         } = self;
@@ -42,9 +43,9 @@ impl Model for Body {
 
     ghost Value = { ReadState };
 
-    ghost view = { λ b. record { clauses = b.clauses; walk = b.walk } };
+    ghost view = { λ b. record { limits = b.limits; clauses = b.clauses; walk = b.walk } };
 
-    ghost invariant = { λ b. IsRead (record { clauses = b.clauses; walk = b.walk }) };
+    ghost invariant = { λ b. IsRead (record { limits = b.limits; clauses = b.clauses; walk = b.walk }) };
 }
 
 /// Whether a token is `a`.
@@ -55,11 +56,12 @@ pub(crate) fn is_mark(word: &[u8]) -> bool
 }
 
 impl Body {
-    /// Nothing read yet.
-    fn new(alloc: Global) -> Result<Body, AllocError>
-        ensures { IfOk result (λ b. b ≡ start) }
+    /// No token of the body has been read.
+    fn new(alloc: Global, limits: Limits) -> Result<Body, AllocError>
+        ensures { IfOk result (λ b. b ≡ start limits) }
     {
         Ok(Body {
+            limits,
             clauses: Builder::new(alloc)?,
             walk: Walk::new(alloc),
         })
@@ -92,7 +94,7 @@ impl Body {
         }
     }
 
-    /// Puts a literal at the end of the open clause.
+    /// Appends a literal to the open clause.
     fn push(&mut self, literal: Lit) -> Result<(), AllocError>
         requires clauses { self.old.walk.stage ≡ Stage.Clauses }
         requires room { self.old.clauses.total < 50000000 }
@@ -118,7 +120,7 @@ impl Body {
         requires { self.old.walk.stage ≡ Stage.Clauses }
         ensures { (z : ℤ) → number ≡ capped z → Gives no_memory self.new result (in_clause line z self.old) }
     {
-        if self.clauses.len() >= 4_000_000 {
+        if self.clauses.len() >= self.limits.clauses() as usize {
             return Err(IcnfFault {
                 kind: Kind::AboveLimit,
                 line,
@@ -128,7 +130,9 @@ impl Body {
             self.end_clause()?;
             return Ok(());
         }
-        if number.size > 1_000_000 || self.clauses.literals() >= 50_000_000 {
+        if number.size > self.limits.vars()
+            || self.clauses.literals() >= self.limits.literals() as usize
+        {
             return Err(IcnfFault {
                 kind: Kind::AboveLimit,
                 line,
@@ -214,7 +218,7 @@ impl Body {
 }
 
 impl Rows for Body {
-    ghost use Rattle.icnf.specs.Reading as reading;
+    ghost use Rattle.icnf.specs.Parser as reading;
 
     type Value = (Formula, Tree);
 
@@ -231,9 +235,9 @@ impl Rows for Body {
         }
     }
 
-    fn begin(alloc: Global, line: u64, header: &[u8]) -> Result<Body, IcnfFault> {
+    fn begin(alloc: Global, limits: Limits, line: u64, header: &[u8]) -> Result<Body, IcnfFault> {
         read_header(line, header)?;
-        Ok(Body::new(alloc)?)
+        Ok(Body::new(alloc, limits)?)
     }
 
     #[tactic(auto, unfolding(dimacs::specs::text::Rows::read_words))]
@@ -244,9 +248,13 @@ impl Rows for Body {
         self.read_words(line, text)
     }
 
-    #[tactic(auto, unfolding(crate::specs::Reading::finish))]
+    #[tactic(auto, unfolding(crate::specs::Parser::finish))]
     fn finish(self, lines: u64) -> Result<(Formula, Tree), IcnfFault> {
-        let Body { clauses, walk } = self;
+        let Body {
+            limits: _,
+            clauses,
+            walk,
+        } = self;
         let kind = match walk.stage() {
             Stage::Complete => {
                 let vars = clauses.greatest();

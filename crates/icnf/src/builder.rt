@@ -1,4 +1,4 @@
-//! Trees that are made leaf by leaf.
+//! A builder of trees, leaf by leaf.
 
 ghost use Rattle.std.specs.Prelude.{◌≡◌, ◌<◌, ◌≤◌, [], ◌∷◌, ◌++◌, length, OnOk, OnErr};
 ghost use Rattle.icnf.specs.Leaves.{Leaves};
@@ -9,7 +9,7 @@ use dimacs::Lit;
 use std::alloc::{AllocError, Global};
 use std::marker::Model;
 
-/// A tree in the making: the cubes of its leaves so far, from left to right.
+/// Builds a tree: the cubes of its leaves so far, from left to right.
 #[derive(Drop)]
 pub struct TreeBuilder {
     literals: Vec<Lit>,
@@ -41,7 +41,7 @@ impl TreeBuilder {
         }
     }
 
-    /// Appends the cube of the next leaf. Where memory is refused, the leaves are as before.
+    /// Appends the cube of the next leaf. If memory is refused, the builder is unchanged.
     pub fn push(&mut self, cube: &[Lit]) -> Result<(), AllocError>
         requires room { length self.old < 65536 }
         requires short { length cube.now ≤ 64 }
@@ -51,7 +51,7 @@ impl TreeBuilder {
         span::push_literals(&mut self.literals, &mut self.spans, cube)
     }
 
-    /// The tree, where the cubes are all its leaves.
+    /// The tree, if the cubes are all its leaves.
     pub fn finish(self) -> Tree
         requires { Leaves [] self }
         ensures { result ≡ self }

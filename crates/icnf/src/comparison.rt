@@ -1,14 +1,14 @@
-//! Clauses that are compared with a formula's as they are read, and not kept.
+//! Compares a text's clauses with a formula's as they are read, and stores none.
 
 ghost use Rattle.std.specs.Prelude.{◌≡◌, ◌≢◌, ◌<◌, ◌≤◌, ◌==◌, ◌&&◌, [], length, slice_index_or, MatchBool};
 ghost use Rattle.dimacs.specs.logic.Literal.{var_of};
-ghost use Rattle.icnf.specs.inner.Comparing.{has_at, ends_at, none_compared, with_literal, with_end};
+ghost use Rattle.icnf.specs.inner.Comparison.{has_at, ends_at, none_compared, with_literal, with_end};
 
 use dimacs::{Formula, Lit};
 use std::marker::Model;
 
-/// What is kept of the clauses that were read: how many have ended, how many literals the open one has and how many there are in all, the
-/// greatest variable of each part, and whether each part stands in the formula.
+/// What is known of the clauses that were read: the number that have ended, the literals of the open one and of all, the greatest
+/// variable of the ended ones and of the open one, and whether each of these two parts agrees with the formula.
 #[derive(Drop)]
 pub(crate) struct Comparison {
     count: u32,
@@ -21,8 +21,8 @@ pub(crate) struct Comparison {
 }
 
 impl Model for Comparison {
-    ghost use Rattle.icnf.specs.Comparing.{Compared};
-    ghost use Rattle.icnf.specs.inner.Comparing.{AreCounted};
+    ghost use Rattle.icnf.specs.Comparison.{Compared};
+    ghost use Rattle.icnf.specs.inner.Comparison.{AreCounted};
 
     ghost Value = { Compared };
 
@@ -31,7 +31,7 @@ impl Model for Comparison {
     ghost invariant = { λ c. AreCounted (record { count = c.count; at = c.at; total = c.total; greatest = c.greatest; open_greatest = c.open_greatest; agrees = c.agrees; open_agrees = c.open_agrees }) };
 }
 
-/// The formula's clause of this number, from 0; the empty one where there is none.
+/// The formula's clause at this index, from 0; the empty clause if there is none.
 #[inline(always)]
 fn clause_at(formula: &Formula, i: usize) -> &[Lit]
     ensures { result.now ≡ slice_index_or formula.now.clauses i [] }
@@ -43,7 +43,7 @@ fn clause_at(formula: &Formula, i: usize) -> &[Lit]
     }
 }
 
-/// Whether a clause has this literal at this place.
+/// Whether a clause has this literal at this index.
 #[inline(always)]
 fn has_at(clause: &[Lit], at: usize, literal: Lit) -> bool
     ensures { result ≡ has_at clause.now at literal }
@@ -51,7 +51,7 @@ fn has_at(clause: &[Lit], at: usize, literal: Lit) -> bool
     at < clause.len() && clause[at] == literal
 }
 
-/// Whether the formula has a clause of this number, from 0, and of so many literals.
+/// Whether the formula has a clause at this index, from 0, and the clause has that many literals.
 fn ends_at(formula: &Formula, i: usize, len: usize) -> bool
     ensures { result ≡ ends_at formula.now.clauses i len }
 {
@@ -59,7 +59,7 @@ fn ends_at(formula: &Formula, i: usize, len: usize) -> bool
 }
 
 impl Comparison {
-    /// Nothing read yet.
+    /// No literal has been read.
     pub(crate) fn new() -> Comparison
         ensures { result ≡ none_compared }
     {
@@ -76,7 +76,7 @@ impl Comparison {
 
     /// Reads a literal of the open clause.
     #[inline(always)]
-    #[tactic(auto, unfolding(crate::specs::inner::Comparing::with_literal))]
+    #[tactic(auto, unfolding(crate::specs::inner::Comparison::with_literal))]
     pub(crate) fn push(&mut self, formula: &Formula, literal: Lit)
         requires room { self.old.total < 50000000 }
         requires within { var_of literal ≤ 1000000 }
@@ -90,7 +90,7 @@ impl Comparison {
     }
 
     /// Ends the open clause.
-    #[tactic(auto, unfolding(crate::specs::inner::Comparing::with_end))]
+    #[tactic(auto, unfolding(crate::specs::inner::Comparison::with_end))]
     pub(crate) fn end_clause(&mut self, formula: &Formula)
         requires { self.old.count < 4000000 }
         ensures { self.new ≡ with_end formula.now.clauses self.old }
@@ -105,28 +105,28 @@ impl Comparison {
         self.open_greatest = 0;
     }
 
-    /// How many clauses have ended.
+    /// The number of clauses that have ended.
     pub(crate) fn len(&self) -> usize
         ensures { result ≡ self.now.count }
     {
         self.count as usize
     }
 
-    /// How many literals there are in all.
+    /// The number of literals in all.
     pub(crate) fn literals(&self) -> usize
         ensures { result ≡ self.now.total }
     {
         self.total as usize
     }
 
-    /// Whether a clause is open that has literals.
+    /// Whether the open clause has literals.
     pub(crate) fn is_open(&self) -> bool
         ensures { MatchBool result (0 < self.now.at) (self.now.at ≡ 0) }
     {
         self.at > 0
     }
 
-    /// The greatest variable of the clauses that have ended, at most 1,000,000; 0 where they have no literal.
+    /// The greatest variable of the clauses that have ended, at most 1,000,000; 0 if they have no literal.
     pub(crate) fn greatest(&self) -> u32
         ensures value { result ≡ self.now.greatest }
         ensures limit { result ≤ 1000000 }

@@ -1,8 +1,8 @@
-//! What a token of a cube does to the cubes that were read so far.
+//! Reads the tokens of cubes: each step, or the fault that it meets.
 
 ghost use Rattle.std.specs.Prelude.{◌≡◌, ◌≢◌};
 ghost use Rattle.dimacs.specs.inner.Rows.{Gives};
-ghost use Rattle.icnf.specs.Reading.{no_memory};
+ghost use Rattle.icnf.specs.Parser.{no_memory};
 ghost use Rattle.icnf.specs.inner.Cubes.{begin_cube, end_cube, read_literal};
 
 use crate::fault::{IcnfFault, Kind};

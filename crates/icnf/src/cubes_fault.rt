@@ -1,15 +1,15 @@
-//! Why a text has no tree for a formula.
+//! The faults of an iCNF text that is read for a given formula.
 
 use crate::fault::IcnfFault;
 use thiserror::Error;
 
-/// Why a text with cubes has no tree for a formula.
+/// Why an iCNF text gives no tree for a formula.
 #[derive(Clone, Copy, Debug, PartialEq, Eq, Error)]
 pub enum CubesFault {
-    /// The text is no formula with cubes, or memory was refused.
+    /// The text is not iCNF, or memory was refused.
     #[error("{0}")]
     Faulty(IcnfFault),
-    /// Its clauses are not the formula's: the same lists of literals in the same order.
+    /// The text's clauses are not the formula's, which are compared as lists of literals, in order.
     #[error("the cubes are of another formula")]
     OtherFormula,
 }

@@ -1,14 +1,14 @@
-//! Why a text is no formula with cubes.
+//! The faults of iCNF texts.
 
 ghost use Rattle.std.specs.Prelude.{◌≡◌};
 ghost use Rattle.icnf.specs.Faults.{number_of_kind};
-ghost use Rattle.icnf.specs.Reading.{no_memory};
+ghost use Rattle.icnf.specs.Parser.{no_memory};
 
 use std::alloc::{AllocError, AllocFailed};
 use thiserror::Error;
 
-/// What is wrong. The first token that is wrong decides, and of several faults of one token the one that stands first
-/// here, but that the fault `AboveLimit` of a 65,537th cube comes behind `NotATree`.
+/// What is wrong. The first faulty token decides. If it has several faults, the first one in this list decides, except that
+/// `AboveLimit` for a 65,537th cube comes after `NotATree`.
 #[derive(Clone, Copy, Debug, PartialEq, Eq, Error)]
 pub enum Kind {
     /// There is no token, or the first one is not `p`.
@@ -17,23 +17,23 @@ pub enum Kind {
     /// The header's line is not `p inccnf`.
     #[error("the header is not `p inccnf`")]
     BadHeader,
-    /// A token is neither a number nor `a`, or is an `a` within a clause or a cube.
+    /// A token is neither a number nor `a`, or it is an `a` within a clause or a cube.
     #[error("a token is neither a number nor a mark")]
     BadToken,
-    /// A number stands outside a cube, behind the first cube.
+    /// After the first cube, a number stands outside a cube.
     #[error("a clause stands behind a cube")]
     ClauseBehindCube,
     /// A variable above 1,000,000, or more than 4,000,000 clauses, 50,000,000 literals of clauses or 65,536 cubes.
     #[error("the text is above a limit")]
     AboveLimit,
-    /// A cube has a variable above the greatest of the clauses.
+    /// A variable of a cube is above the greatest variable of the clauses.
     #[error("a cube's variable is above those of the clauses")]
     VariableAboveClauses,
     /// A cube has two literals of one variable.
     #[error("a cube has a variable twice")]
     RepeatedVariable,
-    /// The cubes are not the leaves of one tree: another literal, an end or a cube that cannot come here, or leaves
-    /// that are missing at the end of the text.
+    /// The cubes are not the leaves of one tree: a literal, a cube's end or a cube that cannot come here, or leaves that are missing
+    /// at the end of the text.
     #[error("the cubes are not the leaves of one tree")]
     NotATree,
     /// A cube has more than 64 literals.
@@ -48,7 +48,7 @@ pub enum Kind {
 }
 
 impl Kind {
-    /// The number that stands for it where it is printed, from 1 to 13.
+    /// The fault number that is printed, from 1 to 13.
     pub fn number(self) -> u8
         ensures { result ≡ number_of_kind self }
     {
@@ -69,7 +69,7 @@ impl Kind {
 }
 
 /// The first fault of a text, and its line, from 1: the line of the token; of a missing token of the header, the header's
-/// line; at the end of the text, the number of line ends plus 1. Want of memory has line 0.
+/// line; at the end of the text, the number of line ends plus 1. `NoMemory` has line 0.
 #[derive(Clone, Copy, Debug, PartialEq, Eq, Error)]
 #[error("line {line}: {kind}")]
 pub struct IcnfFault {

@@ -1,8 +1,8 @@
-//! The header line, one token a function.
+//! The header of an iCNF text: `p inccnf`. One function reads one token.
 
 ghost use Rattle.std.specs.Prelude.{◌≡◌, bytes_eq};
 ghost use Rattle.dimacs.specs.text.Words.{words};
-ghost use Rattle.icnf.specs.Reading.{read_header, header_two, header_end};
+ghost use Rattle.icnf.specs.Parser.{read_header, header_two, header_end};
 
 use crate::fault::{IcnfFault, Kind};
 use dimacs::words::next_word;
@@ -13,7 +13,7 @@ fn is_word(word: &[u8], text: &[u8]) -> bool
     word == text
 }
 
-/// Reads what stands behind the header's two tokens.
+/// Reads the rest of the line after the header's two tokens: any token there is a fault.
 fn end_of_header(line: u64, text: &[u8]) -> Result<(), IcnfFault>
     ensures { result ≡ header_end line (words text.now) }
 {
@@ -46,7 +46,7 @@ fn format_of_header(line: u64, text: &[u8]) -> Result<(), IcnfFault>
 }
 
 /// Reads the line of the header, which is `p inccnf`.
-#[tactic(auto, unfolding(crate::specs::Reading::read_header))]
+#[tactic(auto, unfolding(crate::specs::Parser::read_header))]
 pub fn read_header(line: u64, text: &[u8]) -> Result<(), IcnfFault>
     ensures { result ≡ read_header line (words text.now) }
 {

@@ -1,24 +1,27 @@
-//! Laws of the definitions.
+//! Laws of the grammar and the parser, proved once and for all texts.
 
 ghost use Rattle.std.specs.Prelude.{◌≡◌, ◌≢◌, ℕ, List, Ok, IfErr};
-ghost use Rattle.dimacs.specs.logic.Cnf.{Cnf, IsFormula, AreWithin, greatest_in};
+ghost use Rattle.dimacs.specs.logic.Cnf.{Cnf, FitsIn, IsFormula, AreWithin, greatest_in};
+ghost use Rattle.dimacs.specs.logic.Limits.{Limits, AreNoMore, large};
 ghost use Rattle.icnf.specs.Leaves.{Cube, IsTree};
-ghost use Rattle.icnf.specs.Reading.{parse};
-ghost use Rattle.icnf.specs.Spelling.{Spells, formula_of, spelling};
+ghost use Rattle.icnf.specs.Parser.{parse_within};
+ghost use Rattle.icnf.specs.Grammar.{SpellsWithin, formula_of, spelling};
 
 use crate::fault::Kind;
 
-/// Reading gives exactly the formula and the tree that a text spells.
+/// The parser gives a formula and a tree within limits if and only if the text spells them within these.
 pub fn reading_is_spelling()
-    ensures { (text : List ℕ) (f : Cnf) (cubes : List Cube) → (parse text ≡ Ok (f, cubes) → Spells text f cubes) × (Spells text f cubes → parse text ≡ Ok (f, cubes)) }
+    ensures { (L : Limits) (text : List ℕ) (f : Cnf) (cubes : List Cube) → AreNoMore L large
+        → (parse_within L text ≡ Ok (f, cubes) → SpellsWithin L text f cubes) × (SpellsWithin L text f cubes → parse_within L text ≡ Ok (f, cubes)) }
 {}
 
-/// What is written of clauses and a tree within the limits spells them.
+/// The text that is written of clauses and a tree spells them, within all limits that the clauses fit into.
 pub fn writing_is_spelling()
-    ensures { (f : Cnf) (cubes : List Cube) → IsFormula f → IsTree cubes → AreWithin (greatest_in f.clauses) cubes → Spells (spelling f.clauses cubes) (formula_of f.clauses) cubes }
+    ensures { (L : Limits) (f : Cnf) (cubes : List Cube) → IsFormula f → FitsIn L f → IsTree cubes → AreWithin (greatest_in f.clauses) cubes
+        → SpellsWithin L (spelling f.clauses cubes) (formula_of f.clauses) cubes }
 {}
 
-/// No text is told to want memory: only a call answers that.
+/// The parser's definition never gives `NoMemory`: only a call can return it.
 pub fn no_text_wants_memory()
-    ensures { (text : List ℕ) → IfErr (parse text) (λ f. f.kind ≢ Kind.NoMemory) }
+    ensures { (L : Limits) (text : List ℕ) → IfErr (parse_within L text) (λ f. f.kind ≢ Kind.NoMemory) }
 {}

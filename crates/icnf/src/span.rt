@@ -1,4 +1,4 @@
-//! Cubes that lie in one vector of literals.
+//! Cubes in one vector of literals, each a span of it.
 
 ghost use Rattle.std.specs.Prelude.{◌≡◌, ◌+◌, ◌-◌, ◌^◌, ◌<◌, ◌≤◌, [], ◌∷◌, ◌++◌, length, slice_index_or, vec_len, vec_capacity, OnOk, OnErr};
 ghost use Rattle.icnf.specs.Leaves.{branched};
@@ -10,14 +10,14 @@ use crate::place::Place;
 use dimacs::{Lit, Var};
 use std::alloc::AllocError;
 
-/// Where a cube lies: its first literal, and the place behind its last.
+/// Where a cube lies: the index of its first literal, and the index after its last.
 #[derive(Clone, Copy)]
 pub(crate) struct Span {
     pub(crate) from: u32,
     pub(crate) to: u32,
 }
 
-/// Appends a cube and one more literal, for which there is room.
+/// Appends a cube and one more literal. The vector has the capacity.
 fn append_branch(literals: &mut Vec<Lit>, leaf: Span, branch: Lit) -> Span
     requires leaf { IsSpan (vec_len literals.old) leaf }
     requires room { vec_len literals.old + (leaf.to - leaf.from + 1) ≤ vec_capacity literals.old }
@@ -39,7 +39,7 @@ fn append_branch(literals: &mut Vec<Lit>, leaf: Span, branch: Lit) -> Span
     }
 }
 
-/// Puts the two branches of a variable in the place of cube `i`. The cubes are as before where memory is refused.
+/// Replaces cube `i` by its two branches on a variable. If memory is refused, the cubes are unchanged.
 pub(crate) fn branch(
     literals: &mut Vec<Lit>,
     spans: &mut Vec<Span>,
@@ -65,7 +65,7 @@ pub(crate) fn branch(
     Ok(())
 }
 
-/// The cube of this number, from 0.
+/// The cube at this index, from 0.
 pub(crate) fn cube_at<'a>(literals: &'a [Lit], spans: &[Span], i: usize) -> &'a [Lit]
     requires lie { AreSpans literals.now spans.now }
     requires below { i < length spans.now }
@@ -75,7 +75,7 @@ pub(crate) fn cube_at<'a>(literals: &'a [Lit], spans: &[Span], i: usize) -> &'a 
     &literals[span.from as usize..span.to as usize]
 }
 
-/// Appends the cube of a path. The cubes are as before where memory is refused.
+/// Appends the cube of a path. If memory is refused, the cubes are unchanged.
 pub(crate) fn push_cube(
     literals: &mut Vec<Lit>,
     spans: &mut Vec<Span>,
@@ -97,7 +97,7 @@ pub(crate) fn push_cube(
     Ok(())
 }
 
-/// Appends a cube. The cubes are as before where memory is refused.
+/// Appends a cube. If memory is refused, the cubes are unchanged.
 pub(crate) fn push_literals(
     literals: &mut Vec<Lit>,
     spans: &mut Vec<Span>,
@@ -119,7 +119,7 @@ pub(crate) fn push_literals(
     Ok(())
 }
 
-/// Appends the literals of a path, for which there is room.
+/// Appends the literals of a path. The vector has the capacity.
 fn append_literals(literals: &mut Vec<Lit>, path: &[Place])
     requires { vec_len literals.old + length path.now ≤ vec_capacity literals.old }
     ensures items { literals.new.items ≡ literals.old.items ++ literals_of path.now }

@@ -10,14 +10,12 @@ use dimacs::{Lit, Var};
 use std::alloc::{AllocError, Global};
 use std::marker::Model;
 
-/// A splitting tree: the cubes of its leaves, from left to right. It has at most 65,536 leaves, and a cube at most 64
-/// literals.
+/// A splitting tree, by the cubes of its leaves, from left to right: at most 65,536 leaves, with cubes of at most 64 literals.
 pub struct Tree {
     literals: Vec<Lit>,
     spans: Vec<Span>,
 }
 
-// By hand, so that whoever owns one drops it by one call, and no proof there goes through its parts.
 impl Drop for Tree {
     fn drop(self) {
         let Tree {
@@ -62,7 +60,7 @@ impl Tree {
         Tree { literals, spans }
     }
 
-    /// How many leaves it has, from 1 to 65,536.
+    /// The number of leaves, from 1 to 65,536.
     pub fn leaves(&self) -> usize
         ensures value { result ≡ length self.now }
         ensures above { 0 < result }
@@ -72,7 +70,7 @@ impl Tree {
         self.spans.len()
     }
 
-    /// The cube of the leaf of this number, from 0: the literals of its path, at most 64.
+    /// The cube of the leaf at this index, from 0: the literals of its path, at most 64.
     pub fn cube(&self, i: usize) -> &[Lit]
         requires { i < length self.now }
         ensures cube { result.now ≡ slice_index_or self.now i [] }
@@ -81,7 +79,7 @@ impl Tree {
         span::cube_at(&self.literals, &self.spans, i)
     }
 
-    /// The same tree again.
+    /// A copy.
     pub fn copy(&self, alloc: Global) -> Result<Tree, AllocError>
         ensures { IfOk result (λ t. t ≡ self.now) }
     {
@@ -91,8 +89,8 @@ impl Tree {
         })
     }
 
-    /// Puts the two branches of a variable that is not in the leaf's cube in the place of leaf `i`, the positive one
-    /// first. Where memory is refused, the tree is as before.
+    /// Replaces leaf `i` by its two branches on a variable that its cube does not have, the positive one first. If memory is
+    /// refused, the tree is unchanged.
     pub fn split(&mut self, i: usize, var: Var) -> Result<(), AllocError>
         requires leaf { i < length self.old }
         requires limit { length self.old < 65536 }

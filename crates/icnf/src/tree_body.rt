@@ -1,4 +1,4 @@
-//! The part of an iCNF text behind its header, whose clauses are compared with a formula's and not kept.
+//! The body of an iCNF text that is read for a given formula: its clauses are compared with the formula's and not stored.
 
 ghost use Rattle.std.specs.Prelude.{◌≡◌, ◌≢◌, ℕ, ℤ, List, ◌∷◌, bytes_eq, codes, option_map};
 ghost use Rattle.dimacs.specs.inner.Capped.{capped};
@@ -6,7 +6,7 @@ ghost use Rattle.dimacs.specs.inner.Rows.{Gives};
 ghost use Rattle.dimacs.specs.text.Numbers.{number};
 ghost use Rattle.dimacs.specs.text.Rows.{read_words};
 ghost use Rattle.dimacs.specs.text.Words.{words, words_of};
-ghost use Rattle.icnf.specs.Reading.{no_memory};
+ghost use Rattle.icnf.specs.Parser.{no_memory};
 ghost use Rattle.icnf.specs.inner.TreeBody.{none_read, walks, take_mark, take_in_clause, take_in_cube, take_number, take_token, finish, format};
 ghost use Rattle.icnf.specs.inner.Cubes.{begin_cube};
 
@@ -16,14 +16,15 @@ use crate::cubes::{begin_cube, end_cube, read_literal};
 use crate::fault::{IcnfFault, Kind};
 use crate::tree::Tree;
 use crate::walk::{Stage, Walk};
-use dimacs::Formula;
 use dimacs::number::{Number, next_number};
 use dimacs::words::{is_comment, next_word};
+use dimacs::{Formula, Limits};
 use std::alloc::Global;
 
-/// How far the clauses agree with a formula's, and the cubes that were read so far.
+/// The limits, how far the clauses agree with a formula's, and the cubes read so far.
 #[derive(Drop)]
 pub(crate) struct TreeBody {
+    pub(crate) limits: Limits,
     pub(crate) clauses: Comparison,
     pub(crate) walk: Walk,
 }
@@ -39,11 +40,12 @@ fn begins_with_mark(text: &[u8]) -> bool
 }
 
 impl TreeBody {
-    /// Nothing read yet.
-    pub(crate) fn new(alloc: Global) -> TreeBody
-        ensures { result ≡ none_read }
+    /// No token of the body has been read.
+    pub(crate) fn new(alloc: Global, limits: Limits) -> TreeBody
+        ensures { result ≡ none_read limits }
     {
         TreeBody {
+            limits,
             clauses: Comparison::new(),
             walk: Walk::new(alloc),
         }
@@ -80,7 +82,7 @@ impl TreeBody {
     fn in_clause(&mut self, formula: &Formula, line: u64, number: Number) -> Result<(), IcnfFault>
         ensures { (z : ℤ) → number ≡ capped z → Gives no_memory self.new result (take_in_clause formula.now.clauses line z self.old) }
     {
-        if self.clauses.len() >= 4_000_000 {
+        if self.clauses.len() >= self.limits.clauses() as usize {
             return Err(IcnfFault {
                 kind: Kind::AboveLimit,
                 line,
@@ -90,7 +92,9 @@ impl TreeBody {
             self.clauses.end_clause(formula);
             return Ok(());
         }
-        if number.size > 1_000_000 || self.clauses.literals() >= 50_000_000 {
+        if number.size > self.limits.vars()
+            || self.clauses.literals() >= self.limits.literals() as usize
+        {
             return Err(IcnfFault {
                 kind: Kind::AboveLimit,
                 line,
@@ -132,7 +136,7 @@ impl TreeBody {
         }
     }
 
-    /// Reads the first token of a text, which was found to be this number, or none.
+    /// Reads the first token of a text: `found` is its number, or `None` if it is no number.
     #[inline(always)]
     fn read_found(
         &mut self,
@@ -166,7 +170,7 @@ impl TreeBody {
         Ok(())
     }
 
-    /// Reads a line behind the header.
+    /// Reads a line after the header.
     #[tactic(auto, unfolding(dimacs::specs::text::Rows::read_words))]
     pub(crate) fn read_line(
         &mut self,
@@ -182,12 +186,16 @@ impl TreeBody {
         self.read_words(formula, line, text)
     }
 
-    /// Whether the clauses are the formula's, and the tree, at the end of a text of so many lines.
+    /// Whether the clauses are the formula's, and the tree, if the text ends after that many lines.
     #[tactic(auto, unfolding(crate::specs::inner::TreeBody::finish))]
     pub(crate) fn finish(self, formula: &Formula, lines: u64) -> Result<(bool, Tree), IcnfFault>
         ensures { result ≡ finish formula.now.clauses lines self }
     {
-        let TreeBody { clauses, walk } = self;
+        let TreeBody {
+            limits: _,
+            clauses,
+            walk,
+        } = self;
         let kind = match walk.stage() {
             Stage::Complete => return Ok((clauses.is_whole(formula), walk.finish())),
             Stage::Clauses if !clauses.is_open() => Kind::NotATree,

@@ -1,4 +1,4 @@
-//! The tree of a text whose clauses are compared with a formula's, from its lines, one after the other.
+//! A parser of iCNF texts for a given formula that takes one line at a time.
 
 ghost use Rattle.std.specs.Prelude.{◌≡◌, ℕ, ◌+◌, ◌∷◌, [], Option, None, MatchResult};
 ghost use Rattle.icnf.specs.Pieces.{TellsTree, read_behind};
@@ -11,25 +11,25 @@ use crate::fault::{IcnfFault, Kind};
 use crate::header::read_header;
 use crate::tree::Tree;
 use crate::tree_body::TreeBody;
-use dimacs::Formula;
 use dimacs::words::is_blank;
+use dimacs::{Formula, Limits};
 use lrat_text::TakesLines;
 use std::alloc::{AllocError, Global};
 
-/// What is kept of the first lines of a text: how many they are, and from the header on how far the clauses agree with the formula's, and
-/// the cubes.
+/// The parser's state after the first lines of a text: the limits, the number of lines, and the body once the header was read.
 pub(crate) struct TreeLines {
     pub(crate) alloc: Global,
+    pub(crate) limits: Limits,
     pub(crate) formula: Formula,
     pub(crate) count: u64,
     pub(crate) body: Option<TreeBody>,
 }
 
-// By hand, so that whoever owns one drops it by one call, and no proof there goes through its parts.
 impl Drop for TreeLines {
     fn drop(self) {
         let TreeLines {
             alloc: _,
+            limits: _,
             formula: _,
             count: _,
             body: _,
@@ -37,17 +37,18 @@ impl Drop for TreeLines {
     }
 }
 
-/// Reads the line of this number, one behind the header or one up to it.
+/// Reads the line of this number, before, at or after the header.
 fn read_line(
     alloc: Global,
+    limits: Limits,
     formula: &Formula,
     body: &mut Option<TreeBody>,
     number: u64,
     line: &[u8],
 ) -> Result<(), IcnfFault>
     ensures { (before : ℕ) → number ≡ before + 1 → (s : Option ReadState) → IsKept formula.now s body.old → MatchResult result
-        (λ _. TakesRow formula.now before line.now number body.new s)
-        (λ fault. RefusesRow before line.now fault s) }
+        (λ _. TakesRow limits formula.now before line.now number body.new s)
+        (λ fault. RefusesRow limits before line.now fault s) }
 {
     match body {
         Some(rows) => {
@@ -59,34 +60,41 @@ fn read_line(
                 return Ok(());
             }
             read_header(number, line)?;
-            *body = Some(TreeBody::new(alloc));
+            *body = Some(TreeBody::new(alloc, limits));
             Ok(())
         }
     }
 }
 
 impl TakesLines for TreeLines {
-    ghost use Rattle.icnf.specs.inner.Lines.{MayTake, Takes, Refuses};
+    ghost use Rattle.icnf.specs.inner.Lines.{MayTake, TakesLine, RefusesLine};
 
     type Fault = IcnfFault;
 
     ghost may_take = { MayTake };
 
-    ghost takes = { Takes };
+    ghost takes = { TakesLine };
 
-    ghost refuses = { Refuses };
+    ghost refuses = { RefusesLine };
 
     fn take_line(&mut self, line: &[u8]) -> Result<(), IcnfFault> {
         match self.count.checked_add(1) {
             Some(count) => self.count = count,
             None => return Err(IcnfFault::from(AllocError)),
         }
-        read_line(self.alloc, &self.formula, &mut self.body, self.count, line)?;
+        read_line(
+            self.alloc,
+            self.limits,
+            &self.formula,
+            &mut self.body,
+            self.count,
+            line,
+        )?;
         Ok(())
     }
 }
 
-/// What is told of a text that was read to its end.
+/// The tree of a text that was read to its end, if its clauses are the formula's.
 fn told_of(read: Result<(bool, Tree), IcnfFault>) -> Result<Tree, CubesFault>
     ensures { result ≡ told_of read }
 {
@@ -98,27 +106,29 @@ fn told_of(read: Result<(bool, Tree), IcnfFault>) -> Result<Tree, CubesFault>
 }
 
 impl TreeLines {
-    /// No line was read.
-    pub(crate) fn new(alloc: Global, formula: Formula) -> TreeLines
-        ensures { result ≡ record { alloc = alloc; formula = formula; count = 0; body = None } }
+    /// No line has been read.
+    pub(crate) fn new(alloc: Global, limits: Limits, formula: Formula) -> TreeLines
+        ensures { result ≡ record { alloc = alloc; limits = limits; formula = formula; count = 0; body = None } }
     {
         TreeLines {
             alloc,
+            limits,
             formula,
             count: 0,
             body: None,
         }
     }
 
-    /// The tree of a text that ends here.
+    /// The tree, if the text ends here.
     fn end(self) -> Result<Tree, CubesFault>
-        ensures { (s : Option ReadState) → IsKept self.formula s self.body → TellsTree self.formula (read_behind self.count s []) result }
+        ensures { (s : Option ReadState) → IsKept self.formula s self.body → TellsTree self.formula (read_behind self.limits self.count s []) result }
     {
         let TreeLines {
             formula,
             count,
             body,
             alloc: _,
+            limits: _,
         } = self;
         match body {
             Some(body) => told_of(body.finish(&formula, count)),
@@ -129,9 +139,9 @@ impl TreeLines {
         }
     }
 
-    /// The tree of a text whose last line is this one.
+    /// The tree, if this is the text's last line.
     pub(crate) fn finish(self, last: &[u8]) -> Result<Tree, CubesFault>
-        ensures { (s : Option ReadState) → IsKept self.formula s self.body → TellsTree self.formula (read_behind self.count s (last.now ∷ [])) result }
+        ensures { (s : Option ReadState) → IsKept self.formula s self.body → TellsTree self.formula (read_behind self.limits self.count s (last.now ∷ [])) result }
     {
         let mut lines = self;
         match lines.take_line(last) {

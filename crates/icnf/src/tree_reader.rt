@@ -1,23 +1,24 @@
-//! The tree of a formula's iCNF text, which comes in pieces and of which no clause is kept.
+//! An incremental parser of iCNF texts for a given formula, which come in pieces and of which no clause is stored.
 
 ghost use Rattle.std.specs.Prelude.{◌≡◌, ℕ, List, [], ◌++◌, Result, IfOk, MatchResult};
 ghost use Rattle.dimacs.specs.logic.Cnf.{Cnf, AreWithin};
+ghost use Rattle.dimacs.specs.logic.Limits.{Limits};
 ghost use Rattle.dimacs.specs.text.Rows.{Answers};
 ghost use Rattle.icnf.specs.Leaves.{Cube};
-ghost use Rattle.icnf.specs.Pieces.{HasRead, SpellsTree, Tells, TellsTree};
-ghost use Rattle.icnf.specs.Reading.{no_memory, parse};
+ghost use Rattle.icnf.specs.Pieces.{HasRead, HasReadWithin, SpellsTree, SpellsTreeWithin, Tells, TellsTree};
+ghost use Rattle.icnf.specs.Parser.{no_memory, parse, parse_within};
 ghost use Rattle.icnf.specs.inner.Lines.{LeadsTo, RefusesText};
 
 use crate::cubes_fault::CubesFault;
 use crate::fault::IcnfFault;
 use crate::tree::Tree;
 use crate::tree_lines::TreeLines;
-use dimacs::Formula;
+use dimacs::{Formula, Limits};
 use lrat_text::{LineBuffer, PieceFault};
 use std::alloc::{AllocError, Global};
 use std::marker::Model;
 
-/// Takes a piece behind the line that is begun.
+/// Reads the next piece, after the unfinished line.
 fn take_piece(begun: &mut LineBuffer, lines: &mut TreeLines, piece: &[u8]) -> Result<(), IcnfFault>
     ensures { MatchResult result
         (λ _. LeadsTo lines.old (begun.old ++ piece.now) lines.new begun.new)
@@ -30,15 +31,14 @@ fn take_piece(begun: &mut LineBuffer, lines: &mut TreeLines, piece: &[u8]) -> Re
     }
 }
 
-/// What reads the cubes of a formula's iCNF text, which comes in pieces. It compares the text's clauses with the formula's and keeps none
-/// of them, and no text but the line that is begun.
+/// Reads the tree of a formula from an iCNF text in pieces. It compares the text's clauses with the formula's and stores none of
+/// them. It buffers no text except the unfinished line.
 pub struct TreeReader {
     lines: TreeLines,
     begun: LineBuffer,
     fault: Option<IcnfFault>,
 }
 
-// By hand, so that whoever owns one drops it by one call, and no proof there goes through its parts.
 impl Drop for TreeReader {
     fn drop(self) {
         let TreeReader {
@@ -54,16 +54,27 @@ impl Model for TreeReader {
 
     ghost Value = { Progress };
 
-    ghost view = { λ r. progress_of r.fault r.lines.formula r.lines.count r.lines.body r.begun };
+    ghost view = { λ r. progress_of r.fault r.lines.limits r.lines.formula r.lines.count r.lines.body r.begun };
 }
 
 impl TreeReader {
-    /// Has read no byte. The formula's clauses are shared, not copied.
+    /// No byte has been read of a text within the written limits. The formula's clauses are shared, not copied.
     pub fn new(alloc: Global, formula: &Formula) -> Result<TreeReader, AllocError>
         ensures { IfOk result (λ r. HasRead formula.now r []) }
     {
+        TreeReader::within(alloc, Limits::written(), formula)
+    }
+
+    /// No byte has been read of a text within these limits. The formula's clauses are shared, not copied.
+    pub fn within(
+        alloc: Global,
+        limits: Limits,
+        formula: &Formula,
+    ) -> Result<TreeReader, AllocError>
+        ensures { IfOk result (λ r. HasReadWithin limits formula.now r []) }
+    {
         Ok(TreeReader {
-            lines: TreeLines::new(alloc, formula.copy()?),
+            lines: TreeLines::new(alloc, limits, formula.copy()?),
             begun: LineBuffer::new(alloc),
             fault: None,
         })
@@ -71,7 +82,7 @@ impl TreeReader {
 
     /// Reads the next piece. A fault is kept for `finish`.
     pub fn feed(&mut self, piece: &[u8])
-        ensures { (F : Cnf) (bytes : List ℕ) → HasRead F self.old bytes → HasRead F self.new (bytes ++ piece.now) }
+        ensures { (L : Limits) (F : Cnf) (bytes : List ℕ) → HasReadWithin L F self.old bytes → HasReadWithin L F self.new (bytes ++ piece.now) }
     {
         if self.fault.is_some() {
             return;
@@ -82,24 +93,25 @@ impl TreeReader {
         }
     }
 
-    /// The tree, where no further byte comes and the text's clauses are the formula's; or the first fault of the text, which is told before
-    /// that its clauses are others.
+    /// The tree of the pieces, if their clauses are the formula's. Otherwise the first fault of their text, or `OtherFormula` if it has
+    /// none.
     pub fn finish(self) -> Result<Tree, CubesFault>
-        // What is told is so, unless memory ran out.
-        ensures exact { (F : Cnf) (bytes : List ℕ) → HasRead F self bytes → TellsTree F (parse bytes) result }
-        // What is so is told, unless memory ran out.
-        ensures only { (F : Cnf) (bytes : List ℕ) → HasRead F self bytes → (expected : Result (List Cube) CubesFault) → Tells F (parse bytes) expected → Answers (CubesFault.Faulty no_memory) result expected }
+        // What is returned is true of the text, unless memory was refused.
+        ensures exact { (L : Limits) (F : Cnf) (bytes : List ℕ) → HasReadWithin L F self bytes → TellsTree F (parse_within L bytes) result }
+        // What is true of the text is returned, unless memory was refused.
+        ensures only { (L : Limits) (F : Cnf) (bytes : List ℕ) → HasReadWithin L F self bytes → (expected : Result (List Cube) CubesFault) → Tells F (parse_within L bytes) expected → Answers (CubesFault.Faulty no_memory) result expected }
         // The text spells the formula's clauses and the tree.
-        ensures found { (F : Cnf) (bytes : List ℕ) → HasRead F self bytes → IfOk result (λ tree. SpellsTree F bytes tree) }
-        // No variable of the tree is above those of the formula.
-        ensures within { (F : Cnf) (bytes : List ℕ) → HasRead F self bytes → IfOk result (λ tree. AreWithin F.vars tree) }
+        ensures found { (L : Limits) (F : Cnf) (bytes : List ℕ) → HasReadWithin L F self bytes → IfOk result (λ tree. SpellsTreeWithin L F bytes tree) }
+        // The tree's variables are the formula's.
+        ensures within { (L : Limits) (F : Cnf) (bytes : List ℕ) → HasReadWithin L F self bytes → IfOk result (λ tree. AreWithin F.vars tree) }
     {
         let TreeReader {
             lines,
             begun,
             fault,
         } = self;
-        let _ = lines.formula.vars(); // with it comes that the formula is within its limits
+        let _ = lines.formula.vars(); // its contract says that the formula is within its limits
+        let _ = lines.limits.vars(); // and its contract that the limits are no more than the large ones
         match fault {
             Some(fault) => Err(CubesFault::Faulty(fault)),
             None => lines.finish(begun.as_slice()),
@@ -107,23 +119,42 @@ impl TreeReader {
     }
 }
 
-/// The tree of an iCNF text whose clauses are the formula's; or the first fault of the text, which is told before that its clauses are
-/// others.
-pub fn tree_of(alloc: Global, formula: &Formula, text: &[u8]) -> Result<Tree, CubesFault>
-    // What is told is so, unless memory ran out.
-    ensures exact { TellsTree formula.now (parse text.now) result }
-    // What is so is told, unless memory ran out.
-    ensures only { (expected : Result (List Cube) CubesFault) → Tells formula.now (parse text.now) expected → Answers (CubesFault.Faulty no_memory) result expected }
+/// The tree of an iCNF text within these limits, if its clauses are the formula's. Otherwise the first fault of the text, or
+/// `OtherFormula` if it has none.
+pub fn tree_within(
+    alloc: Global,
+    limits: Limits,
+    formula: &Formula,
+    text: &[u8],
+) -> Result<Tree, CubesFault>
+    // What is returned is true of the text, unless memory was refused.
+    ensures exact { TellsTree formula.now (parse_within limits text.now) result }
+    // What is true of the text is returned, unless memory was refused.
+    ensures only { (expected : Result (List Cube) CubesFault) → Tells formula.now (parse_within limits text.now) expected → Answers (CubesFault.Faulty no_memory) result expected }
     // The text spells the formula's clauses and the tree.
-    ensures found { IfOk result (λ tree. SpellsTree formula.now text.now tree) }
-    // No variable of the tree is above those of the formula.
+    ensures found { IfOk result (λ tree. SpellsTreeWithin limits formula.now text.now tree) }
+    // The tree's variables are the formula's.
     ensures within { IfOk result (λ tree. AreWithin formula.now.vars tree) }
 {
-    match TreeReader::new(alloc, formula) {
+    match TreeReader::within(alloc, limits, formula) {
         Ok(mut reader) => {
             reader.feed(text);
             reader.finish()
         }
         Err(error) => Err(CubesFault::Faulty(IcnfFault::from(error))),
     }
+}
+
+/// The same within the written limits.
+pub fn tree_of(alloc: Global, formula: &Formula, text: &[u8]) -> Result<Tree, CubesFault>
+    // What is returned is true of the text, unless memory was refused.
+    ensures exact { TellsTree formula.now (parse text.now) result }
+    // What is true of the text is returned, unless memory was refused.
+    ensures only { (expected : Result (List Cube) CubesFault) → Tells formula.now (parse text.now) expected → Answers (CubesFault.Faulty no_memory) result expected }
+    // The text spells the formula's clauses and the tree.
+    ensures found { IfOk result (λ tree. SpellsTree formula.now text.now tree) }
+    // The tree's variables are the formula's.
+    ensures within { IfOk result (λ tree. AreWithin formula.now.vars tree) }
+{
+    tree_within(alloc, Limits::written(), formula, text)
 }

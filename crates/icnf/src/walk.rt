@@ -1,6 +1,7 @@
-//! The cubes of a tree, read from left to right.
+//! Checks that cubes are the leaves of a tree, from left to right.
 //!
-//! Behind a cube the next one is forced up to the deepest place whose other branch is still missing, and free from there.
+//! After a cube, the next one is forced up to the deepest decision whose other branch is still to come, takes that branch, and is free
+//! from there on.
 
 ghost use Rattle.std.specs.Prelude.{◌≡◌, ◌≢◌, ◌<◌, ◌≤◌, [], ◌∷◌, ◌++◌, length, true, false, MatchBool, OnOk, Some, None, vec_len};
 ghost use Rattle.dimacs.specs.logic.Literal.{var_of};
@@ -15,7 +16,7 @@ use dimacs::Lit;
 use std::alloc::{AllocError, Global};
 use std::marker::Model;
 
-/// Where a text stands: among the clauses, between two cubes, in a cube, or behind a tree's last cube.
+/// The position in a text: among the clauses, between two cubes, in a cube, or after the tree's last cube.
 #[derive(Clone, Copy, Debug, PartialEq, Eq)]
 pub(crate) enum Stage {
     Clauses,
@@ -24,8 +25,7 @@ pub(crate) enum Stage {
     Complete,
 }
 
-/// The cubes that were read so far. The path holds first what was read of the open cube, and then what it must go on
-/// with.
+/// The cubes read so far. The path holds the literals that were read of the open cube, and then those that must follow.
 #[derive(Drop)]
 pub(crate) struct Walk {
     stage: Stage,
@@ -49,7 +49,7 @@ impl Model for Walk {
     ghost invariant = { λ w. (w.at ≤ vec_len w.path) × (vec_len w.path ≤ 64) × AreSpans w.literals.items w.spans.items × IsWalked w.stage w.path.items (cubes_in w.literals.items w.spans.items) };
 }
 
-/// Turns to how the cube behind a path begins: false, and no place, where no branch is missing.
+/// Backtracks: turns the path of a cube into the forced prefix of the next cube. False, with an empty path, if no branch is missing.
 fn turn(path: &mut Vec<Place>) -> bool
     ensures shorter { vec_len path.new ≤ vec_len path.old }
     ensures front { MatchBool result (next_front path.old.items ≡ Some path.new.items) ((next_front path.old.items ≡ None) × (path.new.items ≡ [])) }
@@ -68,7 +68,7 @@ fn turn(path: &mut Vec<Place>) -> bool
 }
 
 impl Walk {
-    /// No cube yet.
+    /// No cube has been read.
     pub(crate) fn new(alloc: Global) -> Walk
         ensures { result ≡ record { stage = Stage.Clauses; cubes = []; path = []; forced = [] } }
     {
@@ -87,14 +87,14 @@ impl Walk {
         self.stage
     }
 
-    /// How many cubes have ended.
+    /// The number of cubes that have ended.
     pub(crate) fn cubes(&self) -> usize
         ensures { result ≡ length self.now.cubes }
     {
         self.spans.len()
     }
 
-    /// How many literals of the open cube were read.
+    /// The number of literals that were read of the open cube.
     pub(crate) fn len(&self) -> usize
         ensures { result ≡ length self.now.path }
     {
@@ -110,7 +110,7 @@ impl Walk {
         self.stage = Stage::Inside;
     }
 
-    /// Whether the open cube has a literal of the variable of this one.
+    /// Whether the open cube has a literal of this literal's variable.
     pub(crate) fn names(&self, literal: Lit) -> bool
         ensures { result ≡ names self.now.path (var_of literal) }
     {
@@ -123,7 +123,7 @@ impl Walk {
         false
     }
 
-    /// Whether the open cube may go on with this literal.
+    /// Whether this literal may come next in the open cube.
     pub(crate) fn fits(&self, literal: Lit) -> bool
         ensures { result ≡ fits literal self.now.forced }
     {
@@ -137,7 +137,7 @@ impl Walk {
         self.at == self.path.len()
     }
 
-    /// Goes on with a literal.
+    /// Appends a literal to the open cube.
     pub(crate) fn push(&mut self, literal: Lit) -> Result<(), AllocError>
         requires inside { self.old.stage ≡ Stage.Inside }
         requires other { names self.old.path (var_of literal) ≡ false }
@@ -173,7 +173,7 @@ impl Walk {
         Ok(())
     }
 
-    /// The tree, behind its last cube.
+    /// The tree, after its last cube.
     pub(crate) fn finish(self) -> Tree
         requires { self.stage ≡ Stage.Complete }
         ensures { result ≡ self.cubes }

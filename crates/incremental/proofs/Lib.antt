@@ -1,6 +1,6 @@
-pub mod GrowingLemmas
+pub mod AppendLemmas
 pub mod LineLemmas
 pub mod LogLemmas
 pub mod ModelLemmas
-pub mod ReadingLemmas
-pub mod StandingLemmas
+pub mod ReaderStepLemmas
+pub mod HistoryLemmas

@@ -1,4 +1,4 @@
--- The lines of a session's text say what they are to say.
+-- The lines of LIDRUP text are read as they were meant.
 use Rattle.std.proofs.Common.{◌≡◌, ◌≢◌, ℕ, ◌+◌, ◌-◌, ◌≤◌, ◌==◌, true, false, not, List, [], ◌∷◌, ◌++◌, length, take, drop, get_or, Ok, codes, decimal, inl, inr, refl, sym, ◌∙◌, ap, subst, append_assoc, arith}
 use Rattle.std.specs.List.{All, Contains, flat_map, list_all, slice_range}
 use Rattle.std.proofs.Math.Seq.{drop-append_seam, take-append_seam}
@@ -11,16 +11,16 @@ use Rattle.dimacs.specs.logic.Rat.{Group}
 use Rattle.dimacs.proofs.Members.{Contains-cons, Contains-cons_cases}
 use Rattle.lrat_text.specs.Grammar.{IsClauseNumber, IsGroup, IsStep, literal_token}
 use Rattle.lrat_text.specs.Lines.{IsOpen}
-use Rattle.lrat_text.specs.Reading.{step_in}
-use Rattle.lrat_text.specs.Writing.{line_of, line_text, literals_text}
+use Rattle.lrat_text.specs.Parser.{step_in}
+use Rattle.lrat_text.specs.WrittenLine.{line_of, line_text, literals_text}
 use Rattle.lrat_text.specs.declared.step.Step.{Step}
 use Rattle.lrat_text.specs.declared.step.Step.TheVariants.{Add, Delete}
-use Rattle.lrat_text.specs.inner.Writing.{number_text}
+use Rattle.lrat_text.specs.inner.LineParts.{number_text}
 use Rattle.lrat_text.proofs.LineLemmas.{written_one_line, written_spells}
 use Rattle.lrat_text.proofs.SpellingLemmas.{spelled_found}
-use Rattle.lrat_text.proofs.WritingLemmas.{line_addition, line_deletion}
+use Rattle.lrat_text.proofs.WrittenLineLemmas.{line_addition, line_deletion}
 use Rattle.sessions.specs.Lines.{Asks, Deletes, Fails, Gives, Learns, Shows, body_of, line_in}
-use Rattle.incremental.specs.inner.Lines.{addition_text, core_text, deleted_text, given_text, learnt_text, listed_text}
+use Rattle.incremental.specs.inner.LidrupLines.{addition_text, core_text, deleted_text, given_text, learnt_text, listed_text}
 
 -- ---- bytes
 open_of : (xs : List ℕ) → ¬ (Contains xs 10) → IsOpen xs
@@ -104,12 +104,12 @@ module _ (id : ℕ) (C : Clause) (h : IsStep (Add id C [] [])) where
   given_bare = open_of (given_text id C) (bare_letter 105 (codes " " ++ (decimal id ++ literals_text C)) (λ e. cc) (bare_letter 32 (decimal id ++ literals_text C) (λ e. cc)
       (bare_within [] (decimal id ++ literals_text C) (codes " 0") (subst (λ xs. ¬ (Contains xs 10)) given_line (written_one_line id (Add id C [] []) h.0 h)))))
 
--- ---- literals behind a letter
+-- ---- literals after a letter
 module _ (letter : ℕ) (lits : List Literal) (h : IsStep (Add 1 lits [] [])) where
   listed_line : line_text 1 (Add 1 lits [] []) ≡ codes "1" ++ (literals_text lits ++ codes " 0")
   listed_line = addition_is 1 lits [] ∙ ap (λ (x : List ℕ). x ++ (literals_text lits ++ codes " 0")) one_text
 
-  -- what stands behind the letter and the space
+  -- what stands after the letter and the space
   listed_body : codes "1 " ++ body_of (listed_text letter lits) ++ codes " 0" ≡ line_text 1 (Add 1 lits [] [])
   listed_body =
       let b = literals_begin lits in

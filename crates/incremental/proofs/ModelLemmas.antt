@@ -9,14 +9,14 @@ use Rattle.dimacs.specs.logic.ClauseMap.{live_in}
 use Rattle.dimacs.specs.logic.Cnf.{assignment_of}
 use Rattle.dimacs.specs.logic.Literal.{Literal, Pos, Neg, Clause, IsTrueIn, IsWithin, has, literal_true, negation, var_of}
 use Rattle.dimacs.proofs.Members.{Contains-cons, Contains-cons_cases, Contains-has, Contains-head, Contains-nil}
-use Rattle.lrat_check.specs.Faults.{is_tautology}
+use Rattle.lrat_check.specs.StepFaults.{is_tautology}
 use Rattle.lrat_check.proofs.RatExact.{no_pair_is}
 use Rattle.lrat_text.specs.Grammar.{IsClauseNumber, IsGroup, IsStep}
 use Rattle.lrat_text.specs.Log.{Cube}
 use Rattle.lrat_text.specs.declared.step.Step.TheVariants.{Add}
 use Rattle.cube_solve.specs.Session.{IsSolution}
 use Rattle.sessions.specs.Texts.{State, is_met, is_model}
-use Rattle.incremental.specs.Answering.{literal_of, literals_from}
+use Rattle.incremental.specs.SessionHistory.{literal_of, literals_from}
 
 -- ---- tests of lists
 pub all_by : {X : Type 0} (p : X → Bool) (xs : List X) → ((x : X) → Contains xs x → p x ≡ true) → list_all p xs ≡ true

@@ -1,12 +1,12 @@
-//! Sessions that are answered, and proved as they go.
+//! An incremental solver that writes a proof of its answers.
 //!
-//! Clauses are given one after the other, and queries asked between them. A [`Session`] answers each by a search that keeps what it
-//! has learnt, and writes one LIDRUP text of all answers. What a layer above may rest on: each answer is right, and `sessions` accepts
-//! the text beside the events, with these answers.
+//! A [`Session`] takes clauses and queries in turn. It answers each query by a search that keeps its lemmas, and writes one LIDRUP
+//! proof of all answers. What a layer above may rest on: each answer is right, and `sessions` accepts the text beside the events, with
+//! these answers.
 #![tactic(auto)]
 
-mod lines;
-mod session;
+mod lidrup_lines;
+mod proved_session;
 
 pub use cube_solve::{Answer, Failure};
-pub use session::Session;
+pub use proved_session::Session;

@@ -1,4 +1,4 @@
--- The text of an answer is no log: its first byte begins no step.
+-- The text of an answer is no log: no step begins with its first byte.
 use Rattle.std.proofs.Common.{◌≡◌, inl, inr, ℕ, ◌<◌, ◌≤◌, ◌^◌, Bool, true, false, cond, List, [], ◌∷◌, ◌++◌, refl, sym, ap, subst, ◌∙◌, arith, eqb}
 use Rattle.std.specs.Prelude.{◌==◌, decimal}
 use Rattle.std.specs.List.{AllByRecursion, filter, onto_first, slice_split}
@@ -9,7 +9,7 @@ use Rattle.lrat_text.specs.Grammar.{IsClauseNumber, IsStep, LineSpells, SpellsSt
 use Rattle.lrat_text.specs.declared.step.Step.{Step}
 use Rattle.lrat_text.specs.declared.step.Step.TheVariants.{Add, Delete}
 use Rattle.lrat_text.proofs.NumberLemmas.{IsDigitByte, decimal_digits}
-use Rattle.leaves.specs.Joining.{is_answer, is_answer_letter}
+use Rattle.leaves.specs.Join.{is_answer, is_answer_letter}
 
 -- the letters, as numbers
 letter_is : (b : ℕ) → is_answer_letter b ≡ true → 58 ≤ b
@@ -30,7 +30,7 @@ first_piece p (x ∷ text) = at (p x) refl (first_piece p text)
     at true e (piece, pieces, is) = ([], slice_split p text, ap (λ b. cond b ([] ∷ slice_split p text) (onto_first x (slice_split p text))) e)
     at false e (piece, pieces, is) = (x ∷ piece, pieces, ap (λ b. cond b ([] ∷ slice_split p text) (onto_first x (slice_split p text))) e ∙ ap (onto_first x) is)
 
--- a line that begins with no space has a token that begins so
+-- the first token of a line that does not begin with a space begins as the line does
 first_token : (b : ℕ) (bs : List ℕ) → (b == space) ≡ false → (word : List ℕ) × (words : List (List ℕ)) × (tokens (b ∷ bs) ≡ (b ∷ word) ∷ words)
 first_token b bs e =
     let r = first_piece (λ c. c == space) bs in (

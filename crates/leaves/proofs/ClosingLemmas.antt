@@ -1,4 +1,4 @@
--- Whether a log closes a leaf, told lemma by lemma.
+-- Whether a log closes a leaf, lemma by lemma.
 use Rattle.std.proofs.Common.{◌≡◌, ℕ, ◌+◌, ◌<◌, ◌≤◌, inl, inr, Bool, true, false, ◌||◌, cond, Option, Some, None, List, [], ◌∷◌, ◌++◌, length, map, refl, sym, ◌∙◌, ap, subst, arith}
 use Rattle.std.specs.Prelude.{◌↔◌, is_none, is_some}
 use Rattle.std.specs.FinMap.{get}
@@ -14,17 +14,17 @@ use Rattle.icnf.specs.Leaves.{Cube}
 use Rattle.lrat_text.specs.Log.{additions}
 use Rattle.lrat_text.specs.Runs.{after_steps}
 use Rattle.lrat_text.specs.declared.step.Step.{Step}
-use Rattle.proof_join.specs.Numbering.{behind}
+use Rattle.proof_join.specs.RenumberedSteps.{behind}
 use Rattle.proof_join.proofs.MapLemmas.{between_formula}
-use Rattle.gathering.specs.Closing.{Leaf, Numbered, all_settled, can_close, closes, is_closed, settled}
-use Rattle.gathering.specs.Gathering.{AreLogs, Gathering, Handed, IsClosedBy, gathered, left_by, lemmas_of, nothing, with_log}
-use Rattle.gathering.specs.Written.{Ending, NoneLive, lemmas_below, leaves_of}
-use Rattle.gathering.specs.declared.gatherer.Gatherer.{Gatherer}
-use Rattle.gathering.proofs.ClosedLemmas.{closed_all, closed_only, gathered_cubes}
-use Rattle.gathering.proofs.PlacedLemmas.{log_between, log_top}
-use Rattle.gathering.proofs.SettleLemmas.{both, from_map}
-use Rattle.gathering.proofs.SettlingLemmas.{lemmas_all, lemmas_longer}
-use Rattle.leaves.specs.inner.Lines.{ClosesNewly, ClosesOpen, TellsClosing}
+use Rattle.log_join.specs.ClosedLeaves.{Leaf, Numbered, all_settled, can_close, closes, is_closed, settled}
+use Rattle.log_join.specs.JoinedLogs.{AreLogs, JoinState, Handed, IsClosedBy, joined_so_far, left_by, lemmas_of, nothing, with_log}
+use Rattle.log_join.specs.Written.{AtLogEnd, NoneLive, lemmas_below, leaves_of}
+use Rattle.log_join.specs.declared.log_joiner.LogJoiner.{LogJoiner}
+use Rattle.log_join.proofs.ClosedLemmas.{closed_all, closed_only, gathered_cubes}
+use Rattle.log_join.proofs.PlacedLemmas.{log_between, log_top}
+use Rattle.log_join.proofs.SettleLemmas.{both, from_map}
+use Rattle.log_join.proofs.SettlingLemmas.{lemmas_all, lemmas_longer}
+use Rattle.leaves.specs.inner.CheckedLines.{ClosesNewly, ClosesOpen, TellsClosing}
 
 -- ---- lists
 any_of : {X : Type 0} (p : X → Bool) (xs : List X) → list_any p xs ≡ true → (x : X) × Contains xs x × (p x ≡ true)
@@ -46,7 +46,7 @@ open_of : (o : Option Numbered) → is_none o ≡ true → is_some o ≡ false
 open_of None e = refl
 open_of (Some l) e = absurd (true≢false (sym e))
 
--- a lemma that is told to close a leaf closes one that is open
+-- a lemma that is found to close a leaf closes an open one
 pub closes_open : (F : Cnf) (log : List Step) (leaves : List Leaf) (l : Numbered) (number : ℕ) (b : Bool) → b ≡ true → b ≡ list_any (can_close l) leaves → length F.clauses < number
     → get (after_steps (map_of F) log) number ≡ Some l.clause → ClosesOpen F log leaves
 closes_open F log leaves l number b is told own live =
@@ -58,7 +58,7 @@ either_false : (a b : Bool) → (a || b) ≡ false → (a ≡ false) × (b ≡ f
 either_false true b e = absurd (true≢false e)
 either_false false b e = (refl, e)
 
--- one that closes none leaves them as they are
+-- a lemma that closes none leaves the leaves as they are
 stay : (l : Numbered) (leaves : List Leaf) → list_any (can_close l) leaves ≡ false → settled l leaves ≡ leaves
 stay l [] e = refl
 stay l (k ∷ leaves) e =
@@ -69,14 +69,14 @@ settled_append : (leaves : List Leaf) (xs : List Numbered) (l : Numbered) → al
 settled_append leaves [] l = refl
 settled_append leaves (x ∷ xs) l = settled_append (settled x leaves) xs l
 
-pub closes_none : (F : Cnf) (cubes : List Cube) (logs : List Handed) (log : List Step) (written : List ℕ) (n number : ℕ) (C : Clause) (id : ℕ) (old new : Gatherer) (b : Bool) → b ≡ false
+pub closes_none : (F : Cnf) (cubes : List Cube) (logs : List Handed) (log : List Step) (written : List ℕ) (n number : ℕ) (C : Clause) (id : ℕ) (old new : LogJoiner) (b : Bool) → b ≡ false
     → b ≡ list_any (can_close (record { id = id; clause = C })) (leaves_of old)
-    → Ending F cubes logs (record { steps = log; accepted = true }) n old written → Ending F cubes logs (record { steps = log; accepted = true }) (number + 1) new written
+    → AtLogEnd F cubes logs (record { steps = log; accepted = true }) n old written → AtLogEnd F cubes logs (record { steps = log; accepted = true }) (number + 1) new written
     → n ≤ number → NoneLive (after_steps (map_of F) log) n number → get (after_steps (map_of F) log) number ≡ Some C → leaves_of new ≡ leaves_of old
 closes_none F cubes logs log written n number C id old new b is told before after up none live =
-    let f : ℕ → ℕ = behind (length F.clauses) (gathered F cubes logs).top in
+    let f : ℕ → ℕ = behind (length F.clauses) (joined_so_far F cubes logs).top in
     let one : Numbered = record { id = f number; clause = C } in
-    let first : List Leaf = (gathered F cubes logs).leaves in
+    let first : List Leaf = (joined_so_far F cubes logs).leaves in
     let below : List Numbered = lemmas_below F cubes logs log n in
     let longer : lemmas_below F cubes logs log (number + 1) ≡ below ++ one ∷ [] =
     lemmas_longer f (after_steps (map_of F) log) (length F.clauses + 1) n number C (let l = before.low in omega arith) up none live in
@@ -88,11 +88,11 @@ closes_none F cubes logs log written n number C id old new b is told before afte
     ∙ sym before.way.stands.leaves
 
 -- ---- all lemmas
-pub tells_none : (F : Cnf) (log : List Step) (leaves : List Leaf) (g : Gatherer) → leaves_of g ≡ leaves → TellsClosing F log leaves g false
+pub tells_none : (F : Cnf) (log : List Step) (leaves : List Leaf) (g : LogJoiner) → leaves_of g ≡ leaves → TellsClosing F log leaves g false
 tells_none F log leaves g is = record { some = λ e. absurd (true≢false (sym e)); none = λ e. is }
 
--- what one more lemma tells
-pub tells_more : (F : Cnf) (log : List Step) (leaves : List Leaf) (old new : Gatherer) (a b c : Bool) → c ≡ (a || b) → TellsClosing F log leaves old a → TellsClosing F log (leaves_of old) new b
+-- what one more lemma closes
+pub tells_more : (F : Cnf) (log : List Step) (leaves : List Leaf) (old new : LogJoiner) (a b c : Bool) → c ≡ (a || b) → TellsClosing F log leaves old a → TellsClosing F log (leaves_of old) new b
     → TellsClosing F log leaves new c
 tells_more F log leaves old new true b c is before one = record { some = λ e. before.some refl; none = λ e. absurd (true≢false (sym is ∙ e)) }
 tells_more F log leaves old new false b c is before one = record {
@@ -101,17 +101,17 @@ tells_more F log leaves old new false b c is before one = record {
 }
 
 -- ---- a log that has ended
--- the leaves behind its lemmas are those behind the log
-pub ending_leaves : (F : Cnf) (cubes : List Cube) (logs : List Handed) (h : Handed) (n : ℕ) (g : Gatherer) (written : List ℕ) → Ending F cubes logs h n g written
-    → ((k : ℕ) → n ≤ k → get (after_steps (map_of F) h.steps) k ≡ None) → leaves_of g ≡ (gathered F cubes (logs ++ h ∷ [])).leaves
+-- the leaves after its lemmas are those after the log
+pub ending_leaves : (F : Cnf) (cubes : List Cube) (logs : List Handed) (h : Handed) (n : ℕ) (g : LogJoiner) (written : List ℕ) → AtLogEnd F cubes logs h n g written
+    → ((k : ℕ) → n ≤ k → get (after_steps (map_of F) h.steps) k ≡ None) → leaves_of g ≡ (joined_so_far F cubes (logs ++ h ∷ [])).leaves
 ending_leaves F cubes logs h n g written e none =
     let m : ℕ = length F.clauses in
-    let so_far : Gathering = gathered F cubes logs in
+    let so_far : JoinState = joined_so_far F cubes logs in
     let beyond : (k : ℕ) → (m + 1) + additions h.steps ≤ k → get (after_steps (map_of F) h.steps) k ≡ None = λ k far. not_live k far (get (after_steps (map_of F) h.steps) k) refl in
     let all : lemmas_below F cubes logs h.steps n ≡ lemmas_of F so_far.top h.steps =
     lemmas_all (behind m so_far.top) (after_steps (map_of F) h.steps) (m + 1) n (additions h.steps) (let l = e.low in omega arith) none beyond in
-    let whole : gathered F cubes (logs ++ h ∷ []) ≡ with_log F so_far h = fold-append (with_log F) (nothing F cubes) logs (h ∷ []) in
-    e.way.stands.leaves ∙ ap (left_by h.accepted so_far.leaves) all ∙ sym (ap (λ (z : Gathering). z.leaves) whole)
+    let whole : joined_so_far F cubes (logs ++ h ∷ []) ≡ with_log F so_far h = fold-append (with_log F) (nothing F cubes) logs (h ∷ []) in
+    e.way.stands.leaves ∙ ap (left_by h.accepted so_far.leaves) all ∙ sym (ap (λ (z : JoinState). z.leaves) whole)
   where
     not_live : (k : ℕ) → (length F.clauses + 1) + additions h.steps ≤ k → (o : Option Clause) → get (after_steps (map_of F) h.steps) k ≡ o → get (after_steps (map_of F) h.steps) k ≡ None
     not_live k far None z = z
@@ -120,29 +120,29 @@ ending_leaves F cubes logs h n g written e none =
         let t = log_top (length F.clauses) (map_of F) (length F.clauses) h.steps e.way.is_log in
         absurd (omega arith)
 
--- a leaf that is open is closed by none of the logs before
-open_newly : (F : Cnf) (cubes : List Cube) (logs : List Handed) (log : List Step) → AreLogs F logs → ClosesOpen F log (gathered F cubes logs).leaves → ClosesNewly F cubes logs log
+-- an open leaf is closed by none of the logs before
+open_newly : (F : Cnf) (cubes : List Cube) (logs : List Handed) (log : List Step) → AreLogs F logs → ClosesOpen F log (joined_so_far F cubes logs).leaves → ClosesNewly F cubes logs log
 open_newly F cubes logs log are (k, i, is_open, closes_it) = (
   k.cube,
-  subst (λ (qs : List Cube). Contains qs k.cube) (gathered_cubes F cubes logs) (contains_map (λ (z : Leaf). z.cube) (gathered F cubes logs).leaves k i),
+  subst (λ (qs : List Cube). Contains qs k.cube) (gathered_cubes F cubes logs) (contains_map (λ (z : Leaf). z.cube) (joined_so_far F cubes logs).leaves k i),
   λ by. true≢false (sym (closed_all F cubes logs k are i by) ∙ is_open),
   closes_it,
 )
 
--- where the leaves stay, none is closed
+-- if the leaves stay as they are, none is closed
 stays_open : (F : Cnf) (cubes : List Cube) (logs : List Handed) (log : List Step) → AreLogs F (logs ++ record { steps = log; accepted = true } ∷ [])
-    → (gathered F cubes (logs ++ record { steps = log; accepted = true } ∷ [])).leaves ≡ (gathered F cubes logs).leaves → ¬ (ClosesNewly F cubes logs log)
+    → (joined_so_far F cubes (logs ++ record { steps = log; accepted = true } ∷ [])).leaves ≡ (joined_so_far F cubes logs).leaves → ¬ (ClosesNewly F cubes logs log)
 stays_open F cubes logs log are same (q, i, not_before, closes_it) =
     let h : Handed = record { steps = log; accepted = true } in
-    let later : List Leaf = (gathered F cubes (logs ++ h ∷ [])).leaves in
+    let later : List Leaf = (joined_so_far F cubes (logs ++ h ∷ [])).leaves in
     let k = from_map (λ (z : Leaf). z.cube) later q (subst (λ (qs : List Cube). Contains qs q) (sym (gathered_cubes F cubes (logs ++ h ∷ []))) i) in
     let by : IsClosedBy F (logs ++ h ∷ []) q = record { log = h; one = Contains-append_right logs (h ∷ []) h (Contains-head h []); accepted = refl; closes = closes_it } in
     let shut : is_closed k.0 ≡ true = closed_all F cubes (logs ++ h ∷ []) k.0 are k.1 (subst (IsClosedBy F (logs ++ h ∷ [])) (sym k.2) by) in
     not_before (subst (IsClosedBy F logs) k.2 (closed_only F cubes logs k.0 (subst (λ (ks : List Leaf). Contains ks k.0) same k.1) shut))
 
--- so it is told whether the log closes a leaf
-pub told_newly : (F : Cnf) (cubes : List Cube) (logs : List Handed) (log : List Step) (g : Gatherer) (b : Bool) → AreLogs F logs → AreLogs F (logs ++ record { steps = log; accepted = true } ∷ [])
-    → leaves_of g ≡ (gathered F cubes (logs ++ record { steps = log; accepted = true } ∷ [])).leaves → TellsClosing F log (gathered F cubes logs).leaves g b → (b ≡ true) ↔ ClosesNewly F cubes logs log
+-- so the result says whether the log closes a leaf
+pub told_newly : (F : Cnf) (cubes : List Cube) (logs : List Handed) (log : List Step) (g : LogJoiner) (b : Bool) → AreLogs F logs → AreLogs F (logs ++ record { steps = log; accepted = true } ∷ [])
+    → leaves_of g ≡ (joined_so_far F cubes (logs ++ record { steps = log; accepted = true } ∷ [])).leaves → TellsClosing F log (joined_so_far F cubes logs).leaves g b → (b ≡ true) ↔ ClosesNewly F cubes logs log
 told_newly F cubes logs log g b before after are t = (
   λ e. open_newly F cubes logs log before (t.some e),
   λ c. elim (cases_Bool b) [

@@ -1,4 +1,4 @@
--- Files that close leaves, and the logs that are handed in of them.
+-- Files that close leaves, and the logs that are gathered of them.
 use Rattle.std.proofs.Common.{◌≡◌, ◌⊎◌, ℕ, ◌<◌, inl, inr, Bool, true, false, ◌&&◌, List, [], ◌∷◌, ◌++◌, length, Result, Ok, Err, refl, sym, ◌∙◌, ap, subst, arith}
 use Rattle.std.specs.Prelude.{◌↔◌}
 use Rattle.std.specs.List.{Contains, list_all}
@@ -8,19 +8,19 @@ use Rattle.dimacs.proofs.Members.{Contains-head, Contains-cons, Contains-cons_ca
 use Rattle.dimacs.specs.logic.Cnf.{Cnf}
 use Rattle.icnf.specs.Leaves.{Cube}
 use Rattle.lrat_check.specs.Logs.{log_of}
-use Rattle.lrat_check.specs.declared.checking.CheckFault.{CheckFault}
+use Rattle.lrat_check.specs.declared.line_checker.CheckFault.{CheckFault}
 use Rattle.lrat_check.proofs.LogTexts.{log_checked}
 use Rattle.lrat_text.specs.Grammar.{LineSpells}
 use Rattle.lrat_text.specs.Log.{IsLog}
 use Rattle.lrat_text.specs.declared.step.Step.{Step}
 use Rattle.lrat_text.proofs.CountingLemmas.{one_list}
 use Rattle.proof_join.proofs.MapLemmas.{between_formula}
-use Rattle.gathering.specs.Closing.{Leaf, is_closed}
-use Rattle.gathering.specs.Gathering.{AreLogs, ClosesLeaf, Handed, IsClosedBy, gathered}
-use Rattle.gathering.proofs.ClosedLemmas.{closed_all, closed_only, gathered_cubes}
-use Rattle.gathering.proofs.SettleLemmas.{both, from_map}
-use Rattle.leaves.specs.Joining.{AreClosed, ClosesAsLog, ClosesMore, IsBegunAs, IsClosedByFile, LeavesAre, is_answer}
-use Rattle.leaves.specs.inner.Lines.{ClosesNewly}
+use Rattle.log_join.specs.ClosedLeaves.{Leaf, is_closed}
+use Rattle.log_join.specs.JoinedLogs.{AreLogs, ClosesLeaf, Handed, IsClosedBy, joined_so_far}
+use Rattle.log_join.proofs.ClosedLemmas.{closed_all, closed_only, gathered_cubes}
+use Rattle.log_join.proofs.SettleLemmas.{both, from_map}
+use Rattle.leaves.specs.Join.{AreClosed, ClosesAsLog, ClosesNewLeaf, HasFirstByte, IsClosedByFile, LeavesClosedByFiles, is_answer}
+use Rattle.leaves.specs.inner.CheckedLines.{ClosesNewly}
 use Rattle.leaves.proofs.AnswerLemmas.{answer_is_no_log}
 use Rattle.leaves.proofs.ClosingLemmas.{contains_map}
 
@@ -28,7 +28,7 @@ use Rattle.leaves.proofs.ClosingLemmas.{contains_map}
 abbrev pub AreOf : Cnf → List Handed → List (List ℕ) → Type 0
 AreOf F logs files = (q : Cube) → IsClosedBy F logs q ↔ IsClosedByFile F files q
 
--- ---- one log more
+-- ---- one more log
 by_more : (F : Cnf) (logs : List Handed) (h : Handed) (q : Cube) → IsClosedBy F (logs ++ h ∷ []) q → IsClosedBy F logs q ⊎ ((h.accepted ≡ true) × ClosesLeaf F q h.steps)
 by_more F logs h q c = elim (Contains-append_cases logs (h ∷ []) c.log c.one) [
   | inl before ↦ inl (record { log = c.log; one = before; accepted = c.accepted; closes = c.closes })
@@ -44,7 +44,7 @@ more_by F logs h q c = record { log = c.log; one = Contains-append_left logs (h 
 last_by : (F : Cnf) (logs : List Handed) (h : Handed) (q : Cube) → h.accepted ≡ true → ClosesLeaf F q h.steps → IsClosedBy F (logs ++ h ∷ []) q
 last_by F logs h q accepted c = record { log = h; one = Contains-append_right logs (h ∷ []) h (Contains-head h []); accepted = accepted; closes = c }
 
--- ---- one file more
+-- ---- one more file
 file_more : (F : Cnf) (files : List (List ℕ)) (text : List ℕ) (q : Cube) → IsClosedByFile F (files ++ text ∷ []) q → IsClosedByFile F files q ⊎ ClosesAsLog F q text
 file_more F files text q (t, i, c) = elim (Contains-append_cases files (text ∷ []) t i) [
   | inl before ↦ inl (t, before, c)
@@ -118,17 +118,17 @@ empty_closes_none F q c =
     let r = (between_formula F k.id k.clause k.lives).1 in
     absurd (omega arith)
 
--- ---- what it is told to close
+-- ---- what it closes
 pub newly_more : (F : Cnf) (cubes : List Cube) (logs : List Handed) (files : List (List ℕ)) (text : List ℕ) (log : List Step) → AreOf F logs files → LineSpells text log → IsLog F log
-    → ClosesNewly F cubes logs log → ClosesMore F cubes files text
+    → ClosesNewly F cubes logs log → ClosesNewLeaf F cubes files text
 newly_more F cubes logs files text log are spells is_log (q, i, none, c) = (q, i, λ by. none ((are q).1 by), closes_as F q text log spells is_log c)
 
 pub more_newly : (F : Cnf) (cubes : List Cube) (logs : List Handed) (files : List (List ℕ)) (text : List ℕ) (log : List Step) → AreOf F logs files → LineSpells text log
-    → ClosesMore F cubes files text → ClosesNewly F cubes logs log
+    → ClosesNewLeaf F cubes files text → ClosesNewly F cubes logs log
 more_newly F cubes logs files text log are spells (q, i, none, c) = (q, i, λ by. none ((are q).0 by), as_closes F q text log spells c)
 
--- ---- how the leaves stand
-pub leaves_stand : (F : Cnf) (cubes : List Cube) (logs : List Handed) (files : List (List ℕ)) → AreLogs F logs → AreOf F logs files → LeavesAre F cubes files (gathered F cubes logs).leaves
+-- ---- the leaves
+pub leaves_stand : (F : Cnf) (cubes : List Cube) (logs : List Handed) (files : List (List ℕ)) → AreLogs F logs → AreOf F logs files → LeavesClosedByFiles F cubes files (joined_so_far F cubes logs).leaves
 leaves_stand F cubes logs files are_logs are = record {
   cubes_are = gathered_cubes F cubes logs;
   closed = λ k i. (λ e. (are k.cube).0 (closed_only F cubes logs k i e), λ by. closed_all F cubes logs k are_logs i ((are k.cube).1 by));
@@ -151,21 +151,21 @@ of_all (x ∷ leaves) e k i =
       | inr later ↦ of_all leaves two.1 k later
     ]
 
--- all leaves are closed exactly where the files close them
-pub all_closed : (F : Cnf) (cubes : List Cube) (files : List (List ℕ)) (leaves : List Leaf) → LeavesAre F cubes files leaves → list_all is_closed leaves ≡ true → AreClosed F cubes files
+-- all leaves are closed exactly if the files close them
+pub all_closed : (F : Cnf) (cubes : List Cube) (files : List (List ℕ)) (leaves : List Leaf) → LeavesClosedByFiles F cubes files leaves → list_all is_closed leaves ≡ true → AreClosed F cubes files
 all_closed F cubes files leaves are e q i =
     let k = from_map (λ (z : Leaf). z.cube) leaves q (subst (λ (qs : List Cube). Contains qs q) (sym are.cubes_are) i) in
     subst (IsClosedByFile F files) k.2 ((are.closed k.0 k.1).0 (of_all leaves e k.0 k.1))
 
-pub closed_all_of : (F : Cnf) (cubes : List Cube) (files : List (List ℕ)) (leaves : List Leaf) → LeavesAre F cubes files leaves → AreClosed F cubes files → list_all is_closed leaves ≡ true
+pub closed_all_of : (F : Cnf) (cubes : List Cube) (files : List (List ℕ)) (leaves : List Leaf) → LeavesClosedByFiles F cubes files leaves → AreClosed F cubes files → list_all is_closed leaves ≡ true
 closed_all_of F cubes files leaves are all =
     all_of leaves (λ k i. (are.closed k i).1 (all k.cube (subst (λ (qs : List Cube). Contains qs k.cube) are.cubes_are (contains_map (λ (z : Leaf). z.cube) leaves k i))))
 
 -- ---- the first byte
-pub begun_more : (answer : Bool) (bytes more : List ℕ) → IsBegunAs answer bytes → IsBegunAs answer (bytes ++ more)
+pub begun_more : (answer : Bool) (bytes more : List ℕ) → HasFirstByte answer bytes → HasFirstByte answer (bytes ++ more)
 begun_more answer [] more h = absurd h
 begun_more answer (b ∷ bs) more h = h
 
-pub begun_is : (answer : Bool) (bytes : List ℕ) → IsBegunAs answer bytes → is_answer bytes ≡ answer
+pub begun_is : (answer : Bool) (bytes : List ℕ) → HasFirstByte answer bytes → is_answer bytes ≡ answer
 begun_is answer [] h = absurd h
 begun_is answer (b ∷ bs) h = h

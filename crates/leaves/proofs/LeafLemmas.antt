@@ -1,4 +1,4 @@
--- What holds of the cube of a leaf.
+-- The cube of a leaf.
 use Rattle.std.proofs.Common.{◌≡◌, ℕ, zero, suc, ◌<◌, List, [], Some, get_or, map, nat_eq, length, subst, inl, inr, ◌∙◌}
 use Rattle.std.specs.List.{All, IsDistinct, slice_get}
 use Rattle.std.proofs.lemmas.Option.{slice_get_cases}

@@ -5,11 +5,11 @@ pub mod JoinLemmas
 pub mod LeafLemmas
 pub mod LiftLemmas
 pub mod LineLemmas
-pub mod LookLemmas
-pub mod ReadingLemmas
-pub mod RightSteps
-pub mod SearchingLemmas
+pub mod LookaheadLemmas
+pub mod SplitReaderLemmas
+pub mod RightStepLemmas
+pub mod SearchSessionLemmas
 pub mod SplitLemmas
 pub mod UnitLemmas
-pub mod TellingLemmas
-pub mod TurnLemmas
+pub mod BlockReportLemmas
+pub mod BlockSearchLemmas

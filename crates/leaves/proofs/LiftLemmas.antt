@@ -1,11 +1,11 @@
--- What holds of the cube of a leaf whose formula has a foreign proof, and of what its lifting ends in.
+-- The cube of a leaf whose proof is lifted, and how the lift ends.
 use Rattle.std.proofs.Common.{◌≡◌, ◌⊎◌, inl, inr, map, nat_eq, Result, Ok, Err, subst, sym}
 use Rattle.std.specs.List.{All, IsDistinct}
 use Rattle.dimacs.specs.logic.Cnf.{Cnf}
 use Rattle.dimacs.specs.logic.Literal.{IsWithin, var_of}
 use Rattle.icnf.specs.Leaves.{Cube}
-use Rattle.lrat_check.specs.Checking.{no_memory}
-use Rattle.lrat_check.specs.declared.checking.CheckFault.{CheckFault}
+use Rattle.lrat_check.specs.ProofFaults.{no_memory}
+use Rattle.lrat_check.specs.declared.line_checker.CheckFault.{CheckFault}
 use Rattle.proof_lift.specs.Leaves.{IsCube}
 use Rattle.cube_solve.proofs.SearchLemmas.{cube_sound}
 
@@ -16,7 +16,7 @@ cube_over F found q is within distinct = subst (IsCube F) (sym is) (record {
   no_pair = λ t. cube_sound found distinct t.0 t.1 t.2;
 })
 
--- an error of what has none but for want of memory
+-- the only error is that memory was refused
 pub only_memory : (fault : CheckFault) (r : Result (Unit {0}) CheckFault) → r ≡ Err fault → (r ≡ Ok tt) ⊎ (r ≡ Err no_memory) → fault ≡ no_memory
 only_memory fault r is h = elim h [
   | inl ok ↦ let no : ⊥ = cc in absurd no

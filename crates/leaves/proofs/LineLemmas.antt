@@ -8,34 +8,34 @@ use Rattle.std.specs.FinMap.{get}
 use Rattle.dimacs.specs.logic.ClauseMap.{ClauseMap, map_of}
 use Rattle.dimacs.specs.logic.Cnf.{Cnf}
 use Rattle.icnf.specs.Leaves.{Cube}
-use Rattle.lrat_check.specs.Logs.{IsBegun, LogState, StandsOver, CutsOff, ids_of}
+use Rattle.lrat_check.specs.Logs.{IsBegun, LogState, HoldsFormula, DeletesPrefix, ids_of}
 use Rattle.lrat_text.specs.Log.{IsLogStep, after_step, top_after}
 use Rattle.lrat_text.specs.Runs.{after_steps, top_of}
 use Rattle.lrat_check.proofs.Taken.{removed-without}
 use Rattle.lrat_text.proofs.RunLemmas.{after_append, top_append}
 use Rattle.lrat_text.specs.declared.step.Step.{Step}
-use Rattle.gathering.specs.Gathering.{Handed}
-use Rattle.gathering.specs.Written.{Appends, Ending, NoneLive, WithinLog}
+use Rattle.log_join.specs.JoinedLogs.{Handed}
+use Rattle.log_join.specs.Written.{Appends, AtLogEnd, NoneLive, WithinLog}
 use Rattle.lrat_text.specs.declared.step.Step.TheVariants.{Delete}
-use Rattle.gathering.specs.declared.gatherer.Gatherer.{Gatherer}
-use Rattle.leaves.specs.Lines.{AreWithin, IsBehind}
-use Rattle.leaves.specs.inner.Lines.{AreCut, AreHandedOver, AreWithinSome}
-use Rattle.leaves.specs.declared.lines.Lines.{Lines}
+use Rattle.log_join.specs.declared.log_joiner.LogJoiner.{LogJoiner}
+use Rattle.leaves.specs.CheckedLines.{IsWithinLog, IsAfterSteps}
+use Rattle.leaves.specs.inner.CheckedLines.{HasPartialDeletion, AreHandedOver, IsWithinSomeLog}
+use Rattle.leaves.specs.declared.checked_lines.CheckedLines.{CheckedLines}
 
-pub begun_behind : (F : Cnf) (s : LogState) → IsBegun F s → StandsOver F s → IsBehind F [] s
+pub begun_behind : (F : Cnf) (s : LogState) → IsBegun F s → HoldsFormula F s → IsAfterSteps F [] s
 begun_behind F s b stands = record { base = b.base; live = b.live; top = b.top; stands = stands }
 
 -- a step that the checker takes is one of the log
-pub step_follows : (F : Cnf) (log : List Step) (old : LogState) (step : Step) → IsBehind F log old → IsLogStep old.base old.live old.top step
+pub step_follows : (F : Cnf) (log : List Step) (old : LogState) (step : Step) → IsAfterSteps F log old → IsLogStep old.base old.live old.top step
     → IsLogStep (length F.clauses) (after_steps (map_of F) log) (top_of (length F.clauses) log) step
 step_follows F log old step b h =
     subst (λ (n : ℕ). IsLogStep (length F.clauses) (after_steps (map_of F) log) n step) b.top
     (subst (λ (M : ClauseMap). IsLogStep (length F.clauses) M old.top step) b.live
     (subst (λ (n : ℕ). IsLogStep n old.live old.top step) b.base h))
 
--- and the checker stands behind it
-pub one_behind : (F : Cnf) (log : List Step) (old new : LogState) (step : Step) → IsBehind F log old → new.base ≡ old.base → new.live ≡ after_step old.live step
-    → new.top ≡ top_after old.top step → StandsOver F new → IsBehind F (log ++ step ∷ []) new
+-- and the checker is after it
+pub one_behind : (F : Cnf) (log : List Step) (old new : LogState) (step : Step) → IsAfterSteps F log old → new.base ≡ old.base → new.live ≡ after_step old.live step
+    → new.top ≡ top_after old.top step → HoldsFormula F new → IsAfterSteps F (log ++ step ∷ []) new
 one_behind F log old new step b base live top stands = record {
   base = base ∙ b.base;
   live = live ∙ ap (λ (M : ClauseMap). after_step M step) b.live ∙ sym (after_append (map_of F) log (step ∷ []));
@@ -43,7 +43,7 @@ one_behind F log old new step b base live top stands = record {
   stands = stands;
 }
 
--- what is appended to what is not yet handed out is appended to all that is written
+-- bytes that are appended to those not yet handed out are appended to all that are written
 pub appended : (P : List ℕ → Type 0) (written old new more : List ℕ) → new ≡ old ++ more → P ((written ++ old) ++ more) → P (written ++ new)
 appended P written old new more is h = subst P (append_assoc written old more ∙ ap (λ (x : List ℕ). written ++ x) (sym is)) h
 
@@ -55,7 +55,7 @@ none_more M low number none here k from below = elim (cases_lt k number) [
 ]
 
 -- the lemma of a number is not live
-pub passed_over : (F : Cnf) (cubes : List Cube) (logs : List Handed) (h : Handed) (written : List ℕ) (number : ℕ) (g : Gatherer)
+pub passed_over : (F : Cnf) (cubes : List Cube) (logs : List Handed) (h : Handed) (written : List ℕ) (number : ℕ) (g : LogJoiner)
     → AreHandedOver F cubes logs h written number g → get (after_steps (map_of F) h.steps) number ≡ None → AreHandedOver F cubes logs h written (number + 1) g
 passed_over F cubes logs h written number g a here = record {
   low = a.low;
@@ -65,17 +65,17 @@ passed_over F cubes logs h written number g a here = record {
 }
 
 -- the lemma of a number was handed over
-pub one_over : (F : Cnf) (cubes : List Cube) (logs : List Handed) (h : Handed) (written : List ℕ) (number : ℕ) (g : Gatherer)
-    → Ending F cubes logs h (number + 1) g written → AreHandedOver F cubes logs h written (number + 1) g
+pub one_over : (F : Cnf) (cubes : List Cube) (logs : List Handed) (h : Handed) (written : List ℕ) (number : ℕ) (g : LogJoiner)
+    → AtLogEnd F cubes logs h (number + 1) g written → AreHandedOver F cubes logs h written (number + 1) g
 one_over F cubes logs h written number g e = record { low = number + 1; ending = e; up = omega arith; none = λ k from below. absurd (omega arith) }
 
 -- before the first
-pub none_over : (F : Cnf) (cubes : List Cube) (logs : List Handed) (h : Handed) (written : List ℕ) (number : ℕ) (g : Gatherer) → number ≡ length F.clauses + 1
-    → Ending F cubes logs h (length F.clauses + 1) g written → AreHandedOver F cubes logs h written number g
+pub none_over : (F : Cnf) (cubes : List Cube) (logs : List Handed) (h : Handed) (written : List ℕ) (number : ℕ) (g : LogJoiner) → number ≡ length F.clauses + 1
+    → AtLogEnd F cubes logs h (length F.clauses + 1) g written → AreHandedOver F cubes logs h written number g
 none_over F cubes logs h written number g is e = record { low = length F.clauses + 1; ending = e; up = omega arith; none = λ k from below. absurd (omega arith) }
 
--- behind the last
-pub none_left : (F : Cnf) (s : LogState) (log : List Step) (low number : ℕ) → IsBehind F log s → s.top < number → NoneLive (after_steps (map_of F) log) low number
+-- after the last
+pub none_left : (F : Cnf) (s : LogState) (log : List Step) (low number : ℕ) → IsAfterSteps F log s → s.top < number → NoneLive (after_steps (map_of F) log) low number
     → (k : ℕ) → low ≤ k → get (after_steps (map_of F) log) k ≡ None
 none_left F s log low number b above none k from = elim (cases_lt k number) [
   | inl less ↦ none k from less
@@ -104,9 +104,9 @@ pub take_none : (n : ℕ) → take {A = ℕ} n [] ≡ []
 take_none zero = refl
 take_none (suc n) = refl
 
--- nothing was cut off
-pub cut_is_empty : (F : Cnf) (cubes : List Cube) (logs : List Handed) (log : List Step) (written : List ℕ) (l : Lines) → AreCut F cubes logs log written l
-    → take l.checker.cut (ids_of l.checker.step) ≡ [] → AreWithinSome F cubes logs written l
+-- no part of the deletion was carried out
+pub cut_is_empty : (F : Cnf) (cubes : List Cube) (logs : List Handed) (log : List Step) (written : List ℕ) (l : CheckedLines) → HasPartialDeletion F cubes logs log written l
+    → take l.checker.cut (ids_of l.checker.step) ≡ [] → IsWithinSomeLog F cubes logs written l
 cut_is_empty F cubes logs log written l h none = (
   log,
   record {
@@ -120,13 +120,13 @@ cut_is_empty F cubes logs log written l h none = (
   },
 )
 
--- what was cut off is written
-pub cut_is_written : (F : Cnf) (cubes : List Cube) (logs : List Handed) (log : List Step) (written : List ℕ) (l : Lines) (h : AreCut F cubes logs log written l) (g : Gatherer) (out : Vec ℕ) (ids : List ℕ)
+-- the part that was carried out is written
+pub cut_is_written : (F : Cnf) (cubes : List Cube) (logs : List Handed) (log : List Step) (written : List ℕ) (l : CheckedLines) (h : HasPartialDeletion F cubes logs log written l) (g : LogJoiner) (out : Vec ℕ) (ids : List ℕ)
     → take l.checker.cut (ids_of l.checker.step) ≡ ids
     → Appends l.out.items out.items (λ more. (G : Cnf) (qs : List Cube) (hs : List Handed) (steps : List Step) (before : List ℕ)
-    → WithinLog G qs hs steps l.gatherer before → IsLogStep (length G.clauses) (after_steps (map_of G) steps) (top_of (length G.clauses) steps) (Delete ids)
+    → WithinLog G qs hs steps l.joiner before → IsLogStep (length G.clauses) (after_steps (map_of G) steps) (top_of (length G.clauses) steps) (Delete ids)
     → WithinLog G qs hs (steps ++ Delete ids ∷ []) g (before ++ more))
-    → AreWithinSome F cubes logs written (record { checker = l.checker; gatherer = g; out = out })
+    → IsWithinSomeLog F cubes logs written (record { checker = l.checker; joiner = g; out = out })
 cut_is_written F cubes logs log written l h g out ids are put =
     let follows : IsLogStep (length F.clauses) (after_steps (map_of F) log) (top_of (length F.clauses) log) (Delete ids) =
     subst (λ (xs : List ℕ). IsLogStep (length F.clauses) (after_steps (map_of F) log) (top_of (length F.clauses) log) (Delete xs)) are h.follows in
@@ -146,8 +146,8 @@ cut_is_written F cubes logs log written l h g out ids are put =
     )
 
 -- a line is refused
-pub refused_within : (F : Cnf) (cubes : List Cube) (logs : List Handed) (log : List Step) (written : List ℕ) (l : Lines) (s : LogState) → AreWithin F cubes logs log written l → CutsOff l.checker s → StandsOver F s
-    → AreCut F cubes logs log written (record { checker = s; gatherer = l.gatherer; out = l.out })
+pub refused_within : (F : Cnf) (cubes : List Cube) (logs : List Handed) (log : List Step) (written : List ℕ) (l : CheckedLines) (s : LogState) → IsWithinLog F cubes logs log written l → DeletesPrefix l.checker s → HoldsFormula F s
+    → HasPartialDeletion F cubes logs log written (record { checker = s; joiner = l.joiner; out = l.out })
 refused_within F cubes logs log written l s h cut stands = record {
   within = h.within;
   base = cut.base ∙ h.behind.base;

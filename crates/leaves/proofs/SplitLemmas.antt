@@ -9,11 +9,11 @@ use Rattle.dimacs.specs.logic.Cnf.{Cnf, AreWithin, greatest_in}
 use Rattle.dimacs.specs.logic.Literal.{Literal, Pos, Neg, IsWithin, var_of}
 use Rattle.icnf.specs.Leaves.{Cube, IsFree, branched}
 use Rattle.cube_split.specs.Choice.{Choice}
-use Rattle.cube_split.specs.Splitting.{IsSplit}
+use Rattle.cube_split.specs.SplitTree.{IsSplitBy}
 use Rattle.cube_split.proofs.SplitLemmas.{split_within}
 use Rattle.leaves.specs.Leaf.{Prints, no_leaf_text}
-use Rattle.leaves.specs.Splitting.{PrintsBranches, PrintsSplit, PrintsSplitOf, SplitsOn}
-use Rattle.leaves.specs.inner.Splitting.{IsSound}
+use Rattle.leaves.specs.LeafSplit.{PrintsBranches, PrintsSplit, PrintsSplitOf, SplitsOn}
+use Rattle.leaves.specs.inner.SplitVariable.{IsFreeVariable}
 use Rattle.look_ahead.proofs.GrownLemmas.{branched_within}
 use Rattle.reports.specs.declared.report.Report.{Report}
 
@@ -23,33 +23,33 @@ choice_within F S v within choice =
     let same : S ++ [] ≡ S = append-nil S in
     let here : Choice F (S ++ []) (Some v) = subst (λ (T : List Literal). Choice F T (Some v)) (sym same) choice in
     let both : AreWithin (greatest_in F.clauses) ((Pos v ∷ []) ∷ (Neg v ∷ []) ∷ []) =
-    split_within {f = F} {units = S} {levels = 1} {path = []} within (All-nil (IsWithin (greatest_in F.clauses))) (IsSplit.split v here IsSplit.full IsSplit.full) in
+    split_within F S 1 [] ((Pos v ∷ []) ∷ (Neg v ∷ []) ∷ []) within (All-nil (IsWithin (greatest_in F.clauses))) (IsSplitBy.split {left = (Pos v ∷ []) ∷ []} {right = (Neg v ∷ []) ∷ []} v here IsSplitBy.full IsSplitBy.full) in
     All-head (IsWithin (greatest_in F.clauses)) (Pos v) [] (All-head (All (IsWithin (greatest_in F.clauses))) (Pos v ∷ []) ((Neg v ∷ []) ∷ []) both)
 
--- what is free of literals is free of those behind a front
+-- what is free of literals is free of those after a prefix
 free_behind : (S q : List Literal) (v : ℕ) → IsFree (S ++ q) v → IsFree q v
 free_behind [] q v h = h
 free_behind (l ∷ S) q v h = free_behind S q v (All-tail (λ (k : Literal). var_of k ≢ v) l (S ++ q) h)
 
--- the variable on which a cube is split is free of it, and one of the clauses'
-pub sound : (F : Cnf) (q : Cube) (on : Option ℕ) (v : ℕ) → AreWithin F.vars F.clauses → SplitsOn F q on v → IsSound F q v
+-- the variable on which a cube is cut is free of the cube, and is one of the clauses'
+pub sound : (F : Cnf) (q : Cube) (on : Option ℕ) (v : ℕ) → AreWithin F.vars F.clauses → SplitsOn F q on v → IsFreeVariable F q v
 sound F q None v within choice =
     let range = choice_within F (pure_literals F ++ q) v within choice in
     record { free = free_behind (pure_literals F) q v choice.free; some = range.0; most = range.1 }
 sound F q (Some w) v within h = rw h.0 (record { free = h.1.free; some = h.1.some; most = h.1.among })
 
-pub sound_of : (F : Cnf) (q : Cube) (on : Option ℕ) (found : Option ℕ) → AreWithin F.vars F.clauses → IfSome found (SplitsOn F q on) → IfSome found (IsSound F q)
+pub sound_of : (F : Cnf) (q : Cube) (on : Option ℕ) (found : Option ℕ) → AreWithin F.vars F.clauses → IfSome found (SplitsOn F q on) → IfSome found (IsFreeVariable F q)
 sound_of F q on None within h = tt
 sound_of F q on (Some v) within h = sound F q on v within h
 
 pub sound_chosen : (E : Type 0) (F : Cnf) (q : Cube) (r : Result (Option ℕ) E) → AreWithin F.vars F.clauses → IfOk r (Choice F (pure_literals F ++ q))
-    → IfOk r (λ found. IfSome found (IsSound F q))
+    → IfOk r (λ found. IfSome found (IsFreeVariable F q))
 sound_chosen E F q (Ok None) within h = tt
 sound_chosen E F q (Ok (Some v)) within h = sound F q None v within h
 sound_chosen E F q (Err e) within h = tt
 
--- the tree that is cut is within the greatest variable of the clauses, where it was
-pub cut_within : (F : Cnf) (leaves : List Cube) (place v : ℕ) (q : Cube) → AreWithin (greatest_in F.clauses) leaves → IsSound F q v → AreWithin (greatest_in F.clauses) (branched place v leaves)
+-- a tree within the greatest variable of the clauses stays so if a leaf is cut
+pub cut_within : (F : Cnf) (leaves : List Cube) (place v : ℕ) (q : Cube) → AreWithin (greatest_in F.clauses) leaves → IsFreeVariable F q v → AreWithin (greatest_in F.clauses) (branched place v leaves)
 cut_within F leaves place v q w is = branched_within (greatest_in F.clauses) leaves place v w is.some is.most
 
 -- the number of a leaf is one more than its place

@@ -1,7 +1,7 @@
 -- What only private contracts, invariants and proofs name. Nothing here is to be believed.
-pub mod Joins
-pub mod Lines
-pub mod Reading
-pub mod Splitting
-pub mod Telling
-pub mod Turns
+pub mod Join
+pub mod CheckedLines
+pub mod SplitReader
+pub mod SplitVariable
+pub mod BlockReport
+pub mod BlockSearch

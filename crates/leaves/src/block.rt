@@ -1,19 +1,21 @@
-//! Neighbouring leaves of a splitting tree.
+//! A block of a splitting tree: leaves that follow each other in the tree.
 
 ghost use Rattle.std.specs.Prelude.{◌≤◌, length};
 
 use icnf::Tree;
 
-/// The leaves of a tree from one place to the one before another, from 0.
+/// The leaves of a tree at the indices `first..end`, from 0.
 pub struct Block {
+    /// The whole tree.
     pub(crate) tree: Tree,
+    /// The index of the block's first leaf, from 0.
     pub(crate) first: usize,
+    /// The index after the block's last leaf.
     pub(crate) end: usize,
     ghost some: { first ≤ end },
     ghost inside: { end ≤ length tree },
 }
 
-// By hand, so that whoever owns one drops it by one call, and no proof there goes through its parts.
 impl Drop for Block {
     fn drop(self) {
         let Block {

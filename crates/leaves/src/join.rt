@@ -1,52 +1,53 @@
-//! `join`: the logs of any machines become one proof.
+//! `join`: joins the logs of any machines to one proof of the formula.
 
 ghost use Rattle.std.specs.Prelude.{◌≡◌, ◌==◌, ◌∷◌, ◌++◌, ℕ, List, [], true, false, IfOk, OnOk};
 ghost use Rattle.dimacs.specs.logic.Cnf.{Cnf, IsFormula};
-ghost use Rattle.gathering.specs.Written.{leaves_of};
+ghost use Rattle.log_join.specs.Written.{leaves_of};
 ghost use Rattle.icnf.specs.Leaves.{Cube};
-ghost use Rattle.leaves.specs.Joining.{Concludes, Holds, TellsFile, is_answer_letter};
-ghost use Rattle.leaves.specs.inner.Joins.{IsStopped, KeepsStanding, OpensAs, StaysAs, TakesPiece, TellsOpen};
+ghost use Rattle.leaves.specs.Join.{Concludes, HasReadFiles, IsFileOutcome, is_answer_letter};
+ghost use Rattle.leaves.specs.inner.Join.{IsStopped, KeepsJoined, OpensAs, StaysAs, JoinsPiece, ReportsMissing};
 
-use crate::ending::{FileEnd, accept, answered, leave, refuse};
-use crate::lines::{LineFault, Lines};
+use crate::checked_lines::{CheckedLines, LineFault};
+use crate::file_outcome::{FileOutcome, accept, answered, leave, refuse};
 use crate::notes::put_missing;
 use crate::split::Split;
 use answers::AnswerReader;
 use dimacs::{Answer, Formula, answer_lines};
-use gathering::{GatherFault, Gatherer};
+use log_join::{LogJoinFault, LogJoiner};
 use lrat_check::{CheckFault, LogChecker};
 use lrat_text::{LineBuffer, PieceFault};
 use reports::Report;
 use std::alloc::{AllocError, Global};
 use std::mem;
 
-/// What is read of a file.
+/// What the file that is being read is, by its bytes so far.
 #[derive(Drop)]
-pub(crate) enum Reading {
-    /// No byte of it yet.
+pub(crate) enum FileState {
+    /// No byte of the file is read.
     Begun,
-    /// A log that is right so far.
+    /// The file is a log, without fault so far.
     Log,
-    /// A log, up to its fault.
+    /// The file is a log with this fault. The rest of the file is skipped.
     Refused(CheckFault),
-    /// A solver's answer.
+    /// The file is a solver's answer.
     Answer(AnswerReader),
 }
 
-/// Joins logs over a formula, which come file by file and piece by piece, into one proof of it.
+/// Joins logs over a formula to one proof of it. The logs come file by file, and each file piece by piece.
 ///
-/// The bytes of the proof are handed out as they come. The lines of a log up to its fault are right lines: they stay, and what they
-/// leave is deleted, so that nothing is taken back.
+/// The bytes of the proof are handed out as they come, so none is taken back. If a log has a fault, its lines before the fault stay in the
+/// proof, and their lemmas are deleted.
 pub struct Join {
     alloc: Global,
     formula: Formula,
-    pub(crate) lines: Lines,
-    /// The line that is begun.
+    /// The checker of the log that is being read, and the end of the proof that is not handed out yet.
+    pub(crate) lines: CheckedLines,
+    /// The bytes after the last LF of a log: the line that has not ended. Empty between files.
     begun: LineBuffer,
-    pub(crate) reading: Reading,
+    /// What the file is that is being read.
+    pub(crate) reading: FileState,
 }
 
-// By hand, so that whoever owns one drops it by one call, and no proof there goes through its parts.
 impl Drop for Join {
     fn drop(self) {
         let Join {
@@ -59,7 +60,7 @@ impl Drop for Join {
     }
 }
 
-/// Whether a text that begins so is a solver's answer: no line of a log begins with these letters.
+/// Answers whether a file with this first byte is a solver's answer: no line of a log begins with `c`, `s` or `v`.
 fn is_answer(first: u8) -> bool
     ensures { result ≡ is_answer_letter first }
 {
@@ -67,49 +68,49 @@ fn is_answer(first: u8) -> bool
 }
 
 impl Join {
-    /// No file was read yet.
+    /// A join that has read no file, and has written no byte.
     pub fn of(alloc: Global, split: Split) -> Result<Join, AllocError>
-        ensures holds { IfOk result (Holds split.formula split.tree [] [] []) }
+        ensures holds { IfOk result (HasReadFiles split.formula split.tree [] [] []) }
         ensures out { IfOk result (λ j. j.lines.out.items ≡ []) }
     {
         let Split { formula, tree } = split;
-        let _ = tree.leaves(); // with it comes that they are few
+        let _ = tree.leaves(); // its contract bounds the number of leaves
         let checker = LogChecker::of(alloc, formula.copy()?)?;
-        let gatherer = Gatherer::of(alloc, &tree, checker.base())?;
+        let joiner = LogJoiner::of(alloc, &tree, checker.base())?;
         Ok(Join {
             alloc,
             formula,
-            lines: Lines {
+            lines: CheckedLines {
                 checker,
-                gatherer,
+                joiner,
                 out: Vec::new(alloc),
             },
             begun: LineBuffer::new(alloc),
-            reading: Reading::Begun,
+            reading: FileState::Begun,
         })
     }
 
-    /// The file's first byte tells whether it is an answer or a log.
+    /// Decides by the file's first byte whether the file is an answer or a log. Does nothing if that is decided.
     fn open(&mut self, first: u8)
-        ensures stands { KeepsStanding self.old self.new }
+        ensures stands { KeepsJoined self.old self.new }
         ensures kind { OpensAs first self.old.reading self.new.reading }
     {
         match self.reading {
-            Reading::Begun => {}
+            FileState::Begun => {}
             _ => return,
         }
         if is_answer(first) {
-            self.reading = Reading::Answer(AnswerReader::new(self.alloc));
+            self.reading = FileState::Answer(AnswerReader::new(self.alloc));
             return;
         }
         self.lines.begin();
-        self.reading = Reading::Log;
+        self.reading = FileState::Log;
     }
 
-    /// Reads a piece of a log.
-    fn read(&mut self, piece: &[u8]) -> Result<(), GatherFault>
-        requires { self.old.reading ≡ Reading.Log }
-        ensures stands { OnOk result (TakesPiece piece.now self.old self.new) }
+    /// Reads the next piece of a log. A fault of the log is kept for `end`; Err if the proof cannot be written or memory is refused.
+    fn read(&mut self, piece: &[u8]) -> Result<(), LogJoinFault>
+        requires { self.old.reading ≡ FileState.Log }
+        ensures stands { OnOk result (JoinsPiece piece.now self.old self.new) }
         ensures kind { OnOk result (StaysAs self.old.reading self.new.reading) }
     {
         let fault = match self.begun.feed(piece, &mut self.lines) {
@@ -117,104 +118,104 @@ impl Join {
             Err(fault) => fault,
         };
         match fault {
-            PieceFault::NoMemory => Err(GatherFault::NoMemory),
+            PieceFault::NoMemory => Err(LogJoinFault::NoMemory),
             PieceFault::Line(fault) => self.stop(fault),
         }
     }
 
-    /// A line of a log is refused.
-    fn stop(&mut self, fault: LineFault) -> Result<(), GatherFault>
+    /// Keeps the fault of a refused line, so that the rest of the file is skipped. Err if memory is refused or the proof cannot be written.
+    fn stop(&mut self, fault: LineFault) -> Result<(), LogJoinFault>
         ensures { OnOk result (IsStopped fault self.old self.new) }
     {
         match fault {
             LineFault::Gather(fault) => Err(fault),
             LineFault::Log(fault) => {
                 if fault.is_no_memory() {
-                    return Err(GatherFault::NoMemory);
+                    return Err(LogJoinFault::NoMemory);
                 }
-                self.reading = Reading::Refused(fault);
+                self.reading = FileState::Refused(fault);
                 Ok(())
             }
         }
     }
 
-    /// Reads the next piece of the file. After an error, the join is of no use.
-    pub fn feed(&mut self, piece: &[u8]) -> Result<(), GatherFault>
+    /// Reads the next piece of the file. A fault of the file is kept for `end`. After an Err the join is of no use.
+    pub fn feed(&mut self, piece: &[u8]) -> Result<(), LogJoinFault>
         ensures holds { OnOk result ((F : Cnf) (cubes : List Cube) (files : List (List ℕ)) (bytes written : List ℕ)
-            → Holds F cubes files bytes written self.old → Holds F cubes files (bytes ++ piece.now) written self.new) }
+            → HasReadFiles F cubes files bytes written self.old → HasReadFiles F cubes files (bytes ++ piece.now) written self.new) }
     {
         if piece.is_empty() {
             return Ok(());
         }
         self.open(piece[0]);
         match &mut self.reading {
-            Reading::Log => {}
-            Reading::Answer(reader) => {
+            FileState::Log => {}
+            FileState::Answer(reader) => {
                 reader.feed(piece);
                 return Ok(());
             }
-            Reading::Begun => return Ok(()),
-            Reading::Refused(_) => return Ok(()),
+            FileState::Begun => return Ok(()),
+            FileState::Refused(_) => return Ok(()),
         }
         self.read(piece)
     }
 
-    /// The file has ended, and the next one may begin. After an error, the join is of no use.
-    pub fn end(&mut self) -> Result<FileEnd, GatherFault>
+    /// Ends the file, and answers what it is; the next file may begin. After an Err the join is of no use.
+    pub fn end(&mut self) -> Result<FileOutcome, LogJoinFault>
         ensures holds { OnOk result ((F : Cnf) (cubes : List Cube) (files : List (List ℕ)) (bytes written : List ℕ)
-            → Holds F cubes files bytes written self.old → Holds F cubes (files ++ bytes ∷ []) [] written self.new) }
+            → HasReadFiles F cubes files bytes written self.old → HasReadFiles F cubes (files ++ bytes ∷ []) [] written self.new) }
         ensures tells { IfOk result (λ e. (F : Cnf) (cubes : List Cube) (files : List (List ℕ)) (bytes written : List ℕ)
-            → Holds F cubes files bytes written self.old → TellsFile F cubes files bytes e) }
+            → HasReadFiles F cubes files bytes written self.old → IsFileOutcome F cubes files bytes e) }
     {
-        let reading = mem::replace(&mut self.reading, Reading::Begun);
+        let reading = mem::replace(&mut self.reading, FileState::Begun);
         let begun = mem::replace(&mut self.begun, LineBuffer::new(self.alloc));
         match reading {
-            Reading::Begun => Ok(FileEnd::ClosesNothing),
-            Reading::Log => match self.lines.checker.end(begun.as_slice()) {
+            FileState::Begun => Ok(FileOutcome::ClosesNothing),
+            FileState::Log => match self.lines.checker.end(begun.as_slice()) {
                 Ok(()) => accept(&mut self.lines),
                 Err(fault) => refuse(&mut self.lines, fault),
             },
-            Reading::Refused(fault) => refuse(&mut self.lines, fault),
-            Reading::Answer(reader) => answered(self.alloc, &self.formula, reader),
+            FileState::Refused(fault) => refuse(&mut self.lines, fault),
+            FileState::Answer(reader) => answered(self.alloc, &self.formula, reader),
         }
     }
 
-    /// The file cannot be read to its end: what was read of it closes nothing.
-    pub fn abandon(&mut self) -> Result<(), GatherFault>
+    /// Gives up the file, which cannot be read to its end: the bytes read of it close no leaf. After an Err the join is of no use.
+    pub fn abandon(&mut self) -> Result<(), LogJoinFault>
         ensures holds { OnOk result ((F : Cnf) (cubes : List Cube) (files : List (List ℕ)) (bytes written : List ℕ)
-            → Holds F cubes files bytes written self.old → Holds F cubes files [] written self.new) }
+            → HasReadFiles F cubes files bytes written self.old → HasReadFiles F cubes files [] written self.new) }
     {
-        let reading = mem::replace(&mut self.reading, Reading::Begun);
+        let reading = mem::replace(&mut self.reading, FileState::Begun);
         self.begun = LineBuffer::new(self.alloc);
         match reading {
-            Reading::Begun => Ok(()),
-            Reading::Log => leave(&mut self.lines),
-            Reading::Refused(_) => leave(&mut self.lines),
-            Reading::Answer(_) => Ok(()),
+            FileState::Begun => Ok(()),
+            FileState::Log => leave(&mut self.lines),
+            FileState::Refused(_) => leave(&mut self.lines),
+            FileState::Answer(_) => Ok(()),
         }
     }
 
-    /// The bytes of the proof that are not handed out yet.
+    /// The bytes of the proof that were written since the last call of `forget`.
     pub fn written(&self) -> &[u8]
         ensures { result.now ≡ self.now.lines.out.items }
     {
         &self.lines.out
     }
 
-    /// Those bytes are handed out.
+    /// Drops the bytes that `written` answers, after the caller has handed them out.
     pub fn forget(&mut self)
         ensures holds { (F : Cnf) (cubes : List Cube) (files : List (List ℕ)) (bytes written : List ℕ)
-            → Holds F cubes files bytes written self.old → Holds F cubes files bytes (written ++ self.old.lines.out.items) self.new }
+            → HasReadFiles F cubes files bytes written self.old → HasReadFiles F cubes files bytes (written ++ self.old.lines.out.items) self.new }
         ensures out { self.new.lines.out.items ≡ [] }
     {
         self.lines.out.clear();
     }
 
-    /// The report of a join whose leaves are not all closed: `notes`, a line for each leaf that is missing, and `s UNKNOWN`; 0.
-    fn unknown(&self, mut notes: Vec<u8>) -> Result<Report, GatherFault>
-        ensures { IfOk result (TellsOpen notes.items (leaves_of self.now.lines.gatherer)) }
+    /// The report if some leaf is open: `notes`, a line for each open leaf, and `s UNKNOWN`; status 0.
+    fn unknown(&self, mut notes: Vec<u8>) -> Result<Report, LogJoinFault>
+        ensures { IfOk result (ReportsMissing notes.items (leaves_of self.now.lines.joiner)) }
     {
-        let places = self.lines.gatherer.missing()?;
+        let places = self.lines.joiner.missing()?;
         put_missing(&mut notes, &places)?;
         answer_lines(Answer::Unknown, false, &mut notes)?;
         Ok(Report {
@@ -224,20 +225,20 @@ impl Join {
         })
     }
 
-    /// Ends the proof, between two files. `notes` are the lines that were printed of the files.
+    /// Ends the proof, after the last file. `notes` are the lines that were printed of the files.
     ///
-    /// The report has status 20 where every leaf is closed: then what was handed out, and behind it what is left to hand out, is a proof
-    /// of the formula that every checker accepts. Else, and where a file has not ended, it has status 0 and tells the leaves that are
-    /// missing.
-    pub fn finish(&mut self, mut notes: Vec<u8>) -> Result<Report, GatherFault>
+    /// The report has status 20 if every leaf is closed: then the bytes that were handed out, and after them those that `written` answers,
+    /// are a proof of the formula that every LRAT checker accepts. If a leaf is open, or a file has not ended, the report has status 0 and
+    /// names the open leaves.
+    pub fn finish(&mut self, mut notes: Vec<u8>) -> Result<Report, LogJoinFault>
         ensures concludes { IfOk result (λ r. (F : Cnf) (cubes : List Cube) (files : List (List ℕ)) (bytes written : List ℕ)
-            → Holds F cubes files bytes written self.old → Concludes F cubes files bytes written notes.items self.new r) }
+            → HasReadFiles F cubes files bytes written self.old → Concludes F cubes files bytes written notes.items self.new r) }
     {
         match self.reading {
-            Reading::Begun => {}
+            FileState::Begun => {}
             _ => return self.unknown(notes),
         }
-        match self.lines.gatherer.forks(&mut self.lines.out) {
+        match self.lines.joiner.forks(&mut self.lines.out) {
             Ok(()) => {
                 answer_lines(Answer::Unsatisfiable, false, &mut notes)?;
                 Ok(Report {
@@ -246,7 +247,7 @@ impl Join {
                     proof: None,
                 })
             }
-            Err(GatherFault::Open) => self.unknown(notes),
+            Err(LogJoinFault::Open) => self.unknown(notes),
             Err(fault) => Err(fault),
         }
     }

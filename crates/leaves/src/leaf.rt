@@ -1,4 +1,4 @@
-//! `leaf`: a leaf of a splitting tree as a formula of its own.
+//! `leaf`: prints the formula of a leaf, for any solver.
 
 ghost use Rattle.std.specs.Prelude.{◌≡◌, ◌≤◌, ◌∷◌, [], map, nat_eq, length, IfOk, IfSome, option_map, All};
 ghost use Rattle.std.specs.List.{IsDistinct};
@@ -12,10 +12,10 @@ use icnf::Tree;
 use reports::Report;
 use std::alloc::{AllocError, Global};
 
-/// What is printed where there is no such leaf.
+/// What is printed if there is no such leaf.
 pub(crate) const NO_LEAF: &[u8] = b"c no such leaf\n";
 
-/// The cube of the leaf of this number, from 1.
+/// The cube of the leaf of this number, from 1; None if there is no such leaf.
 pub(crate) fn cube_of(tree: &Tree, leaf: u64) -> Option<&[Lit]>
     ensures found { option_map (λ q. q.now) result ≡ leaf_at tree.now leaf }
     ensures short { IfSome result (λ q. length q.now ≤ 64) }
@@ -27,7 +27,7 @@ pub(crate) fn cube_of(tree: &Tree, leaf: u64) -> Option<&[Lit]>
     Some(tree.cube(leaf as usize - 1))
 }
 
-/// A unit clause for each literal of a cube.
+/// Builds a unit clause for each literal of a cube.
 fn units(alloc: Global, vars: u32, cube: &[Lit]) -> Result<Extension, AllocError>
     requires within { All (IsWithin vars) cube.now }
     requires short { length cube.now ≤ 64 }
@@ -41,7 +41,7 @@ fn units(alloc: Global, vars: u32, cube: &[Lit]) -> Result<Extension, AllocError
     Ok(builder.finish_extension(vars))
 }
 
-/// The formula of a leaf, or that it would be above a limit.
+/// The report of the formula of a leaf, status 0; or `c leaf above limit`, status 1, if that formula is above a limit.
 fn printed(alloc: Global, formula: &Formula, cube: &[Lit]) -> Result<Report, AllocError>
     requires within { All (IsWithin formula.now.vars) cube.now }
     requires short { length cube.now ≤ 64 }
@@ -58,8 +58,9 @@ fn printed(alloc: Global, formula: &Formula, cube: &[Lit]) -> Result<Report, All
     }
 }
 
-/// The report of the leaf of this number, from 1: its formula as DIMACS text, the formula's clauses and then a unit clause for each
-/// literal of the cube. The error stands for the report `c no memory`, status 1.
+/// The report of the leaf of this number, from 1: its formula as DIMACS text, which has the formula's clauses and then a unit clause for
+/// each literal of the cube, status 0. If there is no such leaf, or its formula is above a limit, the report says so, status 1. An error is
+/// reported as `c no memory`, status 1.
 pub fn run_leaf(alloc: Global, split: &Split, leaf: u64) -> Result<Report, AllocError>
     ensures { IfOk result (PrintsLeaf split.now.formula split.now.tree leaf) }
 {

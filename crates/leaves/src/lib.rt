@@ -1,34 +1,35 @@
-//! Leaves of a splitting tree as files: what `leaf`, `refute`, `lift` and `join` do, as functions of formulas, trees and bytes.
+//! The leaves of a splitting tree as files: what `leaf`, `refute`, `lift`, `join` and `cubes --split` do, as functions of formulas, trees
+//! and bytes.
 //!
-//! Whoever has machines of their own hands leaves out by any means, and brings back what was found. What a layer above may rest on: a
-//! refutation is a log over the formula that closes its leaf, and what is joined is one proof of the formula alone.
+//! With these files the leaves can be solved on any machines, and the results are then brought together. What a layer above may rest on: a
+//! refutation is a log over the formula that closes its leaf, and a join is a proof of the formula alone.
 #![tactic(auto)]
 
 mod block;
-mod closing;
-mod ending;
+mod block_lift;
+mod block_search;
+mod checked_lines;
+mod file_outcome;
 mod join;
 mod laws;
 mod leaf;
-mod lifting;
-mod lines;
-mod looking;
+mod leaf_lift;
+mod leaf_search;
+mod leaf_split;
+mod lookahead_split;
 mod notes;
-mod refuting;
-mod searching;
+mod search_session;
 mod split;
-mod splitting;
-mod turns;
 
-pub use closing::{LiftAll, put_leaf};
-pub use ending::FileEnd;
+pub use block_lift::{BlockLift, put_leaf};
+pub use block_search::run_refute_all;
+pub use file_outcome::FileOutcome;
 pub use join::Join;
-pub use laws::joins_stand;
+pub use laws::joined_leaves;
 pub use leaf::run_leaf;
-pub use lifting::{Lift, LiftEnd, lift_report};
-pub use looking::{run_look, run_split_by_look};
+pub use leaf_lift::{Lift, LiftOutcome, lift_report};
+pub use leaf_search::{SearchOptions, run_refute};
+pub use leaf_split::run_split;
+pub use lookahead_split::{run_look, run_split_by_look};
 pub use notes::{Note, put_missing, put_note};
-pub use refuting::{Search, run_refute};
 pub use split::{Split, SplitReader};
-pub use splitting::run_split;
-pub use turns::run_refute_all;

@@ -1,4 +1,4 @@
-//! What `join` and `cover` print of their files and leaves.
+//! The `c` lines that `join` and `cover` print of their files and leaves.
 
 ghost use Rattle.std.specs.Prelude.{◌≡◌, ◌++◌, ◌+◌, ◌<◌, ◌^◌, OnOk, flat_map, All, codes, decimal};
 ghost use Rattle.leaves.specs.Notes.{fault_said, missing_line, missing_text, name_text, note_text, said, shown_byte};
@@ -6,28 +6,29 @@ ghost use Rattle.leaves.specs.Notes.{fault_said, missing_line, missing_text, nam
 use reports::put_number;
 use std::alloc::AllocError;
 
+/// The hexadecimal digits, by their values.
 const HEX: &[u8] = b"0123456789ABCDEF";
 
-/// What is told of a file.
+/// What the line of a file says of the file.
 #[derive(Clone, Copy, Debug, PartialEq, Eq)]
 pub enum Note {
-    /// It has the fault of this number, in this line.
+    /// The file's first fault has this number, in this line, from 1.
     Fault { line: u64, number: u8 },
-    /// It is in binary form, and has the fault of this number, in this step.
+    /// The file is binary, and its first fault has this number, in this step, from 1.
     StepFault { step: u64, number: u8 },
-    /// It is right, and closes no leaf that was open.
+    /// The file has no fault, and closes no open leaf.
     ClosesNothing,
-    /// It cannot be opened, or not be read to its end.
+    /// The file cannot be opened, or cannot be read to its end.
     Unread,
-    /// It is no receipt: this line cannot stand there, or the file ends in it.
+    /// The file is no receipt: this line, from 1, is not one of a receipt, or the file ends in this line.
     NoReceipt { line: u64 },
-    /// It is a receipt over another formula.
+    /// The file is a receipt over another formula.
     OtherFormula,
-    /// It has more bytes than are taken.
+    /// The file has more bytes than `cover` reads.
     TooLong,
 }
 
-/// Appends a byte of a name: `%` and two digits, where it is not printed as it is.
+/// Appends a byte of a file's name: as it is if it is printable ASCII except `%`, and else as `%` and two hexadecimal digits.
 fn put_byte(out: &mut Vec<u8>, byte: u8) -> Result<(), AllocError>
     ensures { OnOk result (out.new.items ≡ out.old.items ++ shown_byte byte) }
 {
@@ -41,7 +42,7 @@ fn put_byte(out: &mut Vec<u8>, byte: u8) -> Result<(), AllocError>
     Ok(())
 }
 
-/// Appends a name, so that no name can print a line of its own.
+/// Appends a file's name, escaped, so that no name can print a line of its own.
 fn put_name(out: &mut Vec<u8>, name: &[u8]) -> Result<(), AllocError>
     ensures { OnOk result (out.new.items ≡ out.old.items ++ name_text name.now) }
 {
@@ -51,7 +52,7 @@ fn put_name(out: &mut Vec<u8>, name: &[u8]) -> Result<(), AllocError>
     Ok(())
 }
 
-/// Appends a fault, behind the word for its place.
+/// Appends a fault: the words `place`, the line or step `at`, from 1, and the fault's number.
 fn put_fault(out: &mut Vec<u8>, place: &[u8], at: u64, number: u8) -> Result<(), AllocError>
     ensures { OnOk result (out.new.items ≡ out.old.items ++ fault_said place.now at number) }
 {
@@ -61,7 +62,7 @@ fn put_fault(out: &mut Vec<u8>, place: &[u8], at: u64, number: u8) -> Result<(),
     put_number(out, u64::from(number))
 }
 
-/// Appends a number, behind the words for it.
+/// Appends the words, and then the number `at`.
 fn put_at(out: &mut Vec<u8>, words: &[u8], at: u64) -> Result<(), AllocError>
     ensures { OnOk result (out.new.items ≡ out.old.items ++ (words.now ++ decimal at)) }
 {
@@ -69,7 +70,7 @@ fn put_at(out: &mut Vec<u8>, words: &[u8], at: u64) -> Result<(), AllocError>
     put_number(out, at)
 }
 
-/// Appends what is told of a file, in words.
+/// Appends a note in words.
 fn put_said(out: &mut Vec<u8>, note: Note) -> Result<(), AllocError>
     ensures { OnOk result (out.new.items ≡ out.old.items ++ said note) }
 {
@@ -84,7 +85,7 @@ fn put_said(out: &mut Vec<u8>, note: Note) -> Result<(), AllocError>
     }
 }
 
-/// Appends the line of a file, by its number among the names, from 1, and its name.
+/// Appends the line of a file: the file's number among the names, from 1, the note, and the name.
 pub fn put_note(out: &mut Vec<u8>, file: u64, note: Note, name: &[u8]) -> Result<(), AllocError>
     ensures { OnOk result (out.new.items ≡ out.old.items ++ note_text file note name.now) }
 {
@@ -96,7 +97,7 @@ pub fn put_note(out: &mut Vec<u8>, file: u64, note: Note, name: &[u8]) -> Result
     out.extend_from_slice(b"\n")
 }
 
-/// Appends the line of a leaf that nothing closes, by its place, from 0.
+/// Appends the line of the missing leaf at the index `place`, from 0. Appends nothing if the leaf's number is above 64 bits.
 fn put_leaf(out: &mut Vec<u8>, place: usize) -> Result<(), AllocError>
     ensures { OnOk result (place + 1 < 2 ^ 64 → out.new.items ≡ out.old.items ++ missing_line place) }
 {
@@ -108,7 +109,7 @@ fn put_leaf(out: &mut Vec<u8>, place: usize) -> Result<(), AllocError>
     out.extend_from_slice(b" missing\n")
 }
 
-/// Appends the lines of the leaves that nothing closes, by their places, from 0.
+/// Appends a line for each of the missing leaves, by their indices, from 0.
 pub fn put_missing(out: &mut Vec<u8>, places: &[usize]) -> Result<(), AllocError>
     ensures { OnOk result (All (λ p. p + 1 < 2 ^ 64) places.now → out.new.items ≡ out.old.items ++ missing_text places.now) }
 {

@@ -1,17 +1,19 @@
-//! A formula, and the tree by which it is split.
+//! A formula with its splitting tree, and the reader of both.
 
 ghost use Rattle.std.specs.Prelude.{◌≡◌, ◌++◌, ℕ, List, [], IfOk};
 ghost use Rattle.dimacs.specs.logic.Cnf.{Cnf, AreWithin, greatest_in};
-ghost use Rattle.leaves.specs.inner.Reading.{IsReading};
+ghost use Rattle.leaves.specs.inner.SplitReader.{HasReadSomeText};
 
 use dimacs::Formula;
 use icnf::{CubesFault, Tree, TreeReader};
 use std::alloc::{AllocError, Global};
 
-/// A formula, and a tree whose variables are those of its clauses.
+/// A formula, and a splitting tree over variables of its clauses.
 #[derive(Drop)]
 pub struct Split {
+    /// The formula.
     pub(crate) formula: Formula,
+    /// The tree.
     pub(crate) tree: Tree,
     ghost within: { AreWithin formula.vars tree },
     ghost among: { AreWithin (greatest_in formula.clauses) tree },
@@ -33,14 +35,15 @@ impl Split {
     }
 }
 
-/// What reads the tree of a formula from an iCNF text that comes in pieces and has the formula's clauses.
+/// Reads the tree of a formula from an iCNF text, which has the formula's clauses and the cubes. The text comes in pieces.
 pub struct SplitReader {
+    /// The formula whose clauses the text has to have.
     formula: Formula,
+    /// Reads the text's clauses and cubes.
     reader: TreeReader,
-    ghost reading: { ∥ IsReading formula reader ∥₁ },
+    ghost reading: { ∥ HasReadSomeText formula reader ∥₁ },
 }
 
-// By hand, so that whoever owns one drops it by one call, and no proof there goes through its parts.
 impl Drop for SplitReader {
     fn drop(self) {
         let SplitReader {
@@ -51,9 +54,9 @@ impl Drop for SplitReader {
 }
 
 impl SplitReader {
-    ghost use Rattle.leaves.specs.Reading.{HasReadText, TellsSplit};
+    ghost use Rattle.leaves.specs.SplitReader.{HasReadText, TellsSplit};
 
-    /// Has read no byte. The formula's clauses are shared, not copied.
+    /// A reader that has read no byte. The formula's clauses are shared, not copied.
     pub fn new(alloc: Global, formula: Formula) -> Result<SplitReader, AllocError>
         ensures { IfOk result (HasReadText formula []) }
     {
@@ -61,15 +64,15 @@ impl SplitReader {
         Ok(SplitReader { formula, reader })
     }
 
-    /// Reads the next piece. A fault is kept for `finish`.
+    /// Reads the next piece of the text. A fault is kept for `finish`.
     pub fn feed(&mut self, piece: &[u8])
         ensures { (F : Cnf) (bytes : List ℕ) → HasReadText F bytes self.old → HasReadText F (bytes ++ piece.now) self.new }
     {
         self.reader.feed(piece);
     }
 
-    /// The formula with the tree that the text spells, where no further byte comes and the text's clauses are the formula's; or the first
-    /// fault of the text, which is told before that its clauses are others.
+    /// Ends the text, and answers the formula with the tree that the text spells. Err has the first fault of the text; or, if it has none,
+    /// that its clauses are not those of the formula.
     pub fn finish(self) -> Result<Split, CubesFault>
         ensures { (F : Cnf) (bytes : List ℕ) → HasReadText F bytes self → TellsSplit F bytes result }
     {

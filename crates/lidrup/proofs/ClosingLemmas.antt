@@ -13,8 +13,8 @@ use Rattle.lrat_check.proofs.LogLines.{HasTakenLog, log_taken}
 use Rattle.lrat_text.specs.Grammar.{LineSpells}
 use Rattle.lrat_text.specs.Log.{Cube}
 use Rattle.lrat_text.specs.declared.step.Step.{Step}
-use Rattle.lidrup.specs.CubeLog.{ClosesCube, IsClosed, IsEnded, LeadsTo, Stands}
-use Rattle.lidrup.specs.Lidrup.{ClosesQuery, IsClosing, Negates, State, closing_of, lidrup_of}
+use Rattle.lidrup.specs.CubeLog.{ClosesCube, IsClosed, IsEnded, LeadsTo, HasLogged}
+use Rattle.lidrup.specs.Lidrup.{ClosesQuery, IsClosing, Negates, LidrupState, closing_of, lidrup_of}
 use Rattle.lidrup.specs.View.{state_of}
 use Rattle.lidrup.specs.declared.cube_log.CubeLog.{CubeLog}
 use Rattle.lidrup.proofs.LogLemmas.{ends_ok, stands_base}
@@ -65,12 +65,12 @@ closing_not m live number q C lives not k =
     not (subst (Negates q) same k.negates)
 
 -- what is told of a query is told of the text
-pub closes_text : (F : Cnf) (bytes written : List ℕ) (x : CubeLog) (query : ℕ) (q : Cube) (b : Bool) → IsEnded x → Stands F bytes written x → MatchBool b (IsClosed x query q) (¬ (IsClosed x query q))
+pub closes_text : (F : Cnf) (bytes written : List ℕ) (x : CubeLog) (query : ℕ) (q : Cube) (b : Bool) → IsEnded x → HasLogged F bytes written x → MatchBool b (IsClosed x query q) (¬ (IsClosed x query q))
     → MatchBool b (ClosesQuery F bytes query q) (¬ (ClosesQuery F bytes query q))
 closes_text F bytes written x query q b e s =
     match_weaker b (IsClosed x query q) (¬ (IsClosed x query q)) (ClosesQuery F bytes query q) (¬ (ClosesQuery F bytes query q)) to (λ not k. not (back k))
   where
-    state : State
+    state : LidrupState
     state = state_of x.lines.known
 
     comes : lidrup_of F bytes ≡ Ok (written ++ x.lines.out.items, state)
@@ -91,5 +91,5 @@ closes_text F bytes written x query q b e s =
     back k =
         let both : Ok (written ++ x.lines.out.items, state) ≡ Ok (k.log, k.state) = sym comes ∙ k.comes in
         let pair : (written ++ x.lines.out.items, state) ≡ (k.log, k.state) = cc in
-        let same : k.state ≡ state = sym (ap (λ (p : List ℕ × State). p.1) pair) in
-        record { fine = e.fine; closing = subst (λ (m : ℕ). IsClosing m state.live (closing_of state query) q) (sym base) (subst (λ (t : State). IsClosing (length F.clauses) t.live (closing_of t query) q) same k.closing) }
+        let same : k.state ≡ state = sym (ap (λ (p : List ℕ × LidrupState). p.1) pair) in
+        record { fine = e.fine; closing = subst (λ (m : ℕ). IsClosing m state.live (closing_of state query) q) (sym base) (subst (λ (t : LidrupState). IsClosing (length F.clauses) t.live (closing_of t query) q) same k.closing) }

@@ -1,24 +1,24 @@
--- The log of many cubes, beside the bytes of it that are handed out.
+-- The log of many cubes, and the bytes of it that are handed out.
 use Rattle.std.proofs.Common.{◌≡◌, ◌⊎◌, inl, inr, ℕ, ◌∙◌, true, false, List, [], ◌∷◌, ◌++◌, Option, Some, None, Ok, Err, eqb, refl, sym, ap, subst, append_assoc, length, arith}
 use Rattle.std.specs.Prelude.{is_some}
 use Rattle.std.proofs.lemmas.Bool.{both_ways, ne_eqb}
 use Rattle.std.proofs.lemmas.List.{append-nil}
 use Rattle.std.proofs.lemmas.List.Elements.{All-nil}
 use Rattle.dimacs.specs.logic.Cnf.{Cnf}
-use Rattle.lrat_check.specs.Checking.{no_memory}
+use Rattle.lrat_check.specs.ProofFaults.{no_memory}
 use Rattle.lrat_check.specs.Logs.{IsBegun, LogState, SpellsLog, TakesLogLine}
-use Rattle.lrat_check.specs.declared.checking.CheckFault.{CheckFault}
+use Rattle.lrat_check.specs.declared.line_checker.CheckFault.{CheckFault}
 use Rattle.lrat_check.proofs.LogLines.{HasTakenLog, hands_piece, log_taken}
 use Rattle.lrat_text.specs.Grammar.{LineSpells}
 use Rattle.lrat_text.specs.Lines.{IsOpen}
-use Rattle.lrat_text.specs.Taking.{HandsOn}
+use Rattle.lrat_text.specs.LineSink.{HandsOn}
 use Rattle.lrat_text.specs.declared.step.Step.{Step}
-use Rattle.lidrup.specs.CubeLog.{LeadsTo, Stands, EndsAs, by_kept, text_after}
-use Rattle.lidrup.specs.Lidrup.{State, Text, begun, behind, lidrup_end, lidrup_of, lidrup_text, refused}
+use Rattle.lidrup.specs.CubeLog.{LeadsTo, HasLogged, EndsAs, by_kept, text_after}
+use Rattle.lidrup.specs.Lidrup.{LidrupState, LidrupResult, begun, prepend, lidrup_end, lidrup_of, lidrup_text, refused}
 use Rattle.lidrup.specs.View.{state_of}
-use Rattle.lidrup.specs.inner.Acting.{Leads, LeadsToFault}
+use Rattle.lidrup.specs.inner.LineEffects.{Leads, LeadsToFault}
 use Rattle.lidrup.specs.declared.cube_log.CubeLog.{CubeLog}
-use Rattle.lidrup.specs.declared.known.Known.{Known}
+use Rattle.lidrup.specs.declared.translator.Translator.{Translator}
 use Rattle.lidrup.proofs.StreamLemmas.{behind_append, behind_none, hands_none, text-end}
 
 pub no_fault : (o : Option CheckFault) → is_some o ≡ false → o ≡ None
@@ -31,37 +31,37 @@ some_fault (Some f) e n = absurd cc
 
 -- ---- the beginning
 pub stands_begun : (F : Cnf) (x : CubeLog) → x.fault ≡ None → x.begun ≡ [] → x.lines.out.items ≡ [] → x.lines.line ≡ 1 → state_of x.lines.known ≡ begun F → IsBegun F x.lines.known.log.checker
-    → Stands F [] [] x
+    → HasLogged F [] [] x
 stands_begun F x fine none out line state log = record {
   taken = inr (λ more.
       sym (ap (λ f. by_kept f (lidrup_text x.lines.known.log.checker.base (state_of x.lines.known) x.lines.line (x.begun ++ more))) fine
       ∙ ap (λ (b : List ℕ). lidrup_text x.lines.known.log.checker.base (state_of x.lines.known) x.lines.line (b ++ more)) none
       ∙ ap (λ n. lidrup_text x.lines.known.log.checker.base (state_of x.lines.known) n more) line
-      ∙ ap (λ (s : State). lidrup_text x.lines.known.log.checker.base s 1 more) state
+      ∙ ap (λ (s : LidrupState). lidrup_text x.lines.known.log.checker.base s 1 more) state
       ∙ ap (λ b. lidrup_text b (begun F) 1 more) log.base)
       ∙ sym (behind_none (text_after x more))
-      ∙ ap (λ (o : List ℕ). behind o (text_after x more)) (sym out));
+      ∙ ap (λ (o : List ℕ). prepend o (text_after x more)) (sym out));
   log = λ f. subst (λ (o : List ℕ). LeadsTo F o x.lines.known.log.checker) (sym out) (record { start = x.lines.known.log.checker; begun = log; hands = hands_none x.lines.known.log.checker });
 }
 
 -- ---- pieces
 pub stands_more : (F : Cnf) (bytes written piece : List ℕ) (old new : CubeLog) → old.fault ≡ None → new.fault ≡ None → Leads old.begun old.lines piece new.begun new.lines
-    → Stands F bytes written old → Stands F (bytes ++ piece) written new
+    → HasLogged F bytes written old → HasLogged F (bytes ++ piece) written new
 stands_more F bytes written piece old new was fine l s = record { taken = at s.taken; log = λ e. logs (s.log was) }
   where
-    taken : ((more : List ℕ) → lidrup_of F (bytes ++ more) ≡ behind (written ++ old.lines.out.items) (text_after old more)) → (more : List ℕ)
-        → lidrup_of F ((bytes ++ piece) ++ more) ≡ behind (written ++ new.lines.out.items) (text_after new more)
+    taken : ((more : List ℕ) → lidrup_of F (bytes ++ more) ≡ prepend (written ++ old.lines.out.items) (text_after old more)) → (more : List ℕ)
+        → lidrup_of F ((bytes ++ piece) ++ more) ≡ prepend (written ++ new.lines.out.items) (text_after new more)
     taken h more =
         ap (lidrup_of F) (append_assoc bytes piece more)
         ∙ h (piece ++ more)
-        ∙ ap (λ f. behind (written ++ old.lines.out.items) (by_kept f (lidrup_text old.lines.known.log.checker.base (state_of old.lines.known) old.lines.line (old.begun ++ (piece ++ more))))) was
-        ∙ ap (behind (written ++ old.lines.out.items)) (l.goes_on more)
+        ∙ ap (λ f. prepend (written ++ old.lines.out.items) (by_kept f (lidrup_text old.lines.known.log.checker.base (state_of old.lines.known) old.lines.line (old.begun ++ (piece ++ more))))) was
+        ∙ ap (prepend (written ++ old.lines.out.items)) (l.goes_on more)
         ∙ sym (behind_append (written ++ old.lines.out.items) l.made _)
-        ∙ ap (λ (o : List ℕ). behind o (lidrup_text new.lines.known.log.checker.base (state_of new.lines.known) new.lines.line (new.begun ++ more))) (append_assoc written old.lines.out.items l.made ∙ ap (λ (o : List ℕ). written ++ o) (sym l.out))
-        ∙ ap (λ f. behind (written ++ new.lines.out.items) (by_kept f (lidrup_text new.lines.known.log.checker.base (state_of new.lines.known) new.lines.line (new.begun ++ more)))) (sym fine)
+        ∙ ap (λ (o : List ℕ). prepend o (lidrup_text new.lines.known.log.checker.base (state_of new.lines.known) new.lines.line (new.begun ++ more))) (append_assoc written old.lines.out.items l.made ∙ ap (λ (o : List ℕ). written ++ o) (sym l.out))
+        ∙ ap (λ f. prepend (written ++ new.lines.out.items) (by_kept f (lidrup_text new.lines.known.log.checker.base (state_of new.lines.known) new.lines.line (new.begun ++ more)))) (sym fine)
 
-    at : (old.fault ≡ Some no_memory) ⊎ ((more : List ℕ) → lidrup_of F (bytes ++ more) ≡ behind (written ++ old.lines.out.items) (text_after old more))
-        → (new.fault ≡ Some no_memory) ⊎ ((more : List ℕ) → lidrup_of F ((bytes ++ piece) ++ more) ≡ behind (written ++ new.lines.out.items) (text_after new more))
+    at : (old.fault ≡ Some no_memory) ⊎ ((more : List ℕ) → lidrup_of F (bytes ++ more) ≡ prepend (written ++ old.lines.out.items) (text_after old more))
+        → (new.fault ≡ Some no_memory) ⊎ ((more : List ℕ) → lidrup_of F ((bytes ++ piece) ++ more) ≡ prepend (written ++ new.lines.out.items) (text_after new more))
     at (inl e) = absurd (let no : ◌≡◌ {A = Option CheckFault} None (Some no_memory) = sym was ∙ e in cc)
     at (inr h) = inr (taken h)
 
@@ -75,36 +75,36 @@ stands_more F bytes written piece old new was fine l s = record { taken = at s.t
 
 -- a fault is kept from now on
 pub stands_fault : (F : Cnf) (bytes written piece : List ℕ) (old new : CubeLog) (fault : CheckFault) → old.fault ≡ None → new.fault ≡ Some fault → LeadsToFault old.begun old.lines piece fault
-    → Stands F bytes written old → Stands F (bytes ++ piece) written new
+    → HasLogged F bytes written old → HasLogged F (bytes ++ piece) written new
 stands_fault F bytes written piece old new fault was is l s = record { taken = at l s.taken; log = λ none. absurd (let no : ◌≡◌ {A = Option CheckFault} (Some fault) None = sym is ∙ none in cc) }
   where
-    at : LeadsToFault old.begun old.lines piece fault → (old.fault ≡ Some no_memory) ⊎ ((more : List ℕ) → lidrup_of F (bytes ++ more) ≡ behind (written ++ old.lines.out.items) (text_after old more))
-        → (new.fault ≡ Some no_memory) ⊎ ((more : List ℕ) → lidrup_of F ((bytes ++ piece) ++ more) ≡ behind (written ++ new.lines.out.items) (text_after new more))
+    at : LeadsToFault old.begun old.lines piece fault → (old.fault ≡ Some no_memory) ⊎ ((more : List ℕ) → lidrup_of F (bytes ++ more) ≡ prepend (written ++ old.lines.out.items) (text_after old more))
+        → (new.fault ≡ Some no_memory) ⊎ ((more : List ℕ) → lidrup_of F ((bytes ++ piece) ++ more) ≡ prepend (written ++ new.lines.out.items) (text_after new more))
     at (inl e) t = inl (is ∙ ap (λ (f : CheckFault). Some f) e)
     at (inr stops) (inl e) = absurd (let no : ◌≡◌ {A = Option CheckFault} None (Some no_memory) = sym was ∙ e in cc)
     at (inr stops) (inr h) = inr (λ more.
         ap (lidrup_of F) (append_assoc bytes piece more)
         ∙ h (piece ++ more)
-        ∙ ap (λ f. behind (written ++ old.lines.out.items) (by_kept f (lidrup_text old.lines.known.log.checker.base (state_of old.lines.known) old.lines.line (old.begun ++ (piece ++ more))))) was
-        ∙ ap (behind (written ++ old.lines.out.items)) (stops more)
-        ∙ ap (λ f. behind (written ++ new.lines.out.items) (by_kept f (lidrup_text new.lines.known.log.checker.base (state_of new.lines.known) new.lines.line (new.begun ++ more)))) (sym is))
+        ∙ ap (λ f. prepend (written ++ old.lines.out.items) (by_kept f (lidrup_text old.lines.known.log.checker.base (state_of old.lines.known) old.lines.line (old.begun ++ (piece ++ more))))) was
+        ∙ ap (prepend (written ++ old.lines.out.items)) (stops more)
+        ∙ ap (λ f. prepend (written ++ new.lines.out.items) (by_kept f (lidrup_text new.lines.known.log.checker.base (state_of new.lines.known) new.lines.line (new.begun ++ more)))) (sym is))
 
 -- a fault that is kept stays
-pub stands_kept : (F : Cnf) (bytes written piece : List ℕ) (x : CubeLog) → is_some x.fault ≡ true → Stands F bytes written x → Stands F (bytes ++ piece) written x
+pub stands_kept : (F : Cnf) (bytes written piece : List ℕ) (x : CubeLog) → is_some x.fault ≡ true → HasLogged F bytes written x → HasLogged F (bytes ++ piece) written x
 stands_kept F bytes written piece x kept s = record { taken = at s.taken; log = λ none. some_fault x.fault kept none }
   where
-    same : (o : Option CheckFault) → is_some o ≡ true → (a b : Text) → by_kept o a ≡ by_kept o b
+    same : (o : Option CheckFault) → is_some o ≡ true → (a b : LidrupResult) → by_kept o a ≡ by_kept o b
     same None e a b = absurd cc
     same (Some f) e a b = refl
 
-    at : (x.fault ≡ Some no_memory) ⊎ ((more : List ℕ) → lidrup_of F (bytes ++ more) ≡ behind (written ++ x.lines.out.items) (text_after x more))
-        → (x.fault ≡ Some no_memory) ⊎ ((more : List ℕ) → lidrup_of F ((bytes ++ piece) ++ more) ≡ behind (written ++ x.lines.out.items) (text_after x more))
+    at : (x.fault ≡ Some no_memory) ⊎ ((more : List ℕ) → lidrup_of F (bytes ++ more) ≡ prepend (written ++ x.lines.out.items) (text_after x more))
+        → (x.fault ≡ Some no_memory) ⊎ ((more : List ℕ) → lidrup_of F ((bytes ++ piece) ++ more) ≡ prepend (written ++ x.lines.out.items) (text_after x more))
     at (inl e) = inl e
-    at (inr h) = inr (λ more. ap (lidrup_of F) (append_assoc bytes piece more) ∙ h (piece ++ more) ∙ ap (behind (written ++ x.lines.out.items)) (same x.fault kept _ _))
+    at (inr h) = inr (λ more. ap (lidrup_of F) (append_assoc bytes piece more) ∙ h (piece ++ more) ∙ ap (prepend (written ++ x.lines.out.items)) (same x.fault kept _ _))
 
 -- bytes are handed out
 pub stands_out : (F : Cnf) (bytes written : List ℕ) (old new : CubeLog) → new.fault ≡ old.fault → new.begun ≡ old.begun → new.lines.known ≡ old.lines.known → new.lines.line ≡ old.lines.line → new.lines.out.items ≡ []
-    → Stands F bytes written old → Stands F bytes (written ++ old.lines.out.items) new
+    → HasLogged F bytes written old → HasLogged F bytes (written ++ old.lines.out.items) new
 stands_out F bytes written old new fault begun known line out s = record { taken = at s.taken; log = λ e. logs (s.log (sym fault ∙ e)) }
   where
     all : (written ++ old.lines.out.items) ++ new.lines.out.items ≡ written ++ old.lines.out.items
@@ -115,15 +115,15 @@ stands_out F bytes written old new fault begun known line out s = record { taken
         ap (λ f. by_kept f (lidrup_text new.lines.known.log.checker.base (state_of new.lines.known) new.lines.line (new.begun ++ more))) fault
         ∙ ap (λ (b : List ℕ). by_kept old.fault (lidrup_text new.lines.known.log.checker.base (state_of new.lines.known) new.lines.line (b ++ more))) begun
         ∙ ap (λ n. by_kept old.fault (lidrup_text new.lines.known.log.checker.base (state_of new.lines.known) n (old.begun ++ more))) line
-        ∙ ap (λ (k : Known). by_kept old.fault (lidrup_text k.log.checker.base (state_of k) old.lines.line (old.begun ++ more))) known
+        ∙ ap (λ (k : Translator). by_kept old.fault (lidrup_text k.log.checker.base (state_of k) old.lines.line (old.begun ++ more))) known
 
-    at : (old.fault ≡ Some no_memory) ⊎ ((more : List ℕ) → lidrup_of F (bytes ++ more) ≡ behind (written ++ old.lines.out.items) (text_after old more))
-        → (new.fault ≡ Some no_memory) ⊎ ((more : List ℕ) → lidrup_of F (bytes ++ more) ≡ behind ((written ++ old.lines.out.items) ++ new.lines.out.items) (text_after new more))
+    at : (old.fault ≡ Some no_memory) ⊎ ((more : List ℕ) → lidrup_of F (bytes ++ more) ≡ prepend (written ++ old.lines.out.items) (text_after old more))
+        → (new.fault ≡ Some no_memory) ⊎ ((more : List ℕ) → lidrup_of F (bytes ++ more) ≡ prepend ((written ++ old.lines.out.items) ++ new.lines.out.items) (text_after new more))
     at (inl e) = inl (fault ∙ e)
-    at (inr h) = inr (λ more. h more ∙ ap (behind (written ++ old.lines.out.items)) (sym (same more)) ∙ ap (λ (o : List ℕ). behind o (text_after new more)) (sym all))
+    at (inr h) = inr (λ more. h more ∙ ap (prepend (written ++ old.lines.out.items)) (sym (same more)) ∙ ap (λ (o : List ℕ). prepend o (text_after new more)) (sym all))
 
     logs : LeadsTo F (written ++ old.lines.out.items) old.lines.known.log.checker → LeadsTo F ((written ++ old.lines.out.items) ++ new.lines.out.items) new.lines.known.log.checker
-    logs k = subst (λ (o : List ℕ). LeadsTo F o new.lines.known.log.checker) (sym all) (subst (λ (n : Known). LeadsTo F (written ++ old.lines.out.items) n.log.checker) (sym known) k)
+    logs k = subst (λ (o : List ℕ). LeadsTo F o new.lines.known.log.checker) (sym all) (subst (λ (n : Translator). LeadsTo F (written ++ old.lines.out.items) n.log.checker) (sym known) k)
 
 -- ---- the end
 leads_spells : (F : Cnf) (text : List ℕ) (s : LogState) → LeadsTo F text s → SpellsLog F text
@@ -133,7 +133,7 @@ leads_spells F text s l =
     (taken.0, subst (λ (x : List ℕ). LineSpells x taken.0) (sym (h.whole ∙ append-nil h.front)) h.spelled, h.log)
 
 -- the checker's formula has as many clauses
-pub stands_base : (F : Cnf) (bytes written : List ℕ) (x : CubeLog) → x.fault ≡ None → Stands F bytes written x → x.lines.known.log.checker.base ≡ length F.clauses
+pub stands_base : (F : Cnf) (bytes written : List ℕ) (x : CubeLog) → x.fault ≡ None → HasLogged F bytes written x → x.lines.known.log.checker.base ≡ length F.clauses
 stands_base F bytes written x fine s =
     let l = s.log fine in
     let taken : (steps : List Step) × HasTakenLog F (written ++ x.lines.out.items) steps x.lines.known.log.checker [] =
@@ -141,46 +141,46 @@ stands_base F bytes written x fine s =
     taken.1.base
 
 -- what is known at the end of a text without a fault that ends so
-at_end : (F : Cnf) (bytes written : List ℕ) (x : CubeLog) → x.fault ≡ None → IsOpen x.begun → Stands F bytes written x
-    → lidrup_of F bytes ≡ behind (written ++ x.lines.out.items) (lidrup_end (state_of x.lines.known) x.lines.line x.begun)
+at_end : (F : Cnf) (bytes written : List ℕ) (x : CubeLog) → x.fault ≡ None → IsOpen x.begun → HasLogged F bytes written x
+    → lidrup_of F bytes ≡ prepend (written ++ x.lines.out.items) (lidrup_end (state_of x.lines.known) x.lines.line x.begun)
 at_end F bytes written x fine bare s = at s.taken
   where
-    at : (x.fault ≡ Some no_memory) ⊎ ((more : List ℕ) → lidrup_of F (bytes ++ more) ≡ behind (written ++ x.lines.out.items) (text_after x more))
-        → lidrup_of F bytes ≡ behind (written ++ x.lines.out.items) (lidrup_end (state_of x.lines.known) x.lines.line x.begun)
+    at : (x.fault ≡ Some no_memory) ⊎ ((more : List ℕ) → lidrup_of F (bytes ++ more) ≡ prepend (written ++ x.lines.out.items) (text_after x more))
+        → lidrup_of F bytes ≡ prepend (written ++ x.lines.out.items) (lidrup_end (state_of x.lines.known) x.lines.line x.begun)
     at (inl e) = absurd (let no : ◌≡◌ {A = Option CheckFault} None (Some no_memory) = sym fine ∙ e in cc)
     at (inr h) =
         ap (lidrup_of F) (sym (append-nil bytes))
         ∙ h []
-        ∙ ap (λ f. behind (written ++ x.lines.out.items) (by_kept f (lidrup_text x.lines.known.log.checker.base (state_of x.lines.known) x.lines.line (x.begun ++ [])))) fine
-        ∙ ap (λ (b : List ℕ). behind (written ++ x.lines.out.items) (lidrup_text x.lines.known.log.checker.base (state_of x.lines.known) x.lines.line b)) (append-nil x.begun)
-        ∙ ap (behind (written ++ x.lines.out.items)) (text-end x.lines.known.log.checker.base (state_of x.lines.known) x.lines.line x.begun bare)
+        ∙ ap (λ f. prepend (written ++ x.lines.out.items) (by_kept f (lidrup_text x.lines.known.log.checker.base (state_of x.lines.known) x.lines.line (x.begun ++ [])))) fine
+        ∙ ap (λ (b : List ℕ). prepend (written ++ x.lines.out.items) (lidrup_text x.lines.known.log.checker.base (state_of x.lines.known) x.lines.line b)) (append-nil x.begun)
+        ∙ ap (prepend (written ++ x.lines.out.items)) (text-end x.lines.known.log.checker.base (state_of x.lines.known) x.lines.line x.begun bare)
 
-pub ends_ok : (F : Cnf) (bytes written : List ℕ) (x : CubeLog) → x.fault ≡ None → x.begun ≡ [] → Stands F bytes written x → EndsAs F bytes (written ++ x.lines.out.items) (state_of x.lines.known) (Ok tt)
+pub ends_ok : (F : Cnf) (bytes written : List ℕ) (x : CubeLog) → x.fault ≡ None → x.begun ≡ [] → HasLogged F bytes written x → EndsAs F bytes (written ++ x.lines.out.items) (state_of x.lines.known) (Ok tt)
 ends_ok F bytes written x fine none s = record {
   comes =
       at_end F bytes written x fine (subst (λ (b : List ℕ). IsOpen b) (sym none) (All-nil (λ b. eqb b 10 ≡ false))) s
-      ∙ ap (λ (b : List ℕ). behind (written ++ x.lines.out.items) (lidrup_end (state_of x.lines.known) x.lines.line b)) none
+      ∙ ap (λ (b : List ℕ). prepend (written ++ x.lines.out.items) (lidrup_end (state_of x.lines.known) x.lines.line b)) none
       ∙ ap (λ (o : List ℕ). Ok (o, state_of x.lines.known)) (append-nil (written ++ x.lines.out.items));
   is_log = leads_spells F (written ++ x.lines.out.items) x.lines.known.log.checker (s.log fine);
 }
 
-pub ends_cut : (F : Cnf) (bytes written : List ℕ) (x : CubeLog) → x.fault ≡ None → IsOpen x.begun → eqb (length x.begun) 0 ≡ false → Stands F bytes written x
+pub ends_cut : (F : Cnf) (bytes written : List ℕ) (x : CubeLog) → x.fault ≡ None → IsOpen x.begun → eqb (length x.begun) 0 ≡ false → HasLogged F bytes written x
     → lidrup_of F bytes ≡ refused 1 x.lines.line 2
 ends_cut F bytes written x fine bare some s = at_end F bytes written x fine bare s ∙ at x.begun some
   where
-    at : (b : List ℕ) → eqb (length b) 0 ≡ false → behind (written ++ x.lines.out.items) (lidrup_end (state_of x.lines.known) x.lines.line b) ≡ refused 1 x.lines.line 2
+    at : (b : List ℕ) → eqb (length b) 0 ≡ false → prepend (written ++ x.lines.out.items) (lidrup_end (state_of x.lines.known) x.lines.line b) ≡ refused 1 x.lines.line 2
     at [] e = absurd (both_ways (eqb 0 0) e refl)
     at (b ∷ bs) e = refl
 
-pub ends_fault : (F : Cnf) (bytes written : List ℕ) (x : CubeLog) (fault : CheckFault) → x.fault ≡ Some fault → Stands F bytes written x → EndsAs F bytes (written ++ x.lines.out.items) (state_of x.lines.known) (Err fault)
+pub ends_fault : (F : Cnf) (bytes written : List ℕ) (x : CubeLog) (fault : CheckFault) → x.fault ≡ Some fault → HasLogged F bytes written x → EndsAs F bytes (written ++ x.lines.out.items) (state_of x.lines.known) (Err fault)
 ends_fault F bytes written x fault is s = at s.taken
   where
-    at : (x.fault ≡ Some no_memory) ⊎ ((more : List ℕ) → lidrup_of F (bytes ++ more) ≡ behind (written ++ x.lines.out.items) (text_after x more)) → EndsAs F bytes (written ++ x.lines.out.items) (state_of x.lines.known) (Err fault)
+    at : (x.fault ≡ Some no_memory) ⊎ ((more : List ℕ) → lidrup_of F (bytes ++ more) ≡ prepend (written ++ x.lines.out.items) (text_after x more)) → EndsAs F bytes (written ++ x.lines.out.items) (state_of x.lines.known) (Err fault)
     at (inl e) = inl (let same : ◌≡◌ {A = Option CheckFault} (Some fault) (Some no_memory) = sym is ∙ e in cc)
     at (inr h) = inr (
         ap (lidrup_of F) (sym (append-nil bytes))
         ∙ h []
-        ∙ ap (λ f. behind (written ++ x.lines.out.items) (by_kept f (lidrup_text x.lines.known.log.checker.base (state_of x.lines.known) x.lines.line (x.begun ++ [])))) is)
+        ∙ ap (λ f. prepend (written ++ x.lines.out.items) (by_kept f (lidrup_text x.lines.known.log.checker.base (state_of x.lines.known) x.lines.line (x.begun ++ [])))) is)
 
 pub none_begun : (b : List ℕ) → eqb (length b) 0 ≡ true → b ≡ []
 none_begun [] e = refl

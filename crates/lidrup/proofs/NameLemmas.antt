@@ -1,4 +1,4 @@
--- Which number of the log the clause of a foreign number has.
+-- The log's numbers of the foreign clauses.
 use mathlib.Core.Path.{fun_ext}
 use Rattle.std.proofs.Common.{◌≡◌, ◌≢◌, ℕ, ◌%◌, ◌<◌, ◌⊎◌, inl, inr, List, Option, Some, cond, sym, ◌∙◌, ap, length, get_or, set, eqb, arith}
 use Rattle.std.specs.Prelude.{slice_get}
@@ -10,7 +10,7 @@ use Rattle.std.proofs.lemmas.List.{get_or-set_same, get_or-set_other, length-set
 use Rattle.std.proofs.lemmas.Bool.{cases_eq, eq-eqb, ne_eqb, cases_lt}
 use Rattle.std.proofs.lemmas.Bool.Decides.{nat_tests}
 use Rattle.lidrup.specs.Lidrup.{Names, with_name}
-use Rattle.lidrup.specs.Naming.{name_in_map, name_in_maps, number_in}
+use Rattle.lidrup.specs.NameMaps.{name_in_map, name_in_maps, number_in}
 use Rattle.lidrup.specs.declared.log_number.LogNumber.{LogNumber}
 
 is_at_number : (k q : ℕ) → is_at (nat_cmp k) q ≡ eqb k q

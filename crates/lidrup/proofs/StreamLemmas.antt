@@ -5,30 +5,30 @@ use Rattle.std.specs.List.{All, slice_split}
 use Rattle.std.proofs.lemmas.List.{append-nil}
 use Rattle.std.proofs.lemmas.List.Elements.{All-head, All-nil, All-tail}
 use Rattle.std.proofs.lemmas.List.Splits.{slice_split_none, slice_split_at}
-use Rattle.lrat_check.specs.Checking.{no_memory}
+use Rattle.lrat_check.specs.ProofFaults.{no_memory}
 use Rattle.lrat_check.specs.Logs.{LogState, TakesLogLine}
-use Rattle.lrat_check.specs.declared.checking.CheckFault.{CheckFault}
+use Rattle.lrat_check.specs.declared.line_checker.CheckFault.{CheckFault}
 use Rattle.lrat_check.proofs.Lines.{is_lf, first_piece}
 use Rattle.lrat_check.proofs.LogLines.{hands_piece}
 use Rattle.lrat_text.specs.Lines.{IsCut, IsOpen}
-use Rattle.lrat_text.specs.Taking.{TakesAll, HandsOn, Refuses as LineRefused, ended}
-use Rattle.lidrup.specs.Lidrup.{State, Text, behind, by_pieces, lidrup_end, lidrup_line, lidrup_pieces, lidrup_text}
+use Rattle.lrat_text.specs.LineSink.{TakesAll, HandsOn, LineRefused, ended_lines}
+use Rattle.lidrup.specs.Lidrup.{LidrupState, LidrupResult, prepend, by_pieces, lidrup_end, lidrup_line, lidrup_pieces, lidrup_text}
 use Rattle.lidrup.specs.View.{state_of}
-use Rattle.lidrup.specs.inner.Acting.{Takes, Refuses, LineStops, Leads, LeadsToFault}
-use Rattle.lidrup.specs.declared.lines.CubeLines.{CubeLines}
+use Rattle.lidrup.specs.inner.LineEffects.{TakesLidrupLine, RefusesLidrupLine, LineFails, Leads, LeadsToFault}
+use Rattle.lidrup.specs.declared.cube_lines.CubeLines.{CubeLines}
 
--- ---- bytes behind others
-pub behind_none : (t : Text) → behind [] t ≡ t
+-- ---- bytes after others
+pub behind_none : (t : LidrupResult) → prepend [] t ≡ t
 behind_none (Ok rest) = refl
 behind_none (Err fault) = refl
 
-pub behind_append : (a b : List ℕ) (t : Text) → behind (a ++ b) t ≡ behind a (behind b t)
+pub behind_append : (a b : List ℕ) (t : LidrupResult) → prepend (a ++ b) t ≡ prepend a (prepend b t)
 behind_append a b (Ok rest) = ap (λ (x : List ℕ). Ok (x, rest.1)) (append_assoc a b rest.0)
 behind_append a b (Err fault) = refl
 
 -- ---- lines
--- the text goes on behind a line
-pub text-line : (m : ℕ) (s : State) (n : ℕ) (line rest : List ℕ) → All (λ b. is_lf b ≡ false) line
+-- the text goes on after a line
+pub text-line : (m : ℕ) (s : LidrupState) (n : ℕ) (line rest : List ℕ) → All (λ b. is_lf b ≡ false) line
     → lidrup_text m s n (line ++ 10 ∷ rest) ≡ lidrup_line m s n line (λ t. lidrup_text m t (n + 1) rest)
 unfolding lidrup_text lidrup_pieces
 text-line m s n line rest none =
@@ -38,13 +38,13 @@ text-line m s n line rest none =
     ∙ ap (lidrup_line m s n line)
     (fun_ext (λ t. sym (ap (by_pieces (lidrup_pieces m t (n + 1))) more.2)))
 
--- and ends where no line is left
-pub text-end : (m : ℕ) (s : State) (n : ℕ) (text : List ℕ) → All (λ b. is_lf b ≡ false) text → lidrup_text m s n text ≡ lidrup_end s n text
+-- and ends if no line is left
+pub text-end : (m : ℕ) (s : LidrupState) (n : ℕ) (text : List ℕ) → All (λ b. is_lf b ≡ false) text → lidrup_text m s n text ≡ lidrup_end s n text
 unfolding lidrup_text lidrup_pieces
 text-end m s n text none = ap (by_pieces (lidrup_pieces m s n)) (slice_split_none is_lf text none)
 
 -- what the text that follows comes to
-abbrev pub text_in : CubeLines → List ℕ → Text
+abbrev pub text_in : CubeLines → List ℕ → LidrupResult
 text_in c text = lidrup_text c.known.log.checker.base (state_of c.known) c.line text
 
 moved : (c d : CubeLines) (text : List ℕ) → d.known.log.checker.base ≡ c.known.log.checker.base → d.line ≡ c.line + 1
@@ -60,12 +60,12 @@ record Runs (s : CubeLines) (text : List ℕ) (t : CubeLines) : Type 0 where
   made : List ℕ
   out : t.out.items ≡ s.out.items ++ made
   hands : HandsOn TakesLogLine s.known.log.checker made t.known.log.checker []
-  goes_on : (more : List ℕ) → text_in s (text ++ more) ≡ behind made (text_in t more)
+  goes_on : (more : List ℕ) → text_in s (text ++ more) ≡ prepend made (text_in t more)
 
 run_none : (s : CubeLines) → Runs s [] s
 run_none s = record { made = []; out = sym (append-nil s.out.items); hands = hands_none s.known.log.checker; goes_on = λ more. sym (behind_none (text_in s more)) }
 
-run_all : (lines : List (List ℕ)) (s t : CubeLines) → All IsOpen lines → TakesAll Takes s lines t → Runs s (ended lines) t
+run_all : (lines : List (List ℕ)) (s t : CubeLines) → All IsOpen lines → TakesAll TakesLidrupLine s lines t → Runs s (ended_lines lines) t
 run_all [] s t each e = subst (λ (u : CubeLines). Runs s [] u) e (run_none s)
 run_all (line ∷ lines) s t each (m, takes, later) =
     let rest = run_all lines m t (All-tail IsOpen line lines each) later in
@@ -74,15 +74,15 @@ run_all (line ∷ lines) s t each (m, takes, later) =
       out = rest.out ∙ ap (λ (x : List ℕ). x ++ rest.made) takes.out ∙ append_assoc s.out.items takes.made rest.made;
       hands = hands_piece TakesLogLine s.known.log.checker takes.made m.known.log.checker [] rest.made t.known.log.checker [] takes.hands rest.hands;
       goes_on = λ more.
-          ap (text_in s) (append_assoc line (10 ∷ ended lines) more)
-          ∙ text-line s.known.log.checker.base (state_of s.known) s.line line (ended lines ++ more) (All-head IsOpen line lines each)
-          ∙ takes.goes_on (λ u. lidrup_text s.known.log.checker.base u (s.line + 1) (ended lines ++ more))
-          ∙ ap (behind takes.made) (moved s m (ended lines ++ more) takes.base takes.next ∙ rest.goes_on more)
+          ap (text_in s) (append_assoc line (10 ∷ ended_lines lines) more)
+          ∙ text-line s.known.log.checker.base (state_of s.known) s.line line (ended_lines lines ++ more) (All-head IsOpen line lines each)
+          ∙ takes.goes_on (λ u. lidrup_text s.known.log.checker.base u (s.line + 1) (ended_lines lines ++ more))
+          ∙ ap (prepend takes.made) (moved s m (ended_lines lines ++ more) takes.base takes.next ∙ rest.goes_on more)
           ∙ sym (behind_append takes.made rest.made (text_in t more));
     }
 
 -- the begun line and a piece
-pub hands_lead : (begun : List ℕ) (s : CubeLines) (piece rest : List ℕ) (t : CubeLines) → HandsOn Takes s (begun ++ piece) t rest → Leads begun s piece rest t
+pub hands_lead : (begun : List ℕ) (s : CubeLines) (piece rest : List ℕ) (t : CubeLines) → HandsOn TakesLidrupLine s (begun ++ piece) t rest → Leads begun s piece rest t
 hands_lead begun s piece rest t h =
     let w = run_all h.lines s t h.one_by_one h.taken in
     record {
@@ -90,21 +90,21 @@ hands_lead begun s piece rest t h =
       out = w.out;
       hands = w.hands;
       goes_on = λ more.
-          ap (text_in s) (sym (append_assoc begun piece more) ∙ ap (λ (x : List ℕ). x ++ more) h.whole ∙ append_assoc (ended h.lines) rest more)
+          ap (text_in s) (sym (append_assoc begun piece more) ∙ ap (λ (x : List ℕ). x ++ more) h.whole ∙ append_assoc (ended_lines h.lines) rest more)
           ∙ w.goes_on (rest ++ more);
     }
 
 -- a line that is refused
-refused_text : (s : CubeLines) (rest line later : List ℕ) (fault : CheckFault) → IsCut rest line later → LineStops s line fault → (more : List ℕ) → text_in s (rest ++ more) ≡ Err fault
+refused_text : (s : CubeLines) (rest line later : List ℕ) (fault : CheckFault) → IsCut rest line later → LineFails s line fault → (more : List ℕ) → text_in s (rest ++ more) ≡ Err fault
 refused_text s rest line later fault cut stops more =
     ap (λ (x : List ℕ). text_in s (x ++ more)) cut.0
     ∙ ap (text_in s) (append_assoc line (10 ∷ later) more)
     ∙ text-line s.known.log.checker.base (state_of s.known) s.line line (later ++ more) cut.1
     ∙ stops (λ t. lidrup_text s.known.log.checker.base t (s.line + 1) (later ++ more))
 
-pub refused_leads : (begun : List ℕ) (s : CubeLines) (piece : List ℕ) (t : CubeLines) (fault : CheckFault) → LineRefused Takes Refuses s (begun ++ piece) t fault → LeadsToFault begun s piece fault
+pub refused_leads : (begun : List ℕ) (s : CubeLines) (piece : List ℕ) (t : CubeLines) (fault : CheckFault) → LineRefused TakesLidrupLine RefusesLidrupLine s (begun ++ piece) t fault → LeadsToFault begun s piece fault
 refused_leads begun s piece t fault (m, rest, line, later, h, cut, refuses) = at refuses
   where
-    at : (fault ≡ no_memory) ⊎ LineStops m line fault → LeadsToFault begun s piece fault
+    at : (fault ≡ no_memory) ⊎ LineFails m line fault → LeadsToFault begun s piece fault
     at (inl e) = inl e
-    at (inr stops) = inr (λ more. (hands_lead begun s piece rest m h).goes_on more ∙ ap (behind (hands_lead begun s piece rest m h).made) (refused_text m rest line later fault cut stops more))
+    at (inr stops) = inr (λ more. (hands_lead begun s piece rest m h).goes_on more ∙ ap (prepend (hands_lead begun s piece rest m h).made) (refused_text m rest line later fault cut stops more))

@@ -1,6 +1,6 @@
 pub mod CubeLog
 pub mod Lidrup
 pub mod Lines
-pub mod Naming
+pub mod NameMaps
 pub mod View
 pub mod inner

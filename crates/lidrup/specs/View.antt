@@ -1,13 +1,15 @@
--- What the code holds, as the definitions see it.
-use Rattle.lidrup.specs.Lidrup.{Names, State}
-use Rattle.lidrup.specs.Naming.{name_in_maps, number_or_0}
-use Rattle.lidrup.specs.declared.known.Known.{Known}
+-- The fields of a translator as the state of which the definitions speak.
+use Rattle.lidrup.specs.Lidrup.{Names, LidrupState}
+use Rattle.lidrup.specs.NameMaps.{name_in_maps, number_or_0}
+use Rattle.lidrup.specs.declared.translator.Translator.{Translator}
 use Rattle.lidrup.specs.declared.names.Names.{Names as Table}
 
+-- the names that the code's table holds
 abbrev pub names_of : Table → Names
 names_of x = name_in_maps x.maps.items
 
-abbrev pub state_of : Known → State
+-- the state between two lines, from the fields of a translator
+abbrev pub state_of : Translator → LidrupState
 state_of x = record {
   names = names_of x.names;
   last = x.last;

@@ -1,4 +1,4 @@
 -- What only private contracts, invariants and proofs name. Nothing here is to be believed.
-pub mod Acting
+pub mod LineEffects
 pub mod Faults
-pub mod Refusing
+pub mod LogSteps

@@ -1,28 +1,27 @@
-//! The log of many cubes.
+//! The log that a LIDRUP text of many cubes becomes; the text comes in pieces.
 
 ghost use Rattle.std.specs.Prelude.{◌≡◌, ◌++◌, ℕ, List, [], IfOk, OnOk, IfErr, MatchBool};
 ghost use Rattle.std.specs.Bool.{OnTrue};
 ghost use Rattle.dimacs.specs.logic.Cnf.{Cnf};
-ghost use Rattle.lidrup.specs.CubeLog.{ClosesCube, EndsAs, IsClosed, IsEnded, KeepsLog, Stands};
+ghost use Rattle.lidrup.specs.CubeLog.{ClosesCube, EndsAs, IsClosed, IsEnded, KeepsLog, HasLogged};
 ghost use Rattle.lidrup.specs.Lidrup.{ClosesQuery, IsClosing, Negates};
 ghost use Rattle.lidrup.specs.View.{state_of};
-ghost use Rattle.lidrup.specs.inner.Acting.{Leads, LeadsToFault};
+ghost use Rattle.lidrup.specs.inner.LineEffects.{Leads, LeadsToFault};
 
-use crate::known::Known;
-use crate::lines::CubeLines;
+use crate::cube_lines::CubeLines;
+use crate::translator::Translator;
 use dimacs::{Formula, Lit, has_literal};
 use lrat_check::{CheckFault, LogChecker};
 use lrat_text::{LineBuffer, PieceFault, StepBuffer};
 use std::alloc::{AllocError, Global};
 
-/// The log that a LIDRUP text comes to, which comes in pieces. It keeps the live clauses, and which number each foreign one has.
+/// Makes a log of a LIDRUP text that comes in pieces. It keeps the live clauses, and the log's number of each live foreign clause.
 pub struct CubeLog {
     pub(crate) lines: CubeLines,
     pub(crate) begun: LineBuffer,
     pub(crate) fault: Option<CheckFault>,
 }
 
-// By hand, so that whoever owns one drops it by one call, and no proof there goes through its parts.
 impl Drop for CubeLog {
     fn drop(self) {
         let CubeLog {
@@ -33,7 +32,7 @@ impl Drop for CubeLog {
     }
 }
 
-/// Takes a piece behind the line that is begun.
+/// Takes a piece, which follows the bytes of the unfinished line. `Err` with the fault of the first line that is refused.
 fn take_piece(begun: &mut LineBuffer, lines: &mut CubeLines, piece: &[u8]) -> Result<(), CheckFault>
     ensures took { OnOk result (Leads begun.old lines.old piece.now begun.new lines.new) }
     ensures refused { IfErr result (LeadsToFault begun.old lines.old piece.now) }
@@ -46,11 +45,11 @@ fn take_piece(begun: &mut LineBuffer, lines: &mut CubeLines, piece: &[u8]) -> Re
 }
 
 impl CubeLog {
-    /// No byte was taken of a text over the formula.
+    /// Makes the empty log over the formula, before the first byte of a text.
     pub fn of(alloc: Global, formula: Formula) -> Result<CubeLog, AllocError>
-        ensures { IfOk result (Stands formula [] []) }
+        ensures { IfOk result (HasLogged formula [] []) }
     {
-        let known = Known::of(alloc, formula)?;
+        let known = Translator::of(alloc, formula)?;
         Ok(CubeLog {
             lines: CubeLines {
                 known,
@@ -64,7 +63,7 @@ impl CubeLog {
         })
     }
 
-    /// Takes the next piece. A fault is kept for `finish`.
+    /// Takes the next piece. The first fault is kept for `finish`; after it pieces are ignored.
     pub fn feed(&mut self, piece: &[u8])
         ensures { KeepsLog piece.now self.old self.new }
     {
@@ -77,24 +76,24 @@ impl CubeLog {
         }
     }
 
-    /// The bytes of the log that are not handed out yet.
+    /// The bytes of the log that were written since the last call of `forget`.
     pub fn written(&self) -> &[u8]
         ensures { result.now ≡ self.now.lines.out.items }
     {
         &self.lines.out
     }
 
-    /// Those bytes are handed out.
+    /// Drops the bytes of `written`, after they were handed out.
     pub fn forget(&mut self)
-        ensures stands { (F : Cnf) (bytes written : List ℕ) → Stands F bytes written self.old → Stands F bytes (written ++ self.old.lines.out.items) self.new }
+        ensures stands { (F : Cnf) (bytes written : List ℕ) → HasLogged F bytes written self.old → HasLogged F bytes (written ++ self.old.lines.out.items) self.new }
         ensures out { self.new.lines.out.items ≡ [] }
     {
         self.lines.out.clear();
     }
 
-    /// Where no further byte comes: what was written is the log that the text comes to; or the text's first fault.
+    /// Returns what the text becomes if no further byte comes: `Ok` if the bytes written are its log; else the text's first fault.
     pub fn finish(&self) -> Result<(), CheckFault>
-        ensures ends { (F : Cnf) (bytes written : List ℕ) → Stands F bytes written self.now → EndsAs F bytes (written ++ self.now.lines.out.items) (state_of self.now.lines.known) result }
+        ensures ends { (F : Cnf) (bytes written : List ℕ) → HasLogged F bytes written self.now → EndsAs F bytes (written ++ self.now.lines.out.items) (state_of self.now.lines.known) result }
         ensures ended { OnOk result (IsEnded self.now) }
     {
         if let Some(fault) = self.fault {
@@ -110,13 +109,13 @@ impl CubeLog {
         })
     }
 
-    /// Whether the lemma that closes the cube of a query of the text, counted from 0, closes this cube; no where a line was refused.
+    /// Tells whether the lemma that closes the cube of a query closes this cube. Queries are counted from 0. False if a line was refused.
     pub fn closes(&self, query: usize, cube: &[Lit]) -> bool
         ensures which { MatchBool result (IsClosed self.now query cube.now) (¬ (IsClosed self.now query cube.now)) }
-        // so it is by the definition, where the text has ended
-        ensures text { (F : Cnf) (bytes written : List ℕ) → IsEnded self.now → Stands F bytes written self.now → MatchBool result (ClosesQuery F bytes query cube.now) (¬ (ClosesQuery F bytes query cube.now)) }
-        // the log has such a lemma then
-        ensures closes { OnTrue result ((F : Cnf) (bytes written : List ℕ) → Stands F bytes written self.now → ClosesCube F cube.now (written ++ self.now.lines.out.items)) }
+        // after a whole text: exactly if the closing lemma of the text's definition closes the cube
+        ensures text { (F : Cnf) (bytes written : List ℕ) → IsEnded self.now → HasLogged F bytes written self.now → MatchBool result (ClosesQuery F bytes query cube.now) (¬ (ClosesQuery F bytes query cube.now)) }
+        // if the answer is true, a lemma of the log closes the cube
+        ensures closes { OnTrue result ((F : Cnf) (bytes written : List ℕ) → HasLogged F bytes written self.now → ClosesCube F cube.now (written ++ self.now.lines.out.items)) }
     {
         if self.fault.is_some() {
             return false;
@@ -129,7 +128,7 @@ impl CubeLog {
     }
 }
 
-/// Whether a lemma of the log is live under this number, and has negations of the cube's literals alone.
+/// Tells whether a lemma of the log is live under this number and closes the cube: all its literals are negations of the cube's.
 fn has_closing(log: &LogChecker, number: u64, cube: &[Lit]) -> bool
     ensures { MatchBool result (IsClosing log.now.base log.now.live number cube.now) (¬ (IsClosing log.now.base log.now.live number cube.now)) }
 {
@@ -142,7 +141,7 @@ fn has_closing(log: &LogChecker, number: u64, cube: &[Lit]) -> bool
     }
 }
 
-/// Whether each literal of a clause is the negation of one of the cube's.
+/// Tells whether each literal of a clause is the negation of one of the cube's.
 fn negates(cube: &[Lit], clause: &[Lit]) -> bool
     ensures { MatchBool result (Negates cube.now clause.now) (¬ (Negates cube.now clause.now)) }
 {

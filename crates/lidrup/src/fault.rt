@@ -1,4 +1,4 @@
-//! Why a line is refused.
+//! The faults of a line of a LIDRUP text: why it is refused.
 
 ghost use Rattle.std.specs.Prelude.{◌≡◌};
 ghost use Rattle.lidrup.specs.inner.Faults.{line_refusal};
@@ -8,18 +8,18 @@ use lrat_check::CheckFault;
 use lrat_text::TextFault;
 use std::alloc::{AllocError, AllocFailed};
 
-/// The first fault of a line.
+/// The first fault of a line, or that memory was refused.
 #[derive(Clone, Copy)]
 pub(crate) enum LineFault {
-    /// The line says nothing that a line can.
+    /// The line is no line of LIDRUP.
     Text(TextFault),
-    /// A number is not above those before it.
+    /// A foreign number is not above those before it.
     NumberNotRising,
-    /// A hint or a closing lemma is not there.
+    /// A hint names no clause, or no lemma closed a cube.
     UnknownClause,
-    /// The line of the log that it comes to has the fault of this number.
+    /// The step of the log that the line becomes has the fault of this number.
     OfLog(u8),
-    /// A growth was refused, or a number has no room.
+    /// Memory was refused, or a number is too great.
     NoMemory,
 }
 
@@ -39,7 +39,7 @@ impl<T: Drop> From<AllocFailed<T>> for LineFault {
     }
 }
 
-/// The fault of the line of this number.
+/// Returns the fault of the line of this number that is refused; `NoMemory` has no line.
 pub(crate) fn refused(fault: LineFault, line: u64) -> CheckFault
     ensures { result ≡ line_refusal fault line }
 {

@@ -1,11 +1,11 @@
-//! The kinds of lines, and the line of LRAT text that says what a line says.
+//! The kinds of LIDRUP lines, and the line of LRAT text that stands for a line.
 
 ghost use Rattle.std.specs.Prelude.{◌≡◌, OnOk, slice_index};
 ghost use Rattle.lidrup.specs.Lines.{body_of, is_silent as silent, kind_of, lrat_line};
 
 use std::alloc::AllocError;
 
-/// The kinds of lines that say what a line of LRAT text can say.
+/// The kinds of lines for which a line of LRAT text can stand.
 #[derive(Clone, Copy)]
 pub(crate) enum StepKind {
     /// `i`: a clause is given.
@@ -14,23 +14,23 @@ pub(crate) enum StepKind {
     Learnt,
     /// `u`: the cube of the last query is closed.
     Closed,
-    /// `d`: clauses go.
+    /// `d`: clauses are deleted.
     Deleted,
 }
 
-/// What a line begins with.
+/// The kind of a line, by its first letter.
 #[derive(Clone, Copy)]
 pub(crate) enum Kind {
     Step(StepKind),
     /// `q`: a cube is asked for.
     Asked,
-    /// Nothing is said.
+    /// The line has no effect.
     Silent,
-    /// No line begins so.
+    /// No line has this letter.
     Unknown,
 }
 
-/// Whether a line that begins so says nothing.
+/// Tells whether lines with this first letter have no effect.
 fn is_silent(letter: u8) -> bool
     ensures { result ≡ silent letter }
 {
@@ -44,7 +44,7 @@ fn is_silent(letter: u8) -> bool
         || letter == b'e'
 }
 
-/// The kind of the lines that begin with this byte.
+/// Returns the kind of the lines with this first letter.
 fn kind_of_letter(letter: u8) -> Kind
     ensures { result ≡ kind_of letter }
 {
@@ -65,7 +65,7 @@ fn kind_of_letter(letter: u8) -> Kind
     }
 }
 
-/// The kind of a line.
+/// Returns the kind of a line, by its first letter.
 pub(crate) fn kind_of_line(line: &[u8]) -> Kind
     ensures { result ≡ kind_of (slice_index line.now 0) }
 {
@@ -75,7 +75,7 @@ pub(crate) fn kind_of_line(line: &[u8]) -> Kind
     kind_of_letter(line[0])
 }
 
-/// What stands behind the letter and a space.
+/// Returns the bytes of a line after its letter and a space; none if no space follows the letter.
 fn body(line: &[u8]) -> &[u8]
     ensures { result.now ≡ body_of line.now }
 {
@@ -85,7 +85,7 @@ fn body(line: &[u8]) -> &[u8]
     &line[2..]
 }
 
-/// Leaves the line of LRAT text that says what a line of this kind says.
+/// Leaves in `spelled` the line of LRAT text that stands for a line of this kind.
 pub(crate) fn spell(kind: StepKind, line: &[u8], spelled: &mut Vec<u8>) -> Result<(), AllocError>
     ensures { OnOk result (spelled.new.items ≡ lrat_line kind line.now) }
 {

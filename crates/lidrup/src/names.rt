@@ -1,25 +1,25 @@
-//! Which number of the log the clause of a foreign number has.
+//! The log's numbers of the live foreign clauses, by foreign number.
 
 ghost use Rattle.std.specs.Prelude.{◌≡◌, ◌%◌, ◌<◌, ℕ, None, Some, OnOk, OnErr, IfOk, option_map, vec_len};
 ghost use Rattle.lidrup.specs.Lidrup.{with_name};
-ghost use Rattle.lidrup.specs.Naming.{name_in_map, number_in};
+ghost use Rattle.lidrup.specs.NameMaps.{name_in_map, number_in};
 
 use crate::log_number::LogNumber;
 use std::alloc::{AllocError, Global};
 use std::collections::BTreeMap;
 
-/// How many maps the numbers are spread over.
+/// The number of maps to which the numbers are hashed.
 const MAPS: u64 = 8192;
 
-/// The log's numbers of the live clauses, by their foreign numbers. A number's map is that of its remainder. Numbers follow each other
-/// closely, so that few are in one map, and one is found there by a look or two.
+/// The log's numbers of the live clauses, by foreign number: a hash table of ordered maps, where the hash is the remainder by 8,192.
+/// Numbers follow each other closely, so each map is small and a look-up takes a step or two.
 #[derive(Drop)]
 pub(crate) struct Names {
     pub(crate) maps: Vec<BTreeMap<u64, LogNumber>>,
     ghost whole: { vec_len maps ≡ 8192 },
 }
 
-/// The map of a number.
+/// Returns the index of a foreign number's map: the remainder by 8,192.
 #[inline(always)]
 fn place(number: u64) -> usize
     ensures is { result ≡ number % 8192 }
@@ -28,7 +28,7 @@ fn place(number: u64) -> usize
     (number % MAPS) as usize
 }
 
-/// The name of a number in a map.
+/// Returns the log's number for a foreign number, looked up in that number's map; `None` if the number names no clause.
 #[inline(always)]
 fn find(map: &BTreeMap<u64, LogNumber>, number: u64) -> Option<LogNumber>
     ensures { number_in result ≡ name_in_map (Some map.now) number }
@@ -39,7 +39,7 @@ fn find(map: &BTreeMap<u64, LogNumber>, number: u64) -> Option<LogNumber>
     }
 }
 
-/// The number is named. Memory is wanting only for one that was not.
+/// Sets the log's number of a foreign number in that number's map. Memory is refused only if the foreign number is new.
 fn insert(map: &mut BTreeMap<u64, LogNumber>, number: u64, own: LogNumber) -> Result<(), AllocError>
     ensures named { OnOk result (name_in_map (Some map.new) ≡ with_name (name_in_map (Some map.old)) number (Some own.number)) }
     ensures only { OnErr result (name_in_map (Some map.old) number ≡ None) }
@@ -48,7 +48,7 @@ fn insert(map: &mut BTreeMap<u64, LogNumber>, number: u64, own: LogNumber) -> Re
     Ok(())
 }
 
-/// The number names nothing.
+/// Removes a foreign number from that number's map.
 fn take(map: &mut BTreeMap<u64, LogNumber>, number: u64)
     ensures { name_in_map (Some map.new) ≡ with_name (name_in_map (Some map.old)) number None }
 {
@@ -58,7 +58,7 @@ fn take(map: &mut BTreeMap<u64, LogNumber>, number: u64)
 impl Names {
     ghost use Rattle.lidrup.specs.View.{names_of};
 
-    /// No number names a clause.
+    /// Makes a table in which no number names a clause.
     pub(crate) fn new(alloc: Global) -> Result<Names, AllocError>
         ensures { IfOk result (λ x. (n : ℕ) → names_of x n ≡ None) }
     {
@@ -69,7 +69,7 @@ impl Names {
         Ok(Names { maps })
     }
 
-    /// The log's number of a clause, if the number names one.
+    /// Returns the log's number of the clause that a foreign number names; `None` if it names none.
     #[inline(always)]
     pub(crate) fn get(&self, number: u64) -> Option<LogNumber>
         ensures { number_in result ≡ names_of self.now number }
@@ -77,7 +77,7 @@ impl Names {
         find(&self.maps[place(number)], number)
     }
 
-    /// A number names a clause. Memory is wanting only for one that named none.
+    /// Names a clause of the log by a foreign number. Memory is refused only if the foreign number named none.
     pub(crate) fn put(&mut self, number: u64, own: LogNumber) -> Result<(), AllocError>
         ensures named { OnOk result (names_of self.new ≡ with_name (names_of self.old) number (Some own.number)) }
         ensures only { OnErr result (names_of self.old number ≡ None) }
@@ -85,7 +85,7 @@ impl Names {
         insert(&mut self.maps[place(number)], number, own)
     }
 
-    /// A number names nothing any more.
+    /// Removes a foreign number, which then names no clause.
     pub(crate) fn remove(&mut self, number: u64)
         ensures { names_of self.new ≡ with_name (names_of self.old) number None }
     {

@@ -1,4 +1,4 @@
-//! Foreign numbers of hints and of deletions as numbers of the log.
+//! Translates foreign numbers of hints and deletions to numbers of the log.
 
 ghost use Rattle.std.specs.Prelude.{◌≡◌, ◌≤◌, ◌++◌, ◌∷◌, [], All, OnErr, OnOk, IfOk, Some, None, if◌then◌else◌, vec_capacity, vec_len};
 ghost use Rattle.lrat_text.specs.Grammar.{IsClauseNumber};
@@ -9,7 +9,7 @@ use crate::log_number::LogNumber;
 use crate::names::Names;
 use std::alloc::AllocError;
 
-/// Puts a number of the log behind others. Memory is wanting only if there was no room.
+/// Appends a number of the log. Memory is refused only if the vector was full.
 pub(crate) fn put(number: LogNumber, numbers: &mut Vec<u64>) -> Result<(), AllocError>
     requires { All IsClauseNumber numbers.old.items }
     ensures put { OnOk result (numbers.new.items ≡ numbers.old.items ++ number.number ∷ []) }
@@ -20,7 +20,7 @@ pub(crate) fn put(number: LogNumber, numbers: &mut Vec<u64>) -> Result<(), Alloc
     Ok(())
 }
 
-/// Leaves the log's numbers of the hints, and says whether each names a clause.
+/// Leaves the log's numbers of the hints in `numbers`, and tells whether each hint names a clause.
 pub(crate) fn translate(
     names: &Names,
     hints: &[u64],
@@ -39,7 +39,7 @@ pub(crate) fn translate(
     Ok(true)
 }
 
-/// The numbers name nothing any more. Leaves those of the log's own lemmas among them.
+/// Removes the foreign numbers `ids`. Leaves in `numbers` the log's numbers of those of their clauses that are lemmas: above `clauses`.
 pub(crate) fn forget(
     names: &mut Names,
     clauses: u64,

@@ -1,2 +1,2 @@
 pub mod LinkedLemmas
-mod ObservedLemmas
+mod CountLemmas

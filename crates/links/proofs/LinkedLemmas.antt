@@ -25,7 +25,7 @@ none_missing es (suc place) count whole (inr beyond) =
 pub linked_at : {T : Type 0} (es : List (Option T)) (x : T) (worker place : ℕ) → worker ≡ place + 1 → map (λ e. is_some e) (set es place (Some x)) ≡ set (map (λ e. is_some e) es) (worker - 1) true
 linked_at es x worker place e = map-set (λ e. is_some e) es place (Some x) ∙ ap (λ n. set (map (λ e. is_some e) es) n true) (omega (arith, e))
 
--- one more worker, who is not linked either
+-- one more worker, which is not linked either
 pub none_linked : {T : Type 0} (es fs : List (Option T)) (n : ℕ) → map (λ e. is_some e) es ≡ replicate n false → fs ≡ es ++ None ∷ [] → map (λ e. is_some e) fs ≡ replicate (n + 1) false
 none_linked es fs n before more =
     ap (map (λ e. is_some e)) more ∙ map-append (λ e. is_some e) es (None ∷ []) ∙ ap (λ l. l ++ false ∷ []) before ∙ replicate-append-replicate n 1 false

@@ -5,7 +5,7 @@ use Rattle.std.specs.Prelude.{ℕ, ◌+◌, ◌-◌, ◌^◌, if◌then◌else�
 abbrev pub one_more : ℕ → ℕ
 one_more n = if nat_lt n (2 ^ 64 - 1) then n + 1 else n
 
--- a counter of the calls that answered `Err`
+-- a counter after a call: one higher if the call answered `Err`
 abbrev pub one_more_if_err : {A E : Type 0} → Result A E → ℕ → ℕ
 one_more_if_err (Ok x) n = n
 one_more_if_err (Err e) n = one_more n

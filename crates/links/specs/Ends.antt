@@ -1,9 +1,9 @@
--- Whose link an end is of.
+-- The worker whose link an end belongs to.
 use Rattle.std.specs.Prelude.{ℕ}
 use Rattle.links.specs.declared.link.End.{End}
 use Rattle.links.specs.declared.link.End.TheVariants.{Coordinator, Worker}
 
--- the number of the worker whose link it is
+-- the number of that worker
 abbrev pub link_of : End → ℕ
 link_of (Coordinator worker) = worker
 link_of (Worker worker) = worker

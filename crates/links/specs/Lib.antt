@@ -4,4 +4,4 @@ pub mod Counted
 pub mod Scripted
 pub mod Linked
 pub mod Arrivals
-pub mod Observed
+pub mod CountedArrivals

@@ -1,11 +1,11 @@
--- Links that hand in what they were made with.
+-- What a `Script` hands in, and what was sent to it.
 use Rattle.std.specs.Prelude.{ℕ, List, drop}
 use Rattle.links.specs.declared.script.Script.{Script}
 
--- what they will hand in yet
+-- the bytes that it has not handed in yet
 abbrev pub left_of : Script → List ℕ
 left_of script = drop script.at script.hands.items
 
--- what was sent
+-- all bytes that were sent to it, in order
 abbrev pub sent_of : Script → List ℕ
 sent_of script = script.sent.items

@@ -1,4 +1,4 @@
-//! What comes to a coordinator over any of its links.
+//! Links that come and go, and the events that a coordinator receives from them.
 
 ghost use Rattle.std.specs.Prelude.{◌≡◌, ◌≢◌, ◌≤◌, ◌+◌, ℕ, Bool, List, length};
 ghost use Rattle.links.specs.Counts.{one_more, one_more_if_err};
@@ -8,32 +8,32 @@ ghost use Rattle.links.specs.declared.arrivals.Event.{Event};
 use crate::link::LinkFault;
 use crate::progress::Progress;
 
-/// What came to the coordinator's ends.
+/// An event at the coordinator's ends.
 #[derive(Clone, Copy, Debug, PartialEq, Eq)]
 pub enum Event {
-    /// A link began at this place, where none was, or none is any more.
+    /// A link began at this place. A link that stood there before has ended.
     Linked { place: u8 },
-    /// So many bytes came over the link at this place, and stand at the front of the room; 0 mean that it has ended.
+    /// `count` bytes came over the link at this place, and stand at the front of the room; 0 means that the link has ended.
     Bytes { place: u8, count: usize },
-    /// Nothing came for a while.
+    /// Nothing came in this time.
     Quiet,
     /// Nothing will come any more.
     Over,
 }
 
-/// What came, and when.
+/// An event, and when it came.
 #[derive(Clone, Copy, Debug, PartialEq, Eq)]
 pub struct Arrival {
-    /// How many seconds had gone by then, from any moment on.
+    /// The time, in seconds since any moment.
     pub tick: u64,
-    /// What came.
+    /// The event.
     pub event: Event,
 }
 
-/// The coordinator's ends of links that come and go. Each has a place, 0 to 255; a place may have one link after another. The calls, what
-/// came, and of each place the links that began and the refusals, are counted; the calls and the refusals stay at 2^64 - 1. `has_ended` says
-/// whether what came last was `Over`; `came`, where an implementation defines it, what a receive brings: before it, what came, the room with the
-/// bytes at its front, and after it.
+/// The coordinator's ends of links that come and go. Each has a place, 0 to 255; a place may have one link after another. Four things are
+/// counted: calls, events, and for each place the links that began and the refusals; calls and refusals stay at 2^64 - 1. `has_ended` says
+/// whether the last event was `Over`. `came`, if an implementation defines it, says what a receive brings: it relates the state before, the
+/// event, the room with the bytes at its front, and the state after.
 pub trait Arrivals {
     ghost call_count: { Self → ℕ };
 
@@ -47,7 +47,7 @@ pub trait Arrivals {
 
     ghost came: { Self → Event → List ℕ → Self → Type 0 } = { λ _ _ _ _. Unit {0} };
 
-    /// Waits until something comes over any link, and puts its bytes at the front of the room. It waits for no one link.
+    /// Waits for the next event of any link, and puts its bytes at the front of the room. It waits for no single link.
     fn receive_any(&mut self, room: &mut [u8]) -> Arrival
         ensures within { IsWithin result.event (length room.new) }
         ensures calls { call_count self.new ≡ one_more (call_count self.old) }
@@ -74,7 +74,7 @@ pub trait Arrivals {
         ensures links { (p : ℕ) → link_count self.new p ≡ link_count self.old p }
         ensures refusals { (p : ℕ) → refusal_count self.new p ≡ refusal_count self.old p };
 
-    /// Is told how far the run has come, when the tick is another.
+    /// Is called with the progress of the run, once a tick.
     fn show(&mut self, progress: &Progress)
         ensures calls { call_count self.new ≡ call_count self.old }
         ensures arrivals { arrival_count self.new ≡ arrival_count self.old }

@@ -1,4 +1,4 @@
-//! Links over any carrier.
+//! Links over any carrier, with the counts.
 
 ghost use Rattle.std.specs.Prelude.{◌≡◌, ◌≢◌, ◌≤◌, ◌<◌, ℕ, length, slice_index};
 ghost use Rattle.links.specs.Counts.{one_more, one_more_if_err};
@@ -9,7 +9,7 @@ use crate::carrier::Carrier;
 use crate::link::{End, LinkFault, Links};
 use crate::progress::Progress;
 
-/// How many links are counted by themselves: those of workers 0 to 64.
+/// How many links have a count of their own: those of workers 0 to 64.
 const LINKS: usize = 65;
 
 /// How often a carrier was called, how often it refused, and how often at each link.
@@ -20,7 +20,7 @@ struct Tally {
     refused: [u64; LINKS],
 }
 
-/// Links that go by a carrier, with the counts that it does not keep.
+/// Links over a carrier, with the counts that it does not keep.
 #[derive(Drop)]
 pub struct Counted<C> {
     carrier: C,
@@ -45,7 +45,7 @@ fn worker_of(end: End) -> u32
     }
 }
 
-/// Counts one more at a place, where there is one.
+/// Counts one more at a place, if there is such a place.
 fn count_at(counts: &mut [u64], place: usize)
     ensures here { place < length counts.old → slice_index counts.new place ≡ one_more (slice_index counts.old place) }
     ensures elsewhere { (p : ℕ) → p ≢ place → slice_index counts.new p ≡ slice_index counts.old p }
@@ -56,7 +56,7 @@ fn count_at(counts: &mut [u64], place: usize)
 }
 
 impl Tally {
-    /// Notes what a call at an end answered.
+    /// Counts a call at an end, by its answer.
     fn note<T>(&mut self, end: End, answer: Result<T, LinkFault>) -> Result<T, LinkFault>
         ensures answer { result ≡ answer }
         ensures calls { self.new.calls ≡ one_more self.old.calls }
@@ -74,7 +74,7 @@ impl Tally {
 }
 
 impl<C> Counted<C> {
-    /// Links by this carrier, which were not called yet.
+    /// Links over this carrier, which were not called yet.
     pub fn new(carrier: C) -> Counted<C>
         ensures carrier { carrier_of result ≡ carrier }
         ensures calls { calls_of result ≡ 0 }
@@ -91,7 +91,7 @@ impl<C> Counted<C> {
         }
     }
 
-    /// What they go by.
+    /// The carrier.
     pub fn carrier(&self) -> &C
         ensures { result.now ≡ carrier_of self.now }
     {

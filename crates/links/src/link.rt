@@ -1,4 +1,4 @@
-//! What links are.
+//! Links that are there from the beginning, one for each worker.
 
 ghost use Rattle.std.specs.Prelude.{◌≡◌, ◌≢◌, ◌≤◌, ℕ, length, IfOk};
 ghost use Rattle.links.specs.Counts.{one_more, one_more_if_err};
@@ -21,8 +21,8 @@ pub enum End {
 #[error("the link refused")]
 pub struct LinkFault;
 
-/// Links that carry bytes between a coordinator and its workers, and count the calls and the refusals, of each link of workers up to 64
-/// too. The counts stay at 2^64 - 1.
+/// Links that carry bytes between a coordinator and its workers, and count calls and refusals; refusals also by worker, up to number 64.
+/// The counts stay at 2^64 - 1.
 pub trait Links {
     ghost call_count: { Self → ℕ };
 
@@ -30,7 +30,7 @@ pub trait Links {
 
     ghost refused_at: { Self → ℕ → ℕ };
 
-    /// Sends bytes from an end to the other one.
+    /// Sends bytes from one end to the other.
     fn send(&mut self, from: End, bytes: &[u8]) -> Result<(), LinkFault>
         ensures calls { call_count self.new ≡ one_more (call_count self.old) }
         ensures refusals { refusal_count self.new ≡ one_more_if_err result (refusal_count self.old) }
@@ -45,7 +45,7 @@ pub trait Links {
         ensures here { link_of at ≤ 64 → refused_at self.new (link_of at) ≡ one_more_if_err result (refused_at self.old (link_of at)) }
         ensures elsewhere { (worker : ℕ) → worker ≢ link_of at → refused_at self.new worker ≡ refused_at self.old worker };
 
-    /// Is told how far the run has come, after each turn of a link.
+    /// Is called with the progress of the run, after each turn of a link.
     fn show(&mut self, progress: &Progress)
         ensures calls { call_count self.new ≡ call_count self.old }
         ensures refusals { refusal_count self.new ≡ refusal_count self.old }

@@ -18,16 +18,16 @@ struct Pair<S> {
     worker: S,
 }
 
-/// The links of workers 1 to n, over sockets of which both ends are in this process. A link of another worker is refused.
+/// The links of workers 1 to n, over sockets with both ends in this process. A call at the link of another worker is refused.
 #[derive(Drop)]
 pub struct Loopback<S> {
     pairs: Vec<Pair<S>>,
 }
 
-/// How many connections are accepted until the worker's own one comes.
+/// How many connections are accepted at most until the worker's own comes.
 const TRIES: u32 = 128;
 
-/// Accepts a connection, and keeps it if it comes from there. No small packet waits for the next.
+/// Accepts a connection, and keeps it, with `TCP_NODELAY`, if it comes from this address.
 fn accept_own<R: Net>(listener: &R::Listener, own: SocketAddr) -> io::Result<Option<R::Stream>> {
     let (stream, from) = listener.accept()?;
     if from != own {
@@ -37,7 +37,7 @@ fn accept_own<R: Net>(listener: &R::Listener, own: SocketAddr) -> io::Result<Opt
     Ok(Some(stream))
 }
 
-/// Accepts the worker's own connection. What another process connects meanwhile is dropped.
+/// Accepts the worker's own connection. Connections of other processes are dropped.
 fn await_own<R: Net>(listener: &R::Listener, own: SocketAddr) -> io::Result<R::Stream> {
     for _ in 0..TRIES {
         if let Some(stream) = accept_own::<R>(listener, own)? {

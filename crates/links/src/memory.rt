@@ -11,7 +11,7 @@ use std::collections::VecDeque;
 /// The bytes of the longest frame.
 const LONGEST: usize = 4037;
 
-/// What is on its way over one worker's link.
+/// The bytes that are under way over one worker's link.
 #[derive(Drop)]
 struct Wire {
     /// To the worker.
@@ -20,17 +20,18 @@ struct Wire {
     up: VecDeque<u8>,
 }
 
-/// The links of workers 1 to n, in memory. A link of another worker is refused; one over which nothing is on its way has ended.
+/// The links of workers 1 to n, as queues in memory. A call at the link of another worker is refused. A receive from an empty queue answers
+/// 0 bytes: such a link has ended.
 ///
-/// Room for one frame each way is taken when they are made, so that a run, which has no more than one on its way, is never refused
-/// for want of memory.
+/// Room for one frame each way is taken when the links are made. A run has at most one frame under way, so it is never refused for want of
+/// memory.
 #[derive(Drop)]
 pub struct Memory {
     wires: Vec<Wire>,
 }
 
 impl Memory {
-    /// The links of workers 1 to `workers`, over which nothing is on its way. An error is want of memory.
+    /// The links of workers 1 to `workers`, with empty queues. An error is want of memory.
     pub fn new(alloc: Global, workers: u32) -> Result<Memory, AllocError>
         ensures { IfOk result (λ m. under_way m ≡ replicate workers ([], [])) }
     {

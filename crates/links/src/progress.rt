@@ -1,22 +1,22 @@
-//! How far a run has come.
+//! The progress of a run.
 
 ghost use Rattle.std.specs.Prelude.{◌≡◌, ◌-◌};
 
-/// How far a run has come, by the leaves of its tree.
+/// The progress of a run, in leaves of its tree.
 #[derive(Clone, Copy, Debug, PartialEq, Eq)]
 pub struct Progress {
-    /// How many are closed.
+    /// How many leaves are closed.
     pub closed: usize,
-    /// How many a worker has.
+    /// How many leaves a worker has.
     pub given: usize,
-    /// How many wait for a worker.
+    /// How many leaves wait for a worker.
     pub waiting: usize,
-    /// How many were cut in two.
+    /// How many leaves were cut in two.
     pub split: usize,
 }
 
 impl Progress {
-    /// That of a tree which began with so many leaves, and has so many now, of which so many are closed, and workers have so many.
+    /// The progress of a tree that began with `planted` leaves and has `leaves` now: `closed` of them are closed, `given` have a worker.
     pub fn of(planted: usize, leaves: usize, closed: usize, given: usize) -> Progress
         ensures closed { result.closed ≡ closed }
         ensures given { result.given ≡ given }

@@ -1,4 +1,4 @@
-//! Links that lie.
+//! A carrier that hands in bytes from a script, as links that lie.
 
 ghost use Rattle.std.specs.Prelude.{◌≡◌, ◌≤◌, [], length, IfOk};
 ghost use Rattle.links.specs.Scripted.{left_of, sent_of};
@@ -7,8 +7,7 @@ use crate::carrier::Carrier;
 use crate::link::{End, LinkFault};
 use std::alloc::{AllocError, Global};
 
-/// Hands in the bytes that it was made with, to whichever end asks, and then ends. What is sent goes nowhere; it is kept to be
-/// looked at.
+/// Hands in the bytes that it was made with, to whichever end asks, and then ends. What is sent goes nowhere; tests can look at it.
 #[derive(Drop)]
 pub struct Script {
     hands: Vec<u8>,
@@ -17,7 +16,7 @@ pub struct Script {
 }
 
 impl Script {
-    /// Links that hand in these bytes.
+    /// A script of these bytes. An error is want of memory.
     pub fn new(alloc: Global, hands: &[u8]) -> Result<Script, AllocError>
         ensures hands { IfOk result (λ s. left_of s ≡ hands.now) }
         ensures sent { IfOk result (λ s. sent_of s ≡ []) }
@@ -29,7 +28,7 @@ impl Script {
         })
     }
 
-    /// What was sent so far, whoever sent it.
+    /// What was sent so far, by either end.
     pub fn sent(&self) -> &[u8]
         ensures { result.now ≡ sent_of self.now }
     {

@@ -1,4 +1,4 @@
-//! What carriers over sockets share.
+//! Reads and writes of sockets, for the carriers over TCP.
 
 ghost use Rattle.std.specs.Prelude.{◌≤◌, length, IfOk};
 
@@ -7,7 +7,7 @@ use std::io;
 use std::io::{ErrorKind, Read, Write};
 use std::net::{Net, OpenStream, SocketAddr, TcpStream};
 
-/// Connects to an address. No small packet waits for the next.
+/// Connects to an address, with `TCP_NODELAY`: a small packet does not wait for the next.
 pub(crate) fn connect<R: Net>(net: &R, at: SocketAddr) -> io::Result<R::Stream> {
     let stream = TcpStream::connect(net, at)?;
     stream.set_nodelay(true)?;

@@ -1,21 +1,20 @@
-//! A formula's clauses as they are counted.
+//! A formula's clauses as the lookahead reads them: literals as codes, no repeated literal, no tautology.
 
 ghost use Rattle.std.specs.Prelude.{◌≤◌, vec_len};
 
 use dimacs::{Formula, Lit};
 use std::alloc::{AllocError, Global};
 
-/// A formula's clauses, each literal once, without those that hold a literal and its negation. A literal is named by its code, which is its
-/// place in a table of all literals.
+/// A formula's clauses, each literal once, without tautologies (clauses with a literal and its negation). A literal is named by its code,
+/// its index in a table of all literals (`Lit::index`): code ^ 1 is its negation.
 pub(crate) struct Clauses {
-    /// The codes, clause behind clause.
+    /// The codes of all clauses, one clause after the other.
     codes: Vec<u32>,
-    /// By clause, its first code; and behind the last clause the number of codes.
+    /// By clause, where its codes begin; and after the last clause the number of codes.
     starts: Vec<usize>,
     ghost few: { vec_len starts ≤ 4000001 },
 }
 
-// By hand, so that whoever owns one drops it by one call, and no proof there goes through its parts.
 impl Drop for Clauses {
     fn drop(self) {
         let Clauses {
@@ -25,8 +24,7 @@ impl Drop for Clauses {
     }
 }
 
-/// Appends the codes of a clause, each once, and tells whether it holds no literal with its negation. `last` says by code in which clause
-/// it stood last.
+/// Appends the codes of a clause, each once; false if the clause is a tautology. `last` says by code which clause had it last.
 fn append(
     codes: &mut Vec<u32>,
     last: &mut [u32],
@@ -66,14 +64,14 @@ impl Clauses {
         Ok(Clauses { codes, starts })
     }
 
-    /// How many these are.
+    /// How many clauses there are.
     pub(crate) fn len(&self) -> usize
         ensures { result ≤ 4000000 }
     {
         self.starts.len().saturating_sub(1)
     }
 
-    /// All codes, clause behind clause.
+    /// The codes of all clauses, one clause after the other.
     pub(crate) fn codes(&self) -> &[u32] {
         &self.codes
     }

@@ -1,20 +1,21 @@
-//! Splits a formula by a look ahead: each candidate is tried both ways, and the one that shortens the most clauses is cut on.
+//! Lookahead, as for cube and conquer: splits a formula into cubes. Both literals of each candidate are propagated, and the branching
+//! variable is the one that reduces the most clauses (Heule, Kullmann, Wieringa and Biere 2011).
 //!
-//! What a layer above may rest on: a tree is grown leaf by leaf, each time on a variable that is free under the path. Which variable that
-//! is no proof says; `docs/dev/SPLITTING.md` has the rule, and a script tests it.
+//! What a layer above may rest on: a tree is grown leaf by leaf, each time on a variable without a literal in the cube of the leaf. No
+//! contract says which variable it is: `docs/dev/SPLITTING.md` has the rule, and a script tests it.
 #![tactic(auto)]
 
-mod board;
-mod choosing;
+mod branching_variable;
+mod candidates;
+mod clause_states;
 mod clauses;
-mod cutting;
-mod growing;
-mod places;
-mod ranking;
-mod states;
-mod sums;
+mod counting_propagator;
+mod lookahead;
+mod occurrences;
+mod splitting_tree;
 mod trail;
-mod walk;
+mod tree_walk;
+mod variable_weights;
 
-pub use cutting::choose;
-pub use growing::look;
+pub use branching_variable::choose;
+pub use splitting_tree::grow_tree;

@@ -1,19 +1,17 @@
-//! The literals that are true.
+//! The trail: the literals that are true, in the order in which they became true.
 
 use std::alloc::{AllocError, Global};
 
-/// The literals that are true, by their codes, in the order in which they became so. No proof rests on it: each variable stands there
-/// once, so no place that is asked for is missing.
+/// The codes of the literals that are true, in order. Each variable stands there once, so there is room for all; no proof rests on it.
 pub(crate) struct Trail {
     codes: Vec<u32>,
     len: usize,
-    /// How many of them the clauses were told.
+    /// How many of them are propagated: `CountingPropagator::assign` was called for them.
     head: usize,
     /// By code, whether the literal is true.
     truths: Vec<bool>,
 }
 
-// By hand, so that whoever owns one drops it by one call, and no proof there goes through its parts.
 impl Drop for Trail {
     fn drop(self) {
         let Trail {
@@ -26,7 +24,7 @@ impl Drop for Trail {
 }
 
 impl Trail {
-    /// No literal is true. There is a row for each variable, and one for 0.
+    /// An empty trail. There is a row for each variable, and one for 0.
     pub(crate) fn new(alloc: Global, vars: u32) -> Result<Trail, AllocError> {
         let rows = vars as usize + 1;
         Ok(Trail {
@@ -41,12 +39,12 @@ impl Trail {
         self.len
     }
 
-    /// How many literals there may be.
+    /// The most literals that it can hold.
     pub(crate) fn rows(&self) -> usize {
         self.codes.len()
     }
 
-    /// How many of them the clauses were told.
+    /// How many literals are propagated.
     pub(crate) fn head(&self) -> usize {
         self.head
     }
@@ -60,7 +58,7 @@ impl Trail {
         !self.is_true(code) && !self.is_true(code ^ 1)
     }
 
-    /// The literal that became true at this place, also where it was taken back and none came there since.
+    /// The code at this place of the trail. After `truncate` the old code stands there until another one comes.
     pub(crate) fn at(&self, i: usize) -> u32 {
         match self.codes.get(i) {
             Some(&code) => code,
@@ -86,7 +84,7 @@ impl Trail {
         }
     }
 
-    /// The next literal that the clauses are to be told.
+    /// The next literal to propagate.
     pub(crate) fn next(&mut self) -> Option<u32> {
         if self.head >= self.len {
             return None;
@@ -96,7 +94,7 @@ impl Trail {
         Some(code)
     }
 
-    /// Takes back all literals from this place on.
+    /// Cuts the trail to this length.
     pub(crate) fn truncate(&mut self, len: usize) {
         for i in len..self.len {
             let code = self.at(i);

@@ -2,5 +2,5 @@ pub mod NumberLemmas
 pub mod ReadLemmas
 pub mod ShortLemmas
 pub mod SpelledLemmas
-pub mod TakingLemmas
+pub mod StepSinkLemmas
 pub mod TokenLemmas

@@ -1,7 +1,7 @@
 -- What a number of a step is.
 use Rattle.std.proofs.Common.{◌≡◌, ◌⊎◌, ℕ, ◌+◌, ◌*◌, ◌/◌, ◌%◌, ◌≤◌, ◌==◌, Bool, false, cond, inl, inr, ap, ◌∙◌, arith}
 use Rattle.std.proofs.lemmas.Bool.{cases_eq, ne_eqb, eq-eqb}
-use Rattle.lrat_binary.specs.Reading.{token_of}
+use Rattle.lrat_binary.specs.Parser.{token_of}
 use Rattle.lrat_binary.specs.declared.token.Token.{Token}
 use Rattle.lrat_binary.specs.declared.token.Token.TheVariants.{End, Plus, Minus, Other}
 

@@ -1,16 +1,16 @@
--- The grammar of LRAT proofs in binary form, as CaDiCaL 2.1.3 writes them and docs/FORMATS.md tells. This is what is to be
--- believed of them; which fault bytes have that spell no steps stands in Reading.
+-- The grammar of LRAT proofs in binary form, as CaDiCaL 2.1.3 writes them and docs/FORMATS.md describes them. This is what a reader must
+-- believe of them. Parser says which fault bytes have that spell no steps.
 use Rattle.std.specs.Prelude.{◌≡◌, ℕ, ◌+◌, ◌*◌, ◌<◌, ◌≤◌, List, [], ◌∷◌, ◌++◌, map}
 use Rattle.std.specs.List.{flat_map}
 use Rattle.std.specs.Str.{byte}
 use Rattle.dimacs.specs.logic.Literal.{index_of}
 use Rattle.dimacs.specs.logic.Rat.{Group}
-use Rattle.lrat_text.specs.Grammar.{IsStep}
+use Rattle.lrat_text.specs.Grammar.{IsStepWithin}
 use Rattle.lrat_text.specs.declared.step.Step.{Step}
 use Rattle.lrat_text.specs.declared.step.Step.TheVariants.{Add, Delete}
 
--- A number in unsigned LEB128, its lowest seven bits first. A byte below 128 is the last one. One from 128 on has seven bits and
--- the number of the bytes behind it, which is not 0: so each number has one spelling.
+-- A number in unsigned LEB128, its lowest seven bits first. A byte below 128 is the last one. A byte b from 128 on gives the seven bits
+-- b - 128, and the bytes after it spell the higher bits, which are not 0. So each number has one spelling.
 abbrev pub SpellsNumber : List ℕ → ℕ → Type 0
 SpellsNumber [] n = ⊥
 SpellsNumber (b ∷ []) n = (b < 128) × (n ≡ b)
@@ -21,7 +21,7 @@ abbrev pub SpellsNumbers : List ℕ → List ℕ → Type 0
 SpellsNumbers bytes [] = bytes ≡ []
 SpellsNumbers bytes (n ∷ ns) = (front : List ℕ) × (rest : List ℕ) × (bytes ≡ front ++ rest) × SpellsNumber front n × SpellsNumbers rest ns
 
--- a clause is its number, twice; a candidate one more; a literal is twice its variable, and one more where it is negated
+-- the code of clause n is 2n, that of candidate n is 2n + 1; a literal has 2v, and 2v + 1 if it is negated
 abbrev pub clause_code : ℕ → ℕ
 clause_code n = 2 * n
 
@@ -36,17 +36,22 @@ abbrev pub step_codes : Step → List ℕ
 step_codes (Add id lits hints groups) = clause_code id ∷ (map index_of lits ++ 0 ∷ (map clause_code hints ++ flat_map group_codes groups ++ 0 ∷ []))
 step_codes (Delete ids) = map clause_code ids ++ 0 ∷ []
 
--- behind a letter
+-- the letter with which a step begins
 abbrev pub step_letter : Step → ℕ
 step_letter (Add id lits hints groups) = byte "a"
 step_letter (Delete ids) = byte "d"
 
--- bytes spell a step
-abbrev pub SpellsStep : List ℕ → Step → Type 0
-SpellsStep [] step = ⊥
-SpellsStep (b ∷ bytes) step = IsStep step × (b ≡ step_letter step) × SpellsNumbers bytes (step_codes step)
+-- bytes spell a step with variables up to most: its letter, then its codes
+abbrev pub SpellsStepWithin : ℕ → List ℕ → Step → Type 0
+SpellsStepWithin most [] step = ⊥
+SpellsStepWithin most (b ∷ bytes) step = IsStepWithin most step × (b ≡ step_letter step) × SpellsNumbers bytes (step_codes step)
 
 -- bytes are the steps, one after the other
+abbrev pub SpellsWithin : ℕ → List ℕ → List Step → Type 0
+SpellsWithin most bytes [] = bytes ≡ []
+SpellsWithin most bytes (step ∷ steps) =
+    (front : List ℕ) × (rest : List ℕ) × (bytes ≡ front ++ rest) × SpellsStepWithin most front step × SpellsWithin most rest steps
+
+-- the same with variables up to 2,000,000
 abbrev pub Spells : List ℕ → List Step → Type 0
-Spells bytes [] = bytes ≡ []
-Spells bytes (step ∷ steps) = (front : List ℕ) × (rest : List ℕ) × (bytes ≡ front ++ rest) × SpellsStep front step × Spells rest steps
+Spells bytes steps = SpellsWithin 2000000 bytes steps

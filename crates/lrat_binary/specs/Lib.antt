@@ -1,5 +1,5 @@
 pub mod Grammar
-pub mod Parts
-pub mod Reading
-pub mod Taking
+pub mod PartialStep
+pub mod Parser
+pub mod StepSink
 pub mod inner

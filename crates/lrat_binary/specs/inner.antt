@@ -1,3 +1,3 @@
 -- What only private contracts, invariants and proofs name. Nothing here is to be believed.
-pub mod Parts
-pub mod Short
+pub mod ByteTaken
+pub mod ShortNumber

@@ -1,9 +1,9 @@
 //! Laws of proofs in binary form, as contracts of calls that do nothing.
 
-ghost use Rattle.std.specs.Prelude.{◌≡◌, ℕ, List, None};
+ghost use Rattle.std.specs.Prelude.{◌≡◌, ℕ, ◌^◌, ◌<◌, List, None};
 ghost use Rattle.lrat_text.specs.declared.step.Step.{Step};
-ghost use Rattle.lrat_binary.specs.Grammar.{Spells};
-ghost use Rattle.lrat_binary.specs.Reading.{steps_in};
+ghost use Rattle.lrat_binary.specs.Grammar.{Spells, SpellsWithin};
+ghost use Rattle.lrat_binary.specs.Parser.{steps_in, steps_within};
 
 /// Steps are read without a fault if and only if the bytes spell them.
 pub fn reading_is_spelling()
@@ -11,7 +11,13 @@ pub fn reading_is_spelling()
     ensures only { (bytes : List ℕ) (steps : List Step) → Spells bytes steps → steps_in bytes ≡ (steps, None) }
 {}
 
-/// Bytes spell one list of steps.
+/// The same for each limit of the variables below 2^48.
+pub fn reading_within_is_spelling()
+    ensures found { (most : ℕ) (bytes : List ℕ) (steps : List Step) → steps_within most bytes ≡ (steps, None) → SpellsWithin most bytes steps }
+    ensures only { (most : ℕ) (bytes : List ℕ) (steps : List Step) → most < 2 ^ 48 → SpellsWithin most bytes steps → steps_within most bytes ≡ (steps, None) }
+{}
+
+/// Bytes spell at most one list of steps.
 pub fn a_proof_spells_one_list()
     ensures { (bytes : List ℕ) (steps others : List Step) → Spells bytes steps → Spells bytes others → steps ≡ others }
 {}

@@ -1,17 +1,18 @@
 //! LRAT proofs in binary form: bytes, and the steps that they spell.
 //!
-//! [`BinaryReader`] takes the bytes in any pieces and hands each step on to what takes it. The steps are those of `lrat_text`, so what
-//! is done with them is the same whichever form they come in.
+//! [`BinaryReader`] takes the bytes in any pieces and delivers each step to a consumer, which implements [`TakesSteps`]. The steps are
+//! those of `lrat_text`, so one consumer serves both forms.
 #![tactic(auto)]
 
+mod binary_reader;
 mod laws;
-mod number;
-mod parts;
-mod reader;
-mod short;
-mod taking;
+mod leb128;
+mod limit;
+mod partial_step;
+mod short_number;
+mod step_sink;
 mod token;
 
-pub use laws::{a_proof_spells_one_list, reading_is_spelling};
-pub use reader::BinaryReader;
-pub use taking::{FeedFault, TakesSteps};
+pub use binary_reader::BinaryReader;
+pub use laws::{a_proof_spells_one_list, reading_is_spelling, reading_within_is_spelling};
+pub use step_sink::{FeedFault, TakesSteps};

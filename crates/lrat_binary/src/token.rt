@@ -1,23 +1,23 @@
-//! The numbers of a step.
+//! What a number of a step stands for.
 
 ghost use Rattle.std.specs.Prelude.{◌≡◌};
-ghost use Rattle.lrat_binary.specs.Reading.{token_of};
-ghost use Rattle.lrat_binary.specs.inner.Parts.{IsCounted};
+ghost use Rattle.lrat_binary.specs.Parser.{token_of};
+ghost use Rattle.lrat_binary.specs.inner.ByteTaken.{IsCounted};
 
-/// What a number of a step is.
+/// What a number of a step stands for. Whether `Plus` and `Minus` are literals, clauses or candidates depends on the place.
 #[derive(Clone, Copy)]
 pub(crate) enum Token {
     /// The 0 that ends a list.
     End,
-    /// Half of an even number.
+    /// An even number 2n: `Plus(n)`.
     Plus(u64),
-    /// Half of an odd number, rounded down.
+    /// An odd number 2n + 1: `Minus(n)`.
     Minus(u64),
     /// 1, which stands for nothing.
     Other,
 }
 
-/// What a number is.
+/// The token of a number.
 #[inline(always)]
 pub(crate) fn token_of(code: u64) -> Token
     ensures token { result ≡ token_of code }

@@ -1,4 +1,4 @@
--- Slots in blocks.
+-- Tables of slots in blocks.
 use Rattle.std.proofs.Common.{◌≡◌, ◌≢◌, ℕ, zero, suc, ◌+◌, ◌-◌, ◌*◌, ◌/◌, ◌%◌, ◌^◌, ◌<◌, ◌≤◌, Bool, true, false, List, [], ◌∷◌, ◌++◌, Option, Some, None, refl, sym, ◌∙◌, ap, subst, length, take, arith, get_or, set, replicate, get_or-set_same, get_or-set_other, length-set, length-append, nat_eq}
 use Rattle.std.specs.Option.{option_map, option_or, is_some}
 use Rattle.std.specs.FinMap.{same_map, nat_cmp-IsAntisymmetric}
@@ -37,7 +37,7 @@ pub is_free_block : IsBlock 0 free_block
 unfolding free_block
 is_free_block = record { full = length-free_block; counted = sym (none_standing 1024) }
 
--- where no slot is counted, none stands
+-- if no slot is counted, none stands
 nothing : (slots : List (Option Slot)) → standing slots ≡ 0 → slots ≡ replicate (length slots) None
 nothing [] e = refl
 nothing (None ∷ slots) e = ap (λ (xs : List (Option Slot)). None ∷ xs) (nothing slots (omega (arith, e)))
@@ -213,7 +213,7 @@ copied-kept literals literals' literals'' slots slots' keeps copied = record {
   placed = ArePlaced-kept literals' literals'' slots' keeps copied.placed;
 }
 
--- slots of a front, of a part and behind it lie within the literals
+-- slots of a front, of a part and after it lie within the literals
 pub placed-front : (literals : List Literal) (xs ys : List (Option Slot)) → ArePlaced literals (xs ++ ys) → ArePlaced literals xs
 placed-front literals xs ys placed p s e = at (ltb p (length xs)) refl
   where
@@ -337,7 +337,7 @@ pub store-free : (t : Tables) → t.far.slots.items ≡ [] → IsStore t → IsS
 unfolding free_block
 store-free t none store = store-none t 1024 none store
 
--- free places behind the others change none
+-- free places after the others change none
 pub free_behind : (slots : List (Option Slot)) (q : ℕ) → get_or (slots ++ free_block) q None ≡ get_or slots q None
 free_behind [] q = free_at q ∙ sym (get_or_past [] q None (omega arith))
 free_behind (o ∷ slots) zero = refl

@@ -31,7 +31,7 @@ counted_remove M M' id n m counted is live less =
     let now : len M' ≡ len (remove M id) = ap (λ (m : ClauseMap). len m) is in
     omega (arith, fewer, now, counted, less)
 
--- nothing goes out where nothing is live
+-- nothing goes out if nothing is live
 pub counted_kept : (M M' : ClauseMap) (id : ℕ) (n : ℕ) → n ≡ len M → M' ≡ remove M id → is_some (get M id) ≡ false → n ≡ len M'
 counted_kept M M' id n counted is none =
     let same : len (remove M id) ≡ len M = len-remove nat_cmp_total M id ∙ ap (λ b. cond b (len M - 1) (len M)) none in

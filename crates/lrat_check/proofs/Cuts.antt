@@ -1,4 +1,4 @@
--- What a refused line leaves: a front of its deletion is out.
+-- A refused line deletes a prefix of its numbers and changes nothing else.
 use Rattle.std.proofs.Common.{◌≡◌, ◌≢◌, ◌⊎◌, ℕ, ◌+◌, ◌<◌, Bool, true, false, List, [], ◌∷◌, ◌++◌, Option, Some, None, cond, inl, inr, refl, sym, ◌∙◌, ap, arith, subst, length, get_or, take}
 use Rattle.std.proofs.lemmas.Bool.{cases_eq}
 use Rattle.std.proofs.lemmas.List.{take_more}
@@ -11,8 +11,8 @@ use Rattle.dimacs.specs.logic.ClauseMap.{ClauseMap}
 use Rattle.lrat_text.specs.declared.step.Step.{Step}
 use Rattle.lrat_text.specs.declared.step.Step.TheVariants.{Delete}
 use Rattle.lrat_text.proofs.ClauseMapLemmas.{apart_test, same_test}
-use Rattle.lrat_check.specs.Faults.{removed}
-use Rattle.lrat_check.specs.Logs.{CutsOff, LogState, ids_of, own_deletion_fault}
+use Rattle.lrat_check.specs.StepFaults.{removed}
+use Rattle.lrat_check.specs.Logs.{DeletesPrefix, LogState, ids_of, log_deletion_fault}
 use Rattle.lrat_check.specs.inner.Logs.{IsCutAt}
 use Rattle.lrat_check.proofs.Logs.{live_same, log_from_none, own_none}
 
@@ -21,23 +21,23 @@ removed_more : (M : ClauseMap) (ids : List ℕ) (id : ℕ) → removed M (ids ++
 removed_more M [] id = refl
 removed_more M (first ∷ ids) id = removed_more (remove M first) ids id
 
-own_more : (b : ℕ) (M : ClauseMap) (ids : List ℕ) (id : ℕ) → own_deletion_fault b M ids ≡ None → b < id → is_some (get (removed M ids) id) ≡ true
-    → own_deletion_fault b M (ids ++ id ∷ []) ≡ None
+own_more : (b : ℕ) (M : ClauseMap) (ids : List ℕ) (id : ℕ) → log_deletion_fault b M ids ≡ None → b < id → is_some (get (removed M ids) id) ≡ true
+    → log_deletion_fault b M (ids ++ id ∷ []) ≡ None
 own_more b M [] id e high live = own_none b M id [] high live refl
 own_more b M (first ∷ ids) id e high live = at (nat_le first b) refl e (λ f. own_more b (remove M first) ids id f high live)
   where
-    on : (c : Bool) → is_some (get M first) ≡ c → nat_le first b ≡ false → cond c (own_deletion_fault b (remove M first) ids) (Some 3) ≡ None
-        → (own_deletion_fault b (remove M first) ids ≡ None → own_deletion_fault b (remove M first) (ids ++ id ∷ []) ≡ None)
-        → own_deletion_fault b M (first ∷ ids ++ id ∷ []) ≡ None
+    on : (c : Bool) → is_some (get M first) ≡ c → nat_le first b ≡ false → cond c (log_deletion_fault b (remove M first) ids) (Some 3) ≡ None
+        → (log_deletion_fault b (remove M first) ids ≡ None → log_deletion_fault b (remove M first) (ids ++ id ∷ []) ≡ None)
+        → log_deletion_fault b M (first ∷ ids ++ id ∷ []) ≡ None
     on true is above e rest =
-        ap (λ c. cond c (Some 16) (cond (is_some (get M first)) (own_deletion_fault b (remove M first) (ids ++ id ∷ [])) (Some 3))) above
-        ∙ ap (λ c. cond c (own_deletion_fault b (remove M first) (ids ++ id ∷ [])) (Some 3)) is
+        ap (λ c. cond c (Some 16) (cond (is_some (get M first)) (log_deletion_fault b (remove M first) (ids ++ id ∷ [])) (Some 3))) above
+        ∙ ap (λ c. cond c (log_deletion_fault b (remove M first) (ids ++ id ∷ [])) (Some 3)) is
         ∙ rest e
     on false is above e rest = absurd cc
 
-    at : (c : Bool) → nat_le first b ≡ c → cond c (Some 16) (cond (is_some (get M first)) (own_deletion_fault b (remove M first) ids) (Some 3)) ≡ None
-        → (own_deletion_fault b (remove M first) ids ≡ None → own_deletion_fault b (remove M first) (ids ++ id ∷ []) ≡ None)
-        → own_deletion_fault b M (first ∷ ids ++ id ∷ []) ≡ None
+    at : (c : Bool) → nat_le first b ≡ c → cond c (Some 16) (cond (is_some (get M first)) (log_deletion_fault b (remove M first) ids) (Some 3)) ≡ None
+        → (log_deletion_fault b (remove M first) ids ≡ None → log_deletion_fault b (remove M first) (ids ++ id ∷ []) ≡ None)
+        → log_deletion_fault b M (first ∷ ids ++ id ∷ []) ≡ None
     at true is e rest = absurd cc
     at false is e rest = on (is_some (get M first)) refl is e rest
 
@@ -57,7 +57,7 @@ none_is (Some x) e = absurd cc
 pub cut_none : (b : ℕ) (M : ClauseMap) (ids : List ℕ) (cut : ℕ) (N : ClauseMap) → cut ≡ 0 → N ≡ M → IsCutAt b M ids cut N
 cut_none b M ids cut N uncut same = record {
   within = omega (arith, uncut);
-  none = ap (λ (n : ℕ). own_deletion_fault b M (take n ids)) uncut;
+  none = ap (λ (n : ℕ). log_deletion_fault b M (take n ids)) uncut;
   left = same ∙ sym (ap (λ (n : ℕ). removed M (take n ids)) uncut);
 }
 
@@ -65,7 +65,7 @@ cut_none b M ids cut N uncut same = record {
 pub cut_ends : (b : ℕ) (M : ClauseMap) (ids : List ℕ) (id i cut : ℕ) (N N' : ClauseMap) → cut ≡ i → N' ≡ remove N id → is_some (get N id) ≡ false → IsCutAt b M ids i N → IsCutAt b M ids cut N'
 cut_ends b M ids id i cut N N' same now dead h = record {
   within = omega (arith, same, h.within);
-  none = ap (λ (n : ℕ). own_deletion_fault b M (take n ids)) same ∙ h.none;
+  none = ap (λ (n : ℕ). log_deletion_fault b M (take n ids)) same ∙ h.none;
   left = now ∙ remove_none N id (none_is (get N id) dead) ∙ h.left ∙ sym (ap (λ (n : ℕ). removed M (take n ids)) same);
 }
 
@@ -74,7 +74,7 @@ pub cut_more : (b : ℕ) (M : ClauseMap) (ids : List ℕ) (i : ℕ) (N : ClauseM
     → IsCutAt b M ids i N → IsCutAt b M ids (i + 1) (remove N (get_or ids i 0))
 cut_more b M ids i N below high live h = record {
   within = omega (arith, below);
-  none = ap (own_deletion_fault b M) (take_more ids i 0 below)
+  none = ap (log_deletion_fault b M) (take_more ids i 0 below)
       ∙ own_more b M (take i ids) (get_or ids i 0) h.none high (subst (λ (L : ClauseMap). is_some (get L (get_or ids i 0)) ≡ true) h.left live);
   left = ap (λ (L : ClauseMap). remove L (get_or ids i 0)) h.left
       ∙ sym (ap (removed M) (take_more ids i 0 below) ∙ removed_more M (take i ids) (get_or ids i 0));
@@ -82,7 +82,7 @@ cut_more b M ids i N below high live h = record {
 
 -- ---- states
 -- a front of a deletion is out
-pub cut_off : (s t : LogState) → t.base ≡ s.base → t.top ≡ s.top → t.line ≡ s.line → IsCutAt s.base s.live (ids_of t.step) t.cut t.live → CutsOff s t
+pub cut_off : (s t : LogState) → t.base ≡ s.base → t.top ≡ s.top → t.line ≡ s.line → IsCutAt s.base s.live (ids_of t.step) t.cut t.live → DeletesPrefix s t
 cut_off s t base top line h =
     let gone : Step = Delete (take t.cut (ids_of t.step)) in
     record {
@@ -95,5 +95,5 @@ cut_off s t base top line h =
     }
 
 -- nothing has become of the clauses
-pub uncut : (s t : LogState) → t.base ≡ s.base → t.top ≡ s.top → t.line ≡ s.line → t.cut ≡ 0 → t.live ≡ s.live → CutsOff s t
+pub uncut : (s t : LogState) → t.base ≡ s.base → t.top ≡ s.top → t.line ≡ s.line → t.cut ≡ 0 → t.live ≡ s.live → DeletesPrefix s t
 uncut s t base top line none live = cut_off s t base top line (cut_none s.base s.live (ids_of t.step) t.cut t.live none live)

@@ -1,4 +1,4 @@
--- A fragment has no fault exactly where it closes the cube.
+-- A text has no fault as a fragment exactly if it closes the cube.
 use Rattle.std.proofs.Common.{◌≡◌, ◌⊎◌, ℕ, Bool, true, false, List, [], ◌∷◌, ◌++◌, Result, Ok, Err, cond, refl, sym, ◌∙◌, ap, subst, OnOk}
 use Rattle.std.specs.List.{list_all, Contains}
 use Rattle.std.proofs.lemmas.Bool.{true≢false}
@@ -8,10 +8,10 @@ use Rattle.dimacs.proofs.Members.{has-Contains, Contains-has}
 use Rattle.lrat_text.specs.Log.{Cube, Negates, EndsAt, Closes}
 use Rattle.lrat_text.specs.declared.step.Step.{Step}
 use Rattle.lrat_text.specs.declared.step.Step.TheVariants.{Add, Delete}
-use Rattle.lrat_check.specs.Checking.{GivesCheck, no_memory, refused}
+use Rattle.lrat_check.specs.ProofFaults.{GivesCheck, no_memory, refused}
 use Rattle.lrat_check.specs.Fragments.{closes, fragment_end, fragment_of}
 use Rattle.lrat_check.specs.Logs.{LogState, begun, after_line, text_from}
-use Rattle.lrat_check.specs.declared.checking.CheckFault.{CheckFault}
+use Rattle.lrat_check.specs.declared.line_checker.CheckFault.{CheckFault}
 use Rattle.lrat_check.proofs.Exact.{list_all_member, list_all_from}
 use Rattle.lrat_check.proofs.LogTexts.{after_lines, checked_text, text_checked}
 use Rattle.lrat_check.proofs.Passing.{given_ok, given_complete}

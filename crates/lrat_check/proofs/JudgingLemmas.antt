@@ -1,9 +1,9 @@
--- Bytes of truth values, and the assignments of which they are evidence.
+-- Bytes of truth values, and the assignment that they are evidence of.
 use Rattle.std.proofs.Common.{◌≡◌, ℕ, ◌==◌, Bool, true, false, nat_lt, List, map, length, refl, subst, ap, sym, ◌∙◌}
 use Rattle.std.specs.List.{list_all}
 use Rattle.std.proofs.lemmas.List.{length-map}
 use Rattle.dimacs.specs.logic.Cnf.{Cnf, Sat, assignment_of}
-use Rattle.lrat_check.specs.Judging.{value_byte, AreValuesOf}
+use Rattle.lrat_check.specs.Judgement.{value_byte, AreValuesOf}
 use Rattle.lrat_check.specs.Verdicts.{Right}
 use Rattle.lrat_check.specs.declared.verdict.Verdict.{Verdict}
 use Rattle.lrat_check.specs.declared.verdict.Verdict.TheVariants.{Model}

@@ -1,4 +1,4 @@
--- Lines that are handed on to a checker of logs, or to what has one: for crates above, by `TakesLines` of lrat_text.
+-- Lines that a checker of logs takes, or what contains one: for crates above, in the terms of `TakesLines` of lrat_text.
 use Rattle.std.proofs.Common.{◌≡◌, ◌⊎◌, ℕ, ◌+◌, List, [], ◌∷◌, ◌++◌, Option, Some, None, Result, Ok, Err, refl, sym, ◌∙◌, ap, append_assoc, arith, length, subst}
 use Rattle.std.proofs.lemmas.List.Elements.{All-head, All-tail}
 use Rattle.std.specs.List.{All}
@@ -8,18 +8,18 @@ use Rattle.dimacs.specs.text.Words.{lines}
 use Rattle.lrat_text.specs.Grammar.{LineSpells}
 use Rattle.lrat_text.specs.Lines.{IsOpen}
 use Rattle.lrat_text.specs.Log.{AreLogSteps, IsLog, after_step, top_after}
-use Rattle.lrat_text.specs.Reading.{step_in}
+use Rattle.lrat_text.specs.Parser.{step_in}
 use Rattle.lrat_text.specs.Runs.{after_steps, top_of}
-use Rattle.lrat_text.specs.Taking.{TakesAll, HandsOn, Refuses as LineRefused, Stops as PieceStops, ended}
-use Rattle.lrat_text.specs.declared.lines.PieceFault.{PieceFault}
-use Rattle.lrat_text.specs.declared.lines.PieceFault.TheVariants.{NoMemory as NoPlace, Line}
+use Rattle.lrat_text.specs.LineSink.{TakesAll, HandsOn, LineRefused, PieceStops, ended_lines}
+use Rattle.lrat_text.specs.declared.line_splitter.PieceFault.{PieceFault}
+use Rattle.lrat_text.specs.declared.line_splitter.PieceFault.TheVariants.{NoMemory as NoPlace, Line}
 use Rattle.lrat_text.specs.declared.fault.TextFault.{TextFault}
 use Rattle.lrat_text.specs.declared.step.Step.{Step}
-use Rattle.lrat_text.proofs.TakingLemmas.{hands_on}
-use Rattle.lrat_check.specs.Checking.{by_pieces, no_memory}
-use Rattle.lrat_check.specs.Logs.{KeepsFormula, LogState, StandsOver, TakesLogLine, RefusesLogLine, IsBegun, begun, by_fault, by_line, line_read, log_step_fault, log_end, log_of, pieces_from, text_from}
-use Rattle.lrat_check.specs.declared.checking.CheckFault.{CheckFault}
-use Rattle.lrat_check.specs.inner.LogStates.{Refuses}
+use Rattle.lrat_text.proofs.LineSinkLemmas.{hands_on}
+use Rattle.lrat_check.specs.ProofFaults.{by_pieces, no_memory}
+use Rattle.lrat_check.specs.Logs.{KeepsFormula, LogState, HoldsFormula, TakesLogLine, RefusesLogLine, IsBegun, begun, by_fault, by_line, line_read, log_step_fault, log_end, log_of, pieces_from, text_from}
+use Rattle.lrat_check.specs.declared.line_checker.CheckFault.{CheckFault}
+use Rattle.lrat_check.specs.inner.LogStates.{RefusesAndKeeps}
 use Rattle.lrat_check.proofs.Behind.{takes_stands}
 use Rattle.lrat_check.proofs.Lines.{no_lf_to, first_piece}
 use Rattle.lrat_check.proofs.LogTexts.{passed_stop, text_passed}
@@ -29,12 +29,12 @@ use Rattle.lrat_check.proofs.LogTexts.{passed_stop, text_passed}
 pub hands_more : {S : Type 0} (takes : S → List ℕ → S → Type 0) (s : S) (text : List ℕ) (t : S) (rest more : List ℕ) → HandsOn takes s text t rest → HandsOn takes s (text ++ more) t (rest ++ more)
 hands_more takes s text t rest more h = record {
   lines = h.lines;
-  whole = ap (λ (x : List ℕ). x ++ more) h.whole ∙ append_assoc (ended h.lines) rest more;
+  whole = ap (λ (x : List ℕ). x ++ more) h.whole ∙ append_assoc (ended_lines h.lines) rest more;
   one_by_one = h.one_by_one;
   taken = h.taken;
 }
 
--- a piece behind the line that is begun is a piece behind the text
+-- a piece after the line that is begun is a piece after the text
 pub hands_piece : {S : Type 0} (takes : S → List ℕ → S → Type 0) (s : S) (text : List ℕ) (t : S) (rest piece : List ℕ) (u : S) (left : List ℕ)
     → HandsOn takes s text t rest → HandsOn takes t (rest ++ piece) u left → HandsOn takes s (text ++ piece) u left
 hands_piece takes s text t rest piece u left h more =
@@ -52,17 +52,17 @@ module _ {S : Type 0} (log : S → LogState) (takes : S → List ℕ → S → T
   hands_log s text t rest h = record { lines = h.lines; whole = h.whole; one_by_one = h.one_by_one; taken = taken_log h.lines s t h.taken }
 
 -- ---- the formula stays
-all_stand : (F : Cnf) (lines : List (List ℕ)) (s t : LogState) → TakesAll TakesLogLine s lines t → StandsOver F s → StandsOver F t
-all_stand F [] s t e h = subst (λ (u : LogState). StandsOver F u) e h
+all_stand : (F : Cnf) (lines : List (List ℕ)) (s t : LogState) → TakesAll TakesLogLine s lines t → HoldsFormula F s → HoldsFormula F t
+all_stand F [] s t e h = subst (λ (u : LogState). HoldsFormula F u) e h
 all_stand F (line ∷ lines) s t (m, takes, later) h = all_stand F lines m t later (takes_stands F s m line takes h)
 
-pub hands_stand : (F : Cnf) (s : LogState) (text : List ℕ) (t : LogState) (rest : List ℕ) → HandsOn TakesLogLine s text t rest → StandsOver F s → StandsOver F t
+pub hands_stand : (F : Cnf) (s : LogState) (text : List ℕ) (t : LogState) (rest : List ℕ) → HandsOn TakesLogLine s text t rest → HoldsFormula F s → HoldsFormula F t
 hands_stand F s text t rest handed h = all_stand F handed.lines s t handed.taken h
 
 -- ---- the lines of a log
 -- the lines spell steps of a log, which lead from one state to the other
 pub record AreLogLines (s : LogState) (lines : List (List ℕ)) (steps : List Step) (t : LogState) : Type 0 where
-  pub spelled : LineSpells (ended lines) steps
+  pub spelled : LineSpells (ended_lines lines) steps
   pub log : AreLogSteps s.base s.live s.top steps
   pub live : t.live ≡ after_steps s.live steps
   pub top : t.top ≡ top_of s.top steps
@@ -71,7 +71,7 @@ pub record AreLogLines (s : LogState) (lines : List (List ℕ)) (steps : List St
 
 one_more : (s m t : LogState) (line : List ℕ) (lines : List (List ℕ)) (steps : List Step) → IsOpen line → TakesLogLine s line m → AreLogLines m lines steps t → AreLogLines s (line ∷ lines) (m.step ∷ steps) t
 one_more s m t line lines steps bare takes r = record {
-  spelled = (line, ended lines, refl, no_lf_to line bare, takes.spells, r.spelled);
+  spelled = (line, ended_lines lines, refl, no_lf_to line bare, takes.spells, r.spelled);
   log = (
     takes.follows,
     subst (λ (b : ℕ). AreLogSteps b (after_step s.live m.step) (top_after s.top m.step) steps) takes.base
@@ -116,7 +116,7 @@ log_taken F s text t rest b h =
     let r = log_lines h.lines s t h.one_by_one h.taken in (
       r.0,
       record {
-        front = ended h.lines;
+        front = ended_lines h.lines;
         whole = h.whole;
         spelled = r.1.spelled;
         log = subst (λ (n : ℕ). AreLogSteps n (map_of F) (length F.clauses) r.0) b.base
@@ -163,24 +163,24 @@ begun_same F s text h =
     ∙ ap (λ (n : ℕ). text_from log_end (record { base = length F.clauses; live = map_of F; top = n; line = s.line; step = (begun F).step; cut = 0 }) text) h.top
     ∙ ap (λ (n : ℕ). text_from log_end (record { base = length F.clauses; live = map_of F; top = length F.clauses; line = n; step = (begun F).step; cut = 0 }) text) h.line
 
--- behind its lines, the log is what its end answers
+-- after its lines, the log is what its end answers
 pub log_ends : (F : Cnf) (s : LogState) (text : List ℕ) (t : LogState) (rest : List ℕ) → IsBegun F s → HandsOn TakesLogLine s text t rest → IsOpen rest → log_of F text ≡ log_end t rest
 log_ends F s text t rest b h no_lf = sym (begun_same F s text b) ∙ text_passed log_end s text t rest h no_lf
 
 -- and where a line of it is refused, it has that fault, or memory ran out
-pub log_stops : (F : Cnf) (s : LogState) (text : List ℕ) (t : LogState) (fault : CheckFault) → IsBegun F s → LineRefused TakesLogLine Refuses s text t fault → (fault ≡ no_memory) ⊎ (log_of F text ≡ Err fault)
+pub log_stops : (F : Cnf) (s : LogState) (text : List ℕ) (t : LogState) (fault : CheckFault) → IsBegun F s → LineRefused TakesLogLine RefusesAndKeeps s text t fault → (fault ≡ no_memory) ⊎ (log_of F text ≡ Err fault)
 log_stops F s text t fault b h = subst (λ (r : Result (Unit {0}) CheckFault). (fault ≡ no_memory) ⊎ (r ≡ Err fault)) (begun_same F s text b) (passed_stop log_end s text t fault h)
 
 -- the same of what has a checker of logs, and tells the checker's fault
 module _ {S X : Type 0} (log : S → LogState) (told : X → CheckFault) (takes : S → List ℕ → S → Type 0) (refuses : S → List ℕ → S → X → Type 0)
     (is_log : (s : S) (line : List ℕ) (t : S) → takes s line t → TakesLogLine (log s) line (log t))
     (is_fault : (s : S) (line : List ℕ) (t : S) (fault : X) → refuses s line t fault → RefusesLogLine (log s) line (told fault) × KeepsFormula (log s) (log t)) where
-  pub refuses_log : (s : S) (text : List ℕ) (t : S) (fault : X) → LineRefused takes refuses s text t fault → LineRefused TakesLogLine Refuses (log s) text (log t) (told fault)
+  pub refuses_log : (s : S) (text : List ℕ) (t : S) (fault : X) → LineRefused takes refuses s text t fault → LineRefused TakesLogLine RefusesAndKeeps (log s) text (log t) (told fault)
   refuses_log s text t fault (m, rest, line, later, h, cut, refused) =
       (log m, rest, line, later, hands_log log takes is_log s text m rest h, cut, is_fault m line t fault refused)
 
   -- also where a piece is not taken to its end
-  pub stops_stand : (F : Cnf) (s : S) (text : List ℕ) (t : S) (fault : PieceFault X) → PieceStops takes refuses s text t fault → StandsOver F (log s) → StandsOver F (log t)
+  pub stops_stand : (F : Cnf) (s : S) (text : List ℕ) (t : S) (fault : PieceFault X) → PieceStops takes refuses s text t fault → HoldsFormula F (log s) → HoldsFormula F (log t)
   stops_stand F s text t NoPlace (lines, taken) h = all_stand F lines (log s) (log t) (taken_log log takes is_log lines s t taken) h
   stops_stand F s text t (Line fault) (m, rest, line, later, handed, cut, refused) h =
       (is_fault m line t fault refused).1 F (hands_stand F (log s) text (log m) rest (hands_log log takes is_log s text m rest handed) h)

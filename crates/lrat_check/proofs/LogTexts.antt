@@ -8,15 +8,15 @@ use Rattle.dimacs.specs.logic.Cnf.{Cnf}
 use Rattle.lrat_text.specs.Grammar.{LineSpells}
 use Rattle.lrat_text.specs.Lines.{IsOpen, IsCut}
 use Rattle.lrat_text.specs.Log.{AreLogSteps, after_step, top_after}
-use Rattle.lrat_text.specs.Reading.{step_in}
-use Rattle.lrat_text.specs.Taking.{TakesAll, HandsOn, Refuses as LineRefused, ended}
+use Rattle.lrat_text.specs.Parser.{step_in}
+use Rattle.lrat_text.specs.LineSink.{TakesAll, HandsOn, LineRefused, ended_lines}
 use Rattle.lrat_text.specs.declared.fault.TextFault.{TextFault}
 use Rattle.lrat_text.specs.declared.step.Step.{Step}
 use Rattle.lrat_text.proofs.SpellingLemmas.{found_spells, spelled_found}
-use Rattle.lrat_check.specs.Checking.{GivesCheck, by_pieces, no_memory}
+use Rattle.lrat_check.specs.ProofFaults.{GivesCheck, by_pieces, no_memory}
 use Rattle.lrat_check.specs.Logs.{LogState, TakesLogLine, RefusesLogLine, SpellsLog, after_line, by_fault, line_read, log_line, log_step_fault, by_line, pieces_from, text_from, log_end, begun, log_of}
-use Rattle.lrat_check.specs.declared.checking.CheckFault.{CheckFault}
-use Rattle.lrat_check.specs.inner.LogStates.{Refuses}
+use Rattle.lrat_check.specs.declared.line_checker.CheckFault.{CheckFault}
+use Rattle.lrat_check.specs.inner.LogStates.{RefusesAndKeeps}
 use Rattle.lrat_check.proofs.Checked.{Spell}
 use Rattle.lrat_check.proofs.Lines.{is_lf, first_piece, spell_lines, lines_spell}
 use Rattle.lrat_check.proofs.Logs.{takes_line, log_from_none, none_from_log}
@@ -25,7 +25,7 @@ use Rattle.lrat_check.proofs.Passing.{gives, given_ok, given_complete}
 abbrev pub End : Type 0
 End = LogState → List ℕ → Result (Unit {0}) CheckFault
 
--- behind the lines of these steps
+-- after the lines of these steps
 abbrev pub after_lines : LogState → List Step → LogState
 after_lines s [] = s
 after_lines s (step ∷ steps) = after_lines (after_line s step) steps
@@ -40,7 +40,7 @@ text_from-line at_end s line rest none =
     ap (by_pieces (pieces_from at_end s)) (slice_split_at is_lf line 10 rest none refl ∙ ap (λ ps. line ∷ ps) more.2)
     ∙ ap (by_line (log_line s line)) (fun_ext (λ t. sym (ap (by_pieces (pieces_from at_end t)) more.2)))
 
--- and ends where no line is left
+-- and ends if no line is left
 text_from-end : (at_end : End) (s : LogState) (text : List ℕ) → All (λ c. is_lf c ≡ false) text → text_from at_end s text ≡ at_end s text
 unfolding text_from pieces_from
 text_from-end at_end s text none = ap (by_pieces (pieces_from at_end s)) (slice_split_none is_lf text none)
@@ -52,10 +52,10 @@ passed_line at_end s text line later t cut takes =
     ∙ text_from-line at_end s line later cut.1
     ∙ ap (λ (r : Result LogState CheckFault). by_line r (λ u. text_from at_end u later)) (takes_line s t line takes)
 
-passed_all : (at_end : End) (lines : List (List ℕ)) (s t : LogState) → All IsOpen lines → TakesAll TakesLogLine s lines t → (rest : List ℕ) → text_from at_end s (ended lines ++ rest) ≡ text_from at_end t rest
+passed_all : (at_end : End) (lines : List (List ℕ)) (s t : LogState) → All IsOpen lines → TakesAll TakesLogLine s lines t → (rest : List ℕ) → text_from at_end s (ended_lines lines ++ rest) ≡ text_from at_end t rest
 passed_all at_end [] s t each e rest = ap (λ (u : LogState). text_from at_end u rest) e
 passed_all at_end (line ∷ lines) s t each (m, takes, later) rest =
-    passed_line at_end s ((line ++ 10 ∷ ended lines) ++ rest) line (ended lines ++ rest) m (append_assoc line (10 ∷ ended lines) rest, All-head IsOpen line lines each) takes
+    passed_line at_end s ((line ++ 10 ∷ ended_lines lines) ++ rest) line (ended_lines lines ++ rest) m (append_assoc line (10 ∷ ended_lines lines) rest, All-head IsOpen line lines each) takes
     ∙ passed_all at_end lines m t (All-tail IsOpen line lines each) later rest
 
 passed : (at_end : End) (s : LogState) (text : List ℕ) (t : LogState) (rest : List ℕ) → HandsOn TakesLogLine s text t rest → text_from at_end s text ≡ text_from at_end t rest
@@ -84,7 +84,7 @@ pub passed_end : (at_end : End) (s : LogState) (text : List ℕ) (t : LogState) 
     → r ≡ at_end t rest → GivesCheck r (text_from at_end s text)
 passed_end at_end s text t rest r h no_lf is = gives r (text_from at_end s text) (text_passed at_end s text t rest h no_lf ∙ sym is)
 
-pub passed_stop : (at_end : End) (s : LogState) (text : List ℕ) (t : LogState) (fault : CheckFault) → LineRefused TakesLogLine Refuses s text t fault
+pub passed_stop : (at_end : End) (s : LogState) (text : List ℕ) (t : LogState) (fault : CheckFault) → LineRefused TakesLogLine RefusesAndKeeps s text t fault
     → (fault ≡ no_memory) ⊎ (text_from at_end s text ≡ Err fault)
 passed_stop at_end s text t fault (m, rest, line, later, h, cut, refuses) =
     found_before (Err fault) (text_from at_end m rest) (text_from at_end s text) (passed at_end s text m rest h) (refused_line at_end m rest line later fault cut refuses.0)

@@ -1,4 +1,4 @@
--- A step of a log has no fault exactly where a log takes it.
+-- A step has no fault exactly if a log takes it.
 use Rattle.std.proofs.Common.{◌≡◌, ℕ, ◌+◌, ◌<◌, Bool, true, false, List, [], ◌∷◌, Option, Some, None, Result, Ok, Err, cond, refl, sym, ◌∙◌, ap, subst, arith, length, eqb, drop, get_or, add-one, drop-cons}
 use Rattle.std.specs.Prelude.{nat_le, IsSome}
 use Rattle.std.specs.List.{AllByRecursion}
@@ -12,14 +12,14 @@ use Rattle.dimacs.specs.logic.Literal.{Clause}
 use Rattle.dimacs.specs.logic.Propagation.{Rup, negations}
 use Rattle.dimacs.specs.logic.Rat.{Group}
 use Rattle.lrat_text.specs.Log.{after_step, top_after, IsLogStep}
-use Rattle.lrat_text.specs.Reading.{step_in}
+use Rattle.lrat_text.specs.Parser.{step_in}
 use Rattle.lrat_text.specs.declared.fault.TextFault.{TextFault}
 use Rattle.lrat_text.specs.declared.step.Step.{Step}
 use Rattle.lrat_text.specs.declared.step.Step.TheVariants.{Add, Delete}
 use Rattle.lrat_text.proofs.SpellingLemmas.{found_spells, spelled_found}
-use Rattle.lrat_check.specs.Faults
-use Rattle.lrat_check.specs.Faults.{Walk, Through, Conflict, Fault, walk, is_tautology, some_group, deletion_fault, live_after}
-use Rattle.lrat_check.specs.Logs.{LogState, TakesLogLine, after_line, by_fault, line_read, log_line, rup_fault, own_addition_fault, own_deletion_fault, log_step_fault}
+use Rattle.lrat_check.specs.StepFaults
+use Rattle.lrat_check.specs.StepFaults.{Walk, Through, Conflict, Fault, walk, is_tautology, has_groups, deletion_fault, live_after}
+use Rattle.lrat_check.specs.Logs.{LogState, TakesLogLine, after_line, by_fault, line_read, log_line, rup_fault, log_addition_fault, log_deletion_fault, log_step_fault}
 use Rattle.lrat_check.specs.declared.fault.StepFault.TheVariants.{UnknownClause}
 use Rattle.lrat_check.proofs.Exact.{conflict_refutes, refutes_walk, negations_consistent}
 use Rattle.lrat_check.proofs.Pairs.{pair_tautology}
@@ -27,7 +27,7 @@ use Rattle.lrat_check.proofs.RatExact.{no_group, no_pair_is}
 use Rattle.lrat_check.proofs.Taken.{removed-without, deletion_live, deletion_none}
 
 -- ---- additions
-pub rup_from_none : (M : ClauseMap) (top id : ℕ) (C : Clause) (hints : List ℕ) (groups : List Group) → own_addition_fault M top id C hints groups ≡ None
+pub rup_from_none : (M : ClauseMap) (top id : ℕ) (C : Clause) (hints : List ℕ) (groups : List Group) → log_addition_fault M top id C hints groups ≡ None
     → (id ≡ top + 1) × (groups ≡ []) × Rup (live_in M) C hints
 rup_from_none M top id C hints groups e = number (eqb id (top + 1)) refl e
   where
@@ -36,27 +36,27 @@ rup_from_none M top id C hints groups e = number (eqb id (top + 1)) refl e
     along Conflict is e = is
     along (Fault fault) is e = absurd cc
 
-    group : (c : Bool) → some_group groups ≡ c → cond c (Some 15) (rup_fault (walk M false hints (negations C))) ≡ None → (groups ≡ []) × (walk M false hints (negations C) ≡ Conflict)
+    group : (c : Bool) → has_groups groups ≡ c → cond c (Some 15) (rup_fault (walk M false hints (negations C))) ≡ None → (groups ≡ []) × (walk M false hints (negations C) ≡ Conflict)
     group true is e = absurd cc
     group false is e = (no_group groups is, along (walk M false hints (negations C)) refl e)
 
-    pair : (c : Bool) → is_tautology C ≡ c → cond c (Some 4) (cond (some_group groups) (Some 15) (rup_fault (walk M false hints (negations C)))) ≡ None
+    pair : (c : Bool) → is_tautology C ≡ c → cond c (Some 4) (cond (has_groups groups) (Some 15) (rup_fault (walk M false hints (negations C)))) ≡ None
         → (is_tautology C ≡ false) × (groups ≡ []) × (walk M false hints (negations C) ≡ Conflict)
     pair true is e = absurd cc
-    pair false is e = let g = group (some_group groups) refl e in (is, g.0, g.1)
+    pair false is e = let g = group (has_groups groups) refl e in (is, g.0, g.1)
 
-    number : (c : Bool) → eqb id (top + 1) ≡ c → cond c (cond (is_tautology C) (Some 4) (cond (some_group groups) (Some 15) (rup_fault (walk M false hints (negations C))))) (Some 2) ≡ None
+    number : (c : Bool) → eqb id (top + 1) ≡ c → cond c (cond (is_tautology C) (Some 4) (cond (has_groups groups) (Some 15) (rup_fault (walk M false hints (negations C))))) (Some 2) ≡ None
         → (id ≡ top + 1) × (groups ≡ []) × Rup (live_in M) C hints
     number true is e =
         let p = pair (is_tautology C) refl e in
         (eqb-true id (top + 1) is, p.1, record { no_pair = λ pair. both_ways (is_tautology C) p.0 (pair_tautology C pair); refutes = (conflict_refutes M false hints (negations C) p.2).0 })
     number false is e = absurd cc
 
-pub none_from_rup : (M : ClauseMap) (top id : ℕ) (C : Clause) (hints : List ℕ) (groups : List Group) → (id ≡ top + 1) → (groups ≡ []) → Rup (live_in M) C hints → own_addition_fault M top id C hints groups ≡ None
+pub none_from_rup : (M : ClauseMap) (top id : ℕ) (C : Clause) (hints : List ℕ) (groups : List Group) → (id ≡ top + 1) → (groups ≡ []) → Rup (live_in M) C hints → log_addition_fault M top id C hints groups ≡ None
 none_from_rup M top id C hints groups next none rup =
-    ap (λ c. cond c (cond (is_tautology C) (Some 4) (cond (some_group groups) (Some 15) (rup_fault (walk M false hints (negations C))))) (Some 2)) (eq-eqb id (top + 1) next)
-    ∙ ap (λ c. cond c (Some 4) (cond (some_group groups) (Some 15) (rup_fault (walk M false hints (negations C))))) (no_pair_is C rup.no_pair)
-    ∙ ap (λ gs. cond (some_group gs) (Some 15) (rup_fault (walk M false hints (negations C)))) none
+    ap (λ c. cond c (cond (is_tautology C) (Some 4) (cond (has_groups groups) (Some 15) (rup_fault (walk M false hints (negations C))))) (Some 2)) (eq-eqb id (top + 1) next)
+    ∙ ap (λ c. cond c (Some 4) (cond (has_groups groups) (Some 15) (rup_fault (walk M false hints (negations C))))) (no_pair_is C rup.no_pair)
+    ∙ ap (λ gs. cond (has_groups gs) (Some 15) (rup_fault (walk M false hints (negations C)))) none
     ∙ ap rup_fault (refutes_walk M hints (negations C) (negations_consistent C rup.no_pair) rup.refutes)
 
 -- ---- deletions
@@ -66,32 +66,32 @@ above id b e = grind (arith, nat_tests)
 not_below : (id b : ℕ) → b < id → nat_le id b ≡ false
 not_below id b h = grind (arith, nat_tests)
 
-own_from_none : (b : ℕ) (M : ClauseMap) (ids : List ℕ) → own_deletion_fault b M ids ≡ None → AllByRecursion (λ id. b < id) ids × (deletion_fault M ids ≡ None)
+own_from_none : (b : ℕ) (M : ClauseMap) (ids : List ℕ) → log_deletion_fault b M ids ≡ None → AllByRecursion (λ id. b < id) ids × (deletion_fault M ids ≡ None)
 own_from_none b M [] e = (tt, refl)
 own_from_none b M (id ∷ ids) e = at (nat_le id b) refl e (λ f. own_from_none b (remove M id) ids f)
   where
-    on : (c : Bool) → is_some (get M id) ≡ c → b < id → cond c (own_deletion_fault b (remove M id) ids) (Some 3) ≡ None
-        → (own_deletion_fault b (remove M id) ids ≡ None → AllByRecursion (λ id. b < id) ids × (deletion_fault (remove M id) ids ≡ None))
+    on : (c : Bool) → is_some (get M id) ≡ c → b < id → cond c (log_deletion_fault b (remove M id) ids) (Some 3) ≡ None
+        → (log_deletion_fault b (remove M id) ids ≡ None → AllByRecursion (λ id. b < id) ids × (deletion_fault (remove M id) ids ≡ None))
         → AllByRecursion (λ id. b < id) (id ∷ ids) × (deletion_fault M (id ∷ ids) ≡ None)
     on true is high e rest = let r = rest e in ((high, r.0), ap (λ c. cond c (deletion_fault (remove M id) ids) (Some UnknownClause)) is ∙ r.1)
     on false is high e rest = absurd cc
 
-    at : (c : Bool) → nat_le id b ≡ c → cond c (Some 16) (cond (is_some (get M id)) (own_deletion_fault b (remove M id) ids) (Some 3)) ≡ None
-        → (own_deletion_fault b (remove M id) ids ≡ None → AllByRecursion (λ id. b < id) ids × (deletion_fault (remove M id) ids ≡ None))
+    at : (c : Bool) → nat_le id b ≡ c → cond c (Some 16) (cond (is_some (get M id)) (log_deletion_fault b (remove M id) ids) (Some 3)) ≡ None
+        → (log_deletion_fault b (remove M id) ids ≡ None → AllByRecursion (λ id. b < id) ids × (deletion_fault (remove M id) ids ≡ None))
         → AllByRecursion (λ id. b < id) (id ∷ ids) × (deletion_fault M (id ∷ ids) ≡ None)
     at true is e rest = absurd cc
     at false is e rest = on (is_some (get M id)) refl (above id b is) e rest
 
-none_from_own : (b : ℕ) (M : ClauseMap) (ids : List ℕ) → AllByRecursion (λ id. b < id) ids → deletion_fault M ids ≡ None → own_deletion_fault b M ids ≡ None
+none_from_own : (b : ℕ) (M : ClauseMap) (ids : List ℕ) → AllByRecursion (λ id. b < id) ids → deletion_fault M ids ≡ None → log_deletion_fault b M ids ≡ None
 none_from_own b M [] high e = refl
 none_from_own b M (id ∷ ids) high e = at (is_some (get M id)) refl e (λ f. none_from_own b (remove M id) ids high.1 f)
   where
     at : (c : Bool) → is_some (get M id) ≡ c → cond c (deletion_fault (remove M id) ids) (Some UnknownClause) ≡ None
-        → (deletion_fault (remove M id) ids ≡ None → own_deletion_fault b (remove M id) ids ≡ None)
-        → own_deletion_fault b M (id ∷ ids) ≡ None
+        → (deletion_fault (remove M id) ids ≡ None → log_deletion_fault b (remove M id) ids ≡ None)
+        → log_deletion_fault b M (id ∷ ids) ≡ None
     at true is e rest =
-        ap (λ c. cond c (Some 16) (cond (is_some (get M id)) (own_deletion_fault b (remove M id) ids) (Some 3))) (not_below id b high.0)
-        ∙ ap (λ c. cond c (own_deletion_fault b (remove M id) ids) (Some 3)) is
+        ap (λ c. cond c (Some 16) (cond (is_some (get M id)) (log_deletion_fault b (remove M id) ids) (Some 3))) (not_below id b high.0)
+        ∙ ap (λ c. cond c (log_deletion_fault b (remove M id) ids) (Some 3)) is
         ∙ rest e
     at false is e rest = absurd cc
 
@@ -112,7 +112,7 @@ pub live_same : (M : ClauseMap) (step : Step) → live_after M step ≡ after_st
 live_same M (Add id lits hints groups) = refl
 live_same M (Delete ids) = removed-without M ids
 
-pub top_same : (top : ℕ) (step : Step) → Faults.top_after top step ≡ top_after top step
+pub top_same : (top : ℕ) (step : Step) → StepFaults.top_after top step ≡ top_after top step
 top_same top (Add id lits hints groups) = refl
 top_same top (Delete ids) = refl
 
@@ -143,17 +143,17 @@ takes_line s t line h =
     ∙ ap (λ (n : ℕ). Ok (record { base = t.base; live = t.live; top = t.top; line = t.line; step = t.step; cut = n })) (sym h.cut)
 
 -- ---- deletions, number by number
-pub own_none : (b : ℕ) (M : ClauseMap) (id : ℕ) (ids : List ℕ) → b < id → is_some (get M id) ≡ true → own_deletion_fault b (remove M id) ids ≡ None → own_deletion_fault b M (id ∷ ids) ≡ None
+pub own_none : (b : ℕ) (M : ClauseMap) (id : ℕ) (ids : List ℕ) → b < id → is_some (get M id) ≡ true → log_deletion_fault b (remove M id) ids ≡ None → log_deletion_fault b M (id ∷ ids) ≡ None
 own_none b M id ids high live later =
-    ap (λ c. cond c (Some 16) (cond (is_some (get M id)) (own_deletion_fault b (remove M id) ids) (Some 3))) (not_below id b high)
-    ∙ ap (λ c. cond c (own_deletion_fault b (remove M id) ids) (Some 3)) live
+    ap (λ c. cond c (Some 16) (cond (is_some (get M id)) (log_deletion_fault b (remove M id) ids) (Some 3))) (not_below id b high)
+    ∙ ap (λ c. cond c (log_deletion_fault b (remove M id) ids) (Some 3)) live
     ∙ later
 
 pub own_on : (b : ℕ) (M : ClauseMap) (ids : List ℕ) (i : ℕ) → i < length ids → b < get_or ids i 0 → is_some (get M (get_or ids i 0)) ≡ true
-    → own_deletion_fault b M (drop i ids) ≡ own_deletion_fault b (remove M (get_or ids i 0)) (drop (i + 1) ids)
+    → log_deletion_fault b M (drop i ids) ≡ log_deletion_fault b (remove M (get_or ids i 0)) (drop (i + 1) ids)
 own_on b M ids i below high live =
     let id : ℕ = get_or ids i 0 in
     let here : drop i ids ≡ id ∷ drop (i + 1) ids = rw (add-one, drop-cons ids i 0) refl in
-    ap (own_deletion_fault b M) here
-    ∙ ap (λ c. cond c (Some 16) (cond (is_some (get M id)) (own_deletion_fault b (remove M id) (drop (i + 1) ids)) (Some 3))) (not_below id b high)
-    ∙ ap (λ c. cond c (own_deletion_fault b (remove M id) (drop (i + 1) ids)) (Some 3)) live
+    ap (log_deletion_fault b M) here
+    ∙ ap (λ c. cond c (Some 16) (cond (is_some (get M id)) (log_deletion_fault b (remove M id) (drop (i + 1) ids)) (Some 3))) (not_below id b high)
+    ∙ ap (λ c. cond c (log_deletion_fault b (remove M id) (drop (i + 1) ids)) (Some 3)) live

@@ -13,7 +13,7 @@ use Rattle.dimacs.specs.logic.Literal.{Literal, Clause, var_of}
 use Rattle.dimacs.specs.layout.Flat.{parts}
 use Rattle.lrat_check.specs.declared.slot.Slot.{Slot}
 use Rattle.lrat_check.specs.inner.Store.{clause_at, entries_of, near_entries, Tables, live_of, numbered, numbered_entries, place_of, ArePlaced, IsStore}
-use Rattle.lrat_check.specs.inner.Table.{FitsTable, AllFit}
+use Rattle.lrat_check.specs.inner.LiteralTable.{FitsTable, AllFit}
 use Rattle.lrat_check.proofs.Counted.{counted_none, counted_new}
 use Rattle.lrat_check.proofs.Formula.{clauses_more, find-past}
 use Rattle.lrat_check.proofs.Slots.{near_at, get-live_of, placed_at, no_slot, no_place}
@@ -27,7 +27,7 @@ entries_of-push literals number (Some v ∷ slots) n s =
     ap (λ (es : List (ℕ × Clause)). (number n, clause_at literals v) ∷ es)
     (entries_of-push literals number slots (n + 1) s ∙ ap (λ k. entries_of literals number (n + 1) slots ++ (number k, clause_at literals s) ∷ []) (omega arith))
 
--- the part at a place, and those behind it
+-- the part at a place, and those after it
 parts_next : (xs : List Literal) (places : List ℕ) (i : ℕ) → i + 1 < length places
     → parts xs (drop i places) ≡ slice_range xs (get_or places i 0) (get_or places (i + 1) 0) ∷ parts xs (drop (i + 1) places)
 parts_next xs places i lt =
@@ -54,7 +54,7 @@ slots_more xs places near i s len lt at is =
 one_place : (xs : List Literal) (places : List ℕ) (i : ℕ) → length places ≤ i + 1 → i < length places → parts xs (drop i places) ≡ []
 one_place xs places i le lt = ap (parts xs) (drop-cons places i 0 lt ∙ ap (λ ps. get_or places i 0 ∷ ps) (drop_all (suc i) places (omega arith)))
 
--- no part is left behind the last place
+-- no part is left after the last place
 pub slots_all : (xs : List Literal) (places : List ℕ) (es : List (ℕ × Clause)) (i : ℕ) → length places ≤ i + 1 → i < length places → es ++ enumerate_from (i + 1) (parts xs (drop i places)) ≡ es
 slots_all xs places es i le lt = ap (λ cs. es ++ enumerate_from (i + 1) cs) (one_place xs places i le lt) ∙ append-nil es
 

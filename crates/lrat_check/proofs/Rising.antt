@@ -1,10 +1,10 @@
--- Candidates that rise are named once.
+-- Strictly increasing candidates are named once.
 use Rattle.std.proofs.Common.{◌≡◌, ℕ, ◌<◌, ◌≤◌, Bool, true, false, ◌||◌, List, [], ◌∷◌, Result, Ok, cond, refl, sym, ◌∙◌, ap, eqb, arith}
 use Rattle.std.specs.Bool.{OnTrue, OnFalse}
 use Rattle.std.proofs.lemmas.Bool.{ne_eqb}
 use Rattle.dimacs.specs.logic.Rat.{Group}
-use Rattle.lrat_check.specs.Faults.{is_named}
-use Rattle.lrat_check.specs.inner.Rising.{IsRising}
+use Rattle.lrat_check.specs.StepFaults.{is_named}
+use Rattle.lrat_check.specs.inner.CandidateOrder.{IsRising}
 use Rattle.lrat_check.proofs.Named.{named_more}
 
 -- no number is above n

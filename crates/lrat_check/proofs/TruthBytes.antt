@@ -3,7 +3,7 @@ use Rattle.std.proofs.Common.{◌≡◌, ℕ, zero, suc, ◌<◌, ◌==◌, Bool
 use Rattle.std.specs.List.{list_all}
 use Rattle.std.proofs.lemmas.Bool.{ltb-true}
 use Rattle.std.proofs.lemmas.List.Sums.{AllPass-from_list_all}
-use Rattle.lrat_check.specs.Judging.{value_byte}
+use Rattle.lrat_check.specs.Judgement.{value_byte}
 
 -- a truth value is found again from its byte
 pub values_back : (a : List Bool) → map (λ b. b == 1) (map value_byte a) ≡ a

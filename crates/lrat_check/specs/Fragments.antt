@@ -6,16 +6,16 @@ use Rattle.dimacs.specs.logic.Literal.{negation, has}
 use Rattle.lrat_text.specs.Log.{Cube}
 use Rattle.lrat_text.specs.declared.step.Step.{Step}
 use Rattle.lrat_text.specs.declared.step.Step.TheVariants.{Add, Delete}
-use Rattle.lrat_check.specs.Checking.{text_end}
+use Rattle.lrat_check.specs.ProofFaults.{text_end}
 use Rattle.lrat_check.specs.Logs.{LogState, begun, text_from}
-use Rattle.lrat_check.specs.declared.checking.CheckFault.{CheckFault}
+use Rattle.lrat_check.specs.declared.line_checker.CheckFault.{CheckFault}
 
 -- whether a step adds a clause of negations of the cube's literals
 abbrev pub closes : Cube → Step → Bool
 closes q (Add id lits hints groups) = list_all (λ l. has q (negation l)) lits
 closes q (Delete ids) = false
 
--- behind the last LF of a fragment stands nothing, and the step before it closes the cube (else 17)
+-- nothing follows the last LF of a fragment, and the last step closes the cube (else 17)
 abbrev pub fragment_end : Cube → LogState → List ℕ → Result (Unit {0}) CheckFault
 fragment_end q s rest = text_end 17 (closes q s.step) s.line rest
 

@@ -1,10 +1,10 @@
-pub mod Checking
-pub mod Faults
+pub mod ProofFaults
+pub mod StepFaults
 pub mod Fragments
-pub mod Holding
-pub mod Judging
+pub mod Holders
+pub mod Judgement
 pub mod Logs
-pub mod Numbers
+pub mod FaultNumbers
 pub mod Refusals
 pub mod Soundness
 pub mod State

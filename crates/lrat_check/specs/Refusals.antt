@@ -1,11 +1,11 @@
--- The fault of what is refused before there is a step to test.
+-- The fault of a line or a piece that is refused before there is a step to test.
 use Rattle.std.specs.Prelude.{ℕ}
 use Rattle.lrat_text.specs.declared.fault.TextFault.{TextFault}
 use Rattle.lrat_text.specs.declared.fault.TextFault.TheVariants.{BadToken, LineNotEnded, MissingZero, NumberTooLarge, NoMemory}
-use Rattle.lrat_text.specs.declared.lines.PieceFault.{PieceFault}
-use Rattle.lrat_text.specs.declared.lines.PieceFault.TheVariants.{NoMemory as NoPlace, Line}
-use Rattle.lrat_check.specs.Checking.{no_memory}
-use Rattle.lrat_check.specs.declared.checking.CheckFault.{CheckFault}
+use Rattle.lrat_text.specs.declared.line_splitter.PieceFault.{PieceFault}
+use Rattle.lrat_text.specs.declared.line_splitter.PieceFault.TheVariants.{NoMemory as NoPlace, Line}
+use Rattle.lrat_check.specs.ProofFaults.{no_memory}
+use Rattle.lrat_check.specs.declared.line_checker.CheckFault.{CheckFault}
 
 -- the fault of a line that spells no step
 abbrev pub text_refusal : TextFault → ℕ → CheckFault

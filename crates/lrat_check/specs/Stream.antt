@@ -1,47 +1,47 @@
--- Checking a text that comes in pieces.
+-- Checking the text of a proof that comes in pieces.
 use Rattle.std.specs.Prelude.{◌≡◌, ◌⊎◌, ℕ, Bool, true, false, List, ◌++◌, Option, Some, None, Result, Ok, Err}
 use Rattle.dimacs.specs.logic.Cnf.{Cnf}
 use Rattle.lrat_text.specs.Lines.{IsOpen}
-use Rattle.lrat_check.specs.Checking.{check_text, check_of, no_memory}
+use Rattle.lrat_check.specs.ProofFaults.{check_text, check_of, no_memory}
 use Rattle.lrat_check.specs.State.{State}
-use Rattle.lrat_check.specs.declared.checking.CheckFault.{CheckFault}
+use Rattle.lrat_check.specs.declared.line_checker.CheckFault.{CheckFault}
 
--- what is kept of the pieces so far: a checker's state behind the last LF, the number of the line that follows it, and that
--- line's bytes; or the fault that was met
-pub data Progress : Type 0 where
-  Within : State → ℕ → List ℕ → Progress
-  Failed : CheckFault → Progress
+-- what is kept of the pieces so far: the checker's state after the last LF, the number of the line that follows it, and the bytes of that
+-- line so far; or the fault that was met
+pub data CheckProgress : Type 0 where
+  Within : State → ℕ → List ℕ → CheckProgress
+  Failed : CheckFault → CheckProgress
 
--- what checking answers where these bytes are still to come, and no others
-abbrev pub check_more : Progress → List ℕ → Result (Unit {0}) CheckFault
+-- the answer of checking if exactly these bytes follow
+abbrev pub check_more : CheckProgress → List ℕ → Result (Unit {0}) CheckFault
 check_more (Within s line begun) more = check_text s.refuted s.live s.top line (begun ++ more)
 check_more (Failed fault) more = Err fault
 
--- what is answered to a piece
-abbrev pub answer_in : Progress → Result (Unit {0}) CheckFault
+-- the answer to a piece
+abbrev pub answer_in : CheckProgress → Result (Unit {0}) CheckFault
 answer_in (Within s line begun) = Ok tt
 answer_in (Failed fault) = Err fault
 
--- whether a fault was met, or memory was wanting
-abbrev pub has_failed : Progress → Bool
+-- whether a fault was met, or memory was refused
+abbrev pub has_failed : CheckProgress → Bool
 has_failed (Within s line begun) = false
 has_failed (Failed fault) = true
 
--- these bytes of a proof of the formula have been taken
-abbrev pub HasTaken : Cnf → Progress → List ℕ → Type 0
+-- These bytes of a proof of the formula were taken: whatever follows, the answer is that of checking the whole. Or memory was refused.
+abbrev pub HasTaken : Cnf → CheckProgress → List ℕ → Type 0
 HasTaken F p bytes = (p ≡ Failed no_memory) ⊎ ((more : List ℕ) → check_of F (bytes ++ more) ≡ check_more p more)
 
 -- A piece is taken: the answer is the new state's, a fault stays, and whatever bytes were taken, the piece is now taken too.
-pub record TakesPiece (old : Progress) (piece : List ℕ) (answer : Result (Unit {0}) CheckFault) (new : Progress) : Type 0 where
+pub record TakesPiece (old : CheckProgress) (piece : List ℕ) (answer : Result (Unit {0}) CheckFault) (new : CheckProgress) : Type 0 where
   pub answers : answer ≡ answer_in new
   pub stays : (fault : CheckFault) → old ≡ Failed fault → new ≡ old
   pub history : (F : Cnf) (bytes : List ℕ) → HasTaken F old bytes → HasTaken F new (bytes ++ piece)
 
--- the line that is begun has no LF, so that each line that is whole was taken
-abbrev pub IsWithinLine : Progress → Type 0
+-- the line that is begun has no LF, so each complete line was taken
+abbrev pub IsWithinLine : CheckProgress → Type 0
 IsWithinLine (Within s line begun) = IsOpen begun
 IsWithinLine (Failed fault) = Unit {0}
 
-abbrev pub progress_of : Option CheckFault → State → ℕ → List ℕ → Progress
+abbrev pub progress_of : Option CheckFault → State → ℕ → List ℕ → CheckProgress
 progress_of None s line begun = Within s line begun
 progress_of (Some fault) s line begun = Failed fault

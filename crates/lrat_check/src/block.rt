@@ -1,21 +1,21 @@
-//! The slots of 1,024 places.
+//! A block: 1,024 cells of the table by clause number, allocated when the first slot is put there.
 
 ghost use Rattle.std.specs.Prelude.{◌≡◌, ◌-◌, ◌^◌, ◌<◌, None, Some, slice_index_or, slice_set, OnOk, OnErr, IfOk};
 ghost use Rattle.std.specs.Bool.{OnTrue};
 ghost use Rattle.lrat_check.specs.inner.Blocks.{free_block, places_of};
 ghost use Rattle.lrat_check.specs.inner.Store.{ArePlaced, AreCopied, Keeps};
 
-use crate::room::copy_slots;
+use crate::compaction::copy_slots;
 use crate::slot::{Cell, Slot};
 use dimacs::Lit;
 use std::alloc::{AllocError, Global};
 use std::marker::Model;
 use std::mem;
 
-/// How many places a block has.
+/// Cells per block.
 pub(crate) const BLOCK: usize = 1024;
 
-/// Makes the cells of a block, where they are not there.
+/// Allocates the cells of a block, if it has none.
 fn make_cells(cells: &mut Vec<Cell>) -> Result<(), AllocError>
     ensures ok { OnOk result (cells.new.items ≡ places_of cells.old.items) }
     ensures err { OnErr result (cells.new.items ≡ cells.old.items) }
@@ -26,11 +26,11 @@ fn make_cells(cells: &mut Vec<Cell>) -> Result<(), AllocError>
     Ok(())
 }
 
-/// The slots of 1,024 places. Where none stands it needs no cells.
+/// 1,024 cells, each free or with a slot. If all are free, the vector may be empty.
 #[derive(Drop)]
 pub(crate) struct Block {
     cells: Vec<Cell>,
-    /// How many slots stand in it.
+    /// How many cells have a slot.
     live: usize,
 }
 
@@ -47,7 +47,7 @@ impl Model for Block {
 }
 
 impl Block {
-    /// No slot, and no cells.
+    /// All cells free, and none allocated.
     pub(crate) fn new(alloc: Global) -> Block
         ensures { result ≡ free_block }
     {
@@ -57,21 +57,21 @@ impl Block {
         }
     }
 
-    /// Whether it has no cells.
+    /// Whether no cells are allocated.
     pub(crate) fn is_bare(&self) -> bool
         ensures { OnTrue result (self.now ≡ free_block) }
     {
         self.cells.is_empty()
     }
 
-    /// Whether no slot stands in it.
+    /// Whether all cells are free.
     pub(crate) fn is_free(&self) -> bool
         ensures { OnTrue result (self.now ≡ free_block) }
     {
         self.live == 0
     }
 
-    /// How many cells it has.
+    /// How many cells are allocated: none or 1,024.
     pub(crate) fn weight(&self) -> usize {
         self.cells.len()
     }
@@ -114,7 +114,7 @@ impl Block {
         }
     }
 
-    /// Takes its cells and slots out.
+    /// Moves the block out, and leaves a free one.
     pub(crate) fn take(&mut self) -> Block
         ensures taken { result ≡ self.old }
         ensures none { self.new ≡ free_block }
@@ -123,7 +123,7 @@ impl Block {
         mem::replace(self, none)
     }
 
-    /// The block with its clauses copied to the end of other literals.
+    /// Appends the block's clauses to `out`, and gives the block of their new slots.
     pub(crate) fn copied(&self, literals: &[Lit], out: &mut Vec<Lit>) -> Result<Block, AllocError>
         requires { ArePlaced literals.now self.now }
         ensures copied { IfOk result (λ copy. AreCopied literals.now self.now out.new.items copy) }

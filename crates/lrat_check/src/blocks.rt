@@ -1,4 +1,4 @@
-//! Slots in blocks.
+//! A table of slots in blocks of 1,024 cells, which are allocated on demand.
 
 ghost use Rattle.std.specs.Prelude.{◌≡◌, ◌≢◌, ℕ, ◌+◌, ◌-◌, ◌^◌, ◌<◌, ◌≤◌, [], ◌++◌, None, Some, All, length, slice_index_or, slice_set, OnOk, OnErr, IfOk};
 ghost use Rattle.lrat_check.specs.inner.Blocks.{free_block, joined};
@@ -11,10 +11,10 @@ use std::alloc::{AllocError, Global};
 use std::marker::Model;
 use std::mem;
 
-/// There are so many blocks at most, so that the number of all places is a `usize`.
+/// The most blocks, so that the number of all places fits in a `usize`.
 const MOST: usize = 1 << 48;
 
-/// Puts a slot at a place of a block. Where the block has no cells, it takes those of the spare one.
+/// Puts a slot at a place of a block. If the block has no cells, it takes those of the spare block.
 fn put_in(block: &mut Block, spare: &mut Block, place: usize, slot: Slot) -> Result<(), AllocError>
     requires within { place < 1024 }
     requires room { slot.place < 2 ^ 64 - 1 }
@@ -29,7 +29,7 @@ fn put_in(block: &mut Block, spare: &mut Block, place: usize, slot: Slot) -> Res
     block.put(place, slot)
 }
 
-/// Frees a place of a block. Where no slot stands in it any more, its cells are spare, and those that were are given back.
+/// Frees a place of a block. If no slot is left there, its cells become the spare ones, and the old spare ones are freed.
 fn free_in(block: &mut Block, spare: &mut Block, place: usize)
     requires { spare.old ≡ free_block }
     ensures freed { block.new ≡ slice_set block.old place None }
@@ -41,13 +41,12 @@ fn free_in(block: &mut Block, spare: &mut Block, place: usize)
     }
 }
 
-/// Slots by places. Most places are those of lemmas that were deleted, so the cells of 1,024 places are a block of their own, which is
-/// made when a slot is first put there and given back when none stands in it: else a proof would take room for each number
-/// that it ever gave.
+/// Slots by place. Most places are numbers of deleted lemmas, so each block of 1,024 cells is allocated when a slot is first put there,
+/// and freed after its last slot is gone. Else a proof would take memory for each number that it ever gave.
 #[derive(Drop)]
 pub(crate) struct Blocks {
     blocks: Vec<Block>,
-    /// A block in which no slot stands, whose cells serve the next one. So a proof whose lemmas come and go by turns makes no cells.
+    /// A block without slots, whose cells the next block takes. So a proof that adds and deletes lemmas by turns allocates nothing.
     spare: Block,
 }
 
@@ -64,7 +63,7 @@ impl Model for Blocks {
 }
 
 impl Blocks {
-    /// No place.
+    /// An empty table.
     pub(crate) fn new(alloc: Global) -> Blocks
         ensures { result ≡ [] }
     {
@@ -83,8 +82,8 @@ impl Blocks {
         BLOCK * self.blocks.len()
     }
 
-    /// There are far fewer places than a count can tell.
-    pub(crate) fn is_small(&self)
+    /// For proofs: bounds the number of places. It does nothing.
+    pub(crate) fn bound_len(&self)
         ensures { length self.now < 2 ^ 62 }
     {
         let _ = self.len();
@@ -101,7 +100,7 @@ impl Blocks {
         }
     }
 
-    /// Puts a slot at a place. All stays as it is where cells would have to be made and memory is refused.
+    /// Puts a slot at a place. If cells have to be allocated and memory is refused, nothing changes.
     pub(crate) fn set(&mut self, place: usize, slot: Slot) -> Result<(), AllocError>
         requires here { place < length self.old }
         requires room { slot.place < 2 ^ 64 - 1 }
@@ -128,7 +127,7 @@ impl Blocks {
         );
     }
 
-    /// Makes a block of free places more.
+    /// Appends a block of free places.
     pub(crate) fn grow(&mut self) -> Result<(), AllocError>
         ensures ok { OnOk result (self.new ≡ self.old ++ free_block) }
         ensures err { OnErr result (self.new ≡ self.old) }
@@ -141,7 +140,7 @@ impl Blocks {
         Ok(())
     }
 
-    /// How many cells there are, and blocks.
+    /// The number of blocks and of allocated cells: what a copy has to look at.
     pub(crate) fn weight(&self) -> usize {
         let mut weight = self.blocks.len();
         for block in &self.blocks {
@@ -150,7 +149,7 @@ impl Blocks {
         weight
     }
 
-    /// The places with their clauses copied to the end of other literals.
+    /// Appends the table's clauses to `out`, and gives the table of their new slots.
     pub(crate) fn copied(&self, literals: &[Lit], out: &mut Vec<Lit>) -> Result<Blocks, AllocError>
         requires { ArePlaced literals.now self.now }
         ensures copied { IfOk result (λ copy. AreCopied literals.now self.now out.new.items copy) }
@@ -164,7 +163,7 @@ impl Blocks {
     }
 }
 
-/// Copies the clauses of blocks to the end of other literals, and gives the blocks of their slots there.
+/// Appends the clauses of blocks to `out`, and gives the blocks of their new slots.
 fn copy_blocks(
     alloc: Global,
     literals: &[Lit],
@@ -186,7 +185,7 @@ fn copy_blocks(
     Ok(copies)
 }
 
-/// Makes free places, if the next one is not there yet.
+/// Appends a block of free places, if the table ends before this place.
 fn reach(blocks: &mut Blocks, place: usize) -> Result<(), AllocError>
     requires { place < length blocks.old + 1024 }
     ensures longer { OnOk result (place < length blocks.new) }
@@ -198,7 +197,7 @@ fn reach(blocks: &mut Blocks, place: usize) -> Result<(), AllocError>
     Ok(())
 }
 
-/// Puts a slot at the next place.
+/// Puts a slot at a place, at most one block after the table's end.
 pub(crate) fn put_next(blocks: &mut Blocks, place: usize, slot: Slot) -> Result<(), AllocError>
     requires next { place < length blocks.old + 1024 }
     requires room { slot.place < 2 ^ 64 - 1 }

@@ -5,11 +5,11 @@ ghost use Rattle.std.specs.List.{list_all};
 ghost use Rattle.dimacs.specs.logic.Literal.{negation, has};
 ghost use Rattle.lrat_text.specs.Log.{Closes};
 ghost use Rattle.lrat_text.specs.Steps.{step_of};
-ghost use Rattle.lrat_check.specs.Checking.{GivesCheck, no_memory};
+ghost use Rattle.lrat_check.specs.ProofFaults.{GivesCheck, no_memory};
 ghost use Rattle.lrat_check.specs.Fragments.{closes, fragment_end, fragment_of};
 ghost use Rattle.lrat_check.specs.Logs.{text_from};
 
-use crate::checking::{CheckFault, finish};
+use crate::line_checker::{CheckFault, finish};
 use crate::log_checker::LogChecker;
 use dimacs::{Base, Lit, has_literal};
 use lrat_text::{StepRef, take_lines};
@@ -31,7 +31,7 @@ fn negates(cube: &[Lit], lits: &[Lit]) -> bool
     true
 }
 
-/// Whether a step closes the cube.
+/// Whether a step adds a lemma that closes the cube.
 fn is_closing(cube: &[Lit], step: StepRef<'_>) -> bool
     ensures { result ≡ closes cube.now (step_of step.entry) }
 {
@@ -41,14 +41,14 @@ fn is_closing(cube: &[Lit], step: StepRef<'_>) -> bool
     }
 }
 
-/// What is answered at the end of a fragment.
+/// The answer at the end of a fragment, of which `rest` follows the last LF.
 fn end(log: &LogChecker, cube: &[Lit], rest: &[u8]) -> Result<(), CheckFault>
     ensures { result ≡ fragment_end cube.now log.now rest.now }
 {
     finish(NOT_CLOSED, is_closing(cube, log.step()), log.line(), rest)
 }
 
-/// Checks line by line.
+/// Checks the lines of a fragment, and its end.
 fn check_lines(log: &mut LogChecker, cube: &[Lit], fragment: &[u8]) -> Result<(), CheckFault>
     ensures { GivesCheck result (text_from (fragment_end cube.now) log.old fragment.now) }
 {
@@ -56,7 +56,7 @@ fn check_lines(log: &mut LogChecker, cube: &[Lit], fragment: &[u8]) -> Result<()
     end(log, cube, rest)
 }
 
-/// Checks line by line, where the lines lie packed.
+/// The same, of a packed text.
 fn check_packed_lines(
     alloc: Global,
     log: &mut LogChecker,
@@ -73,7 +73,7 @@ fn check_packed_lines(
     end(log, cube, &line)
 }
 
-/// Whether the text is a fragment that closes the cube over the base; else its first fault.
+/// Checks that the text is a fragment that closes the cube over the base, or tells its first fault.
 pub fn check_fragment(
     alloc: Global,
     base: &Base,
@@ -90,7 +90,7 @@ pub fn check_fragment(
     check_lines(&mut log, cube, fragment)
 }
 
-/// The same of a packed text, which never stands whole: its lines are unpacked one after the other.
+/// The same of a packed text. Its lines are unpacked one at a time, so the text never stands whole.
 pub fn check_packed_fragment(
     alloc: Global,
     base: &Base,

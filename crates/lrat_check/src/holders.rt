@@ -1,23 +1,23 @@
-//! How many live clauses hold each literal: they are counted when that is first asked for, and kept from then on, so that a
-//! proof without RAT lemmas has no counts.
+//! How many live clauses hold each literal. They are counted at the first RAT lemma and the counts kept from then on, so a proof without
+//! RAT lemmas has no counts.
 
 ghost use Rattle.std.specs.Prelude.{◌≡◌, ◌≤◌, OnOk, slice_index, vec_len};
 ghost use Rattle.std.specs.Bool.{OnTrue};
 ghost use Rattle.dimacs.specs.logic.ClauseMap.{ClauseMap};
 ghost use Rattle.dimacs.specs.logic.Literal.{index_of};
 ghost use Rattle.lrat_check.specs.inner.Holders.{AreCounted};
-ghost use Rattle.lrat_check.specs.inner.Table.{AllFit, CountsAll};
+ghost use Rattle.lrat_check.specs.inner.LiteralTable.{AllFit, CountsAll};
 
 use crate::counts::count_live;
+use crate::literal_table::grow;
 use crate::store::Store;
-use crate::table::grow;
 use dimacs::Lit;
 use std::alloc::{AllocError, Global};
 
-/// The counts of the live clauses that hold each literal, once they are asked for.
+/// How many live clauses hold each literal, from the first question on.
 #[derive(Drop)]
 pub(crate) struct Holders {
-    /// Whether there are counts.
+    /// Whether the counts are kept.
     pub(crate) counting: bool,
     pub(crate) counts: Vec<usize>,
 }
@@ -50,7 +50,7 @@ impl Holders {
         Ok(())
     }
 
-    /// How often a literal is counted.
+    /// The count of a literal.
     pub(crate) fn of(&self, l: Lit) -> usize
         ensures { result ≡ slice_index self.now.counts.items (index_of l) }
     {
@@ -62,7 +62,7 @@ impl Holders {
         }
     }
 
-    /// Makes at least so many places in the counts, where there are any.
+    /// Grows the counts to at least so many places, if they are kept.
     pub(crate) fn make_places(&mut self, places: usize) -> Result<(), AllocError>
         ensures fits { OnOk result (OnTrue self.new.counting (places ≤ vec_len self.new.counts)) }
         ensures counted { (M : ClauseMap) → AreCounted M self.old → AreCounted M self.new }

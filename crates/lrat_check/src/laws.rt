@@ -6,10 +6,10 @@ ghost use Rattle.dimacs.specs.logic.Cnf.{Cnf};
 ghost use Rattle.lrat_text.specs.Log.{Cube, Closes};
 ghost use Rattle.lrat_text.specs.Proof.{Accepts, TakesStep};
 ghost use Rattle.lrat_text.specs.declared.step.Step.{Step};
-ghost use Rattle.lrat_check.specs.Checking.{check_of};
-ghost use Rattle.lrat_check.specs.Faults.{step_fault, live_after, top_after};
+ghost use Rattle.lrat_check.specs.ProofFaults.{check_of};
+ghost use Rattle.lrat_check.specs.StepFaults.{step_fault, live_after, top_after};
 ghost use Rattle.lrat_check.specs.Fragments.{fragment_of};
-ghost use Rattle.lrat_check.specs.Logs.{IsBegun, LogState, SpellsLog, StandsOver, TakesLogLine, log_line, log_of};
+ghost use Rattle.lrat_check.specs.Logs.{IsBegun, LogState, SpellsLog, HoldsFormula, TakesLogLine, log_line, log_of};
 ghost use Rattle.lrat_check.specs.Soundness.{Soundness};
 ghost use Rattle.lrat_check.specs.Verdicts.{Agreement, Truth};
 
@@ -28,7 +28,7 @@ pub fn right_verdicts_are_true()
     ensures { Truth }
 {}
 
-/// A step has no fault if and only if the definition takes it, and then to one end alone.
+/// A step has no fault if and only if the definition takes it, and then the state after it is unique.
 pub fn step_fault_is_exact()
     ensures taken { (M : ClauseMap) (top : ℕ) (step : Step) → step_fault M top step ≡ None → TakesStep M top step (live_after M step) (top_after top step) }
     ensures no_fault { (M M' : ClauseMap) (top top' : ℕ) (step : Step) → TakesStep M top step M' top'
@@ -47,10 +47,11 @@ pub fn fragment_fault_is_exact()
     ensures none { (B : Cnf) (q : Cube) (text : List ℕ) → Closes B q text → fragment_of B q text ≡ Ok tt }
 {}
 
-/// A line has no fault if and only if a log takes it, and then to one state alone; a text has none if and only if it is a log.
+/// A line has no fault if and only if a log takes it, and then the state after it is unique. A text has no fault if and only if it is a
+/// log.
 pub fn log_fault_is_exact()
     ensures line { (old new : LogState) (line : List ℕ) → (log_line old line ≡ Ok new) ↔ TakesLogLine old line new }
     ensures text { (F : Cnf) (text : List ℕ) → (log_of F text ≡ Ok tt) ↔ SpellsLog F text }
-    // where a log begins, the checker stands over the formula
-    ensures begun { (F : Cnf) (s : LogState) → IsBegun F s → StandsOver F s }
+    // before a log's first line the checker holds the formula
+    ensures begun { (F : Cnf) (s : LogState) → IsBegun F s → HoldsFormula F s }
 {}

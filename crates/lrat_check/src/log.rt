@@ -1,23 +1,23 @@
-//! The clauses of a base, and behind them the lemmas of a log.
+//! The clauses of a base, and after them the lemmas of a log.
 
 ghost use Rattle.std.specs.Prelude.{◌≡◌, ◌⊎◌, ℕ, ◌≤◌, length, Some, None, OnOk, OnErr, IfOk, IfErr, vec_len};
 ghost use Rattle.std.specs.FinMap.{insert};
 ghost use Rattle.dimacs.specs.layout.Flat.{parts, ArePlaces};
 ghost use Rattle.dimacs.specs.logic.ClauseMap.{ClauseMap};
 ghost use Rattle.lrat_text.specs.Steps.{step_of};
-ghost use Rattle.lrat_check.specs.Faults.{live_after, removed, top_after};
-ghost use Rattle.lrat_check.specs.Logs.{AreBehind, ids_of, log_step_fault, own_addition_fault, own_deletion_fault, own_lemma_fault};
+ghost use Rattle.lrat_check.specs.StepFaults.{live_after, removed, top_after};
+ghost use Rattle.lrat_check.specs.Logs.{ExtendsBase, ids_of, log_step_fault, log_addition_fault, log_deletion_fault, log_lemma_fault};
 ghost use Rattle.lrat_check.specs.declared.fault.StepFault.TheVariants.{NoMemory};
 ghost use Rattle.lrat_check.specs.inner.Changes.{NoneNew};
 ghost use Rattle.lrat_check.specs.inner.Logs.{IsCutAt, log_fault_number, number_in};
 ghost use Rattle.lrat_check.specs.inner.Marks.{IsUnused, AllAtMost};
 ghost use Rattle.lrat_check.specs.inner.Store.{numbered};
-ghost use Rattle.lrat_check.specs.inner.Table.{FitsTable, AllFit};
+ghost use Rattle.lrat_check.specs.inner.LiteralTable.{FitsTable, AllFit};
 
 use crate::fault::StepFault;
 use crate::lemma::Lemma;
 use crate::live::LiveClauses;
-use crate::loading::load;
+use crate::loader::load;
 use crate::marks::{Marks, assume_negations};
 use crate::propagation::follow;
 use dimacs::Lit;
@@ -27,7 +27,7 @@ use std::alloc::{AllocError, Global};
 /// The first fault of a step of a log.
 #[derive(Clone, Copy, Debug, PartialEq, Eq)]
 pub(crate) enum LogFault {
-    /// The fault that a proof's step has too.
+    /// A fault that a step of a proof can have too.
     OfStep(StepFault),
     /// A lemma has a group, or its hints end in no conflict.
     NotRup,
@@ -48,7 +48,7 @@ impl LogFault {
     }
 }
 
-/// Whether the lemma follows by its hints alone.
+/// Whether the lemma follows by its hints alone (RUP), without a group.
 fn test_rup(
     clauses: &LiveClauses,
     marks: &mut [u64],
@@ -59,7 +59,7 @@ fn test_rup(
     requires fits { FitsTable (length marks.old) lemma.lits.now }
     requires unused { IsUnused stamp marks.old }
     requires most { AllAtMost stamp marks.old }
-    ensures fault { number_in result ≡ own_lemma_fault clauses.now lemma.entry.lits.now lemma.entry.hints.now lemma.entry.groups.now }
+    ensures fault { number_in result ≡ log_lemma_fault clauses.now lemma.entry.lits.now lemma.entry.hints.now lemma.entry.groups.now }
     ensures most { AllAtMost stamp marks.new }
 {
     if assume_negations(marks, stamp, lemma.lits) {
@@ -75,15 +75,15 @@ fn test_rup(
     }
 }
 
-/// The same, with room made for the lemma, under a new stamp.
-pub(crate) fn test_own(
+/// `test_rup` under a new stamp, after the table of marks has grown to fit the lemma.
+pub(crate) fn test_log_lemma(
     clauses: &LiveClauses,
     marks: &mut Marks,
     lemma: Lemma<'_>,
 ) -> Result<(), LogFault>
     requires { AllFit (vec_len marks.old.table) clauses.now }
-    ensures took { OnOk result (own_lemma_fault clauses.now lemma.entry.lits.now lemma.entry.hints.now lemma.entry.groups.now ≡ None) }
-    ensures refused { IfErr result (λ f. (f ≡ LogFault.OfStep NoMemory) ⊎ (own_lemma_fault clauses.now lemma.entry.lits.now lemma.entry.hints.now lemma.entry.groups.now ≡ Some (log_fault_number f))) }
+    ensures took { OnOk result (log_lemma_fault clauses.now lemma.entry.lits.now lemma.entry.hints.now lemma.entry.groups.now ≡ None) }
+    ensures refused { IfErr result (λ f. (f ≡ LogFault.OfStep NoMemory) ⊎ (log_lemma_fault clauses.now lemma.entry.lits.now lemma.entry.hints.now lemma.entry.groups.now ≡ Some (log_fault_number f))) }
     ensures fits { OnOk result (FitsTable (vec_len marks.new.table) lemma.entry.lits.now) }
     ensures longer { vec_len marks.old.table ≤ vec_len marks.new.table }
 {
@@ -93,20 +93,21 @@ pub(crate) fn test_own(
     }
 }
 
-/// Takes out the clauses of these numbers, from the left, until one is the base's or not live; and then `cut` tells how many are out.
-fn delete_own(
+/// Deletes the lemmas of these numbers, from the left, until a number is of the base or not live. After such a fault `cut` is the number
+/// of deleted lemmas, else 0.
+fn delete_lemmas(
     clauses: &mut LiveClauses,
     base: u64,
     ids: &[u64],
     cut: &mut usize,
 ) -> Result<(), LogFault>
     requires { cut.old ≡ 0 }
-    ensures fault { number_in result ≡ own_deletion_fault base clauses.old ids.now }
+    ensures fault { number_in result ≡ log_deletion_fault base clauses.old ids.now }
     ensures ok { OnOk result (clauses.new ≡ removed clauses.old ids.now) }
     ensures whole { OnOk result (cut.new ≡ 0) }
     ensures front { OnErr result (IsCutAt base clauses.old ids.now cut.new clauses.new) }
     ensures fewer { NoneNew clauses.old clauses.new }
-    ensures behind { (M : ClauseMap) (top : ℕ) → AreBehind M base top clauses.old → AreBehind M base top clauses.new }
+    ensures behind { (M : ClauseMap) (top : ℕ) → ExtendsBase M base top clauses.old → ExtendsBase M base top clauses.new }
 {
     for id in ids {
         if *id <= base {
@@ -121,10 +122,10 @@ fn delete_own(
     Ok(())
 }
 
-/// Takes out whatever is live behind the base, from the greatest number down.
-fn clear_own(clauses: &mut LiveClauses, base: u64, top: u64)
+/// Deletes the live clauses that follow the base, from the greatest number down.
+fn clear_lemmas(clauses: &mut LiveClauses, base: u64, top: u64)
     ensures fewer { NoneNew clauses.old clauses.new }
-    ensures behind { (M : ClauseMap) → base ≤ top → AreBehind M base top clauses.old → AreBehind M base base clauses.new }
+    ensures behind { (M : ClauseMap) → base ≤ top → ExtendsBase M base top clauses.old → ExtendsBase M base base clauses.new }
 {
     let mut id = top;
     while id > base {
@@ -133,7 +134,7 @@ fn clear_own(clauses: &mut LiveClauses, base: u64, top: u64)
     }
 }
 
-/// The live clauses behind a base, and what tests lemmas.
+/// The live clauses of a base and of a log over it, and the marks that test lemmas.
 pub(crate) struct LogClauses {
     pub(crate) clauses: LiveClauses,
     marks: Marks,
@@ -141,14 +142,13 @@ pub(crate) struct LogClauses {
     pub(crate) base: u64,
     /// The number of the last addition, or of the base's last clause.
     pub(crate) top: u64,
-    /// How many numbers a refused deletion took out before its fault; 0 else. It is set to 0 before a step is taken.
+    /// How many lemmas a refused deletion deleted before its fault, else 0. It is reset to 0 before each step.
     pub(crate) cut: usize,
     ghost fits: { AllFit (vec_len marks.table) clauses },
     ghost rises: { base ≤ top },
     ghost few: { base ≤ 5000192 },
 }
 
-// By hand, so that whoever owns one drops it by one call, and no proof there goes through its parts.
 impl Drop for LogClauses {
     fn drop(self) {
         let LogClauses {
@@ -162,7 +162,7 @@ impl Drop for LogClauses {
 }
 
 impl LogClauses {
-    /// So many clauses, that begin at these places, numbered from 1.
+    /// A base of `count` clauses that begin at these places, numbered from 1, and an empty log.
     pub(crate) fn of_parts(
         alloc: Global,
         literals: Vec<Lit>,
@@ -186,22 +186,22 @@ impl LogClauses {
         })
     }
 
-    /// Adds the next lemma, where it follows by its hints alone.
+    /// Adds a lemma, if its number is the next one and it follows by its hints alone.
     fn add(&mut self, id: u64, lemma: Lemma<'_>) -> Result<(), LogFault>
-        ensures took { OnOk result (own_addition_fault self.old.clauses self.old.top id lemma.entry.lits.now lemma.entry.hints.now lemma.entry.groups.now ≡ None) }
+        ensures took { OnOk result (log_addition_fault self.old.clauses self.old.top id lemma.entry.lits.now lemma.entry.hints.now lemma.entry.groups.now ≡ None) }
         ensures clauses { OnOk result (self.new.clauses ≡ insert self.old.clauses id lemma.entry.lits.now) }
         ensures top { OnOk result (self.new.top ≡ id) }
         ensures base { self.new.base ≡ self.old.base }
         ensures cut { self.new.cut ≡ self.old.cut }
         ensures same { OnErr result (self.new.top ≡ self.old.top) }
         ensures none { OnErr result (self.new.clauses ≡ self.old.clauses) }
-        ensures behind { (M : ClauseMap) → AreBehind M self.old.base self.old.top self.old.clauses → AreBehind M self.new.base self.new.top self.new.clauses }
-        ensures refused { IfErr result (λ f. (f ≡ LogFault.OfStep NoMemory) ⊎ (own_addition_fault self.old.clauses self.old.top id lemma.entry.lits.now lemma.entry.hints.now lemma.entry.groups.now ≡ Some (log_fault_number f))) }
+        ensures behind { (M : ClauseMap) → ExtendsBase M self.old.base self.old.top self.old.clauses → ExtendsBase M self.new.base self.new.top self.new.clauses }
+        ensures refused { IfErr result (λ f. (f ≡ LogFault.OfStep NoMemory) ⊎ (log_addition_fault self.old.clauses self.old.top id lemma.entry.lits.now lemma.entry.hints.now lemma.entry.groups.now ≡ Some (log_fault_number f))) }
     {
         if id <= self.top || id - self.top > 1 {
             return Err(LogFault::OfStep(StepFault::NumberNotRising));
         }
-        test_own(&self.clauses, &mut self.marks, lemma)?;
+        test_log_lemma(&self.clauses, &mut self.marks, lemma)?;
         match self.clauses.insert(id, lemma.lits) {
             Ok(_) => {}
             Err(_) => return Err(LogFault::OfStep(StepFault::NoMemory)),
@@ -213,15 +213,15 @@ impl LogClauses {
     /// Deletes lemmas of the log.
     fn delete(&mut self, ids: &[u64]) -> Result<(), LogFault>
         requires { self.old.cut ≡ 0 }
-        ensures fault { number_in result ≡ own_deletion_fault self.old.base self.old.clauses ids.now }
+        ensures fault { number_in result ≡ log_deletion_fault self.old.base self.old.clauses ids.now }
         ensures clauses { OnOk result (self.new.clauses ≡ removed self.old.clauses ids.now) }
         ensures whole { OnOk result (self.new.cut ≡ 0) }
         ensures front { OnErr result (IsCutAt self.old.base self.old.clauses ids.now self.new.cut self.new.clauses) }
         ensures top { self.new.top ≡ self.old.top }
         ensures base { self.new.base ≡ self.old.base }
-        ensures behind { (M : ClauseMap) → AreBehind M self.old.base self.old.top self.old.clauses → AreBehind M self.new.base self.new.top self.new.clauses }
+        ensures behind { (M : ClauseMap) → ExtendsBase M self.old.base self.old.top self.old.clauses → ExtendsBase M self.new.base self.new.top self.new.clauses }
     {
-        delete_own(&mut self.clauses, self.base, ids, &mut self.cut)
+        delete_lemmas(&mut self.clauses, self.base, ids, &mut self.cut)
     }
 
     /// Takes a step.
@@ -235,7 +235,7 @@ impl LogClauses {
         ensures whole { OnOk result (self.new.cut ≡ 0) }
         ensures front { OnErr result (IsCutAt self.old.base self.old.clauses (ids_of (step_of step.entry)) self.new.cut self.new.clauses) }
         ensures refused { IfErr result (λ f. (f ≡ LogFault.OfStep NoMemory) ⊎ (log_step_fault self.old.base self.old.clauses self.old.top (step_of step.entry) ≡ Some (log_fault_number f))) }
-        ensures behind { (M : ClauseMap) → AreBehind M self.old.base self.old.top self.old.clauses → AreBehind M self.new.base self.new.top self.new.clauses }
+        ensures behind { (M : ClauseMap) → ExtendsBase M self.old.base self.old.top self.old.clauses → ExtendsBase M self.new.base self.new.top self.new.clauses }
     {
         match step {
             StepRef::Add {
@@ -255,14 +255,14 @@ impl LogClauses {
         }
     }
 
-    /// Takes out the lemmas, so that the next log begins behind the base again. It takes no memory.
+    /// Deletes the lemmas, so that the next log starts after the base again. It takes no memory.
     pub(crate) fn begin(&mut self)
-        ensures behind { (M : ClauseMap) → AreBehind M self.old.base self.old.top self.old.clauses → AreBehind M self.new.base self.new.top self.new.clauses }
+        ensures behind { (M : ClauseMap) → ExtendsBase M self.old.base self.old.top self.old.clauses → ExtendsBase M self.new.base self.new.top self.new.clauses }
         ensures top { self.new.top ≡ self.new.base }
         ensures base { self.new.base ≡ self.old.base }
         ensures cut { self.new.cut ≡ 0 }
     {
-        clear_own(&mut self.clauses, self.base, self.top);
+        clear_lemmas(&mut self.clauses, self.base, self.top);
         self.top = self.base;
         self.cut = 0;
     }

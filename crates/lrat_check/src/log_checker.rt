@@ -6,11 +6,11 @@ ghost use Rattle.dimacs.specs.logic.Cnf.{Cnf};
 ghost use Rattle.dimacs.specs.logic.ClauseMap.{ClauseMap};
 ghost use Rattle.lrat_text.specs.Steps.{step_of};
 ghost use Rattle.lrat_text.specs.declared.step.Step.TheVariants.{Delete};
-ghost use Rattle.lrat_check.specs.Checking.{GivesCheck, no_memory};
-ghost use Rattle.lrat_check.specs.Logs.{AreBehind, CutsOff, IsBegun, KeepsFormula, RefusesLogLine, SpellsLog, StandsOver, TakesLogLine, begun, log_end, log_of, text_from};
+ghost use Rattle.lrat_check.specs.ProofFaults.{GivesCheck, no_memory};
+ghost use Rattle.lrat_check.specs.Logs.{ExtendsBase, DeletesPrefix, IsBegun, KeepsFormula, RefusesLogLine, SpellsLog, HoldsFormula, TakesLogLine, begun, log_end, log_of, text_from};
 ghost use Rattle.lrat_check.specs.inner.LogStates.{log_refusal, state_of};
 
-use crate::checking::{CheckFault, finish, next_line, step_refused};
+use crate::line_checker::{CheckFault, finish, next_line, step_refused};
 use crate::log::{LogClauses, LogFault};
 use dimacs::{Base, Formula, Lit};
 use lrat_text::{StepBuffer, StepRef, TakesLines, read_line, take_lines};
@@ -41,10 +41,10 @@ fn take_line(
     requires { log.old.cut ≡ 0 }
     ensures took { OnOk result (TakesLogLine (state_of log.old line buffer.old) text.now (state_of log.new (line + 1) buffer.new)) }
     ensures refused { IfErr result (RefusesLogLine (state_of log.old line buffer.old) text.now) }
-    ensures cut { OnErr result (CutsOff (state_of log.old line buffer.old) (state_of log.new line buffer.new)) }
+    ensures cut { OnErr result (DeletesPrefix (state_of log.old line buffer.old) (state_of log.new line buffer.new)) }
     ensures base { log.new.base ≡ log.old.base }
     ensures low { log.old.top < 2 ^ 48 → log.new.top < 2 ^ 48 }
-    ensures behind { (M : ClauseMap) → AreBehind M log.old.base log.old.top log.old.clauses → AreBehind M log.new.base log.new.top log.new.clauses }
+    ensures behind { (M : ClauseMap) → ExtendsBase M log.old.base log.old.top log.old.clauses → ExtendsBase M log.new.base log.new.top log.new.clauses }
 {
     match read_line(buffer, text) {
         Ok(()) => {}
@@ -56,8 +56,8 @@ fn take_line(
     }
 }
 
-/// Checks logs over a formula: additions by hints alone, numbered on without gaps behind the formula's clauses, and deletions of own
-/// live lemmas. It takes a log line by line, and after `begin` another one, for which the formula is not loaded anew.
+/// Checks logs over a formula. A log adds lemmas that follow by hints alone, numbered without gaps after the formula's clauses, and
+/// deletes live lemmas of its own. It is taken line by line; after `begin` the next one is taken, without loading the formula again.
 pub struct LogChecker {
     log: LogClauses,
     buffer: StepBuffer,
@@ -82,7 +82,7 @@ impl Model for LogChecker {
     ghost invariant = { λ s. s.log.top < 2 ^ 48 };
 }
 
-// By hand, so that a crate above drops a checker by one call, and no proof there goes through its parts.
+// Written by hand, so that a crate above drops a checker by one call, and its proofs do not go through the parts.
 impl Drop for LogChecker {
     fn drop(self) {
         let LogChecker {
@@ -94,12 +94,12 @@ impl Drop for LogChecker {
 }
 
 impl LogChecker {
-    /// Takes over the clauses of a formula, numbered from 1, and has taken no line of a log.
+    /// A checker of logs over a formula, whose clauses are moved in, numbered from 1. No line of a log was taken.
     pub fn of(alloc: Global, formula: Formula) -> Result<LogChecker, AllocError>
         ensures begun { IfOk result (IsBegun formula) }
-        ensures stands { IfOk result (StandsOver formula) }
+        ensures stands { IfOk result (HoldsFormula formula) }
     {
-        // It is within the limits; there is nothing else to learn of its variables.
+        // Called for its contract: a formula is within the limits.
         formula.vars();
         let count = formula.len() as u64;
         let (_, literals, places) = formula.into_parts(alloc)?;
@@ -110,11 +110,11 @@ impl LogChecker {
         })
     }
 
-    /// Copies the clauses of a base, numbered from 1, and has taken no line of a log.
+    /// A checker of logs over a base, whose clauses are copied, numbered from 1. No line of a log was taken.
     pub(crate) fn over(alloc: Global, base: &Base) -> Result<LogChecker, AllocError>
         ensures { IfOk result (λ s. s ≡ begun base.now) }
     {
-        // It is within the limits, as above.
+        // Called for its contract, as above.
         base.vars();
         let (literals, places) = base.copy_parts(alloc)?;
         Ok(LogChecker {
@@ -124,9 +124,9 @@ impl LogChecker {
         })
     }
 
-    /// Begins another log, whatever became of the last one. It takes no memory, and time in the numbers that the last log gave.
+    /// Starts the next log, also after a fault. It takes no memory, and time in proportion to the numbers that the last log gave.
     pub fn begin(&mut self)
-        ensures begun { (F : Cnf) → StandsOver F self.old → IsBegun F self.new }
+        ensures begun { (F : Cnf) → HoldsFormula F self.old → IsBegun F self.new }
         ensures stands { KeepsFormula self.old self.new }
         ensures base { self.new.base ≡ self.old.base }
         ensures step { self.new.step ≡ self.old.step }
@@ -135,16 +135,16 @@ impl LogChecker {
         self.line = 1;
     }
 
-    /// Takes the next line of a log, without its LF; or tells its first fault, and then `begin` is the next call that serves.
+    /// Takes the next line of a log, without its LF, or tells its first fault. After a fault, call `begin`.
     ///
-    /// The faults are 1, where the line spells no step; 2 to 7, 15 and 16, of its step; and 14, where a growth was refused or the line's
-    /// number has no room. A deletion that is refused has taken out the numbers before its fault: `cut` tells how many.
+    /// The faults: 1 if the line spells no step; 2 to 7, 15 and 16 of its step; 14 if memory was refused or the line's number does not fit
+    /// in 64 bits. A refused deletion has deleted the lemmas before its fault: `cut` says how many.
     pub fn take(&mut self, line: &[u8]) -> Result<(), CheckFault>
         ensures took { OnOk result (TakesLogLine self.old line.now self.new) }
         ensures refused { IfErr result (RefusesLogLine self.old line.now) }
-        ensures cut { OnErr result (CutsOff self.old self.new) }
+        ensures cut { OnErr result (DeletesPrefix self.old self.new) }
         ensures base { self.new.base ≡ self.old.base }
-        // also where a line is refused
+        // also if a line is refused
         ensures stands { KeepsFormula self.old self.new }
     {
         self.log.cut = 0;
@@ -154,8 +154,8 @@ impl LogChecker {
         Ok(())
     }
 
-    /// What is answered at the end of a log's text, where `rest` stands behind its last LF: `Ok` where that is nothing, else fault 1
-    /// (text fault 2) of the line that was begun.
+    /// The answer at the end of a log's text, of which `rest` follows the last LF: `Ok` if that is empty, else fault 1 (text fault 2) of
+    /// the line that was begun.
     pub fn end(&self, rest: &[u8]) -> Result<(), CheckFault>
         ensures { result ≡ log_end self.now rest.now }
     {
@@ -169,8 +169,8 @@ impl LogChecker {
         self.buffer.as_ref()
     }
 
-    /// How many numbers the deletion that was refused last took out before its fault: the front of `step`'s numbers. It is 0 where the
-    /// last line was taken or is no deletion, and where a log begins.
+    /// How many lemmas the last refused deletion deleted before its fault: a prefix of `step`'s numbers. It is 0 if the last line was
+    /// taken or is no deletion, and after `begin`.
     pub fn cut(&self) -> usize
         ensures { result ≡ self.now.cut }
     {
@@ -192,7 +192,7 @@ impl LogChecker {
         self.log.base
     }
 
-    /// The number of the last addition, or of the formula's last clause where there is none.
+    /// The number of the last addition, or of the formula's last clause if there is none.
     pub fn top(&self) -> u64
         ensures value { result ≡ self.now.top }
         ensures rises { self.now.base ≤ result }
@@ -210,7 +210,7 @@ impl LogChecker {
 }
 
 impl TakesLines for LogChecker {
-    ghost use Rattle.lrat_check.specs.inner.LogStates.{MayTake, Refuses};
+    ghost use Rattle.lrat_check.specs.inner.LogStates.{MayTake, RefusesAndKeeps};
     ghost use Rattle.lrat_check.specs.Logs.{TakesLogLine};
 
     type Fault = CheckFault;
@@ -219,14 +219,14 @@ impl TakesLines for LogChecker {
 
     ghost takes = { TakesLogLine };
 
-    ghost refuses = { Refuses };
+    ghost refuses = { RefusesAndKeeps };
 
     fn take_line(&mut self, line: &[u8]) -> Result<(), CheckFault> {
         self.take(line)
     }
 }
 
-/// Checks line by line.
+/// Checks the lines of a log, and its end.
 fn check_lines(log: &mut LogChecker, text: &[u8]) -> Result<(), CheckFault>
     ensures { GivesCheck result (text_from log_end log.old text.now) }
 {
@@ -234,7 +234,7 @@ fn check_lines(log: &mut LogChecker, text: &[u8]) -> Result<(), CheckFault>
     log.end(rest)
 }
 
-/// Whether the text is a log over the formula; else its first fault.
+/// Checks that the text is a log over the formula, or tells its first fault.
 pub fn check_log(alloc: Global, formula: &Formula, text: &[u8]) -> Result<(), CheckFault>
     ensures log { OnOk result (SpellsLog formula.now text.now) }
     // a log is refused for want of memory alone

@@ -1,31 +1,31 @@
-//! Clauses under any numbers, and lemmas that follow from them by hints alone.
+//! A checker of lemmas that follow by hints alone, over clauses under any numbers.
 
 ghost use Rattle.std.specs.Prelude.{◌≡◌, [], OnOk, OnErr, IfOk, option_map, is_some};
 ghost use Rattle.std.specs.FinMap.{get, insert, remove, from_entries};
-ghost use Rattle.lrat_check.specs.Logs.{own_lemma_fault};
+ghost use Rattle.lrat_check.specs.Logs.{log_lemma_fault};
 
 use crate::lemma::Lemma;
 use crate::live::LiveClauses;
-use crate::loading::load;
-use crate::log::test_own;
+use crate::loader::load;
+use crate::log::test_log_lemma;
 use crate::marks::Marks;
 use dimacs::Lit;
 use lrat_text::Groups;
 use std::alloc::{AllocError, Global};
 use std::marker::Model;
 
-/// What a fault has for its number that says nothing but that memory ran out.
+/// The number of the fault that memory was refused.
 const NO_MEMORY: u8 = 14;
 
-/// Live clauses, each under a number that whoever puts it in chooses, and what tests lemmas over them. Any clause may be put in: which ones
-/// follow is for the caller to ask.
+/// Live clauses, each under a number that the caller chooses, and the marks that test lemmas over them. Any clause may be put in: the
+/// caller has to ask which ones follow.
 pub struct RupChecker {
     alloc: Global,
     clauses: LiveClauses,
     marks: Marks,
 }
 
-// By hand, so that a crate above drops a checker by one call, and no proof there goes through its parts.
+// Written by hand, so that a crate above drops a checker by one call, and its proofs do not go through the parts.
 impl Drop for RupChecker {
     fn drop(self) {
         let RupChecker {
@@ -39,7 +39,7 @@ impl Drop for RupChecker {
 impl Model for RupChecker {
     ghost use Rattle.dimacs.specs.logic.ClauseMap.{ClauseMap};
     ghost use Rattle.dimacs.specs.inner.Codes.{clause_map_code};
-    ghost use Rattle.lrat_check.specs.inner.Table.{AllFit};
+    ghost use Rattle.lrat_check.specs.inner.LiteralTable.{AllFit};
     ghost use Rattle.std.specs.Coded.{codes};
     ghost use Rattle.std.specs.Prelude.{vec_len};
 
@@ -73,10 +73,10 @@ impl RupChecker {
         self.clauses.get(number)
     }
 
-    /// The number of the first fault of a lemma that is to follow by these hints, as a checker of logs tells it: 4, 3, 5, 6, 7 or 15; none
-    /// where it follows.
+    /// The number of the first fault of a lemma that is to follow by these hints, as a checker of logs tells it: 3 to 7 or 15; none if the
+    /// lemma follows.
     pub fn fault(&mut self, lits: &[Lit], hints: &[u64]) -> Result<Option<u8>, AllocError>
-        ensures fault { IfOk result (λ f. f ≡ own_lemma_fault self.old lits.now hints.now []) }
+        ensures fault { IfOk result (λ f. f ≡ log_lemma_fault self.old lits.now hints.now []) }
         ensures same { self.new ≡ self.old }
     {
         let no_group = Groups::new(self.alloc);
@@ -85,7 +85,7 @@ impl RupChecker {
             hints,
             groups: &no_group,
         };
-        match test_own(&self.clauses, &mut self.marks, lemma) {
+        match test_log_lemma(&self.clauses, &mut self.marks, lemma) {
             Ok(()) => Ok(None),
             Err(fault) => {
                 let number = fault.number();
@@ -97,7 +97,7 @@ impl RupChecker {
         }
     }
 
-    /// Puts a clause under a number, in the place of the one that is live there if there is one.
+    /// Puts a clause under a number. It replaces the one that is live there, if any.
     pub fn put(&mut self, number: u64, lits: &[Lit]) -> Result<(), AllocError>
         ensures ok { OnOk result (self.new ≡ insert self.old number lits.now) }
         ensures err { OnErr result (self.new ≡ self.old) }
@@ -106,7 +106,7 @@ impl RupChecker {
         self.clauses.insert(number, lits)
     }
 
-    /// Takes a clause out, and says whether one was live under the number.
+    /// Deletes a clause, and says whether one was live under the number.
     pub fn remove(&mut self, number: u64) -> bool
         ensures live { result ≡ is_some (get self.old number) }
         ensures after { self.new ≡ remove self.old number }

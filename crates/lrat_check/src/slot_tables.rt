@@ -1,6 +1,6 @@
-//! Tables of slots by the numbers of clauses. Numbers that follow each other closely, as those of the formula and of most
-//! proofs do, are places of a table; the others have slots in the order in which they came, which a map finds, so that a
-//! great number takes no more room than any other.
+//! Tables of slots by clause number. Numbers that follow each other closely, as those of the formula and of most proofs do, are places of
+//! a table of blocks (`near`). A number that is far above them is found by an ordered map (`far`), so it takes no more memory than any
+//! other.
 
 ghost use Rattle.std.specs.Prelude.{◌≡◌, ℕ, ◌+◌, ◌≤◌, ◌<◌, ◌-◌, ◌++◌, ◌∷◌, ◌^◌, length, OnOk, OnErr, IfOk, IfSome, option_map, Some, cond, slice_index_or, [], vec_len};
 ghost use Rattle.std.specs.FinMap.{get, insert, remove, len};
@@ -17,7 +17,7 @@ use std::collections::BTreeMap;
 /// The slots of numbers that are far from the others.
 #[derive(Drop)]
 pub(crate) struct Far {
-    /// Where each number's slot stands.
+    /// The place in `slots` of each number.
     pub(crate) places: BTreeMap<u64, usize>,
     pub(crate) numbers: Vec<u64>,
     pub(crate) slots: Vec<Cell>,
@@ -64,7 +64,7 @@ pub(crate) fn clause_of(literals: &[Lit], slot: Slot) -> &[Lit]
     &literals[slot.place..slot.place + slot.len]
 }
 
-/// The clause whose slot stands at a place.
+/// The clause whose slot stands at a place, if there is one.
 #[inline(always)]
 fn clause_in<'a>(literals: &'a [Lit], slots: &[Cell], place: usize) -> Option<&'a [Lit]>
     requires here { place < length slots.now }
@@ -90,7 +90,7 @@ pub(crate) fn append(literals: &mut Vec<Lit>, lits: &[Lit]) -> Result<Slot, Allo
     })
 }
 
-/// The slots as they are; that they have room in memory bounds how many there are.
+/// The same slots: that they are a slice bounds how many there are.
 pub(crate) fn whole(slots: &[Cell]) -> &[Cell]
     ensures { result.now ≡ slots.now }
 {
@@ -104,7 +104,6 @@ pub(crate) struct SlotTables {
     pub(crate) far: Far,
 }
 
-// By hand, so that whoever owns one drops it by one call, and no proof there goes through its parts.
 impl Drop for SlotTables {
     fn drop(self) {
         let SlotTables {
@@ -131,7 +130,7 @@ impl SlotTables {
         }
     }
 
-    /// Makes places up to this one, and some behind it. The new ones are free.
+    /// Grows the table by number to this place, by whole blocks of free places.
     fn make_place(&mut self, place: usize) -> Result<(), AllocError>
         requires store { IsStore (tables_of self.old) }
         requires all_near { self.old.far.slots.items ≡ [] }
@@ -146,7 +145,7 @@ impl SlotTables {
         Ok(())
     }
 
-    /// Puts a slot at a place, and gives the one that was there.
+    /// Puts a slot at a place, and gives the slot that was there.
     fn put_near(&mut self, place: usize, slot: Slot) -> Result<Option<Slot>, AllocError>
         requires store { IsStore (tables_of self.old) }
         requires here { place < length self.old.near }
@@ -163,7 +162,7 @@ impl SlotTables {
         Ok(old)
     }
 
-    /// Puts a slot under a number that has no place, and gives the one that it had.
+    /// Puts a slot under a number after the table's end, and gives the slot that the number had.
     fn put_far(&mut self, id: u64, slot: Slot) -> Result<Option<Slot>, AllocError>
         requires store { IsStore (tables_of self.old) }
         requires beyond { length self.old.near ≤ id }
@@ -204,7 +203,7 @@ impl SlotTables {
         old
     }
 
-    /// Takes out the slot of a number that has no place.
+    /// Takes out the slot of a number after the table's end.
     fn take_far(&mut self, id: u64) -> Option<Slot>
         requires store { IsStore (tables_of self.old) }
         requires beyond { length self.old.near ≤ id }
@@ -224,7 +223,7 @@ impl SlotTables {
         }
     }
 
-    /// Puts a slot under a number, and gives the one that it had.
+    /// Puts a slot under a number, and gives the slot that it had.
     pub(crate) fn put(&mut self, id: u64, slot: Slot) -> Result<Option<Slot>, AllocError>
         requires store { IsStore (tables_of self.old) }
         requires placed { IsPlaced self.old.literals.items slot }
@@ -243,7 +242,7 @@ impl SlotTables {
         }
     }
 
-    /// Takes out the slot of a number, where it has one.
+    /// Takes out the slot of a number, if it has one.
     pub(crate) fn take(&mut self, id: u64) -> Option<Slot>
         requires { IsStore (tables_of self.old) }
         ensures literals { self.new.literals.items ≡ self.old.literals.items }
@@ -260,7 +259,8 @@ impl SlotTables {
         }
     }
 
-    /// Makes a place for a number that follows the others closely: at most three of four places are free.
+    /// Grows the table for a number that follows the others closely: one below 4 * (`taken` + 8,192), if `taken` clauses were ever put in.
+    /// Once a number is in the map, the table does not grow.
     pub(crate) fn reserve_place(&mut self, taken: u64, id: u64) -> Result<(), AllocError>
         requires { IsStore (tables_of self.old) }
         ensures literals { self.new.literals.items ≡ self.old.literals.items }
@@ -273,11 +273,11 @@ impl SlotTables {
         Ok(())
     }
 
-    /// Far fewer clauses are live than a count can tell.
-    pub(crate) fn is_small(&self)
+    /// For proofs: bounds the number of live clauses. It does nothing.
+    pub(crate) fn bound_len(&self)
         ensures { len (live_of (tables_of self.now)) < 2 ^ 63 }
     {
-        self.near.is_small();
+        self.near.bound_len();
         let _far = whole(&self.far.slots);
     }
 }

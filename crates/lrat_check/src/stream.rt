@@ -4,21 +4,21 @@ ghost use Rattle.std.specs.Prelude.{◌≡◌, ◌⊎◌, [], None, Ok, Err, OnO
 ghost use Rattle.lrat_text.specs.Lines.{IsOpen};
 ghost use Rattle.lrat_text.specs.Pieces.{joined};
 ghost use Rattle.lrat_text.specs.Proof.{Accepts};
-ghost use Rattle.lrat_check.specs.Checking.{no_memory, GivesCheck, check_of};
+ghost use Rattle.lrat_check.specs.ProofFaults.{no_memory, GivesCheck, check_of};
 ghost use Rattle.lrat_check.specs.Stream.{Within, Failed, check_more, has_failed, HasTaken, TakesPiece, IsWithinLine};
 ghost use Rattle.lrat_check.specs.inner.Stream.{LeadsTo};
 
 use crate::checker::Checker;
-use crate::checking::{CheckFault, LineChecker, finish};
+use crate::line_checker::{CheckFault, LineChecker, finish};
 use dimacs::Formula;
 use lrat_text::{LineBuffer, StepBuffer, reading_is_spelling};
 use std::alloc::{AllocError, Global};
 use std::marker::Model;
 
-/// The fault of a text of which no line adds the empty clause.
+/// The fault of a text if no line adds the empty clause.
 const NOT_REFUTED: u8 = 13;
 
-/// Takes a piece behind the line that is begun.
+/// Takes a piece, which follows the bytes of the line that is begun.
 fn take_piece(
     begun: &mut LineBuffer,
     lines: &mut LineChecker,
@@ -36,14 +36,13 @@ fn take_piece(
     }
 }
 
-/// What checks a proof's text that comes in pieces. It keeps no text but the line that is begun.
+/// Checks a proof's text that comes in pieces. Of the text it keeps the line that is begun, and nothing else.
 pub struct StreamChecker {
     lines: LineChecker,
     begun: LineBuffer,
     fault: Option<CheckFault>,
 }
 
-// By hand, so that whoever owns a checker drops it by one call, and no proof there goes through its parts.
 impl Drop for StreamChecker {
     fn drop(self) {
         let StreamChecker {
@@ -55,29 +54,29 @@ impl Drop for StreamChecker {
 }
 
 impl Model for StreamChecker {
-    ghost use Rattle.lrat_check.specs.Stream.{Progress, progress_of};
-    ghost use Rattle.lrat_check.specs.inner.Stream.{IsProgress};
+    ghost use Rattle.lrat_check.specs.Stream.{CheckProgress, progress_of};
+    ghost use Rattle.lrat_check.specs.inner.Stream.{FaultIsKept};
     ghost use Rattle.dimacs.specs.inner.Codes.{clause_map_code};
     ghost use Rattle.std.specs.Coded.{codes};
 
-    ghost Value = { Progress };
+    ghost Value = { CheckProgress };
 
     ghost coded = { Prim.hlevel (codes, clause_map_code) };
 
     ghost view = { λ s. progress_of s.fault s.lines.checker s.lines.line s.begun };
 
-    ghost invariant = { λ s. IsProgress s.fault s.lines.checker s.begun };
+    ghost invariant = { λ s. FaultIsKept s.fault s.lines.checker s.begun };
 }
 
 impl StreamChecker {
-    /// Has taken no byte of a proof of the formula.
+    /// A checker that has taken no byte of a proof of the formula, which is copied.
     pub fn new(alloc: Global, formula: &Formula) -> Result<StreamChecker, AllocError>
         ensures { IfOk result (λ s. HasTaken formula.now s []) }
     {
         StreamChecker::of(alloc, formula.copy()?)
     }
 
-    /// The same, of a formula that is taken over.
+    /// The same, of a formula that is moved in.
     pub fn of(alloc: Global, formula: Formula) -> Result<StreamChecker, AllocError>
         ensures { IfOk result (λ s. HasTaken formula s []) }
     {
@@ -93,7 +92,7 @@ impl StreamChecker {
         })
     }
 
-    /// Takes the next piece, or tells the first fault of the lines that are whole by now. A fault is answered from then on.
+    /// Takes the next piece, or tells the first fault of the lines that are complete by now. After a fault each call answers that fault.
     pub fn feed(&mut self, piece: &[u8]) -> Result<(), CheckFault>
         ensures taken { TakesPiece self.old piece.now result self.new }
         ensures open { IsWithinLine self.new }
@@ -110,14 +109,14 @@ impl StreamChecker {
         }
     }
 
-    /// Whether a fault was met, or memory was wanting: then no further byte changes what `finish` answers.
+    /// Whether a fault was met or memory was refused: then no further byte changes what `finish` answers.
     pub fn is_settled(&self) -> bool
         ensures { result ≡ has_failed self.now }
     {
         self.fault.is_some()
     }
 
-    /// What checking answers where no further byte comes. It takes no memory.
+    /// The answer if no further byte comes. It takes no memory.
     pub fn finish(&self) -> Result<(), CheckFault>
         ensures { result ≡ check_more self.now [] }
     {
@@ -144,7 +143,7 @@ fn check_all(alloc: Global, formula: &Formula, proof: &[u8]) -> Result<(), Check
     stream.finish()
 }
 
-/// Checks a text that comes in these pieces, however it was cut.
+/// Checks the text that these pieces make, however it was cut.
 pub fn check_pieces(alloc: Global, formula: &Formula, pieces: &[Vec<u8>]) -> Result<(), CheckFault>
     ensures { GivesCheck result (check_of formula.now (joined pieces.now)) }
 {
@@ -157,7 +156,7 @@ pub fn check_pieces(alloc: Global, formula: &Formula, pieces: &[Vec<u8>]) -> Res
     stream.finish()
 }
 
-/// Whether the text is an accepted proof that no assignment satisfies the formula; else its first fault.
+/// Checks that the text is an accepted proof that the formula is unsatisfiable, or tells its first fault.
 ///
 /// Lines after the one that adds the empty clause need only be well spelled.
 pub fn check(alloc: Global, formula: &Formula, proof: &[u8]) -> Result<(), CheckFault>
@@ -167,7 +166,7 @@ pub fn check(alloc: Global, formula: &Formula, proof: &[u8]) -> Result<(), Check
     // the first fault, and its line
     ensures exact { GivesCheck result (check_of formula.now proof.now) }
 {
-    // The law by which what was read is what the text spells; there is nothing to run.
+    // A theorem: what was read is what the text spells. It does nothing.
     reading_is_spelling();
     check_all(alloc, formula, proof)
 }

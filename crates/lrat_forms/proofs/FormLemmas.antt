@@ -4,13 +4,13 @@ use Rattle.std.proofs.lemmas.Bool.{true≢false}
 use Rattle.std.proofs.lemmas.List.{append-nil}
 use Rattle.std.specs.Result.{result_err}
 use Rattle.lrat_text.specs.declared.fault.TextFault.{TextFault}
-use Rattle.lrat_binary.specs.Reading.{Begun, Between, Reading, at_end, read, steps_in}
+use Rattle.lrat_binary.specs.Parser.{ReaderState, BetweenSteps, ReadResult, at_end, read, steps_in}
 use Rattle.lrat_forms.specs.Forms.{fault_text, is_binary, is_letter, reading_text, text_form}
 use Rattle.lrat_forms.specs.Pieces.{Gives, HasForm, IsAt, given_at, is_cut, text_behind}
-use Rattle.lrat_forms.specs.declared.lines.LineWriter.{LineWriter}
+use Rattle.lrat_forms.specs.declared.line_writer.LineWriter.{LineWriter}
 use Rattle.lrat_forms.specs.declared.text_form.Stage.{Stage}
-use Rattle.lrat_forms.specs.declared.text_form.Stage.TheVariants.{Awaiting, Text, Binary, Ended, Cut}
-use Rattle.lrat_forms.specs.inner.Reading.{ReadsAt, ReadsOn, stage_at}
+use Rattle.lrat_forms.specs.declared.text_form.Stage.TheVariants.{Awaiting, Text, Binary, Faulty, OutOfMemory}
+use Rattle.lrat_forms.specs.inner.BinaryPiece.{ReadsAt, ReadsOn, stage_at}
 
 -- ---- the text of a whole proof
 
@@ -18,7 +18,7 @@ text_of_none : text_form [] ≡ []
 unfolding text_form
 text_of_none = refl
 
-text_of_binary : (b : ℕ) (bytes : List ℕ) → is_letter b ≡ true → text_form (b ∷ bytes) ≡ reading_text 1 (read Between (b ∷ bytes))
+text_of_binary : (b : ℕ) (bytes : List ℕ) → is_letter b ≡ true → text_form (b ∷ bytes) ≡ reading_text 1 (read BetweenSteps (b ∷ bytes))
 unfolding text_form
 text_of_binary b bytes e = ap (λ (x : Bool). cond x (reading_text 1 (steps_in (b ∷ bytes))) (b ∷ bytes)) e
 
@@ -36,34 +36,34 @@ form_told form (b ∷ bytes) h = sym h
 
 -- ---- a piece
 
-not_cut : {P : Type 0} → is_cut Cut ≡ false → P
+not_cut : {P : Type 0} → is_cut OutOfMemory ≡ false → P
 not_cut e = absurd (true≢false e)
 
 -- a piece that is read on, whatever the whole text is with what follows
-read_on : (whole : List ℕ → List ℕ) (begun : Begun) (w : LineWriter) (piece : List ℕ) (stage : Stage) (next : Begun) (v : LineWriter) (text : List ℕ) → w.out.items ≡ [] → ReadsOn begun w piece stage next v
+read_on : (whole : List ℕ → List ℕ) (begun : ReaderState) (w : LineWriter) (piece : List ℕ) (stage : Stage) (next : ReaderState) (v : LineWriter) (text : List ℕ) → w.out.items ≡ [] → ReadsOn begun w piece stage next v
     → ((more : List ℕ) → whole more ≡ text ++ reading_text w.top (read begun (piece ++ more))) → is_cut stage ≡ false
     → (more : List ℕ) → whole more ≡ (text ++ given_at stage piece v.out.items) ++ text_behind stage next v.top more
 read_on whole begun w piece Awaiting next v text none reads gives e more = absurd reads
 read_on whole begun w piece Text next v text none reads gives e more = absurd reads
-read_on whole begun w piece Cut next v text none reads gives e more = not_cut e
+read_on whole begun w piece OutOfMemory next v text none reads gives e more = not_cut e
 read_on whole begun w piece Binary next v text none (t, out, reads) gives e more =
     gives more ∙ ap (λ (xs : List ℕ). text ++ xs) (reads more) ∙ sym (append_assoc text t (text_behind Binary next v.top more))
     ∙ ap (λ (xs : List ℕ). (text ++ xs) ++ text_behind Binary next v.top more) (sym (out ∙ ap (λ (xs : List ℕ). xs ++ t) none))
-read_on whole begun w piece Ended next v text none (t, out, reads) gives e more =
+read_on whole begun w piece Faulty next v text none (t, out, reads) gives e more =
     gives more ∙ ap (λ (xs : List ℕ). text ++ xs) (reads more) ∙ sym (append_assoc text t [])
     ∙ ap (λ (xs : List ℕ). (text ++ xs) ++ []) (sym (out ∙ ap (λ (xs : List ℕ). xs ++ t) none))
 
-at_form : (begun : Begun) (w : LineWriter) (piece : List ℕ) (stage : Stage) (next : Begun) (v : LineWriter) (bytes : List ℕ) → ReadsOn begun w piece stage next v → HasForm true bytes → IsAt stage next v.top bytes
+at_form : (begun : ReaderState) (w : LineWriter) (piece : List ℕ) (stage : Stage) (next : ReaderState) (v : LineWriter) (bytes : List ℕ) → ReadsOn begun w piece stage next v → HasForm true bytes → IsAt stage next v.top bytes
 at_form begun w piece Awaiting next v bytes reads h = absurd reads
 at_form begun w piece Text next v bytes reads h = absurd reads
 at_form begun w piece Binary next v bytes reads h = h
-at_form begun w piece Ended next v bytes reads h = h
-at_form begun w piece Cut next v bytes reads h = tt
+at_form begun w piece Faulty next v bytes reads h = h
+at_form begun w piece OutOfMemory next v bytes reads h = tt
 
-abbrev pub Fed : List ℕ → List ℕ → List ℕ → Stage → Begun → LineWriter → Type 0
+abbrev pub Fed : List ℕ → List ℕ → List ℕ → Stage → ReaderState → LineWriter → Type 0
 Fed piece bytes text s next v = Gives s next v.top (bytes ++ piece) (text ++ given_at s piece v.out.items)
 
-module _ (begun : Begun) (w : LineWriter) (b : ℕ) (later : List ℕ) (none : w.out.items ≡ []) (s : Stage) (next : Begun) (v : LineWriter) (bytes text : List ℕ) where
+module _ (begun : ReaderState) (w : LineWriter) (b : ℕ) (later : List ℕ) (none : w.out.items ≡ []) (s : Stage) (next : ReaderState) (v : LineWriter) (bytes text : List ℕ) where
   piece : List ℕ
   piece = b ∷ later
 
@@ -89,16 +89,16 @@ module _ (begun : Begun) (w : LineWriter) (b : ℕ) (later : List ℕ) (none : w
   awaiting_fed true e reads h =
       binary_fed (subst (λ (xs : List ℕ). HasForm true (xs ++ b ∷ later)) (sym h.form.0) e)
       (λ more. h.gives refl (b ∷ later ++ more) ∙ ap (λ (xs : List ℕ). text ++ xs) (text_of_binary b (later ++ more) e
-      ∙ ap (λ (n : ℕ). reading_text n (read Between (b ∷ later ++ more))) (sym h.form.2) ∙ ap (λ (x : Begun). reading_text w.top (read x (b ∷ later ++ more))) (sym h.form.1)))
+      ∙ ap (λ (n : ℕ). reading_text n (read BetweenSteps (b ∷ later ++ more))) (sym h.form.2) ∙ ap (λ (x : ReaderState). reading_text w.top (read x (b ∷ later ++ more))) (sym h.form.1)))
       reads
   awaiting_fed false e reads h =
       text_fed (subst (λ (xs : List ℕ). HasForm false (xs ++ b ∷ later)) (sym h.form.0) e)
       (λ more. h.gives refl (b ∷ later ++ more) ∙ ap (λ (xs : List ℕ). text ++ xs) (text_of_text b (later ++ more) e)) reads.0
 
-  -- behind a fault nothing is handed out
-  ended_fed : s ≡ Ended → v ≡ w → Gives Ended begun w.top bytes text → Fed (b ∷ later) bytes text s next v
+  -- after a fault nothing is handed out
+  ended_fed : s ≡ Faulty → v ≡ w → Gives Faulty begun w.top bytes text → Fed (b ∷ later) bytes text s next v
   ended_fed same kept h =
-      let at : Fed (b ∷ later) bytes text Ended next v = record {
+      let at : Fed (b ∷ later) bytes text Faulty next v = record {
         form = form_more true bytes (b ∷ later) h.form;
         gives = λ uncut more.
             ap text_form (append_assoc bytes (b ∷ later) more) ∙ h.gives refl (b ∷ later ++ more)
@@ -106,17 +106,17 @@ module _ (begun : Begun) (w : LineWriter) (b : ℕ) (later : List ℕ) (none : w
       } in
       subst (λ (x : Stage). Fed (b ∷ later) bytes text x next v) (sym same) at
 
-  cut_fed : s ≡ Cut → Fed (b ∷ later) bytes text s next v
+  cut_fed : s ≡ OutOfMemory → Fed (b ∷ later) bytes text s next v
   cut_fed same =
-      let at : Fed (b ∷ later) bytes text Cut next v = record { form = tt; gives = λ uncut more. not_cut uncut } in
+      let at : Fed (b ∷ later) bytes text OutOfMemory next v = record { form = tt; gives = λ uncut more. not_cut uncut } in
       subst (λ (x : Stage). Fed (b ∷ later) bytes text x next v) (sym same) at
 
   pub fed : (stage : Stage) → ReadsAt (stage_at stage b) begun w (b ∷ later) s next v → Gives stage begun w.top bytes text → Fed (b ∷ later) bytes text s next v
   fed Awaiting reads h = awaiting_fed (is_letter b) refl reads h
   fed Text reads h = text_fed (form_more false bytes (b ∷ later) h.form) (λ more. h.gives refl (b ∷ later ++ more)) reads.0
   fed Binary reads h = binary_fed (form_more true bytes (b ∷ later) h.form) (λ more. h.gives refl (b ∷ later ++ more)) reads
-  fed Ended reads h = ended_fed reads.0 reads.2 h
-  fed Cut reads h = cut_fed reads.0
+  fed Faulty reads h = ended_fed reads.0 reads.2 h
+  fed OutOfMemory reads h = cut_fed reads.0
 
 pub nothing_first : (xs : List ℕ) → None ≡ slice_get xs 0 → xs ≡ []
 nothing_first [] e = refl
@@ -127,7 +127,7 @@ first_is [] x e = absurd cc
 first_is (y ∷ xs) x e = (xs, (let h : y ≡ x = cc in ap (λ (b : ℕ). b ∷ xs) h))
 
 -- no byte comes
-pub fed_none : (stage : Stage) (begun : Begun) (top : ℕ) (out bytes text : List ℕ) → out ≡ [] → Gives stage begun top bytes text → Gives stage begun top (bytes ++ []) (text ++ given_at stage [] out)
+pub fed_none : (stage : Stage) (begun : ReaderState) (top : ℕ) (out bytes text : List ℕ) → out ≡ [] → Gives stage begun top bytes text → Gives stage begun top (bytes ++ []) (text ++ given_at stage [] out)
 fed_none stage begun top out bytes text none h =
     subst (λ (xs : List ℕ). Gives stage begun top xs (text ++ given_at stage [] out)) (sym (append-nil bytes))
     (subst (Gives stage begun top bytes) (sym (ap (λ (xs : List ℕ). text ++ xs) (nothing stage) ∙ append-nil text)) h)
@@ -136,45 +136,45 @@ fed_none stage begun top out bytes text none h =
     nothing Awaiting = none
     nothing Text = refl
     nothing Binary = none
-    nothing Ended = none
-    nothing Cut = none
+    nothing Faulty = none
+    nothing OutOfMemory = none
 
 -- ---- the beginning and the end
 
-pub begins : (begun : Begun) → begun ≡ Between → Gives Awaiting begun 1 [] []
+pub begins : (begun : ReaderState) → begun ≡ BetweenSteps → Gives Awaiting begun 1 [] []
 begins begun e = record { form = (refl, e, refl); gives = λ uncut more. refl }
 
-read-end : (begun : Begun) → read begun [] ≡ at_end begun
+read-end : (begun : ReaderState) → read begun [] ≡ at_end begun
 unfolding read
 read-end begun = refl
 
 -- what is left of the text
-abbrev pub left_at : Stage → Begun → ℕ → List ℕ
+abbrev pub left_at : Stage → ReaderState → ℕ → List ℕ
 left_at stage begun top = text_behind stage begun top []
 
-pub binary_left : (begun : Begun) (top : ℕ) (r : Result (Unit {0}) TextFault) → at_end begun ≡ ([], result_err r) → left_at Binary begun top ≡ fault_text (result_err r)
+pub binary_left : (begun : ReaderState) (top : ℕ) (r : Result (Unit {0}) TextFault) → at_end begun ≡ ([], result_err r) → left_at Binary begun top ≡ fault_text (result_err r)
 binary_left begun top r e = ap (reading_text top) (read-end begun ∙ e)
 
-pub other_left : (stage : Stage) (begun : Begun) (top : ℕ) → (stage ≡ Binary → ⊥) → left_at stage begun top ≡ []
+pub other_left : (stage : Stage) (begun : ReaderState) (top : ℕ) → (stage ≡ Binary → ⊥) → left_at stage begun top ≡ []
 other_left Awaiting begun top other = text_of_none
 other_left Text begun top other = refl
 other_left Binary begun top other = absurd (other refl)
-other_left Ended begun top other = refl
-other_left Cut begun top other = refl
+other_left Faulty begun top other = refl
+other_left OutOfMemory begun top other = refl
 
-pub whole_text : (stage : Stage) (begun : Begun) (top : ℕ) (bytes text rest : List ℕ) → rest ≡ left_at stage begun top → Gives stage begun top bytes text → is_cut stage ≡ false → text_form bytes ≡ text ++ rest
+pub whole_text : (stage : Stage) (begun : ReaderState) (top : ℕ) (bytes text rest : List ℕ) → rest ≡ left_at stage begun top → Gives stage begun top bytes text → is_cut stage ≡ false → text_form bytes ≡ text ++ rest
 whole_text stage begun top bytes text rest e h uncut = ap text_form (sym (append-nil bytes)) ∙ h.gives uncut [] ∙ ap (λ (xs : List ℕ). text ++ xs) (sym e)
 
 abbrev is_in_binary : Stage → Bool
 is_in_binary Awaiting = false
 is_in_binary Text = false
 is_in_binary Binary = true
-is_in_binary Ended = true
-is_in_binary Cut = false
+is_in_binary Faulty = true
+is_in_binary OutOfMemory = false
 
-pub told_form : (stage : Stage) (begun : Begun) (top : ℕ) (bytes text : List ℕ) → Gives stage begun top bytes text → is_cut stage ≡ false → is_in_binary stage ≡ is_binary bytes
+pub told_form : (stage : Stage) (begun : ReaderState) (top : ℕ) (bytes text : List ℕ) → Gives stage begun top bytes text → is_cut stage ≡ false → is_in_binary stage ≡ is_binary bytes
 told_form Awaiting begun top bytes text h uncut = ap is_binary (sym h.form.0)
 told_form Text begun top bytes text h uncut = form_told false bytes h.form
 told_form Binary begun top bytes text h uncut = form_told true bytes h.form
-told_form Ended begun top bytes text h uncut = form_told true bytes h.form
-told_form Cut begun top bytes text h uncut = not_cut uncut
+told_form Faulty begun top bytes text h uncut = form_told true bytes h.form
+told_form OutOfMemory begun top bytes text h uncut = not_cut uncut

@@ -4,16 +4,16 @@ use Rattle.std.proofs.lemmas.List.{append-nil}
 use Rattle.lrat_text.specs.Grammar.{IsClauseNumber, LineSpells}
 use Rattle.lrat_text.specs.Log.{top_after}
 use Rattle.lrat_text.specs.Runs.{text_of}
-use Rattle.lrat_text.specs.Writing.{line_text}
+use Rattle.lrat_text.specs.WrittenLine.{line_text}
 use Rattle.lrat_text.specs.declared.step.Step.{Step}
 use Rattle.lrat_text.specs.declared.step.Step.TheVariants.{Add, Delete}
 use Rattle.lrat_text.proofs.LineLemmas.{written_spells, written_one_line}
-use Rattle.lrat_binary.specs.Grammar.{Spells, SpellsStep}
-use Rattle.lrat_binary.specs.Reading.{Reading, steps_in}
+use Rattle.lrat_binary.specs.Grammar.{Spells, SpellsStepWithin}
+use Rattle.lrat_binary.specs.Parser.{ReadResult, steps_in}
 use Rattle.lrat_text.specs.Grammar.{IsStep}
 use Rattle.lrat_forms.specs.Forms.{is_binary, reading_text, text_form}
 
-limits : (bytes : List ℕ) (step : Step) → SpellsStep bytes step → IsStep step
+limits : (bytes : List ℕ) (step : Step) → SpellsStepWithin 2000000 bytes step → IsStep step
 limits [] step h = absurd h
 limits (b ∷ bytes) step h = h.0
 

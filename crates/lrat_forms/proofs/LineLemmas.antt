@@ -4,19 +4,19 @@ use Rattle.std.proofs.lemmas.List.{append-nil}
 use Rattle.lrat_text.specs.Log.{top_after}
 use Rattle.lrat_text.specs.Runs.{text_of, top_of}
 use Rattle.lrat_text.proofs.RunLemmas.{text_append}
-use Rattle.lrat_text.specs.Writing.{line_of}
+use Rattle.lrat_text.specs.WrittenLine.{line_of}
 use Rattle.lrat_text.specs.declared.fault.TextFault.{TextFault}
 use Rattle.lrat_text.specs.declared.fault.TextFault.TheVariants.{NoMemory}
 use Rattle.lrat_text.specs.declared.step.Step.{Step}
-use Rattle.lrat_binary.specs.Reading.{Begun, Reading, behind, read}
-use Rattle.lrat_binary.specs.Taking.{Breaks, HandsOn, TakesAll}
+use Rattle.lrat_binary.specs.Parser.{ReaderState, ReadResult, with_steps, read}
+use Rattle.lrat_binary.specs.StepSink.{Breaks, HandsOn, TakesAll}
 use Rattle.lrat_forms.specs.Forms.{fault_line, fault_text, reading_text}
-use Rattle.lrat_forms.specs.declared.lines.LineWriter.{LineWriter}
-use Rattle.lrat_forms.specs.declared.text_form.Stage.TheVariants.{Binary, Ended}
-use Rattle.lrat_forms.specs.inner.Lines.{Writes}
-use Rattle.lrat_forms.specs.inner.Reading.{Appends}
+use Rattle.lrat_forms.specs.declared.line_writer.LineWriter.{LineWriter}
+use Rattle.lrat_forms.specs.declared.text_form.Stage.TheVariants.{Binary, Faulty}
+use Rattle.lrat_forms.specs.inner.WrittenLines.{Writes}
+use Rattle.lrat_forms.specs.inner.BinaryPiece.{Appends}
 
-reading_behind : (top : ℕ) (steps : List Step) (r : Reading) → reading_text top (behind steps r) ≡ text_of top steps ++ reading_text (top_of top steps) r
+reading_behind : (top : ℕ) (steps : List Step) (r : ReadResult) → reading_text top (with_steps steps r) ≡ text_of top steps ++ reading_text (top_of top steps) r
 reading_behind top steps r =
     ap (λ (xs : List ℕ). xs ++ fault_text r.1) (text_append top steps r.0) ∙ append_assoc (text_of top steps) (text_of (top_of top steps) r.0) (fault_text r.1)
 
@@ -34,8 +34,8 @@ written (step ∷ steps) s t (m, (out, top), later) =
       top = w.top ∙ ap (λ (n : ℕ). top_of n steps) top;
     }
 
-module _ (s : LineWriter) (begun : Begun) (piece : List ℕ) (t : LineWriter) where
-  pub hands_lines : (next : Begun) → HandsOn Writes s begun piece t next [] → Appends begun s piece Binary next t
+module _ (s : LineWriter) (begun : ReaderState) (piece : List ℕ) (t : LineWriter) where
+  pub hands_lines : (next : ReaderState) → HandsOn Writes s begun piece t next [] → Appends begun s piece Binary next t
   hands_lines next h =
       let w : Written s h.steps t = written h.steps s t h.taken in (
         text_of s.top h.steps,
@@ -43,7 +43,7 @@ module _ (s : LineWriter) (begun : Begun) (piece : List ℕ) (t : LineWriter) wh
         λ more. ap (reading_text s.top) (h.reads more) ∙ reading_behind s.top h.steps (read next more) ∙ ap (λ (n : ℕ). text_of s.top h.steps ++ reading_text n (read next more)) (sym w.top),
       )
 
-  pub breaks_lines : (fault : TextFault) (next : Begun) (u : LineWriter) → fault ≢ NoMemory → Breaks Writes s begun piece t fault → u.out.items ≡ t.out.items ++ fault_line fault → Appends begun s piece Ended next u
+  pub breaks_lines : (fault : TextFault) (next : ReaderState) (u : LineWriter) → fault ≢ NoMemory → Breaks Writes s begun piece t fault → u.out.items ≡ t.out.items ++ fault_line fault → Appends begun s piece Faulty next u
   breaks_lines fault next u other h put =
       let w : Written s h.steps t = written h.steps s t h.taken in (
         text_of s.top h.steps ++ fault_line fault,

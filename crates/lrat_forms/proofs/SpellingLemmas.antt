@@ -6,14 +6,14 @@ use Rattle.std.proofs.lemmas.List.{append-nil}
 use Rattle.std.proofs.lemmas.List.Elements.{All-contains, All-head, All-tail}
 use Rattle.lrat_text.specs.Grammar.{LineSpells}
 use Rattle.lrat_text.specs.Lines.{IsOpen}
-use Rattle.lrat_text.specs.Taking.{TakesAll, HandsOn, ended}
+use Rattle.lrat_text.specs.LineSink.{TakesAll, HandsOn, ended_lines}
 use Rattle.lrat_text.specs.declared.step.Step.{Step}
 use Rattle.lrat_text.proofs.PieceLemmas.{spells_append}
 use Rattle.lrat_binary.specs.Grammar.{Spells}
-use Rattle.lrat_forms.specs.Spelling.{HasWritten, SpellTheSame}
+use Rattle.lrat_forms.specs.SameSteps.{HasWritten, SpellTheSame}
 use Rattle.lrat_forms.specs.declared.binary_form.BinaryForm.{BinaryForm}
 use Rattle.lrat_forms.specs.declared.binary_form.StepWriter.{StepWriter}
-use Rattle.lrat_forms.specs.inner.Steps.{Writes}
+use Rattle.lrat_forms.specs.inner.WrittenSteps.{Writes}
 
 no_lf_to : (line : List ℕ) → IsOpen line → Contains line 10 → ⊥
 no_lf_to line none m = true≢false (sym (eq-eqb 10 10 refl) ∙ All-contains (λ b. (b == 10) ≡ false) line 10 none m)
@@ -30,27 +30,27 @@ record Written (s : StepWriter) (text : List ℕ) (t : StepWriter) : Type 0 wher
   lines : LineSpells text steps
   same : Spells bytes steps
 
-written : (lines : List (List ℕ)) (s t : StepWriter) → All IsOpen lines → TakesAll Writes s lines t → Written s (ended lines) t
+written : (lines : List (List ℕ)) (s t : StepWriter) → All IsOpen lines → TakesAll Writes s lines t → Written s (ended_lines lines) t
 written [] s t each e = record { steps = []; bytes = []; out = ap (λ (w : StepWriter). w.out.items) (sym e) ∙ sym (append-nil s.out.items); lines = refl; same = refl }
 written (line ∷ lines) s t each (m, (step, spells, (bytes, out, spelled)), later) =
-    let w : Written m (ended lines) t = written lines m t (All-tail IsOpen line lines each) later in
+    let w : Written m (ended_lines lines) t = written lines m t (All-tail IsOpen line lines each) later in
     record {
       steps = step ∷ w.steps;
       bytes = bytes ++ w.bytes;
       out = w.out ∙ ap (λ (xs : List ℕ). xs ++ w.bytes) out ∙ append_assoc s.out.items bytes w.bytes;
-      lines = (line, ended lines, refl, no_lf_to line (All-head IsOpen line lines each), spells, w.lines);
+      lines = (line, ended_lines lines, refl, no_lf_to line (All-head IsOpen line lines each), spells, w.lines);
       same = (bytes, w.bytes, refl, spelled, w.same);
     }
 
 pub feeds : (f g : BinaryForm) (piece text bytes : List ℕ) → HandsOn Writes f.writer (f.begun ++ piece) g.writer g.begun → HasWritten f text bytes → HasWritten g (text ++ piece) bytes
 feeds f g piece text bytes h before =
-    let w : Written f.writer (ended h.lines) g.writer = written h.lines f.writer g.writer h.one_by_one h.taken in
+    let w : Written f.writer (ended_lines h.lines) g.writer = written h.lines f.writer g.writer h.one_by_one h.taken in
     record {
-      lines = before.lines ++ ended h.lines;
-      whole = ap (λ (xs : List ℕ). xs ++ piece) before.whole ∙ append_assoc before.lines f.begun piece ∙ ap (λ (xs : List ℕ). before.lines ++ xs) h.whole ∙ sym (append_assoc before.lines (ended h.lines) g.begun);
+      lines = before.lines ++ ended_lines h.lines;
+      whole = ap (λ (xs : List ℕ). xs ++ piece) before.whole ∙ append_assoc before.lines f.begun piece ∙ ap (λ (xs : List ℕ). before.lines ++ xs) h.whole ∙ sym (append_assoc before.lines (ended_lines h.lines) g.begun);
       same = (
         before.same.0 ++ w.steps,
-        spells_append before.same.0 w.steps before.lines (ended h.lines) before.same.1 w.lines,
+        spells_append before.same.0 w.steps before.lines (ended_lines h.lines) before.same.1 w.lines,
         subst (λ (xs : List ℕ). Spells xs (before.same.0 ++ w.steps)) (append_assoc bytes f.writer.out.items w.bytes ∙ ap (λ (xs : List ℕ). bytes ++ xs) (sym w.out))
             (steps_append (bytes ++ f.writer.out.items) w.bytes before.same.0 w.steps before.same.2 w.same),
       );

@@ -1,4 +1,4 @@
 pub mod Forms
 pub mod Pieces
-pub mod Spelling
+pub mod SameSteps
 pub mod inner

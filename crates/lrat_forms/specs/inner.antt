@@ -1,5 +1,5 @@
 -- What only private contracts, invariants and proofs name. Nothing here is to be believed.
 pub mod Codes
-pub mod Lines
-pub mod Reading
-pub mod Steps
+pub mod WrittenLines
+pub mod BinaryPiece
+pub mod WrittenSteps

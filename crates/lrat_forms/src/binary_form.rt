@@ -1,19 +1,18 @@
-//! Lines become steps in binary form.
+//! Conversion of text to the binary form.
 
 ghost use Rattle.std.specs.Prelude.{◌≡◌, ◌++◌, ℕ, List, [], OnOk};
-ghost use Rattle.lrat_forms.specs.Spelling.{HasWritten, SpellTheSame};
+ghost use Rattle.lrat_forms.specs.SameSteps.{HasWritten, SpellTheSame};
 
-use crate::steps::put_step;
+use crate::step_encoder::put_step;
 use lrat_text::{LineBuffer, PieceFault, StepBuffer, TakesLines, TextFault, read_line};
 use std::alloc::Global;
 
-/// What writes a step for each line.
+/// The consumer of lines that writes each line's step in binary form.
 pub(crate) struct StepWriter {
     pub(crate) buffer: StepBuffer,
     pub(crate) out: Vec<u8>,
 }
 
-// By hand, so that whoever owns one drops it by one call, and no proof there goes through its parts.
 impl Drop for StepWriter {
     fn drop(self) {
         let StepWriter { buffer: _, out: _ } = self;
@@ -21,7 +20,7 @@ impl Drop for StepWriter {
 }
 
 impl TakesLines for StepWriter {
-    ghost use Rattle.lrat_forms.specs.inner.Steps.{MayTake, Refuses, Writes};
+    ghost use Rattle.lrat_forms.specs.inner.WrittenSteps.{MayTake, Refuses, Writes};
 
     type Fault = TextFault;
 
@@ -38,13 +37,12 @@ impl TakesLines for StepWriter {
     }
 }
 
-/// What makes the binary form of a text that comes in pieces.
+/// Converts a text that comes in pieces to the binary form.
 pub struct BinaryForm {
     pub(crate) begun: LineBuffer,
     pub(crate) writer: StepWriter,
 }
 
-// By hand, so that whoever owns one drops it by one call, and no proof there goes through its parts.
 impl Drop for BinaryForm {
     fn drop(self) {
         let BinaryForm {
@@ -55,7 +53,7 @@ impl Drop for BinaryForm {
 }
 
 impl BinaryForm {
-    /// No byte has come.
+    /// A converter before the first byte.
     pub fn new(alloc: Global) -> BinaryForm
         ensures { HasWritten result [] [] }
     {
@@ -68,8 +66,8 @@ impl BinaryForm {
         }
     }
 
-    /// Takes the next piece of a text: the steps of the lines that are whole now are written. After an error it is of no use: a line spells no
-    /// step, or memory ran out.
+    /// Takes the next piece of a text, and writes the steps of the lines that are complete now. An error means that a line spells no step,
+    /// or that memory is refused; after it the converter is of no use.
     pub fn feed(&mut self, piece: &[u8]) -> Result<(), TextFault>
         ensures { OnOk result ((text bytes : List ℕ) → HasWritten self.old text bytes → HasWritten self.new (text ++ piece.now) bytes) }
     {
@@ -80,14 +78,14 @@ impl BinaryForm {
         }
     }
 
-    /// The bytes that are not handed out yet.
+    /// The bytes written since the last [`BinaryForm::forget`].
     pub fn written(&self) -> &[u8]
         ensures { result.now ≡ self.now.writer.out.items }
     {
         &self.writer.out
     }
 
-    /// Those bytes are handed out.
+    /// Drops the bytes that [`BinaryForm::written`] gave.
     pub fn forget(&mut self)
         ensures stands { (text bytes : List ℕ) → HasWritten self.old text bytes → HasWritten self.new text (bytes ++ self.old.writer.out.items) }
         ensures out { self.new.writer.out.items ≡ [] }
@@ -95,8 +93,8 @@ impl BinaryForm {
         self.writer.out.clear();
     }
 
-    /// Where no further byte comes: what was handed out, and then what is left to hand out, spells what the text spells. `LineNotEnded` where a
-    /// line is begun.
+    /// The end of the text: at `Ok`, all the bytes that were written spell the steps that the text spells. `LineNotEnded` if the text ends
+    /// within a line.
     pub fn finish(&self) -> Result<(), TextFault>
         ensures { OnOk result ((text bytes : List ℕ) → HasWritten self.now text bytes → SpellTheSame text (bytes ++ self.now.writer.out.items)) }
     {

@@ -1,4 +1,4 @@
-//! The numbers of a step in binary form.
+//! Writing the numbers of a step in binary form, as unsigned LEB128.
 
 ghost use Rattle.std.specs.Prelude.{◌∷◌, [], ◌^◌, ◌<◌, All, OnOk, map};
 ghost use Rattle.std.specs.List.{flat_map};
@@ -11,7 +11,7 @@ use dimacs::Lit;
 use lrat_text::Groups;
 use std::alloc::AllocError;
 
-/// Appends a number, its lowest seven bits first.
+/// Appends a number in unsigned LEB128: seven bits a byte, the lowest first.
 pub(crate) fn put_code(out: &mut Vec<u8>, code: u64) -> Result<(), AllocError>
     ensures { OnOk result (AddsNumber out.old.items out.new.items code) }
 {
@@ -24,7 +24,7 @@ pub(crate) fn put_code(out: &mut Vec<u8>, code: u64) -> Result<(), AllocError>
     Ok(())
 }
 
-/// Appends literals.
+/// Appends the codes of literals.
 pub(crate) fn put_literals(out: &mut Vec<u8>, lits: &[Lit]) -> Result<(), AllocError>
     ensures { OnOk result (Adds out.old.items out.new.items (map index_of lits.now)) }
 {
@@ -34,7 +34,7 @@ pub(crate) fn put_literals(out: &mut Vec<u8>, lits: &[Lit]) -> Result<(), AllocE
     Ok(())
 }
 
-/// Appends the numbers of clauses.
+/// Appends the codes of clause numbers.
 pub(crate) fn put_numbers(out: &mut Vec<u8>, numbers: &[u64]) -> Result<(), AllocError>
     requires { All IsClauseNumber numbers.now }
     ensures { OnOk result (Adds out.old.items out.new.items (map clause_code numbers.now)) }
@@ -45,7 +45,7 @@ pub(crate) fn put_numbers(out: &mut Vec<u8>, numbers: &[u64]) -> Result<(), Allo
     Ok(())
 }
 
-/// Appends a candidate and its hints.
+/// Appends the codes of a candidate and its hints.
 fn put_group(out: &mut Vec<u8>, candidate: u64, hints: &[u64]) -> Result<(), AllocError>
     requires { IsGroup (candidate, hints.now) }
     ensures { OnOk result (Adds out.old.items out.new.items (group_codes (candidate, hints.now))) }
@@ -54,7 +54,7 @@ fn put_group(out: &mut Vec<u8>, candidate: u64, hints: &[u64]) -> Result<(), All
     put_numbers(out, hints)
 }
 
-/// Appends groups.
+/// Appends the codes of groups.
 pub(crate) fn put_groups(out: &mut Vec<u8>, groups: &Groups) -> Result<(), AllocError>
     requires { All IsGroup groups.now }
     ensures { OnOk result (Adds out.old.items out.new.items (flat_map group_codes groups.now)) }

@@ -6,7 +6,7 @@ ghost use Rattle.lrat_text.specs.declared.step.Step.{Step};
 ghost use Rattle.lrat_binary.specs.Grammar.{Spells};
 ghost use Rattle.lrat_forms.specs.Forms.{is_binary, text_form};
 
-/// The text to which a proof in binary form comes spells the steps that its bytes spell.
+/// The text of a proof in binary form spells the steps that its bytes spell.
 pub fn both_forms_spell_the_same()
     ensures { (bytes : List ℕ) (steps : List Step) → is_binary bytes ≡ true → Spells bytes steps → LineSpells (text_form bytes) steps }
 {}

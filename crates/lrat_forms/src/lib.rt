@@ -1,16 +1,16 @@
-//! The two forms of an LRAT proof, told by the first byte: lines of text, and the binary form that solvers write.
+//! Conversion between the two forms of an LRAT proof: lines of text, and the binary form that solvers write. The first byte tells the form.
 //!
-//! [`TextForm`] makes text of bytes in either form, so that what reads texts reads both. A step is one line, under the same number, and
-//! bytes that spell no step become a line that has the same fault. [`BinaryForm`] makes binary steps of lines.
+//! [`TextForm`] converts bytes in either form to text, so that a reader of texts reads both. Step n becomes line n. Bytes that spell no
+//! step become a line that has the same fault. [`BinaryForm`] converts lines to binary steps.
 #![tactic(auto)]
 
 mod binary_form;
 mod codes;
-mod first;
+mod first_byte;
 mod laws;
 mod limits;
-mod lines;
-mod steps;
+mod line_writer;
+mod step_encoder;
 mod text_form;
 
 pub use binary_form::BinaryForm;

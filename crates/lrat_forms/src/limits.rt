@@ -1,4 +1,4 @@
-//! Whether a step is within the limits of lines.
+//! Tests that a step is within the limits of text lines.
 
 ghost use Rattle.std.specs.Prelude.{All, IsTrue};
 ghost use Rattle.dimacs.specs.logic.Literal.{IsWithin};
@@ -8,7 +8,7 @@ ghost use Rattle.lrat_text.specs.Steps.{step_of};
 use dimacs::Lit;
 use lrat_text::{Groups, StepRef};
 
-/// The greatest variable of a proof.
+/// The greatest variable of a proof that a line may have.
 const MAX_VAR: u32 = 2_000_000;
 
 fn is_number(number: u64) -> bool
@@ -48,7 +48,7 @@ fn are_groups(groups: &Groups) -> bool
     true
 }
 
-/// Whether a step is within the limits.
+/// Whether a step is within the limits: clause numbers from 1 to 2^48 - 1, variables up to 2,000,000.
 pub(crate) fn is_within(step: StepRef<'_>) -> bool
     ensures { IsTrue result → IsStep (step_of step.entry) }
 {

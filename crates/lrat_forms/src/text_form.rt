@@ -1,41 +1,40 @@
-//! Bytes of a proof in either form become text.
+//! Conversion of a proof in either form to text.
 
 ghost use Rattle.std.specs.Prelude.{◌≡◌, ◌≢◌, ◌++◌, ℕ, List, [], false, IfSome, OnOk};
 ghost use Rattle.std.specs.Result.{result_err};
 ghost use Rattle.lrat_forms.specs.Forms.{fault_line, fault_text, is_binary, text_form};
 ghost use Rattle.lrat_forms.specs.Pieces.{HasGiven, given_of, is_cut};
-ghost use Rattle.lrat_forms.specs.inner.Reading.{ReadsAt, ReadsOn, stage_at};
+ghost use Rattle.lrat_forms.specs.inner.BinaryPiece.{ReadsAt, ReadsOn, stage_at};
 
-use crate::first::is_letter;
-use crate::lines::LineWriter;
+use crate::first_byte::is_letter;
+use crate::line_writer::LineWriter;
 use lrat_binary::{BinaryReader, FeedFault};
 use lrat_text::TextFault;
 use std::alloc::{AllocError, Global};
 
-/// What is known of a proof.
+/// What is known of the proof so far.
 #[derive(Clone, Copy)]
 pub(crate) enum Stage {
-    /// No byte has come, so that its form is not known.
+    /// No byte has come yet, so the form is unknown.
     Awaiting,
     /// It is a text.
     Text,
     /// It is in binary form.
     Binary,
-    /// It is in binary form, and behind its steps stand bytes that spell none.
-    Ended,
-    /// Memory ran out.
-    Cut,
+    /// It is in binary form, and bytes that spell no step follow its steps.
+    Faulty,
+    /// Memory was refused.
+    OutOfMemory,
 }
 
-/// What makes text of a proof that comes in pieces, in either form. It keeps no bytes, but the parts of the step that is begun, and what the
-/// last piece came to.
+/// Converts a proof in either form that comes in pieces to text. It stores no bytes except the incomplete step at the end of the last
+/// piece, and the text of that piece.
 pub struct TextForm {
     pub(crate) stage: Stage,
     pub(crate) reader: BinaryReader,
     pub(crate) writer: LineWriter,
 }
 
-// By hand, so that whoever owns one drops it by one call, and no proof there goes through its parts.
 impl Drop for TextForm {
     fn drop(self) {
         let TextForm {
@@ -46,7 +45,7 @@ impl Drop for TextForm {
     }
 }
 
-/// A text that has this fault.
+/// A text whose first fault is this one.
 fn fault_line(fault: TextFault) -> &'static [u8]
     ensures { result.now ≡ fault_line fault }
 {
@@ -59,14 +58,14 @@ fn fault_line(fault: TextFault) -> &'static [u8]
     }
 }
 
-/// Writes what stands for bytes that spell no step.
+/// Writes a text with the fault of bytes that spell no step.
 fn put_fault(writer: &mut LineWriter, fault: TextFault) -> Result<(), AllocError>
     ensures { OnOk result (writer.new.out.items ≡ writer.old.out.items ++ fault_line fault) }
 {
     writer.out.extend_from_slice(fault_line(fault))
 }
 
-/// The fault, but for want of memory.
+/// The fault; `None` for want of memory.
 fn known(fault: TextFault) -> Option<TextFault>
     ensures { IfSome result (λ f. (f ≡ fault) × (fault ≢ TextFault.NoMemory)) }
 {
@@ -76,7 +75,7 @@ fn known(fault: TextFault) -> Option<TextFault>
     }
 }
 
-/// The fault of bytes that spell no step; none where memory ran out.
+/// The fault of bytes that spell no step; `None` if memory was refused.
 fn fault_of(fault: FeedFault<AllocError>) -> Option<TextFault>
     ensures { IfSome result (λ f. (fault ≡ FeedFault.Bytes f) × (f ≢ TextFault.NoMemory)) }
 {
@@ -86,7 +85,7 @@ fn fault_of(fault: FeedFault<AllocError>) -> Option<TextFault>
     }
 }
 
-/// Writes the steps that are whole with a piece, and tells what is known then.
+/// Writes the steps that are complete with a piece, and answers what is known then.
 fn read_on(reader: &mut BinaryReader, writer: &mut LineWriter, piece: &[u8]) -> Stage
     ensures { ReadsOn reader.old writer.old piece.now result reader.new writer.new }
 {
@@ -95,15 +94,15 @@ fn read_on(reader: &mut BinaryReader, writer: &mut LineWriter, piece: &[u8]) -> 
         Err(fault) => fault,
     };
     let Some(fault) = fault_of(fault) else {
-        return Stage::Cut;
+        return Stage::OutOfMemory;
     };
     match put_fault(writer, fault) {
-        Ok(()) => Stage::Ended,
-        Err(_) => Stage::Cut,
+        Ok(()) => Stage::Faulty,
+        Err(_) => Stage::OutOfMemory,
     }
 }
 
-/// What is known once a byte has come.
+/// What is known after the first byte of a piece.
 fn stage_at(stage: Stage, first: u8) -> Stage
     ensures { result ≡ stage_at stage first }
 {
@@ -119,7 +118,7 @@ fn stage_at(stage: Stage, first: u8) -> Stage
     }
 }
 
-/// Reads a piece on where the proof is in binary form, and tells what is known then.
+/// Reads a piece if the proof is in binary form, and answers what is known then.
 fn read_at(stage: Stage, reader: &mut BinaryReader, writer: &mut LineWriter, piece: &[u8]) -> Stage
     ensures { ReadsAt stage reader.old writer.old piece.now result reader.new writer.new }
 {
@@ -129,7 +128,7 @@ fn read_at(stage: Stage, reader: &mut BinaryReader, writer: &mut LineWriter, pie
     }
 }
 
-/// What stands for the end.
+/// The text of a reader's answer at the end of the proof.
 fn ended(end: Result<(), TextFault>) -> &'static [u8]
     ensures { result.now ≡ fault_text (result_err end) }
 {
@@ -140,7 +139,7 @@ fn ended(end: Result<(), TextFault>) -> &'static [u8]
 }
 
 impl TextForm {
-    /// No byte has come.
+    /// A converter before the first byte.
     pub fn new(alloc: Global) -> TextForm
         ensures { HasGiven result [] [] }
     {
@@ -154,7 +153,7 @@ impl TextForm {
         }
     }
 
-    /// Takes the next piece; [`TextForm::given`] hands out what it comes to.
+    /// Takes the next piece; [`TextForm::given`] gives its text.
     pub fn feed(&mut self, piece: &[u8])
         ensures { (bytes text : List ℕ) → HasGiven self.old bytes text → HasGiven self.new (bytes ++ piece.now) (text ++ given_of self.new piece.now) }
     {
@@ -166,7 +165,7 @@ impl TextForm {
         self.stage = read_at(stage, &mut self.reader, &mut self.writer, piece);
     }
 
-    /// The text to which the piece comes that was taken last. A piece of a text is handed out as it is.
+    /// The text of the piece that was taken last. A piece of a text is given as it is.
     pub fn given<'a>(&'a self, piece: &'a [u8]) -> &'a [u8]
         ensures { result.now ≡ given_of self.now piece.now }
     {
@@ -176,12 +175,12 @@ impl TextForm {
         }
     }
 
-    /// Whether memory ran out. Then it is not known which text the bytes come to.
+    /// Whether memory was refused. Then the text of the bytes is unknown.
     pub fn is_cut(&self) -> bool
         ensures { result ≡ is_cut self.now.stage }
     {
         match self.stage {
-            Stage::Cut => true,
+            Stage::OutOfMemory => true,
             _ => false,
         }
     }
@@ -191,12 +190,12 @@ impl TextForm {
         ensures { (bytes text : List ℕ) → HasGiven self.now bytes text → is_cut self.now.stage ≡ false → result ≡ is_binary bytes }
     {
         match self.stage {
-            Stage::Binary | Stage::Ended => true,
+            Stage::Binary | Stage::Faulty => true,
             _ => false,
         }
     }
 
-    /// What is left of the text where no further byte comes.
+    /// The rest of the text at the end of the proof: nothing, or a line with the fault `LineNotEnded`.
     pub fn rest(&self) -> &'static [u8]
         ensures { (bytes text : List ℕ) → HasGiven self.now bytes text → is_cut self.now.stage ≡ false → text_form bytes ≡ text ++ result.now }
     {

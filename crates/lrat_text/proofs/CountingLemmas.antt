@@ -15,7 +15,7 @@ use Rattle.dimacs.proofs.Members.{has-Contains, Contains-has}
 use Rattle.lrat_text.specs.Grammar.{LineSpells}
 use Rattle.lrat_text.specs.Lines.{AllRead}
 use Rattle.lrat_text.specs.Log.{AreLogSteps, IsLog, IsHonest, AreFresh, IsNew, additions}
-use Rattle.lrat_text.specs.Reading.{step_in}
+use Rattle.lrat_text.specs.Parser.{step_in}
 use Rattle.lrat_text.specs.declared.fault.TextFault.{TextFault}
 use Rattle.lrat_text.specs.declared.step.Step.{Step}
 use Rattle.lrat_text.specs.declared.step.Step.TheVariants.{Add, Delete}

@@ -11,7 +11,7 @@ use Rattle.lrat_text.specs.Groups.{groups_from}
 use Rattle.lrat_text.specs.inner.Groups.{AreHeads, start_at}
 use Rattle.lrat_text.specs.GroupLists.{with_hint}
 use Rattle.dimacs.specs.logic.Literal.{Literal}
-use Rattle.lrat_text.specs.Reading.{groups_in}
+use Rattle.lrat_text.specs.Parser.{groups_in}
 use Rattle.lrat_text.specs.declared.token.Token.{Token}
 use Rattle.lrat_text.specs.declared.token.Token.TheVariants.{Plus, Minus}
 
@@ -61,7 +61,7 @@ pub read_group : (heads : List Head) (hints : List ℕ) (i n s : ℕ) (h : Head)
     → slice_get (groups_from 0 heads hints) i ≡ Some (h.candidate, slice_range hints s h.end)
 read_group heads hints i n s h e lt is at = rw at (group_at 0 heads hints i h (slice_get_read heads n i h e lt is))
 
--- the hints of the group behind a place begin where the place's end
+-- the hints of the group after a place begin where the place's end
 pub start_behind : (start : ℕ) (heads : List Head) (i j : ℕ) (d : Head) → i ≡ suc j → i < length heads → start_at start heads i ≡ (get_or heads j d).end
 start_behind start heads i j d e lt = let within : suc j < length heads = omega arith in rw e (behind start heads j d within)
   where
@@ -82,7 +82,7 @@ range_stays xs ys a b le h =
     let room : b - a ≤ length (drop a xs) = omega (arith, length-drop a xs) in
     ap (take (b - a)) (drop-append-le a xs ys inside) ∙ take-append-le (b - a) (drop a xs) ys room
 
--- the part behind the old end
+-- the part after the old end
 pub range_added : (xs ys : List ℕ) (a b : ℕ) → a ≡ length xs → b ≡ length xs + length ys → slice_range (xs ++ ys) a b ≡ ys
 range_added xs ys a b e f =
     let n : b - a ≡ length ys = omega arith in

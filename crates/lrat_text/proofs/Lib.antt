@@ -1,9 +1,10 @@
-mod AroundLemmas
-mod BackwardsLemmas
+mod VerbatimLemmas
+mod TokenBlockLemmas
 pub mod DigitLemmas
 pub mod ClauseMapLemmas
 pub mod CountingLemmas
 pub mod CutLemmas
+pub mod FirstByteLemmas
 pub mod GroupLemmas
 pub mod LineLemmas
 pub mod LogLemmas
@@ -16,8 +17,8 @@ mod ShortLemmas
 mod SignedLemmas
 pub mod SpelledStepLemmas
 pub mod SpellingLemmas
-pub mod TakingLemmas
+pub mod LineSinkLemmas
 pub mod TokenLemmas
 mod WordLemmas
-pub mod WritingLemmas
-pub mod WrittenLemmas
+pub mod WrittenLineLemmas
+pub mod CanonicalLemmas

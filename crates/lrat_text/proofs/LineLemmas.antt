@@ -1,9 +1,9 @@
 -- Lines of texts.
-use Rattle.std.proofs.Common.{◌≡◌, ℕ, suc, ◌-◌, ◌<◌, ◌≤◌, Bool, true, false, ◌==◌, cond, List, [], ◌∷◌, ◌++◌, Ok, map, length, get_or, refl, sym, ap, ◌∙◌, arith, subst, codes, decimal, All, Contains, length-append}
+use Rattle.std.proofs.Common.{◌≡◌, ℕ, suc, ◌-◌, ◌<◌, ◌≤◌, ◌^◌, Bool, true, false, ◌==◌, cond, List, [], ◌∷◌, ◌++◌, Ok, map, length, get_or, refl, sym, ap, ◌∙◌, arith, subst, codes, decimal, All, Contains, length-append}
 use Rattle.std.specs.List.{AllByRecursion, flat_map, filter, slice_split, onto_first, join_with_byte}
 use Rattle.std.proofs.lemmas.Bool.{ne_eqb}
 use Rattle.std.proofs.lemmas.List.{append-nil}
-use Rattle.std.proofs.lemmas.List.Elements.{All-from_recursion, recursion_from_All, All-contains, All-from_get_or}
+use Rattle.std.proofs.lemmas.List.Elements.{All-from_recursion, recursion_from_All, All-contains, All-from_get_or, All-weaker}
 use Rattle.std.proofs.lemmas.List.Splits.{slice_split_at, slice_split_none, join_with_byte-slice_split}
 use Rattle.std.proofs.Math.Seq.{get_or-append_right}
 use Rattle.std.proofs.lemmas.Fmt.{decimal_nonempty}
@@ -12,11 +12,11 @@ use Rattle.dimacs.specs.logic.Rat.{Group}
 use Rattle.dimacs.specs.text.Words.{is_some_byte, lines}
 use Rattle.lrat_text.specs.declared.step.Step.{Step}
 use Rattle.lrat_text.specs.declared.step.Step.TheVariants.{Add, Delete}
-use Rattle.lrat_text.specs.Grammar.{tokens, IsTrimmed, IsClauseNumber, IsGroup, IsStep, literal_token, group_tokens, step_tokens, SpellsStep, LineSpells}
+use Rattle.lrat_text.specs.Grammar.{tokens, IsTrimmed, IsClauseNumber, IsGroup, IsStep, IsStepWithin, literal_token, group_tokens, step_tokens, SpellsStep, SpellsStepWithin, LineSpells, LineSpellsWithin}
 use Rattle.lrat_text.specs.inner.Tokens.{is_space}
-use Rattle.lrat_text.specs.Writing.{line_text}
+use Rattle.lrat_text.specs.WrittenLine.{line_text}
 use Rattle.lrat_text.specs.Lines.{AllRead}
-use Rattle.lrat_text.specs.Reading.{step_in}
+use Rattle.lrat_text.specs.Parser.{step_in}
 use Rattle.lrat_text.proofs.NumberLemmas.{IsDigitByte, decimal_digits, negative_token}
 use Rattle.lrat_text.proofs.TokenLemmas.{front_more}
 use Rattle.lrat_text.proofs.SpellingLemmas.{found_spells, spelled_found}
@@ -56,9 +56,9 @@ pub record IsOfTokens (W : List ℕ → Type 0) : Type 0 where
   pub zero : W (codes "0")
   pub letter : W (codes "d")
 
-literal_has : (W : List ℕ → Type 0) → IsOfTokens W → (l : Literal) → IsWithin 2000000 l → W (literal_token l)
-literal_has W w (Pos v) h = w.number v (omega (arith, h.0), omega (arith, h.1))
-literal_has W w (Neg v) h = subst W (sym (negative_token v (omega (arith, h.0)))) (w.minus v (omega (arith, h.0), omega (arith, h.1)))
+literal_has : (most : ℕ) → most < 2 ^ 48 → (W : List ℕ → Type 0) → IsOfTokens W → (l : Literal) → IsWithin most l → W (literal_token l)
+literal_has most few W w (Pos v) h = w.number v (omega (arith, h.0), omega (arith, h.1))
+literal_has most few W w (Neg v) h = subst W (sym (negative_token v (omega (arith, h.0)))) (w.minus v (omega (arith, h.0), omega (arith, h.1)))
 
 all_map : {X : Type 0} (W : List ℕ → Type 0) (P : X → Type 0) (f : X → List ℕ) (xs : List X) → ((x : X) → P x → W (f x)) → AllByRecursion P xs → AllByRecursion W (map f xs)
 all_map W P f [] g h = tt
@@ -71,11 +71,11 @@ groups_have W w (g ∷ gs) h =
     (w.minus g.0 h.0.0, all_map W IsClauseNumber decimal g.1 w.number (recursion_from_All IsClauseNumber g.1 h.0.1))
     (groups_have W w gs h.1)
 
-pub step_has : (W : List ℕ → Type 0) → IsOfTokens W → (top : ℕ) (step : Step) → IsClauseNumber top → IsStep step → AllByRecursion W (step_tokens top step)
-step_has W w top (Add id lits hints groups) n h = (
+pub step_has : (most : ℕ) → most < 2 ^ 48 → (W : List ℕ → Type 0) → IsOfTokens W → (top : ℕ) (step : Step) → IsClauseNumber top → IsStepWithin most step → AllByRecursion W (step_tokens top step)
+step_has most few W w top (Add id lits hints groups) n h = (
   w.number id h.0,
   all_append W (map literal_token lits) (codes "0" ∷ (map decimal hints ++ flat_map group_tokens groups ++ codes "0" ∷ []))
-      (all_map W (IsWithin 2000000) literal_token lits (literal_has W w) (recursion_from_All (IsWithin 2000000) lits h.1)) (
+      (all_map W (IsWithin most) literal_token lits (literal_has most few W w) (recursion_from_All (IsWithin most) lits h.1)) (
         w.zero,
         all_append W (map decimal hints ++ flat_map group_tokens groups) (codes "0" ∷ [])
             (all_append W (map decimal hints) (flat_map group_tokens groups)
@@ -84,7 +84,7 @@ step_has W w top (Add id lits hints groups) n h = (
             (w.zero, tt),
       ),
 )
-step_has W w top (Delete ids) n h = (
+step_has most few W w top (Delete ids) n h = (
   w.number top n,
   (
     w.letter,
@@ -93,8 +93,8 @@ step_has W w top (Delete ids) n h = (
   ),
 )
 
-pub step_words : (top : ℕ) (step : Step) → IsClauseNumber top → IsStep step → AllByRecursion IsWord (step_tokens top step)
-step_words = step_has IsWord (record { number = decimal_word; minus = minus_word; zero = zero_word; letter = letter_word })
+pub step_words_within : (most : ℕ) → most < 2 ^ 48 → (top : ℕ) (step : Step) → IsClauseNumber top → IsStepWithin most step → AllByRecursion IsWord (step_tokens top step)
+step_words_within most few = step_has most few IsWord (record { number = decimal_word; minus = minus_word; zero = zero_word; letter = letter_word })
 
 -- ---- words with single spaces between them
 
@@ -161,9 +161,9 @@ some_tokens top (Add id lits hints groups) = omega arith
 some_tokens top (Delete ids) = omega arith
 
 -- what is written spells the step
-pub written_spells : (top : ℕ) (step : Step) → IsClauseNumber top → IsStep step → SpellsStep (line_text top step) step
-written_spells top step n h =
-    let p = words_trimmed (step_tokens top step) (some_tokens top step) (step_words top step n h) in
+pub written_spells_within : (most : ℕ) → most < 2 ^ 48 → (top : ℕ) (step : Step) → IsClauseNumber top → IsStepWithin most step → SpellsStepWithin most (line_text top step) step
+written_spells_within most few top step n h =
+    let p = words_trimmed (step_tokens top step) (some_tokens top step) (step_words_within most few top step n h) in
     record { top = top; trimmed = p.0; limits = h; numbered = n; spelled = p.1 }
 
 no_end : (line : List ℕ) → AllByRecursion (λ b. (b == 10) ≡ false) line → ¬ (Contains line 10)
@@ -172,9 +172,37 @@ no_end line h c = differ (All-contains (λ b. (b == 10) ≡ false) line 10 (All-
     differ : true ≡ false → ⊥
     differ e = cc
 
+pub written_one_line_within : (most : ℕ) → most < 2 ^ 48 → (top : ℕ) (step : Step) → IsClauseNumber top → IsStepWithin most step → ¬ (Contains (line_text top step) 10)
+written_one_line_within most few top step n h =
+    no_end (line_text top step) (words_trimmed (step_tokens top step) (some_tokens top step) (step_words_within most few top step n h)).2
+
+-- ---- a greater limit
+
+literals_more : (a b : ℕ) → a ≤ b → (lits : List Literal) → All (IsWithin a) lits → All (IsWithin b) lits
+literals_more a b le lits h = All-weaker (IsWithin a) (IsWithin b) (λ l w. (w.0, omega (arith, le, w.1))) lits h
+
+pub step_more : (a b : ℕ) → a ≤ b → (step : Step) → IsStepWithin a step → IsStepWithin b step
+step_more a b le (Add id lits hints groups) h = (h.0, literals_more a b le lits h.1, h.2, h.3)
+step_more a b le (Delete ids) h = h
+
+pub spells_step_more : (a b : ℕ) → a ≤ b → (line : List ℕ) (step : Step) → SpellsStepWithin a line step → SpellsStepWithin b line step
+spells_step_more a b le line step s = record { top = s.top; trimmed = s.trimmed; limits = step_more a b le step s.limits; numbered = s.numbered; spelled = s.spelled }
+
+pub spells_more : (a b : ℕ) → a ≤ b → (text : List ℕ) (steps : List Step) → LineSpellsWithin a text steps → LineSpellsWithin b text steps
+spells_more a b le text [] h = h
+spells_more a b le text (step ∷ steps) (line, rest, whole, one, s, later) =
+    (line, rest, whole, one, spells_step_more a b le line step s, spells_more a b le rest steps later)
+
+-- ---- within the written limits
+
+pub step_words : (top : ℕ) (step : Step) → IsClauseNumber top → IsStep step → AllByRecursion IsWord (step_tokens top step)
+step_words = step_words_within 2000000 (omega arith)
+
+pub written_spells : (top : ℕ) (step : Step) → IsClauseNumber top → IsStep step → SpellsStep (line_text top step) step
+written_spells = written_spells_within 2000000 (omega arith)
+
 pub written_one_line : (top : ℕ) (step : Step) → IsClauseNumber top → IsStep step → ¬ (Contains (line_text top step) 10)
-written_one_line top step n h =
-    no_end (line_text top step) (words_trimmed (step_tokens top step) (some_tokens top step) (step_words top step n h)).2
+written_one_line = written_one_line_within 2000000 (omega arith)
 
 -- ---- pieces between LFs
 

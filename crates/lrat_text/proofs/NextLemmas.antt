@@ -11,7 +11,7 @@ use Rattle.lrat_text.specs.declared.fault.TextFault.{TextFault}
 use Rattle.lrat_text.specs.declared.fault.TextFault.TheVariants.{BadToken, LineNotEnded, MissingZero, NumberTooLarge, NoMemory}
 use Rattle.lrat_text.specs.declared.step.Step.{Step}
 use Rattle.lrat_text.specs.Lines.{IsCut, IsLineBetween, IsOpen}
-use Rattle.lrat_text.specs.Reading.{step_in, next_of, line_at, with_place, Fails, Gives}
+use Rattle.lrat_text.specs.Parser.{step_in, next_of, line_at, with_place, Fails, Gives}
 use Rattle.lrat_text.proofs.SpellingLemmas.{found_spells, spelled_found}
 
 is_end : (b : ℕ) → (b == 10) ≡ true → b ≡ 10
@@ -106,7 +106,7 @@ no_end text no_lf =
 more_than : (a b : ℕ) → b < a → nat_le a b ≡ false
 more_than a b h = grind (arith, nat_tests)
 
--- where a line is cut off at the place, it is read; where none is, no LF follows
+-- where a line is cut off at the place, it is read; if none is, no LF follows
 next_cut : (bytes : List ℕ) (at : ℕ) (line later : List ℕ) → at < length bytes → IsCut (drop at bytes) line later → next_of bytes at ≡ with_place (at + length line + 1) (step_in line)
 next_cut bytes at line later some cut =
     let short : at + length line - at ≡ length line = omega arith in
@@ -133,7 +133,7 @@ fails_there place MissingZero r is = ap (with_place place) is
 fails_there place NumberTooLarge r is = ap (with_place place) is
 fails_there place NoMemory r is = tt
 
--- what is read of the line is given with the place behind it
+-- what is read of the line is given with the place after it
 pub gives_next : (bytes : List ℕ) (at : ℕ) (line later : List ℕ) (r : Result Step TextFault) → at < length bytes → IsCut (slice_range bytes at (length bytes)) line later → Gives r (step_in line)
     → Gives (with_place (at + length line + 1) r) (next_of bytes at)
 gives_next bytes at line later r some cut gives = by_result r gives

@@ -14,7 +14,7 @@ use Rattle.dimacs.specs.logic.Literal.{Neg}
 use Rattle.lrat_text.specs.declared.token.Token.{Token}
 use Rattle.lrat_text.specs.declared.token.Token.TheVariants.{Letter, Zero, Plus, Minus, LargePlus, LargeMinus}
 use Rattle.lrat_text.specs.Grammar.{IsClauseNumber, literal_token}
-use Rattle.lrat_text.specs.Reading.{token_of, number_token}
+use Rattle.lrat_text.specs.Parser.{token_of, number_token}
 use Rattle.lrat_text.proofs.TokenLemmas.{token_minus, token_plus}
 
 -- which way a test went

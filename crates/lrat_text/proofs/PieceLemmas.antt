@@ -14,10 +14,10 @@ use Rattle.lrat_text.specs.declared.fault.TextFault.TheVariants.{BadToken, LineN
 use Rattle.lrat_text.specs.declared.step.Step.{Step}
 use Rattle.lrat_text.specs.Grammar.{LineSpells}
 use Rattle.lrat_text.specs.Lines.{IsOpen, IsCut}
-use Rattle.lrat_text.specs.Taking.{TakesAll, HandsOn, Refuses, Stops, ended as ended_by}
-use Rattle.lrat_text.specs.declared.lines.PieceFault.{PieceFault}
-use Rattle.lrat_text.specs.declared.lines.PieceFault.TheVariants.{NoMemory as NoPlace, Line}
-use Rattle.lrat_text.specs.Pieces.{Splits, Breaks, Progress, Within, Failed, HasTaken, TakesPiece, HasFault, StopsBefore, answer_in, end_in, joined}
+use Rattle.lrat_text.specs.LineSink.{TakesAll, HandsOn, LineRefused, PieceStops, ended_lines}
+use Rattle.lrat_text.specs.declared.line_splitter.PieceFault.{PieceFault}
+use Rattle.lrat_text.specs.declared.line_splitter.PieceFault.TheVariants.{NoMemory as NoPlace, Line}
+use Rattle.lrat_text.specs.Pieces.{Splits, Breaks, ReadProgress, Within, Failed, HasTaken, TakesPiece, HasFault, StopsBefore, answer_in, end_in, joined}
 use Rattle.lrat_text.specs.inner.Pieces.{AppendsStep, AppendsNone}
 
 pub none_of : (xs : List ℕ) → length xs ≡ 0 → xs ≡ []
@@ -46,7 +46,7 @@ splits_on a ss r ts s p q =
 pub breaks_on : (a : List ℕ) (ss : List Step) (r : List ℕ) (ts : List Step) (f : TextFault) → Splits a ss r → Breaks r ts f → Breaks a (ss ++ ts) f
 breaks_on a ss r ts f p (rest, line, later, q, is, e) = (rest, line, later, splits_on a ss r ts rest p q, is, e)
 
--- with more bytes behind it
+-- with more bytes after it
 pub splits_more : (a : List ℕ) (ss : List Step) (r more : List ℕ) → Splits a ss r → Splits (a ++ more) ss (r ++ more)
 splits_more a ss r more p = record { lines = p.lines; whole = ap (λ (x : List ℕ). x ++ more) p.whole ∙ append_assoc p.lines r more; spelled = p.spelled }
 
@@ -93,27 +93,27 @@ appended (line ∷ lines) s t (m, (step, is, spells), later) =
     let r = appended lines m t later in
     (step ∷ r.0, r.1 ∙ ap (λ (x : List Step). x ++ r.0) is ∙ append_assoc s.items (step ∷ []) r.0)
 
-spelled : (lines : List (List ℕ)) (s t : Vec Step) → All IsOpen lines → TakesAll AppendsStep s lines t → (new : List Step) × (t.items ≡ s.items ++ new) × LineSpells (ended_by lines) new
+spelled : (lines : List (List ℕ)) (s t : Vec Step) → All IsOpen lines → TakesAll AppendsStep s lines t → (new : List Step) × (t.items ≡ s.items ++ new) × LineSpells (ended_lines lines) new
 spelled [] s t each e = ([], ap (λ (v : Vec Step). v.items) (sym e) ∙ sym (append-nil s.items), refl)
 spelled (line ∷ lines) s t each (m, (step, is, spells), later) =
     let r = spelled lines m t (All-tail IsOpen line lines each) later in (
       step ∷ r.0,
       r.1 ∙ ap (λ (x : List Step). x ++ r.0) is ∙ append_assoc s.items (step ∷ []) r.0,
-      (line, ended_by lines, refl, no_lf_to line (All-head IsOpen line lines each), spells, r.2),
+      (line, ended_lines lines, refl, no_lf_to line (All-head IsOpen line lines each), spells, r.2),
     )
 
 pub splits_by : (s : Vec Step) (text : List ℕ) (t : Vec Step) (rest : List ℕ) → HandsOn AppendsStep s text t rest → (new : List Step) × (t.items ≡ s.items ++ new) × Splits text new rest
 splits_by s text t rest h =
     let r = spelled h.lines s t h.one_by_one h.taken in
-    (r.0, r.1, record { lines = ended_by h.lines; whole = h.whole; spelled = r.2 })
+    (r.0, r.1, record { lines = ended_lines h.lines; whole = h.whole; spelled = r.2 })
 
-pub breaks_by : (s : Vec Step) (text : List ℕ) (t : Vec Step) (fault : TextFault) → fault ≢ NoMemory → Refuses AppendsStep AppendsNone s text t fault → (new : List Step) × (t.items ≡ s.items ++ new) × Breaks text new fault
+pub breaks_by : (s : Vec Step) (text : List ℕ) (t : Vec Step) (fault : TextFault) → fault ≢ NoMemory → LineRefused AppendsStep AppendsNone s text t fault → (new : List Step) × (t.items ≡ s.items ++ new) × Breaks text new fault
 breaks_by s text t fault other (m, rest, line, later, h, cut, none) =
     let r = splits_by s text m rest h in
     (r.0, none.0 ∙ r.1, (rest, line, later, r.2, cut, none.1 other))
 
 -- so what was there before is got back
-pub cut_back : (s : Vec Step) (text : List ℕ) (t : Vec Step) (fault : PieceFault TextFault) → Stops AppendsStep AppendsNone s text t fault → take (length s.items) t.items ≡ s.items
+pub cut_back : (s : Vec Step) (text : List ℕ) (t : Vec Step) (fault : PieceFault TextFault) → PieceStops AppendsStep AppendsNone s text t fault → take (length s.items) t.items ≡ s.items
 cut_back s text t NoPlace (lines, taken) = let r = appended lines s t taken in ap (take (length s.items)) r.1 ∙ take-append_seam s.items r.0
 cut_back s text t (Line fault) (m, rest, line, later, h, cut, none) =
     let r = appended h.lines s m h.taken in
@@ -121,24 +121,24 @@ cut_back s text t (Line fault) (m, rest, line, later, h, cut, none) =
 
 -- ---- a whole text
 
-pub finished : (p : Progress) (bytes : List ℕ) (steps : List Step) → HasTaken p bytes steps → Ok tt ≡ end_in p → LineSpells bytes steps
+pub finished : (p : ReadProgress) (bytes : List ℕ) (steps : List Step) → HasTaken p bytes steps → Ok tt ≡ end_in p → LineSpells bytes steps
 finished (Within []) bytes steps taken e = subst (λ b. LineSpells b steps) (sym (taken.0.whole ∙ append-nil taken.0.lines)) taken.0.spelled
 finished (Within (b ∷ bs)) bytes steps taken e = absurd cc
 finished (Failed fault) bytes steps taken e = absurd cc
 
-pub unfinished : (p : Progress) (bytes : List ℕ) (steps : List Step) (fault : TextFault) → HasTaken p bytes steps → Err fault ≡ end_in p → HasFault bytes steps fault
+pub unfinished : (p : ReadProgress) (bytes : List ℕ) (steps : List Step) (fault : TextFault) → HasTaken p bytes steps → Err fault ≡ end_in p → HasFault bytes steps fault
 unfinished (Within []) bytes steps fault taken e = absurd cc
 unfinished (Within (b ∷ bs)) bytes steps fault taken e = let is : fault ≡ LineNotEnded = cc in inl (is, (b, bs, taken.0, taken.1))
 unfinished (Failed g) bytes steps fault taken e = let is : g ≡ fault = cc in inr (subst (λ f. Breaks bytes steps f) is taken)
 
 -- where a fault stops the reading, it is the text's
-pub stopped : (p : Progress) (done later whole : List ℕ) (steps : List Step) (fault : TextFault) → whole ≡ done ++ later → HasTaken p done steps → Err fault ≡ answer_in p → HasFault whole steps fault
+pub stopped : (p : ReadProgress) (done later whole : List ℕ) (steps : List Step) (fault : TextFault) → whole ≡ done ++ later → HasTaken p done steps → Err fault ≡ answer_in p → HasFault whole steps fault
 stopped (Within begun) done later whole steps fault split taken e = absurd cc
 stopped (Failed g) done later whole steps fault split taken e =
     let is : g ≡ fault = cc in
     inr (subst (λ f. Breaks whole steps f) is (subst (λ b. Breaks b steps g) (sym split) (breaks_more done steps g later taken)))
 
-pub ended : (p : Progress) (bytes : List ℕ) (steps : List Step) (r : Result (Unit {0}) TextFault) → HasTaken p bytes steps → r ≡ end_in p
+pub ended : (p : ReadProgress) (bytes : List ℕ) (steps : List Step) (r : Result (Unit {0}) TextFault) → HasTaken p bytes steps → r ≡ end_in p
     → MatchResult r (λ _. LineSpells bytes steps) (λ fault. fault ≢ NoMemory → HasFault bytes steps fault)
 ended p bytes steps (Ok u) taken e = finished p bytes steps taken e
 ended p bytes steps (Err fault) taken e = λ other. unfinished p bytes steps fault taken e
@@ -151,7 +151,7 @@ pub record StopsAt (fault : TextFault) (all : List ℕ) (before after : List Ste
 abbrev pub failing : TextFault → Result (Unit {0}) TextFault
 failing fault = Err fault
 
-pub stopped_at : (fault : TextFault) (old new : Progress) (done piece rest all : List ℕ) (before mid after given : List Step) → mid ≡ before ++ given → HasTaken old done given → all ≡ (done ++ piece) ++ rest
+pub stopped_at : (fault : TextFault) (old new : ReadProgress) (done piece rest all : List ℕ) (before mid after given : List Step) → mid ≡ before ++ given → HasTaken old done given → all ≡ (done ++ piece) ++ rest
     → (failing fault ≢ failing NoMemory → TakesPiece old piece mid after (Err fault) new) → (failing fault ≡ failing NoMemory → (new ≡ old) × (after ≡ mid)) → StopsAt fault all before after
 stopped_at fault old new done piece rest all before mid after given steps taken whole takes refused = by_fault fault refl
   where
@@ -178,13 +178,13 @@ joined_more ps i p lt e =
     let items : Vec ℕ → List ℕ = λ q. q.items in
     ap joined (take_more ps i p lt ∙ ap (λ q. take i ps ++ q ∷ []) (sym e)) ∙ flat_map-append items (take i ps) (p ∷ []) ∙ ap (λ (bytes : List ℕ). joined (take i ps) ++ bytes) (flat_map-cons items p [] ∙ append-nil p.items)
 
--- the pieces up to one, and those behind it
+-- the pieces up to one, and those after it
 pub joined_split : (ps : List (Vec ℕ)) (i : ℕ) (p : Vec ℕ) → i < length ps → p ≡ get_or ps i p → joined ps ≡ (joined (take i ps) ++ p.items) ++ joined (drop (i + 1) ps)
 joined_split ps i p lt e =
     ap joined (sym (take-append-drop (i + 1) ps)) ∙ flat_map-append (λ q. q.items) (take (i + 1) ps) (drop (i + 1) ps) ∙ ap (λ (bytes : List ℕ). bytes ++ joined (drop (i + 1) ps)) (joined_more ps i p lt e)
 
 -- a reader that has met no fault, and took no further piece
-pub stops_before : (ps : List (Vec ℕ)) (i : ℕ) (old : Progress) (before mid after given : List Step) → i < length ps → mid ≡ before ++ given → after ≡ mid → answer_in old ≡ Ok tt → HasTaken old (joined (take i ps)) given
+pub stops_before : (ps : List (Vec ℕ)) (i : ℕ) (old : ReadProgress) (before mid after given : List Step) → i < length ps → mid ≡ before ++ given → after ≡ mid → answer_in old ≡ Ok tt → HasTaken old (joined (take i ps)) given
     → StopsBefore ps before after
 stops_before ps i (Within begun) before mid after given l steps same well taken = record {
   count = i;
@@ -197,8 +197,8 @@ stops_before ps i (Within begun) before mid after given l steps same well taken 
 }
 stops_before ps i (Failed fault) before mid after given l steps same well taken = absurd cc
 
--- what is answered behind the last piece is not want of memory
-pub ends_otherwise : (p : Progress) → answer_in p ≡ Ok tt → end_in p ≢ Err NoMemory
+-- what is answered after the last piece is not want of memory
+pub ends_otherwise : (p : ReadProgress) → answer_in p ≡ Ok tt → end_in p ≢ Err NoMemory
 ends_otherwise (Within []) well e = absurd cc
 ends_otherwise (Within (b ∷ bs)) well e = absurd cc
 ends_otherwise (Failed fault) well e = absurd cc

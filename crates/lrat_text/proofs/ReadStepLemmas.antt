@@ -12,9 +12,9 @@ use Rattle.lrat_text.specs.declared.step.Step.{Step}
 use Rattle.lrat_text.specs.declared.step.Step.TheVariants.{Add, Delete}
 use Rattle.lrat_text.specs.declared.token.Token.{Token}
 use Rattle.lrat_text.specs.declared.token.Token.TheVariants.{Letter, Zero, Plus, Minus, LargePlus, LargeMinus, Other}
-use Rattle.lrat_text.specs.Grammar.{IsClauseNumber, IsGroup, IsStep, literal_token, group_tokens, step_tokens}
+use Rattle.lrat_text.specs.Grammar.{IsClauseNumber, IsGroup, IsStepWithin, literal_token, group_tokens, step_tokens}
 use Rattle.lrat_text.specs.GroupLists.{with_hint}
-use Rattle.lrat_text.specs.Reading.{token_of, ended, ids_in, groups_in, hints_in, literals_in, body_in, first_in}
+use Rattle.lrat_text.specs.Parser.{token_of, ended, ids_in, groups_in, hints_in, literals_in, body_in, first_within}
 use Rattle.lrat_text.proofs.NumberLemmas.{word_plus, word_minus, word_zero, word_letter, negative_token}
 
 pub chosen_ok : (b : Bool) (r : Result Step TextFault) (f : TextFault) (step : Step) → cond b r (Err f) ≡ Ok step → (b ≡ true) × (r ≡ Ok step)
@@ -189,132 +189,133 @@ hints_read : (id : ℕ) (lits : List Literal) (ws : List (List ℕ)) (step : Ste
 hints_read id lits [] step hints h = absurd (hints_none id lits hints step h)
 hints_read id lits (w ∷ ws) step hints h = hints_by id lits hints w ws step (token_of w) refl (hints_read id lits ws step) h
 
--- ---- literals
+module _ (most : ℕ) where
+  -- ---- literals
 
-record LiteralsRead (id : ℕ) (lits : List Literal) (ws : List (List ℕ)) (step : Step) : Type 0 where
-  more : List Literal
-  hints : List ℕ
-  groups : List Group
-  valid : AllByRecursion (IsWithin 2000000) more
-  valid_hints : AllByRecursion IsClauseNumber hints
-  valid_groups : AllByRecursion IsGroup groups
-  is : step ≡ Add id (lits ++ more) hints groups
-  words : ws ≡ map literal_token more ++ codes "0" ∷ (map decimal hints ++ flat_map group_tokens groups ++ codes "0" ∷ [])
+  record LiteralsRead (id : ℕ) (lits : List Literal) (ws : List (List ℕ)) (step : Step) : Type 0 where
+    more : List Literal
+    hints : List ℕ
+    groups : List Group
+    valid : AllByRecursion (IsWithin most) more
+    valid_hints : AllByRecursion IsClauseNumber hints
+    valid_groups : AllByRecursion IsGroup groups
+    is : step ≡ Add id (lits ++ more) hints groups
+    words : ws ≡ map literal_token more ++ codes "0" ∷ (map decimal hints ++ flat_map group_tokens groups ++ codes "0" ∷ [])
 
-within : (n : ℕ) → nat_le n 2000000 ≡ true → n ≤ 2000000
-within n h = grind (arith, nat_tests)
+  within : (n : ℕ) → nat_le n most ≡ true → n ≤ most
+  within n h = grind (arith, nat_tests)
 
-literals_push : (id : ℕ) (lits : List Literal) (l : Literal) (w : List ℕ) (ws : List (List ℕ)) (step : Step) → w ≡ literal_token l → IsWithin 2000000 l → LiteralsRead id (lits ++ l ∷ []) ws step → LiteralsRead id lits (w ∷ ws) step
-literals_push id lits l w ws step e v r = record {
-  more = l ∷ r.more;
-  hints = r.hints;
-  groups = r.groups;
-  valid = (v, r.valid);
-  valid_hints = r.valid_hints;
-  valid_groups = r.valid_groups;
-  is = r.is ∙ ap (λ (xs : List Literal). Add id xs r.hints r.groups) (append_assoc lits (l ∷ []) r.more);
-  words = same_cons e r.words;
-}
+  literals_push : (id : ℕ) (lits : List Literal) (l : Literal) (w : List ℕ) (ws : List (List ℕ)) (step : Step) → w ≡ literal_token l → IsWithin most l → LiteralsRead id (lits ++ l ∷ []) ws step → LiteralsRead id lits (w ∷ ws) step
+  literals_push id lits l w ws step e v r = record {
+    more = l ∷ r.more;
+    hints = r.hints;
+    groups = r.groups;
+    valid = (v, r.valid);
+    valid_hints = r.valid_hints;
+    valid_groups = r.valid_groups;
+    is = r.is ∙ ap (λ (xs : List Literal). Add id xs r.hints r.groups) (append_assoc lits (l ∷ []) r.more);
+    words = same_cons e r.words;
+  }
 
-literals_by : (id : ℕ) (lits : List Literal) (w : List ℕ) (ws : List (List ℕ)) (step : Step) (t : Token) → token_of w ≡ t
-    → ((lits : List Literal) → literals_in id lits (map token_of ws) ≡ Ok step → LiteralsRead id lits ws step) → literals_in id lits (t ∷ map token_of ws) ≡ Ok step → LiteralsRead id lits (w ∷ ws) step
-unfolding literals_in
-literals_by id lits w ws step Zero e later h =
-    let r = hints_read id lits ws step [] h in
-    record {
-      more = [];
-      hints = r.more;
-      groups = r.groups;
-      valid = tt;
-      valid_hints = r.valid;
-      valid_groups = r.valid_groups;
-      is = r.is ∙ ap (λ (xs : List Literal). Add id xs r.more r.groups) (sym (append-nil lits));
-      words = same_cons (word_zero w e) r.words;
-    }
-literals_by id lits w ws step (Plus n) e later h =
-    let p = word_plus w n e in
-    let q = chosen_ok (nat_le n 2000000) (literals_in id (lits ++ Pos n ∷ []) (map token_of ws)) NumberTooLarge step h in
-    literals_push id lits (Pos n) w ws step p.0 (omega (arith, p.1.0), within n q.0) (later (lits ++ Pos n ∷ []) q.1)
-literals_by id lits w ws step (Minus n) e later h =
-    let p = word_minus w n e in
-    let q = chosen_ok (nat_le n 2000000) (literals_in id (lits ++ Neg n ∷ []) (map token_of ws)) NumberTooLarge step h in
-    literals_push id lits (Neg n) w ws step (p.0 ∙ sym (negative_token n p.1.0)) (omega (arith, p.1.0), within n q.0) (later (lits ++ Neg n ∷ []) q.1)
-literals_by id lits w ws step Letter e later h = absurd (cc)
-literals_by id lits w ws step LargePlus e later h = absurd (cc)
-literals_by id lits w ws step LargeMinus e later h = absurd (cc)
-literals_by id lits w ws step Other e later h = absurd (cc)
+  literals_by : (id : ℕ) (lits : List Literal) (w : List ℕ) (ws : List (List ℕ)) (step : Step) (t : Token) → token_of w ≡ t
+      → ((lits : List Literal) → literals_in most id lits (map token_of ws) ≡ Ok step → LiteralsRead id lits ws step) → literals_in most id lits (t ∷ map token_of ws) ≡ Ok step → LiteralsRead id lits (w ∷ ws) step
+  unfolding literals_in
+  literals_by id lits w ws step Zero e later h =
+      let r = hints_read id lits ws step [] h in
+      record {
+        more = [];
+        hints = r.more;
+        groups = r.groups;
+        valid = tt;
+        valid_hints = r.valid;
+        valid_groups = r.valid_groups;
+        is = r.is ∙ ap (λ (xs : List Literal). Add id xs r.more r.groups) (sym (append-nil lits));
+        words = same_cons (word_zero w e) r.words;
+      }
+  literals_by id lits w ws step (Plus n) e later h =
+      let p = word_plus w n e in
+      let q = chosen_ok (nat_le n most) (literals_in most id (lits ++ Pos n ∷ []) (map token_of ws)) NumberTooLarge step h in
+      literals_push id lits (Pos n) w ws step p.0 (omega (arith, p.1.0), within n q.0) (later (lits ++ Pos n ∷ []) q.1)
+  literals_by id lits w ws step (Minus n) e later h =
+      let p = word_minus w n e in
+      let q = chosen_ok (nat_le n most) (literals_in most id (lits ++ Neg n ∷ []) (map token_of ws)) NumberTooLarge step h in
+      literals_push id lits (Neg n) w ws step (p.0 ∙ sym (negative_token n p.1.0)) (omega (arith, p.1.0), within n q.0) (later (lits ++ Neg n ∷ []) q.1)
+  literals_by id lits w ws step Letter e later h = absurd (cc)
+  literals_by id lits w ws step LargePlus e later h = absurd (cc)
+  literals_by id lits w ws step LargeMinus e later h = absurd (cc)
+  literals_by id lits w ws step Other e later h = absurd (cc)
 
-literals_none : (id : ℕ) (lits : List Literal) (step : Step) → literals_in id lits [] ≡ Ok step → ⊥
-unfolding literals_in
-literals_none id lits step h = cc
+  literals_none : (id : ℕ) (lits : List Literal) (step : Step) → literals_in most id lits [] ≡ Ok step → ⊥
+  unfolding literals_in
+  literals_none id lits step h = cc
 
-literals_read : (id : ℕ) (ws : List (List ℕ)) (step : Step) (lits : List Literal) → literals_in id lits (map token_of ws) ≡ Ok step → LiteralsRead id lits ws step
-literals_read id [] step lits h = absurd (literals_none id lits step h)
-literals_read id (w ∷ ws) step lits h = literals_by id lits w ws step (token_of w) refl (literals_read id ws step) h
+  literals_read : (id : ℕ) (ws : List (List ℕ)) (step : Step) (lits : List Literal) → literals_in most id lits (map token_of ws) ≡ Ok step → LiteralsRead id lits ws step
+  literals_read id [] step lits h = absurd (literals_none id lits step h)
+  literals_read id (w ∷ ws) step lits h = literals_by id lits w ws step (token_of w) refl (literals_read id ws step) h
 
--- ---- lines
+  -- ---- lines
 
-record BodyRead (id : ℕ) (ws : List (List ℕ)) (step : Step) : Type 0 where
-  valid : IsStep step
-  words : decimal id ∷ ws ≡ step_tokens id step
+  record BodyRead (id : ℕ) (ws : List (List ℕ)) (step : Step) : Type 0 where
+    valid : IsStepWithin most step
+    words : decimal id ∷ ws ≡ step_tokens id step
 
-addition_valid : (id : ℕ) (lits : List Literal) (hints : List ℕ) (groups : List Group) → IsClauseNumber id → AllByRecursion (IsWithin 2000000) lits → AllByRecursion IsClauseNumber hints → AllByRecursion IsGroup groups
-    → IsStep (Add id lits hints groups)
-addition_valid id lits hints groups n l h g = (n, All-from_recursion (IsWithin 2000000) lits l, All-from_recursion IsClauseNumber hints h, All-from_recursion IsGroup groups g)
+  addition_valid : (id : ℕ) (lits : List Literal) (hints : List ℕ) (groups : List Group) → IsClauseNumber id → AllByRecursion (IsWithin most) lits → AllByRecursion IsClauseNumber hints → AllByRecursion IsGroup groups
+      → IsStepWithin most (Add id lits hints groups)
+  addition_valid id lits hints groups n l h g = (n, All-from_recursion (IsWithin most) lits l, All-from_recursion IsClauseNumber hints h, All-from_recursion IsGroup groups g)
 
-body_addition : (id : ℕ) (ws : List (List ℕ)) (step : Step) → IsClauseNumber id → LiteralsRead id [] ws step → BodyRead id ws step
-body_addition id ws step n r = record {
-  valid = rw r.is (addition_valid id r.more r.hints r.groups n r.valid r.valid_hints r.valid_groups);
-  words = rw (r.is, r.words) refl;
-}
+  body_addition : (id : ℕ) (ws : List (List ℕ)) (step : Step) → IsClauseNumber id → LiteralsRead id [] ws step → BodyRead id ws step
+  body_addition id ws step n r = record {
+    valid = rw r.is (addition_valid id r.more r.hints r.groups n r.valid r.valid_hints r.valid_groups);
+    words = rw (r.is, r.words) refl;
+  }
 
-body_deletion : (id : ℕ) (w : List ℕ) (ws : List (List ℕ)) (step : Step) → w ≡ codes "d" → IdsRead [] ws step → BodyRead id (w ∷ ws) step
-body_deletion id w ws step e r = record {
-  valid = rw r.is (All-from_recursion IsClauseNumber r.more r.valid);
-  words = rw (r.is, e, r.words) refl;
-}
+  body_deletion : (id : ℕ) (w : List ℕ) (ws : List (List ℕ)) (step : Step) → w ≡ codes "d" → IdsRead [] ws step → BodyRead id (w ∷ ws) step
+  body_deletion id w ws step e r = record {
+    valid = rw r.is (All-from_recursion IsClauseNumber r.more r.valid);
+    words = rw (r.is, e, r.words) refl;
+  }
 
-body_by : (id : ℕ) (w : List ℕ) (ws : List (List ℕ)) (step : Step) (t : Token) → token_of w ≡ t → IsClauseNumber id → body_in id (t ∷ map token_of ws) ≡ Ok step → BodyRead id (w ∷ ws) step
-unfolding body_in
-body_by id w ws step Letter e n h = body_deletion id w ws step (word_letter w e) (ids_read ws step [] h)
-body_by id w ws step Zero e n h = body_addition id (w ∷ ws) step n (literals_by id [] w ws step Zero e (literals_read id ws step) h)
-body_by id w ws step (Plus m) e n h = body_addition id (w ∷ ws) step n (literals_by id [] w ws step (Plus m) e (literals_read id ws step) h)
-body_by id w ws step (Minus m) e n h = body_addition id (w ∷ ws) step n (literals_by id [] w ws step (Minus m) e (literals_read id ws step) h)
-body_by id w ws step LargePlus e n h = body_addition id (w ∷ ws) step n (literals_by id [] w ws step LargePlus e (literals_read id ws step) h)
-body_by id w ws step LargeMinus e n h = body_addition id (w ∷ ws) step n (literals_by id [] w ws step LargeMinus e (literals_read id ws step) h)
-body_by id w ws step Other e n h = body_addition id (w ∷ ws) step n (literals_by id [] w ws step Other e (literals_read id ws step) h)
+  body_by : (id : ℕ) (w : List ℕ) (ws : List (List ℕ)) (step : Step) (t : Token) → token_of w ≡ t → IsClauseNumber id → body_in most id (t ∷ map token_of ws) ≡ Ok step → BodyRead id (w ∷ ws) step
+  unfolding body_in
+  body_by id w ws step Letter e n h = body_deletion id w ws step (word_letter w e) (ids_read ws step [] h)
+  body_by id w ws step Zero e n h = body_addition id (w ∷ ws) step n (literals_by id [] w ws step Zero e (literals_read id ws step) h)
+  body_by id w ws step (Plus m) e n h = body_addition id (w ∷ ws) step n (literals_by id [] w ws step (Plus m) e (literals_read id ws step) h)
+  body_by id w ws step (Minus m) e n h = body_addition id (w ∷ ws) step n (literals_by id [] w ws step (Minus m) e (literals_read id ws step) h)
+  body_by id w ws step LargePlus e n h = body_addition id (w ∷ ws) step n (literals_by id [] w ws step LargePlus e (literals_read id ws step) h)
+  body_by id w ws step LargeMinus e n h = body_addition id (w ∷ ws) step n (literals_by id [] w ws step LargeMinus e (literals_read id ws step) h)
+  body_by id w ws step Other e n h = body_addition id (w ∷ ws) step n (literals_by id [] w ws step Other e (literals_read id ws step) h)
 
-body_none : (id : ℕ) (step : Step) → body_in id [] ≡ Ok step → ⊥
-unfolding body_in
-body_none id step h = literals_none id [] step h
+  body_none : (id : ℕ) (step : Step) → body_in most id [] ≡ Ok step → ⊥
+  unfolding body_in
+  body_none id step h = literals_none id [] step h
 
-body_read : (id : ℕ) (ws : List (List ℕ)) (step : Step) → IsClauseNumber id → body_in id (map token_of ws) ≡ Ok step → BodyRead id ws step
-body_read id [] step n h = absurd (body_none id step h)
-body_read id (w ∷ ws) step n h = body_by id w ws step (token_of w) refl n h
+  body_read : (id : ℕ) (ws : List (List ℕ)) (step : Step) → IsClauseNumber id → body_in most id (map token_of ws) ≡ Ok step → BodyRead id ws step
+  body_read id [] step n h = absurd (body_none id step h)
+  body_read id (w ∷ ws) step n h = body_by id w ws step (token_of w) refl n h
 
-pub record LineRead (ws : List (List ℕ)) (step : Step) : Type 0 where
-  pub top : ℕ
-  pub valid : IsStep step
-  pub numbered : IsClauseNumber top
-  pub words : ws ≡ step_tokens top step
+  pub record LineRead (ws : List (List ℕ)) (step : Step) : Type 0 where
+    pub top : ℕ
+    pub valid : IsStepWithin most step
+    pub numbered : IsClauseNumber top
+    pub words : ws ≡ step_tokens top step
 
-first_by : (w : List ℕ) (ws : List (List ℕ)) (step : Step) (t : Token) → token_of w ≡ t → first_in (t ∷ map token_of ws) ≡ Ok step → LineRead (w ∷ ws) step
-unfolding first_in
-first_by w ws step (Plus n) e h =
-    let p = word_plus w n e in
-    let r = body_read n ws step p.1 h in
-    record { top = n; valid = r.valid; numbered = p.1; words = ap (λ (x : List ℕ). x ∷ ws) p.0 ∙ r.words }
-first_by w ws step Letter e h = absurd (cc)
-first_by w ws step Zero e h = absurd (cc)
-first_by w ws step (Minus m) e h = absurd (cc)
-first_by w ws step LargePlus e h = absurd (cc)
-first_by w ws step LargeMinus e h = absurd (cc)
-first_by w ws step Other e h = absurd (cc)
+  first_by : (w : List ℕ) (ws : List (List ℕ)) (step : Step) (t : Token) → token_of w ≡ t → first_within most (t ∷ map token_of ws) ≡ Ok step → LineRead (w ∷ ws) step
+  unfolding first_within
+  first_by w ws step (Plus n) e h =
+      let p = word_plus w n e in
+      let r = body_read n ws step p.1 h in
+      record { top = n; valid = r.valid; numbered = p.1; words = ap (λ (x : List ℕ). x ∷ ws) p.0 ∙ r.words }
+  first_by w ws step Letter e h = absurd (cc)
+  first_by w ws step Zero e h = absurd (cc)
+  first_by w ws step (Minus m) e h = absurd (cc)
+  first_by w ws step LargePlus e h = absurd (cc)
+  first_by w ws step LargeMinus e h = absurd (cc)
+  first_by w ws step Other e h = absurd (cc)
 
-first_none : (step : Step) → first_in [] ≡ Ok step → ⊥
-unfolding first_in
-first_none step h = cc
+  first_none : (step : Step) → first_within most [] ≡ Ok step → ⊥
+  unfolding first_within
+  first_none step h = cc
 
-pub first_read : (ws : List (List ℕ)) (step : Step) → first_in (map token_of ws) ≡ Ok step → LineRead ws step
-first_read [] step h = absurd (first_none step h)
-first_read (w ∷ ws) step h = first_by w ws step (token_of w) refl h
+  pub first_read : (ws : List (List ℕ)) (step : Step) → first_within most (map token_of ws) ≡ Ok step → LineRead ws step
+  first_read [] step h = absurd (first_none step h)
+  first_read (w ∷ ws) step h = first_by w ws step (token_of w) refl h

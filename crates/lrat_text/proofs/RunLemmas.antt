@@ -1,10 +1,10 @@
--- Steps behind other steps.
+-- Steps after other steps.
 use Rattle.std.proofs.Common.{◌≡◌, ℕ, List, [], ◌∷◌, ◌++◌, refl, sym, ◌∙◌, ap, subst, append_assoc}
 use Rattle.dimacs.specs.logic.ClauseMap.{ClauseMap}
 use Rattle.lrat_text.specs.Grammar.{LineSpells}
 use Rattle.lrat_text.specs.Log.{after_step, top_after, AreLogSteps}
 use Rattle.lrat_text.specs.Runs.{after_steps, top_of, text_of}
-use Rattle.lrat_text.specs.Writing.{line_of}
+use Rattle.lrat_text.specs.WrittenLine.{line_of}
 use Rattle.lrat_text.specs.declared.step.Step.{Step}
 
 pub after_append : (M : ClauseMap) (xs ys : List Step) → after_steps M (xs ++ ys) ≡ after_steps (after_steps M xs) ys

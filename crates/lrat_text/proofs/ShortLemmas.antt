@@ -9,7 +9,7 @@ use Rattle.std.proofs.lemmas.List.Sums.{position_or_len_is}
 use Rattle.std.specs.Option.{option_and_then}
 use Rattle.dimacs.specs.text.Numbers.{natural, negated}
 use Rattle.lrat_text.specs.declared.token.Token.TheVariants.{Plus, Minus, Zero}
-use Rattle.lrat_text.specs.Reading.{token_of, number_token}
+use Rattle.lrat_text.specs.Parser.{token_of, number_token}
 use Rattle.lrat_text.specs.inner.Tokens.{is_space}
 use Rattle.lrat_text.proofs.DigitLemmas.{Digits, digits_begin, digits_more}
 use Rattle.lrat_text.proofs.NumberLemmas.{natural_is, natural_back, token_decimal, token_zero, minus_small}
@@ -77,7 +77,7 @@ module _ (text : List ℕ) (len value : ℕ) (short : Short text len value) wher
   pub short_small : value < 2 ^ 48
   short_small = let top : 10 ^ len ≤ 100000000000000 = fourteen len short.room.0 in omega (arith, short.below, top)
 
--- a short number is a token, also behind a minus, and so is 0
+-- a short number is a token, also after a minus, and so is 0
 pub short_plus : (word : List ℕ) (n : ℕ) → natural word ≡ Some n → 1 ≤ n → n < 2 ^ 48 → Plus n ≡ token_of word
 short_plus word n is low high = sym (ap token_of (natural_back word n is (omega arith)) ∙ token_decimal n (low, high))
 

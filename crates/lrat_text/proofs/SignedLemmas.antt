@@ -5,7 +5,7 @@ use Rattle.std.proofs.lemmas.Bool.{eqb-true}
 use Rattle.dimacs.specs.text.Numbers.{natural}
 use Rattle.lrat_text.specs.declared.token.Token.{Token}
 use Rattle.lrat_text.specs.declared.token.Token.TheVariants.{Plus, Minus}
-use Rattle.lrat_text.specs.Reading.{line_tokens, token_of}
+use Rattle.lrat_text.specs.Parser.{line_tokens, token_of}
 use Rattle.lrat_text.specs.inner.Tokens.{is_space, signed_token}
 use Rattle.lrat_text.proofs.ShortLemmas.{short_plus, short_minus}
 use Rattle.lrat_text.proofs.TokenLemmas.{tail_is, tokens_first}

@@ -1,5 +1,5 @@
 -- The tokens that spell a step are read as it.
-use Rattle.std.proofs.Common.{◌≡◌, ℕ, ◌≤◌, true, nat_le, List, [], ◌∷◌, ◌++◌, map, Ok, refl, sym, ap, ◌∙◌, arith, append_assoc, codes, decimal}
+use Rattle.std.proofs.Common.{◌≡◌, ℕ, ◌<◌, ◌≤◌, ◌^◌, true, nat_le, List, [], ◌∷◌, ◌++◌, map, Ok, refl, sym, ap, ◌∙◌, arith, append_assoc, codes, decimal}
 use Rattle.std.specs.List.{AllByRecursion, flat_map}
 use Rattle.std.proofs.lemmas.Bool.Decides.{nat_tests}
 use Rattle.std.proofs.lemmas.List.{append-nil, map-append}
@@ -10,8 +10,8 @@ use Rattle.lrat_text.specs.declared.step.Step.{Step}
 use Rattle.lrat_text.specs.declared.step.Step.TheVariants.{Add, Delete}
 use Rattle.lrat_text.specs.declared.token.Token.{Token}
 use Rattle.lrat_text.specs.declared.token.Token.TheVariants.{Letter, Zero, Plus, Minus}
-use Rattle.lrat_text.specs.Grammar.{IsClauseNumber, IsGroup, IsStep, literal_token, group_tokens, step_tokens}
-use Rattle.lrat_text.specs.Reading.{token_of, ids_in, groups_in, hints_in, literals_in, body_in, first_in}
+use Rattle.lrat_text.specs.Grammar.{IsClauseNumber, IsGroup, IsStepWithin, literal_token, group_tokens, step_tokens}
+use Rattle.lrat_text.specs.Parser.{token_of, ids_in, groups_in, hints_in, literals_in, body_in, first_within}
 use Rattle.lrat_text.proofs.TokenLemmas.{token_letter}
 use Rattle.lrat_text.proofs.NumberLemmas.{token_decimal, token_negated, token_zero, negative_token}
 use Rattle.lrat_text.proofs.ReadStepLemmas.{with_hint_last}
@@ -74,27 +74,7 @@ sign_token : Literal → Token
 sign_token (Pos v) = Plus v
 sign_token (Neg v) = Minus v
 
-token_literal : (l : Literal) → IsWithin 2000000 l → token_of (literal_token l) ≡ sign_token l
-unfolding sign_token
-token_literal (Pos v) h = token_decimal v (omega (arith, h.0), omega (arith, h.1))
-token_literal (Neg v) h = ap token_of (negative_token v (omega (arith, h.0))) ∙ token_negated v (omega (arith, h.0), omega (arith, h.1))
-
-within_back : (n : ℕ) → n ≤ 2000000 → nat_le n 2000000 ≡ true
-within_back n h = grind (arith, nat_tests)
-
-literal_one : (id : ℕ) (l : Literal) (front : List Literal) (ts : List Token) → IsWithin 2000000 l → literals_in id front (sign_token l ∷ ts) ≡ literals_in id (front ++ l ∷ []) ts
-unfolding literals_in sign_token
-literal_one id (Pos v) front ts h = rw (within_back v h.1) refl
-literal_one id (Neg v) front ts h = rw (within_back v h.1) refl
-
-literals_tail : (id : ℕ) (ls front : List Literal) (ts : List Token) → AllByRecursion (IsWithin 2000000) ls → literals_in id front (map token_of (map literal_token ls) ++ ts) ≡ literals_in id (front ++ ls) ts
-literals_tail id [] front ts h = ap (λ (xs : List Literal). literals_in id xs ts) (sym (append-nil front))
-literals_tail id (l ∷ ls) front ts h =
-    ap (λ (t : Token). literals_in id front (t ∷ (map token_of (map literal_token ls) ++ ts))) (token_literal l h.0)
-    ∙ literal_one id l front (map token_of (map literal_token ls) ++ ts) h.0
-    ∙ literals_tail id ls (front ++ l ∷ []) ts h.1 ∙ ap (λ (xs : List Literal). literals_in id xs ts) (append_assoc front (l ∷ []) ls)
-
--- a lemma's tokens behind its number
+-- a lemma's tokens after its number
 abbrev pub rest_tokens : List ℕ → List Group → List (List ℕ)
 rest_tokens hints groups = map decimal hints ++ flat_map group_tokens groups ++ codes "0" ∷ []
 
@@ -105,57 +85,78 @@ reasons_back id lits hints groups h g =
     ∙ hints_tail id lits hints [] (map token_of (flat_map group_tokens groups ++ codes "0" ∷ [])) h
     ∙ hints_back id lits hints groups g
 
-literals_zero : (id : ℕ) (lits : List Literal) (ts : List Token) → literals_in id lits (Zero ∷ ts) ≡ hints_in id lits [] ts
-unfolding literals_in
-literals_zero id lits ts = refl
+module _ (most : ℕ) (few : most < 2 ^ 48) where
+  token_literal : (l : Literal) → IsWithin most l → token_of (literal_token l) ≡ sign_token l
+  unfolding sign_token
+  token_literal (Pos v) h = token_decimal v (omega (arith, h.0), omega (arith, h.1))
+  token_literal (Neg v) h = ap token_of (negative_token v (omega (arith, h.0))) ∙ token_negated v (omega (arith, h.0), omega (arith, h.1))
 
-literals_back : (id : ℕ) (lits : List Literal) (hints : List ℕ) (groups : List Group) → AllByRecursion (IsWithin 2000000) lits → AllByRecursion IsClauseNumber hints → AllByRecursion IsGroup groups
-    → literals_in id [] (map token_of (map literal_token lits ++ codes "0" ∷ rest_tokens hints groups)) ≡ Ok (Add id lits hints groups)
-literals_back id lits hints groups l h g =
-    ap (literals_in id []) (map-append token_of (map literal_token lits) (codes "0" ∷ rest_tokens hints groups))
-    ∙ literals_tail id lits [] (token_of (codes "0") ∷ map token_of (rest_tokens hints groups)) l
-    ∙ ap (λ (t : Token). literals_in id lits (t ∷ map token_of (rest_tokens hints groups))) token_zero
-    ∙ literals_zero id lits (map token_of (rest_tokens hints groups))
-    ∙ reasons_back id lits hints groups h g
+  within_back : (n : ℕ) → n ≤ most → nat_le n most ≡ true
+  within_back n h = grind (arith, nat_tests)
 
-body_zero : (id : ℕ) (ts : List Token) → body_in id (Zero ∷ ts) ≡ literals_in id [] (Zero ∷ ts)
-unfolding body_in
-body_zero id ts = refl
+  literal_one : (id : ℕ) (l : Literal) (front : List Literal) (ts : List Token) → IsWithin most l → literals_in most id front (sign_token l ∷ ts) ≡ literals_in most id (front ++ l ∷ []) ts
+  unfolding literals_in sign_token
+  literal_one id (Pos v) front ts h = rw (within_back v h.1) refl
+  literal_one id (Neg v) front ts h = rw (within_back v h.1) refl
 
-body_sign : (id : ℕ) (l : Literal) (ts : List Token) → body_in id (sign_token l ∷ ts) ≡ literals_in id [] (sign_token l ∷ ts)
-unfolding body_in sign_token
-body_sign id (Pos v) ts = refl
-body_sign id (Neg v) ts = refl
+  literals_tail : (id : ℕ) (ls front : List Literal) (ts : List Token) → AllByRecursion (IsWithin most) ls → literals_in most id front (map token_of (map literal_token ls) ++ ts) ≡ literals_in most id (front ++ ls) ts
+  literals_tail id [] front ts h = ap (λ (xs : List Literal). literals_in most id xs ts) (sym (append-nil front))
+  literals_tail id (l ∷ ls) front ts h =
+      ap (λ (t : Token). literals_in most id front (t ∷ (map token_of (map literal_token ls) ++ ts))) (token_literal l h.0)
+      ∙ literal_one id l front (map token_of (map literal_token ls) ++ ts) h.0
+      ∙ literals_tail id ls (front ++ l ∷ []) ts h.1 ∙ ap (λ (xs : List Literal). literals_in most id xs ts) (append_assoc front (l ∷ []) ls)
 
-body_letter : (id : ℕ) (ts : List Token) → body_in id (Letter ∷ ts) ≡ ids_in [] ts
-unfolding body_in
-body_letter id ts = refl
+  literals_zero : (id : ℕ) (lits : List Literal) (ts : List Token) → literals_in most id lits (Zero ∷ ts) ≡ hints_in id lits [] ts
+  unfolding literals_in
+  literals_zero id lits ts = refl
 
--- the first token of a lemma's literals is no letter
-body_literals : (id : ℕ) (lits : List Literal) (ws : List (List ℕ)) → AllByRecursion (IsWithin 2000000) lits
-    → body_in id (map token_of (map literal_token lits ++ codes "0" ∷ ws)) ≡ literals_in id [] (map token_of (map literal_token lits ++ codes "0" ∷ ws))
-body_literals id [] ws h =
-    ap (λ (t : Token). body_in id (t ∷ map token_of ws)) token_zero ∙ body_zero id (map token_of ws) ∙ ap (λ (t : Token). literals_in id [] (t ∷ map token_of ws)) (sym token_zero)
-body_literals id (l ∷ lits) ws h =
-    let ts = map token_of (map literal_token lits ++ codes "0" ∷ ws) in
-    ap (λ (t : Token). body_in id (t ∷ ts)) (token_literal l h.0) ∙ body_sign id l ts ∙ ap (λ (t : Token). literals_in id [] (t ∷ ts)) (sym (token_literal l h.0))
+  literals_back : (id : ℕ) (lits : List Literal) (hints : List ℕ) (groups : List Group) → AllByRecursion (IsWithin most) lits → AllByRecursion IsClauseNumber hints → AllByRecursion IsGroup groups
+      → literals_in most id [] (map token_of (map literal_token lits ++ codes "0" ∷ rest_tokens hints groups)) ≡ Ok (Add id lits hints groups)
+  literals_back id lits hints groups l h g =
+      ap (literals_in most id []) (map-append token_of (map literal_token lits) (codes "0" ∷ rest_tokens hints groups))
+      ∙ literals_tail id lits [] (token_of (codes "0") ∷ map token_of (rest_tokens hints groups)) l
+      ∙ ap (λ (t : Token). literals_in most id lits (t ∷ map token_of (rest_tokens hints groups))) token_zero
+      ∙ literals_zero id lits (map token_of (rest_tokens hints groups))
+      ∙ reasons_back id lits hints groups h g
 
-first_number : (n : ℕ) (ts : List Token) → first_in (Plus n ∷ ts) ≡ body_in n ts
-unfolding first_in
-first_number n ts = refl
+  body_zero : (id : ℕ) (ts : List Token) → body_in most id (Zero ∷ ts) ≡ literals_in most id [] (Zero ∷ ts)
+  unfolding body_in
+  body_zero id ts = refl
 
-pub step_back : (top : ℕ) (step : Step) → IsClauseNumber top → IsStep step → first_in (map token_of (step_tokens top step)) ≡ Ok step
-step_back top (Add id lits hints groups) n h =
-    let ws = map literal_token lits ++ codes "0" ∷ rest_tokens hints groups in
-    let l = recursion_from_All (IsWithin 2000000) lits h.1 in
-    ap (λ (t : Token). first_in (t ∷ map token_of ws)) (token_decimal id h.0)
-    ∙ first_number id (map token_of ws)
-    ∙ body_literals id lits (rest_tokens hints groups) l
-    ∙ literals_back id lits hints groups l (recursion_from_All IsClauseNumber hints h.2) (recursion_from_All IsGroup groups h.3)
-step_back top (Delete ids) n h =
-    let ws = map decimal ids ++ codes "0" ∷ [] in
-    ap (λ (t : Token). first_in (t ∷ token_of (codes "d") ∷ map token_of ws)) (token_decimal top n)
-    ∙ first_number top (token_of (codes "d") ∷ map token_of ws)
-    ∙ ap (λ (t : Token). body_in top (t ∷ map token_of ws)) token_letter
-    ∙ body_letter top (map token_of ws)
-    ∙ ids_back ids (recursion_from_All IsClauseNumber ids h)
+  body_sign : (id : ℕ) (l : Literal) (ts : List Token) → body_in most id (sign_token l ∷ ts) ≡ literals_in most id [] (sign_token l ∷ ts)
+  unfolding body_in sign_token
+  body_sign id (Pos v) ts = refl
+  body_sign id (Neg v) ts = refl
+
+  body_letter : (id : ℕ) (ts : List Token) → body_in most id (Letter ∷ ts) ≡ ids_in [] ts
+  unfolding body_in
+  body_letter id ts = refl
+
+  -- the first token of a lemma's literals is no letter
+  body_literals : (id : ℕ) (lits : List Literal) (ws : List (List ℕ)) → AllByRecursion (IsWithin most) lits
+      → body_in most id (map token_of (map literal_token lits ++ codes "0" ∷ ws)) ≡ literals_in most id [] (map token_of (map literal_token lits ++ codes "0" ∷ ws))
+  body_literals id [] ws h =
+      ap (λ (t : Token). body_in most id (t ∷ map token_of ws)) token_zero ∙ body_zero id (map token_of ws) ∙ ap (λ (t : Token). literals_in most id [] (t ∷ map token_of ws)) (sym token_zero)
+  body_literals id (l ∷ lits) ws h =
+      let ts = map token_of (map literal_token lits ++ codes "0" ∷ ws) in
+      ap (λ (t : Token). body_in most id (t ∷ ts)) (token_literal l h.0) ∙ body_sign id l ts ∙ ap (λ (t : Token). literals_in most id [] (t ∷ ts)) (sym (token_literal l h.0))
+
+  first_number : (n : ℕ) (ts : List Token) → first_within most (Plus n ∷ ts) ≡ body_in most n ts
+  unfolding first_within
+  first_number n ts = refl
+
+  pub step_back : (top : ℕ) (step : Step) → IsClauseNumber top → IsStepWithin most step → first_within most (map token_of (step_tokens top step)) ≡ Ok step
+  step_back top (Add id lits hints groups) n h =
+      let ws = map literal_token lits ++ codes "0" ∷ rest_tokens hints groups in
+      let l = recursion_from_All (IsWithin most) lits h.1 in
+      ap (λ (t : Token). first_within most (t ∷ map token_of ws)) (token_decimal id h.0)
+      ∙ first_number id (map token_of ws)
+      ∙ body_literals id lits (rest_tokens hints groups) l
+      ∙ literals_back id lits hints groups l (recursion_from_All IsClauseNumber hints h.2) (recursion_from_All IsGroup groups h.3)
+  step_back top (Delete ids) n h =
+      let ws = map decimal ids ++ codes "0" ∷ [] in
+      ap (λ (t : Token). first_within most (t ∷ token_of (codes "d") ∷ map token_of ws)) (token_decimal top n)
+      ∙ first_number top (token_of (codes "d") ∷ map token_of ws)
+      ∙ ap (λ (t : Token). body_in most top (t ∷ map token_of ws)) token_letter
+      ∙ body_letter top (map token_of ws)
+      ∙ ids_back ids (recursion_from_All IsClauseNumber ids h)

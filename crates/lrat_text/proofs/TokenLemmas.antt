@@ -13,7 +13,7 @@ use Rattle.lrat_text.specs.declared.token.Token.{Token}
 use Rattle.lrat_text.specs.declared.token.Token.TheVariants.{Letter}
 use Rattle.lrat_text.specs.Grammar.{tokens}
 use Rattle.lrat_text.specs.inner.Tokens.{is_space}
-use Rattle.lrat_text.specs.Reading.{token_of, line_tokens, number_token}
+use Rattle.lrat_text.specs.Parser.{token_of, line_tokens, number_token}
 
 -- ---- spaces and tokens
 
@@ -83,7 +83,7 @@ tokens_none line n e z =
     let some : length line ≤ n = omega (arith, ap length (tail_is line n), length-drop n line) in
     ap (map token_of) (tokens_skip line ∙ ap (λ k. tokens (drop k line)) (sym e) ∙ rest_by line n some)
 
--- a text behind spaces, which begins with a token
+-- a text after spaces, which begins with a token
 tokens_next : (line text b : List ℕ) (n m : ℕ) → n ≡ prefix_len is_space line → text ≡ take (length line - n) (drop n line)
     → m ≡ position_or_len is_space text → m ≤ length text → 0 < length text → b ≡ take (length text - m) (drop m text) → tokens line ≡ take m text ∷ tokens b
 tokens_next line text b n m e f g top some q =

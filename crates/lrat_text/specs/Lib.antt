@@ -7,9 +7,9 @@ pub mod Lines
 pub mod Log
 pub mod Pieces
 pub mod Proof
-pub mod Reading
+pub mod Parser
 pub mod Runs
 pub mod Steps
-pub mod Taking
-pub mod Writing
+pub mod LineSink
+pub mod WrittenLine
 pub mod inner

@@ -1,4 +1,4 @@
--- Logs: what a search over a base writes down while it learns. A fragment is a log that closes a cube.
+-- Logs: the proof that a search over a base formula writes while it learns clauses. A fragment is a log that closes a cube.
 use Rattle.std.specs.Prelude.{◌≡◌, ℕ, ◌+◌, ◌<◌, List, [], ◌∷◌, ◌++◌, length, IsSome, nat_eq, All, Contains}
 use Rattle.std.specs.List.{IsDistinct}
 use Rattle.std.specs.FinMap.{get, insert, len}
@@ -11,7 +11,7 @@ use Rattle.lrat_text.specs.Proof.{without}
 use Rattle.lrat_text.specs.declared.step.Step.{Step}
 use Rattle.lrat_text.specs.declared.step.Step.TheVariants.{Add, Delete}
 
--- a cube: literals that are assumed
+-- a cube: literals that are assumed together
 abbrev pub Cube : Type 0
 Cube = List Literal
 
@@ -25,13 +25,13 @@ abbrev pub top_after : ℕ → Step → ℕ
 top_after top (Add id lits hints groups) = id
 top_after top (Delete ids) = top
 
--- a step behind a base of m clauses: the next number is added by reverse unit propagation, or distinct live clauses are
--- deleted, none of them the base's
+-- a step after a base of m clauses: an addition under the next number, by reverse unit propagation; or a deletion of distinct live clauses,
+-- none of them the base's
 abbrev pub IsLogStep : ℕ → ClauseMap → ℕ → Step → Type 0
 IsLogStep m M top (Add id lits hints groups) = (id ≡ top + 1) × (groups ≡ []) × Rup (live_in M) lits hints
 IsLogStep m M top (Delete ids) = All (λ id. m < id) ids × All (λ id. IsSome (get M id)) ids × IsDistinct nat_eq ids
 
--- one such step after the other
+-- the steps, in their order, are such steps
 abbrev pub AreLogSteps : ℕ → ClauseMap → ℕ → List Step → Type 0
 AreLogSteps m M top [] = Unit {0}
 AreLogSteps m M top (step ∷ steps) = IsLogStep m M top step × AreLogSteps m (after_step M step) (top_after top step) steps
@@ -40,7 +40,7 @@ AreLogSteps m M top (step ∷ steps) = IsLogStep m M top step × AreLogSteps m (
 abbrev pub IsLog : Cnf → List Step → Type 0
 IsLog B steps = AreLogSteps (length B.clauses) (map_of B) (length B.clauses) steps
 
--- the step adds a clause of which each literal is the negation of one of the cube's
+-- the step adds a clause each of whose literals is the negation of a literal of the cube
 abbrev pub Negates : Cube → Step → Type 0
 Negates q (Add id lits hints groups) = (l : Literal) → Contains lits l → Contains q (negation l)
 Negates q (Delete ids) = ⊥
@@ -53,7 +53,7 @@ EndsAt q steps = (front : List Step) × (last : Step) × (steps ≡ front ++ las
 abbrev pub Closes : Cnf → Cube → List ℕ → Type 0
 Closes B q text = (steps : List Step) × LineSpells text steps × IsLog B steps × EndsAt q steps
 
--- how many of the steps are additions
+-- the number of additions among the steps
 abbrev pub additions : List Step → ℕ
 additions [] = 0
 additions (Add id lits hints groups ∷ steps) = 1 + additions steps
@@ -67,12 +67,12 @@ IsHonest B n text = (steps : List Step) × LineSpells text steps × IsLog B step
 abbrev pub IsNew : Live → Clause → Type 0
 IsNew live C = (n : ℕ) (D : Clause) → live n D → ((l : Literal) → Contains D l → Contains C l) → ⊥
 
--- an added clause has variables of the base alone and is new; a deletion stands only while more than 2,000 additions are live
+-- an added clause has only variables of the base and is new; a deletion comes only while more than 2,000 added clauses are live
 abbrev pub IsFreshStep : Cnf → ClauseMap → Step → Type 0
 IsFreshStep B M (Add id lits hints groups) = All (IsWithin B.vars) lits × IsNew (live_in M) lits
 IsFreshStep B M (Delete ids) = length B.clauses + 2000 < len M
 
--- each step of a log is fresh where it stands
+-- each step of a log is fresh at its place
 abbrev pub AreFresh : Cnf → ClauseMap → List Step → Type 0
 AreFresh B M [] = Unit {0}
 AreFresh B M (step ∷ steps) = IsFreshStep B M step × AreFresh B (after_step M step) steps

@@ -10,12 +10,12 @@ use Rattle.lrat_text.specs.Grammar.{LineSpells}
 use Rattle.lrat_text.specs.declared.step.Step.{Step}
 use Rattle.lrat_text.specs.declared.step.Step.TheVariants.{Add, Delete}
 
--- the live clauses but those of these numbers
+-- the live clauses except those of these numbers
 abbrev pub without : ClauseMap → List ℕ → ClauseMap
 without M ids = retain_keys M (λ id. not (list_any (nat_eq id) ids))
 
--- a step takes the live clauses M, and the greatest number added so far, to M' and top':
--- an addition under a greater number, by reverse unit propagation or by groups; or a deletion of distinct live clauses
+-- A step leads from the live clauses M and the greatest number added so far, top, to M' and top'. It is an addition under a greater number,
+-- by reverse unit propagation (RUP) or by groups (RAT); or a deletion of distinct live clauses.
 abbrev pub TakesStep : ClauseMap → ℕ → Step → ClauseMap → ℕ → Type 0
 TakesStep M top (Add id lits hints groups) M' top' =
     (top < id)
@@ -30,12 +30,12 @@ abbrev pub AddsEmpty : Step → Type 0
 AddsEmpty (Add id lits hints groups) = lits ≡ []
 AddsEmpty (Delete ids) = ⊥
 
--- a front of the steps can be taken, and its last adds the empty clause
+-- each step of a prefix is valid, and the last step of the prefix adds the empty clause
 abbrev pub Refutation : ClauseMap → ℕ → List Step → Type 0
 Refutation M top [] = ⊥
 Refutation M top (step ∷ steps) =
     (M' : ClauseMap) × (top' : ℕ) × TakesStep M top step M' top' × (AddsEmpty step ⊎ Refutation M' top' steps)
 
--- the text spells steps, of which a front refutes the formula; those behind it are free
+-- the text spells steps, of which a prefix refutes the formula; the steps after it are free
 abbrev pub Accepts : Cnf → List ℕ → Type 0
 Accepts F text = (steps : List Step) × LineSpells text steps × Refutation (map_of F) (length F.clauses) steps

@@ -1,8 +1,8 @@
--- Steps one after the other: what they leave, and the text that they make.
+-- Lists of steps: the clauses that are live after them, and their text.
 use Rattle.std.specs.Prelude.{ℕ, List, [], ◌∷◌, ◌++◌}
 use Rattle.dimacs.specs.logic.ClauseMap.{ClauseMap}
 use Rattle.lrat_text.specs.Log.{after_step, top_after}
-use Rattle.lrat_text.specs.Writing.{line_of}
+use Rattle.lrat_text.specs.WrittenLine.{line_of}
 use Rattle.lrat_text.specs.declared.step.Step.{Step}
 
 -- the live clauses, and the number of the last addition, after steps

@@ -2,4 +2,4 @@
 pub mod Groups
 pub mod Pieces
 pub mod Tokens
-pub mod Writing
+pub mod LineParts

@@ -10,7 +10,7 @@ use thiserror::Error;
 /// The first fault of a line.
 #[derive(Clone, Copy, Debug, PartialEq, Eq, Error)]
 pub enum TextFault {
-    /// The line is empty, a space stands at its beginning or end, or a token cannot stand where it does.
+    /// The line is empty, has a space at its beginning or end, or has a token that cannot stand at its place.
     #[error("a token cannot stand where it does")]
     BadToken,
     /// No LF follows the line.
@@ -19,10 +19,10 @@ pub enum TextFault {
     /// The line ends before its last `0`.
     #[error("the line ends before its last `0`")]
     MissingZero,
-    /// A clause number above 2^48 - 1, or a variable above 2,000,000.
+    /// A clause number above 2^48 - 1, or a variable above the limit, which is 2,000,000 unless the caller gives another one.
     #[error("a number is above its limit")]
     NumberTooLarge,
-    /// A growth was refused.
+    /// Memory was refused.
     #[error("no memory")]
     NoMemory,
 }

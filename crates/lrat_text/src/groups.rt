@@ -1,4 +1,4 @@
-//! Groups of hints: each names a candidate, and the hints that refute it.
+//! Groups of RAT hints: each has a candidate (a clause with the pivot's negation) and the hints that refute the resolvent with it.
 
 ghost use Rattle.std.specs.Prelude.{◌≡◌, ◌^◌, ◌<◌, [], ◌∷◌, ◌++◌, length, ◌==◌, slice_get, Some, OnOk, OnErr};
 ghost use Rattle.lrat_text.specs.inner.Groups.{start_at};
@@ -7,14 +7,14 @@ ghost use Rattle.lrat_text.specs.GroupLists.{with_hint};
 use std::alloc::{AllocError, Global};
 use std::marker::Model;
 
-/// Where a group's hints end among the hints of all groups.
+/// A group's candidate, and where its hints end among those of all groups.
 #[derive(Clone, Copy)]
 struct Head {
     candidate: u64,
     end: usize,
 }
 
-/// Groups, in their written order; their hints lie one after the other in one vector.
+/// Groups in their written order. The hints of all groups are in one vector.
 #[derive(Drop)]
 pub struct Groups {
     heads: Vec<Head>,

@@ -91,20 +91,21 @@ impl ClauseNumbers {
 /// One step of a proof.
 #[derive(Drop)]
 pub enum Step {
-    /// A lemma joins the live clauses under a number, by hints and, where these reach no conflict, by groups.
+    /// A lemma is added to the live clauses under a number. It follows by its hints (RUP) or, if these reach no conflict, by its groups
+    /// (RAT).
     Add {
         id: u64,
         lits: Literals,
         hints: ClauseNumbers,
         groups: Groups,
     },
-    /// Live clauses are taken out.
+    /// Live clauses are deleted.
     Delete {
         ids: ClauseNumbers,
     },
 }
 
-/// One step of a proof, in lent parts.
+/// One step of a proof, in borrowed parts.
 #[derive(Clone, Copy)]
 pub enum StepRef<'a> {
     /// A lemma, its hints and its groups.
@@ -114,7 +115,7 @@ pub enum StepRef<'a> {
         hints: &'a [u64],
         groups: &'a Groups,
     },
-    /// The numbers of the clauses that are taken out.
+    /// The numbers of the deleted clauses.
     Delete {
         ids: &'a [u64],
     },

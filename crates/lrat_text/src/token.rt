@@ -5,10 +5,10 @@ ghost use Rattle.std.specs.Bool.{OnTrue};
 ghost use Rattle.std.specs.List.{prefix_len, position_or_len};
 ghost use Rattle.std.specs.Str.{byte};
 ghost use Rattle.dimacs.specs.text.Numbers.{digits_from, natural as natural_of, positive, negated};
-ghost use Rattle.lrat_text.specs.Reading.{number_token, token_of, line_tokens};
+ghost use Rattle.lrat_text.specs.Parser.{number_token, token_of, line_tokens};
 ghost use Rattle.lrat_text.specs.inner.Tokens.{is_space, IsCounted, tokens_from};
 
-/// What a token is.
+/// A token of a line. Which tokens may stand at a place is the parser's rule.
 #[derive(Clone, Copy)]
 pub(crate) enum Token {
     /// The letter `d`.
@@ -17,24 +17,24 @@ pub(crate) enum Token {
     Zero,
     /// A number from 1 to 2^48 - 1.
     Plus(u64),
-    /// Such a number with a minus.
+    /// A minus and a number from 1 to 2^48 - 1.
     Minus(u64),
     /// A number from 2^48 on.
     LargePlus,
-    /// Such a number with a minus.
+    /// A minus and a number from 2^48 on.
     LargeMinus,
-    /// None of these.
+    /// Everything else.
     Other,
 }
 
-/// The size that stands for every size from there on.
+/// 2^48, which stands for every number from there on: larger ones are cut to it, so that no sum wraps.
 const CAP: u64 = 281_474_976_710_656;
 
-/// How many digits a number may have that takes the short path. 14 are surely below the cap; fewer let more of the tokens at the
-/// end of a line take the path without a loop.
+/// The greatest number of digits on the short path. Up to 14 digits are below the cap. A smaller limit lets more tokens near the end of a
+/// line take the unrolled loop, which needs as many bytes.
 const SHORT: usize = 10;
 
-/// Only the space stands between tokens.
+/// Whether a byte separates tokens: only the space does.
 #[inline(always)]
 pub(crate) fn is_space(byte: u8) -> bool
     ensures { result ≡ is_space byte }
@@ -42,7 +42,7 @@ pub(crate) fn is_space(byte: u8) -> bool
     byte == b' '
 }
 
-/// How many spaces a text begins with.
+/// The number of spaces at the beginning of a text.
 #[inline(always)]
 fn space_len(text: &[u8]) -> usize
     ensures value { result ≡ prefix_len is_space text.now }
@@ -56,7 +56,7 @@ fn space_len(text: &[u8]) -> usize
     text.len()
 }
 
-/// How many bytes stand before the first space.
+/// The number of bytes before the first space.
 pub(crate) fn word_len(text: &[u8]) -> usize
     ensures value { result ≡ position_or_len is_space text.now }
     ensures bound { result ≤ length text.now }
@@ -69,7 +69,7 @@ pub(crate) fn word_len(text: &[u8]) -> usize
     text.len()
 }
 
-/// The bytes before the first space: the value of their digits, if they are digits, and how many bytes they are.
+/// The word before the first space: its value if it is digits, cut to the cap, and its length.
 #[inline(always)]
 fn digits(text: &[u8]) -> (Option<u64>, usize)
     ensures len { result.1 ≡ position_or_len is_space text.now }
@@ -91,7 +91,8 @@ fn digits(text: &[u8]) -> (Option<u64>, usize)
     (Some(value), text.len())
 }
 
-/// The number without a sign before the first space, and how many bytes it has.
+/// The word before the first space: its value if it is a number without a sign, cut to the cap, and its length. Only `0` itself may begin
+/// with `0`.
 #[inline(always)]
 fn natural(text: &[u8]) -> (Option<u64>, usize)
     ensures len { result.1 ≡ position_or_len is_space text.now }
@@ -129,7 +130,7 @@ fn plus_token(size: Option<u64>) -> Token
     }
 }
 
-/// The token of a number behind a minus.
+/// The token of a minus and a number.
 #[inline(always)]
 fn minus_token(size: Option<u64>) -> Token
     ensures token { (n : Option ℕ) → size ≡ option_map (min (2 ^ 48)) n → result ≡ number_token (option_and_then negated n) }
@@ -149,8 +150,8 @@ fn minus_token(size: Option<u64>) -> Token
     }
 }
 
-/// The number before the first space, of which the first digit is 1 to 9 and no digit lies behind `end`, and how many digits it
-/// has: None also where something else stands there.
+/// The number before the first space, if its first digit is 1 to 9 and it has at most `end` digits, and how many digits it has. `None`
+/// for everything else.
 #[inline(always)]
 fn short_number_within(text: &[u8], end: usize) -> Option<(u64, usize)>
     requires few { end ≤ 14 }
@@ -176,13 +177,13 @@ fn short_number_within(text: &[u8], end: usize) -> Option<(u64, usize)>
     Some((value, len))
 }
 
-/// The number of at most 10 digits before the first space, of which the first is 1 to 9, and how many digits it has: None also
-/// where something else stands there.
+/// The number before the first space, if its first digit is 1 to 9 and it has at most 10 digits, and how many digits it has. `None` for
+/// everything else.
 ///
 /// Nearly every token of a proof is such a number, and a check spends most of its time on tokens. So few digits need no cap, and
-/// the value goes straight to what takes it: against reading every number under the cap, by a function that tells all tokens
-/// apart, a check takes an eighth less time. Mostly as many bytes are there, so that the loop has a fixed end: it is compiled
-/// without a loop, one test a digit, each with a history of its own by which it is foretold.
+/// the caller gets the value without a match on all tokens: a check takes an eighth less time than with one function for every
+/// token. If 10 bytes are left, which is the usual case, the loop has a constant end and is unrolled, so each digit's branch has
+/// its own entry in the branch predictor.
 #[inline(always)]
 pub(crate) fn short_number(text: &[u8]) -> Option<(u64, usize)>
     ensures len { IfSome result (λ p. p.1 ≡ position_or_len is_space text.now) }
@@ -206,7 +207,7 @@ fn begins_with_zero(text: &[u8]) -> bool
     !text.is_empty() && text[0] == b'0' && (text.len() == 1 || is_space(text[1]))
 }
 
-/// The first token of a text that begins with one, whatever it is, and how many bytes it has.
+/// The first token of a text that begins with one, by the slow path that reads every token, and its length.
 #[inline(never)]
 fn any_token(text: &[u8]) -> (Token, usize)
     requires some { 0 < length text.now }
@@ -226,7 +227,7 @@ fn any_token(text: &[u8]) -> (Token, usize)
     (plus_token(size), len)
 }
 
-/// The first token of a text that begins with one, and how many bytes it has.
+/// The first token of a text that begins with one, and its length.
 #[inline(always)]
 fn first_token(text: &[u8]) -> (Token, usize)
     requires some { 0 < length text.now }
@@ -249,10 +250,9 @@ fn first_token(text: &[u8]) -> (Token, usize)
     any_token(text)
 }
 
-/// What follows the first token, which has that many bytes, without the space that ends it: so the next token mostly stands first
-/// there.
+/// What follows the first token, which has `len` bytes, and the space after it. So the next token mostly begins the rest.
 #[inline(always)]
-pub(crate) fn behind_token(text: &[u8], len: usize) -> &[u8]
+pub(crate) fn after_token(text: &[u8], len: usize) -> &[u8]
     requires len { len ≡ position_or_len is_space text.now }
     requires inside { len ≤ length text.now }
     ensures tokens { line_tokens result.now ≡ line_tokens (drop len text.now) }
@@ -265,7 +265,7 @@ pub(crate) fn behind_token(text: &[u8], len: usize) -> &[u8]
     }
 }
 
-/// The next token of a line, and what follows it, of which a space at the front may be missing.
+/// The next token of a line, and what follows it, mostly without the space between them.
 #[inline(always)]
 pub(crate) fn next_token(line: &[u8]) -> Option<(Token, &[u8])>
     ensures token { line_tokens line.now ≡ tokens_from result }
@@ -277,5 +277,5 @@ pub(crate) fn next_token(line: &[u8]) -> Option<(Token, &[u8])>
         return None;
     }
     let (token, len) = first_token(text);
-    Some((token, behind_token(text, len)))
+    Some((token, after_token(text, len)))
 }

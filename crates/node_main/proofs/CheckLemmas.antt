@@ -6,9 +6,9 @@ use Rattle.std.proofs.lemmas.Bool.{true≢false}
 use Rattle.std.proofs.lemmas.List.Elements.{All-nil}
 use Rattle.dimacs.specs.logic.Cnf.{Cnf}
 use Rattle.dimacs.specs.logic.ClauseMap.{map_of}
-use Rattle.dimacs.specs.text.Reading.{parse, no_memory as input_no_memory}
+use Rattle.dimacs.specs.text.Parser.{parse, no_memory as input_no_memory}
 use Rattle.dimacs.specs.text.Rows.{Fails}
-use Rattle.dimacs.specs.text.Spelling.{Spells}
+use Rattle.dimacs.specs.text.Grammar.{Spells}
 use Rattle.dimacs.specs.declared.fault.DimacsFault.{DimacsFault}
 use Rattle.dimacs.specs.declared.fault.Kind.TheVariants.{NoMemory}
 use Rattle.dimacs.proofs.SpellingLemmas.{parse_spells, spells_parse}
@@ -16,12 +16,12 @@ use Rattle.lrat_text.specs.Proof.{Accepts}
 use Rattle.lrat_text.proofs.SpellingLemmas.{found_spells, spelled_found}
 use Rattle.lrat_binary.proofs.ReadLemmas.{found_spells as binary_found_spells}
 use Rattle.lrat_binary.proofs.SpelledLemmas.{spelled_found as binary_spelled_found}
-use Rattle.lrat_check.specs.Checking.{GivesCheck, check_of, no_memory}
+use Rattle.lrat_check.specs.ProofFaults.{GivesCheck, check_of, no_memory}
 use Rattle.lrat_check.specs.Soundness.{Soundness}
-use Rattle.lrat_check.specs.declared.checking.CheckFault.{CheckFault}
+use Rattle.lrat_check.specs.declared.line_checker.CheckFault.{CheckFault}
 use Rattle.lrat_check.proofs.Lines.{checked_accepted, accepted_checked, check_text-end, is_lf}
-use Rattle.binary_check.specs.Accepting.{AcceptsBinary, BinarySoundness}
-use Rattle.binary_check.specs.Checking.{check_binary_of}
+use Rattle.binary_check.specs.BinaryProof.{AcceptsBinary, BinarySoundness}
+use Rattle.binary_check.specs.FirstFault.{check_binary_of}
 use Rattle.binary_check.proofs.CheckedLemmas.{checked_accepted as binary_checked_accepted, accepted_checked as binary_accepted_checked}
 use Rattle.node_main.specs.Forms.{is_binary}
 use Rattle.node_main.specs.Reports.{answer_text, binary_answer_text, check_text, proof_text}

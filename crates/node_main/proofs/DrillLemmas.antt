@@ -1,4 +1,4 @@
--- Drills: a turn more, and what no turn brings.
+-- Drills: one more turn, and what no turn does.
 use Rattle.std.proofs.Common.{◌≡◌, ℕ, zero, suc, ◌+◌, ◌<◌, ◌≤◌, List, [], ◌∷◌, ◌++◌, length, map, Contains, Option, Some, None, refl, subst, sym, ap, ◌∙◌, inl, inr, ◌⊎◌, arith}
 use Rattle.std.proofs.lemmas.List.{length-set}
 use Rattle.std.proofs.lemmas.List.Elements.{Contains-append_cases}
@@ -6,13 +6,13 @@ use Rattle.dimacs.specs.logic.Base.{numbers_from}
 use Rattle.lrat_check.specs.declared.verdict.Reaction.{Reaction}
 use Rattle.lrat_check.specs.declared.verdict.Reaction.TheVariants as reaction
 use Rattle.evidence.specs.Events.{Event, Given}
-use Rattle.closed_schedules.specs.ClosedLaws.{IsMoment, NeverRefused, NeverDiffer}
-use Rattle.closed_schedules.specs.ClosedSchedule.{Beginning, ClosedState, HappensClosed, HappensDeliver, HappensWork, HappensPoll, HappensRestart, StepsAt, RestartsAt, first_worker, new_closed}
-use Rattle.closed_schedules.specs.declared.event.ClosedEvent.{ClosedEvent}
-use Rattle.closed_schedules.specs.declared.event.ClosedEvent.TheVariants.{Deliver, Work, Poll, Restart}
-use Rattle.closed_schedules.proofs.Moments.{next_moment}
-use Rattle.closed_schedules.proofs.Places.{same_some, none_some}
-use Rattle.node_main.specs.Drilling.{DrillState, Counts, Disagrees, Drills, IsNew, IsRefusedReaction, Occurs, TakesTurn, next_after}
+use Rattle.honest_cluster.specs.ClosedLaws.{IsMoment, NeverRefused, NeverDiffer}
+use Rattle.honest_cluster.specs.ClosedSchedule.{Beginning, ClosedState, HappensClosed, HappensDeliver, HappensWork, HappensPoll, HappensRestart, StepsAt, RestartsAt, first_worker, new_closed}
+use Rattle.honest_cluster.specs.declared.event.ClosedEvent.{ClosedEvent}
+use Rattle.honest_cluster.specs.declared.event.ClosedEvent.TheVariants.{Deliver, Work, Poll, Restart}
+use Rattle.honest_cluster.proofs.Moments.{next_moment}
+use Rattle.honest_cluster.proofs.Places.{same_some, none_some}
+use Rattle.node_main.specs.DrillSchedule.{DrillState, Counts, Disagrees, Drills, IsNew, IsRefusedReaction, Occurs, TakesTurn, next_after}
 
 -- a turn more
 pub drills_more : (old : DrillState) (turns : List (List ℕ)) (mid : DrillState) (words : List ℕ) (new : DrillState)
@@ -33,14 +33,14 @@ same_length : (s new : ClosedState) → new ≡ s → length new.workers ≡ len
 same_length s new same = ap (λ (k : ClosedState). length k.workers) same
 
 happens_length : (s : ClosedState) (event : ClosedEvent) (answer : Reaction) (new : ClosedState) → HappensClosed s event answer new → length new.workers ≡ length s.workers
-happens_length s (Deliver node place) answer new (HappensDeliver.strays why ignored) = same_length s new ignored.1
+happens_length s (Deliver node place) answer new (HappensDeliver.is_ignored why ignored) = same_length s new ignored.1
 happens_length s (Deliver node place) answer new (HappensDeliver.delivers frame at step) = steps_length s node _ _ new step
-happens_length s (Work node) answer new (HappensWork.strays why ignored) = same_length s new ignored.1
+happens_length s (Work node) answer new (HappensWork.is_ignored why ignored) = same_length s new ignored.1
 happens_length s (Work node) answer new (HappensWork.works step) = steps_length s node _ _ new step
-happens_length s (Poll node worker) answer new (HappensPoll.strays why ignored) = same_length s new ignored.1
+happens_length s (Poll node worker) answer new (HappensPoll.is_ignored why ignored) = same_length s new ignored.1
 happens_length s (Poll node worker) answer new (HappensPoll.sends frame after step taken same) = same_length _ new same ∙ steps_length s node _ _ after step
 happens_length s (Poll node worker) answer new (HappensPoll.no_memory known none same) = same_length s new same
-happens_length s (Restart node number) answer new (HappensRestart.strays why ignored) = same_length s new ignored.1
+happens_length s (Restart node number) answer new (HappensRestart.is_ignored why ignored) = same_length s new ignored.1
 happens_length s (Restart node number) answer new (HappensRestart.anew after fresh restarts taken same) = same_length _ new same ∙ restarts_length s node number after restarts
 happens_length s (Restart node number) answer new (HappensRestart.no_memory known fresh none same) = same_length s new same
 

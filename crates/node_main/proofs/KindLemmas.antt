@@ -6,11 +6,11 @@ use Rattle.lrat_check.specs.Verdicts.{Differ}
 use Rattle.lrat_check.specs.declared.verdict.Verdict.{Verdict}
 use Rattle.lrat_check.specs.declared.verdict.Verdict.TheVariants.{Nothing, Model, Proof}
 use Rattle.worker_core.specs.Worker.{WorkerState}
-use Rattle.closed_schedules.specs.ClosedSchedule.{ClosedState, held_by, verdict_at}
-use Rattle.closed_schedules.proofs.Places.{none_some}
-use Rattle.node_main.specs.Drilling.{Holds}
+use Rattle.honest_cluster.specs.ClosedSchedule.{ClosedState, held_by, verdict_at}
+use Rattle.honest_cluster.proofs.Places.{none_some}
+use Rattle.node_main.specs.DrillSchedule.{Holds}
 use Rattle.node_main.specs.inner.Kinds.{AreKinds, are_at_odds, joined}
-use Rattle.node_main.specs.declared.commands.drilling.kinds.Kinds.{Kinds}
+use Rattle.node_main.specs.declared.commands.drill.kinds.Kinds.{Kinds}
 
 -- a flag tells of either of two facts
 either : {X : Type 0} (a b : Bool) (P Q : X → Type 0) → MatchBool a ((x : X) × P x) ((x : X) → ¬ (P x)) → MatchBool b ((x : X) × Q x) ((x : X) → ¬ (Q x))
@@ -76,7 +76,7 @@ odds_are k l P Q p q =
     (λ a d. (Model a.0, Proof d.0, a.1, d.1, tt)) (λ b c. (Proof b.0, Model c.0, b.1, c.1, tt))
     (λ h. split_differ P Q h.0 h.1 h.2 h.3 h.4)
 
--- a node that holds a verdict is one of four, where there are three workers
+-- if there are three workers, a node that holds a verdict is one of four
 pub holds_below : (s : ClosedState) (v : Verdict) (node : ℕ) → length s.workers ≡ 3 → verdict_at s node ≡ Some v → node < 4
 holds_below s v zero three held = omega arith
 holds_below s v (suc place) three held = go (slice_get s.workers place) refl held

@@ -1,8 +1,8 @@
 pub mod CheckLemmas
 pub mod FormLemmas
 pub mod StageLemmas
-pub mod ServingLemmas
-pub mod SplittingLemmas
+pub mod ServiceLemmas
+pub mod SplitLemmas
 pub mod StartLemmas
 pub mod TruthLemmas
 pub mod DrawLemmas

@@ -1,4 +1,4 @@
--- How far a proof has come, behind a piece.
+-- The stage of a proof after a piece.
 use Rattle.std.proofs.Common.{◌≡◌, ℕ, true, false, List, [], ◌∷◌, ◌++◌, Some, None, refl, sym, ap, subst, ◌∙◌}
 use Rattle.std.specs.Prelude.{slice_get}
 use Rattle.dimacs.specs.logic.Cnf.{Cnf}

@@ -2,21 +2,21 @@
 use Rattle.std.proofs.Common.{◌≡◌, ℕ, List, Option, Result, Ok, Err, IfOk, inl, subst, sym}
 use Rattle.cube_split.specs.Pairs.{OpenedFormula}
 use Rattle.dimacs.specs.logic.Cnf.{Cnf}
-use Rattle.dimacs.specs.text.Reading.{parse, GivesFormula}
-use Rattle.dimacs.specs.text.Spelling.{Spells}
+use Rattle.dimacs.specs.text.Parser.{parse, GivesFormula}
+use Rattle.dimacs.specs.text.Grammar.{Spells}
 use Rattle.dimacs.specs.declared.fault.DimacsFault.{DimacsFault}
 use Rattle.dimacs.proofs.SpellingLemmas.{found_spells}
 use Rattle.icnf.specs.Leaves.{Cube}
-use Rattle.node_main.specs.Deciding.{Decides}
-use Rattle.node_main.specs.Solving.{Solves, Works}
-use Rattle.node_main.specs.Splitting.{StaysInside}
-use Rattle.node_main.specs.Starting.{IsStart, Starts}
+use Rattle.node_main.specs.Decisions.{Decides}
+use Rattle.node_main.specs.SolveReports.{Solves, Works}
+use Rattle.node_main.specs.FormulaSplit.{StaysInside}
+use Rattle.node_main.specs.RunStart.{IsStart, Starts}
 use Rattle.command_line.specs.declared.options.Options.{Options}
 use Rattle.reports.specs.declared.report.Report.{Report}
-use Rattle.node_main.specs.declared.splitting.Split.{Split}
-use Rattle.node_main.specs.declared.splitting.Split.TheVariants.{By}
-use Rattle.node_main.specs.declared.starting.Start.{Start}
-use Rattle.node_main.specs.declared.starting.Start.TheVariants.{With}
+use Rattle.node_main.specs.declared.formula_split.Split.{Split}
+use Rattle.node_main.specs.declared.formula_split.Split.TheVariants.{By}
+use Rattle.node_main.specs.declared.start.Start.{Start}
+use Rattle.node_main.specs.declared.start.Start.TheVariants.{With}
 
 -- the formula that was found is the one that the input spells
 pub spelled : (input : List ℕ) (r : Result Cnf DimacsFault) (F : Cnf) → r ≡ Ok F → GivesFormula r (parse input) → Spells input F

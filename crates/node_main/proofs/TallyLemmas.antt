@@ -3,13 +3,13 @@ use Rattle.std.proofs.Common.{◌≡◌, ℕ, zero, suc, ◌+◌, Bool, true, fa
 use Rattle.std.proofs.lemmas.List.Elements.{Contains-append_left, Contains-append_right, Contains-append_cases}
 use Rattle.lrat_check.specs.declared.verdict.Reaction.{Reaction}
 use Rattle.lrat_check.specs.declared.verdict.Verdict.{Verdict}
-use Rattle.closed_schedules.specs.ClosedSchedule.{ClosedState}
-use Rattle.node_main.specs.Drilling.{DrillState, Counts, Drills, HasHeld, Holds, IsRefusedReaction, Occurs, TakesTurn, begun, drawn_event, next_after}
+use Rattle.honest_cluster.specs.ClosedSchedule.{ClosedState}
+use Rattle.node_main.specs.DrillSchedule.{DrillState, Counts, Drills, HasHeld, Holds, IsRefusedReaction, Occurs, TakesTurn, begun, drawn_event, next_after}
 use Rattle.node_main.specs.DrillReports.{IsCalm, ReportsDrill, drill_status, drill_text}
 use Rattle.node_main.specs.inner.Kinds.{AreKinds, are_at_odds, joined}
 use Rattle.node_main.specs.inner.Tallies.{IsTally, counted}
-use Rattle.node_main.specs.declared.commands.drilling.kinds.Kinds.{Kinds}
-use Rattle.node_main.specs.declared.commands.drilling.tally.Tally.{Tally}
+use Rattle.node_main.specs.declared.commands.drill.kinds.Kinds.{Kinds}
+use Rattle.node_main.specs.declared.commands.drill.tally.Tally.{Tally}
 use Rattle.reports.specs.declared.report.Report.{Report}
 use Rattle.node_main.proofs.KindLemmas.{both_kinds, odds_are, same_kinds}
 
@@ -33,7 +33,7 @@ held_more moments s k l before here = same_kinds (joined k l) (λ v. HasHeld mom
     back : (v : Verdict) → HasHeld (moments ++ s ∷ []) v → HasHeld moments v ⊎ Holds s v
     back v (t, among, holds) = elim (Contains-append_cases moments (s ∷ []) t among) [ inl old ↦ inl (t, old, holds) | inr last ↦ inr (only t v last holds) ]
 
--- a turn, and the tally behind it
+-- a turn, and the tally after it
 pub turn_is : (old : DrillState) (words : List ℕ) (t u : Tally) (s new : ClosedState) (answer : Option Reaction) (refusal : Bool) (kinds : Kinds)
     → IsTally t old → old.cluster ≡ s → Occurs s (drawn_event words (length s.frames) t.next) answer new → MatchBool refusal (IsRefusedReaction answer) (¬ (IsRefusedReaction answer)) → AreKinds kinds (Holds new)
     → u.next ≡ next_after (drawn_event words (length s.frames) t.next) t.next → u.held ≡ joined t.held kinds → u.refused ≡ counted t.refused refusal → u.disagreements ≡ counted t.disagreements (are_at_odds kinds u.held)

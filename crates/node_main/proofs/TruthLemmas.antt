@@ -2,16 +2,16 @@
 use Rattle.std.proofs.Common.{◌≡◌, ◌⊎◌, ℕ, ◌<◌, arith, List, Option, Some, None, Result, Ok, Err, IfOk, inl, inr, sym, ◌∙◌}
 use Rattle.std.specs.Prelude.{IsSome, IfSome}
 use Rattle.dimacs.specs.logic.Cnf.{Cnf, assignment_of}
-use Rattle.dimacs.specs.text.Spelling.{Spells}
+use Rattle.dimacs.specs.text.Grammar.{Spells}
 use Rattle.lrat_text.specs.Proof.{Accepts}
 use Rattle.lrat_check.specs.Soundness.{Soundness, IsUnsatisfiable}
 use Rattle.node_main.specs.inner.Checks.{IsTextReport}
-use Rattle.node_main.specs.Deciding.{Decides}
-use Rattle.node_main.specs.Solving.{Answers, IsRefused, Solves, Works}
+use Rattle.node_main.specs.Decisions.{Decides}
+use Rattle.node_main.specs.SolveReports.{Answers, IsRefused, Solves, Works}
 use Rattle.node_main.specs.Truth.{SpellsUnsatisfiable, IsTrueReport}
 use Rattle.command_line.specs.declared.options.Options.{Options}
-use Rattle.node_main.specs.declared.splitting.Split.{Split}
-use Rattle.node_main.specs.declared.splitting.Split.TheVariants.{By, Faulty, OtherFormula}
+use Rattle.node_main.specs.declared.formula_split.Split.{Split}
+use Rattle.node_main.specs.declared.formula_split.Split.TheVariants.{By, Faulty, OtherFormula}
 use Rattle.reports.specs.declared.report.Report.{Report}
 
 -- an accepted proof is there

@@ -1,9 +1,9 @@
-//! The runs of the commands, a room each.
+//! The commands, one module each.
 
-pub(crate) mod attending;
 pub(crate) mod check;
 pub(crate) mod cubes;
-pub(crate) mod drilling;
+pub(crate) mod drill;
 pub(crate) mod serve;
+pub(crate) mod service;
 pub(crate) mod solve;
 pub(crate) mod work;

@@ -1,22 +1,22 @@
-//! What the program does: runs over bytes and links, and their reports.
+//! The commands of the program, as functions from bytes and links to reports.
 //!
-//! Files are read and written by the program crate above; here a run is a function of bytes, so that its contract can
-//! say what is printed. Its words are those of `command_line`, its reports those of `reports`.
+//! The crates above read and write files; here a command is a function of bytes, so its contract can say what is printed. `command_line`
+//! has the options, `reports` the reports.
 #![tactic(auto)]
 
 mod commands;
+mod formula_split;
 mod plans;
-mod reporting;
-mod splitting;
-mod starting;
+mod start;
+mod verdict_report;
 
 pub use command_line::{Options, Request, USUAL, UsageFault, command};
-pub use commands::attending::{Service, attend, run_attend};
 pub use commands::check::{ProofCheck, run_check};
 pub use commands::cubes::run_cubes;
-pub use commands::drilling::{draw, drill, run_drill, worked_turns};
+pub use commands::drill::{draw, drill, run_drill, worked_turns};
 pub use commands::serve::{run_serve, run_serve_from};
+pub use commands::service::{Service, run_serve_arrivals, serve_arrivals};
 pub use commands::solve::{run_solve, run_solve_of};
 pub use commands::work::{run_work, run_work_of};
 pub use reports::{Refusal, Report};
-pub use starting::{Start, begin};
+pub use start::{Start, begin};

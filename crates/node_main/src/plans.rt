@@ -1,14 +1,14 @@
-//! What the options of a command line ask of a run.
+//! The settings of runs, taken from the options of a command line.
 
 ghost use Rattle.std.specs.Prelude.{◌≡◌, if◌then◌else◌};
 ghost use Rattle.command_line.specs.Options.{AreOptions};
 
-use arriving::Plan;
 use command_line::Options;
+use event_loop::Plan;
 use frames::WorkerNumber;
 use runs::{CoordinatorPlan, Order, WorkerPlan};
 
-/// What a coordinator is to do.
+/// The settings of a coordinator that runs in rounds, taken from the options.
 pub(crate) fn coordinator_plan(options: &Options) -> CoordinatorPlan
     ensures workers { result.workers ≡ options.now.workers }
     ensures limit { result.limit ≡ options.now.limit }
@@ -23,7 +23,7 @@ pub(crate) fn coordinator_plan(options: &Options) -> CoordinatorPlan
     }
 }
 
-/// What a coordinator is to do whose links come and go.
+/// The settings of a coordinator whose links come and go, taken from the options.
 pub(crate) fn service_plan(options: &Options) -> Plan
     ensures workers { result.workers ≡ options.now.workers }
     ensures limit { result.limit ≡ options.now.limit }
@@ -40,7 +40,7 @@ pub(crate) fn service_plan(options: &Options) -> Plan
     }
 }
 
-/// What a worker is to do.
+/// The settings of a worker's run, taken from the options.
 pub(crate) fn worker_plan(options: &Options) -> WorkerPlan
     requires { AreOptions options.now }
     ensures number { result.number ≡ options.now.number }

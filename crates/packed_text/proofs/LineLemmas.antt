@@ -15,7 +15,7 @@ block_inside more text from n count is len lt =
     sym (length-append (take count (drop from text)) (drop (length (take count (drop from text))) (drop from text))) ∙ ap length (front_rest count (drop from text)) in
     omega (arith, len ∙ ap length is, whole, length-drop from text, lt)
 
--- a block more is unpacked, and the line goes on behind the block before
+-- a block more is unpacked, and the line goes on after the block before
 pub next_block : (line left more text whole : List ℕ) (from n count : ℕ) → more ≡ take count (drop from text) → n ≡ length more → line ++ (left ++ drop from text) ≡ whole
     → (line ++ left) ++ (more ++ drop (from + n) text) ≡ whole
 next_block line left more text whole from n count is len e =

@@ -20,7 +20,7 @@ take_none : (n : ℕ) → take {A = ℕ} n [] ≡ []
 take_none zero = refl
 take_none (suc n) = refl
 
--- behind some blocks come the others
+-- after some blocks come the others
 pub behind_blocks : {X : Type 0} (f : X → List ℕ) (xs : List X) (k : ℕ) → AreBlocks f xs → drop (2048 * k) (flat_map f xs) ≡ flat_map f (drop k xs)
 behind_blocks f xs zero h = refl
 behind_blocks f [] (suc k) h = drop_none (2048 * suc k)

@@ -1,7 +1,7 @@
--- Text, two characters in a byte.
+-- The text of packed bytes: two characters in a byte.
 use Rattle.std.specs.Prelude.{◌≡◌, ℕ, nat_lt, ◌+◌, ◌<◌, ◌/◌, ◌%◌, ◌==◌, List, [], ◌∷◌, ◌++◌, codes, if◌then◌else◌}
 
--- what half a byte stands for: a digit, a space, a minus, the letter d, an LF, or nothing
+-- the character of a code of four bits: digits 0 to 9, space 10, minus 11, the letter d 12, LF 13; 14 and 15 stand for no text
 abbrev pub half_text : ℕ → List ℕ
 half_text n =
     if nat_lt n 10 then (48 + n) ∷ []
@@ -11,10 +11,10 @@ half_text n =
     else if n == 13 then codes "\n"
     else []
 
--- what a byte stands for
+-- the text of a byte: the upper half's character, then the lower half's
 abbrev pub byte_text : ℕ → List ℕ
 byte_text b = half_text (b / 16) ++ half_text (b % 16)
 
--- the first byte is a character of lines
+-- the text begins with a character of lines
 abbrev pub BeginsWithCharacter : List ℕ → Type 0
 BeginsWithCharacter text = (n : ℕ) × (rest : List ℕ) × (text ≡ half_text n ++ rest) × (n < 14)

@@ -1,4 +1,4 @@
-//! Characters of lines, two in a byte.
+//! Packing and unpacking: the fourteen characters of LRAT lines (digits, space, minus, `d`, LF), two in a byte.
 
 ghost use Rattle.std.specs.Prelude.{◌≡◌, ◌+◌, ◌*◌, ◌<◌, ◌++◌, ◌∷◌, [], IsTrue, IsOk, ◌≤◌, length, max, vec_capacity, All, OnOk, map, flat_map};
 ghost use Rattle.packed_text.specs.Packed.{byte_text, half_text};
@@ -8,9 +8,9 @@ ghost use Rattle.packed_text.specs.inner.Packed.{IsPair};
 use crate::rope::BLOCK;
 use std::alloc::AllocError;
 
-// Sums of choices, without a branch or a table: so they are made for many characters at once.
+// Each function below is a sum of choices without a branch or a table, so that the compiler vectorises the loops over them.
 
-/// This value where two numbers are equal, and else 0.
+/// The value if both numbers are equal, else 0.
 #[inline(always)]
 fn value_if(one: u8, other: u8, value: u8) -> u8
     ensures value { result ≡ value_if one other value }
@@ -31,7 +31,7 @@ fn digit_code(byte: u8) -> u8
     }
 }
 
-/// How much less than 15 a space, a minus, the letter d and an LF have.
+/// What is subtracted from 15 to get the code of a space (10), a minus (11), the letter d (12) or an LF (13); 0 for every other byte.
 #[inline(always)]
 fn other_code(byte: u8) -> u8
     ensures { result ≡ other_code byte }
@@ -42,7 +42,7 @@ fn other_code(byte: u8) -> u8
         + value_if(byte, b'\n', 2)
 }
 
-/// Half a byte for a character of lines, and 15 for every other byte.
+/// The code of a character, from 0 to 13; 15 for a byte that is no character of lines.
 #[inline(always)]
 fn code(byte: u8) -> u8
     ensures half { result < 16 }
@@ -51,7 +51,7 @@ fn code(byte: u8) -> u8
     digit_code(byte) - other_code(byte)
 }
 
-/// The digit of a value below 10, and 0 for every other value.
+/// The digit of a code below 10, and 0 for every other code.
 #[inline(always)]
 fn digit_glyph(half: u8) -> u8
     ensures value { result ≡ digit_glyph half }
@@ -60,7 +60,7 @@ fn digit_glyph(half: u8) -> u8
     if half < 10 { b'0' + half } else { 0 }
 }
 
-/// The space, the minus, the letter d and the LF of 10 to 13, and 0 for every other value.
+/// The space, the minus, the letter d or the LF of a code from 10 to 13, and 0 for every other code.
 #[inline(always)]
 fn other_glyph(half: u8) -> u8
     ensures value { result ≡ other_glyph half }
@@ -72,7 +72,7 @@ fn other_glyph(half: u8) -> u8
         + value_if(half, 13, b'\n')
 }
 
-/// What half a byte stands for, where that is a character.
+/// The character of a code.
 #[inline(always)]
 fn glyph(half: u8) -> u8
     requires { half < 14 }
@@ -89,7 +89,7 @@ fn greater(one: u8, other: u8) -> u8
     if one < other { other } else { one }
 }
 
-/// Packs text, two characters in a byte. `false` where a byte is no character of lines.
+/// Packs text, two characters in a byte. `false` if some byte is no character of lines; `pairs` then holds no text.
 pub(crate) fn pack(pairs: &mut [u8], text: &[u8]) -> bool
     requires { length text.now ≡ 2 * length pairs.old }
     ensures length { length pairs.new ≡ length pairs.old }
@@ -106,7 +106,7 @@ pub(crate) fn pack(pairs: &mut [u8], text: &[u8]) -> bool
     most < 14
 }
 
-/// Writes the halves of bytes, each as a byte.
+/// Writes the two halves of each byte, the upper one first, each as a byte.
 fn write_halves(text: &mut [u8], pairs: &[u8])
     requires { length text.old ≡ 2 * length pairs.now }
     ensures { text.new ≡ flat_map halves pairs.now }
@@ -118,7 +118,7 @@ fn write_halves(text: &mut [u8], pairs: &[u8])
     }
 }
 
-/// Puts what each half stands for in its place.
+/// Replaces each code by its character.
 fn write_characters(text: &mut [u8])
     requires { All (λ h. h < 14) text.old }
     ensures { text.new ≡ map character text.old }
@@ -128,7 +128,7 @@ fn write_characters(text: &mut [u8])
     }
 }
 
-/// Writes what bytes of two characters stand for.
+/// Writes the text of packed bytes.
 fn write_glyphs(text: &mut [u8], pairs: &[u8])
     requires pairs { All IsPair pairs.now }
     requires room { length text.old ≡ 2 * length pairs.now }
@@ -138,7 +138,7 @@ fn write_glyphs(text: &mut [u8], pairs: &[u8])
     write_characters(text);
 }
 
-/// Appends what the bytes of a block stand for, or of a part of one. It takes no memory where there is room.
+/// Appends the text of packed bytes, of at most one block. It takes no memory if `out` has the capacity.
 pub(crate) fn unpack(out: &mut Vec<u8>, pairs: &[u8]) -> Result<(), AllocError>
     requires pairs { All IsPair pairs.now }
     requires few { length pairs.now ≤ 2048 }

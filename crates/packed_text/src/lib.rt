@@ -1,7 +1,7 @@
-//! Texts of proofs in half their room.
+//! Texts of proofs in half their memory: four bits for a character of LRAT lines.
 //!
-//! What a layer above may rest on: a [`PackedText`] is the bytes that were put into it, whichever they are; how they lie shows nowhere.
-//! [`PackedLines`] reads its lines, and unpacks a block at a time.
+//! A layer above may rely on this: the value of a [`PackedText`] is the bytes that were appended to it, whatever they are. How they are
+//! stored shows in no contract. [`PackedLines`] reads its lines and unpacks one block at a time.
 #![tactic(auto)]
 
 mod glyphs;

@@ -8,10 +8,11 @@ use lrat_text::cut_line;
 use std::alloc::{AllocError, Global};
 use std::marker::Model;
 
-/// So many bytes are unpacked at once. The number is even, so that each block begins with a byte of two characters.
+/// How many characters are unpacked at once. The number is even, so that each block begins with a whole packed byte.
 const BLOCK: usize = 4096;
 
-/// Goes on with a line up to the first LF from a place on, and steps over that LF; where there is none, `false`, and with all that is left.
+/// Appends to the line the bytes from a place up to the next LF, and moves the place past that LF. If there is no LF, it appends
+/// all that is left and answers `false`.
 fn take_part(block: &[u8], at: &mut usize, line: &mut Vec<u8>) -> Result<bool, AllocError>
     requires inside { at.old ≤ length block.now }
     requires open { IsOpen line.old.items }
@@ -35,14 +36,14 @@ fn take_part(block: &[u8], at: &mut usize, line: &mut Vec<u8>) -> Result<bool, A
     }
 }
 
-/// What is left of a packed text, which is read line by line. It is unpacked block by block, and never stands whole.
+/// What is left of a packed text that is read line by line. Only one block of it is unpacked at a time.
 #[derive(Drop)]
 pub struct PackedLines<'t> {
     alloc: Global,
     text: &'t PackedText,
-    /// How far the text is unpacked.
+    /// How many characters of the text were unpacked so far.
     from: usize,
-    /// What was unpacked last.
+    /// The block that was unpacked last.
     block: Vec<u8>,
     /// Where the next line begins in the block.
     at: usize,
@@ -72,9 +73,9 @@ impl<'t> PackedLines<'t> {
         }
     }
 
-    /// Puts the next line that an LF ends, without it, in the place of what `line` had; where no LF is left, `false`, and all that is left.
+    /// Replaces `line` by the next line, without its LF. If no LF is left, it answers `false`, and `line` is the rest of the text.
     ///
-    /// Each byte is unpacked once, and looked at once for an LF. Memory is taken for a block, and for the line.
+    /// Each character is unpacked once and searched once for an LF. Memory is taken for one block and for the line.
     pub fn next(&mut self, line: &mut Vec<u8>) -> Result<bool, AllocError>
         ensures { IfOk result (λ some. MatchBool some (IsCut self.old line.new.items self.new) (IsOpen self.old × (line.new.items ≡ self.old))) }
     {

@@ -1,4 +1,4 @@
-//! Bytes in blocks, which others may share.
+//! Bytes in blocks of a fixed length, which several ropes may share.
 
 ghost use Rattle.std.specs.Prelude.{◌≡◌, ◌+◌, ◌*◌, ◌%◌, ◌^◌, ◌<◌, ◌≤◌, [], ◌++◌, MatchBool, IsTrue, length, take, drop, IfOk};
 
@@ -6,13 +6,13 @@ use std::alloc::{AllocError, Global};
 use std::marker::Model;
 use std::rc::Rc;
 
-/// So many bytes stand in a block.
+/// The length of a block in bytes.
 pub(crate) const BLOCK: usize = 2048;
 
-/// There are so many blocks at most, so that the number of all bytes, and of the characters in them, is a `usize`.
+/// The greatest number of blocks. It keeps the number of bytes, and of the characters packed in them, below the limit of a `usize`.
 const MOST: usize = 1 << 48;
 
-/// A list of bytes, block by block. It grows with no copy of what is there, and a block may be another rope's too.
+/// A list of bytes in blocks. It grows without copying earlier blocks, and a block may belong to other ropes too.
 #[derive(Drop)]
 pub(crate) struct Rope {
     blocks: Vec<Rc<Vec<u8>>>,
@@ -28,7 +28,7 @@ impl Model for Rope {
     ghost invariant = { λ r. All (λ b. length b.value.items ≡ 2048) r.blocks.items × (length r.blocks.items ≤ 2 ^ 48) };
 }
 
-/// A block as it is to be held: where another rope's block is alike, that one, so that its bytes are there once.
+/// The block to store: another rope's block if that has the same bytes, so that they are in memory once; else a copy.
 fn held(alloc: Global, block: &[u8], like: Option<&Rc<Vec<u8>>>) -> Result<Rc<Vec<u8>>, AllocError>
     ensures { IfOk result (λ rc. rc.value.items ≡ block.now) }
 {
@@ -40,7 +40,7 @@ fn held(alloc: Global, block: &[u8], like: Option<&Rc<Vec<u8>>>) -> Result<Rc<Ve
     Ok(Rc::new(alloc, Vec::from_slice(alloc, block)?)?)
 }
 
-/// Whether both are the same bytes, where it says so.
+/// Whether both are the same bytes. `false` promises nothing.
 fn is_same(one: &[u8], other: &[u8]) -> bool
     ensures { IsTrue result → one.now ≡ other.now }
 {
@@ -48,7 +48,7 @@ fn is_same(one: &[u8], other: &[u8]) -> bool
 }
 
 impl Rope {
-    /// No bytes. It takes no memory.
+    /// The empty rope. It takes no memory.
     pub(crate) fn new(alloc: Global) -> Rope
         ensures { result ≡ [] }
     {
@@ -66,7 +66,7 @@ impl Rope {
         BLOCK * self.blocks.len()
     }
 
-    /// The bytes from a place on, to the end of the block in which it stands.
+    /// The bytes from a place on, up to the end of that place's block.
     pub(crate) fn part(&self, from: usize) -> &[u8]
         requires { from < length self.now }
         ensures part { result.now ≡ take (length result.now) (drop from self.now) }
@@ -79,8 +79,8 @@ impl Rope {
         part
     }
 
-    /// Appends a block, held with the block of another rope at the same place where both are alike. `false` where a growth is refused, or
-    /// there are too many.
+    /// Appends a block. If another rope has the same bytes in the block at this place, the two share it. `false` if memory is
+    /// refused or the rope has the greatest number of blocks.
     pub(crate) fn push(&mut self, block: &[u8], like: Option<&Rope>) -> bool
         requires { length block.now ≡ 2048 }
         ensures { MatchBool result (self.new ≡ self.old ++ block.now) (self.new ≡ self.old) }
@@ -99,7 +99,7 @@ impl Rope {
         }
     }
 
-    /// Holds the last block with that of another rope at the same place, where both are alike. It takes no memory.
+    /// Shares the last block with another rope, if that has the same bytes in the block at this place. It takes no memory.
     pub(crate) fn share_last(&mut self, like: &Rope)
         ensures { self.new ≡ self.old }
     {
@@ -116,7 +116,7 @@ impl Rope {
         }
     }
 
-    /// Leaves so many blocks. It takes no memory.
+    /// Keeps the first so many blocks. It takes no memory.
     pub(crate) fn truncate(&mut self, blocks: usize)
         ensures { self.new ≡ take (2048 * blocks) self.old }
     {

@@ -1,9 +1,9 @@
-//! Text, held in half its room as far as it has the characters of lines.
+//! A text in packed blocks, as far as it has only characters of LRAT lines, and a plain tail.
 
 ghost use Rattle.std.specs.Prelude.{◌≡◌, ℕ, ◌+◌, ◌*◌, ◌/◌, ◌<◌, ◌≤◌, ◌++◌, [], IsTrue, MatchBool, length, take, drop, vec_capacity, All, MatchOption, OnOk, OnErr, IfOk, flat_map};
 ghost use Rattle.lrat_text.specs.Grammar.{IsStep, IsClauseNumber};
 ghost use Rattle.lrat_text.specs.Steps.{step_of};
-ghost use Rattle.lrat_text.specs.Writing.{line_of};
+ghost use Rattle.lrat_text.specs.WrittenLine.{line_of};
 ghost use Rattle.packed_text.specs.Packed.{BeginsWithCharacter, byte_text};
 ghost use Rattle.packed_text.specs.inner.Packed.{IsFront, IsPair};
 
@@ -14,11 +14,10 @@ use lrat_text::{StepRef, put_ref};
 use std::alloc::{AllocError, Global};
 use std::marker::Model;
 
-/// So many characters are packed at once, into one block of bytes.
+/// How many characters are packed at once, into one block of bytes.
 const BLOCK: usize = 2 * rope::BLOCK;
 
-/// Packs a block of text behind those that are packed. `false`, and no change, where a byte is no character of lines, or a growth is
-/// refused.
+/// Packs a block of text and appends it. `false`, with no change, if a byte is no character of lines or memory is refused.
 fn pack_block(pairs: &mut Rope, text: &[u8], like: Option<&Rope>) -> bool
     requires block { length text.now ≡ 4096 }
     requires pairs { All IsPair pairs.old }
@@ -29,7 +28,7 @@ fn pack_block(pairs: &mut Rope, text: &[u8], like: Option<&Rope>) -> bool
     pack(&mut block, text) && pairs.push(&block, like)
 }
 
-/// Packs what stands at the front of a text, block by block as far as it can be packed, and tells how many bytes these are.
+/// Packs a prefix of a text, block by block as far as it can be packed, and answers the prefix's length.
 fn pack_front(pairs: &mut Rope, text: &[u8], like: Option<&Rope>) -> usize
     requires pairs { All IsPair pairs.old }
     ensures pairs { All IsPair pairs.new }
@@ -46,7 +45,7 @@ fn pack_front(pairs: &mut Rope, text: &[u8], like: Option<&Rope>) -> usize
     done
 }
 
-/// Takes away the first so many bytes.
+/// Removes the first `count` bytes.
 fn remove_front(bytes: &mut Vec<u8>, count: usize)
     requires { count ≤ length bytes.old.items }
     ensures items { bytes.new.items ≡ drop count bytes.old.items }
@@ -57,13 +56,13 @@ fn remove_front(bytes: &mut Vec<u8>, count: usize)
     bytes.truncate(left);
 }
 
-/// Appends what so many bytes of two characters from a place on stand for.
+/// Appends the text of `count` packed bytes from a place on.
 fn unpack_part(out: &mut Vec<u8>, pairs: &Rope, from: usize, count: usize) -> Result<(), AllocError>
     requires pairs { All IsPair pairs.now }
     requires inside { from + count ≤ length pairs.now }
     ensures { OnOk result (out.new.items ≡ out.old.items ++ flat_map byte_text (take count (drop from pairs.now))) }
 {
-    let _ = pairs.len(); // that places are numbers
+    let _ = pairs.len(); // its contract bounds the length, so that `from + done` does not wrap
     let mut done = 0;
     while done < count {
         let part = pairs.part(from + done);
@@ -74,8 +73,8 @@ fn unpack_part(out: &mut Vec<u8>, pairs: &Rope, from: usize, count: usize) -> Re
     Ok(())
 }
 
-/// The front of what bytes of two characters stand for, from a place on, and of a tail behind it, as much as `count` bytes from the first or
-/// the second one on.
+/// A prefix of the text that the packed bytes from a place on make with the tail after them. From its first and from its second character
+/// on, it has `count` characters, or all there are.
 fn front_of(
     alloc: Global,
     pairs: &Rope,
@@ -98,7 +97,7 @@ fn front_of(
     Ok(out)
 }
 
-/// The bytes of a tail from a place on, as many as there are and `count` at most.
+/// The bytes of a tail from a place on, at most `count`.
 fn part_of_tail(
     alloc: Global,
     tail: &[u8],
@@ -111,7 +110,7 @@ fn part_of_tail(
     Vec::from_slice(alloc, &part[..count.min(part.len())])
 }
 
-/// Leaves so many bytes from the first or the second one on.
+/// Keeps `count` bytes from the first or the second one on.
 fn cut(bytes: &mut Vec<u8>, from: usize, count: usize)
     requires { (from ≤ 1) × (from ≤ length bytes.old.items) }
     ensures { bytes.new.items ≡ take count (drop from bytes.old.items) }
@@ -122,7 +121,7 @@ fn cut(bytes: &mut Vec<u8>, from: usize, count: usize)
     bytes.truncate(count);
 }
 
-/// Puts the first so many characters of a block in the place of a tail, which has room for them.
+/// Replaces the tail by the first `count` characters of a packed block. The tail has the capacity for it.
 fn refill(tail: &mut Vec<u8>, block: &[u8], count: usize)
     requires block { All IsPair block.now }
     requires few { length block.now ≤ 2048 }
@@ -135,16 +134,15 @@ fn refill(tail: &mut Vec<u8>, block: &[u8], count: usize)
     tail.truncate(count);
 }
 
-/// A text, two characters a byte as far as it has those of lines: half the room of a text. Any bytes are held, and where another one comes
-/// those from its block on lie as they are.
+/// A text in half its memory: two characters a byte. Any bytes may be appended; from the first block that has a byte other than
+/// the characters of lines, the text is stored plain.
 pub struct PackedText {
-    /// Two characters each.
+    /// The packed blocks: two characters a byte.
     pairs: Rope,
-    /// What stands behind them.
+    /// The plain text after them.
     tail: Vec<u8>,
 }
 
-// By hand, so that whoever owns one drops it by one call, and no proof there goes through its parts.
 impl Drop for PackedText {
     fn drop(self) {
         let PackedText { pairs: _, tail: _ } = self;
@@ -164,7 +162,7 @@ impl Model for PackedText {
 }
 
 impl PackedText {
-    /// No text. It takes no memory.
+    /// The empty text. It takes no memory.
     pub fn new(alloc: Global) -> PackedText
         ensures { result ≡ [] }
     {
@@ -174,7 +172,7 @@ impl PackedText {
         }
     }
 
-    /// This text.
+    /// A packed copy of this text.
     pub fn of(alloc: Global, text: &[u8]) -> Result<PackedText, AllocError>
         ensures { IfOk result (λ packed. packed ≡ text.now) }
     {
@@ -188,7 +186,7 @@ impl PackedText {
         Ok(packed)
     }
 
-    /// How many bytes it has.
+    /// The length of the text in bytes.
     #[allow(clippy::len_without_is_empty)]
     pub fn len(&self) -> usize
         ensures { result ≡ length self.now }
@@ -196,7 +194,7 @@ impl PackedText {
         2 * self.pairs.len() + self.tail.len()
     }
 
-    /// Appends bytes. Where a growth is refused, the text is as before.
+    /// Appends bytes. If memory is refused, the text is as before.
     pub fn extend(&mut self, more: &[u8]) -> Result<(), AllocError>
         ensures ok { OnOk result (self.new ≡ self.old ++ more.now) }
         ensures err { OnErr result (self.new ≡ self.old) }
@@ -206,8 +204,8 @@ impl PackedText {
         Ok(())
     }
 
-    /// Appends bytes as [`PackedText::extend`] does. Where blocks come to be as those of another text at the same place, both texts have them
-    /// once.
+    /// Appends bytes as [`PackedText::extend`] does. A new block is shared with another text if that has the same bytes in the block at the
+    /// same place.
     pub fn extend_like(&mut self, more: &[u8], like: &PackedText) -> Result<(), AllocError>
         ensures ok { OnOk result (self.new ≡ self.old ++ more.now) }
         ensures err { OnErr result (self.new ≡ self.old) }
@@ -217,16 +215,16 @@ impl PackedText {
         Ok(())
     }
 
-    /// Where the last block is as that of another text at the same place, both texts have it once from now on. It takes no memory.
+    /// Shares the last block with another text, if that has the same bytes in the block at the same place. It takes no memory.
     ///
-    /// A text that grows by less than a block's 4,096 characters at a time, and asks after each growth, shares all that it can.
+    /// A text that grows by less than a block (4,096 characters) at a time shares all that it can if this is called after each growth.
     pub fn share_last(&mut self, like: &PackedText)
         ensures { self.new ≡ self.old }
     {
         self.pairs.share_last(&like.pairs);
     }
 
-    /// Packs what stands behind what is packed, as far as there are whole blocks that can be packed.
+    /// Packs the tail's whole blocks, as far as they can be packed.
     fn settle(&mut self, like: Option<&Rope>)
         ensures { self.new ≡ self.old }
     {
@@ -237,7 +235,8 @@ impl PackedText {
         remove_front(&mut self.tail, done);
     }
 
-    /// Appends a step's line, as [`put_ref`] does, which writes it to `line` first. Where a growth is refused, the text is as before.
+    /// Appends a step's line. `line` is a buffer that is used again from call to call: the line is written to it by [`put_ref`] and then
+    /// appended. If memory is refused, the text is as before.
     pub fn put(&mut self, step: StepRef<'_>, top: u64, line: &mut Vec<u8>) -> Result<(), AllocError>
         requires limits { IsStep (step_of step) }
         requires numbered { IsClauseNumber top }
@@ -249,7 +248,7 @@ impl PackedText {
         self.extend(line)
     }
 
-    /// The bytes from a place on, as many as there are and `count` at most.
+    /// The bytes from a place on, at most `count`.
     pub fn read(&self, alloc: Global, from: usize, count: usize) -> Result<Vec<u8>, AllocError>
         ensures { IfOk result (λ v. v.items ≡ take count (drop from self.now)) }
     {
@@ -262,7 +261,7 @@ impl PackedText {
         Ok(out)
     }
 
-    /// The bytes where they lie, if none of them is packed; those that are packed begin with a character of lines.
+    /// The bytes without a copy, if none of them is packed. `None` tells that the text begins with a character of lines.
     pub fn as_plain(&self) -> Option<&[u8]>
         ensures { MatchOption result (BeginsWithCharacter self.now) (λ bytes. bytes.now ≡ self.now) }
     {
@@ -272,14 +271,14 @@ impl PackedText {
         Some(&self.tail)
     }
 
-    /// The text, beside the packed one.
+    /// A plain copy of the text.
     pub fn to_text(&self, alloc: Global) -> Result<Vec<u8>, AllocError>
         ensures { IfOk result (λ text. text.items ≡ self.now) }
     {
         self.read(alloc, 0, self.len())
     }
 
-    /// Takes away all but the first `count` bytes. It takes no memory.
+    /// Removes all bytes after the first `count`. It takes no memory.
     pub fn truncate(&mut self, count: usize)
         ensures { self.new ≡ take count self.old }
     {
@@ -289,7 +288,7 @@ impl PackedText {
             return;
         }
         let blocks = count / BLOCK;
-        // Where bytes are packed, there is room for a block in the tail.
+        // Packing keeps the tail's capacity, so the tail has room for one block.
         refill(
             &mut self.tail,
             self.pairs.part(rope::BLOCK * blocks),

@@ -1,14 +1,14 @@
 //! Drills: closed schedules that are drawn.
 
 ghost use Rattle.std.specs.Prelude.{IfOk};
-ghost use Rattle.node_main.specs.Drilling.{IsNew};
+ghost use Rattle.node_main.specs.DrillSchedule.{IsNew};
 
 use crate::check::same;
-use closed_schedules::ClosedEvent;
 use cluster::ClosedCluster;
 use cube_split::tree;
 use dimacs::{Formula, read};
 use frames::{encode, len};
+use honest_cluster::ClosedEvent;
 use node_main::{draw, drill, run_drill};
 use std::alloc::{AllocError, Global};
 use std::process::Abort;

@@ -2,7 +2,7 @@
 
 use crate::check::{FOUR, VERIFIED, prints};
 use dimacs::read;
-use leaves::{FileEnd, Join, Split, SplitReader};
+use leaves::{FileOutcome, Join, Split, SplitReader};
 use std::alloc::Global;
 use std::process::Abort;
 
@@ -34,12 +34,12 @@ fn halves(rt: &impl Abort, alloc: Global) -> Split {
     }
 }
 
-fn told(end: FileEnd) -> Told {
+fn told(end: FileOutcome) -> Told {
     match end {
-        FileEnd::Closes => (b'c', 0, 0),
-        FileEnd::ClosesNothing => (b'n', 0, 0),
-        FileEnd::Refused { line, number } => (b'r', line, number),
-        FileEnd::Satisfies(_) => (b's', 0, 0),
+        FileOutcome::Closes => (b'c', 0, 0),
+        FileOutcome::ClosesNothing => (b'n', 0, 0),
+        FileOutcome::Refused { line, number } => (b'r', line, number),
+        FileOutcome::Satisfies(_) => (b's', 0, 0),
     }
 }
 

@@ -2,7 +2,7 @@
 
 use crate::check::{VERIFIED, prints};
 use dimacs::read;
-use leaves::{FileEnd, Join, Lift, Search, Split, SplitReader, run_refute};
+use leaves::{FileOutcome, Join, Lift, SearchOptions, Split, SplitReader, run_refute};
 use std::alloc::Global;
 use std::process::Abort;
 
@@ -106,7 +106,7 @@ fn lifted(rt: &impl Abort, alloc: Global, leaf: u64, proof: &[u8]) -> Result<Vec
 /// Takes a log that closes a leaf.
 fn take(rt: &impl Abort, join: &mut Join, log: &[u8]) {
     assert!(rt; join.feed(log).is_ok());
-    assert!(rt; matches!(join.end(), Ok(FileEnd::Closes)));
+    assert!(rt; matches!(join.end(), Ok(FileOutcome::Closes)));
 }
 
 /// The proof that the logs of all leaves are joined to.
@@ -191,7 +191,7 @@ fn formula_of_leaf(rt: &impl Abort, alloc: Global) -> Vec<u8> {
 
 /// The log of a search under a leaf.
 fn refuted(rt: &impl Abort, alloc: Global, split: &Split, leaf: u64) -> Vec<u8> {
-    let search = Search {
+    let search = SearchOptions {
         limit: 100,
         quiet: true,
         witness: false,

@@ -2,7 +2,7 @@
 
 use crate::check::same;
 use dimacs::{Lit, Var, read};
-use leaves::{LiftAll, Split, SplitReader};
+use leaves::{BlockLift, Split, SplitReader};
 use lidrup::CubeLog;
 use lrat_check::{CheckFault, check_log};
 use std::alloc::Global;
@@ -193,7 +193,7 @@ fn split(rt: &impl Abort, alloc: Global) -> Split {
 }
 
 /// A lift ends, and tells this with this status.
-fn is_told(rt: &impl Abort, alloc: Global, lift: &LiftAll, stdout: &[u8], status: u8) {
+fn is_told(rt: &impl Abort, alloc: Global, lift: &BlockLift, stdout: &[u8], status: u8) {
     assert!(rt; lift.finish().is_ok());
     let report = lift.report(alloc).expect(rt, "memory");
     same(
@@ -204,7 +204,7 @@ fn is_told(rt: &impl Abort, alloc: Global, lift: &LiftAll, stdout: &[u8], status
 }
 
 /// Takes a piece, and puts what it comes to behind a log.
-fn take(rt: &impl Abort, lift: &mut LiftAll, log: &mut Vec<u8>, piece: &[u8]) {
+fn take(rt: &impl Abort, lift: &mut BlockLift, log: &mut Vec<u8>, piece: &[u8]) {
     lift.feed(piece);
     log.extend_from_slice(lift.written()).expect(rt, "memory");
     lift.forget();
@@ -213,7 +213,7 @@ fn take(rt: &impl Abort, lift: &mut LiftAll, log: &mut Vec<u8>, piece: &[u8]) {
 /// The text up to a byte tells this of the leaves, with this status, and its log is one over the pigeons.
 fn tells(rt: &impl Abort, alloc: Global, count: usize, stdout: &[u8], status: u8) {
     let mut log = Vec::new(alloc);
-    let mut lift = LiftAll::of(alloc, split(rt, alloc)).expect(rt, "memory");
+    let mut lift = BlockLift::of(alloc, split(rt, alloc)).expect(rt, "memory");
     for piece in front(count).chunks(13) {
         take(rt, &mut lift, &mut log, piece);
     }
@@ -226,7 +226,7 @@ fn tells(rt: &impl Abort, alloc: Global, count: usize, stdout: &[u8], status: u8
 fn tells_block(rt: &impl Abort, alloc: Global, first: u64, last: u64, row: (usize, &[u8], u8)) {
     let mut log = Vec::new(alloc);
     let (count, stdout, status) = row;
-    let begun = LiftAll::block(alloc, split(rt, alloc), first, last).expect(rt, "memory");
+    let begun = BlockLift::block(alloc, split(rt, alloc), first, last).expect(rt, "memory");
     let Some(mut lift) = begun else {
         assert_eq!(rt; status, 1);
         return;

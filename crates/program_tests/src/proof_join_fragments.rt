@@ -1,7 +1,7 @@
 //! Fragments that are joined into one proof.
 
 ghost use Rattle.std.specs.Prelude.{◌≡◌, ◌≤◌, true, length, map};
-ghost use Rattle.proof_join.specs.Joining.{AllClose};
+ghost use Rattle.proof_join.specs.JoinedProof.{AllClose};
 
 use crate::check::{FOUR, VERIFIED, prints};
 use cube_split::preamble_with;

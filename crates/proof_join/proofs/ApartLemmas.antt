@@ -1,11 +1,11 @@
--- A step that is held without its literals, beside their text.
+-- A step that is held without its literals, with their text.
 use Rattle.std.proofs.Common.{◌≡◌, ℕ, Bool, true, false, cond, Option, Some, None, List, [], bytes_eq, sym, ap, subst}
 use Rattle.std.specs.Borrow.{Bor}
 use Rattle.std.proofs.lemmas.List.Elements.{All-nil}
 use Rattle.dimacs.specs.logic.Literal.{Literal, IsWithin}
 use Rattle.dimacs.specs.logic.Rat.{Group}
 use Rattle.lrat_text.specs.Grammar.{IsStep}
-use Rattle.lrat_text.specs.Writing.{line_text, literals_text, written_around}
+use Rattle.lrat_text.specs.WrittenLine.{line_text, literals_text, canonical_parts}
 use Rattle.lrat_text.specs.declared.step.Step.{Step}
 use Rattle.lrat_text.specs.declared.step.Step.TheVariants.{Add, Delete}
 use Rattle.proof_join.specs.inner.Steps.{IsLow, IsApart, IsHeld}
@@ -15,7 +15,7 @@ chosen true own held lits text h = let same : ◌≡◌ {A = Step × List ℕ} (
 chosen false own held lits text h = absurd (cc)
 
 -- what is read of a line around its literals
-pub read_is_apart : (line text : List ℕ) (held step : Step) → ◌≡◌ {A = Option (Step × List ℕ)} (Some (held, text)) (written_around line step) → IsApart text held step
+pub read_is_apart : (line text : List ℕ) (held step : Step) → ◌≡◌ {A = Option (Step × List ℕ)} (Some (held, text)) (canonical_parts line step) → IsApart text held step
 read_is_apart line text held (Add id lits hints groups) h = chosen (bytes_eq line (line_text id (Add id lits hints groups))) (Add id [] hints groups) held (literals_text lits) text h
 read_is_apart line text held (Delete ids) h = absurd (cc)
 

@@ -1,4 +1,4 @@
--- Pieces behind a text, and the lines of definitions.
+-- Texts that are appended, and the lines of definitions.
 use Rattle.std.proofs.Common.{◌≡◌, ℕ, ◌+◌, ◌*◌, ◌<◌, List, [], ◌∷◌, ◌++◌, length, get_or, take, drop, ap, ◌∙◌, sym, append_assoc, length-append, arith}
 use Rattle.std.proofs.lemmas.List.{append-nil, length-take-le, take_more, take-append-drop}
 use Rattle.dimacs.specs.logic.Base.{base_of, pure_literals}
@@ -6,7 +6,7 @@ use Rattle.dimacs.specs.logic.Cnf.{Cnf}
 use Rattle.dimacs.specs.logic.Literal.{Literal, Pos, negation}
 use Rattle.dimacs.specs.logic.Rat.{Group}
 use Rattle.lrat_text.specs.Runs.{text_of, top_of}
-use Rattle.lrat_text.specs.Writing.{line_of}
+use Rattle.lrat_text.specs.WrittenLine.{line_of}
 use Rattle.lrat_text.specs.declared.step.Step.{Step}
 use Rattle.lrat_text.specs.declared.step.Step.TheVariants.{Add}
 use Rattle.lrat_text.proofs.RunLemmas.{text_append}
@@ -14,7 +14,7 @@ use Rattle.cube_split.specs.Definitions.{all_clauses, base_with, both_clause, pa
 use Rattle.cube_split.proofs.UnitLemmas.{definitions_len, units_len}
 use Rattle.cube_split.specs.declared.pair.Pair.{Pair}
 use Rattle.proof_join.specs.Definitions.{all_steps, definition_steps, preamble_steps}
-use Rattle.proof_join.specs.Joining.{unit_steps}
+use Rattle.proof_join.specs.JoinedProof.{unit_steps}
 use Rattle.proof_join.proofs.WholeLemmas.{units_top}
 
 pub after_one : (out a b : List ℕ) → (out ++ a) ++ b ≡ out ++ (a ++ b)

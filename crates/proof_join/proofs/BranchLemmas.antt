@@ -1,4 +1,4 @@
--- Finished subtrees, as they are held.
+-- The stack of finished subtrees.
 use Rattle.std.proofs.Common.{◌≡◌, ℕ, suc, ◌+◌, ◌-◌, ◌<◌, Bool, true, false, MatchBool, MatchOption, Option, Some, None, List, [], ◌∷◌, ◌++◌, length, get_or, map, take, ap, sym, ◌∙◌, subst, arith, refl}
 use Rattle.std.specs.Prelude.{reverse, nat_eq, option_to_list}
 use Rattle.std.proofs.lemmas.Bool.{eqb-true, eq-eqb, false≢true}

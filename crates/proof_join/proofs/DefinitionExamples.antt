@@ -1,7 +1,7 @@
 -- The worked examples.
 use Rattle.std.proofs.Common.{◌≡◌, [], ◌∷◌, refl, codes}
 use Rattle.std.specs.Fmt.{digits}
-use Rattle.proof_join.specs.Joining.{joined_text}
+use Rattle.proof_join.specs.JoinedProof.{joined_text}
 use Rattle.lrat_text.specs.Runs.{text_of}
 use Rattle.proof_join.specs.Definitions.{preamble_steps}
 use Rattle.proof_join.specs.Examples.{four, same_two, one_and_two, one_and_not_two, split_on_three}

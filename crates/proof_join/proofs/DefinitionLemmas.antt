@@ -21,7 +21,7 @@ use Rattle.lrat_text.specs.declared.step.Step.{Step}
 use Rattle.lrat_text.specs.declared.step.Step.TheVariants.{Add, Delete}
 use Rattle.cube_split.proofs.PureLemmas.{pure_within}
 use Rattle.lrat_text.specs.Runs.{after_steps, top_of}
-use Rattle.proof_join.specs.Joining.{AreRatSteps, IsPreamble, unit_steps, AllClose, Joined}
+use Rattle.proof_join.specs.JoinedProof.{AreRatSteps, IsPreamble, unit_steps, AllClose, Joined}
 use Rattle.proof_join.proofs.JoinLemmas.{joined_accepts}
 use Rattle.lrat_text.proofs.RunLemmas.{after_append}
 use Rattle.proof_join.proofs.MapLemmas.{get_here, get_other, none_some, none_behind}

@@ -1,4 +1,4 @@
--- What is joined leaf by leaf is the joined text.
+-- Leaves that are appended one after the other give the joined text.
 use Rattle.std.proofs.Common.{◌≡◌, ℕ, ◌^◌, ◌<◌, ◌≤◌, List, [], length, take, refl, ◌∙◌, arith}
 use Rattle.dimacs.specs.logic.Cnf.{Cnf, IsFormula}
 use Rattle.icnf.specs.Leaves.{Cube, Leaves}
@@ -7,7 +7,7 @@ use Rattle.cube_split.specs.Definitions.{base_with}
 use Rattle.cube_split.specs.declared.pair.Pair.{Pair}
 use Rattle.proof_join.specs.Definitions.{JoinedOver, preamble_steps}
 use Rattle.proof_join.specs.Fronts.{Front, IsFrontOf}
-use Rattle.proof_join.specs.Joining.{fragments, AllClose, IsPreamble}
+use Rattle.proof_join.specs.JoinedProof.{fragments, AllClose, IsPreamble}
 use Rattle.proof_join.proofs.FrontLemmas.{all_text, front_all, front_goes_on, text_of_all}
 use Rattle.proof_join.proofs.WholeLemmas.{close_length, each_spelled, whole, whole_is, whole_joined, whole_accepts, whole_long}
 

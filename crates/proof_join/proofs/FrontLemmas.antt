@@ -14,7 +14,7 @@ use Rattle.lrat_text.specs.Runs.{text_of, top_of}
 use Rattle.lrat_text.specs.declared.step.Step.{Step}
 use Rattle.proof_join.specs.Definitions.{preamble_steps}
 use Rattle.proof_join.specs.Fronts.{Branch, Standing, Front, waiting, settled, appended, appended_all, preamble_front, IsFrontOf}
-use Rattle.proof_join.specs.Joining.{Closed, Joined, leaf, fork, fragments, cubes, Part, part, leaf_part}
+use Rattle.proof_join.specs.JoinedProof.{Closed, Joined, leaf, fork, fragments, cubes, Part, part, leaf_part}
 use Rattle.proof_join.specs.inner.Fronts.{HasLeft}
 use Rattle.proof_join.specs.Steps.{own_part, steps_in, steps_each}
 use Rattle.lrat_text.proofs.RunLemmas.{text_append}
@@ -62,7 +62,7 @@ settled_more q (suc d) text top i C (left ∷ finished) =
     (goes_further text (text_of top own.steps) above.text (settled_more q d (text ++ text_of top own.steps) own.top own.id own.clause finished))
     ([], append-nil text)
 
--- what stands behind the depth does not matter
+-- what stands after the depth does not matter
 settled_shorter : (p ys : Cube) (d : ℕ) (text : List ℕ) (top i : ℕ) (C : Clause) (finished : List Branch) → d ≤ length p → settled (p ++ ys) d text top i C finished ≡ settled p d text top i C finished
 settled_shorter p ys zero text top i C finished h = refl
 settled_shorter p ys (suc d) text top i C [] h = refl
@@ -240,7 +240,7 @@ front_goes_on F pairs leaves texts k f h =
 pub goes_long : (short text : List ℕ) (n : ℕ) → GoesOn short text → n ≤ length short → n ≤ length text
 goes_long short text n (more, e) long = let a : length (short ++ more) ≡ length text = ap length e in let b = length-append short more in omega arith
 
--- the preamble's lines begin what is joined behind them
+-- the preamble's lines begin what is joined after them
 pub preamble_begins : (F : Cnf) (lines : List Step) (leaves : List Cube) (texts : List (List ℕ)) (text : List ℕ) → Joined F lines leaves texts text → GoesOn (text_of (length F.clauses) lines) text
 preamble_begins F lines leaves texts text j =
     let b : ℕ = length F.clauses + length lines in

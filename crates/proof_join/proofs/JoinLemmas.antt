@@ -1,4 +1,4 @@
--- What is joined of fragments that close all leaves is an accepted proof.
+-- The text joined of fragments that close all leaves is an accepted proof.
 use Rattle.std.proofs.Common.{◌≡◌, ℕ, ◌^◌, ◌<◌, ◌≤◌, List, [], ◌∷◌, ◌++◌, length, Result, Ok, sym, ◌∙◌, ap, subst, arith, append_assoc, length-append}
 use Rattle.std.specs.List.{All}
 use Rattle.std.proofs.lemmas.List.Elements.{All-nil, All-cons}
@@ -20,7 +20,7 @@ use Rattle.lrat_text.specs.declared.step.Step.{Step}
 use Rattle.lrat_text.specs.declared.step.Step.TheVariants.{Add, Delete}
 use Rattle.lrat_text.proofs.LineLemmas.{spelled_read}
 use Rattle.lrat_text.specs.Runs.{top_of, text_of}
-use Rattle.proof_join.specs.Joining.{Closed, leaf, fork, fragments, cubes, AreFree, Part, part, joined_steps, AreSpelled, Joined, AllClose, IsPreamble, unit_steps}
+use Rattle.proof_join.specs.JoinedProof.{Closed, leaf, fork, fragments, cubes, AreFree, Part, part, joined_steps, AreSpelled, Joined, AllClose, IsPreamble, unit_steps}
 use Rattle.proof_join.proofs.LogLemmas.{log_up, log_refutes}
 use Rattle.proof_join.proofs.MapLemmas.{AreBetween, between_formula, between_without}
 use Rattle.proof_join.proofs.PreambleLemmas.{rat_top, rat_refutes, rat_spells, units_lead}
@@ -49,7 +49,7 @@ spelled_limits text [] h = All-nil IsStep
 spelled_limits text (step ∷ steps) (line, rest, e, one, first, more) = All-cons IsStep step steps first.limits (spelled_limits rest steps more)
 
 -- ---- the fragments of a tree close its leaves
--- the texts that are left behind a subtree's, with the cubes and the steps that are left
+-- the texts that are left after a subtree's, with the cubes and the steps that are left
 record AreLeft (B : Cnf) (later : List Cube) (more : List (List Step)) : Type 0 where
   pub texts : List (List ℕ)
   pub close : AllClose B later texts

@@ -1,4 +1,4 @@
--- A proof that is renumbered is one text, and an accepted proof of the extended formula.
+-- The renumbered text is unique, and an accepted proof of the extended formula.
 use Rattle.std.proofs.Common.{◌≡◌, ℕ, ◌+◌, inl, inr, List, [], ◌∷◌, ◌++◌, length, refl, sym, ◌∙◌, ap, subst, length-append}
 use Rattle.std.specs.Prelude.{max}
 use Rattle.std.specs.FinMap.{insert}
@@ -9,7 +9,7 @@ use Rattle.lrat_text.specs.Grammar.{LineSpells}
 use Rattle.lrat_text.specs.Proof.{without, Refutation, Accepts}
 use Rattle.lrat_text.specs.declared.step.Step.{Step}
 use Rattle.lrat_text.specs.declared.step.Step.TheVariants.{Add, Delete}
-use Rattle.proof_join.specs.Renumbering.{lines_from, raised_steps, LinesFit, Renumbers, RupRefutation, RefutesByRup}
+use Rattle.proof_join.specs.RenumberedProof.{lines_from, raised_steps, LinesFit, Renumbers, RupRefutation, RefutesByRup}
 use Rattle.proof_join.proofs.JoinLemmas.{spelled_once}
 use Rattle.proof_join.proofs.RaisedLemmas.{refutation_raised}
 use Rattle.proof_join.proofs.TextLemmas.{spells_cons}

@@ -4,7 +4,7 @@ use Rattle.std.proofs.lemmas.List.{take_more}
 use Rattle.dimacs.specs.logic.Cnf.{Cnf}
 use Rattle.icnf.specs.Leaves.{Cube}
 use Rattle.lrat_text.specs.Log.{Closes}
-use Rattle.proof_join.specs.Joining.{AllClose}
+use Rattle.proof_join.specs.JoinedProof.{AllClose}
 
 close_more : (B : Cnf) (leaves : List Cube) (texts : List (List ℕ)) (q : Cube) (text : List ℕ) → AllClose B leaves texts → Closes B q text → AllClose B (leaves ++ q ∷ []) (texts ++ text ∷ [])
 close_more B [] [] q text h c = (c, tt)

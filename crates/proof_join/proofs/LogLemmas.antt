@@ -14,7 +14,7 @@ use Rattle.lrat_text.specs.Proof.{AddsEmpty, Refutation}
 use Rattle.lrat_text.specs.declared.step.Step.{Step}
 use Rattle.lrat_text.specs.declared.step.Step.TheVariants.{Add, Delete}
 use Rattle.lrat_text.proofs.LogLemmas.{taken}
-use Rattle.proof_join.specs.Numbering.{last_clause}
+use Rattle.proof_join.specs.RenumberedSteps.{last_clause}
 use Rattle.lrat_text.specs.Runs.{after_steps, top_of}
 use Rattle.lrat_text.proofs.RunLemmas.{after_append, top_append}
 use Rattle.proof_join.proofs.MapLemmas.{get_here, get_other, get_without}

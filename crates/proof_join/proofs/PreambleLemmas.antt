@@ -15,11 +15,11 @@ use Rattle.lrat_text.specs.Grammar.{LineSpells, IsStep, IsClauseNumber, IsGroup}
 use Rattle.lrat_text.specs.Proof.{Refutation}
 use Rattle.lrat_text.specs.declared.step.Step.{Step}
 use Rattle.lrat_text.specs.declared.step.Step.TheVariants.{Add, Delete}
-use Rattle.cube_split.specs.Splitting.{with_units}
+use Rattle.cube_split.specs.SplitTree.{with_units}
 use Rattle.cube_split.proofs.RatLemmas.{unit_is_rat}
 use Rattle.cube_split.proofs.PureLemmas.{pure_within}
 use Rattle.lrat_text.specs.Runs.{after_steps, top_of, text_of}
-use Rattle.proof_join.specs.Joining.{AreRatSteps, IsPreamble, unit_steps}
+use Rattle.proof_join.specs.JoinedProof.{AreRatSteps, IsPreamble, unit_steps}
 use Rattle.proof_join.proofs.MapLemmas.{none_behind}
 use Rattle.proof_join.proofs.TextLemmas.{spells_cons}
 
@@ -29,7 +29,7 @@ rat_top M top [] h = omega arith
 rat_top M top (Add id lits hints groups ∷ steps) (next, rat, rest) = rat_top (insert M id lits) id steps rest ∙ omega arith
 rat_top M top (Delete ids ∷ steps) h = absurd h
 
--- behind a preamble a refutation goes on
+-- after a preamble a refutation goes on
 pub rat_refutes : (M : ClauseMap) (top : ℕ) (steps more : List Step) → AreRatSteps M top steps → Refutation (after_steps M steps) (top_of top steps) more → Refutation M top (steps ++ more)
 rat_refutes M top [] more h r = r
 rat_refutes M top (Add id lits hints groups ∷ steps) more (next, rat, rest) r =
@@ -60,7 +60,7 @@ numbered_push F C =
     (sym (get-from_entries nat_cmp_total (enumerate_from 1 F) (1 + length F)) ∙ none_behind F)
     ∙ ap (λ k. insert (numbered F) k C) (let e : 1 + length F ≡ length F + 1 = omega arith in e)
 
--- units behind those before
+-- units after those before
 units_push : (f : Cnf) (before : List Literal) (l : Literal) → insert (map_of (with_units f before)) (length f.clauses + length before + 1) (l ∷ []) ≡ map_of (with_units f (before ++ l ∷ []))
 units_push f before l =
     let unit : Literal → Clause = λ k. k ∷ [] in

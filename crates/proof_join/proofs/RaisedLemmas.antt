@@ -14,8 +14,8 @@ use Rattle.dimacs.specs.logic.Literal.{Clause}
 use Rattle.lrat_text.specs.Proof.{without, Refutation}
 use Rattle.lrat_text.specs.declared.step.Step.{Step}
 use Rattle.lrat_text.specs.declared.step.Step.TheVariants.{Add, Delete}
-use Rattle.proof_join.specs.Numbering.{behind, renumbered, renumbered_group}
-use Rattle.proof_join.specs.Renumbering.{raised, raised_steps, RupRefutation}
+use Rattle.proof_join.specs.RenumberedSteps.{behind, renumbered, renumbered_group}
+use Rattle.proof_join.specs.RenumberedProof.{raised, raised_steps, RupRefutation}
 use Rattle.proof_join.proofs.FragmentLemmas.{Mirrors, mirrors_insert, mirrors_without, still_some}
 use Rattle.proof_join.proofs.MapLemmas.{none_some, between_formula}
 use Rattle.proof_join.proofs.NumberLemmas.{le_true, le_false, behind_low, behind_high, distinct_behind}
@@ -27,7 +27,7 @@ raised_low m e n h = ap (λ c. cond c n (n + e)) (le_true n m h)
 pub raised_high : (m e n : ℕ) → m < n → raised m e n ≡ n + e
 raised_high m e n h = ap (λ c. cond c n (n + e)) (le_false n m h)
 
--- numbers above m go on behind m + e
+-- numbers above m go on after m + e
 raised_is : (m e : ℕ) → raised m e ≡ behind m (m + e)
 raised_is m e = fun_ext (λ n. at n (cases_lt m n))
   where
@@ -87,7 +87,7 @@ formula_mirrored F vars e more n C live =
     ∙ get-from_entries nat_cmp_total (enumerate_from 1 (F.clauses ++ more)) n
     ∙ found_front F.clauses more 1 n C (sym (get-from_entries nat_cmp_total (enumerate_from 1 F.clauses) n) ∙ live)
 
--- so a formula's refutation is one of the formula with more clauses behind its own
+-- so a formula's refutation is one of the formula with more clauses after its own
 pub refutation_raised : (F : Cnf) (vars e high : ℕ) (more : List Clause) (steps : List Step) → high ≡ length F.clauses + e → RupRefutation (map_of F) (length F.clauses) steps
     → Refutation (map_of (record { vars = vars; clauses = F.clauses ++ more })) high (raised_steps (length F.clauses) e steps)
 refutation_raised F vars e high more steps is r =

@@ -10,15 +10,15 @@ use Rattle.dimacs.specs.logic.Literal.{Clause}
 use Rattle.dimacs.specs.logic.Rat.{Group}
 use Rattle.lrat_text.specs.Grammar.{LineSpells, SpellsStep, IsClauseNumber, IsGroup}
 use Rattle.lrat_text.specs.Lines.{IsCut, IsOpen}
-use Rattle.lrat_text.specs.Writing.{line_of}
+use Rattle.lrat_text.specs.WrittenLine.{line_of}
 use Rattle.lrat_text.specs.declared.step.Step.{Step}
 use Rattle.lrat_text.specs.declared.step.Step.TheVariants.{Add}
-use Rattle.proof_join.specs.Numbering.{renumbered, renumbered_group}
-use Rattle.proof_join.specs.Renumbering.{raised, raised_steps, highest_after, lines_from, LineFits, LinesFit, Renumbers}
-use Rattle.proof_join.specs.inner.Raising.{Unless, IsPut, IsLeft, IsUnderWay}
+use Rattle.proof_join.specs.RenumberedSteps.{renumbered, renumbered_group}
+use Rattle.proof_join.specs.RenumberedProof.{raised, raised_steps, highest_after, lines_from, LineFits, LinesFit, Renumbers}
+use Rattle.proof_join.specs.inner.RaisedLines.{Unless, IsPut, IsLeft, IsUnderWay}
 use Rattle.proof_join.specs.Steps.{steps_in}
-use Rattle.proof_join.specs.declared.renumbering.Stop.{Stop}
-use Rattle.proof_join.specs.declared.renumbering.Stop.TheVariants.{NoText, NoMemory}
+use Rattle.proof_join.specs.declared.renumbered_proof.Stop.{Stop}
+use Rattle.proof_join.specs.declared.renumbered_proof.Stop.TheVariants.{NoText, NoMemory}
 use Rattle.proof_join.proofs.StepLemmas.{next_line, no_line, read_same, spelled_in}
 
 pub unless_so : (stop : Stop) (P Q : Type 0) → (P → Q) → Unless stop P → Unless stop Q
@@ -60,7 +60,7 @@ module _ (m e high : ℕ) (out : List ℕ) where
   groups_over NoText id lits hints groups none = λ fit. absurd (none fit.3)
   groups_over NoMemory id lits hints groups none = tt
 
--- the step of the first line, and those behind it
+-- the step of the first line, and those after it
 record Splits (steps : List Step) (step : Step) (line later : List ℕ) : Type 0 where
   pub spells : SpellsStep line step
   pub more : List Step
@@ -166,7 +166,7 @@ pub not_put : (m e top : ℕ) (text out rest line later : List ℕ) (step : Step
 not_put m e top text out rest line later step NoText u cut spells long = no_line_left m e top text out rest line later step u cut spells long
 not_put m e top text out rest line later step NoMemory u cut spells long = tt
 
--- bytes behind the last LF
+-- bytes after the last LF
 pub no_end : (m e top : ℕ) (text out rest : List ℕ) → IsUnderWay m e text top out rest → IsOpen rest → (length rest == 0) ≡ false → (new : List ℕ) → ¬ (Renumbers m e text new)
 no_end m e top text out rest u none some new h =
     let l = u.leads new h in

@@ -1,4 +1,4 @@
--- Leaves with their fragments settle the tree, and what is joined.
+-- The leaves and their fragments determine the tree, and so the joined text.
 use Rattle.std.proofs.Common.{◌≡◌, ℕ, List, [], ◌∷◌, ◌++◌, length, refl, sym, ◌∙◌, ap, subst, arith, append_assoc, length-append}
 use Rattle.std.proofs.lemmas.List.{append-nil}
 use Rattle.dimacs.specs.logic.Cnf.{Cnf}
@@ -6,11 +6,11 @@ use Rattle.dimacs.specs.logic.Literal.{Literal, negation}
 use Rattle.icnf.specs.Leaves.{Cube, IsFree, Leaves}
 use Rattle.icnf.specs.Leaves as icnf
 use Rattle.lrat_text.specs.declared.step.Step.{Step}
-use Rattle.proof_join.specs.Joining.{Closed, leaf, fork, fragments, cubes, AreFree, joined_text, AreSpelled, Joined, AllClose}
+use Rattle.proof_join.specs.JoinedProof.{Closed, leaf, fork, fragments, cubes, AreFree, joined_text, AreSpelled, Joined, AllClose}
 use Rattle.proof_join.proofs.JoinLemmas.{spelled_once}
 
 -- ---- one tree
--- a subtree's first leaf lies behind its path
+-- a subtree's first leaf lies after its path
 pub first_cube : (path : Cube) (tree : Closed) → (rest : Cube) × (others : List Cube) × (cubes path tree ≡ (path ++ rest) ∷ others)
 first_cube path (leaf steps) = ([], [], ap (λ (q : Cube). q ∷ []) (sym (append-nil path)))
 first_cube path (fork x left right) =
@@ -30,7 +30,7 @@ same_next : (path : Cube) (x y : Literal) (xs ys : Cube) → path ++ x ∷ xs �
 same_next [] x y xs ys e = same_first x y xs ys e
 same_next (l ∷ path) x y xs ys e = same_next path x y xs ys (same_tail l l (path ++ x ∷ xs) (path ++ y ∷ ys) e)
 
--- the first leaf below a fork lies behind its path and its literal
+-- the first leaf below a fork lies after its path and its literal
 pub first_fork : (path : Cube) (x : Literal) (left right : Closed) (later : List Cube) → (rest : Cube) × (others : List Cube) × (cubes path (fork x left right) ++ later ≡ (path ++ x ∷ rest) ∷ others)
 first_fork path x left right later =
     let f = first_cube (path ++ x ∷ []) left in
@@ -42,7 +42,7 @@ leaf_fork path x left right later others e =
     let f = first_fork path x left right others in
     not_longer path f.0 x (same_first path (path ++ x ∷ f.0) later f.1 (e ∙ f.2))
 
--- the same tree, with the same cubes and fragments behind it
+-- the same tree, with the same cubes and fragments after it
 record AreOne (one two : Closed) (cs ds : List Cube) (ss ts : List (List Step)) : Type 0 where
   pub same : one ≡ two
   pub leaves : cs ≡ ds

@@ -8,7 +8,7 @@ use Rattle.dimacs.specs.logic.Rat.{Group}
 use Rattle.lrat_text.specs.Grammar.{LineSpells, SpellsStep, IsStep, IsClauseNumber}
 use Rattle.lrat_text.specs.Lines.{AllRead, IsCut, IsOpen}
 use Rattle.lrat_text.specs.Log.{top_after}
-use Rattle.lrat_text.specs.Writing.{line_text, line_of}
+use Rattle.lrat_text.specs.WrittenLine.{line_text, line_of}
 use Rattle.lrat_text.specs.declared.fault.TextFault.{TextFault}
 use Rattle.lrat_text.specs.declared.step.Step.{Step}
 use Rattle.lrat_text.specs.declared.step.Step.TheVariants.{Add, Delete}
@@ -16,7 +16,7 @@ use Rattle.lrat_text.proofs.CutLemmas.{cut_same, none_cut}
 use Rattle.lrat_text.proofs.LineLemmas.{spelled_read}
 use Rattle.lrat_text.proofs.SpellingLemmas.{spelled_found}
 use Rattle.dimacs.specs.text.Words
-use Rattle.proof_join.specs.Numbering.{behind, renumbered}
+use Rattle.proof_join.specs.RenumberedSteps.{behind, renumbered}
 use Rattle.lrat_text.specs.Runs.{text_of, top_of}
 use Rattle.proof_join.specs.Steps.{with_step, steps_of, steps_in}
 use Rattle.proof_join.specs.inner.Steps.{IsLow, Writes, last_of}
@@ -25,7 +25,7 @@ use Rattle.proof_join.specs.declared.fault.JoinFault.TheVariants.{TooLong, NoMem
 use Rattle.proof_join.proofs.NumberLemmas.{behind_low, behind_high}
 
 -- ---- limits
--- a number up to k, of which b are the base's, is a clause number behind t as well
+-- a number up to k, of which b are the base's, is a clause number after t as well
 behind_number : (b t k n : ℕ) → b ≤ t → b ≤ k → t + (k - b) < 2 ^ 48 → n ≤ k → IsClauseNumber n → IsClauseNumber (behind b t n)
 behind_number b t k n low base few up (some, small) = elim (cases_lt b n) [
   | inr x ↦ let e = behind_low b t n x in subst IsClauseNumber (sym e) (some, small)
@@ -60,7 +60,7 @@ pub spelled_in : (text : List ℕ) (steps : List Step) → LineSpells text steps
 unfolding steps_in
 spelled_in text steps h = read_steps (Words.lines text) steps (spelled_read text steps h)
 
--- what stands behind a line of a text whose lines spell steps
+-- what stands after a line of a text whose lines spell steps
 pub record IsNext (text line rest : List ℕ) : Type 0 where
   pub step : Step
   pub spells : SpellsStep line step
@@ -110,7 +110,7 @@ pub writes_else : (A B : Type 0) (fault : JoinFault) (new text : List ℕ) → W
 writes_else A B TooLong new text h = h
 writes_else A B NoMemory new text h = h
 
--- the number of the last addition, in the fragment and behind t
+-- the number of the last addition, in the fragment and after t
 pub top_on : (b t top number : ℕ) (step : Step) → b ≤ t → t ≤ top → IsLow (b + (top - t)) step → number ≡ top_after top (renumbered (behind b t) step)
     → (top_after (b + (top - t)) step ≡ b + (number - t)) × (t ≤ number) × (number ≤ top + 1)
 top_on b t top number (Add id lits hints groups) low above (next, up, none) e =

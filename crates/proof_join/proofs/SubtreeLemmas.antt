@@ -9,9 +9,9 @@ use Rattle.icnf.specs.Leaves.{Cube}
 use Rattle.lrat_text.specs.Grammar.{LineSpells, IsStep, IsClauseNumber}
 use Rattle.lrat_text.specs.declared.step.Step.{Step}
 use Rattle.lrat_text.specs.declared.step.Step.TheVariants.{Add}
-use Rattle.proof_join.specs.Numbering.{last_clause}
+use Rattle.proof_join.specs.RenumberedSteps.{last_clause}
 use Rattle.lrat_text.specs.Runs.{text_of, top_of}
-use Rattle.proof_join.specs.Joining.{Closed, leaf, fork, fragments, cubes, Part, part, fork_part, with_line, with_clause_of, resolvent}
+use Rattle.proof_join.specs.JoinedProof.{Closed, leaf, fork, fragments, cubes, Part, part, fork_part, with_line, with_clause_of, resolvent}
 use Rattle.proof_join.specs.declared.fault.JoinFault.{JoinFault}
 use Rattle.proof_join.specs.declared.fault.JoinFault.TheVariants.{TooLong, NoMemory}
 use Rattle.proof_join.specs.Steps.{own_part}

@@ -9,7 +9,7 @@ use Rattle.dimacs.specs.logic.Literal.{Clause}
 use Rattle.dimacs.proofs.Members.{Contains-head, Contains-cons}
 use Rattle.lrat_text.specs.Grammar.{LineSpells, IsStep, IsClauseNumber, IsGroup}
 use Rattle.lrat_text.specs.Log.{after_step, top_after, IsLogStep, AreLogSteps}
-use Rattle.lrat_text.specs.Writing.{line_text, line_of}
+use Rattle.lrat_text.specs.WrittenLine.{line_text, line_of}
 use Rattle.lrat_text.specs.declared.step.Step.{Step}
 use Rattle.lrat_text.specs.declared.step.Step.TheVariants.{Add, Delete}
 use Rattle.lrat_text.proofs.LineLemmas.{written_spells, written_one_line}

@@ -1,4 +1,4 @@
--- What each part of a tree gives.
+-- What each subtree contributes to the joined text.
 use Rattle.std.proofs.Common.{◌≡◌, ℕ, ◌+◌, ◌≤◌, inl, inr, Bool, true, false, not, ◌||◌, cond, List, [], ◌∷◌, ◌++◌, map, length, Some, refl, sym, ◌∙◌, ap, subst, arith}
 use Rattle.std.specs.List.{All, Contains}
 use Rattle.std.specs.FinMap.{get}
@@ -17,9 +17,9 @@ use Rattle.lrat_text.specs.Grammar.{IsStep}
 use Rattle.lrat_text.specs.Log.{AreLogSteps, IsLog, EndsAt, Negates}
 use Rattle.lrat_text.specs.declared.step.Step.{Step}
 use Rattle.lrat_text.specs.declared.step.Step.TheVariants.{Add, Delete}
-use Rattle.proof_join.specs.Numbering.{behind, renumbered, renumbered_group, last_clause}
+use Rattle.proof_join.specs.RenumberedSteps.{behind, renumbered, renumbered_group, last_clause}
 use Rattle.lrat_text.specs.Runs.{after_steps, top_of}
-use Rattle.proof_join.specs.Joining.{Closed, leaf, fork, Part, part, leaf_part, fork_part, with_line, with_clause_of, resolvent}
+use Rattle.proof_join.specs.JoinedProof.{Closed, leaf, fork, Part, part, leaf_part, fork_part, with_line, with_clause_of, resolvent}
 use Rattle.proof_join.proofs.FragmentLemmas.{steps_mirrored}
 use Rattle.proof_join.proofs.LogLemmas.{log_weaker, log_up, log_keeps, Adds, adds_left, adds_right, last_live, last_is, last_top}
 use Rattle.lrat_text.proofs.RunLemmas.{after_append, top_append, log_append}

@@ -12,11 +12,11 @@ use Rattle.dimacs.specs.logic.Literal.{Literal, IsWithin}
 use Rattle.icnf.specs.Leaves.{Cube, Leaves}
 use Rattle.lrat_text.specs.Grammar.{LineSpells}
 use Rattle.lrat_text.specs.Log.{after_step, top_after, IsLogStep, AreLogSteps, Closes}
-use Rattle.lrat_text.specs.Writing.{line_of}
+use Rattle.lrat_text.specs.WrittenLine.{line_of}
 use Rattle.lrat_text.specs.declared.step.Step.{Step}
 use Rattle.lrat_text.specs.declared.step.Step.TheVariants.{Add, Delete}
 use Rattle.lrat_text.specs.Runs.{text_of, top_of}
-use Rattle.proof_join.specs.Joining.{leaf, part, AreSpelled, Joined, AllClose, IsPreamble, unit_steps}
+use Rattle.proof_join.specs.JoinedProof.{leaf, part, AreSpelled, Joined, AllClose, IsPreamble, unit_steps}
 use Rattle.proof_join.specs.Steps.{steps_in, steps_each}
 use Rattle.proof_join.specs.inner.Steps.{Writes, IsLow, AreLow, IsFragment}
 use Rattle.proof_join.proofs.JoinLemmas.{spelled_limits, some_clause, tree_closed, joined_accepts}

@@ -1,5 +1,5 @@
--- What stands of a joined text when the first leaves of a tree are appended. `finish` promises what it comes to: that is the joined text,
--- and nobody has to read this to believe it.
+-- The joined text of the first leaves of a tree. `finish` promises that the result is the joined text, so nobody has to read this file
+-- to believe that.
 use Rattle.std.specs.Prelude.{◌≡◌, ℕ, zero, suc, ◌+◌, nat_eq, List, [], ◌∷◌, ◌++◌, length, map, reverse, take, slice_index_or, if◌then◌else◌}
 use Rattle.dimacs.specs.logic.Cnf.{Cnf}
 use Rattle.dimacs.specs.logic.Literal.{Pos, Clause, negation}
@@ -9,41 +9,42 @@ use Rattle.lrat_text.specs.declared.step.Step.{Step}
 use Rattle.cube_split.specs.Definitions.{base_with}
 use Rattle.cube_split.specs.declared.pair.Pair.{Pair}
 use Rattle.proof_join.specs.Definitions.{preamble_steps}
-use Rattle.proof_join.specs.Joining.{Part, leaf_part}
+use Rattle.proof_join.specs.JoinedProof.{Part, leaf_part}
 use Rattle.proof_join.specs.Steps.{own_part, steps_each}
 use Rattle.proof_join.specs.declared.finished.Finished.{Finished}
 
--- a finished subtree that no fork has yet: the length of the path to it, its clause, and the number of that
+-- a finished subtree that waits for its right sibling: the length of the path to it, its clause, and the clause's number
 pub record Branch : Type 0 where
   pub depth : ℕ
   pub id : ℕ
   pub clause : Clause
 
--- what the code holds of them
+-- the value of one in memory
 abbrev pub branch_of : Finished → Branch
 branch_of b = record { depth = b.depth; id = b.subtree.id; clause = b.subtree.clause.items }
 
--- the last one first
+-- those on the stack, the top first
 unfoldable pub branches : List Finished → List Branch
 branches items = reverse (map branch_of items)
 
--- the text so far, the number of its last addition, and the finished subtrees that no fork has yet, the last one first
+-- the text so far, the number of its last addition, and the stack of finished subtrees, the top first
 pub record Standing : Type 0 where
   pub text : List ℕ
   pub top : ℕ
   pub finished : List Branch
 
--- the same over a base of so many clauses, with so many leaves appended
+-- the same with how many clauses the base has, and how many leaves are appended
 pub record Front : Type 0 where
   pub base : ℕ
   pub count : ℕ
   pub standing : Standing
 
--- a finished subtree at this depth is put to the others
+-- a finished subtree at this depth is pushed
 abbrev pub waiting : ℕ → List ℕ → ℕ → ℕ → Clause → List Branch → Standing
 waiting depth text top i C finished = record { text = text; top = top; finished = record { depth = depth; id = i; clause = C } ∷ finished }
 
--- a subtree at this depth of the cube q is finished, and its clause is C under i: if that beside it is finished too, both make the fork above
+-- a subtree at this depth of the cube q is finished, with clause C under i: if its left sibling is on top of the stack, their fork is
+-- finished too, and so on upward; else the subtree is pushed
 abbrev pub settled : Cube → ℕ → List ℕ → ℕ → ℕ → Clause → List Branch → Standing
 settled q zero text top i C finished = waiting zero text top i C finished
 settled q (suc d) text top i C [] = waiting (suc d) text top i C []
@@ -69,13 +70,13 @@ appended_all f [] all = f
 appended_all f (q ∷ leaves) [] = f
 appended_all f (q ∷ leaves) (steps ∷ all) = appended_all (appended f q steps) leaves all
 
--- the preamble alone
+-- no leaf is appended: the preamble's lines
 abbrev pub preamble_front : Cnf → List Pair → Front
 preamble_front F pairs =
     let b : ℕ = length (base_with F pairs).clauses in
     record { base = b; count = 0; standing = record { text = text_of (length F.clauses) (preamble_steps F pairs); top = b; finished = [] } }
 
--- what stands when the fragments of these leaves, the first ones of a tree, are appended
+-- f is the state after the fragments of these leaves, the first ones of a tree, were appended
 pub record IsFrontOf (F : Cnf) (pairs : List Pair) (leaves : List Cube) (texts : List (List ℕ)) (f : Front) : Type 0 where
   pub base : f.base ≡ length (base_with F pairs).clauses
   pub count : f.count ≡ length leaves

@@ -1,4 +1,4 @@
--- Proofs of four clauses over two variables, on which a reader can try what renumbering is.
+-- Proofs of a formula of four clauses over two variables, to try renumbering on.
 use Rattle.std.specs.Prelude.{List, [], ◌∷◌}
 use Rattle.dimacs.specs.logic.Literal.{Pos, Neg}
 use Rattle.lrat_text.specs.declared.step.Step.{Step}
@@ -18,7 +18,7 @@ with_groups =
     ∷ Add 9 [] (8 ∷ 3 ∷ 4 ∷ []) []
     ∷ []
 
--- 3 d 1 0, 5 2 0 1 2 0, 5 d 1 2 0, 6 0 5 3 4 0, and behind the empty clause 5 0 0, 5 d 5 0
+-- 3 d 1 0, 5 2 0 1 2 0, 5 d 1 2 0, 6 0 5 3 4 0, and after the empty clause 5 0 0, 5 d 5 0
 abbrev pub with_deletions : List Step
 with_deletions =
     Delete (1 ∷ [])

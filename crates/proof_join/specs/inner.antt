@@ -1,4 +1,4 @@
 -- What only private contracts, invariants and proofs name. Nothing here is to be believed.
 pub mod Fronts
-pub mod Raising
+pub mod RaisedLines
 pub mod Steps

@@ -1,4 +1,4 @@
-//! Finished subtrees that no fork has yet.
+//! The stack of finished subtrees that wait for their right sibling.
 
 ghost use Rattle.std.specs.Prelude.{◌≡◌, ◌<◌, ◌∷◌, MatchBool, MatchOption, OnOk, IfErr};
 ghost use Rattle.proof_join.specs.Fronts.{branch_of, branches};
@@ -14,7 +14,7 @@ pub(crate) struct Finished {
     pub(crate) subtree: Subtree,
 }
 
-/// Whether the last one is the left one beside a subtree at this depth.
+/// Whether the top of the stack is the left sibling of a subtree at this depth.
 fn has_left(finished: &[Finished], depth: usize) -> bool
     ensures { MatchBool result (HasLeft depth (branches finished.now)) (¬ (HasLeft depth (branches finished.now))) }
 {
@@ -28,7 +28,7 @@ fn has_left(finished: &[Finished], depth: usize) -> bool
     finished[count - 1].depth == depth
 }
 
-/// Takes the left one beside a subtree at this depth, if it is there.
+/// Pops the left sibling of a subtree at this depth, if it is on top of the stack.
 pub(crate) fn take_left(finished: &mut Vec<Finished>, depth: usize) -> Option<Finished>
     ensures { MatchOption result
         ((finished.new.items ≡ finished.old.items) × ¬ (HasLeft depth (branches finished.old.items)))
@@ -40,7 +40,7 @@ pub(crate) fn take_left(finished: &mut Vec<Finished>, depth: usize) -> Option<Fi
     finished.pop()
 }
 
-/// Puts one to the others.
+/// Pushes a finished subtree.
 pub(crate) fn put_finished(
     finished: &mut Vec<Finished>,
     depth: usize,

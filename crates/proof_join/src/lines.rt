@@ -1,24 +1,24 @@
-//! Lines under other numbers.
+//! Copies the lines of a fragment under other numbers.
 
 ghost use Rattle.std.specs.Prelude.{◌≡◌, ◌≢◌, ◌+◌, ◌-◌, ◌^◌, ◌<◌, ◌≤◌, ◌++◌, codes, map, length, All, MatchBool, OnOk, IfOk};
 ghost use Rattle.lrat_text.specs.Grammar.{IsStep, IsClauseNumber, SpellsStep};
 ghost use Rattle.lrat_text.specs.Log.{top_after};
 ghost use Rattle.lrat_text.specs.Steps.{step_of};
-ghost use Rattle.lrat_text.specs.Writing.{line_of};
+ghost use Rattle.lrat_text.specs.WrittenLine.{line_of};
 ghost use Rattle.lrat_text.specs.declared.step.Step.{Step};
-ghost use Rattle.proof_join.specs.Numbering.{behind, renumbered};
+ghost use Rattle.proof_join.specs.RenumberedSteps.{behind, renumbered};
 ghost use Rattle.lrat_text.specs.Runs.{text_of, top_of};
 ghost use Rattle.proof_join.specs.Steps.{steps_in};
 ghost use Rattle.proof_join.specs.inner.Steps.{IsLow, IsOwn, Writes, IsApart, IsHeld, last_of};
 
 use crate::fault::JoinFault;
 use crate::output::{Output, put_addition, put_copy, put_line};
-use lrat_text::{StepBuffer, StepRef, TextFault, read_around, read_line, written_id};
+use lrat_text::{StepBuffer, StepRef, TextFault, canonical_id, read_line, read_without_literals};
 use packed_text::{PackedLines, PackedText};
 use std::alloc::{AllocError, Global};
 use std::mem::swap;
 
-/// Where a fragment's numbers go: those up to `base` stay, and those behind it go on behind `begun`.
+/// How a fragment's numbers are changed: those up to `base` stay, and `base` + k becomes `begun` + k.
 #[derive(Clone, Copy)]
 pub(crate) struct Shift {
     pub(crate) base: u64,
@@ -26,14 +26,14 @@ pub(crate) struct Shift {
 }
 
 impl Shift {
-    /// Whether every number stays.
+    /// Whether no number changes.
     fn is_none(self) -> bool
         ensures { MatchBool result (self.begun ≡ self.base) (self.begun ≢ self.base) }
     {
         self.begun == self.base
     }
 
-    /// The number that stands for one.
+    /// The new number.
     fn number(self, number: u64) -> u64
         requires number { number < 2 ^ 48 }
         requires begun { self.begun < 2 ^ 48 }
@@ -46,7 +46,7 @@ impl Shift {
         }
     }
 
-    /// Puts these numbers, renumbered, in the place of those that `out` had.
+    /// Replaces what `out` has by the new numbers.
     fn numbers(self, numbers: &[u64], out: &mut Vec<u64>) -> Result<(), AllocError>
         requires numbers { All (λ n. n < 2 ^ 48) numbers.now }
         requires begun { self.begun < 2 ^ 48 }
@@ -60,13 +60,12 @@ impl Shift {
     }
 }
 
-/// What a line of a fragment is read into, and its numbers are renumbered in.
+/// Buffers: for the step that is read of a line, and for its new numbers.
 pub(crate) struct Scratch {
     pub(crate) buffer: StepBuffer,
     pub(crate) numbers: Vec<u64>,
 }
 
-// By hand, so that whoever owns one drops it by one call, and no proof there goes through its parts.
 impl Drop for Scratch {
     fn drop(self) {
         let Scratch {
@@ -76,19 +75,20 @@ impl Drop for Scratch {
     }
 }
 
-/// A fragment's step, lent: its literals are given as their text where they were not read.
+/// A borrowed step of a fragment. If its literals were not read, `literals` is their text.
 #[derive(Clone, Copy)]
 struct Found<'a> {
     step: StepRef<'a>,
     literals: Option<&'a [u8]>,
 }
 
-/// Reads a line into the buffer: where it stands as it is written, without its literals, whose text is answered.
+/// Reads a line into the buffer. If the line is spelled as this program spells lines, its literals are not read, and their text is
+/// answered.
 fn read_apart<'a>(buffer: &mut StepBuffer, line: &'a [u8]) -> Result<Option<&'a [u8]>, TextFault>
     requires spelled { (step : Step) × SpellsStep line.now step }
     ensures { IfOk result (λ literals. (step : Step) → SpellsStep line.now step → IsHeld literals buffer.new step) }
 {
-    match read_around(buffer, line)? {
+    match read_without_literals(buffer, line)? {
         Some(literals) => Ok(Some(literals)),
         None => {
             read_line(buffer, line)?;
@@ -109,7 +109,7 @@ fn put_found(out: &mut Output<'_>, top: u64, found: Found<'_>) -> Result<(), Joi
     }
 }
 
-/// Appends the line of an addition that is held without its literals.
+/// Appends the line of an addition whose literals are given as text.
 fn put_apart(
     out: &mut Output<'_>,
     top: u64,
@@ -131,7 +131,7 @@ fn put_apart(
     }
 }
 
-/// Appends a step of a fragment, renumbered, and tells the number of the last addition.
+/// Appends a renumbered step of a fragment, and answers the number of the last addition.
 fn put_renumbered(
     out: &mut Output<'_>,
     numbers: &mut Vec<u64>,
@@ -174,10 +174,10 @@ fn put_renumbered(
     }
 }
 
-/// Appends a fragment's line, renumbered, and tells the number of the last addition.
+/// Appends a renumbered line of a fragment, and answers the number of the last addition.
 ///
-/// Of an addition that stands as it is written the whole line is copied where every number stays, as in a run with one
-/// leaf; elsewhere its literals are, and its number and hints alone are read.
+/// The line of an addition that is spelled as this program spells lines is copied whole if no number changes, as in a run with one
+/// leaf. Else the text of its literals is copied, and only its number and hints are read.
 fn put_fragment_line(
     out: &mut Output<'_>,
     scratch: &mut Scratch,
@@ -193,7 +193,7 @@ fn put_fragment_line(
     ensures top { (step : Step) → SpellsStep line.now step → IfOk result (λ n. n ≡ top_after top (renumbered (behind shift.base shift.begun) step)) }
 {
     if shift.is_none() {
-        if let Some(id) = written_id(line) {
+        if let Some(id) = canonical_id(line) {
             put_copy(out, line)?;
             return Ok(id);
         }
@@ -209,7 +209,7 @@ fn put_fragment_line(
     put_renumbered(out, &mut scratch.numbers, shift, top, found)
 }
 
-/// Reads the last line, if there is one: it may have been copied.
+/// Reads the last line, if there is one, since it may have been copied without being read.
 fn read_last(buffer: &mut StepBuffer, some: bool, last: &[u8]) -> Result<(), TextFault>
     ensures { OnOk result (MatchBool some (SpellsStep last.now buffer.new) (buffer.new ≡ buffer.old)) }
 {
@@ -220,7 +220,7 @@ fn read_last(buffer: &mut StepBuffer, some: bool, last: &[u8]) -> Result<(), Tex
     }
 }
 
-/// Appends a fragment, renumbered, and tells the number of the last addition; the buffer has the last step.
+/// Appends a renumbered fragment, and answers the number of the last addition. After it the buffer has the last step.
 pub(crate) fn put_fragment(
     alloc: Global,
     out: &mut Output<'_>,

@@ -1,29 +1,28 @@
-//! The text that is written.
+//! The joined text, packed as it is written.
 
 ghost use Rattle.std.specs.Prelude.{◌≡◌, ℕ, ◌<◌, List, ◌++◌, codes, length};
 ghost use Rattle.dimacs.specs.logic.Literal.{Literal};
 ghost use Rattle.lrat_text.specs.Grammar.{IsStep, IsClauseNumber};
 ghost use Rattle.lrat_text.specs.Steps.{step_of};
-ghost use Rattle.lrat_text.specs.Writing.{line_of, literals_text};
+ghost use Rattle.lrat_text.specs.WrittenLine.{line_of, literals_text};
 ghost use Rattle.lrat_text.specs.declared.step.Step.TheVariants as owned;
 ghost use Rattle.proof_join.specs.inner.Steps.{Writes};
 
 use crate::fault::JoinFault;
-use lrat_text::{Groups, StepRef, put_around, put_ref};
+use lrat_text::{Groups, StepRef, put_ref, put_with_literal_text};
 use packed_text::PackedText;
 use std::alloc::Global;
 use std::marker::Model;
 
-/// The text so far, packed. It lies in the blocks of another one as far as it is the same: the joined text of a tree with one leaf is
-/// mostly the leaf's fragment.
+/// The packed text so far. Blocks that are equal to those of `like` are shared with it: the joined text of a tree with one leaf is
+/// mostly a copy of the leaf's fragment.
 pub(crate) struct Output<'t> {
     text: PackedText,
     like: Option<&'t PackedText>,
-    /// The line that is put, so that its room is taken once.
+    /// The line that is being written; its memory is kept from line to line.
     line: Vec<u8>,
 }
 
-// By hand, so that whoever owns one drops it by one call, and no proof there goes through its parts.
 impl Drop for Output<'_> {
     fn drop(self) {
         let Output {
@@ -42,7 +41,7 @@ impl<'t> Model for Output<'t> {
     ghost view = { λ o. o.text };
 }
 
-/// Appends bytes, where the text stays below 2^32 bytes.
+/// Appends bytes; `TooLong` if the text would have 2^32 bytes or more.
 fn append(text: &mut PackedText, like: Option<&PackedText>, more: &[u8]) -> Result<(), JoinFault>
     ensures { Writes result text.new (text.old ++ more.now) }
 {
@@ -54,7 +53,7 @@ fn append(text: &mut PackedText, like: Option<&PackedText>, more: &[u8]) -> Resu
     limit(text)
 }
 
-/// A text stays below 2^32 bytes.
+/// `TooLong` if the text has 2^32 bytes or more.
 fn limit(text: &PackedText) -> Result<(), JoinFault>
     ensures { Writes result text.now text.now }
 {
@@ -65,7 +64,7 @@ fn limit(text: &PackedText) -> Result<(), JoinFault>
 }
 
 impl<'t> Output<'t> {
-    /// This text, to be appended to.
+    /// An output that goes on after this text.
     pub(crate) fn behind(
         alloc: Global,
         text: PackedText,
@@ -93,7 +92,7 @@ impl<'t> Output<'t> {
     }
 }
 
-/// Appends a step's line, where the text stays below 2^32 bytes.
+/// Appends a step's line.
 pub(crate) fn put_line(out: &mut Output<'_>, top: u64, step: StepRef<'_>) -> Result<(), JoinFault>
     requires limits { IsStep (step_of step) }
     requires numbered { IsClauseNumber top }
@@ -104,7 +103,7 @@ pub(crate) fn put_line(out: &mut Output<'_>, top: u64, step: StepRef<'_>) -> Res
     append(&mut out.text, out.like, &out.line)
 }
 
-/// Appends the line of an addition whose literals are given as their text, where the text stays below 2^32 bytes.
+/// Appends the line of an addition whose literals are given as text.
 pub(crate) fn put_addition(
     out: &mut Output<'_>,
     id: u64,
@@ -115,11 +114,11 @@ pub(crate) fn put_addition(
     ensures { (top : ℕ) (lits : List Literal) → literals.now ≡ literals_text lits → Writes result out.new (out.old ++ line_of top (owned.Add id lits hints.now groups.now)) }
 {
     out.line.clear();
-    put_around(id, literals, hints, groups, &mut out.line)?;
+    put_with_literal_text(id, literals, hints, groups, &mut out.line)?;
     append(&mut out.text, out.like, &out.line)
 }
 
-/// Appends a line as it stands, where the text stays below 2^32 bytes.
+/// Appends a copy of a line.
 pub(crate) fn put_copy(out: &mut Output<'_>, line: &[u8]) -> Result<(), JoinFault>
     ensures { Writes result out.new (out.old ++ (line.now ++ codes "\n")) }
 {

@@ -1,4 +1,4 @@
-//! The lines that stand before those of the leaves.
+//! The preamble's lines: unit clauses, and definitions.
 
 ghost use Rattle.std.specs.Prelude.{◌≡◌, ◌+◌, ◌*◌, ◌^◌, ◌<◌, ◌≤◌, ◌++◌, length, All, IfOk};
 ghost use Rattle.cube_split.specs.Definitions.{IsPairOf, base_with};
@@ -6,7 +6,7 @@ ghost use Rattle.dimacs.specs.logic.Base.{pure_literals};
 ghost use Rattle.dimacs.specs.logic.Literal.{IsWithin};
 ghost use Rattle.lrat_text.specs.Runs.{text_of};
 ghost use Rattle.proof_join.specs.Definitions.{all_steps, definition_steps, preamble_steps};
-ghost use Rattle.proof_join.specs.Joining.{unit_steps};
+ghost use Rattle.proof_join.specs.JoinedProof.{unit_steps};
 ghost use Rattle.proof_join.specs.inner.Steps.{Writes};
 
 use crate::fault::JoinFault;
@@ -16,7 +16,7 @@ use dimacs::{Formula, Lit, Var};
 use lrat_text::{Groups, StepRef};
 use std::alloc::Global;
 
-/// Appends the unit clauses of a preamble, numbered on behind `top`, and tells the number of the last one.
+/// Appends the unit clauses of a preamble under the numbers after `top`, and answers the last number.
 fn put_units(alloc: Global, out: &mut Output<'_>, top: u64, units: &[Lit]) -> Result<u64, JoinFault>
     requires few { (top ≤ 4000000) × (length units.now ≤ 1000000) }
     requires within { All (IsWithin 2000000) units.now }
@@ -40,7 +40,7 @@ fn put_units(alloc: Global, out: &mut Output<'_>, top: u64, units: &[Lit]) -> Re
     Ok(last)
 }
 
-/// Appends the three lines that define a variable by a pair, numbered on behind `top`.
+/// Appends the three lines that define a variable as the conjunction of a pair, under the numbers after `top`.
 fn put_definition(
     alloc: Global,
     out: &mut Output<'_>,
@@ -81,8 +81,7 @@ fn put_definition(
     put_line(out, top + 3, other)
 }
 
-/// Appends the lines that define a variable behind `vars` by each pair, numbered on behind `top`, and tells the number of the
-/// last one.
+/// Appends the lines that define the variables after `vars`, one for each pair, under the numbers after `top`, and answers the last number.
 fn put_definitions(
     alloc: Global,
     out: &mut Output<'_>,
@@ -106,7 +105,7 @@ fn put_definitions(
     Ok(last)
 }
 
-/// Appends a preamble's lines, and tells the number of the last one, or of the last clause where there is none.
+/// Appends a preamble's lines, and answers the last number, which is the formula's number of clauses if there is no line.
 pub(crate) fn put_preamble(
     alloc: Global,
     out: &mut Output<'_>,

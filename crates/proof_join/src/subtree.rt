@@ -1,9 +1,9 @@
-//! The clauses that stand for subtrees.
+//! The clause that each subtree proves: a leaf's last clause, or a fork's resolvent.
 
 ghost use Rattle.std.specs.Prelude.{◌≡◌, ◌+◌, ◌^◌, ◌<◌, ◌≤◌, ◌++◌, ◌∷◌, [], ◌||◌, true, false, List, map, filter, length, take, All, OnOk, IfOk};
 ghost use Rattle.dimacs.specs.logic.Literal.{Clause, IsWithin, negation, has};
 ghost use Rattle.lrat_text.specs.declared.step.Step.{Step};
-ghost use Rattle.proof_join.specs.Joining.{leaf_part, resolvent};
+ghost use Rattle.proof_join.specs.JoinedProof.{leaf_part, resolvent};
 ghost use Rattle.lrat_text.specs.Runs.{text_of};
 ghost use Rattle.proof_join.specs.Steps.{own_part, steps_in};
 ghost use Rattle.proof_join.specs.inner.Steps.{IsFragment, Writes, clause_of};
@@ -16,14 +16,14 @@ use lrat_text::{Groups, StepBuffer, StepRef};
 use packed_text::PackedText;
 use std::alloc::{AllocError, Global};
 
-/// The clause that stands for a subtree, and its number.
+/// The clause that a subtree proves, and its number. It has negations of literals of the path to the subtree, and no other literal.
 #[derive(Drop)]
 pub(crate) struct Subtree {
     pub(crate) id: u64,
     pub(crate) clause: Vec<Lit>,
 }
 
-/// The text so far with the number of its last addition, and what fragments are read into.
+/// The text so far with the number of its last addition, and the buffers in which fragments are read.
 #[derive(Drop)]
 pub(crate) struct Writer<'t> {
     pub(crate) out: Output<'t>,
@@ -31,7 +31,7 @@ pub(crate) struct Writer<'t> {
     pub(crate) scratch: Scratch,
 }
 
-/// The negations of the path's literals that stand negated in one of two clauses.
+/// The resolvent of a fork's two clauses: the negations of those literals of the path that are negated in one of the clauses.
 fn resolve(alloc: Global, path: &[Lit], left: &[Lit], right: &[Lit]) -> Result<Vec<Lit>, AllocError>
     ensures { IfOk result (λ c. c.items ≡ resolvent path.now left.now right.now) }
 {
@@ -55,7 +55,7 @@ fn last_clause(alloc: Global, buffer: &StepBuffer) -> Result<Vec<Lit>, AllocErro
     }
 }
 
-/// Appends a leaf's fragment, whose numbers behind `base` go on behind those written.
+/// Appends a leaf's fragment; its numbers above `base` go on after the last one written.
 pub(crate) fn put_leaf(
     alloc: Global,
     writer: &mut Writer<'_>,
@@ -86,7 +86,8 @@ pub(crate) fn put_leaf(
     })
 }
 
-/// Appends the line of a fork behind those of its branches, where one is needed.
+/// Appends the line of a fork after those of its branches. It needs none if the clause of a branch does not have the negation of the
+/// branch's literal, since that clause proves the fork too.
 pub(crate) fn put_fork(
     alloc: Global,
     writer: &mut Writer<'_>,

@@ -12,7 +12,7 @@ pub mod ReachLemmas
 pub mod ReachedLemmas
 pub mod ReadyLemmas
 pub mod SoundLemmas
-pub mod StandLemmas
+pub mod ImageLemmas
 pub mod StreamLemmas
 pub mod TakenLemmas
 pub mod TrimLemmas

@@ -13,7 +13,7 @@ use Rattle.dimacs.proofs.Members.{Contains-head, Contains-cons, Contains-cons_ca
 use Rattle.lrat_text.specs.Log.{Cube}
 use Rattle.lrat_text.specs.Proof.{without}
 use Rattle.lrat_text.proofs.ClauseMapLemmas.{get_other, none_some, numbered_between}
-use Rattle.proof_lift.specs.Trimming.{union}
+use Rattle.proof_lift.specs.TrimmedLemma.{union}
 use Rattle.proof_lift.specs.inner.Linked.{IsUnion, AreUpTo}
 
 -- ---- the numbers of live clauses are at most the last number

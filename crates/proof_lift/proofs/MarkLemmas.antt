@@ -7,10 +7,10 @@ use Rattle.std.proofs.lemmas.List.Folds.{list_any-append}
 use Rattle.dimacs.specs.logic.Literal.{Literal, Clause, negation, same, index_of, has}
 use Rattle.dimacs.specs.logic.Propagation.{Assumed, negations, with_literal}
 use Rattle.dimacs.proofs.LiteralLemmas.{same-negation, negation-negation, same_or_not, same-itself, same-false, same-true}
-use Rattle.lrat_check.specs.inner.Table.{FitsTable}
+use Rattle.lrat_check.specs.inner.LiteralTable.{FitsTable}
 use Rattle.lrat_check.proofs.Places.{assumed_by-set, index_of-injective, member_below}
-use Rattle.proof_lift.specs.Lifting.{is_met}
-use Rattle.proof_lift.specs.Trimming.{union, used_before}
+use Rattle.proof_lift.specs.LiftedText.{is_met}
+use Rattle.proof_lift.specs.TrimmedLemma.{union, used_before}
 use Rattle.proof_lift.specs.inner.Tables.{marked, AllBelow}
 
 -- ---- stamps below a number
@@ -44,7 +44,7 @@ pub met_here : (marks : List ℕ) (stamp : ℕ) (cube : List Literal) (i : ℕ) 
 met_here marks stamp cube i x C below at in_it is =
     rw (drop-cons cube i x) (ap (λ b. b || is_met (drop (suc i) cube) C) (ap (has C) (sym at ∙ sym (negation-negation x)) ∙ sym (ap (λ (α : Assumed). α (negation x)) is) ∙ in_it))
 
--- one literal more behind a clause
+-- one literal more after a clause
 swapped : (a b : Bool) → (a || b) ≡ (b || (a || false))
 swapped true true = refl
 swapped true false = refl

@@ -1,4 +1,4 @@
--- Unit propagation to its end: where nothing is left to propagate and no clause is false, no walk ends in a conflict.
+-- Unit propagation to its end: if nothing is left to propagate and no clause is false, no hints end in a conflict.
 use Rattle.std.proofs.Common.{◌≡◌, ◌≢◌, ℕ, inl, inr, Bool, true, false, not, List, [], ◌∷◌, ◌++◌, Option, Some, None, cond, refl, sym, ◌∙◌, ap, subst, append_assoc}
 use Rattle.std.specs.Prelude.{All}
 use Rattle.std.specs.List.{Contains, list_any, list_all}
@@ -8,31 +8,31 @@ use Rattle.dimacs.specs.logic.Literal.{Literal, Pos, Neg, Clause, negation, same
 use Rattle.dimacs.specs.logic.Propagation.{Assumed, with_literal}
 use Rattle.dimacs.proofs.LiteralLemmas.{same-true, same-itself, same_or_not, negation-negation}
 use Rattle.dimacs.proofs.Members.{Contains-head, Contains-cons, Contains-filter}
-use Rattle.lrat_check.specs.Faults.{Status, Satisfied, Falsified, Unit, Undecided, status, status_of_free, not_false}
+use Rattle.lrat_check.specs.StepFaults.{Status, Satisfied, Falsified, Unit, Undecided, status, status_of_free, not_false}
 use Rattle.lrat_check.proofs.Exact.{falsified_false, unit_is, list_all_from}
 use Rattle.lrat_text.specs.Grammar.{IsClauseNumber}
-use Rattle.proof_lift.specs.Walking.{Stand, Gone, Kept, Stands, Passed, Outcome, Open, Closed, Wrong, along, walk_status, walk_hint, lift_walk}
-use Rattle.proof_lift.specs.inner.Reaching.{IsConflict, Conflicts, Reaches, IsSettled}
+use Rattle.proof_lift.specs.HintWalk.{ClauseImage, Gone, Kept, ClauseImages, Passed, WalkOutcome, Open, Closed, Wrong, along, walk_status, walk_hint, lift_walk}
+use Rattle.proof_lift.specs.inner.Propagation.{IsConflict, Conflicts, Reaches, IsSettled}
 use Rattle.proof_lift.proofs.FoundLemmas.{any_member, member_any, satisfied}
 
 -- ---- conflicts
-conflict_along : (p : Passed) (w : Outcome) → IsConflict w → IsConflict (along p w)
+conflict_along : (p : Passed) (w : WalkOutcome) → IsConflict w → IsConflict (along p w)
 conflict_along p Open c = c
 conflict_along p (Closed ps last conflict) c = c
 conflict_along p (Wrong number) c = c
 
-along_conflict : (p : Passed) (w : Outcome) → IsConflict (along p w) → IsConflict w
+along_conflict : (p : Passed) (w : WalkOutcome) → IsConflict (along p w) → IsConflict w
 along_conflict p Open c = c
 along_conflict p (Closed ps last conflict) c = c
 along_conflict p (Wrong number) c = c
 
-pub conflict_closed : (w : Outcome) → IsConflict w → (ps : List Passed) × (last : ℕ) × (C : Clause) × (w ≡ Closed ps last C)
+pub conflict_closed : (w : WalkOutcome) → IsConflict w → (ps : List Passed) × (last : ℕ) × (C : Clause) × (w ≡ Closed ps last C)
 conflict_closed Open c = absurd c
 conflict_closed (Closed ps last conflict) c = (ps, last, conflict, refl)
 conflict_closed (Wrong number) c = absurd c
 
 -- ---- one hint more
-one_more : (T : Stands) (B : Assumed) (n i : ℕ) (D : Clause) (s : Status) (later : List ℕ) → T n ≡ Some (Kept i D) → s ≡ status B D
+one_more : (T : ClauseImages) (B : Assumed) (n i : ℕ) (D : Clause) (s : Status) (later : List ℕ) → T n ≡ Some (Kept i D) → s ≡ status B D
     → lift_walk T (n ∷ later) B ≡ walk_status i D B (λ E. lift_walk T later E) s
 one_more T B n i D s later at is = ap (walk_hint B (λ E. lift_walk T later E)) at ∙ ap (walk_status i D B (λ E. lift_walk T later E)) (sym is)
 
@@ -53,7 +53,7 @@ no_pair_joins A B l free pairs k t u = elim (or_cases (same k l) (B k) t) [
     never_same (Pos v) e = absurd cc
     never_same (Neg v) e = absurd cc
 
-pub reaches_unit : (T : Stands) (A B : Assumed) (hints : List ℕ) (n i : ℕ) (D : Clause) (l : Literal) → Reaches T A hints B → IsClauseNumber n → T n ≡ Some (Kept i D) → Unit l ≡ status B D
+pub reaches_unit : (T : ClauseImages) (A B : Assumed) (hints : List ℕ) (n i : ℕ) (D : Clause) (l : Literal) → Reaches T A hints B → IsClauseNumber n → T n ≡ Some (Kept i D) → Unit l ≡ status B D
     → Reaches T A (hints ++ n ∷ []) (with_literal B l)
 reaches_unit T A B hints n i D l r number at is = record {
   numbers = All-push IsClauseNumber hints n r.numbers number;
@@ -65,7 +65,7 @@ reaches_unit T A B hints n i D l r number at is = record {
       (subst IsConflict (sym (one_more T B n i D (Unit l) later at is)) (conflict_along (record { number = i; clause = D; unit = l }) (lift_walk T later (with_literal B l)) c)));
 }
 
-pub reaches_false : (T : Stands) (A B : Assumed) (hints : List ℕ) (n i : ℕ) (D : Clause) → Reaches T A hints B → IsClauseNumber n → T n ≡ Some (Kept i D) → Falsified ≡ status B D → Conflicts T A (hints ++ n ∷ [])
+pub reaches_false : (T : ClauseImages) (A B : Assumed) (hints : List ℕ) (n i : ℕ) (D : Clause) → Reaches T A hints B → IsClauseNumber n → T n ≡ Some (Kept i D) → Falsified ≡ status B D → Conflicts T A (hints ++ n ∷ [])
 reaches_false T A B hints n i D r number at is = record {
   numbers = All-push IsClauseNumber hints n r.numbers number;
   conflict = r.leads (n ∷ []) (subst IsConflict (sym (one_more T B n i D Falsified [] at is)) tt);
@@ -136,8 +136,8 @@ between_more A C B l b t = record {
   pairs = b.pairs;
 }
 
-one_hint : (A B : Assumed) (next : Assumed → Outcome) → ((C : Assumed) → IsBetween A C B → IsConflict (next C) → ⊥) → (C : Assumed) → IsBetween A C B
-    → (o : Option Stand) → ((i : ℕ) (D : Clause) → o ≡ Some (Kept i D) → IsSettled B D) → IsConflict (walk_hint C next o) → ⊥
+one_hint : (A B : Assumed) (next : Assumed → WalkOutcome) → ((C : Assumed) → IsBetween A C B → IsConflict (next C) → ⊥) → (C : Assumed) → IsBetween A C B
+    → (o : Option ClauseImage) → ((i : ℕ) (D : Clause) → o ≡ Some (Kept i D) → IsSettled B D) → IsConflict (walk_hint C next o) → ⊥
 one_hint A B next never C b None settled c = c
 one_hint A B next never C b (Some Gone) settled c = never C b c
 one_hint A B next never C b (Some (Kept i D)) settled c = at (status C D) refl c
@@ -149,7 +149,7 @@ one_hint A B next never C b (Some (Kept i D)) settled c = at (status C D) refl c
         never (with_literal C l) (between_more A C B l b (unit_is_high A C B D l b (settled i D refl) is)) (along_conflict (record { number = i; clause = D; unit = l }) (next (with_literal C l)) h)
     at Undecided is h = h
 
-pub never_closes : (T : Stands) (A B : Assumed) → ((n i : ℕ) (D : Clause) → T n ≡ Some (Kept i D) → IsClauseNumber n → IsSettled B D) → (hints : List ℕ) → All IsClauseNumber hints
+pub never_closes : (T : ClauseImages) (A B : Assumed) → ((n i : ℕ) (D : Clause) → T n ≡ Some (Kept i D) → IsClauseNumber n → IsSettled B D) → (hints : List ℕ) → All IsClauseNumber hints
     → (C : Assumed) → IsBetween A C B → IsConflict (lift_walk T hints C) → ⊥
 never_closes T A B settled [] numbers C b c = c
 never_closes T A B settled (n ∷ hints) numbers C b c =

@@ -1,4 +1,4 @@
--- Whatever text is lifted, what it is lifted to closes the cube.
+-- If a text is lifted, the result closes the cube.
 use Rattle.std.proofs.Common.{◌≡◌, ℕ, ◌+◌, ◌-◌, ◌<◌, ◌≤◌, ◌^◌, inl, inr, Bool, true, false, List, [], ◌∷◌, ◌++◌, Some, Result, Ok, Err, cond, refl, sym, ◌∙◌, ap, subst, length, arith, append_assoc}
 use Rattle.std.specs.Prelude.{All}
 use Rattle.std.specs.List.{AllByRecursion, Contains}
@@ -14,9 +14,9 @@ use Rattle.dimacs.specs.text.Words.{lines}
 use Rattle.dimacs.proofs.Members.{Contains-nil}
 use Rattle.lrat_text.specs.Grammar.{IsClauseNumber, IsStep, IsGroup, LineSpells}
 use Rattle.lrat_text.specs.Log.{Cube, AreLogSteps, EndsAt, Closes}
-use Rattle.lrat_text.specs.Reading.{step_in}
+use Rattle.lrat_text.specs.Parser.{step_in}
 use Rattle.lrat_text.specs.Runs.{after_steps, top_of, text_of}
-use Rattle.lrat_text.specs.Writing.{line_of, line_text}
+use Rattle.lrat_text.specs.WrittenLine.{line_of, line_text}
 use Rattle.lrat_text.specs.declared.fault.TextFault.{TextFault}
 use Rattle.lrat_text.specs.declared.step.Step.{Step}
 use Rattle.lrat_text.specs.declared.step.Step.TheVariants.{Add, Delete}
@@ -24,13 +24,13 @@ use Rattle.lrat_text.proofs.ClauseMapLemmas.{numbered_at}
 use Rattle.lrat_text.proofs.LineLemmas.{written_spells, written_one_line}
 use Rattle.lrat_text.proofs.RunLemmas.{log_append, spells_append}
 use Rattle.lrat_text.proofs.SpellingLemmas.{found_spells}
-use Rattle.lrat_check.specs.Faults.{is_none_left}
-use Rattle.proof_lift.specs.Walking.{Gone, Kept}
-use Rattle.proof_lift.specs.Trimming.{union, used, kept, trimmed}
-use Rattle.proof_lift.specs.Lifting.{State, Lifted, Text, with_stand, all_live, after_deletion, own_numbers, deletion, behind, lifted_step, lift_step, lift_line, lift_end, lift_pieces, by_pieces, lift_text, lift_of, begun}
+use Rattle.lrat_check.specs.StepFaults.{is_empty_clause}
+use Rattle.proof_lift.specs.HintWalk.{Gone, Kept}
+use Rattle.proof_lift.specs.TrimmedLemma.{union, used, kept, trimmed}
+use Rattle.proof_lift.specs.LiftedText.{LiftState, LiftedStep, LiftResult, with_image, all_live, after_deletion, own_numbers, deletion, prepend, lifted_step, lift_step, lift_line, lift_end, lift_pieces, by_pieces, lift_text, lift_of, begun}
 use Rattle.proof_lift.specs.Leaves.{IsCube}
-use Rattle.proof_lift.specs.inner.Linked.{IsLifting}
-use Rattle.proof_lift.specs.inner.Ready.{StandsSmall}
+use Rattle.proof_lift.specs.inner.Linked.{LiftInvariant}
+use Rattle.proof_lift.specs.inner.Ready.{ImagesSmall}
 use Rattle.proof_lift.specs.inner.Walks.{Trims}
 use Rattle.proof_lift.proofs.LiftedLemmas.{IsKept, addition_cases, kept_follows, lifting_gone, lifting_more, lifting_deleted, log_deletion, less, none_left, from_filter}
 use Rattle.proof_lift.proofs.MapLemmas.{union_is, up_to_formula}
@@ -41,22 +41,22 @@ one_spelled : (top : ℕ) (step : Step) → IsClauseNumber top → IsStep step �
 one_spelled top step number limits = (line_text top step, [], append-nil (line_of top step), written_one_line top step number limits, written_spells top step number limits, refl)
 
 -- what is kept between two steps
-pub record IsGoing (m : ℕ) (s : State) (N : ClauseMap) : Type 0 where
-  pub lifting : IsLifting m s.stands N s.own
-  pub small : StandsSmall s.stands
+pub record IsGoing (m : ℕ) (s : LiftState) (N : ClauseMap) : Type 0 where
+  pub lifting : LiftInvariant m s.stands N s.own
+  pub small : ImagesSmall s.stands
   pub last : (n i : ℕ) (D : Clause) → s.stands n ≡ Some (Kept i D) → i ≤ s.own
   pub below : s.own ≤ s.top
   pub room : s.own < 2 ^ 48
 
-pub record IsDone (q : Cube) (m : ℕ) (s : State) (N : ClauseMap) (steps : List Step) (s' : State) : Type 0 where
+pub record IsDone (q : Cube) (m : ℕ) (s : LiftState) (N : ClauseMap) (steps : List Step) (s' : LiftState) : Type 0 where
   pub going : IsGoing m s' (after_steps N steps)
   pub log : AreLogSteps m N s.own steps
   pub own : s'.own ≡ top_of s.own steps
   pub spells : LineSpells (text_of s.own steps) steps
   pub closes : s'.closed ≡ true → EndsAt q steps
 
-gone_done : (q : Cube) (m : ℕ) (s : State) (N : ClauseMap) (id : ℕ) → s.closed ≡ false → IsGoing m s N → s.top < id
-    → IsDone q m s N [] (record s { stands = with_stand s.stands id (Some Gone); top = id })
+gone_done : (q : Cube) (m : ℕ) (s : LiftState) (N : ClauseMap) (id : ℕ) → s.closed ≡ false → IsGoing m s N → s.top < id
+    → IsDone q m s N [] (record s { stands = with_image s.stands id (Some Gone); top = id })
 gone_done q m s N id still g rises = record {
   going = record {
     lifting = lifting_gone m s.stands N s.own id g.lifting;
@@ -71,10 +71,10 @@ gone_done q m s N id still g rises = record {
   closes = λ t. absurd (both_ways s.closed still t);
 }
 
-kept_done : (q : Cube) (m : ℕ) (s : State) (N : ClauseMap) (id : ℕ) (C : Clause) (hints : List ℕ) (steps : List Step) (s' : State) → (IsTautology q → ⊥) → All (IsWithin 2000000) q → IsClauseNumber id → All (IsWithin 2000000) C
+kept_done : (q : Cube) (m : ℕ) (s : LiftState) (N : ClauseMap) (id : ℕ) (C : Clause) (hints : List ℕ) (steps : List Step) (s' : LiftState) → (IsTautology q → ⊥) → All (IsWithin 2000000) q → IsClauseNumber id → All (IsWithin 2000000) C
     → IsGoing m s N → s.top < id → (k : IsKept q s id C hints steps s')
     → IsDone q m s N (Add (s.own + 1) (trimmed q C k.chain k.conflict) (kept k.chain k.conflict k.last) [] ∷ [])
-    (record { stands = with_stand s.stands id (Some (Kept (s.own + 1) (trimmed q C k.chain k.conflict))); top = id; own = s.own + 1; closed = is_none_left C })
+    (record { stands = with_image s.stands id (Some (Kept (s.own + 1) (trimmed q C k.chain k.conflict))); top = id; own = s.own + 1; closed = is_empty_clause C })
 kept_done q m s N id C hints steps s' none cube number lits g rises k = record {
   going = record {
     lifting = lifting_more m s.stands N s.own id D g.lifting;
@@ -113,13 +113,13 @@ kept_done q m s N id C hints steps s' none cube number lits g rises k = record {
     numbers = trims_numbers s.stands hints (negations (union q C)) (union q C) (trimmed q C k.chain k.conflict) (kept k.chain k.conflict k.last) g.small
         (subst (λ w. Trims (union q C) w (trimmed q C k.chain k.conflict) (kept k.chain k.conflict k.last)) (sym k.walk) (refl, refl))
 
-    negates : is_none_left C ≡ true → (l : Literal) → Contains (trimmed q C k.chain k.conflict) l → Contains q (negation l)
+    negates : is_empty_clause C ≡ true → (l : Literal) → Contains (trimmed q C k.chain k.conflict) l → Contains q (negation l)
     negates t l h = elim ((union_is q C).within l (from_filter (λ j. used k.chain k.conflict (negation j)) (union q C) l h)) [
       | inl c ↦ absurd (Contains-nil l (subst (λ F. Contains F l) (none_left C t) c))
       | inr x ↦ x
     ]
 
-deletion_done : (q : Cube) (m : ℕ) (s : State) (N : ClauseMap) (ids : List ℕ) → s.closed ≡ false → IsGoing m s N
+deletion_done : (q : Cube) (m : ℕ) (s : LiftState) (N : ClauseMap) (ids : List ℕ) → s.closed ≡ false → IsGoing m s N
     → IsDone q m s N (deletion (own_numbers m s.stands ids)) (record s { stands = after_deletion s.stands ids })
 deletion_done q m s N ids still g = record {
   going = record {
@@ -147,53 +147,53 @@ deletion_done q m s N ids still g = record {
         let room = g.room in
         one_spelled s.own (Delete (n ∷ ns)) (omega arith, room) (All-from_recursion IsClauseNumber (n ∷ ns) (first_part s.own (n ∷ ns) h))
 
-pub step_done : (q : Cube) (m : ℕ) (s : State) (N : ClauseMap) (step : Step) (steps : List Step) (s' : State) → (IsTautology q → ⊥) → All (IsWithin 2000000) q → IsStep step → s.closed ≡ false → IsGoing m s N
+pub step_done : (q : Cube) (m : ℕ) (s : LiftState) (N : ClauseMap) (step : Step) (steps : List Step) (s' : LiftState) → (IsTautology q → ⊥) → All (IsWithin 2000000) q → IsStep step → s.closed ≡ false → IsGoing m s N
     → lift_step q m s step ≡ Ok (steps, s') → IsDone q m s N steps s'
 step_done q m s N (Add id C hints groups) steps s' none cube limits still g e =
     let c = addition_cases q s id C hints groups steps s' e in
     elim c.1 [
-      | inl gone ↦ subst (λ st. IsDone q m s N steps st) (sym gone.leaves) (subst (λ ss. IsDone q m s N ss (record s { stands = with_stand s.stands id (Some Gone); top = id })) (sym gone.writes) (gone_done q m s N id still g c.0))
+      | inl gone ↦ subst (λ st. IsDone q m s N steps st) (sym gone.leaves) (subst (λ ss. IsDone q m s N ss (record s { stands = with_image s.stands id (Some Gone); top = id })) (sym gone.writes) (gone_done q m s N id still g c.0))
       | inr k ↦
           subst (λ st. IsDone q m s N steps st) (sym k.leaves)
-          (subst (λ ss. IsDone q m s N ss (record { stands = with_stand s.stands id (Some (Kept (s.own + 1) (trimmed q C k.chain k.conflict))); top = id; own = s.own + 1; closed = is_none_left C })) (sym k.writes)
+          (subst (λ ss. IsDone q m s N ss (record { stands = with_image s.stands id (Some (Kept (s.own + 1) (trimmed q C k.chain k.conflict))); top = id; own = s.own + 1; closed = is_empty_clause C })) (sym k.writes)
           (kept_done q m s N id C hints steps s' none cube limits.0 limits.1 g c.0 k))
     ]
 step_done q m s N (Delete ids) steps s' none cube limits still g e = at (all_live s.stands ids) e
   where
-    S : State
+    S : LiftState
     S = record s { stands = after_deletion s.stands ids }
 
-    first : Lifted → List Step
+    first : LiftedStep → List Step
     first (Ok p) = p.0
     first (Err n) = steps
 
-    second : Lifted → State
+    second : LiftedStep → LiftState
     second (Ok p) = p.1
     second (Err n) = s'
 
-    at : (b : Bool) → cond {A = Lifted} b (Ok (deletion (own_numbers m s.stands ids), record s { stands = after_deletion s.stands ids })) (Err 3) ≡ Ok (steps, s') → IsDone q m s N steps s'
+    at : (b : Bool) → cond {A = LiftedStep} b (Ok (deletion (own_numbers m s.stands ids), record s { stands = after_deletion s.stands ids })) (Err 3) ≡ Ok (steps, s') → IsDone q m s N steps s'
     at true h =
         subst (λ st. IsDone q m s N steps st) (ap second h) (subst (λ ss. IsDone q m s N ss (record s { stands = after_deletion s.stands ids })) (ap first h) (deletion_done q m s N ids still g))
     at false h = absurd cc
 
 -- ---- texts
-pub behind_ok : (front : List ℕ) (t : Text) (out : List ℕ) → behind front t ≡ Ok out → (rest : List ℕ) × (t ≡ Ok rest) × (front ++ rest ≡ out)
+pub behind_ok : (front : List ℕ) (t : LiftResult) (out : List ℕ) → prepend front t ≡ Ok out → (rest : List ℕ) × (t ≡ Ok rest) × (front ++ rest ≡ out)
 behind_ok front (Ok rest) out e = (rest, refl, is e)
   where
-    is : ◌≡◌ {A = Text} (Ok (front ++ rest)) (Ok out) → front ++ rest ≡ out
+    is : ◌≡◌ {A = LiftResult} (Ok (front ++ rest)) (Ok out) → front ++ rest ≡ out
     is h = cc
 behind_ok front (Err fault) out e = absurd cc
 
 -- what is written from here on
-pub record IsRest (q : Cube) (m : ℕ) (s : State) (N : ClauseMap) (out : List ℕ) : Type 0 where
+pub record IsRest (q : Cube) (m : ℕ) (s : LiftState) (N : ClauseMap) (out : List ℕ) : Type 0 where
   pub done : s.closed ≡ true → out ≡ []
   pub more : s.closed ≡ false → (steps : List Step) × LineSpells out steps × AreLogSteps m N s.own steps × EndsAt q steps
 
 ends_behind : (q : Cube) (front steps : List Step) → EndsAt q steps → EndsAt q (front ++ steps)
 ends_behind q front steps (before, last, is, negates) = (front ++ before, last, ap (λ ss. front ++ ss) is ∙ sym (append_assoc front before (last ∷ [])), negates)
 
--- a step's text, and what is behind it
-step_rest : (q : Cube) (m : ℕ) (s : State) (N : ClauseMap) (steps : List Step) (s' : State) (rest out : List ℕ) → IsDone q m s N steps s' → IsRest q m s' (after_steps N steps) rest → text_of s.own steps ++ rest ≡ out
+-- a step's text, and what is after it
+step_rest : (q : Cube) (m : ℕ) (s : LiftState) (N : ClauseMap) (steps : List Step) (s' : LiftState) (rest out : List ℕ) → IsDone q m s N steps s' → IsRest q m s' (after_steps N steps) rest → text_of s.own steps ++ rest ≡ out
     → (all : List Step) × LineSpells out all × AreLogSteps m N s.own all × EndsAt q all
 step_rest q m s N steps s' rest out d r is = at s'.closed refl
   where
@@ -212,23 +212,23 @@ step_rest q m s N steps s' rest out d r is = at s'.closed refl
           ends_behind q steps m'.0 m'.3,
         )
 
-pub pieces_close : (q : Cube) (m : ℕ) → (IsTautology q → ⊥) → All (IsWithin 2000000) q → (pieces : List (List ℕ)) (s : State) (N : ClauseMap) (line : ℕ) (piece out : List ℕ) → IsGoing m s N
+pub pieces_close : (q : Cube) (m : ℕ) → (IsTautology q → ⊥) → All (IsWithin 2000000) q → (pieces : List (List ℕ)) (s : LiftState) (N : ClauseMap) (line : ℕ) (piece out : List ℕ) → IsGoing m s N
     → lift_pieces q m s line piece pieces ≡ Ok out → IsRest q m s N out
 unfolding lift_pieces
 pieces_close q m none cube [] s N line piece out g e = by s.closed refl piece e
   where
     by : (b : Bool) → s.closed ≡ b → (p : List ℕ) → lift_end b line p ≡ Ok out → IsRest q m s N out
-    by true t [] h = record { done = λ _. (let is : ◌≡◌ {A = Text} (Ok []) (Ok out) = h in cc); more = λ f. absurd (both_ways s.closed f t) }
+    by true t [] h = record { done = λ _. (let is : ◌≡◌ {A = LiftResult} (Ok []) (Ok out) = h in cc); more = λ f. absurd (both_ways s.closed f t) }
     by false f [] h = absurd cc
     by b is (x ∷ p) h = absurd cc
 pieces_close q m none cube (next ∷ pieces) s N line piece out g e =
     at (step_in piece) refl e (λ s' N' rest g' h. pieces_close q m none cube pieces s' N' (line + 1) next rest g' h)
   where
-    later : State → Text
+    later : LiftState → LiftResult
     later s' = lift_pieces q m s' (line + 1) next pieces
 
-    by_step : (step : Step) → step_in piece ≡ Ok step → s.closed ≡ false → (r : Lifted) → lift_step q m s step ≡ r → lifted_step line s.own r (λ s'. lift_pieces q m s' (line + 1) next pieces) ≡ Ok out
-        → ((s' : State) (N' : ClauseMap) (rest : List ℕ) → IsGoing m s' N' → lift_pieces q m s' (line + 1) next pieces ≡ Ok rest → IsRest q m s' N' rest) → IsRest q m s N out
+    by_step : (step : Step) → step_in piece ≡ Ok step → s.closed ≡ false → (r : LiftedStep) → lift_step q m s step ≡ r → lifted_step line s.own r (λ s'. lift_pieces q m s' (line + 1) next pieces) ≡ Ok out
+        → ((s' : LiftState) (N' : ClauseMap) (rest : List ℕ) → IsGoing m s' N' → lift_pieces q m s' (line + 1) next pieces ≡ Ok rest → IsRest q m s' N' rest) → IsRest q m s N out
     by_step step reads still (Err number) is h on = absurd cc
     by_step step reads still (Ok (steps, s')) is h on =
         let d = step_done q m s N step steps s' none cube (found_spells piece step reads).limits still g is in
@@ -240,12 +240,12 @@ pieces_close q m none cube (next ∷ pieces) s N line piece out g e =
 
     by_line : (step : Step) → step_in piece ≡ Ok step → (b : Bool) → s.closed ≡ b
         → cond b (lift_pieces q m s (line + 1) next pieces) (lifted_step line s.own (lift_step q m s step) (λ s'. lift_pieces q m s' (line + 1) next pieces)) ≡ Ok out
-        → ((s' : State) (N' : ClauseMap) (rest : List ℕ) → IsGoing m s' N' → lift_pieces q m s' (line + 1) next pieces ≡ Ok rest → IsRest q m s' N' rest) → IsRest q m s N out
+        → ((s' : LiftState) (N' : ClauseMap) (rest : List ℕ) → IsGoing m s' N' → lift_pieces q m s' (line + 1) next pieces ≡ Ok rest → IsRest q m s' N' rest) → IsRest q m s N out
     by_line step reads true t h on = on s N out g h
     by_line step reads false f h on = by_step step reads f (lift_step q m s step) refl h on
 
     at : (r : Result Step TextFault) → step_in piece ≡ r → lift_line q m s line r (λ s'. lift_pieces q m s' (line + 1) next pieces) ≡ Ok out
-        → ((s' : State) (N' : ClauseMap) (rest : List ℕ) → IsGoing m s' N' → lift_pieces q m s' (line + 1) next pieces ≡ Ok rest → IsRest q m s' N' rest) → IsRest q m s N out
+        → ((s' : LiftState) (N' : ClauseMap) (rest : List ℕ) → IsGoing m s' N' → lift_pieces q m s' (line + 1) next pieces ≡ Ok rest → IsRest q m s' N' rest) → IsRest q m s N out
     at (Err fault) is h on = absurd cc
     at (Ok step) is h on = by_line step is s.closed refl h on
 

@@ -1,4 +1,4 @@
--- A part of a lemma with the literals that its hints use follows along those that are kept.
+-- The part of a lemma that its hints use follows by the hints that are used.
 use Rattle.std.proofs.Common.{◌≡◌, ◌≢◌, ℕ, inl, inr, Bool, true, false, not, ◌&&◌, List, [], ◌∷◌, cond, refl, sym, ap, subst}
 use Rattle.std.proofs.lemmas.Bool.{both_ways, cases_Bool, or_cases, or_left, or_right, and_from, and_parts, not_from_false, not-true, false_from_ne_true}
 use Rattle.dimacs.specs.logic.Literal.{Literal, Clause, IsTautology, negation, same, has}
@@ -6,12 +6,12 @@ use Rattle.dimacs.specs.logic.ClauseMap.{ClauseMap, live_in}
 use Rattle.dimacs.specs.logic.Propagation.{Assumed, negations, with_literal, IsFalse, IsUnit, Refutes, Rup}
 use Rattle.dimacs.proofs.LiteralLemmas.{same-true, same-is, same-false, negation-negation}
 use Rattle.dimacs.proofs.Members.{has-Contains, Contains-has}
-use Rattle.proof_lift.specs.Walking.{Passed}
-use Rattle.proof_lift.specs.Trimming.{used_before, used, kept}
+use Rattle.proof_lift.specs.HintWalk.{Passed}
+use Rattle.proof_lift.specs.TrimmedLemma.{used_before, used, kept}
 use Rattle.proof_lift.specs.inner.Linked.{ArePassed, IsTrimmed}
 use Rattle.proof_lift.proofs.WalkLemmas.{Within, with_both}
 
--- what is used before a hint is assumed there, but for the unit literal
+-- what is used before a hint is assumed there, except the unit literal
 without_unit : (A : Assumed) (U : Assumed) (l k : Literal) → Within U (with_literal A l) → U k ≡ true → k ≢ l → A k ≡ true
 without_unit A U l k h u n = elim (or_cases (same k l) (A k) (h k u)) [
   | inl s ↦ absurd (n (same-true k l s))
@@ -47,7 +47,7 @@ used_within N (p ∷ ps) A B conflict (live, unit, rest) f =
     at true e h = used_before_within A (used ps conflict) p unit h
     at false e h = skip_within A (used ps conflict) p.unit e h
 
--- what is used behind a hint is assumed once its unit literal joins what was used before it
+-- what is used after a hint is assumed once its unit literal joins what was used before it
 used_after : (U B : Assumed) (p : Passed) → Within (used_before p U) B → Within U (with_literal B p.unit)
 used_after U B p h k e = elim (cases_Bool (same k p.unit)) [
   | inl s ↦ or_left (same k p.unit) (B k) s

@@ -1,4 +1,4 @@
--- The formula of a leaf, its refutations, and what lifting makes of them.
+-- The formula of a leaf, its refutations, and the laws of what they are lifted to.
 use Rattle.std.specs.Prelude.{◌≡◌, ℕ, ◌<◌, List, [], ◌∷◌, ◌++◌, ◌⊎◌, Ok, All, IsSome, length, map, nat_eq}
 use Rattle.std.specs.List.{IsDistinct}
 use Rattle.std.specs.FinMap.{get, insert}
@@ -11,34 +11,34 @@ use Rattle.lrat_text.specs.Log.{Cube, Closes}
 use Rattle.lrat_text.specs.Proof.{without}
 use Rattle.lrat_text.specs.declared.step.Step.{Step}
 use Rattle.lrat_text.specs.declared.step.Step.TheVariants.{Add, Delete}
-use Rattle.proof_lift.specs.Lifting.{lift_of}
+use Rattle.proof_lift.specs.LiftedText.{lift_of}
 
--- a cube over a formula: literals of its variables, none of them with its negation
+-- a cube over a formula: literals of its variables, and no literal together with its negation
 pub record IsCube (F : Cnf) (q : Cube) : Type 0 where
   pub within : All (IsWithin F.vars) q
   pub no_pair : ¬ (IsTautology q)
 
--- the formula's clauses, and a unit clause for each literal of the cube
+-- a leaf's formula: the formula's clauses, and after them a unit clause for each literal of the cube
 abbrev pub leaf_of : Cube → Cnf → Cnf
 leaf_of q F = record { vars = F.vars; clauses = F.clauses ++ map (λ x. x ∷ []) q }
 
--- the steps add lemmas under rising numbers by reverse unit propagation, and delete distinct live clauses, up to the empty clause;
--- those behind it are free
+-- the steps add lemmas under rising numbers by reverse unit propagation, and delete distinct live clauses, up to the empty clause; the
+-- steps after it are free
 abbrev pub RefutesByRup : ClauseMap → ℕ → List Step → Type 0
 RefutesByRup M top [] = ⊥
 RefutesByRup M top (Add id lits hints groups ∷ steps) =
     (top < id) × (groups ≡ []) × Rup (live_in M) lits hints × ((lits ≡ []) ⊎ RefutesByRup (insert M id lits) id steps)
 RefutesByRup M top (Delete ids ∷ steps) = All (λ id. IsSome (get M id)) ids × IsDistinct nat_eq ids × RefutesByRup (without M ids) top steps
 
--- the text spells such steps over the formula
+-- the text spells steps that refute the formula by reverse unit propagation
 abbrev pub IsRefutation : Cnf → List ℕ → Type 0
 IsRefutation G text = (steps : List Step) × LineSpells text steps × RefutesByRup (map_of G) (length G.clauses) steps
 
--- bytes were put behind others, and with what was written before they close the cube
+-- bytes are appended to the second text, which gives the third; with the bytes of the first before them, they close the cube
 abbrev pub ClosesWith : Cnf → Cube → List ℕ → List ℕ → List ℕ → Type 0
 ClosesWith F q written before after = (appended : List ℕ) × (after ≡ before ++ appended) × Closes F q (written ++ appended)
 
--- whatever text is lifted, what it is lifted to closes the cube
+-- if a text is lifted, the result closes the cube
 abbrev pub LiftedTextsClose : Type 0
 LiftedTextsClose = (F : Cnf) (q : Cube) (text out : List ℕ) → IsFormula F → IsCube F q → lift_of F q text ≡ Ok out → Closes F q out
 

@@ -1,7 +1,7 @@
 pub mod Leaves
-pub mod Lifting
+pub mod LiftedText
 pub mod Stream
-pub mod Trimming
+pub mod TrimmedLemma
 pub mod View
-pub mod Walking
+pub mod HintWalk
 pub mod inner

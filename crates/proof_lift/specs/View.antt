@@ -1,26 +1,27 @@
--- What a lifter holds, as the value that contracts see.
+-- The tables of a lifter as the values of which contracts speak.
 use Rattle.std.specs.Prelude.{ℕ, List, Option, Some, None, map}
 use Rattle.std.specs.BTreeMap.{BTreeMap}
 use Rattle.proof_lift.specs.Stream.{Held}
-use Rattle.proof_lift.specs.Walking.{Stand, Gone, Kept}
-use Rattle.proof_lift.specs.declared.lemmas.Lemmas.{Lemmas}
-use Rattle.proof_lift.specs.declared.lemmas.Own.{Own}
-use Rattle.proof_lift.specs.declared.lifting.Lifting.{Lifting}
+use Rattle.proof_lift.specs.HintWalk.{ClauseImage, Gone, Kept}
+use Rattle.proof_lift.specs.declared.lemma_images.Lemmas.{Lemmas}
+use Rattle.proof_lift.specs.declared.lemma_images.LogLemma.{LogLemma}
+use Rattle.proof_lift.specs.declared.step_lifter.StepLifter.{StepLifter}
 
--- what stands for a lemma
-abbrev pub stand_of_own : Option Own → Stand
-stand_of_own None = Gone
-stand_of_own (Some own) = Kept own.number own.literals.items
+-- the image of a lemma, from the table's entry
+abbrev pub image_of_lemma : Option LogLemma → ClauseImage
+image_of_lemma None = Gone
+image_of_lemma (Some own) = Kept own.number own.literals.items
 
--- the live lemmas of a map
-abbrev pub entries_of : BTreeMap ℕ (Option Own) → List (ℕ × Stand)
-entries_of m = map (λ e. (e.0, stand_of_own e.1)) m.entries
+-- the live lemmas of a map, by foreign number, with their images
+abbrev pub entries_of : BTreeMap ℕ (Option LogLemma) → List (ℕ × ClauseImage)
+entries_of m = map (λ e. (e.0, image_of_lemma e.1)) m.entries
 
--- the live lemmas
-abbrev pub lemmas_of : Lemmas → List (List (ℕ × Stand))
+-- the live lemmas with their images, map by map
+abbrev pub lemmas_of : Lemmas → List (List (ℕ × ClauseImage))
 lemmas_of x = map entries_of x.maps.items
 
-abbrev pub held_of : Lifting → Held
+-- the state between two lines, from the fields of a lifter
+abbrev pub held_of : StepLifter → Held
 held_of x = record {
   formula = x.images.formula;
   cube = x.cube.items;

@@ -1,15 +1,15 @@
 -- What only private contracts, invariants and proofs name. Nothing here is to be believed.
 pub mod Clean
-pub mod Closing
+pub mod EmptyLemma
 pub mod Faults
 pub mod Images
 pub mod Lines
 pub mod Linked
 pub mod Reached
-pub mod Reaching
+pub mod Propagation
 pub mod Ready
 pub mod Statuses
 pub mod Stream
 pub mod Tables
 pub mod Walks
-pub mod Writing
+pub mod Output

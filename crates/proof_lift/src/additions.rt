@@ -1,34 +1,34 @@
-//! How a lemma is lifted.
+//! The lifting of a lemma's addition: the lemma is dropped, or its image is derived and written.
 
 ghost use Rattle.std.specs.Prelude.{◌≡◌, ◌<◌, ◌≤◌, ◌+◌, ◌⊎◌, ◌++◌, [], Err, Some, OnOk, IfErr, length, All};
 ghost use Rattle.dimacs.specs.logic.Literal.{IsWithin};
 ghost use Rattle.dimacs.specs.logic.Propagation.{negations};
 ghost use Rattle.lrat_text.specs.Grammar.{IsClauseNumber};
-ghost use Rattle.lrat_text.specs.Writing.{line_of};
+ghost use Rattle.lrat_text.specs.WrittenLine.{line_of};
 ghost use Rattle.lrat_text.specs.declared.step.Step.TheVariants as owned;
-ghost use Rattle.proof_lift.specs.Lifting.{lift_addition, lift_lemma, with_stand};
-ghost use Rattle.proof_lift.specs.Trimming.{union};
-ghost use Rattle.proof_lift.specs.Walking.{lift_walk, Gone, Kept};
+ghost use Rattle.proof_lift.specs.LiftedText.{lift_addition, lift_lemma, with_image};
+ghost use Rattle.proof_lift.specs.TrimmedLemma.{union};
+ghost use Rattle.proof_lift.specs.HintWalk.{lift_walk, Gone, Kept};
 ghost use Rattle.proof_lift.specs.inner.Faults.{line_fault_number};
-ghost use Rattle.proof_lift.specs.inner.Images.{stands_of};
-ghost use Rattle.proof_lift.specs.inner.Ready.{IsReady, IsAssumed, IsSame, SameLeaf, state_of};
-ghost use Rattle.proof_lift.specs.inner.Writing.{WritesAs, IsFront};
+ghost use Rattle.proof_lift.specs.inner.Images.{images_of};
+ghost use Rattle.proof_lift.specs.inner.Ready.{IsReady, IsAssumed, KeepsTables, SameLeaf, state_of};
+ghost use Rattle.proof_lift.specs.inner.Output.{WritesAs, IsPrefix};
 
 use crate::fault::LineFault;
-use crate::lemmas::Own;
-use crate::lifting::{Lemma, Lifting};
+use crate::lemma_images::LogLemma;
 use crate::marks::{assume_negations, join_cube, meets};
+use crate::step_lifter::{Lemma, StepLifter};
 use dimacs::Lit;
 use lrat_text::{Groups, StepRef, put_ref};
 
-impl Lifting {
-    /// Nothing stands for a lemma that has a literal of the cube.
+impl StepLifter {
+    /// Drops a lemma that has a literal of the cube: no image is written, and none is needed.
     fn pass(&mut self, id: u64) -> Result<(), LineFault>
         requires lemma { self.old.top < id }
         requires live { length self.old.images.live.items ≤ self.old.top + 1 }
-        ensures stands { OnOk result (stands_of self.new.images ≡ with_stand (stands_of self.old.images) id (Some Gone)) }
+        ensures stands { OnOk result (images_of self.new.images ≡ with_image (images_of self.old.images) id (Some Gone)) }
         ensures counts { OnOk result ((self.new.top ≡ id) × (self.new.own ≡ self.old.own) × (self.new.closed ≡ self.old.closed)) }
-        ensures same { OnOk result (IsSame self.old self.new) }
+        ensures same { OnOk result (KeepsTables self.old self.new) }
         ensures refused { IfErr result (λ f. f ≡ LineFault.NoMemory) }
     {
         self.images.put(id, None)?;
@@ -36,7 +36,7 @@ impl Lifting {
         Ok(())
     }
 
-    /// Writes a lemma in the place of the foreign one of this number.
+    /// Writes the image of the foreign lemma of this number: `literals` as the log's next lemma, with the hints in `scratch.numbers`.
     fn write(
         &mut self,
         id: u64,
@@ -49,12 +49,12 @@ impl Lifting {
         requires number { IsClauseNumber (self.old.own + 1) }
         requires literals { All (IsWithin 2000000) literals.items }
         requires hints { All IsClauseNumber self.old.scratch.numbers.items }
-        ensures stands { OnOk result (stands_of self.new.images ≡ with_stand (stands_of self.old.images) id (Some (Kept (self.old.own + 1) literals.items))) }
+        ensures stands { OnOk result (images_of self.new.images ≡ with_image (images_of self.old.images) id (Some (Kept (self.old.own + 1) literals.items))) }
         ensures counts { OnOk result ((self.new.top ≡ id) × (self.new.own ≡ self.old.own + 1) × (self.new.closed ≡ empty)) }
         ensures text { OnOk result (out.new.items ≡ out.old.items ++ line_of (self.old.own + 1) (owned.Add (self.old.own + 1) literals.items self.old.scratch.numbers.items [])) }
-        ensures same { OnOk result (IsSame self.old self.new) }
+        ensures same { OnOk result (KeepsTables self.old self.new) }
         ensures refused { IfErr result (λ f. f ≡ LineFault.NoMemory) }
-        ensures front { IsFront out.old.items out.new.items }
+        ensures front { IsPrefix out.old.items out.new.items }
     {
         let number = self.own + 1;
         let no_group = Groups::new(self.alloc);
@@ -65,14 +65,15 @@ impl Lifting {
             groups: &no_group,
         };
         put_ref(line, number, out)?;
-        self.images.put(id, Some(Own { number, literals }))?;
+        self.images.put(id, Some(LogLemma { number, literals }))?;
         self.top = id;
         self.own = number;
         self.closed = empty;
         Ok(())
     }
 
-    /// Lifts a lemma whose negations are marked, and that has no literal of the cube.
+    /// Lifts a lemma that has no literal of the cube, and the negations of whose literals are marked. `Err` with the fault of the walk
+    /// along its hints.
     fn lift(
         &mut self,
         id: u64,
@@ -85,12 +86,12 @@ impl Lifting {
         requires literals { All (IsWithin 2000000) lemma.lits.now }
         requires ready { IsAssumed line self.old lemma.lits.now }
         ensures writes { OnOk result (WritesAs (lift_lemma self.old.cube.items (state_of self.old) id lemma.entry.lits.now
-            (lift_walk (stands_of self.old.images) lemma.entry.hints.now (negations (union self.old.cube.items lemma.entry.lits.now)))) (state_of self.old).own (state_of self.new) out.old.items out.new.items) }
+            (lift_walk (images_of self.old.images) lemma.entry.hints.now (negations (union self.old.cube.items lemma.entry.lits.now)))) (state_of self.old).own (state_of self.new) out.old.items out.new.items) }
         ensures refused { IfErr result (λ f. (f ≡ LineFault.NoMemory) ⊎ (lift_lemma self.old.cube.items (state_of self.old) id lemma.entry.lits.now
-            (lift_walk (stands_of self.old.images) lemma.entry.hints.now (negations (union self.old.cube.items lemma.entry.lits.now))) ≡ Err (line_fault_number f))) }
+            (lift_walk (images_of self.old.images) lemma.entry.hints.now (negations (union self.old.cube.items lemma.entry.lits.now))) ≡ Err (line_fault_number f))) }
         ensures ready { OnOk result (IsReady (line + 1) self.new) }
         ensures leaf { OnOk result (SameLeaf self.old self.new) }
-        ensures front { IsFront out.old.items out.new.items }
+        ensures front { IsPrefix out.old.items out.new.items }
     {
         self.scratch.clause.clear();
         self.scratch.clause.extend_from_slice(lemma.lits)?;
@@ -107,7 +108,8 @@ impl Lifting {
         Ok(())
     }
 
-    /// Lifts an addition.
+    /// Lifts an addition. `Err` if its number is not above those before it, if the lemma is a tautology or has a group, or if the walk
+    /// along its hints has a fault.
     pub(crate) fn add(
         &mut self,
         id: u64,
@@ -122,7 +124,7 @@ impl Lifting {
         ensures refused { IfErr result (λ f. (f ≡ LineFault.NoMemory) ⊎ (lift_addition self.old.cube.items (state_of self.old) id lemma.entry.lits.now lemma.entry.hints.now lemma.entry.groups.now ≡ Err (line_fault_number f))) }
         ensures ready { OnOk result (IsReady (line + 1) self.new) }
         ensures leaf { OnOk result (SameLeaf self.old self.new) }
-        ensures front { IsFront out.old.items out.new.items }
+        ensures front { IsPrefix out.old.items out.new.items }
     {
         if id <= self.top {
             return Err(LineFault::NumberNotRising);

@@ -1,4 +1,4 @@
-//! Why a line is refused.
+//! The faults of a line of a foreign proof: why it is refused.
 
 ghost use Rattle.std.specs.Prelude.{◌≡◌};
 ghost use Rattle.proof_lift.specs.inner.Faults.{line_fault_number, line_refusal};
@@ -7,7 +7,7 @@ ghost use Rattle.proof_lift.specs.declared.fault.LineFault.TheVariants.{NoMemory
 use lrat_check::CheckFault;
 use std::alloc::{AllocError, AllocFailed};
 
-/// The first fault of a step.
+/// The first fault of a step, or that memory was refused.
 #[derive(Clone, Copy)]
 pub(crate) enum LineFault {
     /// An addition's number is not above those before it.
@@ -16,16 +16,16 @@ pub(crate) enum LineFault {
     UnknownClause,
     /// The lemma holds a literal and its negation.
     Tautology,
-    /// The clause of a hint has two literals that are not false.
+    /// The image of a hint's clause has two literals that are not false.
     HintNotUnit,
     /// The lemma has a group, or its hints end in no conflict.
     NotRup,
-    /// A growth was refused.
+    /// Memory was refused.
     NoMemory,
 }
 
 impl LineFault {
-    /// The fault's number.
+    /// Returns the number by which the fault is reported.
     pub(crate) fn number(self) -> u8
         ensures { result ≡ line_fault_number self }
     {
@@ -56,7 +56,7 @@ impl<T: Drop> From<AllocFailed<T>> for LineFault {
     }
 }
 
-/// The fault of a line whose step is refused.
+/// Returns the fault of the line of this number whose step is refused; `NoMemory` has no line.
 pub(crate) fn step_refused(fault: LineFault, line: u64) -> CheckFault
     ensures { result ≡ line_refusal fault line }
 {

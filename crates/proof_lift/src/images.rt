@@ -1,35 +1,34 @@
-//! What stands for the clauses of the foreign numbers.
+//! The images of the live foreign clauses, by foreign number.
 
-ghost use Rattle.proof_lift.specs.View.{stand_of_own};
+ghost use Rattle.proof_lift.specs.View.{image_of_lemma};
 ghost use Rattle.std.specs.Prelude.{◌≡◌, ◌^◌, ◌+◌, ◌≤◌, ◌<◌, Some, None, List, ◌∷◌, true, false, replicate, length, OnOk, IfOk};
 ghost use Rattle.dimacs.specs.logic.Literal.{Literal};
-ghost use Rattle.proof_lift.specs.Lifting.{leaf_stands, with_stand};
-ghost use Rattle.proof_lift.specs.inner.Images.{stand_in, stands_of};
+ghost use Rattle.proof_lift.specs.LiftedText.{leaf_images, with_image};
+ghost use Rattle.proof_lift.specs.inner.Images.{image_in, images_of};
 
-use crate::lemmas::{Lemmas, Own};
+use crate::lemma_images::{Lemmas, LogLemma};
 use dimacs::{Formula, Lit};
 use std::alloc::{AllocError, Global};
 
-/// What stands for the clause of a foreign number.
+/// The image of a foreign clause, as the answer of a look-up.
 #[derive(Clone, Copy)]
 pub(crate) enum Image<'a> {
-    /// No such clause is live.
+    /// No clause of this number is live.
     None,
-    /// It has a literal of the cube.
+    /// There is no image, and none is needed: the clause has a literal of the cube.
     Gone,
-    /// The clause of this number of the log.
+    /// The image is the clause of the log with this number and these literals.
     Kept(u64, &'a [Lit]),
 }
 
-/// What stands for the live clauses. The formula's are held once and never copied.
+/// The images of the live clauses. The formula's clauses are their own images, and are not copied.
 pub(crate) struct Images {
     pub(crate) formula: Formula,
-    /// Which clauses of the leaf's formula are live, by their numbers.
+    /// By number: whether the clause of the leaf's formula is live. Entry 0 is false.
     pub(crate) live: Vec<bool>,
     pub(crate) lemmas: Lemmas,
 }
 
-// By hand, so that whoever owns one drops it by one call, and no proof there goes through its parts.
 impl Drop for Images {
     fn drop(self) {
         let Images {
@@ -40,7 +39,7 @@ impl Drop for Images {
     }
 }
 
-/// So many clauses are live, numbered from 1.
+/// The flags of clauses 1 to `clauses`, all live; number 0 is not.
 fn all_live(alloc: Global, clauses: usize) -> Result<Vec<bool>, AllocError>
     ensures { IfOk result (λ v. v.items ≡ false ∷ replicate clauses true) }
 {
@@ -53,10 +52,11 @@ fn all_live(alloc: Global, clauses: usize) -> Result<Vec<bool>, AllocError>
 }
 
 impl Images {
-    /// The clauses of a leaf's formula, behind which so many unit clauses stand.
+    /// Makes the images of a leaf's formula: the clauses of `formula` are their own images, and the `units` unit clauses after them have
+    /// none.
     pub(crate) fn of(alloc: Global, formula: Formula, units: usize) -> Result<Images, AllocError>
         requires few { units < 2 ^ 62 }
-        ensures stands { IfOk result (λ x. (q : List Literal) → length q ≡ units → stands_of x ≡ leaf_stands q formula) }
+        ensures stands { IfOk result (λ x. (q : List Literal) → length q ≡ units → images_of x ≡ leaf_images q formula) }
         ensures formula { IfOk result (λ x. x.formula ≡ formula) }
         ensures live { IfOk result (λ x. length x.live.items ≡ length formula.clauses + units + 1) }
     {
@@ -69,10 +69,10 @@ impl Images {
         })
     }
 
-    /// What stands for the clause of a number of the leaf's formula.
+    /// Returns the image of the clause of this number of the leaf's formula.
     fn of_formula(&self, number: u64) -> Image<'_>
         requires { number < length self.now.live.items }
-        ensures { stand_in result ≡ stands_of self.now number }
+        ensures { image_in result ≡ images_of self.now number }
     {
         if !self.live[number as usize] {
             return Image::None;
@@ -84,17 +84,17 @@ impl Images {
         Image::Kept(number, self.formula.clause(place))
     }
 
-    /// What stands for the lemma of a number.
+    /// Returns the image of the lemma of this foreign number.
     fn of_lemma(&self, number: u64) -> Image<'_>
         requires { length self.now.live.items ≤ number }
-        ensures { stand_in result ≡ stands_of self.now number }
+        ensures { image_in result ≡ images_of self.now number }
     {
         self.lemmas.get(number)
     }
 
-    /// What stands for the clause of a number.
+    /// Returns the image of the clause of this foreign number.
     pub(crate) fn get(&self, number: u64) -> Image<'_>
-        ensures { stand_in result ≡ stands_of self.now number }
+        ensures { image_in result ≡ images_of self.now number }
     {
         if (number as usize) < self.live.len() {
             self.of_formula(number)
@@ -103,19 +103,19 @@ impl Images {
         }
     }
 
-    /// Something stands for the lemma of a number.
-    pub(crate) fn put(&mut self, number: u64, own: Option<Own>) -> Result<(), AllocError>
+    /// Adds a lemma under a foreign number with its image; `None` if the lemma has a literal of the cube, so that it needs no image.
+    pub(crate) fn put(&mut self, number: u64, own: Option<LogLemma>) -> Result<(), AllocError>
         requires { length self.old.live.items ≤ number }
-        ensures ok { OnOk result (stands_of self.new ≡ with_stand (stands_of self.old) number (Some (stand_of_own own))) }
+        ensures ok { OnOk result (images_of self.new ≡ with_image (images_of self.old) number (Some (image_of_lemma own))) }
         ensures formula { self.new.formula ≡ self.old.formula }
         ensures live { length self.new.live.items ≡ length self.old.live.items }
     {
         self.lemmas.put(number, own)
     }
 
-    /// Nothing stands for the clause of a number any more.
+    /// Removes the clause of this foreign number, with its image.
     pub(crate) fn remove(&mut self, number: u64)
-        ensures after { stands_of self.new ≡ with_stand (stands_of self.old) number None }
+        ensures after { images_of self.new ≡ with_image (images_of self.old) number None }
         ensures formula { self.new.formula ≡ self.old.formula }
         ensures live { length self.new.live.items ≡ length self.old.live.items }
     {

@@ -2,7 +2,7 @@
 
 ghost use Rattle.proof_lift.specs.Leaves.{LiftedTextsClose, RefutationsAreLifted};
 
-/// Whatever text is lifted, what it is lifted to closes the cube over the formula.
+/// If a text is lifted, the result closes the cube over the formula.
 pub fn lifted_texts_close()
     ensures { LiftedTextsClose }
 {}

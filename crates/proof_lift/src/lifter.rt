@@ -1,8 +1,8 @@
-//! Lifts the text of a foreign proof that comes in pieces.
+//! Lifts the text of a foreign proof, which comes in pieces, to lines of the log.
 
 ghost use Rattle.proof_lift.specs.View.{held_of};
 ghost use Rattle.std.specs.Prelude.{◌≡◌, ◌≤◌, ◌⊎◌, ℕ, List, [], Ok, Err, OnOk, IfOk, IfErr, vec_len};
-ghost use Rattle.lrat_check.specs.Checking.{no_memory};
+ghost use Rattle.lrat_check.specs.ProofFaults.{no_memory};
 ghost use Rattle.dimacs.specs.logic.Cnf.{Cnf, IsFormula};
 ghost use Rattle.lrat_text.specs.Lines.{IsOpen};
 ghost use Rattle.lrat_text.specs.Log.{Cube};
@@ -12,8 +12,8 @@ ghost use Rattle.proof_lift.specs.inner.Ready.{IsReady};
 ghost use Rattle.proof_lift.specs.inner.Stream.{LeadsTo, Appends};
 
 use crate::fault::step_refused;
-use crate::lifting::Lifting;
-use crate::lines::LiftLines;
+use crate::line_lifter::LineLifter;
+use crate::step_lifter::StepLifter;
 use dimacs::{Formula, Lit};
 use lrat_check::CheckFault;
 use lrat_text::{LineBuffer, StepBuffer};
@@ -21,10 +21,10 @@ use std::alloc::{AllocError, Global};
 use std::marker::Model;
 use std::mem::swap;
 
-/// Takes a piece behind the line that is begun, and puts what is written behind `out`.
+/// Takes a piece, which follows the bytes of the unfinished line, and appends the lines of the log to `out`.
 fn take_piece(
     begun: &mut LineBuffer,
-    lines: &mut LiftLines,
+    lines: &mut LineLifter,
     piece: &[u8],
     out: &mut Vec<u8>,
 ) -> Result<(), CheckFault>
@@ -43,14 +43,13 @@ fn take_piece(
     }
 }
 
-/// What lifts a foreign proof of a leaf's formula. It keeps the formula, what stands for the live lemmas, and the line that is begun.
+/// Lifts a foreign proof of a leaf's formula. It keeps the formula, the images of the live lemmas, and the bytes of the unfinished line.
 pub struct Lifter {
-    lines: LiftLines,
+    lines: LineLifter,
     begun: LineBuffer,
     fault: Option<CheckFault>,
 }
 
-// By hand, so that whoever owns one drops it by one call, and no proof there goes through its parts.
 impl Drop for Lifter {
     fn drop(self) {
         let Lifter {
@@ -62,28 +61,28 @@ impl Drop for Lifter {
 }
 
 impl Model for Lifter {
-    ghost use Rattle.proof_lift.specs.Stream.{Progress, progress_of};
+    ghost use Rattle.proof_lift.specs.Stream.{LiftProgress, progress_of};
     ghost use Rattle.proof_lift.specs.View.{held_of};
-    ghost use Rattle.proof_lift.specs.inner.Stream.{IsProgress};
+    ghost use Rattle.proof_lift.specs.inner.Stream.{ReadyUnlessFaulty};
 
-    ghost Value = { Progress };
+    ghost Value = { LiftProgress };
 
     ghost view = { λ s. progress_of s.fault (held_of s.lines.lifting) s.lines.line s.begun };
 
-    ghost invariant = { λ s. IsProgress s.fault s.lines s.begun };
+    ghost invariant = { λ s. ReadyUnlessFaulty s.fault s.lines s.begun };
 }
 
 impl Lifter {
-    /// Has taken no byte of a proof of the leaf's formula: the formula's clauses, and a unit clause for each literal of the cube, in this
-    /// order.
+    /// Makes a lifter that has taken no byte of a proof of the leaf's formula: the clauses of `formula`, and after them a unit clause for
+    /// each literal of the cube, in this order.
     pub fn of(alloc: Global, formula: Formula, cube: Vec<Lit>) -> Result<Lifter, AllocError>
         requires few { vec_len cube ≤ 1000000 }
         requires cube { IsCube formula cube.items }
         ensures { IfOk result (λ s. HasTaken formula cube.items s [] []) }
     {
-        let lifting = Lifting::of(alloc, formula, cube)?;
+        let lifting = StepLifter::of(alloc, formula, cube)?;
         Ok(Lifter {
-            lines: LiftLines {
+            lines: LineLifter {
                 lifting,
                 buffer: StepBuffer::new(alloc),
                 line: 1,
@@ -94,8 +93,8 @@ impl Lifter {
         })
     }
 
-    /// Takes the next piece, and puts the lines of the log behind `out`; or tells the first fault of the lines that are whole by now. A
-    /// fault is answered from then on, and nothing more is written.
+    /// Takes the next piece, and appends the lines of the log to `out`; or returns the first fault of the lines that are complete by now.
+    /// After a fault each call returns that fault, and nothing more is written.
     pub fn feed(&mut self, piece: &[u8], out: &mut Vec<u8>) -> Result<(), CheckFault>
         ensures { TakesPiece self.old piece.now out.old.items out.new.items result self.new }
     {
@@ -111,14 +110,14 @@ impl Lifter {
         }
     }
 
-    /// Ends the log where no further byte comes: what was written closes the cube then. A text without the empty lemma is closed by one
-    /// propagation over what is live, where that does it; else its fault is 13. Any other text has its first fault.
+    /// Ends the log, if no further byte comes. After `Ok` the bytes written close the cube. If the text has no empty lemma, one unit
+    /// propagation over the live clauses is tried; if it finds no conflict, the fault is 13. Any other text has its first fault.
     pub fn finish(self, out: &mut Vec<u8>) -> Result<(), CheckFault>
         // what was written closes the cube, whatever came in
         ensures closes { OnOk result ((F : Cnf) (q : Cube) (bytes written : List ℕ) → IsFormula F → IsCube F q → HasTaken F q self bytes written → ClosesWith F q written out.old.items out.new.items) }
         // a refutation of the leaf's formula by reverse unit propagation alone is refused for want of memory alone
         ensures complete { (F : Cnf) (q : Cube) (bytes written : List ℕ) → IsCube F q → HasTaken F q self bytes written → IsRefutation (leaf_of q F) bytes → (result ≡ Ok tt) ⊎ (result ≡ Err no_memory) }
-        // the first fault, and its line; 13 exactly where the empty lemma alone is wanting, and no hints close it
+        // the first fault, and its line; 13 exactly if the empty lemma alone is missing, and no hints derive it
         ensures exact { GivesEnd self result out.old.items out.new.items }
     {
         let Lifter {
@@ -133,8 +132,14 @@ impl Lifter {
     }
 }
 
-/// Ends the log behind the last LF of a text.
-fn end(lifting: &mut Lifting, line: u64, rest: &[u8], out: &mut Vec<u8>) -> Result<(), CheckFault>
+/// Ends the log; `rest` are the bytes of the text after its last LF, and have to be none. Tries a unit propagation if the empty lemma was
+/// not lifted.
+fn end(
+    lifting: &mut StepLifter,
+    line: u64,
+    rest: &[u8],
+    out: &mut Vec<u8>,
+) -> Result<(), CheckFault>
     requires ready { IsReady line lifting.old }
     requires open { IsOpen rest.now }
     ensures { GivesEnd (Within (held_of lifting.old) line rest.now) result out.old.items out.new.items }

@@ -1,21 +1,21 @@
-//! A partial assignment as a table of stamps, by literal: a literal is assumed where its stamp is the line's number, so no assumption
-//! has to be taken back.
+//! A partial assignment as a table of stamps by literal: a literal is assumed if its stamp is the line's number, so no assumption has to
+//! be undone.
 
 ghost use Rattle.std.specs.Prelude.{◌≡◌, ◌+◌, length, OnOk};
 ghost use Rattle.std.specs.Bool.{OnFalse};
 ghost use Rattle.dimacs.specs.logic.Literal.{Clause};
 ghost use Rattle.dimacs.specs.logic.Propagation.{negations};
-ghost use Rattle.lrat_check.specs.Faults.{is_tautology};
-ghost use Rattle.lrat_check.specs.inner.Table.{FitsTable};
-ghost use Rattle.proof_lift.specs.Lifting.{is_met};
-ghost use Rattle.proof_lift.specs.Trimming.{union};
+ghost use Rattle.lrat_check.specs.StepFaults.{is_tautology};
+ghost use Rattle.lrat_check.specs.inner.LiteralTable.{FitsTable};
+ghost use Rattle.proof_lift.specs.LiftedText.{is_met};
+ghost use Rattle.proof_lift.specs.TrimmedLemma.{union};
 ghost use Rattle.proof_lift.specs.inner.Tables.{marked, AllBelow};
 
 use crate::status::is_marked;
 use dimacs::Lit;
 use std::alloc::AllocError;
 
-/// Marks the negations of the literals, and says whether some literal stands there with its negation.
+/// Marks the negation of each literal of a clause. If the clause is a tautology, it stops and returns true.
 pub(crate) fn assume_negations(marks: &mut [u64], stamp: u64, lits: &[Lit]) -> bool
     requires table { FitsTable (length marks.old) lits.now }
     requires unused { AllBelow stamp marks.old }
@@ -33,7 +33,7 @@ pub(crate) fn assume_negations(marks: &mut [u64], stamp: u64, lits: &[Lit]) -> b
     false
 }
 
-/// Whether the clause whose negations are marked has a literal of the cube.
+/// Tells whether a clause has a literal of the cube; the negations of the clause's literals are marked.
 pub(crate) fn meets(marks: &[u64], stamp: u64, cube: &[Lit]) -> bool
     requires { FitsTable (length marks.now) cube.now }
     ensures { (C : Clause) → marked marks.now stamp ≡ negations C → result ≡ is_met cube.now C }
@@ -46,7 +46,8 @@ pub(crate) fn meets(marks: &[u64], stamp: u64, cube: &[Lit]) -> bool
     false
 }
 
-/// Marks the cube, and puts the negation of each of its literals that had no mark behind the clause whose negations are marked.
+/// Appends to `clause` the negation of each literal of the cube that it does not hold, and marks this literal of the cube. The negations of
+/// the literals of `clause` are marked before and after.
 pub(crate) fn join_cube(
     marks: &mut [u64],
     stamp: u64,

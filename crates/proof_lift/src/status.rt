@@ -1,16 +1,16 @@
-//! What a clause is under a partial assignment.
+//! The status of a clause under a partial assignment.
 
 ghost use Rattle.std.specs.Prelude.{◌≡◌, ◌<◌, length};
 ghost use Rattle.dimacs.specs.logic.Literal.{index_of};
-ghost use Rattle.lrat_check.specs.Faults.{status};
+ghost use Rattle.lrat_check.specs.StepFaults.{status};
 ghost use Rattle.proof_lift.specs.inner.Statuses.{status_in};
 ghost use Rattle.lrat_check.specs.inner.Statuses.{with_free_literal};
-ghost use Rattle.lrat_check.specs.inner.Table.{FitsTable};
+ghost use Rattle.lrat_check.specs.inner.LiteralTable.{FitsTable};
 ghost use Rattle.proof_lift.specs.inner.Tables.{marked};
 
 use dimacs::Lit;
 
-/// What a clause is under a partial assignment.
+/// The status of a clause under a partial assignment.
 #[derive(Clone, Copy)]
 pub(crate) enum Status {
     Satisfied,
@@ -19,7 +19,7 @@ pub(crate) enum Status {
     Undecided,
 }
 
-/// The status with one more literal that is not false.
+/// Returns the status of a clause with one more literal, which is not false.
 #[inline(always)]
 fn with_free(seen: Status, l: Lit) -> Status
     ensures { status_in result ≡ with_free_literal (status_in seen) l }
@@ -31,7 +31,7 @@ fn with_free(seen: Status, l: Lit) -> Status
     }
 }
 
-/// Whether a literal is marked.
+/// Tells whether a literal has this stamp.
 #[inline(always)]
 pub(crate) fn is_marked(marks: &[u64], stamp: u64, l: Lit) -> bool
     requires { index_of l < length marks.now }
@@ -40,7 +40,7 @@ pub(crate) fn is_marked(marks: &[u64], stamp: u64, l: Lit) -> bool
     marks[l.index()] == stamp
 }
 
-/// What a clause is.
+/// Returns the status of a clause under the assignment of the literals with this stamp.
 pub(crate) fn classify(marks: &[u64], stamp: u64, clause: &[Lit]) -> Status
     requires { FitsTable (length marks.now) clause.now }
     ensures { status_in result ≡ status (marked marks.now stamp) clause.now }

@@ -1,32 +1,33 @@
-//! The walk along a lemma's hints.
+//! Unit propagation along a lemma's hints.
 
 ghost use Rattle.std.specs.Prelude.{◌≡◌, ◌+◌, length};
-ghost use Rattle.proof_lift.specs.Walking.{lift_walk};
+ghost use Rattle.proof_lift.specs.HintWalk.{lift_walk};
 ghost use Rattle.proof_lift.specs.inner.Tables.{marked, AllBelow};
-ghost use Rattle.proof_lift.specs.inner.Images.{stands_of};
-ghost use Rattle.proof_lift.specs.inner.Walks.{StandsFit, passed_by, Tells, from_there};
+ghost use Rattle.proof_lift.specs.inner.Images.{images_of};
+ghost use Rattle.proof_lift.specs.inner.Walks.{ImagesFit, passed_by, Tells, from_there};
 
 use crate::fault::LineFault;
 use crate::images::{Image, Images};
 use crate::status::{Status, classify};
 use dimacs::Lit;
 
-/// A hint that led on, and the unit literal.
+/// A hint that was unit, by its foreign number, and its unit literal.
 #[derive(Clone, Copy)]
 pub(crate) struct Link {
     pub(crate) hint: u64,
     pub(crate) unit: Lit,
 }
 
-/// The false clause at which a walk ends.
+/// The false clause at which propagation ends, with its number in the log.
 #[derive(Clone, Copy)]
 pub(crate) struct Conflict<'a> {
     pub(crate) number: u64,
     pub(crate) clause: &'a [Lit],
 }
 
-/// Goes along the hints: passes over those whose clause is gone or true, and ends at the first that is false. Those that lead on are
-/// put behind `chain`.
+/// Propagates along the hints to the first whose image is false, and returns that image. A hint whose clause needs no image, or whose image
+/// is true, is skipped; each unit one is appended to `chain`. `Err` if a hint names no live clause or has two literals that are not false,
+/// or if no image is false.
 pub(crate) fn walk<'a>(
     images: &'a Images,
     marks: &mut [u64],
@@ -34,10 +35,10 @@ pub(crate) fn walk<'a>(
     hints: &[u64],
     chain: &mut Vec<Link>,
 ) -> Result<Conflict<'a>, LineFault>
-    requires fits { StandsFit (length marks.old) (stands_of images.now) }
+    requires fits { ImagesFit (length marks.old) (images_of images.now) }
     requires below { AllBelow (stamp + 1) marks.old }
-    ensures walk { Tells result (passed_by (stands_of images.now) chain.new.items)
-        (from_there (passed_by (stands_of images.now) chain.old.items) (lift_walk (stands_of images.now) hints.now (marked marks.old stamp))) }
+    ensures walk { Tells result (passed_by (images_of images.now) chain.new.items)
+        (from_there (passed_by (images_of images.now) chain.old.items) (lift_walk (images_of images.now) hints.now (marked marks.old stamp))) }
     ensures places { length marks.new ≡ length marks.old }
     ensures below { AllBelow (stamp + 1) marks.new }
 {

@@ -1,4 +1,4 @@
--- Lines are counted.
+-- The number of lines, counted by LFs.
 use Rattle.std.proofs.Common.{◌≡◌, ℕ, zero, suc, ◌+◌, ◌<◌, ◌≤◌, ◌==◌, Bool, cond, List, [], ◌∷◌, ◌++◌, length, take, drop, refl, sym, ◌∙◌, ap, arith, length-append}
 use Rattle.std.specs.List.{count_by}
 use Rattle.std.proofs.lemmas.List.{drop-drop, length-drop}
@@ -16,7 +16,7 @@ front_rest zero xs = refl
 front_rest (suc n) [] = refl
 front_rest (suc n) (x ∷ xs) = ap (λ (ys : List ℕ). x ∷ ys) (front_rest n xs)
 
--- what is left is a block and what is left behind it
+-- what is left is a block and what is left after it
 block_rest : (more text : List ℕ) (from n most : ℕ) → more ≡ take most (drop from text) → n ≡ length more → more ++ drop (from + n) text ≡ drop from text
 block_rest more text from n most is len =
     ap (λ (k : ℕ). more ++ drop (from + k) text) len
@@ -31,7 +31,7 @@ block_inside more text from n most is len lt =
     sym (length-append more (drop (from + n) text)) ∙ ap length (block_rest more text from n most is len) in
     omega (arith, len, whole, length-drop from text, lt)
 
--- a block's LFs and those that are left behind it
+-- a block's LFs and those that are left after it
 pub block_counted : (more text : List ℕ) (from n most : ℕ) → more ≡ take most (drop from text) → n ≡ length more
     → count_by (λ b. b == 10) more + count_by (λ b. b == 10) (drop (from + n) text) ≡ count_by (λ b. b == 10) (drop from text)
 block_counted more text from n most is len =

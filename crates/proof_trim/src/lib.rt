@@ -1,10 +1,10 @@
-//! Fragments without the lemmas that nothing needs.
+//! Trims fragments: the lemmas that the last one does not need are left out.
 #![tactic(auto)]
 
-mod backwards;
-mod lines;
+mod fragment_trim;
+mod line_scan;
 mod needs;
-mod rewriting;
-mod trimming;
+mod reverse_lines;
+mod rewriter;
 
-pub use trimming::trim;
+pub use fragment_trim::trim;

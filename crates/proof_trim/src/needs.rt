@@ -1,21 +1,21 @@
-//! Which lemmas of a fragment its last one needs.
+//! Which lemmas of a fragment the last one needs, directly or through others.
 
 ghost use Rattle.std.specs.Prelude.{◌≡◌, ◌<◌, ◌^◌, All, IfSome, OnOk};
 ghost use Rattle.lrat_text.specs.Grammar.{IsClauseNumber};
 
-use crate::backwards::LinesBack;
-use crate::lines::deletes;
+use crate::line_scan::deletes;
+use crate::reverse_lines::ReverseLines;
 use lrat_text::{StepBuffer, StepRef, TextFault, read_line};
 use packed_text::PackedText;
 use std::alloc::{AllocError, Global};
 use std::marker::Model;
 
-/// What becomes of the lemmas of a fragment.
+/// Which lemmas are needed, and under which numbers.
 #[derive(Drop)]
 pub(crate) struct Needs {
-    /// How many clauses the base has: the lemmas are numbered on behind them.
+    /// How many clauses the base has: the lemmas' numbers follow.
     base: u64,
-    /// For each lemma 0 where nothing needs it, and else its place among those that are needed, from 1.
+    /// For each lemma its rank among the needed ones, from 1; or 0 if nothing needs it.
     ranks: Vec<u32>,
 }
 
@@ -30,8 +30,8 @@ impl Model for Needs {
 }
 
 impl Needs {
-    /// What the last one of so many lemmas needs, itself with it; `None` where that is nine tenths of their later half or more, since then
-    /// little would go.
+    /// Marks what the last of `count` lemmas needs, itself included. `None` if nine tenths or more of the second half are needed, since
+    /// then trimming would gain little.
     pub(crate) fn of(
         alloc: Global,
         base: u64,
@@ -47,7 +47,7 @@ impl Needs {
         };
         needs.need(base + count as u64);
         let half = count / 2;
-        let mut lines = LinesBack::of(alloc, text);
+        let mut lines = ReverseLines::of(alloc, text);
         needs.trace(buffer, &mut lines, count, half)?;
         if needs.count_from(half) >= (count - half) / 10 * 9 {
             return Ok(None);
@@ -64,7 +64,7 @@ impl Needs {
         self.base
     }
 
-    /// The lemma of this number is needed, if there is one.
+    /// Marks the lemma of this number as needed, if there is one.
     fn need(&mut self, number: u64) {
         if number <= self.base {
             return;
@@ -75,11 +75,11 @@ impl Needs {
         }
     }
 
-    /// Goes back through the lines, from the lemma before one place to the lemma at another, and marks what those that are needed need.
+    /// Goes back through the lines, from the lemma before the place `from` to that at `to`, and marks what the needed ones need.
     fn trace(
         &mut self,
         buffer: &mut StepBuffer,
-        lines: &mut LinesBack<'_>,
+        lines: &mut ReverseLines<'_>,
         from: usize,
         to: usize,
     ) -> Result<(), TextFault> {
@@ -90,8 +90,8 @@ impl Needs {
         Ok(())
     }
 
-    /// Marks what a line needs, if it adds a lemma that is needed: the last one before `place`. Tells the place of the lemma that comes
-    /// next on the way to the front.
+    /// Marks what a line needs, if it adds a needed lemma: the last one before `place`. Answers the place after the next lemma on the way
+    /// to the front.
     fn trace_line(
         &mut self,
         buffer: &mut StepBuffer,
@@ -115,7 +115,7 @@ impl Needs {
         Ok(own)
     }
 
-    /// How many are needed of the lemmas from a place on.
+    /// How many lemmas are needed from a place on.
     fn count_from(&self, place: usize) -> usize {
         let mut count = 0usize;
         for i in place..self.ranks.len() {
@@ -126,7 +126,7 @@ impl Needs {
         count
     }
 
-    /// Numbers those that are needed on, and tells how many they are.
+    /// Ranks the needed lemmas from 1, and answers how many there are.
     pub(crate) fn rank(&mut self) -> usize {
         let mut needed = 0u32;
         for i in 0..self.ranks.len() {
@@ -143,7 +143,7 @@ impl Needs {
         place < self.ranks.len() && self.ranks[place] != 0
     }
 
-    /// The number that a clause gets, if it stays.
+    /// The new number of a clause, if the clause stays.
     pub(crate) fn number(&self, number: u64) -> Option<u64>
         requires { IsClauseNumber number }
         ensures { IfSome result IsClauseNumber }
@@ -158,7 +158,7 @@ impl Needs {
         }
     }
 
-    /// Puts the numbers that clauses get, of those that stay, in the place of those that `out` had.
+    /// Replaces `out` by the new numbers of those clauses that stay.
     pub(crate) fn numbers(&self, numbers: &[u64], out: &mut Vec<u64>) -> Result<(), AllocError>
         requires { All IsClauseNumber numbers.now }
         ensures { OnOk result (All IsClauseNumber out.new.items) }

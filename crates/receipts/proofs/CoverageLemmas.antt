@@ -1,4 +1,4 @@
--- Clauses that are taken one after the other, and the leaves that they close.
+-- The leaves that clauses close, taken one after the other.
 use Rattle.std.proofs.Common.{◌≡◌, ◌≢◌, inl, inr, ℕ, ◌≤◌, ◌<◌, Bool, true, false, not, ◌&&◌, ◌||◌, List, [], ◌∷◌, ◌++◌, map, Option, Some, None, cond, refl, sym, ◌∙◌, ap, subst, arith}
 use Rattle.std.specs.Prelude.{is_none, is_some}
 use Rattle.std.specs.List.{Contains, All, list_any, enumerate_from}
@@ -18,13 +18,13 @@ use Rattle.lrat_text.specs.Log.{IsLog, IsLogStep}
 use Rattle.lrat_text.specs.Runs.{after_steps}
 use Rattle.lrat_text.specs.declared.step.Step.{Step}
 use Rattle.lrat_text.specs.declared.step.Step.TheVariants.{Add}
-use Rattle.proof_join.specs.Numbering.{behind}
+use Rattle.proof_join.specs.RenumberedSteps.{behind}
 use Rattle.proof_join.proofs.MapLemmas.{between_formula}
-use Rattle.gathering.specs.Closing.{Leaf, Numbered, all_settled as all_left, can_close, closed_by, closes, is_closed, settled}
-use Rattle.gathering.specs.Gathering.{Gathering, Handed, gathered, nothing, with_live, with_log}
-use Rattle.gathering.proofs.PlacedLemmas.{log_between}
-use Rattle.gathering.proofs.SettleLemmas.{both, closes_negates}
-use Rattle.receipts.specs.Covering.{closes_more, is_closed_by}
+use Rattle.log_join.specs.ClosedLeaves.{Leaf, Numbered, all_settled as all_left, can_close, closed_by, closes, is_closed, settled}
+use Rattle.log_join.specs.JoinedLogs.{JoinState, Handed, joined_so_far, nothing, with_live, with_log}
+use Rattle.log_join.proofs.PlacedLemmas.{log_between}
+use Rattle.log_join.proofs.SettleLemmas.{both, closes_negates}
+use Rattle.receipts.specs.ClosedLeaves.{closes_new_leaf, is_closed_by}
 use Rattle.receipts.specs.Coverage.{absurdity}
 
 -- ---- the log of one clause
@@ -65,7 +65,7 @@ none_behind C none k up = at (get (after_steps (map_of absurdity) (log_for C)) k
         let b = (log_between 1 (map_of absurdity) 1 (log_for C) (is_log C none) (between_formula absurdity) k D e).1 in
         absurd (omega arith)
 
--- ---- leaves behind one lemma more
+-- ---- the leaves after one more lemma
 abbrev pub Agree : List Clause → Leaf → Type 0
 Agree clauses k = is_closed k ≡ is_closed_by clauses k.cube
 
@@ -116,21 +116,21 @@ swapped (Some x) false d e = refl
 
 -- and whether it closed one
 pub any_told : (l : Numbered) (clauses : List Clause) (leaves : List Leaf) → All (Agree clauses) leaves
-    → list_any (can_close l) leaves ≡ closes_more (map (λ k. k.cube) leaves) clauses l.clause
+    → list_any (can_close l) leaves ≡ closes_new_leaf (map (λ k. k.cube) leaves) clauses l.clause
 any_told l clauses [] h = refl
 any_told l clauses (k ∷ leaves) h =
     ap (λ b. b || list_any (can_close l) leaves) (swapped k.closing (closes k.cube l.clause) (is_closed_by clauses k.cube) (All-head (Agree clauses) k leaves h))
     ∙ ap (λ b. (closes k.cube l.clause && not (is_closed_by clauses k.cube)) || b) (any_told l clauses leaves (All-tail (Agree clauses) k leaves h))
 
--- ---- a log more
+-- ---- one more log
 pub one_log : (cubes : List Cube) (logs : List Handed) (C : Clause)
-    → gathered absurdity cubes (logs ++ handed_for C ∷ []) ≡ with_log absurdity (gathered absurdity cubes logs) (handed_for C)
+    → joined_so_far absurdity cubes (logs ++ handed_for C ∷ []) ≡ with_log absurdity (joined_so_far absurdity cubes logs) (handed_for C)
 one_log cubes logs C = fold-append (with_log absurdity) (nothing absurdity cubes) logs (handed_for C ∷ [])
 
 abbrev pub lemma_for : ℕ → Clause → Numbered
 lemma_for top C = record { id = behind 1 top 2; clause = C }
 
-pub leaves_then : (g : Gathering) (C : Clause) → (with_log absurdity g (handed_for C)).leaves ≡ settled (lemma_for g.top C) g.leaves
+pub leaves_then : (g : JoinState) (C : Clause) → (with_log absurdity g (handed_for C)).leaves ≡ settled (lemma_for g.top C) g.leaves
 leaves_then g C = ap (λ (o : Option Clause). live_settled o) (lives C)
   where
     live_settled : Option Clause → List Leaf
@@ -191,10 +191,10 @@ great_closes_none q C l within i great = elim (cases_Bool (closes q C)) [
   | inr f ↦ f
 ]
 
-pub none_told : (cubes : List Cube) (clauses : List Clause) (C : Clause) → ((q : Cube) → Contains cubes q → closes q C ≡ false) → closes_more cubes clauses C ≡ false
+pub none_told : (cubes : List Cube) (clauses : List Clause) (C : Clause) → ((q : Cube) → Contains cubes q → closes q C ≡ false) → closes_new_leaf cubes clauses C ≡ false
 none_told [] clauses C none = refl
 none_told (q ∷ cubes) clauses C none =
-    ap (λ b. (b && not (is_closed_by clauses q)) || closes_more cubes clauses C) (none q (Contains-head q cubes)) ∙ none_told cubes clauses C (λ p i. none p (Contains-cons q p cubes i))
+    ap (λ b. (b && not (is_closed_by clauses q)) || closes_new_leaf cubes clauses C) (none q (Contains-head q cubes)) ∙ none_told cubes clauses C (λ p i. none p (Contains-cons q p cubes i))
 
 pub none_settled : (leaves : List Leaf) (clauses : List Clause) (C : Clause) → ((q : Cube) → Contains (map (λ k. k.cube) leaves) q → closes q C ≡ false) → All (Agree clauses) leaves → All (Agree (clauses ++ C ∷ [])) leaves
 none_settled [] clauses C none h = All-nil (Agree (clauses ++ C ∷ []))

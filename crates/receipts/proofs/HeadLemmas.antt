@@ -1,4 +1,4 @@
--- The first lines of a receipt, part by part: a text has one receipt's alone.
+-- The head of a receipt, field by field: a text has at most one head.
 use Rattle.std.proofs.Common.{◌≡◌, ◌≢◌, ◌==◌, ℕ, ◌+◌, ◌^◌, ◌<◌, true, false, bytes_eq, List, [], ◌∷◌, ◌++◌, length, length-append, take, drop, codes, decimal, Option, Some, None, refl, sym, ◌∙◌, ap, append_assoc, arith}
 use Rattle.std.specs.Prelude.{MatchOption}
 use Rattle.std.specs.List.{AllByRecursion}
@@ -14,14 +14,14 @@ use Rattle.lrat_check.proofs.Lines.{no_lf_to}
 use Rattle.lrat_text.specs.Lines.{IsOpen}
 use Rattle.lrat_text.proofs.CutLemmas.{cut_same}
 use Rattle.lrat_text.proofs.NumberLemmas.{IsDigitByte, decimal_digits}
-use Rattle.gathering.specs.Closing.{Numbered}
-use Rattle.receipts.specs.Receipts.{IsDigest, IsReceipt, Told, closing_text, receipt_text}
+use Rattle.log_join.specs.ClosedLeaves.{Numbered}
+use Rattle.receipts.specs.Receipts.{IsDigest, IsReceipt, ReceiptContents, closing_text, receipt_text}
 use Rattle.receipts.specs.declared.head.Head.{Head}
 use Rattle.receipts.specs.inner.Heads.{IsHead, parted}
-use Rattle.receipts.proofs.PartLemmas.{digest_decodes, digits_long, one_value}
+use Rattle.receipts.proofs.FieldLemmas.{digest_decodes, digits_long, one_value}
 use Rattle.receipts.proofs.TextLemmas.{same_front}
 
--- ---- a front
+-- ---- a prefix
 pub match_weaker : {A P Q : Type 0} (o : Option A) (R S : A → Type 0) → (P → Q) → ((x : A) → R x → S x) → MatchOption o P R → MatchOption o Q S
 match_weaker None R S f g h = f h
 match_weaker (Some x) R S f g h = g x h
@@ -104,13 +104,13 @@ whole_head text f r1 g r2 n r3 m rest a b d e =
     a ∙ ap (λ (x : List ℕ). codes "satcluster receipt 1\nformula " ++ (encode_lower f ++ x)) (b ∙ ap (λ (x : List ℕ). codes "\nlog " ++ (encode_lower g ++ x)) (d ∙ ap (λ (x : List ℕ). codes "\nlemmas " ++ (decimal n ++ 10 ∷ x)) e))
 
 -- ---- a receipt
-abbrev pub head_of : Told → Head
+abbrev pub head_of : ReceiptContents → Head
 head_of r = record { formula = record { bytes = r.formula }; log = record { bytes = r.log }; lemmas = r.lemmas; bytes = r.bytes }
 
-pub is_head : (r : Told) → IsReceipt r → IsHead (head_of r)
+pub is_head : (r : ReceiptContents) → IsReceipt r → IsHead (head_of r)
 is_head r h = record { formula = h.formula; log = h.log; lemmas = h.lemmas; bytes = h.bytes }
 
-pub text_is : (r : Told) → receipt_text r ≡ parted (head_of r) (closing_text r.closing)
+pub text_is : (r : ReceiptContents) → receipt_text r ≡ parted (head_of r) (closing_text r.closing)
 text_is r = nested (codes "satcluster receipt 1\nformula ") (encode_lower r.formula) (codes "\nlog ") (encode_lower r.log) (codes "\nlemmas ") (decimal r.lemmas) (codes "\nbytes ") (decimal r.bytes) (codes "\n") (closing_text r.closing)
   where
     nested : (a b d e f g i j k l : List ℕ) → a ++ b ++ d ++ e ++ f ++ g ++ i ++ j ++ k ++ l ≡ a ++ (b ++ (d ++ (e ++ (f ++ (g ++ (i ++ (j ++ (k ++ l))))))))
@@ -131,10 +131,10 @@ one_head text h k rest more hh hk e f =
     let g = bytes_step (bytes_tail h rest) h.bytes rest k more refl hh.bytes hk d.1 in
     record { formula = a.0; log = b.0; lemmas = d.0; bytes = g.0; same = g.1 }
 
-abbrev pub told_as : List ℕ → List ℕ → ℕ → ℕ → List Numbered → Told
+abbrev pub told_as : List ℕ → List ℕ → ℕ → ℕ → List Numbered → ReceiptContents
 told_as f l n m lemmas = record { formula = f; log = l; lemmas = n; bytes = m; closing = lemmas }
 
-pub one_told : (a b : Told) → a.formula ≡ b.formula → a.log ≡ b.log → a.lemmas ≡ b.lemmas → a.bytes ≡ b.bytes → a.closing ≡ b.closing → a ≡ b
+pub one_told : (a b : ReceiptContents) → a.formula ≡ b.formula → a.log ≡ b.log → a.lemmas ≡ b.lemmas → a.bytes ≡ b.bytes → a.closing ≡ b.closing → a ≡ b
 one_told a b p q r s t =
     ap (λ (x : List ℕ). told_as x a.log a.lemmas a.bytes a.closing) p ∙ ap (λ (x : List ℕ). told_as b.formula x a.lemmas a.bytes a.closing) q
     ∙ ap (λ (n : ℕ). told_as b.formula b.log n a.bytes a.closing) r ∙ ap (λ (n : ℕ). told_as b.formula b.log b.lemmas n a.closing) s ∙ ap (λ (x : List Numbered). told_as b.formula b.log b.lemmas b.bytes x) t

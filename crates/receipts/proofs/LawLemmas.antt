@@ -1,4 +1,4 @@
--- What covers a tree refutes, and what is told of a log follows.
+-- Clauses that cover a tree refute the formula, and the lemmas of a receipt follow from it.
 use Rattle.std.proofs.Common.{◌≡◌, inl, inr, ℕ, ◌+◌, Bool, true, false, not, List, [], ◌∷◌, ◌++◌, length, Some, None, cond, sym, ◌∙◌, ap, subst, arith}
 use Rattle.std.specs.Prelude.{nat_eq}
 use Rattle.std.specs.List.{Contains, All, enumerate_from, list_any}
@@ -19,13 +19,13 @@ use Rattle.lrat_text.specs.Runs.{after_steps}
 use Rattle.lrat_text.specs.declared.step.Step.{Step}
 use Rattle.lrat_text.specs.declared.step.Step.TheVariants.{Add, Delete}
 use Rattle.lrat_check.proofs.Truth.{Satisfies, one_true, rup_true}
-use Rattle.gathering.specs.Closing.{Numbered, closes}
-use Rattle.gathering.specs.Gathering.{ClosesLeaf}
-use Rattle.gathering.proofs.LiveLemmas.{live_only, IsLive}
-use Rattle.gathering.proofs.SettleLemmas.{closes_negates}
-use Rattle.receipts.specs.Covering.{AreCovered, Covering, Follows, closing_of, closes_more, is_closed_by}
-use Rattle.receipts.specs.Receipts.{Told, SpellsReceipt, formula_digest}
-use Rattle.receipts.specs.Receiving.{IsClosedByLog, IsReceiptOf, own_lemmas}
+use Rattle.log_join.specs.ClosedLeaves.{Numbered, closes}
+use Rattle.log_join.specs.JoinedLogs.{ClosesLeaf}
+use Rattle.log_join.proofs.LiveLemmas.{live_only, IsLive}
+use Rattle.log_join.proofs.SettleLemmas.{closes_negates}
+use Rattle.receipts.specs.ClosedLeaves.{AreCovered, CoveringRefutes, Follows, closing_of, closes_new_leaf, is_closed_by}
+use Rattle.receipts.specs.Receipts.{ReceiptContents, SpellsReceipt, formula_digest}
+use Rattle.receipts.specs.LogReceipt.{IsClosedByLog, IsReceiptOf, live_lemmas}
 
 -- ---- covering
 -- every literal of the cube is true
@@ -65,7 +65,7 @@ some_closes q (C ∷ clauses) e = elim (or_cases (closes q C) (is_closed_by clau
   | inr later ↦ (let r = some_closes q clauses later in (r.0, Contains-cons C r.0 clauses r.1, r.2))
 ]
 
-pub covering : Covering
+pub covering : CoveringRefutes
 covering F cubes clauses tree follow closed a sat =
     let r = reached {path = []} a tree (λ l i. absurd (Contains-nil l i)) in
     let c = some_closes r.0 clauses (closed r.0 r.1) in
@@ -116,10 +116,10 @@ log_holds a F steps sat h =
     steps_hold a (length F.clauses) (map_of F) (length F.clauses) steps h
     (λ q C live. found_true a F.clauses 1 q C sat (sym (get-from_entries nat_cmp_total (enumerate_from 1 F.clauses) q) ∙ live))
 
--- ---- lemmas that are told are the log's own
+-- ---- the lemmas of a receipt are the log's own
 pub told_are_own : (cubes : List Cube) (before : List Clause) (lemmas : List Numbered) (l : Numbered) → Contains (closing_of cubes before lemmas) l → Contains lemmas l
 told_are_own cubes before [] l i = i
-told_are_own cubes before (x ∷ lemmas) l i = at (closes_more cubes before x.clause) i (told_are_own cubes (before ++ x.clause ∷ []) lemmas l)
+told_are_own cubes before (x ∷ lemmas) l i = at (closes_new_leaf cubes before x.clause) i (told_are_own cubes (before ++ x.clause ∷ []) lemmas l)
   where
     at : (b : Bool) → Contains (cond b (x ∷ closing_of cubes (before ++ x.clause ∷ []) lemmas) (closing_of cubes (before ++ x.clause ∷ []) lemmas)) l
         → (Contains (closing_of cubes (before ++ x.clause ∷ []) lemmas) l → Contains lemmas l) → Contains (x ∷ lemmas) l
@@ -129,25 +129,25 @@ told_are_own cubes before (x ∷ lemmas) l i = at (closes_more cubes before x.cl
     ]
     at false j rest = Contains-cons x l lemmas (rest j)
 
-live_of : (F : Cnf) (cubes : List Cube) (log : List ℕ) (r : Told) (h : IsReceiptOf F cubes log r) (l : Numbered) → Contains r.closing l
+live_of : (F : Cnf) (cubes : List Cube) (log : List ℕ) (r : ReceiptContents) (h : IsReceiptOf F cubes log r) (l : Numbered) → Contains r.closing l
     → IsLive (λ n. n) (after_steps (map_of F) h.steps) (length F.clauses + 1) (additions h.steps) l
 live_of F cubes log r h l i =
     live_only (λ n. n) (after_steps (map_of F) h.steps) (length F.clauses + 1) (additions h.steps) l
-    (told_are_own cubes [] (own_lemmas F h.steps) l (subst (λ (ls : List Numbered). Contains ls l) h.closing i))
+    (told_are_own cubes [] (live_lemmas F h.steps) l (subst (λ (ls : List Numbered). Contains ls l) h.closing i))
 
-pub told_follow : (F : Cnf) (cubes : List Cube) (log : List ℕ) (r : Told) → IsReceiptOf F cubes log r → (l : Numbered) → Contains r.closing l → Follows F l.clause
+pub told_follow : (F : Cnf) (cubes : List Cube) (log : List ℕ) (r : ReceiptContents) → IsReceiptOf F cubes log r → (l : Numbered) → Contains r.closing l → Follows F l.clause
 told_follow F cubes log r h l i a sat =
     let live = live_of F cubes log r h l i in
     log_holds a F h.steps sat h.is_log live.number l.clause live.lives
 
-told_closes : (F : Cnf) (q : Cube) (trees : List Cube) (log : List ℕ) (r : Told) (h : IsReceiptOf F trees log r) (l : Numbered) → Contains r.closing l → closes q l.clause ≡ true → ClosesLeaf F q h.steps
+told_closes : (F : Cnf) (q : Cube) (trees : List Cube) (log : List ℕ) (r : ReceiptContents) (h : IsReceiptOf F trees log r) (l : Numbered) → Contains r.closing l → closes q l.clause ≡ true → ClosesLeaf F q h.steps
 told_closes F q trees log r h l i e =
     let live = live_of F trees log r h l i in
     let low = live.low in
     record { id = live.number; clause = l.clause; own = omega arith; lives = live.lives; ends = e }
 
 pub covered_closed : (F : Cnf) (cubes : List Cube) (texts files : List (List ℕ)) → AreCovered F cubes texts
-    → ((text : List ℕ) (r : Told) → Contains texts text → SpellsReceipt text r → r.formula ≡ formula_digest F
+    → ((text : List ℕ) (r : ReceiptContents) → Contains texts text → SpellsReceipt text r → r.formula ≡ formula_digest F
     → (file : List ℕ) × (tree : List Cube) × Contains files file × IsReceiptOf F tree file r)
     → (q : Cube) → Contains cubes q → IsClosedByLog F files q
 covered_closed F cubes texts files covered are q i =

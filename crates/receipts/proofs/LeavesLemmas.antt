@@ -1,4 +1,4 @@
--- Which leaves of a tree are closed by the texts that were taken, and lemmas that are taken in turn.
+-- The leaves that the texts close which were taken, and the lemmas of one text, taken in turn.
 use Rattle.std.proofs.Common.{◌≡◌, inl, inr, ℕ, ◌+◌, ◌^◌, ◌≤◌, ◌<◌, Bool, true, false, ◌||◌, ◌&&◌, List, [], ◌∷◌, ◌++◌, length, map, take, get_or, cond, Result, Ok, Err, IfOk, OnOk, refl, sym, ◌∙◌, ap, subst, append_assoc, arith}
 use Rattle.std.specs.Prelude.{◌↔◌}
 use Rattle.std.specs.List.{Contains, list_all}
@@ -8,26 +8,26 @@ use Rattle.dimacs.specs.logic.Cnf.{Cnf}
 use Rattle.dimacs.specs.logic.Literal.{Clause}
 use Rattle.dimacs.proofs.Members.{Contains-head, Contains-cons, Contains-cons_cases, Contains-nil}
 use Rattle.icnf.specs.Leaves.{Cube}
-use Rattle.gathering.specs.Closing.{Leaf, Numbered, is_closed}
-use Rattle.gathering.specs.Gathering.{gathered}
-use Rattle.gathering.specs.Written.{leaves_of}
-use Rattle.gathering.proofs.ClosedLemmas.{gathered_cubes}
-use Rattle.gathering.proofs.SettleLemmas.{both, from_map}
-use Rattle.receipts.specs.Covering.{AreCovered, IsClosedByText, LeavesAre, closes_more, closing_of, is_closed_by}
-use Rattle.receipts.specs.Covers.{Holds}
-use Rattle.receipts.specs.Telling.{lemma_of, lemmas_in}
+use Rattle.log_join.specs.ClosedLeaves.{Leaf, Numbered, is_closed}
+use Rattle.log_join.specs.JoinedLogs.{joined_so_far}
+use Rattle.log_join.specs.Written.{leaves_of}
+use Rattle.log_join.proofs.ClosedLemmas.{gathered_cubes}
+use Rattle.log_join.proofs.SettleLemmas.{both, from_map}
+use Rattle.receipts.specs.ClosedLeaves.{AreCovered, IsClosedByText, LeavesClosedByTexts, closes_new_leaf, closing_of, is_closed_by}
+use Rattle.receipts.specs.Cover.{HasTakenTexts}
+use Rattle.receipts.specs.Contents.{lemma_of, lemmas_in}
 use Rattle.receipts.specs.declared.cover.Cover.{Cover}
 use Rattle.receipts.specs.declared.coverage.Coverage.{Coverage}
 use Rattle.receipts.specs.declared.lemma.ClosingLemma.{ClosingLemma}
-use Rattle.receipts.specs.Coverage.{Covers, absurdity}
-use Rattle.receipts.specs.inner.Some.{is_some_lemma}
+use Rattle.receipts.specs.Coverage.{HasTakenClauses, absurdity}
+use Rattle.receipts.specs.inner.NonEmpty.{is_some_lemma}
 use Rattle.receipts.proofs.CoverageLemmas.{Agree}
-use Rattle.receipts.proofs.ReceivingLemmas.{closing_snoc}
+use Rattle.receipts.proofs.LogReadLemmas.{closing_snoc}
 use Rattle.receipts.proofs.TakenLemmas.{clauses_of}
 
 -- ---- leaves
-pub leaves_are : (F : Cnf) (cubes : List Cube) (texts : List (List ℕ)) (c : Cover) → Holds F cubes texts c → LeavesAre F cubes texts (leaves_of c.coverage.gatherer)
-leaves_are F cubes texts c h = subst (LeavesAre F cubes texts) (sym h.covers.between.stands.leaves) (record {
+pub leaves_are : (F : Cnf) (cubes : List Cube) (texts : List (List ℕ)) (c : Cover) → HasTakenTexts F cubes texts c → LeavesClosedByTexts F cubes texts (leaves_of c.coverage.joiner)
+leaves_are F cubes texts c h = subst (LeavesClosedByTexts F cubes texts) (sym h.covers.between.stands.leaves) (record {
   cubes_are = gathered_cubes absurdity cubes h.covers.logs;
   closed = λ k i. (
     λ t. (h.are k.cube).0 (sym (agrees k i) ∙ t),
@@ -35,13 +35,13 @@ leaves_are F cubes texts c h = subst (LeavesAre F cubes texts) (sym h.covers.bet
   );
 })
   where
-    agrees : (k : Leaf) → Contains (gathered absurdity cubes h.covers.logs).leaves k → is_closed k ≡ is_closed_by h.clauses k.cube
-    agrees k i = All-contains (Agree h.clauses) (gathered absurdity cubes h.covers.logs).leaves k h.covers.closed i
+    agrees : (k : Leaf) → Contains (joined_so_far absurdity cubes h.covers.logs).leaves k → is_closed k ≡ is_closed_by h.clauses k.cube
+    agrees k i = All-contains (Agree h.clauses) (joined_so_far absurdity cubes h.covers.logs).leaves k h.covers.closed i
 
-pub few_leaves : (F : Cnf) (cubes : List Cube) (texts : List (List ℕ)) (c : Cover) → Holds F cubes texts c → length (leaves_of c.coverage.gatherer) < 2 ^ 64
+pub few_leaves : (F : Cnf) (cubes : List Cube) (texts : List (List ℕ)) (c : Cover) → HasTakenTexts F cubes texts c → length (leaves_of c.coverage.joiner) < 2 ^ 64
 few_leaves F cubes texts c h =
-    let same : length (leaves_of c.coverage.gatherer) ≡ length cubes =
-    sym (length-map (leaves_of c.coverage.gatherer) (λ k. k.cube)) ∙ ap length (leaves_are F cubes texts c h).cubes_are in
+    let same : length (leaves_of c.coverage.joiner) ≡ length cubes =
+    sym (length-map (leaves_of c.coverage.joiner) (λ k. k.cube)) ∙ ap length (leaves_are F cubes texts c h).cubes_are in
     let few = h.covers.few in
     omega arith
 
@@ -63,7 +63,7 @@ in_cubes (x ∷ leaves) k i = elim (Contains-cons_cases x k leaves i) [
   | inr later ↦ Contains-cons x.cube k.cube (map (λ (y : Leaf). y.cube) leaves) (in_cubes leaves k later)
 ]
 
-pub complete : (F : Cnf) (cubes : List Cube) (texts : List (List ℕ)) (leaves : List Leaf) (b : Bool) → LeavesAre F cubes texts leaves → b ≡ list_all is_closed leaves → (b ≡ true) ↔ AreCovered F cubes texts
+pub complete : (F : Cnf) (cubes : List Cube) (texts : List (List ℕ)) (leaves : List Leaf) (b : Bool) → LeavesClosedByTexts F cubes texts leaves → b ≡ list_all is_closed leaves → (b ≡ true) ↔ AreCovered F cubes texts
 complete F cubes texts leaves b h e = (
   λ t q i.
       let k = from_map (λ (z : Leaf). z.cube) leaves q (subst (λ (qs : List Cube). Contains qs q) (sym h.cubes_are) i) in
@@ -92,9 +92,9 @@ clause_snoc [] l = refl
 clause_snoc (x ∷ ls) l = ap (λ (Cs : List Clause). x.clause ∷ Cs) (clause_snoc ls l)
 
 pub covers_one : (cubes : List Cube) (clauses : List Clause) (ls more : List Numbered) (l : Numbered) (new : Coverage) → more ≡ ls ++ l ∷ []
-    → Covers cubes ((clauses ++ clauses_of ls) ++ l.clause ∷ []) new → Covers cubes (clauses ++ clauses_of more) new
+    → HasTakenClauses cubes ((clauses ++ clauses_of ls) ++ l.clause ∷ []) new → HasTakenClauses cubes (clauses ++ clauses_of more) new
 covers_one cubes clauses ls more l new e h =
-    subst (λ (Cs : List Clause). Covers cubes Cs new)
+    subst (λ (Cs : List Clause). HasTakenClauses cubes Cs new)
     (append_assoc clauses (clauses_of ls) (l.clause ∷ []) ∙ ap (λ (Cs : List Clause). clauses ++ Cs) (sym (clause_snoc ls l)) ∙ ap (λ (xs : List Numbered). clauses ++ clauses_of xs) (sym e)) h
 
 some_append : (xs ys : List Numbered) → is_some_lemma (xs ++ ys) ≡ (is_some_lemma xs || is_some_lemma ys)
@@ -106,9 +106,9 @@ some_one true l = refl
 some_one false l = refl
 
 pub told_one : (cubes : List Cube) (clauses : List Clause) (ls more : List Numbered) (l : Numbered) (a b r : Bool) → more ≡ ls ++ l ∷ [] → a ≡ is_some_lemma (closing_of cubes clauses ls)
-    → b ≡ closes_more cubes (clauses ++ clauses_of ls) l.clause → r ≡ (a || b) → r ≡ is_some_lemma (closing_of cubes clauses more)
+    → b ≡ closes_new_leaf cubes (clauses ++ clauses_of ls) l.clause → r ≡ (a || b) → r ≡ is_some_lemma (closing_of cubes clauses more)
 told_one cubes clauses ls more l a b r e a_is b_is r_is =
-    let closes : Bool = closes_more cubes (clauses ++ clauses_of ls) l.clause in
+    let closes : Bool = closes_new_leaf cubes (clauses ++ clauses_of ls) l.clause in
     r_is ∙ ap (λ (x : Bool). x || b) a_is ∙ ap (λ (x : Bool). is_some_lemma (closing_of cubes clauses ls) || x) (b_is ∙ sym (some_one closes l))
     ∙ sym (some_append (closing_of cubes clauses ls) (cond closes (l ∷ []) []))
     ∙ ap is_some_lemma (sym (closing_snoc cubes clauses ls l))

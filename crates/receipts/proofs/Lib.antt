@@ -1,12 +1,12 @@
 pub mod CoverageLemmas
-pub mod CoversLemmas
+pub mod CoverageStepLemmas
 pub mod EndLemmas
-pub mod HandingLemmas
+pub mod KeptLemmas
 pub mod HeadLemmas
 pub mod LawLemmas
 pub mod LeavesLemmas
-pub mod PartLemmas
-pub mod ReceivingLemmas
+pub mod FieldLemmas
+pub mod LogReadLemmas
 pub mod StepLemmas
 pub mod TakenLemmas
 pub mod TextLemmas

@@ -1,4 +1,4 @@
--- Lines that are those of lemmas.
+-- Lines, and the lemmas that they spell.
 use Rattle.std.proofs.Common.{◌≡◌, ◌≢◌, ◌==◌, ◌≤◌, ◌<◌, ℕ, length, arith, Bool, true, false, List, [], ◌∷◌, bytes_eq, cond, Option, Some, None, Result, Ok, refl, sym, ◌∙◌, ap, subst}
 use Rattle.std.specs.Prelude.{MatchOption, is_none, is_some, not}
 use Rattle.std.proofs.lemmas.Bool.{true≢false}
@@ -6,10 +6,10 @@ use Rattle.std.proofs.lemmas.Bool.Decides.{nat_tests}
 use Rattle.std.proofs.lemmas.Slice.Eq.{bytes_eq-Decides}
 use Rattle.dimacs.specs.logic.Literal.{Clause}
 use Rattle.dimacs.specs.logic.Rat.{Group}
-use Rattle.gathering.specs.Closing.{Numbered}
+use Rattle.log_join.specs.ClosedLeaves.{Numbered}
 use Rattle.lrat_text.specs.Grammar.{IsStep, SpellsStep}
-use Rattle.lrat_text.specs.Reading.{step_in}
-use Rattle.lrat_text.specs.Writing.{line_text, written_id}
+use Rattle.lrat_text.specs.Parser.{step_in}
+use Rattle.lrat_text.specs.WrittenLine.{line_text, canonical_id}
 use Rattle.lrat_text.specs.declared.fault.TextFault.{TextFault}
 use Rattle.lrat_text.specs.declared.step.Step.{Step}
 use Rattle.lrat_text.specs.declared.step.Step.TheVariants.{Add, Delete}
@@ -48,19 +48,19 @@ hinted_is_none line id C hints groups h some l small e = some (ap hints_in_step 
 pub grouped_is_none : (line : List ℕ) (id : ℕ) (C : Clause) (hints : List ℕ) (groups : List Group) → SpellsStep line (Add id C hints groups) → groups ≢ [] → NoLine line
 grouped_is_none line id C hints groups h some l small e = some (ap groups_in_step (its_step line (Add id C hints groups) l h small e))
 
-pub unwritten_is_none : (line : List ℕ) (step : Step) (o : Option ℕ) → SpellsStep line step → o ≡ written_id line step → is_none o ≡ true → NoLine line
+pub unwritten_is_none : (line : List ℕ) (step : Step) (o : Option ℕ) → SpellsStep line step → o ≡ canonical_id line step → is_none o ≡ true → NoLine line
 unwritten_is_none line step o h is none l small e =
     let s : step ≡ unhinted l = its_step line step l h small e in
     let same : bytes_eq line (line_text l.id (unhinted l)) ≡ true = (bytes_eq-Decides line (line_text l.id (unhinted l))).1 e in
-    let some : o ≡ Some l.id = is ∙ ap (written_id line) s ∙ ap (λ (b : Bool). cond b (Some l.id) None) same in
+    let some : o ≡ Some l.id = is ∙ ap (canonical_id line) s ∙ ap (λ (b : Bool). cond b (Some l.id) None) same in
     true≢false (sym none ∙ ap is_none some)
 
 -- and a line that is written
 pub written_is : (line : List ℕ) (id : ℕ) (C : Clause) (hints : List ℕ) (groups : List Group) (o : Option ℕ) → SpellsStep line (Add id C hints groups) → hints ≡ [] → groups ≡ []
-    → o ≡ written_id line (Add id C hints groups) → is_none o ≡ false → (line ≡ line_text id (Add id C [] [])) × IsStep (Add id C [] [])
+    → o ≡ canonical_id line (Add id C hints groups) → is_none o ≡ false → (line ≡ line_text id (Add id C [] [])) × IsStep (Add id C [] [])
 written_is line id C hints groups o h no_hints no_groups is some =
     let s : Add id C hints groups ≡ Add id C [] [] = ap (λ (hs : List ℕ). Add id C hs groups) no_hints ∙ ap (λ (gs : List Group). Add id C [] gs) no_groups in
-    (at (bytes_eq line (line_text id (Add id C [] []))) refl (is ∙ ap (written_id line) s), subst IsStep s h.limits)
+    (at (bytes_eq line (line_text id (Add id C [] []))) refl (is ∙ ap (canonical_id line) s), subst IsStep s h.limits)
   where
     at : (b : Bool) → bytes_eq line (line_text id (Add id C [] [])) ≡ b → o ≡ cond b (Some id) None → line ≡ line_text id (Add id C [] [])
     at true e f = (bytes_eq-Decides line (line_text id (Add id C [] []))).0 e

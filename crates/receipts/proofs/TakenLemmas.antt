@@ -1,4 +1,4 @@
--- Texts that are taken one after the other, and what they close.
+-- Texts that a cover takes one after the other, and the leaves that they close.
 use Rattle.std.proofs.Common.{◌≡◌, ◌≢◌, ◌⊎◌, inl, inr, ℕ, Bool, true, false, not, ◌&&◌, ◌||◌, List, [], ◌∷◌, ◌++◌, map, cond, refl, sym, ◌∙◌, ap, subst}
 use Rattle.std.specs.List.{Contains, list_any}
 use Rattle.std.proofs.lemmas.Bool.{both_ways, cases_Bool, not-true, or_cases, or_left, or_right, true≢false}
@@ -8,14 +8,14 @@ use Rattle.dimacs.specs.logic.Cnf.{Cnf}
 use Rattle.dimacs.specs.logic.Literal.{Clause}
 use Rattle.dimacs.proofs.Members.{Contains-head, Contains-cons, Contains-cons_cases, Contains-nil}
 use Rattle.icnf.specs.Leaves.{Cube}
-use Rattle.gathering.specs.Closing.{Numbered, closes}
-use Rattle.gathering.proofs.SettleLemmas.{any_member, both}
-use Rattle.receipts.specs.Covering.{ClosesAsReceipt, ClosesMore, IsClosedByText, closes_more, closing_of, is_closed_by}
-use Rattle.receipts.specs.Covers.{Holds}
-use Rattle.receipts.specs.Receipts.{SpellsReceipt, Told, formula_digest}
+use Rattle.log_join.specs.ClosedLeaves.{Numbered, closes}
+use Rattle.log_join.proofs.SettleLemmas.{any_member, both}
+use Rattle.receipts.specs.ClosedLeaves.{ClosesAsReceipt, ClosesNewLeaf, IsClosedByText, closes_new_leaf, closing_of, is_closed_by}
+use Rattle.receipts.specs.Cover.{HasTakenTexts}
+use Rattle.receipts.specs.Receipts.{SpellsReceipt, ReceiptContents, formula_digest}
 use Rattle.receipts.specs.declared.cover.Cover.{Cover}
-use Rattle.receipts.specs.Coverage.{Covers}
-use Rattle.receipts.specs.inner.Some.{is_some_lemma}
+use Rattle.receipts.specs.Coverage.{HasTakenClauses}
+use Rattle.receipts.specs.inner.NonEmpty.{is_some_lemma}
 
 abbrev pub clauses_of : List Numbered → List Clause
 clauses_of lemmas = map (λ l. l.clause) lemmas
@@ -44,7 +44,7 @@ by_named q (x ∷ lemmas) l i e = elim (Contains-cons_cases x l lemmas i) [
 by_both : (q : Cube) (a b : List Clause) → is_closed_by (a ++ b) q ≡ (is_closed_by a q || is_closed_by b q)
 by_both q a b = list_any-append (closes q) a b
 
--- ---- one text more
+-- ---- one more text
 text_before : (F : Cnf) (q : Cube) (texts : List (List ℕ)) (text : List ℕ) → IsClosedByText F texts q → IsClosedByText F (texts ++ text ∷ []) q
 text_before F q texts text (t, i, c) = (t, Contains-append_left texts (text ∷ []) t i, c)
 
@@ -61,23 +61,23 @@ text_cases F q texts text (t, i, c) = elim (Contains-append_cases texts (text �
 ]
 
 -- the text spells one receipt
-abbrev pub IsOnly : List ℕ → Told → Type 0
-IsOnly text r = (s : Told) → SpellsReceipt text s → r ≡ s
+abbrev pub IsOnly : List ℕ → ReceiptContents → Type 0
+IsOnly text r = (s : ReceiptContents) → SpellsReceipt text s → r ≡ s
 
-closes_as : (F : Cnf) (q : Cube) (text : List ℕ) (r : Told) → SpellsReceipt text r → r.formula ≡ formula_digest F → is_closed_by (clauses_of r.closing) q ≡ true → ClosesAsReceipt F q text
+closes_as : (F : Cnf) (q : Cube) (text : List ℕ) (r : ReceiptContents) → SpellsReceipt text r → r.formula ≡ formula_digest F → is_closed_by (clauses_of r.closing) q ≡ true → ClosesAsReceipt F q text
 closes_as F q text r spells formula e =
     let l = named q r.closing e in
     record { told = r; spells = spells; formula = formula; lemma = l.0; named = l.1; ends = l.2 }
 
-as_closes : (F : Cnf) (q : Cube) (text : List ℕ) (r : Told) → IsOnly text r → ClosesAsReceipt F q text → (r.formula ≡ formula_digest F) × (is_closed_by (clauses_of r.closing) q ≡ true)
+as_closes : (F : Cnf) (q : Cube) (text : List ℕ) (r : ReceiptContents) → IsOnly text r → ClosesAsReceipt F q text → (r.formula ≡ formula_digest F) × (is_closed_by (clauses_of r.closing) q ≡ true)
 as_closes F q text r only c =
     let s : r ≡ c.told = only c.told c.spells in (
-      ap (λ (z : Told). z.formula) s ∙ c.formula,
-      by_named q r.closing c.lemma (subst (λ (z : Told). Contains z.closing c.lemma) (sym s) c.named) c.ends,
+      ap (λ (z : ReceiptContents). z.formula) s ∙ c.formula,
+      by_named q r.closing c.lemma (subst (λ (z : ReceiptContents). Contains z.closing c.lemma) (sym s) c.named) c.ends,
     )
 
-pub holds_more : (F : Cnf) (cubes : List Cube) (texts : List (List ℕ)) (text : List ℕ) (r : Told) (old new : Cover) (h : Holds F cubes texts old) → SpellsReceipt text r → IsOnly text r
-    → r.formula ≡ formula_digest F → new.formula ≡ old.formula → Covers cubes (h.clauses ++ clauses_of r.closing) new.coverage → Holds F cubes (texts ++ text ∷ []) new
+pub holds_more : (F : Cnf) (cubes : List Cube) (texts : List (List ℕ)) (text : List ℕ) (r : ReceiptContents) (old new : Cover) (h : HasTakenTexts F cubes texts old) → SpellsReceipt text r → IsOnly text r
+    → r.formula ≡ formula_digest F → new.formula ≡ old.formula → HasTakenClauses cubes (h.clauses ++ clauses_of r.closing) new.coverage → HasTakenTexts F cubes (texts ++ text ∷ []) new
 holds_more F cubes texts text r old new h spells only formula same covers = record {
   formula = ap (λ z. z.bytes) same ∙ h.formula;
   clauses = h.clauses ++ clauses_of r.closing;
@@ -95,11 +95,11 @@ holds_more F cubes texts text r old new h spells only formula same covers = reco
 }
 
 -- a text that closes nothing over the formula
-pub holds_none : (F : Cnf) (cubes : List Cube) (texts : List (List ℕ)) (text : List ℕ) (old new : Cover) → Holds F cubes texts old → new ≡ old → ((q : Cube) → ¬ (ClosesAsReceipt F q text)) → Holds F cubes (texts ++ text ∷ []) new
+pub holds_none : (F : Cnf) (cubes : List Cube) (texts : List (List ℕ)) (text : List ℕ) (old new : Cover) → HasTakenTexts F cubes texts old → new ≡ old → ((q : Cube) → ¬ (ClosesAsReceipt F q text)) → HasTakenTexts F cubes (texts ++ text ∷ []) new
 holds_none F cubes texts text old new h same none = record {
   formula = ap (λ (z : Cover). z.formula.bytes) same ∙ h.formula;
   clauses = h.clauses;
-  covers = subst (λ (z : Cover). Covers cubes h.clauses z.coverage) (sym same) h.covers;
+  covers = subst (λ (z : Cover). HasTakenClauses cubes h.clauses z.coverage) (sym same) h.covers;
   are = λ q. (
     λ e. text_before F q texts text ((h.are q).0 e),
     λ by. elim (text_cases F q texts text by) [
@@ -109,13 +109,13 @@ holds_none F cubes texts text old new h same none = record {
   );
 }
 
-pub other_closes_none : (F : Cnf) (text : List ℕ) (r : Told) → IsOnly text r → r.formula ≢ formula_digest F → (q : Cube) → ¬ (ClosesAsReceipt F q text)
+pub other_closes_none : (F : Cnf) (text : List ℕ) (r : ReceiptContents) → IsOnly text r → r.formula ≢ formula_digest F → (q : Cube) → ¬ (ClosesAsReceipt F q text)
 other_closes_none F text r only other q c = other (as_closes F q text r only c).0
 
-pub refused_closes_none : (F : Cnf) (text : List ℕ) → ((r : Told) → ¬ (SpellsReceipt text r)) → (q : Cube) → ¬ (ClosesAsReceipt F q text)
+pub refused_closes_none : (F : Cnf) (text : List ℕ) → ((r : ReceiptContents) → ¬ (SpellsReceipt text r)) → (q : Cube) → ¬ (ClosesAsReceipt F q text)
 refused_closes_none F text none q c = none c.told c.spells
 
--- ---- what is told
+-- ---- what a text is
 pub record SomeMore (cubes : List Cube) (before : List Clause) (lemmas : List Numbered) : Type 0 where
   pub cube : Cube
   pub one : Contains cubes cube
@@ -130,12 +130,12 @@ not_before q before C e = elim (cases_Bool (is_closed_by before q)) [
 
 pub some_more : (cubes : List Cube) (before : List Clause) (lemmas : List Numbered) → is_some_lemma (closing_of cubes before lemmas) ≡ true → SomeMore cubes before lemmas
 some_more cubes before [] e = absurd (true≢false (sym e))
-some_more cubes before (l ∷ lemmas) e = at (closes_more cubes before l.clause) refl e (some_more cubes (before ++ l.clause ∷ []) lemmas)
+some_more cubes before (l ∷ lemmas) e = at (closes_new_leaf cubes before l.clause) refl e (some_more cubes (before ++ l.clause ∷ []) lemmas)
   where
     rest : List Numbered
     rest = closing_of cubes (before ++ l.clause ∷ []) lemmas
 
-    at : (b : Bool) → closes_more cubes before l.clause ≡ b → is_some_lemma (cond b (l ∷ rest) rest) ≡ true
+    at : (b : Bool) → closes_new_leaf cubes before l.clause ≡ b → is_some_lemma (cond b (l ∷ rest) rest) ≡ true
         → (is_some_lemma rest ≡ true → SomeMore cubes (before ++ l.clause ∷ []) lemmas) → SomeMore cubes before (l ∷ lemmas)
     at true is f later =
         let q = any_one (λ q. closes q l.clause && not (is_closed_by before q)) cubes is in
@@ -151,19 +151,19 @@ none_yet b c e f = ap (λ x. x || (c || false)) e ∙ ap (λ x. x || false) f
 pub more_some : (cubes : List Cube) (before : List Clause) (lemmas : List Numbered) (q : Cube) → Contains cubes q → is_closed_by before q ≡ false → is_closed_by (clauses_of lemmas) q ≡ true
     → is_some_lemma (closing_of cubes before lemmas) ≡ true
 more_some cubes before [] q i left e = absurd (true≢false (sym e))
-more_some cubes before (l ∷ lemmas) q i left e = at (closes_more cubes before l.clause) refl (more_some cubes (before ++ l.clause ∷ []) lemmas q i)
+more_some cubes before (l ∷ lemmas) q i left e = at (closes_new_leaf cubes before l.clause) refl (more_some cubes (before ++ l.clause ∷ []) lemmas q i)
   where
     rest : List Numbered
     rest = closing_of cubes (before ++ l.clause ∷ []) lemmas
 
-    here : closes q l.clause ≡ true → closes_more cubes before l.clause ≡ true
+    here : closes q l.clause ≡ true → closes_new_leaf cubes before l.clause ≡ true
     here t = any_member (λ p. closes p l.clause && not (is_closed_by before p)) cubes q i (ap (λ b. b && not (is_closed_by before q)) t ∙ ap not left)
 
-    at : (b : Bool) → closes_more cubes before l.clause ≡ b
+    at : (b : Bool) → closes_new_leaf cubes before l.clause ≡ b
         → (is_closed_by (before ++ l.clause ∷ []) q ≡ false → is_closed_by (clauses_of lemmas) q ≡ true → is_some_lemma rest ≡ true) → is_some_lemma (cond b (l ∷ rest) rest) ≡ true
     at true is later = refl
     at false is later = elim (cases_Bool (closes q l.clause)) [
-      | inl t ↦ absurd (both_ways (closes_more cubes before l.clause) is (here t))
+      | inl t ↦ absurd (both_ways (closes_new_leaf cubes before l.clause) is (here t))
       | inr f ↦ later (by_both q before (l.clause ∷ []) ∙ none_yet (is_closed_by before q) (closes q l.clause) left f)
           (elim (or_cases (closes q l.clause) (is_closed_by (clauses_of lemmas) q) e) [
             | inl t ↦ absurd (both_ways (closes q l.clause) f t)
@@ -171,15 +171,15 @@ more_some cubes before (l ∷ lemmas) q i left e = at (closes_more cubes before 
           ])
     ]
 
--- it closes more exactly where its lemmas do
-pub tells_more : (F : Cnf) (cubes : List Cube) (texts : List (List ℕ)) (text : List ℕ) (r : Told) (old : Cover) (h : Holds F cubes texts old) → SpellsReceipt text r
-    → r.formula ≡ formula_digest F → is_some_lemma (closing_of cubes h.clauses r.closing) ≡ true → ClosesMore F cubes texts text
+-- a receipt closes a new leaf exactly if its lemmas do
+pub tells_more : (F : Cnf) (cubes : List Cube) (texts : List (List ℕ)) (text : List ℕ) (r : ReceiptContents) (old : Cover) (h : HasTakenTexts F cubes texts old) → SpellsReceipt text r
+    → r.formula ≡ formula_digest F → is_some_lemma (closing_of cubes h.clauses r.closing) ≡ true → ClosesNewLeaf F cubes texts text
 tells_more F cubes texts text r old h spells formula e =
     let m = some_more cubes h.clauses r.closing e in
     (m.cube, m.one, λ by. both_ways (is_closed_by h.clauses m.cube) m.unclosed ((h.are m.cube).1 by), closes_as F m.cube text r spells formula m.closing)
 
-pub tells_none : (F : Cnf) (cubes : List Cube) (texts : List (List ℕ)) (text : List ℕ) (r : Told) (old : Cover) (h : Holds F cubes texts old) → IsOnly text r
-    → is_some_lemma (closing_of cubes h.clauses r.closing) ≡ false → ¬ (ClosesMore F cubes texts text)
+pub tells_none : (F : Cnf) (cubes : List Cube) (texts : List (List ℕ)) (text : List ℕ) (r : ReceiptContents) (old : Cover) (h : HasTakenTexts F cubes texts old) → IsOnly text r
+    → is_some_lemma (closing_of cubes h.clauses r.closing) ≡ false → ¬ (ClosesNewLeaf F cubes texts text)
 tells_none F cubes texts text r old h only e (q, i, none, c) =
     let left : is_closed_by h.clauses q ≡ false = elim (cases_Bool (is_closed_by h.clauses q)) [
       | inl t ↦ absurd (none ((h.are q).0 t))

@@ -1,15 +1,15 @@
--- The text of a receipt, line by line.
+-- The text of a receipt, as it is read line by line.
 use Rattle.std.proofs.Common.{◌≡◌, ◌≢◌, ◌==◌, ◌⊎◌, inl, inr, ℕ, false, List, [], ◌∷◌, ◌++◌, length, codes, Result, Ok, refl, sym, ◌∙◌, ap, subst, append_assoc, arith}
 use Rattle.std.proofs.lemmas.List.{append-nil}
 use Rattle.std.specs.List.{All, flat_map}
 use Rattle.std.proofs.lemmas.List.Elements.{All-nil, All-cons, All-head, All-tail, All-append}
 use Rattle.std.proofs.lemmas.Grind.{flat_map-append}
-use Rattle.gathering.specs.Closing.{Numbered}
+use Rattle.log_join.specs.ClosedLeaves.{Numbered}
 use Rattle.lrat_check.proofs.Lines.{no_lf_to}
 use Rattle.lrat_text.specs.Grammar.{IsStep, SpellsStep}
 use Rattle.lrat_text.specs.Lines.{IsCut, IsOpen}
-use Rattle.lrat_text.specs.Reading.{step_in, first_in, line_tokens, token_of}
-use Rattle.lrat_text.specs.Writing.{line_text}
+use Rattle.lrat_text.specs.Parser.{step_in, step_within, first_within, line_tokens, token_of}
+use Rattle.lrat_text.specs.WrittenLine.{line_text}
 use Rattle.lrat_text.specs.declared.fault.TextFault.{TextFault}
 use Rattle.lrat_text.specs.declared.step.Step.{Step}
 use Rattle.lrat_text.specs.declared.step.Step.TheVariants.{Add, Delete}
@@ -17,7 +17,7 @@ use Rattle.lrat_text.proofs.CutLemmas.{cut_same, none_cut}
 use Rattle.lrat_text.proofs.LineLemmas.{written_spells, written_one_line}
 use Rattle.lrat_text.proofs.SpellingLemmas.{spelled_found}
 use Rattle.receipts.specs.Receipts.{closing_text, lemma_line, unhinted}
-use Rattle.receipts.specs.inner.Lines.{IsWithin}
+use Rattle.receipts.specs.inner.LemmaLines.{HasReadLemmas}
 
 abbrev pub IsLine : Numbered → Type 0
 IsLine l = IsStep (unhinted l)
@@ -70,14 +70,14 @@ one_lemma line a b h k e f = same_lemma (same_step (step_in line) (unhinted a) (
     same_lemma s = ap lemma_in_step s
 
 end_is_no_lemma : (l : Numbered) → IsStep (unhinted l) → codes "end" ≡ line_text l.id (unhinted l) → ⊥
-unfolding step_in first_in line_tokens token_of
+unfolding step_within first_within line_tokens token_of
 end_is_no_lemma l h e = at (step_in (codes "end")) refl (ap step_in e ∙ spelled_found (line_text l.id (unhinted l)) (unhinted l) (spelled l h))
   where
     at : (r : Result Step TextFault) → step_in (codes "end") ≡ r → step_in (codes "end") ≡ Ok (unhinted l) → ⊥
     at r is f = absurd cc
 
 -- ---- the loop
-pub begin_within : (text : List ℕ) → IsWithin text [] text
+pub begin_within : (text : List ℕ) → HasReadLemmas text [] text
 begin_within text = record { whole = refl; limits = All-nil _; only = λ lemmas steps e. (lemmas, refl, e) }
 
 left_steps : (read left lemmas : List Numbered) → lemmas ≡ read ++ left → AreSteps lemmas → AreSteps left
@@ -85,8 +85,8 @@ left_steps [] left lemmas e h = subst AreSteps e h
 left_steps (x ∷ read) left [] e h = absurd cc
 left_steps (x ∷ read) left (y ∷ lemmas) e h = left_steps read left lemmas (let t : lemmas ≡ read ++ left = cc in t) (All-tail (λ (l : Numbered). IsStep (unhinted l)) y lemmas h)
 
-pub lemma_within : (text : List ℕ) (read : List Numbered) (rest line later : List ℕ) (l : Numbered) → IsWithin text read rest → IsCut rest line later → line ≡ line_text l.id (unhinted l) → IsStep (unhinted l)
-    → IsWithin text (read ++ l ∷ []) later
+pub lemma_within : (text : List ℕ) (read : List Numbered) (rest line later : List ℕ) (l : Numbered) → HasReadLemmas text read rest → IsCut rest line later → line ≡ line_text l.id (unhinted l) → IsStep (unhinted l)
+    → HasReadLemmas text (read ++ l ∷ []) later
 lemma_within text read rest line later l w cut is h = record {
   whole = w.whole ∙ ap (λ (x : List ℕ). flat_map lemma_line read ++ x) (cut.0 ∙ ap (λ (x : List ℕ). x ++ 10 ∷ later) is ∙ sym (append_assoc (line_text l.id (unhinted l)) (10 ∷ []) later))
       ∙ sym (append_assoc (flat_map lemma_line read) (lemma_line l) later)
@@ -106,11 +106,11 @@ lemma_within text read rest line later l w cut is h = record {
       ];
 }
 
-pub ends_within : (text : List ℕ) (read : List Numbered) (rest line later : List ℕ) → IsWithin text read rest → IsCut rest line later → line ≡ codes "end" → later ≡ [] → text ≡ closing_text read
+pub ends_within : (text : List ℕ) (read : List Numbered) (rest line later : List ℕ) → HasReadLemmas text read rest → IsCut rest line later → line ≡ codes "end" → later ≡ [] → text ≡ closing_text read
 ends_within text read rest line later w cut is none =
     w.whole ∙ ap (λ (x : List ℕ). flat_map lemma_line read ++ x) (cut.0 ∙ ap (λ (x : List ℕ). x ++ 10 ∷ later) is ∙ ap (λ (x : List ℕ). codes "end" ++ 10 ∷ x) none)
 
-pub only_these : (text : List ℕ) (read : List Numbered) (rest line later : List ℕ) → IsWithin text read rest → IsCut rest line later → line ≡ codes "end"
+pub only_these : (text : List ℕ) (read : List Numbered) (rest line later : List ℕ) → HasReadLemmas text read rest → IsCut rest line later → line ≡ codes "end"
     → (lemmas : List Numbered) → AreSteps lemmas → text ≡ closing_text lemmas → (later ≡ []) × (read ≡ lemmas)
 only_these text read rest line later w cut is lemmas steps e =
     let o = w.only lemmas steps e in
@@ -120,7 +120,7 @@ only_these text read rest line later w cut is lemmas steps e =
     ]
 
 -- a line that is neither
-pub no_lemma : (text : List ℕ) (read : List Numbered) (rest line later : List ℕ) → IsWithin text read rest → IsCut rest line later → line ≢ codes "end"
+pub no_lemma : (text : List ℕ) (read : List Numbered) (rest line later : List ℕ) → HasReadLemmas text read rest → IsCut rest line later → line ≢ codes "end"
     → ((l : Numbered) → IsStep (unhinted l) → line ≢ line_text l.id (unhinted l)) → (lemmas : List Numbered) → AreSteps lemmas → text ≡ closing_text lemmas → ⊥
 no_lemma text read rest line later w cut other none lemmas steps e =
     let o = w.only lemmas steps e in
@@ -129,10 +129,10 @@ no_lemma text read rest line later w cut other none lemmas steps e =
       | inr (k, more, parts, k_is, later_is) ↦ none k (All-head (λ (z : Numbered). IsStep (unhinted z)) k more (subst AreSteps parts (left_steps read o.0 lemmas o.1 steps))) k_is
     ]
 
-pub no_end : (text : List ℕ) (read : List Numbered) (rest : List ℕ) → IsWithin text read rest → IsOpen rest → (lemmas : List Numbered) → AreSteps lemmas → text ≡ closing_text lemmas → ⊥
+pub no_end : (text : List ℕ) (read : List Numbered) (rest : List ℕ) → HasReadLemmas text read rest → IsOpen rest → (lemmas : List Numbered) → AreSteps lemmas → text ≡ closing_text lemmas → ⊥
 no_end text read rest w bare lemmas steps e = let o = w.only lemmas steps e in no_line rest o.0 bare o.2
 
--- ---- parts at the front
+-- ---- prefixes
 pub same_front : (a b x y : List ℕ) → length a ≡ length b → a ++ x ≡ b ++ y → (a ≡ b) × (x ≡ y)
 same_front [] [] x y l e = (refl, e)
 same_front [] (k ∷ b) x y l e = absurd (omega arith)

@@ -1,12 +1,12 @@
--- The text of a receipt, part by part.
+-- The text of a receipt, as it is written part by part.
 use Rattle.std.proofs.Common.{◌≡◌, ℕ, ◌+◌, ◌<◌, List, [], ◌++◌, length, take, get_or, codes, decimal, sym, ◌∙◌, ap, append_assoc, arith}
 use Rattle.std.specs.List.{flat_map}
 use Rattle.std.proofs.lemmas.List.{append-nil, get_or-map, length-map}
-use Rattle.dimacs.specs.text.Spelling.{Begins}
+use Rattle.dimacs.specs.text.Grammar.{Begins}
 use Rattle.dimacs.proofs.WritingLemmas.{item_more}
 use Rattle.hex.specs.Hex.{encode_lower}
 use Rattle.receipts.specs.Receipts.{lemma_line}
-use Rattle.receipts.specs.Telling.{lemma_of, lemmas_in}
+use Rattle.receipts.specs.Contents.{lemma_of, lemmas_in}
 use Rattle.receipts.specs.declared.head.Head.{Head}
 use Rattle.receipts.specs.declared.lemma.ClosingLemma.{ClosingLemma}
 use Rattle.receipts.specs.inner.Heads.{headed}
@@ -20,7 +20,7 @@ lines_more old items xs i x below is e =
     (sym (get_or-map lemma_of xs i x (lemma_of x) below ∙ ap lemma_of (sym is))) e
 
 -- ---- the first lines
--- what was written stays at the front
+-- what was written stays a prefix
 pub begins_after : (old part mid new : List ℕ) → mid ≡ old ++ part → Begins mid new → Begins old new
 begins_after old part mid new e (more, is) = (part ++ more, is ∙ ap (λ (x : List ℕ). x ++ more) e ∙ append_assoc old part more)
 

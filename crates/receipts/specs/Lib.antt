@@ -1,7 +1,7 @@
 pub mod Coverage
-pub mod Covering
-pub mod Covers
+pub mod ClosedLeaves
+pub mod Cover
 pub mod Receipts
-pub mod Receiving
-pub mod Telling
+pub mod LogReceipt
+pub mod Contents
 pub mod inner

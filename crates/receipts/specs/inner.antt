@@ -1,5 +1,5 @@
 -- What only private contracts, invariants and proofs name. Nothing here is to be believed.
-pub mod Handing
+pub mod KeptLemmas
 pub mod Heads
-pub mod Lines
-pub mod Some
+pub mod LemmaLines
+pub mod NonEmpty

@@ -1,32 +1,35 @@
-//! Which leaves of a tree clauses close.
+//! A coverage: which leaves of a tree are closed by clauses.
 
 ghost use Rattle.std.specs.Prelude.{◌≡◌, [], Some};
 ghost use Rattle.std.specs.FinMap.{get};
 
-use gathering::Gatherer;
+use log_join::LogJoiner;
 use lrat_check::RupChecker;
 use lrat_text::Groups;
 
-/// Which leaves of a tree clauses close.
+/// The leaves of a tree that the clauses taken so far close.
 ///
-/// A `Gatherer` finds them, whose index is what makes it cheap. It takes logs over a formula; so each clause is handed to it as a log
-/// of one line, over a formula of the empty clause, of which every clause follows. What it writes is thrown away.
+/// A `LogJoiner` finds the leaves by its index, which makes this cheap, but it takes logs over a formula. Therefore each clause is handed
+/// to it as a log of one line over the formula of the empty clause alone, from which every clause follows. What the joiner writes is
+/// dropped.
 pub(crate) struct Coverage {
-    pub(crate) gatherer: Gatherer,
-    /// Has the empty clause, and tells which clauses have a literal and its negation.
-    pub(crate) pairs: RupChecker,
+    /// Knows which leaves are closed.
+    pub(crate) joiner: LogJoiner,
+    /// Holds the empty clause under the number 1, by which it finds which clauses are tautologies.
+    pub(crate) tautology_checker: RupChecker,
+    /// The groups of hints of a clause's line: none.
     pub(crate) groups: Groups,
+    /// What the joiner writes, which is dropped.
     pub(crate) scratch: Vec<u8>,
     ghost none: { groups ≡ [] },
-    ghost absurd: { get pairs 1 ≡ Some [] },
+    ghost absurd: { get tautology_checker 1 ≡ Some [] },
 }
 
-// By hand, so that whoever owns one drops it by one call, and no proof there goes through its parts.
 impl Drop for Coverage {
     fn drop(self) {
         let Coverage {
-            gatherer: _,
-            pairs: _,
+            joiner: _,
+            tautology_checker: _,
             groups: _,
             scratch: _,
         } = self;

@@ -1,20 +1,20 @@
-//! Why nothing is told.
+//! The faults of a receipt's text, of a cover, and of a log of which a receipt is made.
 
 ghost use Rattle.std.specs.Prelude.{◌≡◌};
 ghost use Rattle.receipts.specs.declared.fault.ReceiptFault.TheVariants as receipt;
 ghost use Rattle.receipts.specs.declared.fault.CoverFault.TheVariants as cover;
-ghost use Rattle.receipts.specs.declared.fault.ReceiveFault.TheVariants as receive;
+ghost use Rattle.receipts.specs.declared.fault.BuildFault.TheVariants as receive;
 
-use gathering::GatherFault;
+use log_join::LogJoinFault;
 use lrat_check::CheckFault;
 use std::alloc::{AllocError, AllocFailed};
 use thiserror::Error;
 
-/// Why a text is not read.
+/// Why a text is not read as a receipt.
 #[derive(Clone, Copy, Debug, PartialEq, Eq, Error)]
 pub enum ReceiptFault {
-    /// It is no receipt: this line, from 1, cannot stand there, or the text ends in it. That the text is no receipt is promised; the
-    /// number is a hint.
+    /// The text is no receipt: this line, from 1, is not one of a receipt, or the text ends in this line. A contract says that the text is
+    /// no receipt; none speaks of the line's number.
     #[error("line {0} is none of a receipt")]
     Line(u64),
     /// Memory was refused.
@@ -25,7 +25,7 @@ pub enum ReceiptFault {
 /// Why a cover cannot go on.
 #[derive(Clone, Copy, Debug, PartialEq, Eq, Error)]
 pub enum CoverFault {
-    /// There would be 2^48 clauses.
+    /// There would be 2^48 clauses, more than there are clause numbers.
     #[error("there would be 2^48 clauses")]
     TooMany,
     /// Memory was refused.
@@ -33,30 +33,30 @@ pub enum CoverFault {
     NoMemory,
 }
 
-/// Why there is no receipt of a text.
+/// Why a log has no receipt.
 #[derive(Clone, Copy, Debug, PartialEq, Eq, Error)]
-pub enum ReceiveFault {
-    /// It is no log over the formula: its first fault, and the line.
+pub enum BuildFault {
+    /// The text is no log over the formula: the text's first fault, with its line.
     #[error("{0}")]
     Log(CheckFault),
-    /// It is a log over the formula, and closes no leaf.
+    /// The text is a log over the formula that closes no leaf.
     #[error("the log closes nothing")]
     ClosesNothing,
-    /// Memory was refused, or its lemmas are 2^48 - 2 or more.
+    /// Memory was refused, or the log has 2^48 - 2 lemmas or more.
     #[error("no memory")]
     NoMemory,
 }
 
-impl ReceiveFault {
-    /// That of a text with this fault.
-    pub(crate) fn of_check(fault: CheckFault) -> ReceiveFault
+impl BuildFault {
+    /// The fault of a text in which the checker has found this fault.
+    pub(crate) fn of_check(fault: CheckFault) -> BuildFault
         ensures memory { fault.number ≡ 14 → result ≡ receive.NoMemory }
         ensures log { ¬ (fault.number ≡ 14) → result ≡ receive.Log fault }
     {
         if fault.is_no_memory() {
-            return ReceiveFault::NoMemory;
+            return BuildFault::NoMemory;
         }
-        ReceiveFault::Log(fault)
+        BuildFault::Log(fault)
     }
 }
 
@@ -84,18 +84,18 @@ impl From<AllocError> for CoverFault {
     }
 }
 
-impl From<AllocError> for ReceiveFault {
+impl From<AllocError> for BuildFault {
     ghost from_gives = { λ _ e. e ≡ receive.NoMemory };
 
-    fn from(_e: AllocError) -> ReceiveFault {
-        ReceiveFault::NoMemory
+    fn from(_e: AllocError) -> BuildFault {
+        BuildFault::NoMemory
     }
 }
 
-impl<T: Drop> From<AllocFailed<T>> for ReceiveFault {
+impl<T: Drop> From<AllocFailed<T>> for BuildFault {
     ghost from_gives = { λ _ e. e ≡ receive.NoMemory };
 
-    fn from(_e: AllocFailed<T>) -> ReceiveFault {
-        ReceiveFault::NoMemory
+    fn from(_e: AllocFailed<T>) -> BuildFault {
+        BuildFault::NoMemory
     }
 }

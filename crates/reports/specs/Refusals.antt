@@ -1,4 +1,4 @@
--- What is printed where there is no report.
+-- What is printed if there is no report.
 use Rattle.std.specs.Prelude.{ℕ, Bool, true, false, List, [], codes}
 use Rattle.reports.specs.declared.refusal.Refusal.{Refusal}
 use Rattle.reports.specs.declared.refusal.Refusal.TheVariants.{Usage, Input, Cubes, Proof, Links, Writing, NoMemory}

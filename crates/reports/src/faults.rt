@@ -1,7 +1,7 @@
 //! What is printed of an input and of cubes that are refused.
 
 ghost use Rattle.std.specs.Prelude.{◌≡◌, ◌++◌, OnErr, OnOk, IfOk, None, decimal};
-ghost use Rattle.dimacs.specs.text.Spelling.{Begins};
+ghost use Rattle.dimacs.specs.text.Grammar.{Begins};
 ghost use Rattle.reports.specs.Faults.{cubes_fault_text, fault_at, fault_text, input_fault_text, other_formula_text, step_fault_text};
 
 use crate::report::Report;

@@ -12,7 +12,7 @@ pub struct Report {
     pub stdout: Vec<u8>,
     /// The exit status.
     pub status: u8,
-    /// The proof to be written, where there is one: its text, packed.
+    /// The proof to be written, if there is one: its text, packed.
     pub proof: Option<PackedText>,
 }
 

@@ -29,7 +29,7 @@ rose_less j k a b rose fewer = elim rose [
   | inr top ↦ inr top
 ]
 
--- what was there before the first receive came without a call
+-- a frame that waited before the first receive took no call
 pub heard : {A : Type 0} (items now : List A) (a b : ℕ) → a ≤ b → (now ≡ items) ⊎ RoseBy 1 a b → now ≢ [] → RoseBy (one_if_none items) a b
 heard [] now a b rises either some = elim either [
   | inl same ↦ absurd (some same)
@@ -67,7 +67,7 @@ within j k n i end a b rose fewer turns = record {
       omega (arith, more, most);
 }
 
--- what a worker's run stands on, where a link that is broken ended it
+-- what a worker's run knows if a broken link ended it
 pub worked : {E : Type 0} (r : Result (Unit {0}) E) (broken : Broken) (a b c : ℕ) (v : Verdict) → OnOk r (broken ≡ Closed)
     → RoseBy 1 a b → b ≤ c → ((v ≡ Nothing) ⊎ (broken ≡ NoMemory) ⊎ RoseBy 2 b c) → OnOk r (HasBegun a c v)
 worked (Err e) broken a b c v closed one rises two = tt

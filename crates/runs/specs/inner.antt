@@ -1,4 +1,4 @@
 -- What only private contracts, invariants and proofs name. Nothing here is to be believed.
 pub mod Accounts
-pub mod Lines
-pub mod Seats
+pub mod Connections
+pub mod LocalWorkers

@@ -1,4 +1,4 @@
-//! Why a link is used no more.
+//! Why a link cannot be used any more, and what follows from that.
 
 ghost use Rattle.std.specs.Prelude.{◌≡◌, OnErr, OnOk, IfErr};
 ghost use Rattle.runs.specs.declared.broken.Broken.TheVariants.{Closed, NoMemory};
@@ -7,12 +7,12 @@ ghost use Rattle.lrat_check.specs.declared.verdict.Reaction.TheVariants as react
 use lrat_check::Reaction;
 use std::alloc::AllocError;
 
-/// Why a turn did not come to its end.
+/// Why a turn failed.
 #[derive(Clone, Copy, Debug, PartialEq, Eq)]
 pub(crate) enum Broken {
-    /// The link refused, ended, or brought bytes that are no frames.
+    /// The link refused bytes or ended, or brought bytes that are no frames.
     Closed,
-    /// A growth was refused.
+    /// Memory was refused.
     NoMemory,
 }
 
@@ -24,8 +24,8 @@ impl From<AllocError> for Broken {
     }
 }
 
-/// Want of memory ends the run; whatever else a machine answers says nothing to it.
-pub(crate) fn noted(reaction: Reaction) -> Result<(), Broken>
+/// Answers `NoMemory` if the reaction of a coordinator or a worker is `NoMemory`; every other reaction is `Ok`.
+pub(crate) fn check_memory(reaction: Reaction) -> Result<(), Broken>
     ensures reaction { OnErr result (reaction ≡ reactions.NoMemory) }
     ensures fault { IfErr result (λ b. b ≡ NoMemory) }
 {
@@ -35,8 +35,9 @@ pub(crate) fn noted(reaction: Reaction) -> Result<(), Broken>
     Ok(())
 }
 
-/// What a broken link means to a run.
-pub(crate) fn ended(broken: Broken) -> Result<(), AllocError>
+/// What a broken link means for its run: want of memory is an error, which ends the run; a closed link is `Ok`, and the run goes on without
+/// it.
+pub(crate) fn run_outcome(broken: Broken) -> Result<(), AllocError>
     ensures { OnOk result (broken ≡ Closed) }
 {
     match broken {

@@ -1,4 +1,4 @@
-//! What came to one end of a link.
+//! The inbox of one end of a link: bytes are put in, frames are taken out.
 
 ghost use Rattle.std.specs.Prelude.{◌≡◌, ◌≢◌, [], IfOk, IsSome};
 
@@ -6,14 +6,16 @@ use crate::broken::Broken;
 use frames::{Frame, FrameFault, Reader};
 use std::alloc::{AllocError, Global};
 
-/// The reader of an end, and the frames that came and are not delivered yet.
+/// The bytes and frames that came to one end of a link and are not delivered yet.
 pub struct Inbox {
+    /// The allocator of the frames.
     alloc: Global,
+    /// The reader of the frames; between calls it holds the bytes of a frame that is not complete.
     reader: Reader,
+    /// The complete frames that are not delivered yet, in order.
     waiting: Vec<Frame>,
 }
 
-// By hand, so that whoever owns one drops it by one call, and no proof there goes through its parts.
 impl Drop for Inbox {
     fn drop(self) {
         let Inbox {
@@ -25,7 +27,7 @@ impl Drop for Inbox {
 }
 
 impl Inbox {
-    /// One to which nothing came.
+    /// An empty inbox. An error is want of memory.
     pub(crate) fn new(alloc: Global) -> Result<Inbox, AllocError>
         ensures { IfOk result (λ i. i.waiting.items ≡ []) }
     {
@@ -36,7 +38,7 @@ impl Inbox {
         })
     }
 
-    /// Takes the next bytes.
+    /// Cuts the bytes that came into frames, which wait. Answers `Closed` if the bytes are no frames, and `NoMemory` if memory is refused.
     pub(crate) fn take(&mut self, bytes: &[u8]) -> Result<(), Broken> {
         match self.reader.feed(self.alloc, bytes, &mut self.waiting) {
             Ok(()) => Ok(()),
@@ -45,7 +47,7 @@ impl Inbox {
         }
     }
 
-    /// The first frame that waits.
+    /// Takes the first waiting frame out of the inbox; `None` if no frame waits.
     pub(crate) fn next(&mut self) -> Option<Frame>
         ensures { IsSome result → self.old.waiting.items ≢ [] }
     {
@@ -55,7 +57,7 @@ impl Inbox {
         Some(self.waiting.remove(0))
     }
 
-    /// Drops what waits.
+    /// Drops the frames that wait in the inbox.
     pub(crate) fn clear(&mut self) {
         self.waiting.clear();
     }

@@ -1,25 +1,25 @@
-//! Runs of the two machines over links.
+//! Runs in rounds: a coordinator and workers over links that are there from the beginning, each worker in its turn.
 //!
-//! What a layer above may rest on: for every implementation of `Links`, whatever it hands in, refuses or ends, what a run answers
-//! is right for its formula; a link that refused is never used again, so of each at most one call is refused; nothing is found
-//! without calls, at least three of them; and a run comes to its end after a bounded number of calls.
+//! What a layer above may rest on: for every implementation of `Links`, whatever it hands in, refuses or ends, what a run answers is right
+//! for its formula. A link that refused is never used again, so at most one call a link is refused. No verdict is found without calls, at
+//! least three of them. A run ends after a bounded number of calls.
 #![tactic(auto)]
 
 mod broken;
-mod coordinating;
+mod connection;
+mod coordinator_calls;
+mod frame_io;
 mod inbox;
-mod line;
+mod local_run;
+mod local_worker;
 mod pace;
 mod peer;
 mod plan;
-mod post;
+mod remote_run;
 mod rounds;
-mod seat;
-mod serving;
-mod solving;
-mod working;
+mod worker_run;
 
+pub use local_run::{solve, solve_of};
 pub use plan::{CoordinatorPlan, Order, WorkerPlan};
-pub use serving::{serve, serve_of};
-pub use solving::{solve, solve_of};
-pub use working::work;
+pub use remote_run::{serve, serve_of};
+pub use worker_run::work;

@@ -1,32 +1,33 @@
-//! When a worker works.
+//! The pace of a worker: in which rounds it searches.
 
 ghost use Rattle.std.specs.Prelude.{◌≤◌};
 
 use crate::plan::Order;
 use frames::Frame;
 
-/// The most rounds that a task waits.
+/// The longest beat, in rounds.
 const LONGEST: u64 = 256;
 
-/// What comes first in a worker's rounds, and, where it sends first, when it begins a search.
+/// What a worker does first in a round, and, if it sends first, in which rounds it begins a search.
 ///
-/// A coordinator waits for each worker in turn. While one searches it comes to no other, so a worker that begins behind the others keeps them all
-/// waiting. So those that send first begin together: in rounds whose number is a multiple of their beat, since whoever is linked from the beginning
-/// counts the same rounds. The beat is the least power of four that is twice the number of pieces that the last answer was sent in, so that whoever
-/// sends about as many has its next task by then; it is short where a search is.
+/// A coordinator waits for each worker in turn, so a worker that searches keeps all others waiting. Therefore workers that send first begin
+/// their searches together, in rounds whose number is a multiple of a beat: all count the same rounds. The beat is the least power of four
+/// that is at least twice the number of pieces of the last answer, but at most 256. So a worker that sends about as many pieces has its
+/// next task by then, and the beat is short if searches are.
 #[derive(Clone, Copy, Debug)]
 pub(crate) struct Pace {
+    /// What the worker does first in a round.
     order: Order,
-    /// How many frames it has sent, one a round.
+    /// How many frames the worker has sent: one a round.
     sent: u64,
-    /// How many pieces of the last answer it has sent.
+    /// How many pieces of its last answer the worker has sent.
     pieces: u64,
-    /// Whether it said that it has nothing to tell: if it has anything to do, it is a search.
+    /// Whether the worker's last frame was Idle: if it has something to do, that is the beginning of a search. True before the first frame.
     is_idle: bool,
 }
 
 impl Pace {
-    /// Before the first frame.
+    /// The pace of a worker that has sent no frame.
     pub(crate) fn new(order: Order) -> Pace {
         Pace {
             order,
@@ -36,12 +37,12 @@ impl Pace {
         }
     }
 
-    /// What comes first.
+    /// What the worker does first in a round.
     pub(crate) fn order(&self) -> Order {
         self.order
     }
 
-    /// Notes a frame that is sent.
+    /// Counts a frame that the worker has sent.
     pub(crate) fn note(&mut self, frame: &Frame) {
         self.sent = self.sent.saturating_add(1);
         self.is_idle = matches!(frame, Frame::Idle { .. });
@@ -52,12 +53,12 @@ impl Pace {
         }
     }
 
-    /// Whether it works in this round. All but a search goes on in each.
+    /// Tells whether the worker searches in this round. Only the beginning of a search waits for a beat.
     pub(crate) fn is_due(&self) -> bool {
         !self.is_idle || self.sent % self.beat() == 0
     }
 
-    /// How many rounds lie between those in which a search begins.
+    /// The length of a beat, in rounds, from 1 to 256: a search begins in rounds whose number is a multiple of it.
     fn beat(&self) -> u64
         ensures { 1 ≤ result }
     {

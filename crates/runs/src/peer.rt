@@ -1,4 +1,4 @@
-//! Who is at the other end of a coordinator's link.
+//! The peer at the other end of a coordinator's link: a worker of this process, or one of another process.
 
 ghost use Rattle.std.specs.Prelude.{◌≡◌, ℕ, ◌≤◌, ◌⊎◌, Bool, true, OnOk, refl};
 ghost use Rattle.std.proofs.Common.{inl};
@@ -10,41 +10,43 @@ use coordinator_core::Coordinator;
 use frames::WorkerNumber;
 use links::Links;
 
-/// A worker, as far as a turn at the coordinator's end has to do with it.
+/// What a coordinator's turn needs of the worker at the other end of the link.
 pub(crate) trait Peer {
-    /// The fewest calls that it makes to answer.
+    /// The fewest calls of the links that the worker makes to answer.
     ghost least: { Self → ℕ };
 
-    /// The most.
+    /// The most calls of the links that the worker makes to answer.
     ghost most: { ℕ };
 
+    /// The value of the constant `HANDS_OUT`, for contracts.
     ghost HANDS_OUT: { Bool };
 
-    /// Whether a run goes on at its verdict, and hands that out to each worker that still asks.
+    /// Whether the run goes on at its verdict, to hand that out to each worker that still asks.
     const HANDS_OUT: bool;
 
-    /// A frame was sent to it over the link of this number, and it is its turn to send one.
+    /// Lets the worker answer the frame that was sent to it over the link of this number: it takes the frame and sends one. A worker of
+    /// another process does so by itself. Answers why the link is broken, if it is.
     fn answer<L: Links>(&mut self, links: &mut L, number: WorkerNumber) -> Result<(), Broken>
         ensures calls { RoseWithin 0 most (L.call_count links.old) (L.call_count links.new) }
         ensures least { OnOk result (RoseBy (least self.old) (L.call_count links.old) (L.call_count links.new)) }
         ensures refusals { Refuses L.refusal_count L.refused_at number (one_if_err result) 0 links.old links.new };
 
-    /// Has the coordinator hold what comes from it with what it keeps of that, so that both have the bytes once.
+    /// Lets the coordinator share the bytes of evidence that the worker holds, so that they are in memory once.
     fn share(&self, coordinator: &mut Coordinator, number: WorkerNumber)
         ensures { coordinator.new ≡ coordinator.old };
 
-    /// Drops what waits at its end.
+    /// Drops the frames that wait at the worker's end of the link.
     fn clear(&mut self);
 
-    /// A run that ends at its verdict has called for it.
+    /// Either the run goes on at its verdict, or the worker makes at least one call to answer.
     ghost earned: { (peer : Self) → (HANDS_OUT ≡ true) ⊎ (1 ≤ least peer) };
 }
 
-/// A worker that is elsewhere: it sends by itself.
+/// A worker of another process. It answers by itself, so no call is made for it here.
 #[derive(Drop)]
-pub struct Elsewhere;
+pub struct RemoteWorker;
 
-impl Peer for Elsewhere {
+impl Peer for RemoteWorker {
     ghost least = { λ _. 0 };
 
     ghost most = { 0 };

@@ -1,38 +1,38 @@
-//! What a run is to do.
+//! The settings of a coordinator's run and of a worker's run.
 
 use frames::WorkerNumber;
 
-/// What a coordinator is to do.
+/// The settings of a coordinator's run.
 #[derive(Clone, Copy, Debug, PartialEq, Eq)]
 pub struct CoordinatorPlan {
     /// How many workers there are, from 1 to 64.
     pub workers: u32,
     /// The most lemmas that a worker learns under a leaf before the leaf is split.
     pub limit: u64,
-    /// The number of its session.
+    /// The number of the coordinator's session.
     pub session: u64,
     /// How many variables are defined, from 0 to 64.
     pub defs: u32,
 }
 
-/// What a worker is to do.
+/// The settings of a worker's run.
 #[derive(Clone, Copy, Debug, PartialEq, Eq)]
 pub struct WorkerPlan {
-    /// Its number.
+    /// The worker's number, from 1 to 64.
     pub number: WorkerNumber,
-    /// Its incarnation, which no other worker of that number has had.
+    /// The worker's incarnation, which no other worker of that number has had.
     pub incarnation: u64,
     /// How many variables are defined, from 0 to 64.
     pub defs: u32,
-    /// What comes first in its rounds.
+    /// What the worker does first in a round.
     pub order: Order,
 }
 
-/// What comes first in a round of a worker.
+/// What a worker does first in a round.
 #[derive(Clone, Copy, Debug, PartialEq, Eq)]
 pub enum Order {
-    /// It works, and then sends.
+    /// The worker works, and then sends a frame.
     WorkThenSend,
-    /// It sends, and then works: the coordinator hears from it at once, and gives tasks to others while it works.
+    /// The worker sends a frame, and then works: the coordinator has the frame at once, and gives tasks to others while the worker works.
     SendThenWork,
 }

@@ -1,70 +1,71 @@
-//! Rounds of a coordinator over its lines.
+//! Rounds of a coordinator: in each round every worker has one turn.
 
 ghost use Rattle.std.specs.Prelude.{◌≡◌, ◌≤◌, ◌+◌, ◌*◌, ◌⊎◌, ℕ, length, OnOk, IfOk, true, not};
 ghost use Rattle.std.specs.List.{list_all};
 ghost use Rattle.runs.specs.Accounts.{RoseBy, HasBegun};
 ghost use Rattle.runs.specs.inner.Accounts.{GoesOn, IsOver, RoseWithin};
-ghost use Rattle.runs.specs.inner.Lines.{Closing, IsUnderWay, open_count};
+ghost use Rattle.runs.specs.inner.Connections.{Closing, IsUnderWay, open_count};
 
-use crate::coordinating::is_over;
-use crate::line::Line;
+use crate::connection::Connection;
+use crate::coordinator_calls::is_over;
+use crate::frame_io::ROUNDS;
 use crate::peer::Peer;
-use crate::post::ROUNDS;
 use coordinator_core::Coordinator;
 use frames::WorkerNumber;
 use links::Links;
 use std::alloc::AllocError;
 
-/// A turn of each line, up to the end of the run. Answers whether it has come.
+/// Gives the worker of each connection a turn, in order, until the run is over; connection i, counted from 0, is that of worker i + 1.
+/// Answers whether the run is over. An error is want of memory.
 fn round<P: Peer, L: Links>(
     links: &mut L,
     coordinator: &mut Coordinator,
-    lines: &mut [Line<P>],
+    connections: &mut [Connection<P>],
 ) -> Result<bool, AllocError>
-    requires lines { length lines.old ≤ length coordinator.old.jobs }
+    requires connections { length connections.old ≤ length coordinator.old.jobs }
     requires workers { length coordinator.old.jobs ≤ 64 }
     ensures goes_on { GoesOn coordinator.old coordinator.new }
-    ensures calls { RoseWithin 0 ((4038 + P.most) * length lines.old) (L.call_count links.old) (L.call_count links.new) }
-    ensures some { 1 ≤ open_count lines.old → IfOk result (λ over. (over ≡ true) ⊎ RoseBy 1 (L.call_count links.old) (L.call_count links.new)) }
+    ensures calls { RoseWithin 0 ((4038 + P.most) * length connections.old) (L.call_count links.old) (L.call_count links.new) }
+    ensures some { 1 ≤ open_count connections.old → IfOk result (λ over. (over ≡ true) ⊎ RoseBy 1 (L.call_count links.old) (L.call_count links.new)) }
     ensures over { IfOk result (λ over. over ≡ true → IsOver P.HANDS_OUT coordinator.new) }
-    ensures served { (base : ℕ) → IsUnderWay P.HANDS_OUT P.least base (L.call_count links.old) coordinator.old lines.old → OnOk result (IsUnderWay P.HANDS_OUT P.least base (L.call_count links.new) coordinator.new lines.new) }
-    ensures refusals { Closing L.refusal_count L.refused_at links.old links.new lines.old lines.new }
+    ensures served { (base : ℕ) → IsUnderWay P.HANDS_OUT P.least base (L.call_count links.old) coordinator.old connections.old → OnOk result (IsUnderWay P.HANDS_OUT P.least base (L.call_count links.new) coordinator.new connections.new) }
+    ensures refusals { Closing L.refusal_count L.refused_at links.old links.new connections.old connections.new }
 {
-    for i in 0..lines.len() {
+    for i in 0..connections.len() {
         if is_over(coordinator, P::HANDS_OUT) {
             return Ok(true);
         }
         let worker = WorkerNumber::new(i as u32 + 1);
-        lines[i].turn(links, coordinator, worker)?;
+        connections[i].turn(links, coordinator, worker)?;
     }
     Ok(false)
 }
 
-/// Whether every line is closed.
-fn are_closed<P>(lines: &[Line<P>]) -> bool
-    ensures { result ≡ list_all (λ l. not l.is_open) lines.now }
+/// Tells whether every connection is closed.
+fn are_closed<P>(connections: &[Connection<P>]) -> bool
+    ensures { result ≡ list_all (λ l. not l.is_open) connections.now }
 {
-    lines.iter().all(|l| !l.is_open)
+    connections.iter().all(|l| !l.is_open)
 }
 
-/// Rounds until the run is over or every line is closed.
+/// Plays rounds until the run is over, every connection is closed, or 1,000,000 rounds are done. An error is want of memory.
 pub(crate) fn run_rounds<P: Peer, L: Links>(
     links: &mut L,
     coordinator: &mut Coordinator,
-    lines: &mut [Line<P>],
+    connections: &mut [Connection<P>],
 ) -> Result<(), AllocError>
-    requires lines { length lines.old ≤ length coordinator.old.jobs }
+    requires connections { length connections.old ≤ length coordinator.old.jobs }
     requires workers { length coordinator.old.jobs ≤ 64 }
     ensures goes_on { GoesOn coordinator.old coordinator.new }
-    ensures calls { RoseWithin 0 ((4038 + P.most) * length lines.old * 1000000) (L.call_count links.old) (L.call_count links.new) }
-    ensures begun { (base : ℕ) → IsUnderWay P.HANDS_OUT P.least base (L.call_count links.old) coordinator.old lines.old → OnOk result (HasBegun base (L.call_count links.new) coordinator.new.verdict) }
-    ensures refusals { Closing L.refusal_count L.refused_at links.old links.new lines.old lines.new }
+    ensures calls { RoseWithin 0 ((4038 + P.most) * length connections.old * 1000000) (L.call_count links.old) (L.call_count links.new) }
+    ensures begun { (base : ℕ) → IsUnderWay P.HANDS_OUT P.least base (L.call_count links.old) coordinator.old connections.old → OnOk result (HasBegun base (L.call_count links.new) coordinator.new.verdict) }
+    ensures refusals { Closing L.refusal_count L.refused_at links.old links.new connections.old connections.new }
 {
     for _ in 0..ROUNDS {
-        if are_closed(lines) {
+        if are_closed(connections) {
             return Ok(());
         }
-        if round(links, coordinator, lines)? {
+        if round(links, coordinator, connections)? {
             return Ok(());
         }
     }

@@ -1,4 +1,4 @@
-//! The files that a run writes.
+//! The files that a run writes: `commands::Drafts` over the operating system.
 
 ghost use Rattle.std.specs.Prelude.{◌≡◌, IfErr};
 ghost use Rattle.commands.specs.Refusals.{IsRefusedAs};
@@ -19,20 +19,21 @@ use std::rt::Runtime;
 /// A file in the making.
 #[derive(Drop)]
 pub(crate) enum Draft<F> {
-    /// Beside its place.
+    /// A temporary file beside its path, and the path to which it will be renamed.
     Beside(Part<F>, Place),
-    /// In its place.
+    /// The file at its path, which was truncated.
     InPlace(F),
 }
 
-/// The refusal of a file that cannot be written.
+/// Answers the refusal for an I/O error of a write: out of memory, or else `Writing`.
 pub(crate) fn not_written(error: io::Error) -> Refusal
     ensures { IsRefusedAs Refusal.Writing result }
 {
     refused(error, Refusal::Writing)
 }
 
-/// A new file beside the place to which the path leads; none where none can be made there.
+/// Creates a temporary file beside the file to which the path leads; `None` if none can be made there. It errs if the file cannot be
+/// written, or if it is standard output.
 fn begin_beside<R: Runtime + AllocGlobal>(
     rt: &R,
     path: &str,
@@ -100,7 +101,7 @@ impl<R: Runtime + AllocGlobal> Drafts for Machine<'_, R> {
     }
 }
 
-/// Writes a proof to the file at a path, unless it is one of the files that were read.
+/// Writes a proof to the target. It errs if the target's path leads to the input or the cubes, or if the proof cannot be written.
 pub(crate) fn write_proof<R: Runtime + AllocGlobal>(
     rt: &R,
     target: Target<'_>,

@@ -1,7 +1,7 @@
-//! `--explain`: what a report means is told on standard error, in words, once the report is printed.
+//! `--explain`: tells what a report means, in words, on standard error, once the report is printed.
 //!
-//! It is made of the report's own text, of the words, and of what stands in a file that is opened anew. So it changes neither the report nor
-//! the status. What cannot be told is not told.
+//! The explanation is made of the report's text, of the words of the command line, and of the bytes of a file that is opened anew. So it
+//! changes neither the report nor the status. If such a file cannot be opened, less is explained.
 
 mod faults;
 mod paths;
@@ -24,7 +24,7 @@ use std::str::from_utf8;
 /// How many lines of a report are explained at most.
 const MOST: u32 = 16;
 
-/// Tells what another line means.
+/// Tells what a line of a report that is no fault with a number means, by why its file cannot be read or written, or by its sentence.
 fn explain_other<R: Runtime>(rt: &R, paths: &Paths, other: Other) {
     match other {
         Other::InputUnread => tell_unread(rt, Some(paths.input)),
@@ -35,7 +35,7 @@ fn explain_other<R: Runtime>(rt: &R, paths: &Paths, other: Other) {
     }
 }
 
-/// Tells what a line of a report means: whether there was something to tell.
+/// Tells what a line of a report means. Answers false if there is nothing to tell.
 fn explain_line<R: Runtime + AllocGlobal>(rt: &R, paths: &Paths, line: &str) -> bool {
     if let Some(found) = Fault::of(line) {
         explain_fault(rt, paths, &found);
@@ -51,7 +51,7 @@ fn explain_line<R: Runtime + AllocGlobal>(rt: &R, paths: &Paths, line: &str) -> 
     true
 }
 
-/// Tells what the first lines of a report mean, up to one that is neither an answer nor a remark.
+/// Tells what the first lines of a report mean, at most 16, up to one that begins neither with `c` nor with `s`.
 fn explain_lines<R: Runtime + AllocGlobal>(rt: &R, paths: &Paths, text: &str) {
     let mut count = 0;
     for line in text.lines() {
@@ -64,13 +64,14 @@ fn explain_lines<R: Runtime + AllocGlobal>(rt: &R, paths: &Paths, text: &str) {
     }
 }
 
-/// Tells what a report of a request means.
+/// Tells what the text of a report of this request means.
 fn explain_request<R: Runtime + AllocGlobal>(rt: &R, request: &Request<'_>, text: &str) {
     let paths = paths_of(request);
     explain_lines(rt, &paths, text);
 }
 
-/// Tells what a report means, of the request that the words make. Of words that make none nothing was printed but help, or a want of memory.
+/// Tells what the text of a report means, by the request that the words make. If they make none, only help was printed, which is not
+/// explained, or want of memory.
 fn explain_text<R: Runtime + AllocGlobal>(rt: &R, words: &[&str], text: &str) {
     match command(rt.alloc(), words) {
         Ok(request) => explain_request(rt, &request, text),
@@ -80,7 +81,7 @@ fn explain_text<R: Runtime + AllocGlobal>(rt: &R, words: &[&str], text: &str) {
     }
 }
 
-/// Tells what was printed.
+/// Tells what the printed bytes mean: for `c usage`, which word is refused; else what the lines mean, if the bytes are UTF-8.
 fn explain_bytes<R: Runtime + AllocGlobal>(rt: &R, words: &[&str], bytes: &[u8]) {
     if bytes == b"c usage\n".as_slice() {
         explain_words(rt, words);

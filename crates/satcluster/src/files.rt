@@ -1,4 +1,4 @@
-//! The files that a command line names.
+//! The files that a command line names: `commands::Disk` over the operating system, and readers of whole files.
 
 use crate::standard_input::is_dash;
 use commands::{Disk, Pieces, read_bytes, refused};
@@ -9,20 +9,20 @@ use std::fs;
 use std::fs::{File, OpenFile};
 use std::rt::Runtime;
 
-/// The refusal of a growth.
+/// Answers the refusal for an allocation that failed: out of memory.
 pub(crate) fn no_memory<E: Drop>(_error: E) -> Refusal {
     Refusal::NoMemory
 }
 
-/// What the system calls standard input.
+/// The path by which standard input is opened.
 const STANDARD_INPUT: &str = "/dev/stdin";
 
-/// The path of a file that is read: `-` is standard input.
+/// Answers the path of a file that is read: that of standard input for the name `-`, else the name.
 pub(crate) fn path_of(name: &str) -> &str {
     if is_dash(name) { STANDARD_INPUT } else { name }
 }
 
-/// The files of the machine that runs this.
+/// The files of the machine on which the program runs.
 #[derive(Drop)]
 pub(crate) struct Machine<'a, R> {
     pub(crate) rt: &'a R,
@@ -52,7 +52,7 @@ impl<R: Runtime + AllocGlobal> Disk for Machine<'_, R> {
     }
 }
 
-/// Opens a file, to be read piece by piece.
+/// Opens the file of a name, to be read piece by piece. The error is out of memory, or else `refusal`.
 pub(crate) fn open<R: Runtime + AllocGlobal>(
     rt: &R,
     path: &str,
@@ -61,7 +61,8 @@ pub(crate) fn open<R: Runtime + AllocGlobal>(
     Machine { rt }.open(path, refusal)
 }
 
-/// The file's bytes, or the refusal of a file that cannot be read. Room for them is taken at once, if the system tells how many they are.
+/// Reads all bytes of the file of a name. Room for them is taken at once, if the system tells how many they are. The error is out of
+/// memory, or else `refusal`.
 pub(crate) fn read<R: Runtime + AllocGlobal>(
     rt: &R,
     path: &str,
@@ -75,7 +76,8 @@ pub(crate) fn read<R: Runtime + AllocGlobal>(
     read_bytes(rt.alloc(), &mut pieces, len as usize)
 }
 
-/// The formula of a file, or the first fault of its text.
+/// Reads the formula in the file of a name, or the first fault of its text, which is the inner error. The outer error is that the file
+/// cannot be read, or want of memory.
 pub(crate) fn read_formula<R: Runtime + AllocGlobal>(
     rt: &R,
     path: &str,
@@ -83,7 +85,7 @@ pub(crate) fn read_formula<R: Runtime + AllocGlobal>(
     commands::read_formula(rt.alloc(), &mut open(rt, path, Refusal::Input)?)
 }
 
-/// The bytes of the file of cubes, where one is named.
+/// Reads all bytes of the file of cubes; `None` if no file is named.
 pub(crate) fn read_cubes<R: Runtime + AllocGlobal>(
     rt: &R,
     path: Option<&str>,

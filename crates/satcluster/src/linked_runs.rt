@@ -2,38 +2,43 @@
 
 ghost use Rattle.std.specs.Prelude.{IfOk};
 ghost use Rattle.command_line.specs.Options.{AreOptions};
-ghost use Rattle.node_main.specs.Starting.{IsStart};
+ghost use Rattle.node_main.specs.RunStart.{IsStart};
 
-use crate::accepting::accept_workers;
 use crate::drafts::write_proof;
 use crate::files::{no_memory, read_cubes, read_formula};
-use crate::showing::{Showing, Shown};
+use crate::listener::accept_workers;
+use crate::progress::{Showing, Shown};
 use commands::{Target, print, refused};
-use hub::Hub;
-use links::{Counted, Joined, Loopback, Observed, Station};
+use connections::Connections;
+use links::{Counted, CountedArrivals, EventCarrier, Loopback, WorkerEnd};
 use node_main::{
-    Options, Refusal, Report, Start, attend, begin, run_serve_from, run_solve_of, run_work_of,
+    Options, Refusal, Report, Start, begin, run_serve_from, run_solve_of, run_work_of,
+    serve_arrivals,
 };
 use std::alloc::Global;
 use std::io;
 use std::net::{Ipv4Addr, Net, SocketAddr, TcpListener};
 use std::rt::Runtime;
 
-/// The files of a run.
+/// The files of a run over links.
 #[derive(Clone, Copy)]
 pub(crate) struct Files<'a> {
+    /// The path of the formula.
     pub(crate) input: &'a str,
+    /// The path of the tree of its cubes, if there is one.
     pub(crate) cubes: Option<&'a str>,
+    /// The path of the proof, if it is to be written.
     pub(crate) proof: Option<&'a str>,
     /// Whether the proof is written in binary form.
     pub(crate) binary: bool,
 }
 
+/// Answers the refusal for an I/O error of a link: out of memory, or else `Links`.
 fn not_linked(error: io::Error) -> Refusal {
     refused(error, Refusal::Links)
 }
 
-/// The text of the cubes, where there are some.
+/// Borrows the text of the cubes, if there is one.
 fn lent(cubes: &Option<Vec<u8>>) -> Option<&[u8]> {
     match cubes {
         Some(bytes) => Some(bytes.as_slice()),
@@ -41,7 +46,7 @@ fn lent(cubes: &Option<Vec<u8>>) -> Option<&[u8]> {
     }
 }
 
-/// The report, once its proof is written, where there is one and a file for it.
+/// Writes the proof of a report, if it has one and a file is named for it, and answers the report. It errs if the proof cannot be written.
 fn kept<R: Runtime + AllocGlobal>(
     rt: &R,
     report: Report,
@@ -60,7 +65,7 @@ fn kept<R: Runtime + AllocGlobal>(
     Ok(report)
 }
 
-/// Where it is told how far a run has come, which is nowhere if the words do not ask for it.
+/// Answers where the progress of a run is shown: `showing` if the words ask for progress, else nowhere.
 fn asked(options: &Options, showing: Showing) -> Showing {
     if options.progress {
         showing
@@ -69,7 +74,7 @@ fn asked(options: &Options, showing: Showing) -> Showing {
     }
 }
 
-/// Decides a formula in this process, over connections of its own.
+/// Decides the formula in a file by workers in this process, over links of its own, writes the proof, and answers the report.
 pub(crate) fn solve<R: Runtime + AllocGlobal + Net>(
     rt: &R,
     files: &Files,
@@ -87,21 +92,22 @@ pub(crate) fn solve<R: Runtime + AllocGlobal + Net>(
     kept(rt, run.map_err(no_memory)?, files)
 }
 
-/// How many links there may be beside those of the workers.
+/// How many connections there may be besides those of the workers; also the most workers for which room is kept.
 const SPARE: u32 = 64;
 
-/// The port, with a place for each worker and some for those who come to it besides.
-fn open_hub<R: Runtime + Net>(
+/// Opens a listener at the port, with room for a connection of each worker (for 64 workers at most) and 64 more.
+fn open_listener<R: Runtime + Net>(
     rt: &R,
     alloc: Global,
     port: u16,
     workers: u32,
-) -> io::Result<Hub<&R>> {
+) -> io::Result<Connections<&R>> {
     let places = workers.min(SPARE) + SPARE;
-    Hub::open(rt, alloc, rt, port, places as u8)
+    Connections::open(rt, alloc, rt, port, places as u8)
 }
 
-/// What a run begins with: the formula, and the tree by which it is split.
+/// Reads the formula and the cubes, and answers with what a run over them begins: the formula with the tree by which it is split, or a
+/// report.
 fn begun<R: Runtime + AllocGlobal>(
     rt: &R,
     files: &Files,
@@ -115,19 +121,20 @@ fn begun<R: Runtime + AllocGlobal>(
     begin(rt.alloc(), found, lent(&cubes), options).map_err(no_memory)
 }
 
-/// Serves over these links. At the verdict the proof is written and the answer printed; then the workers get it.
-fn serve_over<R: Runtime + AllocGlobal, S: Station>(
+/// Serves a run over these links, and answers a report without text. At the verdict the proof is written and the answer printed; then the
+/// workers get the verdict. If the answer cannot be printed, the status is 1.
+fn serve_over<R: Runtime + AllocGlobal, S: EventCarrier>(
     rt: &R,
     start: Start,
     files: &Files,
     options: &Options,
-    links: &mut Observed<Shown<R, S>>,
+    links: &mut CountedArrivals<Shown<R, S>>,
 ) -> Result<Report, Refusal>
     requires options { AreOptions options.now }
     requires start { IsStart options.now start }
 {
-    let run = attend(rt.alloc(), start, options, links);
-    links.station().end();
+    let run = serve_arrivals(rt.alloc(), start, options, links);
+    links.carrier().end();
     let mut service = run.map_err(no_memory)?;
     if let (Some(path), Some(proof)) = (files.proof, service.proof()) {
         let target = Target {
@@ -148,7 +155,8 @@ fn serve_over<R: Runtime + AllocGlobal, S: Station>(
     })
 }
 
-/// Decides a formula by workers that connect to a port, come and go. What is wrong with a file is told before one is linked.
+/// Decides the formula in a file by workers that connect to the port, come and go. The port is opened before the files are read, and a
+/// fault of a file is told before a worker is linked.
 fn serve_by_arrivals<R: Runtime + AllocGlobal + Net>(
     rt: &R,
     port: u16,
@@ -158,14 +166,14 @@ fn serve_by_arrivals<R: Runtime + AllocGlobal + Net>(
 ) -> Result<Report, Refusal>
     requires { AreOptions options.now }
 {
-    let hub = open_hub(rt, rt.alloc(), port, options.workers).map_err(not_linked)?;
+    let listener = open_listener(rt, rt.alloc(), port, options.workers).map_err(not_linked)?;
     let start = begun(rt, files, options)?;
-    let mut links = Observed::new(Shown::new(rt, hub, asked(options, showing)));
+    let mut links = CountedArrivals::new(Shown::new(rt, listener, asked(options, showing)));
     serve_over(rt, start, files, options, &mut links)
 }
 
-/// The same in rounds: it begins when all workers are there, takes them in turns, and takes none again that is lost. The listener is
-/// kept to the end, so that a worker that comes late waits for it, and is not refused.
+/// Decides the formula in a file by workers that connect to the port, in rounds: it begins when all workers are there, takes them in turns,
+/// and takes none again that is lost. The listener is kept to the end, so that a worker that comes late waits, and is not refused.
 fn serve_in_rounds<R: Runtime + AllocGlobal + Net>(
     rt: &R,
     port: u16,
@@ -188,7 +196,7 @@ fn serve_in_rounds<R: Runtime + AllocGlobal + Net>(
     kept(rt, run.map_err(no_memory)?, files)
 }
 
-/// Decides a formula by workers that connect to a port, as the words ask.
+/// Decides the formula in a file by workers that connect to the port: in rounds if the words ask for it, else by arrivals.
 pub(crate) fn serve<R: Runtime + AllocGlobal + Net>(
     rt: &R,
     port: u16,
@@ -205,7 +213,7 @@ pub(crate) fn serve<R: Runtime + AllocGlobal + Net>(
     }
 }
 
-/// Works for whoever serves the formula at a port.
+/// Works for the coordinator that serves the formula at the port, writes the proof if it gets one, and answers the report.
 pub(crate) fn work<R: Runtime + AllocGlobal + Net>(
     rt: &R,
     port: u16,
@@ -215,7 +223,7 @@ pub(crate) fn work<R: Runtime + AllocGlobal + Net>(
     requires { AreOptions options.now }
 {
     let found = read_formula(rt, files.input)?;
-    let carrier = Joined::connect(rt, port).map_err(not_linked)?;
+    let carrier = WorkerEnd::connect(rt, port).map_err(not_linked)?;
     let mut links = Counted::new(carrier);
     let run = run_work_of(rt.alloc(), found, options, &mut links);
     kept(rt, run.map_err(no_memory)?, files)

@@ -4,16 +4,16 @@
 ghost use Rattle.std.specs.Prelude.{◌≤◌};
 ghost use Rattle.command_line.specs.CommandLine.{IsInRange};
 
-mod accepting;
-mod complete;
+mod cubes_complete;
 mod drafts;
 mod explain;
 mod files;
-mod leaf_runs;
 mod linked_runs;
+mod listener;
+mod progress;
 mod proof_file;
+mod refute;
 mod session;
-mod showing;
 mod standard_input;
 
 use commands::{
@@ -21,16 +21,16 @@ use commands::{
     check_files, check_session_files, cover_files, deliver, join_files, leaf_files, lift_files,
     receipt_files, refused, split_by_look_files, split_files, test_files, trim_files,
 };
-use complete::complete;
+use cubes_complete::complete;
 use explain::explain;
 use explanations::Asked;
 use files::{Machine, no_memory, read};
-use leaf_runs::{LeafFiles, LeafRange, refute};
-use leaves::{Search, run_look};
+use leaves::{SearchOptions, run_look};
 use linked_runs::{Files, serve, solve, work};
 use node_main::{Refusal, Report, Request, UsageFault, command, run_cubes};
+use progress::Showing;
+use refute::{LeafFiles, LeafRange, refute};
 use session::{SessionFiles, session};
-use showing::Showing;
 use standard_input::is_sound;
 use std::alloc::AllocError;
 use std::io::IsTerminal;
@@ -39,6 +39,7 @@ use std::process::ExitCode;
 use std::rt::Runtime;
 use std::{env, io};
 
+/// Reads the formula in the file `input`, and reports a tree of cubes of this depth. It errs if the file cannot be read or memory runs out.
 fn cubes<R: Runtime + AllocGlobal>(rt: &R, input: &str, depth: u32) -> Result<Report, Refusal>
     requires { depth ≤ 16 }
 {
@@ -46,11 +47,15 @@ fn cubes<R: Runtime + AllocGlobal>(rt: &R, input: &str, depth: u32) -> Result<Re
     run_cubes(rt.alloc(), input.as_slice(), depth).map_err(no_memory)
 }
 
+/// Reads the formula in the file `input`, and reports a tree that a look ahead splits into about `leaves` leaves. It errs if the file
+/// cannot be read or memory runs out.
 fn look<R: Runtime + AllocGlobal>(rt: &R, input: &str, leaves: u32) -> Result<Report, Refusal> {
     let input = read(rt, input, Refusal::Input)?;
     run_look(rt.alloc(), input.as_slice(), leaves).map_err(no_memory)
 }
 
+/// Reads the formula in the file `input`, drills a cluster of three workers on it for `turns` turns by the words of `seed`, and reports
+/// what came of it. It errs if the file cannot be read or memory runs out.
 fn drill<R: Runtime + AllocGlobal>(
     rt: &R,
     input: &str,
@@ -61,7 +66,8 @@ fn drill<R: Runtime + AllocGlobal>(
     node_main::drill(rt.alloc(), input.as_slice(), seed, turns).map_err(no_memory)
 }
 
-/// What is lifted: the words name a leaf, a text for all leaves, or one for a block of them.
+/// Answers what is lifted by these words: a proof of a leaf, a LIDRUP text for all leaves, or one for the leaves from `leaf` to `to`. It
+/// errs if the words go together otherwise.
 fn lifted_of(leaf: Option<u32>, to: Option<u32>, lidrup: bool) -> Result<Lifted, Refusal> {
     match (leaf, to, lidrup) {
         (Some(leaf), None, false) => Ok(Lifted::Leaf(u64::from(leaf))),
@@ -74,7 +80,7 @@ fn lifted_of(leaf: Option<u32>, to: Option<u32>, lidrup: bool) -> Result<Lifted,
     }
 }
 
-/// Where a proof goes, if it is to be written.
+/// Answers the file to which a proof goes, in this form; `None` if no path is given.
 fn target(path: Option<&str>, binary: bool) -> Option<Target<'_>> {
     match path {
         Some(path) => Some(Target { path, binary }),
@@ -82,7 +88,7 @@ fn target(path: Option<&str>, binary: bool) -> Option<Target<'_>> {
     }
 }
 
-/// The report of a request, or why it has none. How far a run has come is told so, where the words ask for it.
+/// Runs a request, and answers its report, or why it has none. `showing` is how progress is shown if the words ask for it.
 fn answer<R: Runtime + AllocGlobal + Net>(
     rt: &R,
     request: &Request,
@@ -177,7 +183,7 @@ fn answer<R: Runtime + AllocGlobal + Net>(
                 fragment,
                 binary,
             };
-            let search = Search {
+            let search = SearchOptions {
                 limit,
                 quiet: printing.quiet,
                 witness: printing.witness,
@@ -277,7 +283,7 @@ fn answer<R: Runtime + AllocGlobal + Net>(
     }
 }
 
-/// Whether `-q` was given.
+/// Whether a request has `-q`.
 fn is_quiet(request: &Request) -> bool {
     match request {
         Request::Solve { options, .. }
@@ -289,11 +295,11 @@ fn is_quiet(request: &Request) -> bool {
     }
 }
 
-/// What every command has beside its own words.
+/// The last lines of each help: what every command takes besides its own words.
 const COMMON: &[u8] =
     b"\nEvery command takes --explain: in words, on standard error, what a c line means, and what to do\n";
 
-/// Whether the words, of which the first names the program, ask for the version, which is a line by itself.
+/// Whether the words, of which the first names the program, ask for the version, whose text is a line by itself.
 fn asks_for_version(words: &[&str]) -> bool {
     match words.get(1) {
         Some(word) => *word == "--version" || *word == "-V",
@@ -301,7 +307,7 @@ fn asks_for_version(words: &[&str]) -> bool {
     }
 }
 
-/// The report of a help, or of the version.
+/// Reports, with status 0, the text of a help with the lines common to all, or the version.
 fn help<R: Runtime + AllocGlobal>(
     rt: &R,
     words: &[&str],
@@ -314,7 +320,7 @@ fn help<R: Runtime + AllocGlobal>(
     Ok(report)
 }
 
-/// The report of the words, or the line of a run without one.
+/// Runs by the words, and answers the report, or the line of a run without one.
 fn respond<R: Runtime + AllocGlobal + Net>(
     rt: &R,
     words: &[&str],
@@ -335,13 +341,13 @@ fn respond<R: Runtime + AllocGlobal + Net>(
     }
 }
 
-/// The program's words; a word that is no text is refused as the others are.
+/// Answers the words of the program's call, the first of which names the program. It errs if a word is not UTF-8 or memory runs out.
 fn words<R: Runtime + AllocGlobal>(rt: &R) -> Result<Vec<String>, Refusal> {
     let words = env::args(rt).map_err(|error| refused(error, Refusal::Usage))?;
     words.collect(rt.alloc()).map_err(no_memory)
 }
 
-/// Prints a report, or the line of a run without one: the status.
+/// Prints a report, or the line of a run without one, and answers the exit status, which is 1 if not all was printed.
 fn ended<R: Runtime>(rt: &R, found: &Result<Report, &'static str>) -> u8 {
     match deliver(&mut io::writer(rt), found) {
         Ok(status) => status,
@@ -349,8 +355,8 @@ fn ended<R: Runtime>(rt: &R, found: &Result<Report, &'static str>) -> u8 {
     }
 }
 
-/// Runs by the words, and explains what was printed if they ask for it: the status. `--explain` is taken out of them first, so the
-/// report and the status are those of the same words without it.
+/// Runs by the words, prints the report, explains it if the words ask for that, and answers the exit status. `--explain` is taken out of
+/// the words first, so the report and the status are those of the same words without it.
 fn run<R: Runtime + AllocGlobal + Net>(
     rt: &R,
     owned: &[String],
@@ -366,7 +372,8 @@ fn run<R: Runtime + AllocGlobal + Net>(
     Ok(status)
 }
 
-/// The status of a run by the program's words. Where they cannot be copied it is not known whether they have `-q`.
+/// Runs by the words of the program's call, and answers the exit status. If the words cannot be copied, it is not known whether they have
+/// `-q`.
 fn status_of<R: Runtime + AllocGlobal + Net>(rt: &R, showing: Showing) -> u8 {
     let owned = match words(rt) {
         Ok(owned) => owned,
@@ -378,6 +385,8 @@ fn status_of<R: Runtime + AllocGlobal + Net>(rt: &R, showing: Showing) -> u8 {
     }
 }
 
+/// Runs the program. Progress, if the words ask for it, overwrites one line if standard error is a terminal, and else takes a new line each
+/// time.
 fn main(rt: HostRuntime) -> ExitCode {
     let showing = if rt.stderr().is_terminal() {
         Showing::InPlace

@@ -1,4 +1,4 @@
-//! A file in the making, beside its place.
+//! A temporary file beside a path, which is renamed to the path once it is whole.
 
 use crate::files::path_of;
 use std::fs::{File, Metadata, OpenFile, OpenOptions};
@@ -7,27 +7,27 @@ use std::os::unix::fs::MetadataExt;
 use std::rt::Runtime;
 use std::{fs, io};
 
-/// What the system calls standard output.
+/// The path of standard output.
 const STANDARD_OUTPUT: &str = "/dev/stdout";
 
-/// How many names are tried for the file beside the place.
+/// How many names are tried for the temporary file.
 const NAMES: u32 = 100;
 
-/// Where what is written goes: the file to which its path leads, through symbolic links, or where none is there yet.
+/// Where a file is to be written: its path, and the file that is there already.
 pub(crate) struct Place {
+    /// The path, with symbolic links resolved if there is a file.
     path: String,
-    /// What stands there, whose permissions the new file gets.
+    /// The metadata of the file that is there, whose permissions the new file gets; `None` if there is none.
     old: Option<Metadata>,
 }
 
-// By hand, so that whoever owns one drops it by one call, and no proof there goes through its parts.
 impl Drop for Place {
     fn drop(self) {
         let Place { path: _, old: _ } = self;
     }
 }
 
-/// A file in the making, beside its place.
+/// A temporary file beside its path, and the temporary file's name.
 pub(crate) struct Part<F> {
     file: F,
     name: String,
@@ -39,7 +39,7 @@ impl<F: Drop> Drop for Part<F> {
     }
 }
 
-/// Whether two paths lead to one file, or are the same where there is none.
+/// Whether two paths lead to one file; if one of them leads to none, whether the paths are equal.
 pub(crate) fn is_same_file<R: Runtime>(rt: &R, path: &str, other: &str) -> bool {
     match (
         fs::metadata(rt, path_of(path)),
@@ -50,8 +50,8 @@ pub(crate) fn is_same_file<R: Runtime>(rt: &R, path: &str, other: &str) -> bool 
     }
 }
 
-/// Where the path leads; none where something else than a file stands, or a link that leads nowhere. A file that may not be written is
-/// refused, though another could take its place.
+/// Answers where a path leads; `None` if something else than a regular file is there, or a dangling link. A file without write permission
+/// is an error, although a rename could replace it.
 pub(crate) fn place_of<R: Runtime + AllocGlobal>(rt: &R, path: &str) -> io::Result<Option<Place>> {
     match fs::metadata(rt, path) {
         Ok(old) if old.is_file() => {
@@ -75,7 +75,7 @@ pub(crate) fn place_of<R: Runtime + AllocGlobal>(rt: &R, path: &str) -> io::Resu
     }
 }
 
-/// A new file beside the place, under the permissions of what stands there; none where no such file can be made.
+/// Creates a temporary file, with the permissions of the file that it will replace; `None` if it cannot be created so.
 pub(crate) fn make_part<R: Runtime + AllocGlobal>(
     rt: &R,
     place: &Place,
@@ -94,7 +94,7 @@ pub(crate) fn make_part<R: Runtime + AllocGlobal>(
     Ok(None)
 }
 
-/// The part with the permissions of what stands at its place; none where it cannot get them.
+/// Gives a temporary file the permissions of the file that it will replace; if it cannot, removes it and answers `None`.
 fn permitted<R: Runtime>(rt: &R, part: Part<R::File>, place: &Place) -> Option<Part<R::File>> {
     if let Some(old) = &place.old {
         if part.file.set_permissions(old.permissions()).is_err() {
@@ -105,27 +105,28 @@ fn permitted<R: Runtime>(rt: &R, part: Part<R::File>, place: &Place) -> Option<P
     Some(part)
 }
 
-/// Whether a path leads to the place.
+/// Whether a path leads to the file of this place.
 pub(crate) fn leads_to<R: Runtime>(rt: &R, place: &Place, path: &str) -> bool {
     is_same_file(rt, path, place.path.as_str())
 }
 
-/// Whether what is printed goes to the place: it would be lost.
+/// Whether standard output goes to the file of this place, which would be overwritten.
 pub(crate) fn is_printed_to<R: Runtime>(rt: &R, place: &Place) -> bool {
     leads_to(rt, place, STANDARD_OUTPUT)
 }
 
-/// Writes behind what the part has.
+/// Appends bytes to the temporary file.
 pub(crate) fn append<F: Write>(part: &mut Part<F>, bytes: &[u8]) -> io::Result<()> {
     part.file.write_all(bytes)
 }
 
-/// Whether a path leads to the part.
+/// Whether a path leads to the temporary file.
 pub(crate) fn is_part<R: Runtime>(rt: &R, part: &Part<R::File>, path: &str) -> bool {
     is_same_file(rt, path, part.name.as_str())
 }
 
-/// Lets the part take its place, once all of it is on the disk, and tells whether it could; else it is gone.
+/// Syncs the temporary file to disk and renames it to the path of its place. Answers false, and removes the file, if it cannot be renamed;
+/// it errs, and removes the file, if it cannot be synced.
 pub(crate) fn keep<R: Runtime>(rt: &R, part: Part<R::File>, place: &Place) -> io::Result<bool> {
     if let Err(error) = part.file.sync_all() {
         remove(rt, part);
@@ -138,7 +139,7 @@ pub(crate) fn keep<R: Runtime>(rt: &R, part: Part<R::File>, place: &Place) -> io
     Ok(false)
 }
 
-/// Removes the part.
+/// Removes the temporary file; a failure is ignored.
 pub(crate) fn remove<R: Runtime>(rt: &R, part: Part<R::File>) {
     let _ = fs::remove_file(rt, part.name.as_str());
 }

@@ -1,4 +1,4 @@
-//! `session`: where its events come from, and where its proof and its answers go.
+//! `session`: opens the source of its events, and the outputs for its proof and its answers.
 
 use crate::drafts::not_written;
 use crate::files::{no_memory, path_of};
@@ -11,20 +11,22 @@ use std::io;
 use std::io::{BufReader, Read, Write};
 use std::rt::Runtime;
 
-/// So many bytes are read at once, if they are there.
+/// The most bytes of events that are read at a time.
 const PIECE: usize = 16_384;
 
-/// Every limit that is above the number of clauses and lemmas of a session is none.
+/// The limit that stands for no limit: it is above the number of clauses and lemmas that a session can have.
 const NO_LIMIT: u64 = 1 << 47;
 
-/// The files of a session.
+/// The files of a session: the paths of its events and of its proof.
 #[derive(Clone, Copy)]
 pub(crate) struct SessionFiles<'a> {
+    /// The path of the events.
     pub input: &'a str,
+    /// The path of the proof, if it is to be written.
     pub proof: Option<&'a str>,
 }
 
-/// Where a session goes: the file of its proof, if one is named, and standard output.
+/// The outputs of a session: the file of its proof, if one is named, and standard output.
 #[derive(Drop)]
 struct Printer<'a, R, F> {
     rt: &'a R,
@@ -44,7 +46,7 @@ impl<R: Runtime, F: Write> Outputs for Printer<'_, R, F> {
     }
 }
 
-/// Whether the proof may go to this path: neither the events come from there, nor what is printed goes there.
+/// Whether the proof may go to this path: whether it leads neither to the file of the events nor to standard output.
 fn is_free<R: Runtime + AllocGlobal>(rt: &R, path: &str, input: &str) -> Result<bool, Refusal> {
     if is_same_file(rt, path, input) {
         return Ok(false);
@@ -55,7 +57,8 @@ fn is_free<R: Runtime + AllocGlobal>(rt: &R, path: &str, input: &str) -> Result<
     }
 }
 
-/// The file of the proof, which is empty then, if one is named.
+/// Creates or truncates the file of the proof; `None` if none is named. It errs if the path leads to the events or standard output, or if
+/// the file cannot be created.
 fn proof_of<R: Runtime + AllocGlobal>(
     rt: &R,
     files: SessionFiles<'_>,
@@ -70,7 +73,7 @@ fn proof_of<R: Runtime + AllocGlobal>(
     Ok(Some(file))
 }
 
-/// Answers a session whose events come from this source.
+/// Answers the queries of a session whose events come from this source.
 fn run<R: Runtime + AllocGlobal, S: Read + Drop>(
     rt: &R,
     source: S,
@@ -85,7 +88,7 @@ fn run<R: Runtime + AllocGlobal, S: Read + Drop>(
     answer_session(rt.alloc(), events, &mut printer, asking)
 }
 
-/// Answers a session. A file of events that cannot be opened leaves the file of the proof as it is.
+/// Answers the queries of a session. If the file of events cannot be opened, the file of the proof is not touched.
 pub(crate) fn session<R: Runtime + AllocGlobal>(
     rt: &R,
     files: SessionFiles<'_>,

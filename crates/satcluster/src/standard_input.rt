@@ -1,4 +1,4 @@
-//! Where `-` stands for standard input.
+//! Where the name `-` stands for standard input, and whether the words name it as they may.
 
 use node_main::Request;
 
@@ -7,7 +7,7 @@ pub(crate) fn is_dash(name: &str) -> bool {
     name == "-"
 }
 
-/// Whether a name that may be left out stands for it.
+/// Whether a name that may be left out is given and stands for standard input.
 fn is_some_dash(name: Option<&str>) -> bool {
     match name {
         Some(name) => is_dash(name),
@@ -15,23 +15,24 @@ fn is_some_dash(name: Option<&str>) -> bool {
     }
 }
 
-/// Whether two of these are so.
+/// Whether at least two of these flags are true.
 fn are_two(first: bool, second: bool, third: bool) -> bool {
     (first && second) || (first && third) || (second && third)
 }
 
-/// Whether a name of several stands for it; the only one stands for the names that it lists.
+/// Whether one of several names stands for standard input. A single `-` is another case: it stands for the names that standard input lists.
 fn is_one_of_several(names: &[&str]) -> bool {
     names.len() > 1 && names.iter().any(|name| *name == "-")
 }
 
-/// Whether it would be read twice by a command that reads a formula, cubes, and the files of names.
+/// Whether standard input would be read twice by a command that reads a formula, cubes, and the files of these names; or be one of several
+/// such files.
 fn are_read_twice(input: &str, cubes: &str, names: &[&str]) -> bool {
     let lists = names.len() == 1 && is_dash(names[0]);
     is_one_of_several(names) || are_two(is_dash(input), is_dash(cubes), lists)
 }
 
-/// Whether standard input would be read twice.
+/// Whether a request would read standard input twice.
 fn is_read_twice(request: &Request) -> bool {
     match *request {
         Request::Solve { input, cubes, .. } => is_dash(input) && is_some_dash(cubes),
@@ -72,7 +73,7 @@ fn is_read_twice(request: &Request) -> bool {
     }
 }
 
-/// Whether a file that is written has its name.
+/// Whether a request would write to a file under the name of standard input.
 fn is_written(request: &Request) -> bool {
     match *request {
         Request::Solve { proof, .. } => is_some_dash(proof),
@@ -88,7 +89,7 @@ fn is_written(request: &Request) -> bool {
     }
 }
 
-/// Whether the words name standard input as they may: once at most, and not as a file that is written.
+/// Whether a request names standard input as it may: at most once, and not as a file that is written.
 pub(crate) fn is_sound(request: &Request) -> bool {
     !is_read_twice(request) && !is_written(request)
 }

@@ -3,7 +3,7 @@ use Rattle.std.proofs.Common.{◌≡◌, true, [], ◌∷◌, refl, sym, ◌∙�
 use Rattle.std.proofs.lemmas.Bool.{true≢false, and_parts, and_from, eqb-true, eq-eqb}
 use Rattle.dimacs.specs.logic.Literal.{Clause, same}
 use Rattle.dimacs.proofs.LiteralLemmas.{same-true, same-itself}
-use Rattle.icnf.specs.Comparing.{begins_with, is_clause}
+use Rattle.icnf.specs.Comparison.{begins_with, is_clause}
 use Rattle.sessions.specs.Answers.{Event, Given, Asked}
 use Rattle.sessions.specs.Texts.{is_event}
 

@@ -4,7 +4,7 @@ use Rattle.std.proofs.lemmas.List.{append-nil}
 use Rattle.std.proofs.lemmas.List.Elements.{All-append, All-nil}
 use Rattle.std.proofs.Math.Seq.{take-append-add, take-length}
 use Rattle.dimacs.specs.text.Words.{lines}
-use Rattle.lrat_check.specs.Checking.{no_memory}
+use Rattle.lrat_check.specs.ProofFaults.{no_memory}
 use Rattle.lrat_text.specs.Lines.{IsCut, IsOpen}
 use Rattle.sessions.specs.Answers.{Event, counted}
 use Rattle.sessions.specs.Follows.{Follows}

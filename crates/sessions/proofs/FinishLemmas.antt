@@ -3,8 +3,8 @@ use Rattle.std.proofs.Common.{◌≡◌, ◌≢◌, inl, inr, ℕ, Bool, true, f
 use Rattle.std.proofs.lemmas.List.{append-nil}
 use Rattle.dimacs.specs.text.Words.{lines}
 use Rattle.icnf.specs.declared.fault.IcnfFault.{IcnfFault}
-use Rattle.lrat_check.specs.Checking.{no_memory}
-use Rattle.lrat_check.specs.declared.checking.CheckFault.{CheckFault}
+use Rattle.lrat_check.specs.ProofFaults.{no_memory}
+use Rattle.lrat_check.specs.declared.line_checker.CheckFault.{CheckFault}
 use Rattle.sessions.specs.Answers.{Event, tally}
 use Rattle.sessions.specs.Check.{Finishes, HasOutcome, HasTaken, OfTexts, ReadsBy, coming_by, front, still, wanted_by}
 use Rattle.sessions.specs.Events.{events_of}
@@ -43,7 +43,7 @@ proof_wanted None phase.Query b e = absurd (still_proof b e)
 proof_wanted None phase.Ended b e = absurd (still_proof b e)
 proof_wanted None (phase.Stopped f) b e = absurd (still_proof b e)
 
--- where no event comes any more, none is wanted
+-- if no event comes any more, none is wanted
 pub no_events : (o : Option IcnfFault) (p : Phase) (b : Bool) → b ≡ true → wanted_by o p b ≡ wants.Events → ⊥
 no_events o p b e h = let none : false ≡ true = sym (events_wanted o p b h).1 ∙ e in cc
 

@@ -2,7 +2,7 @@
 use Rattle.std.proofs.Common.{◌≡◌, ◌∙◌, ap, refl, ℕ, ◌+◌, Bool, true, false, List, [], ◌∷◌, Option, Some, None, Result, Ok, Err, if◌then◌else◌}
 use Rattle.dimacs.specs.text.Rows.{◌>>=◌}
 use Rattle.dimacs.specs.text.Words.{words_of}
-use Rattle.icnf.specs.Reading as icnf
+use Rattle.icnf.specs.Parser as icnf
 use Rattle.icnf.specs.declared.fault.IcnfFault.{IcnfFault}
 use Rattle.icnf.specs.declared.fault.Kind.TheVariants.{NoHeader}
 use Rattle.sessions.specs.Answers.{Event}

@@ -4,7 +4,7 @@ use Rattle.std.specs.FinMap.{get}
 use Rattle.std.specs.List.{list_all}
 use Rattle.dimacs.specs.logic.Literal.{Literal, has}
 use Rattle.dimacs.specs.logic.Propagation.{Assumed}
-use Rattle.lrat_check.specs.Faults.{is_tautology}
+use Rattle.lrat_check.specs.StepFaults.{is_tautology}
 use Rattle.sessions.specs.Texts.{State, is_met, is_model}
 
 pub model_is : (s : State) (model : List Literal) (pair met all : Bool) (held : Assumed) → pair ≡ is_tautology model → pair ≡ false → held ≡ has model

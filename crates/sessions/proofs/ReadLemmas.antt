@@ -4,7 +4,7 @@ use Rattle.std.proofs.lemmas.List.{append-nil}
 use Rattle.std.proofs.lemmas.List.Elements.{All-append, All-nil}
 use Rattle.dimacs.specs.text.Rows.{◌>>=◌, Fails}
 use Rattle.dimacs.specs.text.Words.{lines, words_of}
-use Rattle.icnf.specs.Reading as icnf
+use Rattle.icnf.specs.Parser as icnf
 use Rattle.icnf.specs.declared.fault.IcnfFault.{IcnfFault}
 use Rattle.icnf.specs.declared.fault.Kind.TheVariants.{NoHeader}
 use Rattle.lrat_text.specs.Lines.{IsOpen}

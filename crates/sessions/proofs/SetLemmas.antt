@@ -15,7 +15,7 @@ use Rattle.std.proofs.lemmas.List.Sorted.{searched}
 use Rattle.dimacs.specs.logic.Literal.{Literal, Clause, has, negation, same}
 use Rattle.dimacs.specs.logic.Propagation.{Assumed, with_literal}
 use Rattle.dimacs.proofs.Members.{has-Contains}
-use Rattle.lrat_check.specs.Faults.{is_tautology}
+use Rattle.lrat_check.specs.StepFaults.{is_tautology}
 use Rattle.lrat_check.proofs.Pairs.{no_pair-push, pair_tautology}
 use Rattle.sessions.specs.inner.Sets.{IsRising, set_in}
 

@@ -1,4 +1,4 @@
--- What the text answers where no byte comes any more.
+-- What the text answers if no byte comes any more.
 use Rattle.std.proofs.Common.{◌≡◌, ℕ, true, false, List, [], ◌∷◌, cond, refl, sym, ◌∙◌, ap, subst, length, eqb, suc, arith}
 use Rattle.std.proofs.lemmas.Bool.{true≢false, ne_eqb}
 use Rattle.sessions.specs.Answers.{Event}

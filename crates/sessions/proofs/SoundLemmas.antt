@@ -15,9 +15,9 @@ use Rattle.dimacs.specs.logic.Propagation.{Rup}
 use Rattle.dimacs.specs.text.Words.{lines}
 use Rattle.dimacs.proofs.LiteralLemmas.{literal_true-negation}
 use Rattle.dimacs.proofs.Members.{Contains-head, Contains-cons, Contains-cons_cases, Contains-nil, has-Contains}
-use Rattle.lrat_check.specs.Faults.{is_tautology}
-use Rattle.lrat_check.specs.Logs.{own_lemma_fault}
-use Rattle.lrat_check.specs.declared.checking.CheckFault.{CheckFault}
+use Rattle.lrat_check.specs.StepFaults.{is_tautology}
+use Rattle.lrat_check.specs.Logs.{log_lemma_fault}
+use Rattle.lrat_check.specs.declared.line_checker.CheckFault.{CheckFault}
 use Rattle.lrat_check.proofs.Logs.{rup_from_none}
 use Rattle.lrat_check.proofs.Pairs.{pair_tautology, tautology_pair}
 use Rattle.lrat_check.proofs.Pigeonhole.{eq_by_nat_cmp}
@@ -207,7 +207,7 @@ pair_fails a core (l, m, n) t = both_ways (literal_true a (negation l)) (literal
 core_fails : (F : List Clause) (s : State) (core : List Literal) (hints : List ℕ) → Holds F s → core_fault s.live core hints ≡ None → (a : ℕ → Bool) → All (IsTrueIn a) F → MakesTrue a core → ⊥
 core_fails F s core hints h e a sat t = at (is_tautology core) refl e
   where
-    at : (b : Bool) → is_tautology core ≡ b → cond b None (own_lemma_fault s.live (map negation core) hints []) ≡ None → ⊥
+    at : (b : Bool) → is_tautology core ≡ b → cond b None (log_lemma_fault s.live (map negation core) hints []) ≡ None → ⊥
     at true pair f = pair_fails a core (tautology_pair core pair) t
     at false pair f =
         let rup : Rup (live_in s.live) (map negation core) hints = (rup_from_none s.live 0 1 (map negation core) hints [] f).2 in
@@ -229,7 +229,7 @@ abbrev pub given_by : List Clause → Event → List Clause
 given_by F (Given C) = F ++ C ∷ []
 given_by F (Asked A) = F
 
--- what a line leads to: what is known still holds, and later answers that are right are right behind that of the line
+-- what a line leads to: what is known still holds, and later answers that are right are right after that of the line
 abbrev pub Leads : List Clause → State → Taken → Type 0
 Leads F s (Goes answer t) = Holds F t
     × ((E : List Event) (answers : List Answer) → AreRight F (left t E) answers → AreRight F (left s E) (listed answer ++ answers))
@@ -313,19 +313,19 @@ asks_right F s A h = at (is_between s.stage) refl
     )
     at false e = tt
 
-lemma_true : (F : List Clause) (s : State) (C : Clause) (hints : List ℕ) → Holds F s → own_lemma_fault s.live C hints [] ≡ None → (a : ℕ → Bool) → All (IsTrueIn a) F → IsTrueIn a C
+lemma_true : (F : List Clause) (s : State) (C : Clause) (hints : List ℕ) → Holds F s → log_lemma_fault s.live C hints [] ≡ None → (a : ℕ → Bool) → All (IsTrueIn a) F → IsTrueIn a C
 lemma_true F s C hints h e a sat = rup_true a (live_in s.live) C hints (h.follow a sat) (rup_from_none s.live 0 1 C hints [] e).2
 
 learns_right : (F : List Clause) (s : State) (id : ℕ) (C : Clause) (hints : List ℕ) → Holds F s → Leads F s (learns s id C hints)
 learns_right F s id C hints h = number (nat_le id s.last) refl
   where
-    rup : (f : Option ℕ) → own_lemma_fault s.live C hints [] ≡ f → s.last < id → Leads F s (by_fault f (Goes None (with_clause s id C)))
+    rup : (f : Option ℕ) → log_lemma_fault s.live C hints [] ≡ f → s.last < id → Leads F s (by_fault f (Goes None (with_clause s id C)))
     rup None e high = goes_same F s (with_clause s id C) refl refl (learnt F s id C h high (lemma_true F s C hints h e))
     rup (Some n) e high = tt
 
-    number : (b : Bool) → nat_le id s.last ≡ b → Leads F s (cond b (Faulty 2 0) (by_fault (own_lemma_fault s.live C hints []) (Goes None (with_clause s id C))))
+    number : (b : Bool) → nat_le id s.last ≡ b → Leads F s (cond b (Faulty 2 0) (by_fault (log_lemma_fault s.live C hints []) (Goes None (with_clause s id C))))
     number true e = tt
-    number false e = rup (own_lemma_fault s.live C hints []) refl (above id s.last e)
+    number false e = rup (log_lemma_fault s.live C hints []) refl (above id s.last e)
 
 -- the stage of a state
 at_stage : (F : List Clause) (s : State) (f : Stage → Taken) → Holds F s → ((x : Stage) → s.stage ≡ x → Leads F s (f x)) → Leads F s (f s.stage)

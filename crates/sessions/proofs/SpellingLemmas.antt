@@ -10,13 +10,13 @@ use Rattle.dimacs.specs.logic.Cnf.{literal_count}
 use Rattle.dimacs.specs.logic.Literal.{Literal, Clause, IsWithin, literal_of_number, number_of}
 use Rattle.dimacs.specs.text.Numbers.{number}
 use Rattle.dimacs.specs.text.Rows.{◌>>=◌, by_tokens}
-use Rattle.dimacs.specs.text.Spelling.{ended}
+use Rattle.dimacs.specs.text.Grammar.{ended}
 use Rattle.dimacs.specs.text.Words.{lines, words_of}
 use Rattle.dimacs.proofs.LiteralLemmas.{literal_back, literal_size, number_back, number_size}
 use Rattle.dimacs.proofs.RowLemmas.{bind_ok}
-use Rattle.icnf.specs.Reading as icnf
-use Rattle.icnf.specs.Reading.{read_header}
-use Rattle.icnf.specs.Spelling.{IsHeader}
+use Rattle.icnf.specs.Parser as icnf
+use Rattle.icnf.specs.Parser.{read_header}
+use Rattle.icnf.specs.Grammar.{IsHeader}
 use Rattle.icnf.specs.declared.fault.IcnfFault.{IcnfFault}
 use Rattle.icnf.specs.declared.fault.Kind.TheVariants.{NoHeader, BadToken, ClauseNotEnded, AboveLimit}
 use Rattle.icnf.proofs.SpellingLemmas.{header_is, spelled_header}
@@ -39,7 +39,7 @@ zero_is : (z : ℤ) → nat_abs z ≡ 0 → z ≡ pos 0
 zero_is (pos n) e = ap pos e
 zero_is (negsuc n) e = absurd (omega arith)
 
--- behind the 0 nothing stands
+-- after the 0 nothing stands
 nothing_more : (line : ℕ) (ws : List (List ℕ)) (c d : LineRead) → c.ended ≡ true → read_tokens line ws c ≡ Ok d → (ws ≡ []) × (c ≡ d)
 unfolding read_tokens
 nothing_more line [] c d ended e = (refl, ok_is c d e)
@@ -47,7 +47,7 @@ nothing_more line (w ∷ ws) c d ended e =
     let z = bind_ok (read_token line w c) (read_tokens line ws) d e in
     absurd (not_ok (record { kind = ClauseNotEnded; line = line }) z.0 (sym (token_behind line w c ended) ∙ z.1))
 
--- what was read of the tokens behind others
+-- what was read of the tokens after others
 record Behind (ws : List (List ℕ)) (c d : LineRead) : Type 0 where
   literals : List Literal
   are : d.literals ≡ c.literals ++ literals

@@ -26,7 +26,7 @@ text_line s n E line rest none =
     ap (text_from s n E) (first_line line rest none ∙ ap (λ ps. line ∷ ps) more.2)
     ∙ ap (going_on (take_read s (line_in line)) n E) (fun_ext (λ t. fun_ext (λ D. sym (ap (text_from t (n + 1) D) more.2))))
 
--- ---- answers behind others
+-- ---- answers after others
 pub behind_behind : (a b : List Answer) (o : Outcome) → behind a (behind b o) ≡ behind (a ++ b) o
 behind_behind a b o = ap (λ (x : List Answer). let r : Outcome = record { answers = x; fault = o.fault } in r) (sym (append_assoc a b o.answers))
 

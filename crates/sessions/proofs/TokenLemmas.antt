@@ -10,8 +10,8 @@ use Rattle.dimacs.specs.text.Rows.{Fails, ◌>>=◌}
 use Rattle.dimacs.proofs.RowLemmas.{fails_by}
 use Rattle.icnf.specs.declared.fault.IcnfFault.{IcnfFault}
 use Rattle.icnf.specs.declared.fault.Kind.TheVariants.{BadToken, AboveLimit, ClauseNotEnded}
-use Rattle.icnf.specs.Reading as icnf
-use Rattle.icnf.specs.Reading.{no_memory}
+use Rattle.icnf.specs.Parser as icnf
+use Rattle.icnf.specs.Parser.{no_memory}
 use Rattle.sessions.specs.Events.{LineRead, end_line, literals_in, nothing_read, read_found, read_number, read_token, read_tokens}
 
 no_number : (o : Option ℤ) → option_map capped o ≡ None → o ≡ None

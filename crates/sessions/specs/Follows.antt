@@ -1,4 +1,4 @@
--- What has been taken of a session's proof.
+-- The bytes of a session's proof that its side has taken.
 use Rattle.std.specs.Prelude.{◌≡◌, ◌⊎◌, ℕ, false, List, ◌++◌}
 use Rattle.dimacs.specs.text.Words.{lines}
 use Rattle.lrat_text.specs.Lines.{IsOpen}
@@ -7,7 +7,8 @@ use Rattle.sessions.specs.Texts.{behind, session_of}
 use Rattle.sessions.specs.Sides.{Ends, IsBroken, IsHigh, IsResting, later}
 use Rattle.sessions.specs.declared.proof_side.ProofSide.{ProofSide}
 
--- these bytes of the proof, where these events were heard: whatever follows, the text answers what was told, and then what is still to come
+-- events heard, bytes of the proof taken, the proof's side: whatever events and bytes follow, the proof has the answers `told`, and then
+-- those that the proof's side still gives (`later`)
 pub record Right (E : List Event) (p : List ℕ) (x : ProofSide) : Type 0 where
   pub told : List Answer
   pub counts : x.lines.known.tally ≡ tally told
@@ -16,6 +17,6 @@ pub record Right (E : List Event) (p : List ℕ) (x : ProofSide) : Type 0 where
   pub live : (x.no_byte ≡ false) ⊎ IsResting x.phase
   pub is : (D : List Event) (more : List ℕ) → Ends x.no_event D → Ends x.no_byte more → session_of (E ++ D) (p ++ more) ≡ behind told (later x D (lines (x.begun.items ++ more)))
 
--- or memory ran out
+-- events heard, bytes of the proof taken, the proof's side: it is right of them (`Right`), or memory was refused
 abbrev pub Follows : List Event → List ℕ → ProofSide → Type 0
 Follows E p x = IsBroken x ⊎ Right E p x

@@ -1,10 +1,10 @@
--- The lines of a session's proof. Each that has numbers is read as the line of LRAT text that says the same.
+-- The lines of a session's proof. Each line that has numbers is read as the line of LRAT text that says the same.
 use Rattle.std.specs.Prelude.{ℕ, ◌==◌, ◌||◌, ◌&&◌, Bool, List, [], ◌∷◌, ◌++◌, Option, Some, None, Result, Ok, Err, bytes_eq, codes, length, slice_index, if◌then◌else◌}
 use Rattle.std.specs.Str.{byte}
 use Rattle.dimacs.specs.logic.Literal.{Literal, Clause}
 use Rattle.lrat_text.specs.Grammar.{space}
 use Rattle.lrat_text.specs.Log.{Cube}
-use Rattle.lrat_text.specs.Reading.{step_in}
+use Rattle.lrat_text.specs.Parser.{step_in}
 use Rattle.lrat_text.specs.declared.fault.TextFault.{TextFault}
 use Rattle.lrat_text.specs.declared.fault.TextFault.TheVariants.{BadToken}
 use Rattle.lrat_text.specs.declared.step.Step.{Step}
@@ -17,7 +17,7 @@ use Rattle.sessions.specs.declared.kind.Status.{Status}
 use Rattle.sessions.specs.declared.kind.Status.TheVariants.{Satisfiable, Unsatisfiable, Unknown}
 
 -- What a line says: a clause is given under a number; a query is asked; a lemma was learnt under a number, by hints; the clauses of these
--- numbers go; the open query has this status; these literals are its model; these are its core, by hints; or nothing.
+-- numbers are deleted; the open query has this status; these literals are its model; these are its core, by hints; or nothing.
 pub data Line : Type 0 where
   Gives : ℕ → Clause → Line
   Asks : Cube → Line
@@ -28,11 +28,12 @@ pub data Line : Type 0 where
   Fails : List Literal → List ℕ → Line
   Silent : Line
 
--- `w` and `r` a clause that goes aside and comes back, `f` a core, `p` the head, `c` a comment, `e` the end of a query without an answer
+-- a letter whose lines are passed over: `w` weakens, `r` restores a clause; `f` a failed core, `p` the header, `c` a comment, `e` the end
+-- of a query
 abbrev pub is_silent : ℕ → Bool
 is_silent b = b == byte "w" || b == byte "r" || b == byte "f" || b == byte "p" || b == byte "c" || b == byte "e"
 
--- the kind of a line by its first letter
+-- the kind of a line, by its first letter
 abbrev pub kind_of : ℕ → Kind
 kind_of b =
     if b == byte "l" then kind.Step step.Learns
@@ -45,14 +46,14 @@ kind_of b =
     else if is_silent b then kind.Silent
     else kind.Unknown
 
--- what stands behind the letter and a space
+-- the bytes of a line after its letter and a space
 abbrev pub body_of : List ℕ → List ℕ
 body_of [] = []
 body_of (letter ∷ []) = []
 body_of (letter ∷ b ∷ bytes) = if b == space then bytes else []
 
 -- `ID LITERALS 0 0` stands for `i ID LITERALS 0`, `1 LITERALS 0 0` for `q LITERALS 0` and `m LITERALS 0`, `1 LITERALS 0 HINTS 0` for
--- `u LITERALS 0 HINTS 0`, and `1 d IDS 0` for `d IDS 0`; `l ID LITERALS 0 HINTS 0` is a line of LRAT text but for its letter
+-- `u LITERALS 0 HINTS 0`, and `1 d IDS 0` for `d IDS 0`; `l ID LITERALS 0 HINTS 0` is a line of LRAT text except its letter
 abbrev pub lrat_line : StepKind → List ℕ → List ℕ
 lrat_line step.Gives line = body_of line ++ codes " 0"
 lrat_line step.Asks line = codes "1 " ++ body_of line ++ codes " 0"
@@ -61,17 +62,19 @@ lrat_line step.Deletes line = codes "1 " ++ line
 lrat_line step.Shows line = codes "1 " ++ body_of line ++ codes " 0"
 lrat_line step.Fails line = codes "1 " ++ body_of line
 
+-- what a line says, or its first fault
 abbrev pub Read : Type 0
 Read = Result Line TextFault
 
--- what is said by literals alone: neither a hint nor a group stands behind them
+-- hints, number of groups, what a line says by its literals: a hint or a group after the literals is a fault
 abbrev pub bare : List ℕ → ℕ → Line → Read
 bare hints groups line = if length hints == 0 && groups == 0 then Ok line else Err BadToken
 
+-- number of groups, what a line says: a group is a fault
 abbrev pub ungrouped : ℕ → Line → Read
 ungrouped groups line = if groups == 0 then Ok line else Err BadToken
 
--- what a line of a kind says whose LRAT line spells this step
+-- what a line of this kind says whose line of LRAT text spells this step, or its first fault
 abbrev pub said : StepKind → Step → Read
 said step.Gives (Add id C hints groups) = bare hints (length groups) (Gives id C)
 said step.Asks (Add id A hints groups) = bare hints (length groups) (Asks A)
@@ -86,11 +89,12 @@ said step.Deletes (Delete ids) = Ok (Deletes ids)
 said step.Shows (Delete ids) = Err BadToken
 said step.Fails (Delete ids) = Err BadToken
 
+-- what a line of this kind says, by the step that its line of LRAT text spells, or its first fault
 abbrev pub by_step : StepKind → Result Step TextFault → Read
 by_step k (Ok s) = said k s
 by_step k (Err fault) = Err fault
 
--- the status that a line tells
+-- the status that a line tells; None if it tells none
 abbrev pub status_word : List ℕ → Option Status
 status_word line =
     if bytes_eq line (codes "s SATISFIABLE") then Some Satisfiable
@@ -98,19 +102,22 @@ status_word line =
     else if bytes_eq line (codes "s UNKNOWN") then Some Unknown
     else None
 
+-- what a line of this status says; a line without a status has a fault
 abbrev pub by_word : Option Status → Read
 by_word None = Err BadToken
 by_word (Some word) = Ok (Says word)
 
+-- what an `s` line says, or its first fault
 abbrev pub status_in : List ℕ → Read
 status_in line = by_word (status_word line)
 
--- what a line says whose kind is this, or its first fault
+-- what a line of this kind says, or its first fault
 abbrev pub read_as : Kind → List ℕ → Read
 read_as (kind.Step k) line = by_step k (step_in (lrat_line k line))
 read_as kind.Says line = status_in line
 read_as kind.Silent line = Ok Silent
 read_as kind.Unknown line = Err BadToken
 
+-- what a line says, or its first fault
 abbrev pub line_in : List ℕ → Read
 line_in line = read_as (kind_of (slice_index line 0)) line

@@ -3,8 +3,8 @@ use Rattle.std.specs.Prelude.{◌≡◌, ◌≢◌, ◌⊎◌, ℕ, ◌+◌, Lis
 use Rattle.icnf.specs.Faults.{number_of_kind}
 use Rattle.icnf.specs.declared.fault.IcnfFault.{IcnfFault}
 use Rattle.icnf.specs.declared.fault.Kind.TheVariants as kind
-use Rattle.lrat_check.specs.Checking.{no_memory}
-use Rattle.lrat_check.specs.declared.checking.CheckFault.{CheckFault}
+use Rattle.lrat_check.specs.ProofFaults.{no_memory}
+use Rattle.lrat_check.specs.declared.line_checker.CheckFault.{CheckFault}
 use Rattle.reports.specs.Faults.{fault_text}
 use Rattle.reports.specs.declared.refusal.Refusal.{Refusal}
 use Rattle.reports.specs.declared.refusal.Refusal.TheVariants as refusal
@@ -19,71 +19,79 @@ use Rattle.sessions.specs.declared.check.SessionFault.TheVariants as fault
 use Rattle.sessions.specs.declared.check.Wants.TheVariants as wants
 use Rattle.sessions.specs.declared.tally.Tally.{Tally}
 
+-- how many answers there are
 abbrev pub total : Tally → ℕ
 total t = t.satisfied + t.failed + t.unknown
 
+-- a number, and then words
 abbrev pub count_text : ℕ → List ℕ → List ℕ
 count_text n words = decimal n ++ words
 
--- behind the first words: how many answers there are of each kind, and where a proof's fault is
+-- after `s VERIFIED` and `c `: how many answers there are of each kind
 abbrev pub verified_tail : Tally → List ℕ
 verified_tail t =
     count_text (total t) (codes " queries: ") ++ count_text t.satisfied (codes " satisfiable, ") ++ count_text t.failed (codes " unsatisfiable, ")
     ++ count_text t.unknown (codes " unknown\n")
 
+-- after `s NOT VERIFIED` and `c `: where the proof's fault is, and how many answers stand before it
 abbrev pub refused_tail : CheckFault → Tally → List ℕ
 refused_tail f before = fault_text f.line f.number ++ codes "c " ++ count_text (total before) (codes " queries before\n")
 
+-- what is printed of a session that is verified
 abbrev pub verified_text : Tally → List ℕ
 verified_text t = codes "s VERIFIED\nc " ++ verified_tail t
 
+-- what is printed of a proof that has this first fault, after these answers
 abbrev pub refused_text : CheckFault → Tally → List ℕ
 refused_text f before = codes "s NOT VERIFIED\nc " ++ refused_tail f before
 
+-- what is printed of events that have this first fault
 abbrev pub events_text : IcnfFault → List ℕ
 events_text f = codes "c input " ++ fault_text f.line (number_of_kind f.kind)
 
--- the report has this text and this status, and no proof; or memory ran out
+-- text, status, the answer: a report with this text and this status, and without a proof; or memory was refused
 abbrev pub Printed : List ℕ → ℕ → Result Report Refusal → Type 0
 Printed text status (Ok r) = (r.stdout.items ≡ text) × (r.status ≡ status) × (r.proof ≡ None)
 Printed text status (Err f) = f ≡ refusal.NoMemory
 
--- what is printed of a fault; a run that does not end has no report, and want of memory has none
+-- fault, the answer: the report of the fault. There is none if memory was refused, or if an input was still wanted
 abbrev pub ReportsFault : SessionFault → Result Report Refusal → Type 0
 ReportsFault (fault.Events f) r = Printed (events_text f) 1 r × OnOk r (f.kind ≢ kind.NoMemory)
 ReportsFault (fault.Proof f before) r = Printed (refused_text f before) 1 r × OnOk r (f ≢ no_memory)
 ReportsFault fault.Unfinished r = r ≡ Err refusal.Proof
 
--- what is printed of an answer
+-- answer of `finish`, the report: what is printed of this answer
 abbrev pub Reports : Result Tally SessionFault → Result Report Refusal → Type 0
 Reports (Ok t) r = Printed (verified_text t) 0 r
 Reports (Err f) r = ReportsFault f r
 
 -- ---- the report of both texts
--- of a proof with this fault first, or with none, behind answers of these counts
+-- fault, counts, report: the report of a proof with this first fault, or with none, after answers of these counts
 abbrev pub IsVerdict : Option CheckFault → Tally → Report → Type 0
 IsVerdict None counts r = Printed (verified_text counts) 0 (Ok r)
 IsVerdict (Some f) before r = Printed (refused_text f before) 1 (Ok r)
 
--- of a proof beside these events; or of the first fault of the events, which is told before any of the proof's
+-- events or their fault, text of the proof, report: the report of the proof beside these events; or of the first fault of the events, which
+-- is printed before any fault of the proof
 abbrev pub IsReport : Result (List Event) IcnfFault → List ℕ → Report → Type 0
 IsReport (Ok E) proof r = IsVerdict (session_of E proof).fault (tally (session_of E proof).answers) r
 IsReport (Err f) proof r = Printed (events_text f) 1 (Ok r)
 
--- each of these queries has an answer, which is right for the clauses that are given before it, and how many there are of each kind is printed
+-- events, answers, report: each query of the events has one of the answers, which is right for the clauses that are given before the query;
+-- and the report says how many answers are of each kind
 abbrev pub AreAnswered : List Event → List Answer → Report → Type 0
 AreAnswered E answers r = AreRight [] E answers × (length answers ≡ queries E) × (r.stdout.items ≡ verified_text (tally answers))
 
--- the text spells events, whose queries are answered so
+-- text of the events, report: the text spells events, each of whose queries has a right answer, which the report counts
 abbrev pub AnswersRight : List ℕ → Report → Type 0
 AnswersRight events r = (E : List Event) × Spells events E × ((answers : List Answer) × AreAnswered E answers r)
 
--- the report of both texts; status 0 if and only if the text spells events and the proof has no fault beside them, and then its answers are
--- right
+-- text of the events, text of the proof, report: the report of both texts. The status is 0 if and only if the text spells events and the
+-- proof has no fault beside them; then each query has a right answer
 pub record ChecksSession (events proof : List ℕ) (r : Report) : Type 0 where
   pub report : IsReport (events_of events) proof r
   pub truth : r.status ≡ 0 → AnswersRight events r
 
--- why a check has no report: memory ran out, or something is wanted still
+-- why a check has no report: memory was refused, or an input is still wanted
 abbrev pub HasNoReport : SessionCheck → Refusal → Type 0
 HasNoReport x f = (f ≡ refusal.NoMemory) ⊎ ((f ≡ refusal.Proof) × ¬ (wanted x ≡ wants.Nothing))

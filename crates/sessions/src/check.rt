@@ -15,14 +15,14 @@ use lrat_check::CheckFault;
 use lrat_text::cut_line;
 use std::alloc::{AllocError, Global};
 
-/// What a check wants next.
+/// Which input a check reads next.
 #[derive(Clone, Copy, Debug, PartialEq, Eq)]
 pub enum Wants {
     /// Bytes of the proof, or that it has ended.
     Proof,
     /// Bytes of the events, or that they have ended.
     Events,
-    /// Nothing: what is answered stands.
+    /// Nothing: the result is final.
     Nothing,
 }
 
@@ -31,25 +31,26 @@ pub enum Wants {
 pub enum SessionFault {
     /// The events have this fault.
     Events(IcnfFault),
-    /// The proof has this one, behind so many answers that are right.
+    /// The proof has this first fault, after the answers before it, which are right; `before` counts them.
     Proof { fault: CheckFault, before: Tally },
-    /// Something is wanted still.
+    /// `finish` was called while the check still wanted an input.
     Unfinished,
 }
 
-/// A check of a session. It keeps the clauses that were given, the lemmas that are live, and of each text the line that is begun.
+/// A check of a session. It keeps the given clauses, the live lemmas, and the unfinished last line of each text.
 pub struct SessionCheck {
+    /// The proof's side: the state of the session, and what the proof waits for.
     pub(crate) proof: ProofSide,
+    /// The reader of the events' lines.
     pub(crate) events: EventLines,
     /// How many lines of events were read.
     pub(crate) read: u64,
-    /// What has come of the next one.
+    /// The bytes of events after the last LF: the line that has not ended.
     pub(crate) begun: Vec<u8>,
-    /// The first fault of the events.
+    /// The first fault of the events, if one is found.
     pub(crate) fault: Option<IcnfFault>,
 }
 
-// By hand, so that whoever owns one drops it by one call, and no proof there goes through its parts.
 impl Drop for SessionCheck {
     fn drop(self) {
         let SessionCheck {
@@ -63,7 +64,7 @@ impl Drop for SessionCheck {
 }
 
 impl SessionCheck {
-    /// No byte was taken.
+    /// A check that has taken no byte.
     pub fn new(alloc: Global) -> Result<SessionCheck, AllocError>
         ensures taken { IfOk result (HasTaken [] []) }
         ensures events { IfOk result (λ x. events_ended x ≡ false) }
@@ -79,7 +80,8 @@ impl SessionCheck {
         })
     }
 
-    /// What is wanted next. Events are wanted only where a line of the proof awaits one, or where nothing of the proof is wanted any more.
+    /// Answers which input is wanted next. Events are wanted only if a line of the proof awaits one, or if nothing of the proof is wanted
+    /// any more.
     pub fn wants(&self) -> Wants
         ensures { result ≡ wanted self.now }
     {
@@ -98,7 +100,8 @@ impl SessionCheck {
         }
     }
 
-    /// Takes bytes of the proof up to the first LF, where they are wanted, and tells how many.
+    /// Takes bytes of the proof up to the first LF, if the proof is wanted. Answers how many bytes were taken; 0 if the proof is not
+    /// wanted.
     pub fn feed_proof(&mut self, piece: &[u8]) -> usize
         ensures few { result ≤ length piece.now }
         ensures some { wanted self.old ≡ Wants.Proof → 0 < length piece.now → 0 < result }
@@ -111,7 +114,7 @@ impl SessionCheck {
         }
     }
 
-    /// The same, where they are wanted.
+    /// Takes bytes of the proof, which is wanted, up to the first LF. Answers how many bytes were taken.
     fn feed_reading(&mut self, piece: &[u8]) -> usize
         requires { wanted self.old ≡ Wants.Proof }
         ensures few { result ≤ length piece.now }
@@ -122,7 +125,7 @@ impl SessionCheck {
         self.proof.feed(piece)
     }
 
-    /// The proof has ended, where its bytes are wanted.
+    /// Ends the proof. Does nothing if the proof is not wanted.
     pub fn end_proof(&mut self)
         ensures ended { ¬ (wanted self.new ≡ Wants.Proof) }
         ensures events { events_ended self.new ≡ events_ended self.old }
@@ -134,7 +137,7 @@ impl SessionCheck {
         }
     }
 
-    /// An event is heard, if the line says one.
+    /// Hands the event of a line, if it has one, to the proof's side.
     fn hear(&mut self, sent: Sent)
         requires { self.old.proof.phase ≢ Phase.Reading }
         ensures hears { HearsRow (event_of sent self.old.events.read.literals) self.old.proof self.new.proof }
@@ -149,7 +152,7 @@ impl SessionCheck {
         }
     }
 
-    /// The line of events that is begun has come to its end.
+    /// Reads the line of events in `begun`, which has ended, and hands its event to the proof's side. A fault is kept for `finish`.
     fn end_row(&mut self)
         requires waits { self.old.proof.phase ≢ Phase.Reading }
         requires fine { self.old.fault ≡ None }
@@ -171,7 +174,7 @@ impl SessionCheck {
         }
     }
 
-    /// A piece of the line of events that is begun has come.
+    /// Appends a piece without LF to the line of events that has not ended.
     fn begin_with(&mut self, piece: &[u8])
         requires fine { self.old.fault ≡ None }
         requires more { self.old.proof.no_event ≡ false }
@@ -184,7 +187,7 @@ impl SessionCheck {
         }
     }
 
-    /// The rest of that line has come, and its LF.
+    /// Appends the rest of a line of events, without its LF, and reads the line.
     fn end_with(&mut self, text: &[u8])
         requires waits { self.old.proof.phase ≢ Phase.Reading }
         requires fine { self.old.fault ≡ None }
@@ -198,7 +201,8 @@ impl SessionCheck {
         }
     }
 
-    /// Takes bytes of the events up to the first LF, where they are wanted, and tells how many.
+    /// Takes bytes of the events up to the first LF, if the events are wanted. Answers how many bytes were taken; 0 if the events are not
+    /// wanted.
     pub fn feed_events(&mut self, piece: &[u8]) -> usize
         ensures few { result ≤ length piece.now }
         ensures some { wanted self.old ≡ Wants.Events → 0 < length piece.now → 0 < result }
@@ -211,7 +215,7 @@ impl SessionCheck {
         }
     }
 
-    /// The same, where they are wanted.
+    /// Takes bytes of the events, which are wanted, up to the first LF. Answers how many bytes were taken.
     fn feed_waiting(&mut self, piece: &[u8]) -> usize
         requires { wanted self.old ≡ Wants.Events }
         ensures few { result ≤ length piece.now }
@@ -231,7 +235,7 @@ impl SessionCheck {
         }
     }
 
-    /// Events that end need a header.
+    /// Keeps the fault of events that have ended without a header, unless they have a fault already.
     fn close(&mut self)
         ensures { self.new ≡ record self.old { fault = closing self.old.fault self.old.events.progress.headed self.old.read } }
     {
@@ -248,7 +252,7 @@ impl SessionCheck {
         }
     }
 
-    /// What is begun is the last line of the events.
+    /// Ends the events, which are wanted: the bytes after the last LF are the last line.
     fn end_waiting(&mut self)
         requires { wanted self.old ≡ Wants.Events }
         ensures ended { self.new.proof.no_event ≡ true }
@@ -260,7 +264,7 @@ impl SessionCheck {
         self.close();
     }
 
-    /// The events have ended, where their bytes are wanted.
+    /// Ends the events. Does nothing if the events are not wanted.
     pub fn end_events(&mut self)
         ensures ended { ¬ (wanted self.new ≡ Wants.Events) }
         ensures proof { proof_ended self.new ≡ proof_ended self.old }
@@ -272,7 +276,7 @@ impl SessionCheck {
         }
     }
 
-    /// What is awaited does not come any more.
+    /// The fault (18) of a line whose event is awaited after the events have ended.
     fn unheard(&self) -> SessionFault
         ensures { result ≡ SessionFault.Proof (fault_at self.now.proof.line 18 0) self.now.proof.lines.known.tally }
     {
@@ -286,7 +290,8 @@ impl SessionCheck {
         }
     }
 
-    /// What is answered where nothing is wanted any more: how many answers there are of each kind, all of them right; or the first fault.
+    /// Answers how many answers of each kind there are, all of them right; or the first fault. Err is `Unfinished` if an input is still
+    /// wanted.
     pub fn finish(&self) -> Result<Tally, SessionFault>
         ensures { (e p : List ℕ) → HasTaken e p self.now → Finishes e p self.now result }
     {

@@ -1,8 +1,8 @@
-//! The lines of a text of events, read one after the other.
+//! Reads the lines of a text of events, one after the other.
 
 ghost use Rattle.std.specs.Prelude.{◌≡◌, ◌≢◌, ℕ, ◌+◌, List, [], ◌∷◌, IfOk, OnOk, IfErr, None, Some, Ok, bytes_eq, codes};
 ghost use Rattle.dimacs.specs.text.Words.{words, words_of};
-ghost use Rattle.icnf.specs.Reading.{read_header};
+ghost use Rattle.icnf.specs.Parser.{read_header};
 ghost use Rattle.sessions.specs.Events.{put_clause, put_query, read_event, read_row, start};
 ghost use Rattle.sessions.specs.Rows.{GivesRow};
 
@@ -13,30 +13,33 @@ use icnf::{IcnfFault, Kind, read_header};
 use std::alloc::Global;
 use std::marker::Model;
 
-/// The most clauses, the most literals of all clauses, and the most literals of a query.
+/// The most clauses that a text of events may give.
 const CLAUSES: u32 = 4_000_000;
 
+/// The most literals of all clauses together.
 const LITERALS: usize = 50_000_000;
 
+/// The most literals of a query.
 const QUERY: usize = 1_000_000;
 
-/// What a line says.
+/// What a line of events says.
 #[derive(Clone, Copy)]
 pub enum Sent {
-    /// Neither: it is empty, a comment, or the header.
+    /// The line is blank, a comment, or the header.
     Nothing,
-    /// A clause is given.
+    /// The line gives a clause.
     Clause,
-    /// A query is asked.
+    /// The line asks a query.
     Query,
 }
 
-/// What was read of the lines so far, and the literals of the last one that had an event. The room is used again from line to line.
+/// The reader of events: what it has counted so far, and the literals of the last event, whose buffer is reused.
 pub struct EventLines {
-    /// Whether the header was there.
+    /// Whether the header was read.
     headed: bool,
-    /// How many clauses, and how many literals of clauses.
+    /// How many clauses were read.
     clauses: u32,
+    /// How many literals these clauses have.
     total: u32,
     /// The literals of the last event.
     literals: LineLiterals,
@@ -53,7 +56,6 @@ impl Model for EventLines {
     ghost invariant = { λ x. (x.clauses ≤ 4000000) × (x.total ≤ 50000000) };
 }
 
-// By hand, so that whoever owns one drops it by one call, and no proof there goes through its parts.
 impl Drop for EventLines {
     fn drop(self) {
         let EventLines {
@@ -65,7 +67,7 @@ impl Drop for EventLines {
     }
 }
 
-/// Whether a token is `a`.
+/// Answers whether a token is `a`, with which the line of a query begins.
 fn is_mark(word: &[u8]) -> bool
     ensures { result ≡ bytes_eq word.now (codes "a") }
 {
@@ -73,7 +75,7 @@ fn is_mark(word: &[u8]) -> bool
 }
 
 impl EventLines {
-    /// No line was read.
+    /// A reader that has read no line.
     pub fn new(alloc: Global) -> EventLines
         ensures progress { result.progress ≡ start }
         ensures literals { result.read.literals ≡ [] }
@@ -86,21 +88,21 @@ impl EventLines {
         }
     }
 
-    /// The literals of the last event.
+    /// The literals of the last event that was read.
     pub fn literals(&self) -> &[Lit]
         ensures { result.now ≡ self.now.read.literals }
     {
         self.literals.as_slice()
     }
 
-    /// Whether the header was there.
+    /// Answers whether the header was read.
     pub fn is_headed(&self) -> bool
         ensures { result ≡ self.now.progress.headed }
     {
         self.headed
     }
 
-    /// A clause was read.
+    /// Counts a clause whose literals were read. Err if there would be too many clauses or literals.
     fn put_clause(&mut self, line: u64) -> Result<Sent, IcnfFault>
         ensures row { GivesRow self.new result (put_clause line self.old.progress self.old.read.literals) }
         ensures says { IfOk result (λ sent. sent ≡ Sent.Clause) }
@@ -114,7 +116,7 @@ impl EventLines {
         Ok(Sent::Clause)
     }
 
-    /// A query was read.
+    /// Tests the query whose literals were read. Err if it has too many literals.
     fn put_query(&self, line: u64) -> Result<Sent, IcnfFault>
         ensures row { GivesRow self.now result (put_query line self.now.progress self.now.read.literals) }
         ensures says { IfOk result (λ sent. sent ≡ Sent.Query) }
@@ -125,7 +127,8 @@ impl EventLines {
         Ok(Sent::Query)
     }
 
-    /// Reads a line of an event, of which this is the first token.
+    /// Reads a line of an event. `word` is its first token, `after` are the bytes after that token, and `text` is the whole line. Answers
+    /// `Clause` or `Query`; Err is the line's first fault.
     fn read_event(
         &mut self,
         line: u64,
@@ -145,8 +148,8 @@ impl EventLines {
         self.put_clause(line)
     }
 
-    /// Reads the line of this number, of which `text` are the bytes without the LF: what it says, or the first fault. Behind a fault nothing
-    /// is promised of what was read.
+    /// Reads the line of this number, from 1; `text` has the line without its LF. Answers what the line says; Err is the line's first
+    /// fault. After an Err nothing is promised of the reader.
     #[tactic(auto, unfolding(crate::specs::Events::read_row))]
     pub fn read(&mut self, line: u64, text: &[u8]) -> Result<Sent, IcnfFault>
         ensures row { GivesRow self.new result (read_row line (words_of text.now) self.old.progress) }

@@ -6,14 +6,14 @@ ghost use Rattle.sessions.specs.declared.fault.LineFault.TheVariants.{NoMemory};
 use lrat_text::TextFault;
 use std::alloc::{AllocError, AllocFailed};
 
-/// The first fault of a line.
+/// The first fault of a line of a proof.
 #[derive(Clone, Copy)]
 pub(crate) enum LineFault {
-    /// The line says nothing that a line can.
+    /// The line is no line of the grammar.
     Text(TextFault),
-    /// What it says has the fault of this number.
+    /// The line is one of the grammar, and has the fault of this number.
     OfLine(u8),
-    /// A growth was refused, or a number has no room.
+    /// Memory was refused, or a number is above 64 bits.
     NoMemory,
 }
 

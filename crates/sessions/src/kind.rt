@@ -1,11 +1,11 @@
-//! The kinds of lines, and the line of LRAT text that says what a line says.
+//! The kinds of lines of a session's proof, and their translation to lines of LRAT text, by which they are read.
 
 ghost use Rattle.std.specs.Prelude.{◌≡◌, OnOk, slice_index};
 ghost use Rattle.sessions.specs.Lines.{body_of, is_silent as silent, kind_of, lrat_line};
 
 use std::alloc::AllocError;
 
-/// The kinds of lines that say what a line of LRAT text can say.
+/// The kinds of lines that have numbers. Each such line is read as a line of LRAT text.
 #[derive(Clone, Copy)]
 pub(crate) enum StepKind {
     /// `i`: a clause is given.
@@ -14,7 +14,7 @@ pub(crate) enum StepKind {
     Asks,
     /// `l`: a lemma was learnt.
     Learns,
-    /// `d`: clauses go.
+    /// `d`: lemmas are deleted.
     Deletes,
     /// `m`: the model of a query.
     Shows,
@@ -22,19 +22,20 @@ pub(crate) enum StepKind {
     Fails,
 }
 
-/// What a line begins with.
+/// The kind of a line, by its first letter.
 #[derive(Clone, Copy)]
 pub(crate) enum Kind {
+    /// A line that has numbers.
     Step(StepKind),
     /// `s`: the status of a query.
     Says,
-    /// Nothing is said.
+    /// A line that is passed over.
     Silent,
-    /// No line begins so.
+    /// No line begins with this letter.
     Unknown,
 }
 
-/// The status of a query.
+/// The status that an `s` line gives a query.
 #[derive(Clone, Copy)]
 pub(crate) enum Status {
     Satisfiable,
@@ -42,7 +43,7 @@ pub(crate) enum Status {
     Unknown,
 }
 
-/// Whether a line that begins so says nothing.
+/// Answers whether lines that begin with this letter are passed over.
 fn is_silent(letter: u8) -> bool
     ensures { result ≡ silent letter }
 {
@@ -54,7 +55,7 @@ fn is_silent(letter: u8) -> bool
         || letter == b'e'
 }
 
-/// The kind of the lines that begin with this byte. Lemmas and deletions are most of a text.
+/// The kind of the lines that begin with this byte. Lemmas and deletions are tested first: they are most of a text.
 fn kind_of_letter(letter: u8) -> Kind
     ensures { result ≡ kind_of letter }
 {
@@ -79,7 +80,7 @@ fn kind_of_letter(letter: u8) -> Kind
     }
 }
 
-/// The kind of a line.
+/// The kind of a line, by its first byte; `Unknown` if the line is empty.
 pub(crate) fn kind_of_line(line: &[u8]) -> Kind
     ensures { result ≡ kind_of (slice_index line.now 0) }
 {
@@ -89,7 +90,7 @@ pub(crate) fn kind_of_line(line: &[u8]) -> Kind
     kind_of_letter(line[0])
 }
 
-/// What stands behind the letter and a space.
+/// The bytes of a line after its letter and a space; no bytes if no space comes after the letter.
 fn body(line: &[u8]) -> &[u8]
     ensures { result.now ≡ body_of line.now }
 {
@@ -99,7 +100,7 @@ fn body(line: &[u8]) -> &[u8]
     &line[2..]
 }
 
-/// Leaves the line of LRAT text that says what a line of this kind says.
+/// Overwrites `spelled` with the line of LRAT text as which a line of this kind is read.
 pub(crate) fn spell(kind: StepKind, line: &[u8], spelled: &mut Vec<u8>) -> Result<(), AllocError>
     ensures { OnOk result (spelled.new.items ≡ lrat_line kind line.now) }
 {

@@ -1,4 +1,4 @@
-//! What a line of a session's proof comes to.
+//! The state of a checked session: its clauses, lemmas and open query, and what each line of the proof does to it.
 
 ghost use Rattle.std.specs.Prelude.{◌≡◌, ◌<◌, ◌+◌, Some, None, OnOk, OnErr, IfOk, IfErr, MatchResult, map};
 ghost use Rattle.std.specs.FinMap.{get};
@@ -25,34 +25,39 @@ use lrat_text::{Groups, StepRef, TextFault};
 use std::alloc::{AllocError, Global};
 use std::mem;
 
-/// What comes of a line that is right.
+/// What a line without fault waits for.
 #[derive(Clone, Copy)]
 pub(crate) enum Came {
-    /// It is done.
+    /// The next line of the proof.
     Goes,
-    /// The next event has to be the clause that is awaited.
+    /// The next event has to be the clause in `Known::awaited`.
     Clause,
-    /// The next event has to be the query that is awaited.
+    /// The next event has to be the query in `Known::awaited`.
     Query,
 }
 
-/// What is known between two lines.
+/// The state of a session between two lines of its proof. Each call that may answer Err answers `NoMemory` if memory is refused.
 pub(crate) struct Known {
+    /// The live clauses and lemmas, by their numbers.
     pub(crate) rup: RupChecker,
+    /// The numbers of the given clauses, and the greatest number so far.
     pub(crate) numbers: Numbers,
+    /// The stage of the query that was asked last.
     pub(crate) stage: Stage,
     /// The literals of the query that was asked last.
     pub(crate) query: Vec<Lit>,
-    /// The answers so far.
+    /// How many answers of each kind the proof has given so far.
     pub(crate) tally: Tally,
-    /// The literals of the event that is awaited, and the number of its clause.
+    /// The literals of the event that is awaited.
     pub(crate) awaited: Vec<Lit>,
+    /// The number of the clause that is awaited.
     pub(crate) id: u64,
+    /// A set of literals, reused from line to line.
     set: LiteralSet,
+    /// The negations of a core's literals, reused from line to line.
     negated: Vec<Lit>,
 }
 
-// By hand, so that whoever owns one drops it by one call, and no proof there goes through its parts.
 impl Drop for Known {
     fn drop(self) {
         let Known {
@@ -69,20 +74,22 @@ impl Drop for Known {
     }
 }
 
-/// The fault of a line that has something where its kind has nothing.
+/// The fault (1) of a line that has hints, groups or a number which its kind of line does not have.
 const BAD: LineFault = LineFault::Text(TextFault::BadToken);
 
-/// The number of a line that cannot stand here, of a number that does not rise, of a model that is none, and of a core that is not within
-/// its query.
+/// Fault 19: a line of this kind is not allowed at this stage of the query.
 const MISPLACED: LineFault = LineFault::OfLine(19);
 
+/// Fault 2: the number of a clause or lemma is not above all numbers before it.
 const NOT_RISING: LineFault = LineFault::OfLine(2);
 
+/// Fault 20: the literals are no model of the given clauses and the query.
 const NO_MODEL: LineFault = LineFault::OfLine(20);
 
+/// Fault 21: the core has a literal that is none of the query's.
 const NOT_ASKED: LineFault = LineFault::OfLine(21);
 
-/// One more. A number that has no room in 64 bits, and no other, is refused as for want of memory.
+/// Answers `count` + 1; Err(NoMemory) if that is above 64 bits.
 fn next(count: u64) -> Result<u64, LineFault>
     ensures { MatchResult result (λ n. n ≡ count + 1) (λ f. f ≡ LineFault.NoMemory) }
 {
@@ -92,7 +99,7 @@ fn next(count: u64) -> Result<u64, LineFault>
     }
 }
 
-/// Leaves these literals.
+/// Overwrites `copied` with these literals.
 fn copy(lits: &[Lit], copied: &mut Vec<Lit>) -> Result<(), AllocError>
     ensures { OnOk result (copied.new.items ≡ lits.now) }
 {
@@ -100,7 +107,7 @@ fn copy(lits: &[Lit], copied: &mut Vec<Lit>) -> Result<(), AllocError>
     copied.extend_from_slice(lits)
 }
 
-/// Leaves the negations of literals.
+/// Overwrites `negated` with the negations of literals.
 fn negate(lits: &[Lit], negated: &mut Vec<Lit>) -> Result<(), AllocError>
     ensures { OnOk result (negated.new.items ≡ map negation lits.now) }
 {
@@ -111,7 +118,7 @@ fn negate(lits: &[Lit], negated: &mut Vec<Lit>) -> Result<(), AllocError>
     Ok(())
 }
 
-/// Takes out the lemmas among these numbers.
+/// Deletes the lemmas of these numbers. Given clauses stay, and numbers that are not live are passed over.
 fn forget(rup: &mut RupChecker, numbers: &Numbers, ids: &[u64])
     ensures { rup.new ≡ without numbers.now.given rup.old ids.now }
 {
@@ -122,7 +129,7 @@ fn forget(rup: &mut RupChecker, numbers: &Numbers, ids: &[u64])
     }
 }
 
-/// Whether a literal of the clause under a number is in a set.
+/// Answers whether a literal of the clause of this number is in the set; false if no clause of this number is live.
 fn is_met(rup: &RupChecker, set: &LiteralSet, id: u64) -> bool
     ensures { result ≡ is_met (set_in set.now.stamps.items set.now.stamp) (get rup.now id) }
 {
@@ -132,7 +139,7 @@ fn is_met(rup: &RupChecker, set: &LiteralSet, id: u64) -> bool
     }
 }
 
-/// Whether a literal of each clause that was given is in a set.
+/// Answers whether each given clause has a literal in the set.
 fn are_met(rup: &RupChecker, set: &LiteralSet, given: &[u64]) -> bool
     ensures { result ≡ list_all (λ id. is_met (set_in set.now.stamps.items set.now.stamp) (get rup.now id)) given.now }
 {
@@ -145,7 +152,7 @@ fn are_met(rup: &RupChecker, set: &LiteralSet, given: &[u64]) -> bool
 }
 
 impl Known {
-    /// Nothing is known before the first line.
+    /// The state before the first line.
     pub(crate) fn new(alloc: Global) -> Result<Known, AllocError>
         ensures state { IfOk result (λ x. state_of x ≡ begun) }
         ensures tally { IfOk result (λ x. x.tally ≡ no_answers) }
@@ -168,7 +175,7 @@ impl Known {
         })
     }
 
-    /// Whether no query is open.
+    /// Answers whether no query is open.
     pub(crate) fn is_between(&self) -> bool
         ensures { result ≡ is_between self.now.stage }
     {
@@ -178,7 +185,7 @@ impl Known {
         }
     }
 
-    /// A clause is to be given.
+    /// Takes line `i`: the next event has to be this clause. Err if a query is open or the number does not rise.
     fn await_clause(&mut self, id: u64, lits: &[Lit]) -> Result<(), LineFault>
         ensures took { OnOk result (gives (state_of self.old) id lits.now ≡ Awaits (Given self.new.awaited.items) (reached_clause self.new)) }
         ensures tally { self.new.tally ≡ self.old.tally }
@@ -196,7 +203,7 @@ impl Known {
         Ok(())
     }
 
-    /// A query is to be asked.
+    /// Takes line `q`: the next event has to be this query. Err if a query is open.
     fn await_query(&mut self, lits: &[Lit]) -> Result<(), LineFault>
         ensures took { OnOk result (asks (state_of self.old) lits.now ≡ Awaits (Asked self.new.awaited.items) (reached_query self.new)) }
         ensures tally { self.new.tally ≡ self.old.tally }
@@ -209,7 +216,7 @@ impl Known {
         Ok(())
     }
 
-    /// The clause that was awaited has come.
+    /// Adds the awaited clause, which has come as an event. Err only if memory is refused, as its number was tested.
     pub(crate) fn give(&mut self) -> Result<(), LineFault>
         ensures took { OnOk result (state_of self.new ≡ reached_clause self.old) }
         ensures tally { self.new.tally ≡ self.old.tally }
@@ -223,7 +230,7 @@ impl Known {
         Ok(())
     }
 
-    /// The query that was awaited has come.
+    /// Opens the awaited query, which has come as an event.
     pub(crate) fn ask(&mut self)
         ensures took { state_of self.new ≡ reached_query self.old }
         ensures tally { self.new.tally ≡ self.old.tally }
@@ -232,7 +239,7 @@ impl Known {
         self.stage = Stage::Open;
     }
 
-    /// A lemma was learnt.
+    /// Takes line `l`: adds a lemma. Err if the number does not rise, or the lemma does not follow by its hints.
     fn learn(&mut self, id: u64, lits: &[Lit], hints: &[u64]) -> Result<(), LineFault>
         ensures took { OnOk result (learns (state_of self.old) id lits.now hints.now ≡ goes_to None (state_of self.new)) }
         ensures tally { self.new.tally ≡ self.old.tally }
@@ -249,7 +256,7 @@ impl Known {
         Ok(())
     }
 
-    /// Lemmas go.
+    /// Takes line `d`: deletes the lemmas of these numbers.
     fn delete(&mut self, ids: &[u64])
         ensures took { deletes (state_of self.old) ids.now ≡ goes_to None (state_of self.new) }
         ensures tally { self.new.tally ≡ self.old.tally }
@@ -257,7 +264,7 @@ impl Known {
         forget(&mut self.rup, &self.numbers, ids);
     }
 
-    /// The open query has a status.
+    /// Takes line `s` of an open query that has no status yet. The status unknown closes the query.
     fn say_open(&mut self, status: Status) -> Result<(), LineFault>
         ensures took { OnOk result (says (state_of self.old) Stage.Open status ≡ goes_to (told status) (state_of self.new)) }
         ensures tally { OnOk result (self.new.tally ≡ counted self.old.tally (listed (told status))) }
@@ -275,7 +282,7 @@ impl Known {
         Ok(())
     }
 
-    /// A status is said.
+    /// Takes line `s`, the status of the open query. Err if no query is open, or it has a status.
     pub(crate) fn say(&mut self, status: Status) -> Result<(), LineFault>
         ensures took { OnOk result (says (state_of self.old) self.old.stage status ≡ goes_to (told status) (state_of self.new)) }
         ensures tally { OnOk result (self.new.tally ≡ counted self.old.tally (listed (told status))) }
@@ -288,7 +295,8 @@ impl Known {
         }
     }
 
-    /// Whether these literals are a model of the clauses so far and of the query.
+    /// Answers whether these literals are a model of the given clauses and of the query: no literal stands with its negation, each clause
+    /// has one of them, and the query's literals are among them.
     fn is_model(&mut self, model: &[Lit]) -> Result<bool, AllocError>
         ensures is { IfOk result (λ b. b ≡ is_model (state_of self.old) model.now) }
         ensures same { state_of self.new ≡ state_of self.old }
@@ -304,7 +312,7 @@ impl Known {
         Ok(self.set.has_all(&self.query))
     }
 
-    /// A model is shown of a query of which satisfiable was said.
+    /// Takes line `m`, the model of a query whose status is satisfiable, and closes the query. Err if it is no model.
     fn show_satisfiable(&mut self, model: &[Lit]) -> Result<(), LineFault>
         ensures took { OnOk result (shows (state_of self.old) Stage.Satisfiable model.now ≡ goes_to (Some (Satisfied model.now)) (state_of self.new)) }
         ensures tally { OnOk result (self.new.tally ≡ one_more (Satisfied model.now) self.old.tally) }
@@ -319,7 +327,7 @@ impl Known {
         Ok(())
     }
 
-    /// A model is shown.
+    /// Takes line `m`, the model of the open query. Err if the query's status is not satisfiable, or it is no model.
     fn show(&mut self, model: &[Lit]) -> Result<(), LineFault>
         ensures took { OnOk result (shows (state_of self.old) self.old.stage model.now ≡ goes_to (Some (Satisfied model.now)) (state_of self.new)) }
         ensures tally { OnOk result (self.new.tally ≡ one_more (Satisfied model.now) self.old.tally) }
@@ -332,7 +340,8 @@ impl Known {
         }
     }
 
-    /// The number of the fault of a core, if it has one.
+    /// The number of the fault of a core; None if the clause of its negations follows by the hints, or the core has a literal with its
+    /// negation.
     fn core_fault(&mut self, core: &[Lit], hints: &[u64]) -> Result<Option<u8>, AllocError>
         ensures fault { IfOk result (λ f. f ≡ core_fault self.old.rup core.now hints.now) }
         ensures same { state_of self.new ≡ state_of self.old }
@@ -345,7 +354,7 @@ impl Known {
         self.rup.fault(&self.negated, hints)
     }
 
-    /// Whether these literals are the query's.
+    /// Answers whether each of these literals is one of the query's.
     fn are_asked(&mut self, lits: &[Lit]) -> Result<bool, AllocError>
         ensures are { IfOk result (λ b. b ≡ list_all (has self.old.query.items) lits.now) }
         ensures same { state_of self.new ≡ state_of self.old }
@@ -355,7 +364,8 @@ impl Known {
         Ok(self.set.has_all(lits))
     }
 
-    /// A core is shown of a query of which unsatisfiable was said.
+    /// Takes line `u`, the core of a query whose status is unsatisfiable, and closes the query. Err if the core does not fail, or has a
+    /// literal that is none of the query's.
     fn fail_unsatisfiable(&mut self, core: &[Lit], hints: &[u64]) -> Result<(), LineFault>
         ensures took { OnOk result (fails (state_of self.old) Stage.Unsatisfiable core.now hints.now ≡ goes_to (Some (Failed core.now)) (state_of self.new)) }
         ensures tally { OnOk result (self.new.tally ≡ one_more (Failed core.now) self.old.tally) }
@@ -373,7 +383,7 @@ impl Known {
         Ok(())
     }
 
-    /// A core is shown.
+    /// Takes line `u`, the core of the open query. Err if the query's status is not unsatisfiable, or the core has a fault.
     fn fail(&mut self, core: &[Lit], hints: &[u64]) -> Result<(), LineFault>
         ensures took { OnOk result (fails (state_of self.old) self.old.stage core.now hints.now ≡ goes_to (Some (Failed core.now)) (state_of self.new)) }
         ensures tally { OnOk result (self.new.tally ≡ one_more (Failed core.now) self.old.tally) }
@@ -388,7 +398,7 @@ impl Known {
 }
 
 impl Known {
-    /// Does what a line says of which the LRAT line spells this addition.
+    /// Takes a line of this kind whose line of LRAT text is an addition. Answers what the line waits for; Err is its first fault.
     fn take_addition(
         &mut self,
         kind: StepKind,
@@ -438,7 +448,7 @@ impl Known {
         }
     }
 
-    /// Does what a line says of which the LRAT line spells this step.
+    /// Takes a line of this kind whose line of LRAT text is this step. Answers what the line waits for; Err is its first fault.
     pub(crate) fn take(&mut self, kind: StepKind, step: StepRef<'_>) -> Result<Came, LineFault>
         ensures came { IfOk result (λ came. Comes came (said kind (step_of step.entry)) self.old self.new) }
         ensures kept { OnErr result (self.new.tally ≡ self.old.tally) }

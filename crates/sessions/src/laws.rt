@@ -1,4 +1,4 @@
-//! Theorems on the definitions. There is nothing to run: each contract is a theorem.
+//! Theorems on sessions, as contracts of functions that do nothing.
 
 ghost use Rattle.std.specs.Prelude.{◌≡◌, ◌↔◌, ℕ, List, [], None, Ok, length};
 ghost use Rattle.sessions.specs.Answers.{AreRight, Event, queries};
@@ -6,8 +6,8 @@ ghost use Rattle.sessions.specs.Events.{Spells, events_of};
 ghost use Rattle.sessions.specs.Heard.{heard, outcome_of};
 ghost use Rattle.sessions.specs.Texts.{session_of};
 
-/// Each answer of an accepted text is right for its query: a model of the query and of the clauses that were given before it, or a core
-/// that no assignment which satisfies these clauses makes true.
+/// Does nothing. Its contract says: each answer of an accepted text is right for its query. It is a model of the query and of the clauses
+/// that were given before the query, or a core that no assignment which satisfies these clauses makes true.
 pub fn accepted_sessions_are_right()
     ensures right { (E : List Event) (text : List ℕ) → (session_of E text).fault ≡ None → AreRight [] E (session_of E text).answers }
     // there is one for each query
@@ -16,12 +16,12 @@ pub fn accepted_sessions_are_right()
     ensures front { (E : List Event) (text : List ℕ) → AreRight [] E (session_of E text).answers }
 {}
 
-/// What is read of a text of events is what the text spells, and nothing else.
+/// Does nothing. Its contract says: the reader of events accepts exactly the texts that spell events, and reads those events.
 pub fn events_are_spelled()
     ensures { (text : List ℕ) (E : List Event) → (events_of text ≡ Ok E) ↔ Spells text E }
 {}
 
-/// What is heard of a text of events line by line is what is read of the whole.
+/// Does nothing. Its contract says: reading a text of events line by line has the same outcome as reading the whole text.
 pub fn events_are_heard()
     ensures { (text : List ℕ) → events_of text ≡ outcome_of (heard text) }
 {}

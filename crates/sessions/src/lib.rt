@@ -1,4 +1,4 @@
-//! Sessions: clauses are given and queries asked in turn, and one LIDRUP text proves all answers.
+//! Checks sessions of an incremental solver: the events give clauses and ask queries in turn, and one LIDRUP text proves all answers.
 #![tactic(auto)]
 
 mod check;

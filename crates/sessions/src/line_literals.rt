@@ -5,7 +5,7 @@ ghost use Rattle.dimacs.specs.inner.Capped.{capped};
 ghost use Rattle.dimacs.specs.inner.Rows.{Gives};
 ghost use Rattle.dimacs.specs.text.Numbers.{number};
 ghost use Rattle.dimacs.specs.text.Words.{words};
-ghost use Rattle.icnf.specs.Reading.{no_memory};
+ghost use Rattle.icnf.specs.Parser.{no_memory};
 ghost use Rattle.sessions.specs.Events.{literals_in, nothing_read, read_token, read_tokens};
 ghost use Rattle.sessions.specs.inner.Rows.{GivesLiterals};
 
@@ -15,13 +15,15 @@ use icnf::{IcnfFault, Kind};
 use std::alloc::Global;
 use std::marker::Model;
 
-/// The greatest variable.
+/// The greatest variable that an event may have.
 const VARIABLES: u32 = 1_000_000;
 
-/// What was read of a line: its literals, and whether the `0` was read. The room is used again from line to line.
+/// The literals of a line, and whether its `0` was read. The buffer is reused from line to line.
 #[derive(Drop)]
 pub(crate) struct LineLiterals {
+    /// The literals of the line that are read.
     literals: Vec<Lit>,
+    /// Whether the `0` at the line's end was read.
     ended: bool,
 }
 
@@ -33,7 +35,7 @@ impl Model for LineLiterals {
     ghost view = { λ c. record { literals = c.literals.items; ended = c.ended } };
 }
 
-/// The fault of a line.
+/// The fault of this kind in the line of this number, from 1.
 pub(crate) fn fault(kind: Kind, line: u64) -> IcnfFault
     ensures { result ≡ record { kind = kind; line = line } }
 {
@@ -41,7 +43,7 @@ pub(crate) fn fault(kind: Kind, line: u64) -> IcnfFault
 }
 
 impl LineLiterals {
-    /// Nothing was read.
+    /// An empty buffer: no literal and no `0` is read.
     pub(crate) fn new(alloc: Global) -> LineLiterals
         ensures { result ≡ nothing_read }
     {
@@ -51,14 +53,14 @@ impl LineLiterals {
         }
     }
 
-    /// The literals.
+    /// The literals that were read of the line.
     pub(crate) fn as_slice(&self) -> &[Lit]
         ensures { result.now ≡ self.now.literals }
     {
         &self.literals
     }
 
-    /// A new line begins.
+    /// Empties the buffer for a new line.
     fn begin(&mut self)
         ensures { self.new ≡ nothing_read }
     {
@@ -66,14 +68,15 @@ impl LineLiterals {
         self.ended = false;
     }
 
-    /// Whether the `0` was read.
+    /// Answers whether the line's `0` was read.
     fn has_ended(&self) -> bool
         ensures { result ≡ self.now.ended }
     {
         self.ended
     }
 
-    /// Reads a token that was found to be this number, or none.
+    /// Reads a token, by the number that it spells; `None` if it spells none. Err if it spells none, comes after the `0`, or is above the
+    /// limit.
     fn read_token(&mut self, line: u64, found: Option<Number>) -> Result<(), IcnfFault>
         ensures { (word : List ℕ) → found ≡ option_map capped (number word) → Gives no_memory self.new result (read_token line word self.old) }
     {
@@ -94,7 +97,7 @@ impl LineLiterals {
         Ok(())
     }
 
-    /// Reads the tokens of a text that stands on this line.
+    /// Reads the tokens of `text`, which is in the line of this number, from 1. Err is their first fault.
     fn read_tokens(&mut self, line: u64, text: &[u8]) -> Result<(), IcnfFault>
         ensures { Gives no_memory self.new result (read_tokens line (words text.now) self.old) }
     {
@@ -106,7 +109,8 @@ impl LineLiterals {
         Ok(())
     }
 
-    /// Reads the literals and the `0` that stand on this line, and leaves the literals.
+    /// Reads the literals of `text`, which is in the line of this number, from 1, up to its `0`. Err is the line's first fault, also if the
+    /// `0` is missing.
     pub(crate) fn read(&mut self, line: u64, text: &[u8]) -> Result<(), IcnfFault>
         ensures { GivesLiterals self.new result (literals_in line (words text.now)) }
     {

@@ -1,17 +1,17 @@
-//! A set of literals that is emptied at once.
+//! A set of literals that is cleared in constant time, by stamps.
 
 ghost use Rattle.std.specs.Prelude.{◌≡◌, ℕ, ◌<◌, ◌≤◌, [], OnOk, IfOk, slice_index, vec_len};
 ghost use Rattle.std.specs.Bool.{OnFalse};
 ghost use Rattle.std.specs.List.{list_all, list_any};
 ghost use Rattle.dimacs.specs.logic.Literal.{has};
 ghost use Rattle.dimacs.specs.logic.Propagation.{with_literal};
-ghost use Rattle.lrat_check.specs.Faults.{is_tautology};
+ghost use Rattle.lrat_check.specs.StepFaults.{is_tautology};
 ghost use Rattle.sessions.specs.inner.Sets.{AllAtMost, set_in};
 
 use dimacs::Lit;
 use std::alloc::{AllocError, Global};
 
-/// Makes at least so many places in a table. A new place has stamp 0, as one past the end reads.
+/// Grows a table of stamps to at least this many cells. A new cell has stamp 0, which a read after the table's end also gives.
 fn grow(stamps: &mut Vec<u64>, places: usize) -> Result<(), AllocError>
     ensures fits { OnOk result (places ≤ vec_len stamps.new) }
     ensures same { (i : ℕ) → slice_index stamps.new.items i ≡ slice_index stamps.old.items i }
@@ -22,7 +22,7 @@ fn grow(stamps: &mut Vec<u64>, places: usize) -> Result<(), AllocError>
     Ok(())
 }
 
-/// Puts a literal into the set of a stamp.
+/// Puts a literal into the set of this stamp.
 fn insert(stamps: &mut Vec<u64>, stamp: u64, literal: Lit) -> Result<(), AllocError>
     requires { AllAtMost stamp stamps.old.items }
     ensures put { OnOk result (set_in stamps.new.items stamp ≡ with_literal (set_in stamps.old.items stamp) literal) }
@@ -34,7 +34,7 @@ fn insert(stamps: &mut Vec<u64>, stamp: u64, literal: Lit) -> Result<(), AllocEr
     Ok(())
 }
 
-/// Whether a literal is in the set of a stamp; none is that has no place.
+/// Answers whether a literal is in the set of this stamp; false if the table has no cell for the literal.
 #[inline(always)]
 fn is_in(stamps: &[u64], stamp: u64, literal: Lit) -> bool
     requires { 0 < stamp }
@@ -44,15 +44,16 @@ fn is_in(stamps: &[u64], stamp: u64, literal: Lit) -> bool
     place < stamps.len() && stamps[place] == stamp
 }
 
-/// Literals by their stamps: one is in the set if its stamp is the set's. So none has to be taken out where the set is emptied.
+/// A set of literals. A literal is in the set if its stamp is the set's stamp; a new stamp clears the set.
 pub(crate) struct LiteralSet {
+    /// The stamp of each literal, by the literal's index.
     pub(crate) stamps: Vec<u64>,
+    /// The set's stamp, at least 1. No literal has a greater one.
     pub(crate) stamp: u64,
     ghost most: { AllAtMost stamp stamps.items },
     ghost some: { 0 < stamp },
 }
 
-// By hand, so that whoever owns one drops it by one call, and no proof there goes through its parts.
 impl Drop for LiteralSet {
     fn drop(self) {
         let LiteralSet {
@@ -63,7 +64,7 @@ impl Drop for LiteralSet {
 }
 
 impl LiteralSet {
-    /// No literal is in it.
+    /// An empty set.
     pub(crate) fn new(alloc: Global) -> LiteralSet {
         LiteralSet {
             stamps: Vec::new(alloc),
@@ -71,7 +72,7 @@ impl LiteralSet {
         }
     }
 
-    /// Takes all literals out. A stamp that has no room in 64 bits is refused as for want of memory.
+    /// Clears the set. Err if the new stamp is above 64 bits.
     fn clear(&mut self) -> Result<(), AllocError>
         ensures { OnOk result (set_in self.new.stamps.items self.new.stamp ≡ has []) }
     {
@@ -84,7 +85,7 @@ impl LiteralSet {
         }
     }
 
-    /// Holds these literals, and no others.
+    /// Overwrites the set with these literals.
     pub(crate) fn hold(&mut self, lits: &[Lit]) -> Result<(), AllocError>
         ensures { OnOk result (set_in self.new.stamps.items self.new.stamp ≡ has lits.now) }
     {
@@ -95,7 +96,7 @@ impl LiteralSet {
         Ok(())
     }
 
-    /// The same, and tells whether some literal stands there with its negation; then it holds whatever.
+    /// Overwrites the set with these literals. Answers true if one of them is the negation of another one; then the set is unspecified.
     pub(crate) fn hold_apart(&mut self, lits: &[Lit]) -> Result<bool, AllocError>
         ensures pair { IfOk result (λ b. b ≡ is_tautology lits.now) }
         ensures holds { IfOk result (λ b. OnFalse b (set_in self.new.stamps.items self.new.stamp ≡ has lits.now)) }
@@ -110,14 +111,14 @@ impl LiteralSet {
         Ok(false)
     }
 
-    /// Whether all of these literals are in it.
+    /// Answers whether all of these literals are in the set.
     pub(crate) fn has_all(&self, lits: &[Lit]) -> bool
         ensures { result ≡ list_all (set_in self.now.stamps.items self.now.stamp) lits.now }
     {
         lits.iter().all(|l| is_in(&self.stamps, self.stamp, *l))
     }
 
-    /// Whether one of these literals is in it.
+    /// Answers whether one of these literals is in the set.
     pub(crate) fn meets(&self, lits: &[Lit]) -> bool
         ensures { result ≡ list_any (set_in self.now.stamps.items self.now.stamp) lits.now }
     {

@@ -1,7 +1,7 @@
-//! The lines of a session's proof, one after the other.
+//! Reads a line of a session's proof, and changes the state as the line says.
 
 ghost use Rattle.std.specs.Prelude.{◌≡◌, OnErr, IfOk, IfErr, bytes_eq};
-ghost use Rattle.lrat_text.specs.Reading.{step_in};
+ghost use Rattle.lrat_text.specs.Parser.{step_in};
 ghost use Rattle.sessions.specs.Lines.{by_step, line_in, lrat_line, status_in, status_word};
 ghost use Rattle.sessions.specs.Texts.{begun};
 ghost use Rattle.sessions.specs.View.{state_of};
@@ -13,7 +13,7 @@ use crate::known::{Came, Known};
 use lrat_text::{StepBuffer, TextFault, read_line};
 use std::alloc::{AllocError, Global};
 
-/// The fault of a line that is not read.
+/// The fault of a line that cannot be read, by the fault of its line of LRAT text.
 fn not_read(fault: TextFault) -> LineFault
     ensures { result ≡ fault_of_text fault }
 {
@@ -23,13 +23,14 @@ fn not_read(fault: TextFault) -> LineFault
     }
 }
 
+/// Answers whether a line is this text.
 fn is_line(line: &[u8], text: &[u8]) -> bool
     ensures { result ≡ bytes_eq line.now text.now }
 {
     line == text
 }
 
-/// The status that a line tells.
+/// The status that an `s` line gives; None if the line is no status.
 fn status_of(line: &[u8]) -> Option<Status>
     ensures { result ≡ status_word line.now }
 {
@@ -44,15 +45,16 @@ fn status_of(line: &[u8]) -> Option<Status>
     }
 }
 
-/// What is known, and what a line is read into.
+/// The state of a session, and the buffers into which a line of its proof is read.
 pub(crate) struct ProofLines {
+    /// The state of the session between two lines.
     pub(crate) known: Known,
+    /// The step that was read of the last line.
     buffer: StepBuffer,
-    /// The line as a line of LRAT text.
+    /// The last line as a line of LRAT text.
     spelled: Vec<u8>,
 }
 
-// By hand, so that whoever owns one drops it by one call, and no proof there goes through its parts.
 impl Drop for ProofLines {
     fn drop(self) {
         let ProofLines {
@@ -64,7 +66,7 @@ impl Drop for ProofLines {
 }
 
 impl ProofLines {
-    /// No line was taken.
+    /// A reader that has read no line, with the state before the first line.
     pub(crate) fn new(alloc: Global) -> Result<ProofLines, AllocError>
         ensures state { IfOk result (λ x. state_of x.known ≡ begun) }
         ensures tally { IfOk result (λ x. x.known.tally ≡ no_answers) }
@@ -77,7 +79,7 @@ impl ProofLines {
         })
     }
 
-    /// Takes a line that says what a line of LRAT text can say.
+    /// Takes a line of a kind that has numbers. Answers what the line waits for; Err is its first fault.
     fn take_step(&mut self, kind: StepKind, line: &[u8]) -> Result<Came, LineFault>
         ensures came { IfOk result (λ came. Comes came (by_step kind (step_in (lrat_line kind line.now))) self.old.known self.new.known) }
         ensures kept { OnErr result (self.new.known.tally ≡ self.old.known.tally) }
@@ -91,7 +93,7 @@ impl ProofLines {
         self.known.take(kind, self.buffer.as_ref())
     }
 
-    /// Takes a line that tells a status.
+    /// Takes an `s` line. Err if it is no status, is not allowed at this stage, or memory is refused.
     fn take_status(&mut self, line: &[u8]) -> Result<Came, LineFault>
         ensures came { IfOk result (λ came. Comes came (status_in line.now) self.old.known self.new.known) }
         ensures kept { OnErr result (self.new.known.tally ≡ self.old.known.tally) }
@@ -104,7 +106,7 @@ impl ProofLines {
         Ok(Came::Goes)
     }
 
-    /// Takes a line.
+    /// Takes a line of the proof, without its LF. Answers what the line waits for; Err is its first fault.
     pub(crate) fn take(&mut self, line: &[u8]) -> Result<Came, LineFault>
         ensures came { IfOk result (λ came. Comes came (line_in line.now) self.old.known self.new.known) }
         ensures kept { OnErr result (self.new.known.tally ≡ self.old.known.tally) }

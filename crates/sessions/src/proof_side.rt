@@ -1,7 +1,7 @@
-//! How far a session's proof has come.
+//! The proof's side of a check: takes the proof's bytes line by line, and the events that its lines await.
 
 ghost use Rattle.std.specs.Prelude.{◌≡◌, ◌≢◌, ◌==◌, ◌<◌, ◌≤◌, ℕ, List, [], ◌∷◌, ◌++◌, true, IfOk, length, take};
-ghost use Rattle.icnf.specs.Comparing.{is_clause};
+ghost use Rattle.icnf.specs.Comparison.{is_clause};
 ghost use Rattle.lrat_text.specs.Lines.{IsOpen};
 ghost use Rattle.sessions.specs.Answers.{Event};
 ghost use Rattle.sessions.specs.Follows.{Follows};
@@ -18,22 +18,22 @@ use lrat_check::CheckFault;
 use lrat_text::cut_line;
 use std::alloc::{AllocError, Global};
 
-/// What a proof waits for.
+/// What the proof's side waits for.
 #[derive(Clone, Copy)]
 pub(crate) enum Phase {
-    /// The next line.
+    /// The next line of the proof.
     Reading,
-    /// The clause that its last line awaits.
+    /// The event with the clause that the proof's last line awaits.
     Clause,
-    /// The query that its last line awaits.
+    /// The event with the query that the proof's last line awaits.
     Query,
-    /// Nothing: it has ended, and is right so far.
+    /// Nothing: the proof has ended without a fault.
     Ended,
-    /// Nothing: it has this fault first, or memory was wanting.
+    /// Nothing: this is the proof's first fault, or memory was refused.
     Stopped(CheckFault),
 }
 
-/// The fault of the line of this number.
+/// The fault of a proof whose line of this number, from 1, has this fault.
 fn refused(fault: LineFault, line: u64) -> CheckFault
     ensures { result ≡ refusal_of fault line }
 {
@@ -45,34 +45,36 @@ fn refused(fault: LineFault, line: u64) -> CheckFault
     CheckFault { number, line, text }
 }
 
-/// Whether there is no byte.
+/// Answers whether there are no bytes.
 fn is_none(bytes: &[u8]) -> bool
     ensures { result ≡ (length bytes.now == 0) }
 {
     bytes.is_empty()
 }
 
-/// Whether two clauses are the same.
+/// Answers whether two clauses have the same literals in the same order.
 fn is_same(a: &[Lit], b: &[Lit]) -> bool
     ensures { result ≡ is_clause a.now b.now }
 {
     a == b
 }
 
-/// What is known, and what is begun.
+/// The state of the session, what the proof waits for, and the proof's line that has not ended.
 pub(crate) struct ProofSide {
+    /// The reader of the proof's lines, with the state of the session.
     pub(crate) lines: ProofLines,
+    /// What the proof waits for.
     pub(crate) phase: Phase,
-    /// The number of the line that comes next, or that awaits an event.
+    /// The number, from 1, of the line that comes next, or that awaits an event.
     pub(crate) line: u64,
-    /// What has come of that line.
+    /// The bytes of the proof after the last LF: the line that has not ended.
     pub(crate) begun: Vec<u8>,
-    /// Whether no further event comes, and whether no further byte.
+    /// Whether the events have ended.
     pub(crate) no_event: bool,
+    /// Whether the proof has ended.
     pub(crate) no_byte: bool,
 }
 
-// By hand, so that whoever owns one drops it by one call, and no proof there goes through its parts.
 impl Drop for ProofSide {
     fn drop(self) {
         let ProofSide {
@@ -87,7 +89,7 @@ impl Drop for ProofSide {
 }
 
 impl ProofSide {
-    /// Nothing has come.
+    /// A proof's side that has taken no byte.
     pub(crate) fn new(alloc: Global) -> Result<ProofSide, AllocError>
         ensures { IfOk result IsFirst }
     {
@@ -102,7 +104,7 @@ impl ProofSide {
         })
     }
 
-    /// The line has this fault.
+    /// Stops the proof at a fault of the current line.
     fn stop(&mut self, number: u8, text: u8)
         ensures { self.new ≡ record self.old { phase = Phase.Stopped (fault_at self.old.line number text) } }
     {
@@ -113,7 +115,7 @@ impl ProofSide {
         });
     }
 
-    /// The line awaits an event.
+    /// Waits for the event of this phase, or stops with fault 18 if the events have ended.
     fn await_event(&mut self, phase: Phase)
         ensures { self.new ≡ record self.old { phase = awaiting self.old.no_event self.old.line phase } }
     {
@@ -124,7 +126,7 @@ impl ProofSide {
         }
     }
 
-    /// The next line is wanted.
+    /// Goes on to the next line, or stops as out of memory if its number is above 64 bits.
     fn next_line(&mut self)
         ensures moves { MovesOn self.old self.new }
         ensures flag { self.new.no_event ≡ self.old.no_event }
@@ -139,7 +141,7 @@ impl ProofSide {
         }
     }
 
-    /// This came of the line.
+    /// Goes on after a line without fault, to the next line or to the event that it awaits.
     fn go_on(&mut self, came: Came)
         ensures moves { Moves came self.old self.new }
         ensures flag { self.new.no_event ≡ self.old.no_event }
@@ -152,7 +154,7 @@ impl ProofSide {
         }
     }
 
-    /// The line that is begun has come to its end.
+    /// Takes the line in `begun`, which has ended. Stops at its fault.
     fn end_line(&mut self)
         ensures ends { EndsLine self.old self.new }
         ensures flag { self.new.no_event ≡ self.old.no_event }
@@ -166,7 +168,7 @@ impl ProofSide {
         }
     }
 
-    /// A piece of the line that is begun has come.
+    /// Appends a piece without LF to the line that has not ended. Stops if memory is refused.
     fn begin_with(&mut self, piece: &[u8])
         ensures follows { (E : List Event) (p : List ℕ) → self.old.phase ≡ Phase.Reading → IsOpen piece.now → Follows E p self.old → Follows E (p ++ piece.now) self.new }
         ensures flag { self.new.no_event ≡ self.old.no_event }
@@ -178,7 +180,7 @@ impl ProofSide {
         }
     }
 
-    /// The rest of the line that is begun has come, and its LF.
+    /// Appends the rest of a line, without its LF, and takes the line.
     fn end_with(&mut self, text: &[u8])
         ensures follows { (E : List Event) (p : List ℕ) → self.old.phase ≡ Phase.Reading → IsOpen text.now → Follows E p self.old → Follows E (p ++ (text.now ++ 10 ∷ [])) self.new }
         ensures flag { self.new.no_event ≡ self.old.no_event }
@@ -190,7 +192,7 @@ impl ProofSide {
         }
     }
 
-    /// Takes bytes up to the first LF, where a line is wanted, and tells how many.
+    /// Takes bytes of the proof up to the first LF. Answers how many bytes were taken.
     pub(crate) fn feed(&mut self, piece: &[u8]) -> usize
         requires { self.old.phase ≡ Phase.Reading }
         ensures few { result ≤ length piece.now }
@@ -211,7 +213,7 @@ impl ProofSide {
         }
     }
 
-    /// The clause that was awaited has come.
+    /// Adds the awaited clause, which has come as an event, and goes on to the next line.
     fn give(&mut self)
         ensures gives { IsHigh Phase.Clause self.old.lines.known → Gives self.old self.new }
         ensures flag { self.new.no_event ≡ self.old.no_event }
@@ -223,7 +225,7 @@ impl ProofSide {
         }
     }
 
-    /// An event is heard where a clause is awaited.
+    /// Takes an event while a clause is awaited. Stops with fault 18 if the event is not that clause.
     fn hear_clause(&mut self, sent: Sent, lits: &[Lit])
         requires { self.old.phase ≡ Phase.Clause }
         ensures hears { (e : Event) → IsHigh Phase.Clause self.old.lines.known → IsEvent sent lits.now e → Hears self.old e self.new }
@@ -242,7 +244,7 @@ impl ProofSide {
         }
     }
 
-    /// An event is heard where a query is awaited.
+    /// Takes an event while a query is awaited. Stops with fault 18 if the event is not that query.
     fn hear_query(&mut self, sent: Sent, lits: &[Lit])
         requires { self.old.phase ≡ Phase.Query }
         ensures hears { (e : Event) → IsEvent sent lits.now e → Hears self.old e self.new }
@@ -262,7 +264,7 @@ impl ProofSide {
         }
     }
 
-    /// An event is heard, where no line is wanted.
+    /// Takes an event while no line of the proof is wanted: the awaited one, or after the proof's end fault 22. Ignores it after a fault.
     pub(crate) fn hear(&mut self, sent: Sent, lits: &[Lit])
         requires { self.old.phase ≢ Phase.Reading }
         ensures hears { (e : Event) → IsHigh self.old.phase self.old.lines.known → IsEvent sent lits.now e → Hears self.old e self.new }
@@ -277,7 +279,7 @@ impl ProofSide {
         }
     }
 
-    /// No event comes any more.
+    /// Ends the events. Stops with fault 18 if one is awaited.
     pub(crate) fn end_events(&mut self)
         ensures ends { IsHigh self.old.phase self.old.lines.known → EndsEvents self.old self.new }
         ensures flag { self.new.no_event ≡ true }
@@ -290,7 +292,7 @@ impl ProofSide {
         }
     }
 
-    /// No byte comes any more, where a line is wanted.
+    /// Ends the proof, whose next line is wanted. Stops with fault 1 if a line has not ended, and with fault 22 if a query is open.
     pub(crate) fn end(&mut self)
         ensures ends { EndsProof self.old self.new }
         ensures flag { self.new.no_event ≡ self.old.no_event }

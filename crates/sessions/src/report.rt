@@ -11,7 +11,7 @@ use lrat_check::CheckFault;
 use reports::{Refusal, Report, put_fault, put_number};
 use std::alloc::{AllocError, Global};
 
-/// How many answers there are. A number that has no room in 64 bits is refused as for want of memory.
+/// Answers how many answers there are. Err if the number is above 64 bits.
 fn total(t: Tally) -> Result<u64, AllocError>
     ensures { IfOk result (λ n. n ≡ total t) }
 {
@@ -24,7 +24,7 @@ fn total(t: Tally) -> Result<u64, AllocError>
     }
 }
 
-/// Appends a number and words.
+/// Appends a number, and then words.
 fn put_count(out: &mut Vec<u8>, count: u64, words: &[u8]) -> Result<(), AllocError>
     ensures { OnOk result (out.new.items ≡ out.old.items ++ count_text count words.now) }
 {
@@ -42,7 +42,7 @@ fn put_tally(out: &mut Vec<u8>, t: Tally) -> Result<(), AllocError>
     put_count(out, t.unknown, b" unknown\n")
 }
 
-/// Appends where a proof's fault is, and how many answers stand before it.
+/// Appends where the proof's fault is, and how many answers stand before it.
 fn put_refused(out: &mut Vec<u8>, fault: CheckFault, before: Tally) -> Result<(), AllocError>
     ensures { OnOk result (out.new.items ≡ out.old.items ++ refused_tail fault before) }
 {
@@ -51,7 +51,7 @@ fn put_refused(out: &mut Vec<u8>, fault: CheckFault, before: Tally) -> Result<()
     put_count(out, total(before)?, b" queries before\n")
 }
 
-/// The report of a session that is verified.
+/// The report of a session that is verified: status 0.
 fn verified(alloc: Global, t: Tally) -> Result<Report, AllocError>
     ensures text { IfOk result (λ r. r.stdout.items ≡ verified_text t) }
     ensures status { IfOk result (λ r. r.status ≡ 0) }
@@ -62,7 +62,7 @@ fn verified(alloc: Global, t: Tally) -> Result<Report, AllocError>
     Ok(report)
 }
 
-/// The report of a proof that is not accepted.
+/// The report of a proof that is not accepted: its first fault, and the answers before it; status 1.
 fn refused(alloc: Global, fault: CheckFault, before: Tally) -> Result<Report, AllocError>
     ensures text { IfOk result (λ r. r.stdout.items ≡ refused_text fault before) }
     ensures status { IfOk result (λ r. r.status ≡ 1) }
@@ -73,7 +73,7 @@ fn refused(alloc: Global, fault: CheckFault, before: Tally) -> Result<Report, Al
     Ok(report)
 }
 
-/// The report of events with a fault.
+/// The report of events with this first fault: status 1.
 fn faulty(alloc: Global, fault: IcnfFault) -> Result<Report, AllocError>
     ensures text { IfOk result (λ r. r.stdout.items ≡ events_text fault) }
     ensures status { IfOk result (λ r. r.status ≡ 1) }
@@ -84,7 +84,7 @@ fn faulty(alloc: Global, fault: IcnfFault) -> Result<Report, AllocError>
     Ok(report)
 }
 
-/// A report that is there; else memory is wanting.
+/// Answers the report; Err(NoMemory) if memory was refused.
 fn printed(report: Result<Report, AllocError>) -> Result<Report, Refusal>
     ensures { MatchResult result (λ r. report ≡ Ok r) (λ f. f ≡ Refusal.NoMemory) }
 {
@@ -94,7 +94,7 @@ fn printed(report: Result<Report, AllocError>) -> Result<Report, Refusal>
     }
 }
 
-/// What is printed of a fault.
+/// The report of a fault. Err is the refusal of a check that has no report: memory was refused, or an input is still wanted.
 fn fault_report(alloc: Global, fault: SessionFault) -> Result<Report, Refusal>
     ensures { ReportsFault fault result }
 {
@@ -115,7 +115,7 @@ fn fault_report(alloc: Global, fault: SessionFault) -> Result<Report, Refusal>
     }
 }
 
-/// What is printed of what [`SessionCheck::finish`](crate::SessionCheck::finish) answered; the refusal of a run that has no report.
+/// The report of what [`SessionCheck::finish`](crate::SessionCheck::finish) answered. Err is the refusal of a check that has no report.
 pub fn session_report(alloc: Global, answer: Result<Tally, SessionFault>) -> Result<Report, Refusal>
     ensures { Reports answer result }
 {
@@ -125,7 +125,8 @@ pub fn session_report(alloc: Global, answer: Result<Tally, SessionFault>) -> Res
     }
 }
 
-/// What is printed of both texts, whatever is left of one that was not read to its end; the refusal of a check that has no report.
+/// The report of a check of both texts; it does not depend on the bytes of a text that are not read. Err is the refusal of a check that has
+/// no report.
 pub fn check_report(alloc: Global, check: &SessionCheck) -> Result<Report, Refusal>
     ensures texts { (e p : List ℕ) → HasTaken e p check.now → OfTexts e p check.now (λ events proof. IfOk result (ChecksSession events proof)) }
     ensures refusal { (e p : List ℕ) → HasTaken e p check.now → IfErr result (HasNoReport check.now) }

@@ -1,14 +1,14 @@
-//! How far a query has come.
+//! The stages of a query.
 
-/// How far the query has come that was asked last.
+/// The stage of the last query.
 #[derive(Clone, Copy, Debug, PartialEq, Eq)]
 pub(crate) enum Stage {
-    /// It is closed, or none was asked.
+    /// No query is open.
     Between,
-    /// Nothing was said of it.
+    /// A query is open that has no status yet.
     Open,
-    /// Satisfiable was said, and its model is to come.
+    /// A query is open whose status is satisfiable, and whose model is to come.
     Satisfiable,
-    /// Unsatisfiable was said, and its core is to come.
+    /// A query is open whose status is unsatisfiable, and whose core is to come.
     Unsatisfiable,
 }

@@ -1,4 +1,4 @@
--- The clauses after one was added.
+-- The clauses of an arena after one was added.
 use Rattle.std.proofs.Common.{◌≡◌, ℕ, sym, ◌∙◌, subst, ap, ◌≢◌, inl, inr, None, Result, Ok, Err, Some, Option, Bool, true, false, cond, refl, rules, length}
 use Rattle.std.specs.Result.{OnErr}
 use Rattle.std.specs.FinMap.{insert, remove, get, get-insert, get-remove, gets}
@@ -8,8 +8,8 @@ use Rattle.std.proofs.lemmas.Map.Lookups.{exact_unsigned}
 use Rattle.std.proofs.lemmas.Bool.{cases_eq}
 use Rattle.dimacs.specs.logic.Literal.{Clause}
 use Rattle.clause_arena.specs.declared.reference.Ref.{Ref}
-use Rattle.clause_arena.specs.Clauses.{Clauses, Stands}
-use Rattle.watches.specs.Law.{AreSame}
+use Rattle.clause_arena.specs.Clauses.{Clauses, RefersTo}
+use Rattle.watches.specs.Law.{SameUpToOrder}
 
 skips : (b : Bool) (x : ℕ × Clause) (o : Option (ℕ × Clause)) → (b ≡ true → ⊥) → cond b (Some x) o ≡ o
 skips true x o h = absurd (h refl)
@@ -22,7 +22,7 @@ held : (m : Clauses) (k : ℕ) (x : ℕ × Clause) → get (insert m k x) k ≡ 
 held m k x = grind (gets, rules)
 
 -- a clause that was added stands where the arena says
-pub stands : (m new : Clauses) (at : Ref) (n : ℕ) (C : Clause) → (at.number ≡ n) × (at.len ≡ length C) × (new ≡ insert m n (at.place, C)) → Stands new at C
+pub stands : (m new : Clauses) (at : Ref) (n : ℕ) (C : Clause) → (at.number ≡ n) × (at.len ≡ length C) × (new ≡ insert m n (at.place, C)) → RefersTo new at C
 stands m new at n C h = (subst (λ k. get new k ≡ Some (at.place, C)) (sym h.0) (subst (λ x. get x n ≡ Some (at.place, C)) (sym h.2) (held m n (at.place, C))), h.1)
 
 -- ---- a clause that was added, and taken out again
@@ -36,10 +36,10 @@ still m k n h = get-remove nat_cmp_total m k n ∙ passes _ (get m n) (λ e. h (
 gone : (m : Clauses) (k : ℕ) → get (remove m k) k ≡ None
 gone m k = grind (gets, rules)
 
-pub live_again : (m new : Clauses) (at : Ref) (n : ℕ) (C : Clause) → Stands m at C → AreSame m new → (D : Clause) × Stands new at D
+pub live_again : (m new : Clauses) (at : Ref) (n : ℕ) (C : Clause) → RefersTo m at C → SameUpToOrder m new → (D : Clause) × RefersTo new at D
 live_again m new at n C s h = let t = h.there at.number at.place C s.0 in (t.0, (t.1, s.1 ∙ sym t.2.len))
 
-pub same_again : (old new : Clauses) (n : ℕ) (x : ℕ × Clause) → get old n ≡ None → AreSame (insert old n x) new → AreSame old (remove new n)
+pub same_again : (old new : Clauses) (n : ℕ) (x : ℕ × Clause) → get old n ≡ None → SameUpToOrder (insert old n x) new → SameUpToOrder old (remove new n)
 same_again old new n x f h = record {
   there = λ k p C e.
       let d : k ≢ n = λ q. let y : None ≡ Some (p, C) = sym f ∙ ap (get old) (sym q) ∙ e in cc in

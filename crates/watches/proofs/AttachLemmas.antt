@@ -1,4 +1,4 @@
--- A clause that comes behind the others: both of its places wait.
+-- A clause that is attached: both of its watches are pending.
 use Rattle.std.proofs.Common.{◌≡◌, ◌≢◌, ℕ, ◌+◌, ◌*◌, ◌-◌, ◌/◌, ◌%◌, ◌<◌, ◌≤◌, ◌⊎◌, inl, inr, cond, eqb, List, [], ◌∷◌, ◌++◌, length, get_or, refl, ap, sym, ◌∙◌, subst, arith, All, length-append}
 use Rattle.std.specs.List.{IsDistinct}
 use Rattle.std.proofs.lemmas.Bool.{cases_eq, cases_lt, ne_eqb}
@@ -6,19 +6,19 @@ use Rattle.std.proofs.lemmas.List.{get_or_append_left, get_or_push}
 use Rattle.std.proofs.lemmas.List.Elements.{All-push}
 use Rattle.dimacs.specs.logic.Literal.{Literal, Clause, IsWithin, same, index_of}
 use Rattle.clause_arena.specs.declared.reference.Ref.{Ref}
-use Rattle.clause_arena.specs.Clauses.{Clauses, Stands}
+use Rattle.clause_arena.specs.Clauses.{Clauses, RefersTo}
 use Rattle.clause_arena.proofs.ClauseLaws.{stands_once}
 use Rattle.watches.specs.Trails.{TrailValue}
-use Rattle.watches.specs.inner.Scanning.{IsHere}
-use Rattle.watches.specs.declared.watched.places.Place.{Place}
-use Rattle.watches.specs.inner.Chains.{literal_at, next_of, twin, IsIn, IsOnce, IsChain, AreChains, AppendsTwo}
+use Rattle.watches.specs.inner.LiveClauses.{IsLiveWithin}
+use Rattle.watches.specs.declared.watched.watch.Watch.{Watch}
+use Rattle.watches.specs.inner.WatchLists.{literal_at, next_of, twin, IsIn, IsOnce, IsWatchList, AreWatchLists, AppendsTwo}
 use Rattle.watches.specs.inner.Ready.{AreNamed}
-use Rattle.watches.specs.inner.Watching.{owner, no_clause, IsGuarded, IsKept, IsLong, IsSettled, IsWatching, AreWatching}
-use Rattle.watches.proofs.ChainLemmas.{chain_kept, chain_from}
+use Rattle.watches.specs.inner.WatchInvariants.{owner, no_clause, IsGuarded, IsPendingOrGuarded, IsLong, IsRootSatisfied, IsWatching, AreWatching}
+use Rattle.watches.proofs.WatchListLemmas.{chain_kept, chain_from}
 use Rattle.watches.proofs.TwinLemmas.{twins_of, twin_even, twin_odd}
 use Rattle.watches.proofs.SwapLemmas.{apart_at}
-use Rattle.watches.proofs.WakeLemmas.{index_high}
-use Rattle.watches.specs.Ready.{Watches}
+use Rattle.watches.proofs.PendingLemmas.{index_high}
+use Rattle.watches.specs.Watches.{Watches}
 
 -- one clause more, of another number
 pub named_push : (clauses : List Ref) (at : Ref) → AreNamed clauses → ((i : ℕ) → i < length clauses → (get_or clauses i no_clause).number ≢ at.number) → AreNamed (clauses ++ at ∷ [])
@@ -35,7 +35,7 @@ named_push clauses at h fresh i j hi hj e =
       ]
     ]
 
-pub record Appends (old new : List Place) (C : Clause) : Type 0 where
+pub record Appends (old new : List Watch) (C : Clause) : Type 0 where
   pub long : length new ≡ length old + 2
   pub first : next_of new 0 ≡ length old
   pub second : next_of new (length old) ≡ length old + 1
@@ -45,11 +45,11 @@ pub record Appends (old new : List Place) (C : Clause) : Type 0 where
   pub one : (d : Literal) → 2 ≤ length C → literal_at new (length old) ≡ get_or C 0 d
   pub two : (d : Literal) → 2 ≤ length C → literal_at new (length old + 1) ≡ get_or C 1 d
 
-pub appends : (old new : List Place) (C : Clause) (a b : Literal) → AppendsTwo old new a b → ((d : Literal) → 2 ≤ length C → (a ≡ get_or C 0 d) × (b ≡ get_or C 1 d)) → Appends old new C
+pub appends : (old new : List Watch) (C : Clause) (a b : Literal) → AppendsTwo old new a b → ((d : Literal) → 2 ≤ length C → (a ≡ get_or C 0 d) × (b ≡ get_or C 1 d)) → Appends old new C
 appends old new C a b h g = record { long = h.long; first = h.first; second = h.second; third = h.third; others = h.others; literals = h.literals; one = λ d l. h.literal_one ∙ (g d l).0; two = λ d l. h.literal_two ∙ (g d l).1 }
 
-module _ (W : Watches) (ys : List Place) (m : Clauses) (t : TrailValue) (paths : ℕ → List ℕ) (w : IsWatching W m t paths)
-    (whole : length W.places ≡ W.base + 2 * length W.clauses) (at : Ref) (C : Clause) (st : Stands m at C) (within : All (IsWithin t.vars) C) (differ : IsDistinct same C)
+module _ (W : Watches) (ys : List Watch) (m : Clauses) (t : TrailValue) (paths : ℕ → List ℕ) (w : IsWatching W m t paths)
+    (whole : length W.places ≡ W.base + 2 * length W.clauses) (at : Ref) (C : Clause) (st : RefersTo m at C) (within : All (IsWithin t.vars) C) (differ : IsDistinct same C)
     (fresh : (i : ℕ) → i < length W.clauses → (get_or W.clauses i no_clause).number ≢ at.number) (a : Appends W.places ys C) where
   abbrev more : Watches
   more = record W { places = ys; clauses = W.clauses ++ at ∷ [] }
@@ -82,15 +82,15 @@ module _ (W : Watches) (ys : List Place) (m : Clauses) (t : TrailValue) (paths :
   ]
 
   old_low : (q k : ℕ) → IsIn q (paths k) → (W.base ≤ q) × (q < length W.places)
-  old_low q k h = w.chains.real k q h
+  old_low q k h = w.lists.real k q h
 
   once : (k : ℕ) → IsOnce (with_two k)
   once k = elim (cases_eq k 0) [
     | inl e ↦ subst (λ j. IsOnce (with_two j)) (sym e) (
       (λ h. elim h [ inl x ↦ omega (arith, x) | inr y ↦ let b = old_low (length W.places) 0 y in omega (arith, b.1) ]),
-      ((λ h. let b = old_low (length W.places + 1) 0 h in omega (arith, b.1)), w.chains.once 0),
+      ((λ h. let b = old_low (length W.places + 1) 0 h in omega (arith, b.1)), w.lists.once 0),
     )
-    | inr n ↦ subst IsOnce (sym (elsewhere_same k n)) (w.chains.once k)
+    | inr n ↦ subst IsOnce (sym (elsewhere_same k n)) (w.lists.once k)
   ]
 
   new_only : (q k : ℕ) → length W.places ≤ q → IsIn q (with_two k) → k ≡ 0
@@ -102,7 +102,7 @@ module _ (W : Watches) (ys : List Place) (m : Clauses) (t : TrailValue) (paths :
       | inl x ↦ absurd (elim x.1 [ inl y ↦ omega (arith, y) | inr y ↦ omega (arith, y) ])
       | inr x ↦ elim (was q j i) [
         | inl y ↦ absurd (elim y.1 [ inl z ↦ omega (arith, z) | inr z ↦ omega (arith, z) ])
-        | inr y ↦ w.chains.apart k j q x y
+        | inr y ↦ w.lists.apart k j q x y
       ]
     ]
     | inr l ↦ new_only q k l h ∙ sym (new_only q j l i)
@@ -111,15 +111,15 @@ module _ (W : Watches) (ys : List Place) (m : Clauses) (t : TrailValue) (paths :
   kept_next : (q k : ℕ) → IsIn q (paths k) → next_of ys q ≡ next_of W.places q
   kept_next q k h = let b = old_low q k h in let c = high in a.others q (λ e. omega (arith, b.0)) b.1
 
-  chain : (k : ℕ) → k < W.base → IsChain ys k (with_two k)
-  chain k b = elim (cases_eq k 0) [
-    | inl e ↦ subst (λ j. IsChain ys j (with_two j)) (sym e) (a.first, (a.second, chain_from W.places ys 0 (length W.places + 1) (paths 0) a.third (λ q i. kept_next q 0 i) (w.chains.chain 0 high)))
-    | inr n ↦ subst (IsChain ys k) (sym (elsewhere_same k n)) (chain_kept W.places ys k (paths k) (a.others k n (let c = w.low in omega arith)) (λ q i. kept_next q k i) (w.chains.chain k b))
+  watch_list : (k : ℕ) → k < W.base → IsWatchList ys k (with_two k)
+  watch_list k b = elim (cases_eq k 0) [
+    | inl e ↦ subst (λ j. IsWatchList ys j (with_two j)) (sym e) (a.first, (a.second, chain_from W.places ys 0 (length W.places + 1) (paths 0) a.third (λ q i. kept_next q 0 i) (w.lists.watch_list 0 high)))
+    | inr n ↦ subst (IsWatchList ys k) (sym (elsewhere_same k n)) (chain_kept W.places ys k (paths k) (a.others k n (let c = w.low in omega arith)) (λ q i. kept_next q k i) (w.lists.watch_list k b))
   ]
 
-  chains : AreChains ys W.base with_two
-  chains = record {
-    chain = chain;
+  lists : AreWatchLists ys W.base with_two
+  lists = record {
+    watch_list = watch_list;
     once = once;
     apart = apart_chains;
     real = λ k q h. elim (was q k h) [
@@ -153,11 +153,11 @@ module _ (W : Watches) (ys : List Place) (m : Clauses) (t : TrailValue) (paths :
   even_p : length W.places % 2 ≡ 0
   even_p = w.paired
 
-  front : (q : ℕ) (D : Clause) (d : Literal) → IsLong more q → Stands m (owner more q) D → literal_at ys q ≡ get_or D (q % 2) d
+  front : (q : ℕ) (D : Clause) (d : Literal) → IsLong more q → RefersTo m (owner more q) D → literal_at ys q ≡ get_or D (q % 2) d
   front q D d h s = elim (which q h) [
-    | inl o ↦ a.literals q o.1 ∙ w.front q D d o (subst (λ r. Stands m r D) (owner_old q o.0 o.1) s)
+    | inl o ↦ a.literals q o.1 ∙ w.front q D d o (subst (λ r. RefersTo m r D) (owner_old q o.0 o.1) s)
     | inr e ↦
-        let same_D : C ≡ D = stands_once m at C D st (subst (λ r. Stands m r D) (owner_new q e) s) in
+        let same_D : C ≡ D = stands_once m at C D st (subst (λ r. RefersTo m r D) (owner_new q e) s) in
         let l = new_long q e h in
         let z = even_p in
         elim e [
@@ -195,7 +195,7 @@ module _ (W : Watches) (ys : List Place) (m : Clauses) (t : TrailValue) (paths :
     | inr y ↦ let o = w.home v q b y in (a.literals q o.1.1 ∙ o.0, long_on q o.1)
   ]
 
-  kept : (q : ℕ) → IsLong more q → IsKept ys t.entries W.head with_two q
+  kept : (q : ℕ) → IsLong more q → IsPendingOrGuarded ys t.entries W.head with_two q
   kept q h = elim (which q h) [
     | inl o ↦ elim (w.kept q o) [
       | inl i ↦ inl (still q 0 i)
@@ -207,13 +207,13 @@ module _ (W : Watches) (ys : List Place) (m : Clauses) (t : TrailValue) (paths :
     | inr e ↦ inl (elim e [ inl x ↦ inl x | inr x ↦ inr (inl x) ])
   ]
 
-  short : (i : ℕ) → W.base + 2 * i < length ys → (get_or (W.clauses ++ at ∷ []) i no_clause).len < 2 → IsIn (W.base + 2 * i) (with_two 0) ⊎ IsSettled m t.entries (get_or (W.clauses ++ at ∷ []) i no_clause)
+  short : (i : ℕ) → W.base + 2 * i < length ys → (get_or (W.clauses ++ at ∷ []) i no_clause).len < 2 → IsIn (W.base + 2 * i) (with_two 0) ⊎ IsRootSatisfied m t.entries (get_or (W.clauses ++ at ∷ []) i no_clause)
   short i b s = elim (cases_lt i (length W.clauses)) [
     | inl l ↦
         let e = get_or_append_left W.clauses (at ∷ []) no_clause i l in
         elim (w.short i (omega arith) (subst (λ (o : Ref). o.len < 2) e s)) [
           | inl h ↦ inl (still (W.base + 2 * i) 0 h)
-          | inr h ↦ inr (subst (IsSettled m t.entries) (sym e) h)
+          | inr h ↦ inr (subst (IsRootSatisfied m t.entries) (sym e) h)
         ]
     | inr g ↦ inl (inl (let l = a.long in omega arith))
   ]
@@ -223,14 +223,14 @@ module _ (W : Watches) (ys : List Place) (m : Clauses) (t : TrailValue) (paths :
 
   pub attached : IsWatching more m t with_two
   attached = record {
-    chains = chains;
+    lists = lists;
     wide = w.wide;
     even = w.even;
     low = let l = a.long in let c = w.low in omega arith;
     paired = let l = a.long in let z = w.paired in omega arith;
     partly = let l = a.long in let n = length-append W.clauses (at ∷ []) in omega arith;
     named = named;
-    here = All-push (IsHere m t.vars) W.clauses at w.here (C, st, within);
+    here = All-push (IsLiveWithin m t.vars) W.clauses at w.here (C, st, within);
     front = front;
     apart = apart;
     home = home;

@@ -1,12 +1,12 @@
--- Clauses, some of them marked as detached.
+-- Clauses that are marked as detached, and their removal.
 use Rattle.std.proofs.Common.{◌≡◌, ℕ, zero, suc, ◌+◌, ◌<◌, ◌≤◌, Bool, true, false, List, [], ◌∷◌, ◌++◌, length, get_or, set, take, refl, ap, sym, ◌∙◌, subst, arith, inl, inr}
 use Rattle.std.specs.List.{All, remove}
 use Rattle.std.proofs.lemmas.Bool.{false≢true, cases_eq}
 use Rattle.std.proofs.lemmas.List.{take_all, take_more, take_more_set, get_or_default, length-take-le, length-set, get_or-set_same, get_or-set_other, append-nil}
 use Rattle.clause_arena.specs.declared.reference.Ref.{Ref}
-use Rattle.watches.specs.inner.Moving.{Follows, AreFollowed}
-use Rattle.watches.specs.inner.Watching.{no_clause}
-use Rattle.watches.specs.Ready.{attached_of}
+use Rattle.watches.specs.inner.MovedRefs.{Follows, AreFollowed}
+use Rattle.watches.specs.inner.WatchInvariants.{no_clause}
+use Rattle.watches.specs.Watches.{attached_of}
 
 -- one clause more, marked or not
 pub attached_push : (cs : List Ref) (ls : List Bool) (at : Ref) (b : Bool) → length ls ≡ length cs → attached_of (cs ++ at ∷ []) (ls ++ b ∷ []) ≡ attached_of cs ls ++ attached_of (at ∷ []) (b ∷ [])
@@ -22,7 +22,7 @@ attached_fewer (c ∷ cs) [] = omega arith
 attached_fewer (c ∷ cs) (true ∷ ls) = let h = attached_fewer cs ls in omega arith
 attached_fewer (c ∷ cs) (false ∷ ls) = let h = attached_fewer cs ls in omega arith
 
--- where none is marked
+-- if none is marked
 pub all_attached : (cs : List Ref) (ls : List Bool) → length ls ≡ length cs → All (λ b. b ≡ true) ls → attached_of cs ls ≡ cs
 all_attached [] ls e h = refl
 all_attached (c ∷ cs) [] e h = absurd (omega (arith, e))
@@ -77,7 +77,7 @@ attached_followed moves (c ∷ cs) (d ∷ ds) (true ∷ ls) f = both_followed mo
 attached_followed moves (c ∷ cs) (d ∷ ds) (false ∷ ls) f = attached_followed moves cs ds ls (rest_followed moves c d cs ds f)
 
 -- ---- a sweep
--- of the first i clauses those that are not marked stand in front, and those behind are as they were
+-- of the first i clauses those that are not marked stand in front, and those after are as they were
 pub record Sweeps (cs : List Ref) (ls : List Bool) (xs : List Ref) (bs : List Bool) (count i : ℕ) : Type 0 where
   pub short : count ≤ i
   pub clauses_long : length xs ≡ length cs

@@ -1,4 +1,4 @@
--- A trail on which an entry has another reason.
+-- A trail after the reason of an entry changed.
 use Rattle.std.proofs.Common.{◌≡◌, ℕ, ◌+◌, ◌<◌, cond, eqb, List, ◌∷◌, ◌++◌, length, get_or, set, take, drop, Some, ap, sym, ◌∙◌, subst, arith}
 use Rattle.std.specs.List.{IsDistinct}
 use Rattle.std.proofs.lemmas.List.{take-append-drop, take-set, drop-set-lt, drop_more, get_or-set_same, length-set}
@@ -6,10 +6,10 @@ use Rattle.dimacs.specs.logic.Literal.{Literal, IsWithin, negation, var_of}
 use Rattle.watches.specs.declared.trail.Assigned.{Assigned}
 use Rattle.watches.specs.declared.truth.Truth.{Truth}
 use Rattle.watches.specs.declared.truth.Truth.TheVariants.{Free, True, False}
-use Rattle.watches.specs.Law.{AreAlike, IsExplained}
+use Rattle.watches.specs.Law.{SameUpToReasons, IsExplained}
 use Rattle.watches.specs.Trails.{holds}
-use Rattle.watches.specs.inner.AlikeLaws.{holds_alike, variables_alike, length_alike, literal_alike, level_alike}
-use Rattle.watches.specs.inner.Tables.{IsTrail, truth_of}
+use Rattle.watches.specs.inner.ReasonLaws.{holds_alike, variables_alike, length_alike, literal_alike, level_alike}
+use Rattle.watches.specs.inner.TrailTables.{IsTrail, truth_of}
 
 -- the entry of a place
 pub explained_at : (es : List Assigned) (i : ℕ) (e : Assigned) (l : Literal) (n : ℕ) → i < length es → e ≡ get_or es i e → e.literal ≡ l → IsExplained es (set es i (record e { reason = Some n })) l n
@@ -26,13 +26,13 @@ explained_at es i e l n below is literal =
           ∙ ap (λ xs. take i es ++ xs) (drop_more (set es i f) i f more ∙ ap (λ x. x ∷ drop (i + 1) (set es i f)) (get_or-set_same es i f f below) ∙ ap (λ xs. f ∷ xs) (drop-set-lt (i + 1) es i f (omega arith)));
     }
 
-truth_alike : (es fs : List Assigned) → AreAlike es fs → (l : Literal) → truth_of fs l ≡ truth_of es l
+truth_alike : (es fs : List Assigned) → SameUpToReasons es fs → (l : Literal) → truth_of fs l ≡ truth_of es l
 truth_alike es fs a l =
     ap (λ b. cond b True (cond (holds fs (negation l)) False Free)) (holds_alike es fs a l)
     ∙ ap (λ b. cond (holds es l) True (cond b False Free)) (holds_alike es fs a (negation l))
 
 -- its tables stay as they are
-pub trail_alike : (vars : ℕ) (es fs : List Assigned) (values : List Truth) (places : List ℕ) (room : ℕ) → AreAlike es fs → IsTrail vars es values places room → IsTrail vars fs values places room
+pub trail_alike : (vars : ℕ) (es fs : List Assigned) (values : List Truth) (places : List ℕ) (room : ℕ) → SameUpToReasons es fs → IsTrail vars es values places room → IsTrail vars fs values places room
 trail_alike vars es fs values places room a t =
     let n = length_alike es fs a in
     record {

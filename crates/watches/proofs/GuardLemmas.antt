@@ -1,4 +1,4 @@
--- Guards: what a push and a cut of the trail leave of them.
+-- Guards of watches are kept by a push and by a backtrack.
 use Rattle.std.proofs.Common.{◌≡◌, ℕ, zero, suc, ◌<◌, ◌≤◌, ◌||◌, ◌&&◌, ◌⊎◌, inl, inr, Bool, true, false, List, [], ◌∷◌, ◌++◌, length, get_or, refl, ap, sym, ◌∙◌, subst, arith, nat_le, All}
 use Rattle.std.proofs.lemmas.List.Folds.{list_any-append}
 use Rattle.std.proofs.lemmas.List.Elements.{All-head, All-tail}
@@ -8,7 +8,7 @@ use Rattle.dimacs.specs.logic.Literal.{Literal, same, negation}
 use Rattle.dimacs.proofs.LiteralLemmas.{same-itself}
 use Rattle.watches.specs.declared.trail.Assigned.{Assigned}
 use Rattle.watches.specs.Trails.{holds, up_to}
-use Rattle.watches.specs.inner.Watching.{IsGuarded}
+use Rattle.watches.specs.inner.WatchInvariants.{IsGuarded}
 use Rattle.watches.specs.inner.ReadyLaws.{or_left}
 
 or_either : (a b : Bool) → (a || b) ≡ true → (a ≡ true) ⊎ (b ≡ true)
@@ -41,7 +41,7 @@ up_to_holds (e ∷ es) k l h = elim (or_either (same e.literal l && nat_le e.lev
   | inr y ↦ or_right _ _ (up_to_holds es k l y)
 ]
 
--- where no level is greater, what is true is true up to there
+-- if no level is greater, what is true is true up to there
 pub holds_up_to : (es : List Assigned) (k : ℕ) (l : Literal) → All (λ e. e.level ≤ k) es → holds es l ≡ true → up_to es k l ≡ true
 holds_up_to [] k l a h = h
 holds_up_to (e ∷ es) k l a h = elim (or_either (same e.literal l) (holds es l) h) [

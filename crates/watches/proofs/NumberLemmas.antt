@@ -1,4 +1,4 @@
--- Numbers that were given out in their order.
+-- Clause numbers that are given out in ascending order.
 use Rattle.std.proofs.Common.{ℕ, ◌+◌, ◌<◌, inl, inr, List, [], ◌∷◌, ◌++◌, sym, subst, arith}
 use Rattle.std.specs.List.{All, Contains}
 use Rattle.std.proofs.lemmas.Bool.{cases_eq}

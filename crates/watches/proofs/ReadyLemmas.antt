@@ -1,4 +1,4 @@
--- What is kept of all watches, through each call of a propagator.
+-- The invariant of `Watched` is kept by each call.
 use Rattle.std.proofs.Common.{◌≡◌, ◌≢◌, ℕ, ◌+◌, ◌*◌, ◌-◌, ◌/◌, ◌%◌, ◌^◌, ◌<◌, ◌≤◌, inl, inr, Bool, true, false, List, [], ◌∷◌, ◌++◌, length, get_or, set, refl, ap, sym, ◌∙◌, subst, arith, length-append}
 use Rattle.std.specs.List.{All, Contains, IsDistinct, remove}
 use Rattle.std.proofs.lemmas.Bool.{cases_lt, false≢true}
@@ -7,22 +7,22 @@ use Rattle.std.proofs.lemmas.List.Edits.{length-remove, get_or-remove_below, get
 use Rattle.std.proofs.lemmas.List.Elements.{All-push}
 use Rattle.dimacs.specs.logic.Literal.{Literal, Clause, IsWithin, same}
 use Rattle.clause_arena.specs.declared.reference.Ref.{Ref}
-use Rattle.clause_arena.specs.Clauses.{Clauses, Stands}
+use Rattle.clause_arena.specs.Clauses.{Clauses, RefersTo}
 use Rattle.clause_arena.specs.Compaction.{IsCompacted}
 use Rattle.clause_arena.proofs.ClauseLaws.{stands_once}
 use Rattle.watches.specs.declared.trail.Assigned.{Assigned}
 use Rattle.watches.specs.Trails.{TrailValue}
 use Rattle.watches.specs.Law.{AreWithout}
-use Rattle.watches.specs.inner.Moving.{AreFollowed}
-use Rattle.watches.specs.Scanning.{numbers}
-use Rattle.watches.specs.inner.Scanning.{IsHere}
+use Rattle.watches.specs.inner.MovedRefs.{AreFollowed}
+use Rattle.watches.specs.ClauseNumbers.{numbers}
+use Rattle.watches.specs.inner.LiveClauses.{IsLiveWithin}
 use Rattle.watches.specs.inner.ScanLaws.{has_number, here_pushed}
-use Rattle.watches.specs.declared.watched.places.Place.{Place}
-use Rattle.watches.specs.inner.Chains.{AppendsTwo}
-use Rattle.watches.specs.inner.Watching.{IsWatching, IsLong, no_clause, fresh_watches}
-use Rattle.watches.specs.Ready.{Watches, attached_of}
+use Rattle.watches.specs.declared.watched.watch.Watch.{Watch}
+use Rattle.watches.specs.inner.WatchLists.{AppendsTwo}
+use Rattle.watches.specs.inner.WatchInvariants.{IsWatching, IsLong, no_clause, fresh_watches}
+use Rattle.watches.specs.Watches.{Watches, attached_of}
 use Rattle.watches.specs.inner.Ready.{AreNamed, AreWatches, IsReady}
-use Rattle.watches.proofs.MovingLemmas.{stands_followed, all_here_followed}
+use Rattle.watches.proofs.MovedRefsLemmas.{stands_followed, all_here_followed}
 use Rattle.watches.proofs.StateLemmas.{cut}
 use Rattle.watches.proofs.AttachLemmas.{appends, some_watching, named_push}
 use Rattle.watches.proofs.DetachLemmas.{attached_push, all_attached, attached_followed, stood, marks}
@@ -38,7 +38,7 @@ ready_cut w now m t u gone level r v e a c l n = record {
 
 -- ---- a clause was attached
 module _ (w : Watches) (cs : List Ref) (ls : List Bool) (among : w.clauses ≡ attached_of cs ls) (h : AreWatches w.places cs ls w.base w.stale)
-    (k : Clauses) (t : TrailValue) (ys : List Place) (at : Ref) (C : Clause) (one two : Literal)
+    (k : Clauses) (t : TrailValue) (ys : List Watch) (at : Ref) (C : Clause) (one two : Literal)
     (fresh : Contains (numbers w.clauses) at.number → ⊥)
     (appended : AppendsTwo w.places ys one two) where
   new_number : (i : ℕ) → i < length w.clauses → (get_or w.clauses i no_clause).number ≢ at.number
@@ -57,11 +57,11 @@ module _ (w : Watches) (cs : List Ref) (ls : List Bool) (among : w.clauses ≡ a
     none_gone = λ s. All-push (λ b. b ≡ true) ls true (h.none_gone s) refl;
   }
 
-  pub ready_attached : IsReady w k t → Stands k at C → All (IsWithin t.vars) C → IsDistinct same C
+  pub ready_attached : IsReady w k t → RefersTo k at C → All (IsWithin t.vars) C → IsDistinct same C
       → ((d : Literal) → 2 ≤ length C → (one ≡ get_or C 0 d) × (two ≡ get_or C 1 d)) → IsReady (record w { places = ys; clauses = w.clauses ++ at ∷ [] }) k t
   ready_attached r st within differ firsts = record {
     wide = r.wide;
-    here = All-push (IsHere k t.vars) w.clauses at r.here (C, st, within);
+    here = All-push (IsLiveWithin k t.vars) w.clauses at r.here (C, st, within);
     watching = λ s.
         let x = r.watching s in
         let all : w.clauses ≡ cs = among ∙ all_attached cs ls h.marked (h.none_gone s) in
@@ -120,7 +120,7 @@ module _ (clauses : List Ref) (i : ℕ) (inside : i < length clauses) where
   )
 
 -- ---- a clause was marked as detached
-module _ (places : List Place) (cs : List Ref) (ls : List Bool) (base : ℕ) (stale : Bool) (h : AreWatches places cs ls base stale) (i : ℕ) (inside : i < length cs) (live : get_or ls i false ≡ true) where
+module _ (places : List Watch) (cs : List Ref) (ls : List Bool) (base : ℕ) (stale : Bool) (h : AreWatches places cs ls base stale) (i : ℕ) (inside : i < length cs) (live : get_or ls i false ≡ true) where
   pub watches_marked : AreWatches places cs (set ls i false) base true
   watches_marked =
       let m = marks cs ls i h.marked inside live in
@@ -156,7 +156,7 @@ module _ (m k : Clauses) (moves : List (Ref × Ref)) (W : Watches) (new : List R
 
   pub watching_followed : (t : TrailValue) (paths : ℕ → List ℕ) → IsWatching W m t paths → IsWatching then_watches k t paths
   watching_followed t paths w = record {
-    chains = w.chains;
+    lists = w.lists;
     wide = w.wide;
     even = w.even;
     low = w.low;
@@ -177,14 +177,14 @@ module _ (m k : Clauses) (moves : List (Ref × Ref)) (W : Watches) (new : List R
     same_number : (i : ℕ) → i < length W.clauses → (get_or new i no_clause).number ≡ (get_or W.clauses i no_clause).number
     same_number i l = (f.each i no_clause l).number
 
-    stands_both : (i : ℕ) → i < length W.clauses → (C : Clause) × Stands m (get_or W.clauses i no_clause) C × Stands k (get_or new i no_clause) C
+    stands_both : (i : ℕ) → i < length W.clauses → (C : Clause) × RefersTo m (get_or W.clauses i no_clause) C × RefersTo k (get_or new i no_clause) C
     stands_both i l = let s = w.here i no_clause l in (s.0, s.1, stands_followed m k moves (get_or W.clauses i no_clause) (get_or new i no_clause) s.0 h (f.each i no_clause l) s.1)
 
     same_len : (i : ℕ) → i < length W.clauses → (get_or new i no_clause).len ≡ (get_or W.clauses i no_clause).len
     same_len i l = let b = stands_both i l in b.2.1 ∙ sym b.1.1
 
-    stands_back : (i : ℕ) (C : Clause) → i < length W.clauses → Stands k (get_or new i no_clause) C → Stands m (get_or W.clauses i no_clause) C
-    stands_back i C l st = let b = stands_both i l in subst (Stands m (get_or W.clauses i no_clause)) (stands_once k (get_or new i no_clause) b.0 C b.2 st) b.1
+    stands_back : (i : ℕ) (C : Clause) → i < length W.clauses → RefersTo k (get_or new i no_clause) C → RefersTo m (get_or W.clauses i no_clause) C
+    stands_back i C l st = let b = stands_both i l in subst (RefersTo m (get_or W.clauses i no_clause)) (stands_once k (get_or new i no_clause) b.0 C b.2 st) b.1
 
     owned : (p : ℕ) → W.base ≤ p → p < length W.places → (p - W.base) / 2 < length W.clauses
     owned p a b = let c = w.partly in let e = w.even in let g = w.paired in omega arith
@@ -202,7 +202,7 @@ ready_followed w news moves f m k t h r = record {
   watching = λ s. let x = r.watching s in (x.0, watching_followed m k moves w news h f t x.0 x.1);
 }
 
-pub watches_followed : (places : List Place) (base : ℕ) (old new : List Ref) (ls : List Bool) (stale : Bool) (moves : List (Ref × Ref)) → AreFollowed moves old new → AreWatches places old ls base stale → AreWatches places new ls base stale
+pub watches_followed : (places : List Watch) (base : ℕ) (old new : List Ref) (ls : List Bool) (stale : Bool) (moves : List (Ref × Ref)) → AreFollowed moves old new → AreWatches places old ls base stale → AreWatches places new ls base stale
 watches_followed places base old new ls stale moves f h = record {
   whole = omega (arith, h.whole, f.long);
   few = h.few;
@@ -218,12 +218,12 @@ watches_followed places base old new ls stale moves f h = record {
       n i j l r (sym (g.each i no_clause l).number ∙ e ∙ (g.each j no_clause r).number)
 
 -- ---- the chains were made anew
--- heads with no places behind them
-pub nothing_watched : (places : List Place) (base : ℕ) (m : Clauses) (t : TrailValue) → 2 * t.vars + 2 ≤ base → base % 2 ≡ 0 → length places ≡ base → All (λ p. p.next.number ≡ 0) places
+-- heads with no places after them
+pub nothing_watched : (places : List Watch) (base : ℕ) (m : Clauses) (t : TrailValue) → 2 * t.vars + 2 ≤ base → base % 2 ≡ 0 → length places ≡ base → All (λ p. p.next.number ≡ 0) places
     → IsWatching (fresh_watches places [] base (length t.entries)) m t (λ _. [])
 nothing_watched places base m t wide even long ended = record {
-  chains = record {
-    chain = λ l b. ended l _ (omega arith);
+  lists = record {
+    watch_list = λ l b. ended l _ (omega arith);
     real = λ l p h. absurd h;
     once = λ l. tt;
     apart = λ l k p h i. absurd h;

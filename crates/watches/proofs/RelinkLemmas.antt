@@ -1,4 +1,4 @@
--- A watch that goes to another literal of its clause.
+-- A watch that moves to another literal of its clause.
 use Rattle.std.proofs.Common.{◌≡◌, ◌≢◌, ℕ, ◌+◌, ◌*◌, ◌-◌, ◌/◌, ◌%◌, ◌<◌, ◌≤◌, ◌⊎◌, inl, inr, true, false, List, ◌∷◌, ◌++◌, length, get_or, swap, refl, ap, sym, ◌∙◌, subst, arith, All}
 use Rattle.std.specs.List.{IsDistinct}
 use Rattle.std.specs.FinMap.{insert}
@@ -7,26 +7,26 @@ use Rattle.std.proofs.lemmas.List.{get_or_default}
 use Rattle.dimacs.specs.logic.Literal.{Literal, Clause, IsWithin, negation, same, index_of}
 use Rattle.dimacs.proofs.LiteralLemmas.{index_apart, index_below, same_or_not}
 use Rattle.clause_arena.specs.declared.reference.Ref.{Ref}
-use Rattle.clause_arena.specs.Clauses.{Clauses, Stands}
+use Rattle.clause_arena.specs.Clauses.{Clauses, RefersTo}
 use Rattle.clause_arena.proofs.ClauseLaws.{stands_once, swapped_stands, other_stands, other_stood}
 use Rattle.watches.specs.Trails.{TrailValue, holds}
-use Rattle.watches.specs.inner.Scanning.{IsHere}
-use Rattle.watches.specs.declared.watched.places.Place.{Place}
-use Rattle.watches.specs.inner.Chains.{literal_at, twin, IsIn, last_of, AreChains, Relinks}
-use Rattle.watches.specs.inner.Walking.{IsConsistent}
-use Rattle.watches.specs.inner.Watching.{owner, no_clause, IsGuarded, IsKept, IsLong, IsSettled, IsWatching}
-use Rattle.watches.proofs.ChainLemmas.{in_right, moved_paths, still_in, now_in, was_in, chains_moved}
+use Rattle.watches.specs.inner.LiveClauses.{IsLiveWithin}
+use Rattle.watches.specs.declared.watched.watch.Watch.{Watch}
+use Rattle.watches.specs.inner.WatchLists.{literal_at, twin, IsIn, last_of, AreWatchLists, Relinks}
+use Rattle.watches.specs.inner.ListWalk.{IsConsistent}
+use Rattle.watches.specs.inner.WatchInvariants.{owner, no_clause, IsGuarded, IsPendingOrGuarded, IsLong, IsRootSatisfied, IsWatching}
+use Rattle.watches.proofs.WatchListLemmas.{in_right, moved_paths, still_in, now_in, was_in, chains_moved}
 use Rattle.watches.proofs.TwinLemmas.{twins_of, owner_twin, long_twin, same_owner, parity}
 use Rattle.watches.proofs.SwapLemmas.{swapped, all_swapped, apart_at}
 use Rattle.watches.proofs.GuardLemmas.{up_to_holds, guarded_free}
-use Rattle.watches.specs.Ready.{Watches}
+use Rattle.watches.specs.Watches.{Watches}
 
 -- the place p, in the chain of the false literal f, goes to the literal x at place k of the clause
-module _ (W : Watches) (ys : List Place) (m : Clauses) (t : TrailValue) (paths : ℕ → List ℕ)
+module _ (W : Watches) (ys : List Watch) (m : Clauses) (t : TrailValue) (paths : ℕ → List ℕ)
     (w : IsWatching W m t paths)
     (f x : Literal) (l p k : ℕ) (done rest : List ℕ) (C : Clause)
     (f_head : l < W.base) (is : paths l ≡ done ++ p ∷ rest) (heads_apart : index_of x ≢ l) (long_p : IsLong W p) (lit_p : literal_at W.places p ≡ f)
-    (st : Stands m (owner W p) C) (two : 2 ≤ k) (kb : k < length C) (at_k : (d : Literal) → get_or C k d ≡ x)
+    (st : RefersTo m (owner W p) C) (two : 2 ≤ k) (kb : k < length C) (at_k : (d : Literal) → get_or C k d ≡ x)
     (differ : IsDistinct same C)
     (sound : IsConsistent t.entries) (f_false : holds t.entries (negation f) ≡ true) (x_free : holds t.entries (negation x) ≡ false)
     (r : Relinks W.places ys (last_of l done) p (index_of x) x) where
@@ -36,7 +36,7 @@ module _ (W : Watches) (ys : List Place) (m : Clauses) (t : TrailValue) (paths :
   long_C : 2 ≤ length C
   long_C = omega arith
 
-  here_p : IsHere m t.vars (owner W p)
+  here_p : IsLiveWithin m t.vars (owner W p)
   here_p = w.here ((p - W.base) / 2) no_clause (let a = long_p.0 in let b = long_p.1 in let c = w.partly in let d = w.even in let e = w.paired in omega arith)
 
   all_C : All (IsWithin t.vars) C
@@ -54,14 +54,14 @@ module _ (W : Watches) (ys : List Place) (m : Clauses) (t : TrailValue) (paths :
   abbrev changed : Clauses
   changed = insert m (owner W p).number ((owner W p).place, swap C (p % 2) k)
 
-  chains : AreChains ys W.base now
-  chains = chains_moved W.places ys W.base paths (l) (index_of x) p x done rest w.chains f_head x_head heads_apart is r
+  lists : AreWatchLists ys W.base now
+  lists = chains_moved W.places ys W.base paths (l) (index_of x) p x done rest w.lists f_head x_head heads_apart is r
 
   still : (q j : ℕ) → q ≢ p → IsIn q (paths j) → IsIn q (now j)
   still q j n h = still_in paths (l) (index_of x) p done rest is heads_apart q j n h
 
   was : (q j : ℕ) → IsIn q (now j) → ((q ≡ p) × (j ≡ index_of x)) ⊎ ((q ≢ p) × IsIn q (paths j))
-  was q j h = was_in paths (l) (index_of x) p done rest is heads_apart q j (w.chains.once (l)) (λ i g. w.chains.apart i (l) p g there) h
+  was q j h = was_in paths (l) (index_of x) p done rest is heads_apart q j (w.lists.once (l)) (λ i g. w.lists.apart i (l) p g there) h
 
   -- a place of another clause, or of this one
   same_or_other : (q : ℕ) → IsLong W q → ((q ≡ p) ⊎ (q ≡ twin p)) ⊎ ((owner W q).number ≢ (owner W p).number)
@@ -82,7 +82,7 @@ module _ (W : Watches) (ys : List Place) (m : Clauses) (t : TrailValue) (paths :
   long_on q h = (h.0, omega (arith, h.1, r.long), h.2)
 
   lit_twin : (d : Literal) → literal_at W.places (twin p) ≡ get_or C (twin p % 2) d
-  lit_twin d = w.front (twin p) C d (long_twin W p w.even w.paired long_p) (subst (λ a. Stands m a C) (sym (owner_twin W p w.even)) st)
+  lit_twin d = w.front (twin p) C d (long_twin W p w.even w.paired long_p) (subst (λ a. RefersTo m a C) (sym (owner_twin W p w.even)) st)
 
   twin_same : literal_at ys (twin p) ≡ literal_at W.places (twin p)
   twin_same = r.literals (twin p) (twins_of p).apart
@@ -90,16 +90,16 @@ module _ (W : Watches) (ys : List Place) (m : Clauses) (t : TrailValue) (paths :
   apart_owner : (q : ℕ) → (owner W q).number ≢ (owner W p).number → q ≢ p
   apart_owner q n e = n (ap (λ z. (owner W z).number) e)
 
-  front : (q : ℕ) (D : Clause) (d : Literal) → IsLong (record W { places = ys }) q → Stands changed (owner W q) D → literal_at ys q ≡ get_or D (q % 2) d
+  front : (q : ℕ) (D : Clause) (d : Literal) → IsLong (record W { places = ys }) q → RefersTo changed (owner W q) D → literal_at ys q ≡ get_or D (q % 2) d
   front q D d h s = elim (same_or_other q (long_back q h)) [
     | inl both ↦ elim both [
       | inl e ↦
-          let is_swap = stands_once changed (owner W p) (swap C (p % 2) k) D (swapped_stands m (owner W p) C (p % 2) k st) (subst (λ z. Stands changed (owner W z) D) e s) in
+          let is_swap = stands_once changed (owner W p) (swap C (p % 2) k) D (swapped_stands m (owner W p) C (p % 2) k st) (subst (λ z. RefersTo changed (owner W z) D) e s) in
           let sw = swapped C (p % 2) k d (let a = sides in omega arith) kb in
           ap (literal_at ys) e ∙ r.watched ∙ sym (at_k d) ∙ sym sw.0 ∙ ap (λ E. get_or E (p % 2) d) is_swap ∙ ap (λ z. get_or D (z % 2) d) (sym e)
       | inr e ↦
           let is_swap = stands_once changed (owner W p) (swap C (p % 2) k) D (swapped_stands m (owner W p) C (p % 2) k st)
-          (subst (λ a. Stands changed a D) (ap (owner W) e ∙ owner_twin W p w.even) s) in
+          (subst (λ a. RefersTo changed a D) (ap (owner W) e ∙ owner_twin W p w.even) s) in
           let sw = swapped C (p % 2) k d (let a = sides in omega arith) kb in
           let tw = (twins_of p).sides in
           ap (literal_at ys) e ∙ twin_same ∙ lit_twin d ∙ sym (sw.2 (twin p % 2) (λ z. omega arith) (λ z. omega arith)) ∙ ap (λ E. get_or E (twin p % 2) d) is_swap ∙ ap (λ z. get_or D (z % 2) d) (sym e)
@@ -136,9 +136,9 @@ module _ (W : Watches) (ys : List Place) (m : Clauses) (t : TrailValue) (paths :
   guard_other : (v : Literal) → IsGuarded t.entries W.head v f → IsGuarded t.entries W.head v x
   guard_other v g i d b e = absurd (sound f (up_to_holds t.entries _ f (g i d b e)) f_false)
 
-  kept : (q : ℕ) → IsLong (record W { places = ys }) q → IsKept ys t.entries W.head now q
+  kept : (q : ℕ) → IsLong (record W { places = ys }) q → IsPendingOrGuarded ys t.entries W.head now q
   kept q h = elim (cases_eq q p) [
-    | inl e ↦ subst (IsKept ys t.entries W.head now) (sym e) (inr (
+    | inl e ↦ subst (IsPendingOrGuarded ys t.entries W.head now) (sym e) (inr (
       subst (λ l. IsIn p (now (index_of l))) (sym r.watched) (now_in paths (l) (index_of x) p done rest is heads_apart),
       subst (λ l. IsGuarded t.entries W.head l (literal_at ys (twin p))) (sym r.watched) (guarded_free t.entries W.head x (literal_at ys (twin p)) w.handled x_free),
     ))
@@ -155,7 +155,7 @@ module _ (W : Watches) (ys : List Place) (m : Clauses) (t : TrailValue) (paths :
     ]
   ]
 
-  here : All (IsHere changed t.vars) W.clauses
+  here : All (IsLiveWithin changed t.vars) W.clauses
   here i d b =
       let h = w.here i d b in
       let pi : (p - W.base) / 2 < length W.clauses = let a = long_p.0 in let c = long_p.1 in let e = w.partly in let g = w.even in let z = w.paired in omega arith in
@@ -163,11 +163,11 @@ module _ (W : Watches) (ys : List Place) (m : Clauses) (t : TrailValue) (paths :
         | inl e ↦
             let same_i : i ≡ (p - W.base) / 2 = w.named i ((p - W.base) / 2) b pi (ap (λ (a : Ref). a.number) (get_or_default W.clauses i no_clause d b) ∙ e) in
             let same_at : get_or W.clauses i d ≡ owner W p = ap (λ j. get_or W.clauses j d) same_i ∙ get_or_default W.clauses ((p - W.base) / 2) d no_clause pi in
-            subst (IsHere changed t.vars) (sym same_at) (swap C (p % 2) k, swapped_stands m (owner W p) C (p % 2) k st, all_swapped (IsWithin t.vars) C (p % 2) k (let a = sides in omega arith) kb all_C)
+            subst (IsLiveWithin changed t.vars) (sym same_at) (swap C (p % 2) k, swapped_stands m (owner W p) C (p % 2) k st, all_swapped (IsWithin t.vars) C (p % 2) k (let a = sides in omega arith) kb all_C)
         | inr n ↦ (h.0, other_stands m (owner W p).number ((owner W p).place, swap C (p % 2) k) (get_or W.clauses i d) h.0 n h.1, h.2)
       ]
 
-  short : (i : ℕ) → W.base + 2 * i < length ys → (get_or W.clauses i no_clause).len < 2 → IsIn (W.base + 2 * i) (now 0) ⊎ IsSettled changed t.entries (get_or W.clauses i no_clause)
+  short : (i : ℕ) → W.base + 2 * i < length ys → (get_or W.clauses i no_clause).len < 2 → IsIn (W.base + 2 * i) (now 0) ⊎ IsRootSatisfied changed t.entries (get_or W.clauses i no_clause)
   short i b s =
       let half : (W.base + 2 * i - W.base) / 2 ≡ i = omega arith in
       let own : owner W (W.base + 2 * i) ≡ get_or W.clauses i no_clause = ap (λ j. get_or W.clauses j no_clause) half in
@@ -183,7 +183,7 @@ module _ (W : Watches) (ys : List Place) (m : Clauses) (t : TrailValue) (paths :
 
   pub moved : IsWatching (record W { places = ys }) changed t now
   moved = record {
-    chains = chains;
+    lists = lists;
     wide = w.wide;
     even = w.even;
     low = omega (arith, r.long, w.low);
@@ -201,13 +201,13 @@ module _ (W : Watches) (ys : List Place) (m : Clauses) (t : TrailValue) (paths :
 
 -- the place p, in chain l, goes to another chain with its literal: to that of the literal, where it is guarded; to that of waiting ones; a
 -- place of a clause that is settled to that of those done with
-module _ (W : Watches) (ys : List Place) (m : Clauses) (t : TrailValue) (paths : ℕ → List ℕ)
+module _ (W : Watches) (ys : List Watch) (m : Clauses) (t : TrailValue) (paths : ℕ → List ℕ)
     (w : IsWatching W m t paths)
     (f : Literal) (l h p : ℕ) (done rest : List ℕ)
     (f_head : l < W.base) (h_head : h < W.base) (is : paths l ≡ done ++ p ∷ rest) (heads_apart : h ≢ l) (lit_p : literal_at W.places p ≡ f)
     (long_home : (v : Literal) → IsWithin t.vars v → h ≡ index_of v → (f ≡ v) × IsLong W p)
     (place : IsLong W p → (h ≡ 0) ⊎ ((h ≡ index_of f) × IsGuarded t.entries W.head f (literal_at W.places (twin p))))
-    (settled : (i : ℕ) → W.base + 2 * i ≡ p → (get_or W.clauses i no_clause).len < 2 → (h ≡ 0) ⊎ IsSettled m t.entries (get_or W.clauses i no_clause))
+    (settled : (i : ℕ) → W.base + 2 * i ≡ p → (get_or W.clauses i no_clause).len < 2 → (h ≡ 0) ⊎ IsRootSatisfied m t.entries (get_or W.clauses i no_clause))
     (r : Relinks W.places ys (last_of l done) p h f) where
   put_there : IsIn p (paths l)
   put_there = subst (IsIn p) (sym is) (in_right p done (p ∷ rest) (inl refl))
@@ -222,7 +222,7 @@ module _ (W : Watches) (ys : List Place) (m : Clauses) (t : TrailValue) (paths :
   put_here = now_in paths l h p done rest is heads_apart
 
   put_was : (q j : ℕ) → IsIn q (put_now j) → ((q ≡ p) × (j ≡ h)) ⊎ ((q ≢ p) × IsIn q (paths j))
-  put_was q j g = was_in paths l h p done rest is heads_apart q j (w.chains.once l) (λ i g. w.chains.apart i l p g put_there) g
+  put_was q j g = was_in paths l h p done rest is heads_apart q j (w.lists.once l) (λ i g. w.lists.apart i l p g put_there) g
 
   -- no literal changes
   same_literal : (q : ℕ) → literal_at ys q ≡ literal_at W.places q
@@ -246,15 +246,15 @@ module _ (W : Watches) (ys : List Place) (m : Clauses) (t : TrailValue) (paths :
   ]
 
   -- what is said of a place by its literals
-  kept_same : (q : ℕ) → (IsIn q (put_now (index_of (literal_at W.places q))) × IsGuarded t.entries W.head (literal_at W.places q) (literal_at W.places (twin q))) → IsKept ys t.entries W.head put_now q
+  kept_same : (q : ℕ) → (IsIn q (put_now (index_of (literal_at W.places q))) × IsGuarded t.entries W.head (literal_at W.places q) (literal_at W.places (twin q))) → IsPendingOrGuarded ys t.entries W.head put_now q
   kept_same q g = inr (
     subst (λ v. IsIn q (put_now (index_of v))) (sym (same_literal q)) g.0,
     subst (λ v. IsGuarded t.entries W.head v (literal_at ys (twin q))) (sym (same_literal q)) (subst (IsGuarded t.entries W.head (literal_at W.places q)) (sym (same_literal (twin q))) g.1),
   )
 
-  put_kept : (q : ℕ) → IsLong (record W { places = ys }) q → IsKept ys t.entries W.head put_now q
+  put_kept : (q : ℕ) → IsLong (record W { places = ys }) q → IsPendingOrGuarded ys t.entries W.head put_now q
   put_kept q g = elim (cases_eq q p) [
-    | inl e ↦ subst (IsKept ys t.entries W.head put_now) (sym e) (elim (place (subst (IsLong W) e (put_back q g))) [
+    | inl e ↦ subst (IsPendingOrGuarded ys t.entries W.head put_now) (sym e) (elim (place (subst (IsLong W) e (put_back q g))) [
       | inl z ↦ inl (subst (λ j. IsIn p (put_now j)) z put_here)
       | inr z ↦ kept_same p (
         subst (λ j. IsIn p (put_now j)) (z.0 ∙ ap index_of (sym lit_p)) put_here,
@@ -267,7 +267,7 @@ module _ (W : Watches) (ys : List Place) (m : Clauses) (t : TrailValue) (paths :
     ]
   ]
 
-  put_short : (i : ℕ) → W.base + 2 * i < length ys → (get_or W.clauses i no_clause).len < 2 → IsIn (W.base + 2 * i) (put_now 0) ⊎ IsSettled m t.entries (get_or W.clauses i no_clause)
+  put_short : (i : ℕ) → W.base + 2 * i < length ys → (get_or W.clauses i no_clause).len < 2 → IsIn (W.base + 2 * i) (put_now 0) ⊎ IsRootSatisfied m t.entries (get_or W.clauses i no_clause)
   put_short i b s = elim (cases_eq (W.base + 2 * i) p) [
     | inl e ↦ elim (settled i e s) [
       | inl z ↦ inl (subst (λ q. IsIn q (put_now 0)) (sym e) (subst (λ j. IsIn p (put_now j)) z put_here))
@@ -278,7 +278,7 @@ module _ (W : Watches) (ys : List Place) (m : Clauses) (t : TrailValue) (paths :
 
   pub put : IsWatching (record W { places = ys }) m t put_now
   put = record {
-    chains = chains_moved W.places ys W.base paths l h p f done rest w.chains f_head h_head heads_apart is r;
+    lists = chains_moved W.places ys W.base paths l h p f done rest w.lists f_head h_head heads_apart is r;
     wide = w.wide;
     even = w.even;
     low = omega (arith, r.long, w.low);

@@ -1,4 +1,4 @@
--- What keeps the watches: literals that come to the trail's end, a cut, an entry that was handled.
+-- The invariant of watch lists is kept by a push, a backtrack, and an entry that was propagated.
 use Rattle.std.proofs.Common.{◌≡◌, ◌≢◌, ℕ, ◌+◌, ◌*◌, ◌-◌, ◌/◌, ◌%◌, ◌<◌, ◌≤◌, inl, inr, true, List, ◌++◌, length, get_or, Some, None, ap, sym, ◌∙◌, subst, arith, Contains, All}
 use Rattle.std.specs.FinMap.{get}
 use Rattle.std.proofs.lemmas.Bool.{cases_eq, cases_lt, false≢true}
@@ -6,20 +6,20 @@ use Rattle.std.proofs.lemmas.List.{get_or-map, length-map}
 use Rattle.dimacs.specs.logic.Literal.{Literal, Clause, IsWithin, negation, index_of}
 use Rattle.dimacs.proofs.LiteralLemmas.{negation-negation, same_or_not}
 use Rattle.clause_arena.specs.declared.reference.Ref.{Ref}
-use Rattle.clause_arena.specs.Clauses.{Clauses, Stands, live_of}
+use Rattle.clause_arena.specs.Clauses.{Clauses, RefersTo, live_of}
 use Rattle.watches.specs.declared.trail.Assigned.{Assigned}
 use Rattle.watches.specs.Trails.{TrailValue, holds, up_to}
-use Rattle.watches.specs.Law.{IsCalm, IsQuiet, live_among}
-use Rattle.watches.specs.Scanning.{numbers}
-use Rattle.watches.specs.inner.Scanning.{IsHere}
-use Rattle.watches.proofs.Swept.{same_clause}
+use Rattle.watches.specs.Law.{NeitherFalseNorUnit, IsFixpoint, live_among}
+use Rattle.watches.specs.ClauseNumbers.{numbers}
+use Rattle.watches.specs.inner.LiveClauses.{IsLiveWithin}
+use Rattle.watches.proofs.ScanLemmas.{same_clause}
 use Rattle.watches.proofs.TrailLemmas.{holds_at}
-use Rattle.watches.specs.inner.Chains.{literal_at, twin, IsIn}
-use Rattle.watches.specs.inner.Watching.{owner, no_clause, past_head, IsGuarded, IsLong, IsWatching}
+use Rattle.watches.specs.inner.WatchLists.{literal_at, twin, IsIn}
+use Rattle.watches.specs.inner.WatchInvariants.{owner, no_clause, past_head, IsGuarded, IsLong, IsWatching}
 use Rattle.watches.proofs.GuardLemmas.{up_to_holds, up_to_kept, guarded_cut}
 use Rattle.watches.proofs.TwinLemmas.{twins_of, owner_twin, long_twin, parity}
-use Rattle.watches.specs.inner.Walking.{IsConsistent, IsSatisfied}
-use Rattle.watches.specs.Ready.{Watches}
+use Rattle.watches.specs.inner.ListWalk.{IsConsistent, IsSatisfied}
+use Rattle.watches.specs.Watches.{Watches}
 
 module _ (W : Watches) (m : Clauses) (t : TrailValue) (paths : ℕ → List ℕ) (w : IsWatching W m t paths) where
   -- literals above a level were taken out
@@ -27,14 +27,14 @@ module _ (W : Watches) (m : Clauses) (t : TrailValue) (paths : ℕ → List ℕ)
       → All (λ e. e.level ≤ level) u.entries → All (λ e. level < e.level) gone → now ≤ W.head → now ≤ length u.entries
       → IsWatching (record W { head = now }) m u paths
   cut u gone level now v e a c l n = record {
-    chains = w.chains;
+    lists = w.lists;
     wide = omega (arith, w.wide);
     even = w.even;
     low = w.low;
     paired = w.paired;
     partly = w.partly;
     named = w.named;
-    here = subst (λ n. All (IsHere m n) W.clauses) (sym v) w.here;
+    here = subst (λ n. All (IsLiveWithin m n) W.clauses) (sym v) w.here;
     front = w.front;
     apart = w.apart;
     home = λ l p b h. w.home l p (subst (λ n. IsWithin n l) v b) h;
@@ -58,7 +58,7 @@ module _ (W : Watches) (m : Clauses) (t : TrailValue) (paths : ℕ → List ℕ)
       → ((p : ℕ) → IsIn p (paths (index_of f)) → up_to t.entries level (literal_at W.places (twin p)) ≡ true)
       → IsWatching (past_head W) m t paths
   advance f level is at l g = record {
-    chains = w.chains;
+    lists = w.lists;
     wide = w.wide;
     even = w.even;
     low = w.low;
@@ -89,7 +89,7 @@ module _ (W : Watches) (m : Clauses) (t : TrailValue) (paths : ℕ → List ℕ)
 
 -- ---- nothing more follows
 module _ (es : List Assigned) (sound : IsConsistent es) (C : Clause) where
-  pub calm_true : (b : Literal) → Contains C b → holds es b ≡ true → IsCalm (holds es) C
+  pub calm_true : (b : Literal) → Contains C b → holds es b ≡ true → NeitherFalseNorUnit (holds es) C
   calm_true b i h = (
     λ f. sound b h (f b i),
     λ l u. elim (same_or_not b l) [
@@ -98,7 +98,7 @@ module _ (es : List Assigned) (sound : IsConsistent es) (C : Clause) where
     ],
   )
 
-  pub calm_two : (v b : Literal) → Contains C v → Contains C b → v ≢ b → (holds es (negation v) ≡ true → holds es b ≡ true) → (holds es (negation b) ≡ true → holds es v ≡ true) → IsCalm (holds es) C
+  pub calm_two : (v b : Literal) → Contains C v → Contains C b → v ≢ b → (holds es (negation v) ≡ true → holds es b ≡ true) → (holds es (negation b) ≡ true → holds es v ≡ true) → NeitherFalseNorUnit (holds es) C
   calm_two v b i j d g h = (
     λ f. sound b (g (f v i)) (f b j),
     λ l u. elim (same_or_not v l) [
@@ -124,12 +124,12 @@ contains_at C i l b e = (i, b, sym (e l))
 module _ (W : Watches) (m : Clauses) (t : TrailValue) (paths : ℕ → List ℕ) (w : IsWatching W m t paths)
     (sound : IsConsistent t.entries) (done : length t.entries ≤ W.head) (all : length W.places ≡ W.base + 2 * length W.clauses)
     (seen : (p : ℕ) → IsIn p (paths 0) → IsSatisfied m t.entries (owner W p)) where
-  calm_short : (i : ℕ) (C : Clause) → i < length W.clauses → (get_or W.clauses i no_clause).len < 2 → Stands m (get_or W.clauses i no_clause) C → IsCalm (holds t.entries) C
+  calm_short : (i : ℕ) (C : Clause) → i < length W.clauses → (get_or W.clauses i no_clause).len < 2 → RefersTo m (get_or W.clauses i no_clause) C → NeitherFalseNorUnit (holds t.entries) C
   calm_short i C l s st = elim (w.short i (omega arith) s) [
     | inl h ↦
         let half : (W.base + 2 * i - W.base) / 2 ≡ i = omega arith in
         let own : owner W (W.base + 2 * i) ≡ get_or W.clauses i no_clause = ap (λ j. get_or W.clauses j no_clause) half in
-        let b = seen (W.base + 2 * i) h C (subst (λ a. Stands m a C) (sym own) st) in
+        let b = seen (W.base + 2 * i) h C (subst (λ a. RefersTo m a C) (sym own) st) in
         calm_true t.entries sound C b.0 b.1 b.2
     | inr h ↦ let b = h C st in calm_true t.entries sound C b.0 b.1 (up_to_holds t.entries 0 b.0 b.2)
   ]
@@ -137,11 +137,11 @@ module _ (W : Watches) (m : Clauses) (t : TrailValue) (paths : ℕ → List ℕ)
   abbrev Guards : ℕ → Type 0
   Guards p = holds t.entries (negation (literal_at W.places p)) ≡ true → holds t.entries (literal_at W.places (twin p)) ≡ true
 
-  calm_long : (p : ℕ) (C : Clause) → IsLong W p → Stands m (owner W p) C → IsCalm (holds t.entries) C
+  calm_long : (p : ℕ) (C : Clause) → IsLong W p → RefersTo m (owner W p) C → NeitherFalseNorUnit (holds t.entries) C
   calm_long p C h st =
       let tw = twins_of p in
       let g = long_twin W p w.even w.paired h in
-      let st' : Stands m (owner W (twin p)) C = subst (λ a. Stands m a C) (sym (owner_twin W p w.even)) st in
+      let st' : RefersTo m (owner W (twin p)) C = subst (λ a. RefersTo m a C) (sym (owner_twin W p w.even)) st in
       let two : 2 ≤ length C = omega (arith, h.2, st.1) in
       let half : (n : ℕ) → n % 2 < 2 = λ n. elim (parity n) [ inl e ↦ omega arith | inr e ↦ omega arith ] in
       elim (w.kept p h) [
@@ -157,17 +157,17 @@ module _ (W : Watches) (m : Clauses) (t : TrailValue) (paths : ℕ → List ℕ)
         ]
       ]
 
-  pub quiet : IsQuiet (live_among (numbers W.clauses) (live_of m)) t.entries
+  pub quiet : IsFixpoint (live_among (numbers W.clauses) (live_of m)) t.entries
   quiet n C h =
       let i = h.0 in
       let l : i.0 < length W.clauses = omega (arith, i.1, length-map W.clauses (λ (x : Ref). x.number)) in
       let e : (get_or W.clauses i.0 no_clause).number ≡ n = sym (get_or-map (λ (x : Ref). x.number) W.clauses i.0 no_clause n l) ∙ i.2 in
       let s = w.here i.0 no_clause l in
       let same_C : s.0 ≡ C = same_clause m n _ h.1.0 s.0 C (subst (λ x. get m x ≡ Some ((get_or W.clauses i.0 no_clause).place, s.0)) e s.1.0) h.1.1 in
-      let st : Stands m (get_or W.clauses i.0 no_clause) C = subst (Stands m (get_or W.clauses i.0 no_clause)) same_C s.1 in
+      let st : RefersTo m (get_or W.clauses i.0 no_clause) C = subst (RefersTo m (get_or W.clauses i.0 no_clause)) same_C s.1 in
       let half : (W.base + 2 * i.0 - W.base) / 2 ≡ i.0 = omega arith in
       let own : owner W (W.base + 2 * i.0) ≡ get_or W.clauses i.0 no_clause = ap (λ j. get_or W.clauses j no_clause) half in
       elim (cases_lt (get_or W.clauses i.0 no_clause).len 2) [
         | inl b ↦ calm_short i.0 C l b st
-        | inr b ↦ calm_long (W.base + 2 * i.0) C (omega arith, omega arith, subst (λ (a : Ref). 2 ≤ a.len) (sym own) b) (subst (λ a. Stands m a C) (sym own) st)
+        | inr b ↦ calm_long (W.base + 2 * i.0) C (omega arith, omega arith, subst (λ (a : Ref). 2 ≤ a.len) (sym own) b) (subst (λ a. RefersTo m a C) (sym own) st)
       ]

@@ -3,25 +3,25 @@ use Rattle.std.proofs.Common.{◌≡◌, ℕ, List, refl, ap, ◌∙◌, subst}
 use Rattle.clause_arena.specs.declared.reference.Ref.{Ref}
 use Rattle.clause_arena.specs.Clauses.{Clauses, live_of}
 use Rattle.watches.specs.Trails.{TrailValue}
-use Rattle.watches.specs.Law.{Grows, AreSame, live_among}
-use Rattle.watches.specs.Ready.{Watches}
-use Rattle.watches.specs.Scanning.{numbers}
-use Rattle.watches.specs.inner.Watching.{IsRelinked}
-use Rattle.watches.specs.inner.Walking.{IsStep, HasPropagated}
+use Rattle.watches.specs.Law.{Grows, SameUpToOrder, live_among}
+use Rattle.watches.specs.Watches.{Watches}
+use Rattle.watches.specs.ClauseNumbers.{numbers}
+use Rattle.watches.specs.inner.WatchInvariants.{IsRelinked}
+use Rattle.watches.specs.inner.ListWalk.{IsStep, HasPropagated}
 use Rattle.watches.proofs.LawLemmas.{same_trans, grows_before}
-use Rattle.watches.proofs.Swept.{Grows-refl, Grows-trans, AreSame-refl}
+use Rattle.watches.proofs.ScanLemmas.{Grows-refl, Grows-trans, SameUpToOrder-refl}
 
 pub unmoved : (W : Watches) → IsRelinked W W
 unmoved W = record { long = refl; rest = refl }
 
 pub no_step : (W : Watches) (m : Clauses) (t : TrailValue) → IsStep W W m m t t
-no_step W m t = record { rest = unmoved W; grows = Grows-refl (live_among (numbers W.clauses) (live_of m)) t; same = AreSame-refl m }
+no_step W m t = record { rest = unmoved W; grows = Grows-refl (live_among (numbers W.clauses) (live_of m)) t; same = SameUpToOrder-refl m }
 
 -- only places were relinked
 pub relinks_step : (U V : Watches) (m : Clauses) (t : TrailValue) → IsRelinked U V → IsStep U V m m t t
-relinks_step U V m t r = record { rest = r; grows = Grows-refl (live_among (numbers U.clauses) (live_of m)) t; same = AreSame-refl m }
+relinks_step U V m t r = record { rest = r; grows = Grows-refl (live_among (numbers U.clauses) (live_of m)) t; same = SameUpToOrder-refl m }
 
-grows_on : (U V : Watches) (m n : Clauses) (t u v : TrailValue) → V.clauses ≡ U.clauses → AreSame m n → Grows (live_among (numbers U.clauses) (live_of m)) t u → Grows (live_among (numbers V.clauses) (live_of n)) u v
+grows_on : (U V : Watches) (m n : Clauses) (t u v : TrailValue) → V.clauses ≡ U.clauses → SameUpToOrder m n → Grows (live_among (numbers U.clauses) (live_of m)) t u → Grows (live_among (numbers V.clauses) (live_of n)) u v
     → Grows (live_among (numbers U.clauses) (live_of m)) t v
 grows_on U V m n t u v e s g h =
     Grows-trans (live_among (numbers U.clauses) (live_of m)) t u v g
@@ -38,9 +38,9 @@ steps_on U V W m n k t u v a b = record {
 }
 
 pub no_work : (W : Watches) (m : Clauses) (t : TrailValue) → HasPropagated W W m m t t
-no_work W m t = record { long = refl; rest = refl; grows = Grows-refl (live_among (numbers W.clauses) (live_of m)) t; same = AreSame-refl m }
+no_work W m t = record { long = refl; rest = refl; grows = Grows-refl (live_among (numbers W.clauses) (live_of m)) t; same = SameUpToOrder-refl m }
 
--- a step, behind which `head` literals of the trail are worked through
+-- a step, after which `head` literals of the trail are worked through
 pub works_on : (U V W : Watches) (head : ℕ) (m n k : Clauses) (t u v : TrailValue) → HasPropagated U V m n t u → IsStep V W n k u v → HasPropagated U (record W { head = head }) m k t v
 works_on U V W head m n k t u v a b = record {
   long = b.rest.long ∙ a.long;

@@ -1,4 +1,4 @@
--- A clause whose literals changed places.
+-- A clause after two of its literals were swapped.
 use Rattle.std.proofs.Common.{◌≡◌, ◌≢◌, ℕ, ◌<◌, inl, inr, length, get_or, swap, refl, ap, sym, ◌∙◌, subst, arith, Contains, All}
 use Rattle.std.specs.List.{IsDistinct}
 use Rattle.std.proofs.lemmas.Bool.{cases_eq, cases_order, false≢true}

@@ -1,4 +1,4 @@
--- The tables of a trail: pushing an entry, taking out the last, and reading.
+-- The tables of a trail: push, pop and read.
 use Rattle.std.proofs.Common.{zero, suc, ◌≡◌, ◌≢◌, ℕ, ◌+◌, ◌*◌, ◌<◌, ◌≤◌, ◌⊎◌, inl, inr, Bool, true, false, cond, eqb, ◌||◌, List, [], ◌∷◌, ◌++◌, length, get_or, set, None, refl, ap, sym, ◌∙◌, subst, arith, length-append, zero-le, suc-le-suc}
 use Rattle.std.specs.List.{list_any, IsDistinct, All, AllByRecursion}
 use Rattle.std.proofs.lemmas.List.Folds.{list_any-append, list_any_none}
@@ -15,7 +15,7 @@ use Rattle.watches.specs.declared.trail.Assigned.{Assigned}
 use Rattle.watches.specs.declared.truth.Truth.{Truth}
 use Rattle.watches.specs.declared.truth.Truth.TheVariants.{Free, True, False}
 use Rattle.watches.specs.Trails.{holds, IsTruth, variables}
-use Rattle.watches.specs.inner.Tables.{truth_of}
+use Rattle.watches.specs.inner.TrailTables.{truth_of}
 
 -- ---- what a trail holds
 or_false : (a b : Bool) → (a || b) ≡ false → (a ≡ false) × (b ≡ false)

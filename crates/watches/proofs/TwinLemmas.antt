@@ -1,13 +1,13 @@
--- The two places of a clause.
+-- The two watches of a clause: neighbouring places, one even and one odd.
 use Rattle.std.proofs.Common.{◌≡◌, ◌≢◌, ℕ, zero, suc, ◌+◌, ◌-◌, ◌/◌, ◌%◌, ◌<◌, ◌≤◌, ◌⊎◌, inl, inr, cond, length, get_or, ap, sym, ◌∙◌, subst, arith}
 use Rattle.std.specs.Int.{bit_at}
 use Rattle.std.specs.Int.RustNames.{bit_xor}
 use Rattle.std.proofs.lemmas.Bool.{cases_eq, ne_eqb, eq-eqb}
 use Rattle.std.proofs.lemmas.Nat.Bits.{same_from_bits, bit_at_xor, bit_at_lowest, bit_at-suc, bit_at-zero, bit_at-lt}
 use Rattle.clause_arena.specs.declared.reference.Ref.{Ref}
-use Rattle.watches.specs.Ready.{Watches}
-use Rattle.watches.specs.inner.Chains.{twin}
-use Rattle.watches.specs.inner.Watching.{owner, no_clause, IsLong}
+use Rattle.watches.specs.Watches.{Watches}
+use Rattle.watches.specs.inner.WatchLists.{twin}
+use Rattle.watches.specs.inner.WatchInvariants.{owner, no_clause, IsLong}
 
 pub twin_even : (p : ℕ) → p % 2 ≡ 0 → twin p ≡ p + 1
 twin_even p e = ap (λ b. cond b (p + 1) (p - 1)) (eq-eqb (p % 2) 0 e)

@@ -1,10 +1,10 @@
--- The clauses without one.
+-- The clauses without the one of a number.
 use Rattle.std.proofs.Common.{◌≡◌, ℕ, ◌⊎◌, inl, inr, Bool, true, false, not, cond, eqb, List, [], ◌∷◌, refl, sym, ◌∙◌, ap, subst}
 use Rattle.std.specs.List.{Contains, filter}
 use Rattle.std.proofs.lemmas.Bool.{ne_eqb, eqb-false, not-true}
 use Rattle.clause_arena.specs.declared.reference.Ref.{Ref}
 use Rattle.watches.specs.Law.{AreWithout}
-use Rattle.watches.specs.Scanning.{numbers}
+use Rattle.watches.specs.ClauseNumbers.{numbers}
 use Rattle.dimacs.proofs.Members.{Contains-head, Contains-cons, Contains-cons_cases, Contains-nil}
 
 abbrev pub without : List Ref → ℕ → List Ref

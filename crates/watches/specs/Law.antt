@@ -1,5 +1,5 @@
--- What propagation of units may do, and what it owes: over a relation from the numbers of clauses to clauses, so that the
--- trail, the trail cut to a level, a checker and an arena speak of the same things (Handbook of Satisfiability, chapter 4).
+-- The law of unit propagation (Handbook of Satisfiability, chapter 4). It is over a relation from numbers to clauses, so that it fits a
+-- trail, a trail cut to a level, a checker and an arena.
 use Rattle.std.specs.Prelude.{◌≡◌, ◌≢◌, ℕ, List, [], ◌∷◌, ◌++◌, Some, None, Contains, ◌↔◌, length, map}
 use Rattle.dimacs.specs.logic.Literal.{Literal, Clause}
 use Rattle.dimacs.specs.logic.ClauseMap.{Live}
@@ -10,18 +10,18 @@ use Rattle.watches.specs.declared.trail.Assigned.{Assigned}
 use Rattle.watches.specs.Trails.{TrailValue, holds, present}
 
 -- a clause that is neither false nor unit
-abbrev pub IsCalm : Assumed → Clause → Type 0
-IsCalm α C = ¬ (IsFalse α C) × ((l : Literal) → ¬ (IsUnit α C l))
+abbrev pub NeitherFalseNorUnit : Assumed → Clause → Type 0
+NeitherFalseNorUnit α C = ¬ (IsFalse α C) × ((l : Literal) → ¬ (IsUnit α C l))
 
 -- no live clause is false or unit
-abbrev pub AllCalm : Live → Assumed → Type 0
-AllCalm live α = (n : ℕ) (C : Clause) → live n C → IsCalm α C
+abbrev pub NoneFalseOrUnit : Live → Assumed → Type 0
+NoneFalseOrUnit live α = (n : ℕ) (C : Clause) → live n C → NeitherFalseNorUnit α C
 
 -- the live clauses among some numbers
 abbrev pub live_among : List ℕ → Live → Live
 live_among attached live = λ n C. Contains attached n × live n C
 
--- the entry's reason is a live clause, which was unit with the entry's literal when it came, at the level then present
+-- the entry's reason is a live clause that was unit with its literal when it was pushed, at the level that was present then
 pub record IsImplied (live : Live) (entries : List Assigned) (e : Assigned) : Type 0 where
   pub number : ℕ
   pub clause : Clause
@@ -30,23 +30,23 @@ pub record IsImplied (live : Live) (entries : List Assigned) (e : Assigned) : Ty
   pub unit : IsUnit (holds entries) clause e.literal
   pub level : e.level ≡ present entries
 
--- entries that came behind others, each implied when it came
+-- `more` was pushed on `entries`, each entry implied when it was pushed
 abbrev pub AreImplied : Live → List Assigned → List Assigned → Type 0
 AreImplied live entries [] = Unit {0}
 AreImplied live entries (e ∷ more) = IsImplied live entries e × AreImplied live (entries ++ e ∷ []) more
 
--- a trail that grew at its end, by what live clauses imply
+-- the new trail is the old one and entries that live clauses imply
 pub record Grows (live : Live) (old new : TrailValue) : Type 0 where
   pub vars : new.vars ≡ old.vars
   pub more : List Assigned
   pub entries : new.entries ≡ old.entries ++ more
   pub implied : AreImplied live old.entries more
 
--- under the trail no live clause is false or unit
-abbrev pub IsQuiet : Live → List Assigned → Type 0
-IsQuiet live entries = AllCalm live (holds entries)
+-- a fixpoint of unit propagation: under the trail no live clause is false or unit
+abbrev pub IsFixpoint : Live → List Assigned → Type 0
+IsFixpoint live entries = NoneFalseOrUnit live (holds entries)
 
--- under the trail a live clause of this number is false
+-- a conflict: under the trail a live clause of this number is false
 abbrev pub IsConflict : Live → List Assigned → ℕ → Type 0
 IsConflict live entries n = (C : Clause) × live n C × IsFalse (holds entries) C
 
@@ -55,24 +55,24 @@ pub record IsReordered (C D : Clause) : Type 0 where
   pub len : length D ≡ length C
   pub literals : (l : Literal) → Contains C l ↔ Contains D l
 
--- the same numbers, but one
+-- the same numbers except n
 abbrev pub AreWithout : List ℕ → ℕ → List ℕ → Type 0
 AreWithout old n new = (k : ℕ) → Contains new k ↔ (Contains old k × (k ≢ n))
 
 -- the same clauses at the same places, each perhaps in another order
-pub record AreSame (old new : Clauses) : Type 0 where
+pub record SameUpToOrder (old new : Clauses) : Type 0 where
   pub there : (n p : ℕ) (C : Clause) → get old n ≡ Some (p, C) → (D : Clause) × (get new n ≡ Some (p, D)) × IsReordered C D
   pub none : (n : ℕ) → get old n ≡ None → get new n ≡ None
 
--- an entry but for its reason
+-- an entry without its reason
 abbrev pub bare : Assigned → Assigned
 bare e = record e { reason = None }
 
 -- the same literals at the same levels, perhaps for other reasons
-abbrev pub AreAlike : List Assigned → List Assigned → Type 0
-AreAlike old new = map bare new ≡ map bare old
+abbrev pub SameUpToReasons : List Assigned → List Assigned → Type 0
+SameUpToReasons old new = map bare new ≡ map bare old
 
--- the entry of a literal has the clause of a number for its reason, and all else is as it was
+-- the reason of a literal's entry is changed to the clause of a number, and nothing else
 pub record IsExplained (old new : List Assigned) (l : Literal) (number : ℕ) : Type 0 where
   pub front : List Assigned
   pub entry : Assigned

@@ -1,6 +1,6 @@
 pub mod Status
 pub mod Law
-pub mod Ready
-pub mod Scanning
+pub mod Watches
+pub mod ClauseNumbers
 pub mod Trails
 pub mod inner

@@ -1,4 +1,4 @@
--- What one clause is under a trail.
+-- The status of one clause under a trail.
 use Rattle.std.specs.Prelude.{List}
 use Rattle.dimacs.specs.logic.Literal.{Clause}
 use Rattle.dimacs.specs.logic.Propagation.{IsFalse, IsUnit}
@@ -6,10 +6,10 @@ use Rattle.watches.specs.declared.trail.Assigned.{Assigned}
 use Rattle.watches.specs.declared.status.Status.{Status}
 use Rattle.watches.specs.declared.status.Status.TheVariants as status
 use Rattle.watches.specs.Trails.{holds}
-use Rattle.watches.specs.Law.{IsCalm}
+use Rattle.watches.specs.Law.{NeitherFalseNorUnit}
 
--- what a clause is under these entries
+-- the status of a clause under these entries
 abbrev pub HasStatus : List Assigned → Clause → Status → Type 0
 HasStatus entries C status.False = IsFalse (holds entries) C
 HasStatus entries C (status.Unit l) = IsUnit (holds entries) C l
-HasStatus entries C status.Other = IsCalm (holds entries) C
+HasStatus entries C status.Other = NeitherFalseNorUnit (holds entries) C

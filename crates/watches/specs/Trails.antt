@@ -7,7 +7,7 @@ use Rattle.watches.specs.declared.trail.Assigned.{Assigned}
 use Rattle.watches.specs.declared.truth.Truth.{Truth}
 use Rattle.watches.specs.declared.truth.Truth.TheVariants.{Free, True, False}
 
--- the literals that are true, of the variables from 1 to vars, in the order in which they came
+-- the value of a trail: the literals that are true, of the variables from 1 to vars, in the order in which they became true
 pub record TrailValue : Type 0 where
   pub vars : ℕ
   pub entries : List Assigned
@@ -26,16 +26,16 @@ pub record IsTrailValue (t : TrailValue) : Type 0 where
 abbrev pub holds : List Assigned → Assumed
 holds entries = λ l. list_any (λ e. same e.literal l) entries
 
--- whether a literal is there with a level of at most k: the trail cut to that level
+-- whether a literal is on the trail with a level of at most k: what is true after a backtrack to that level
 abbrev pub up_to : List Assigned → ℕ → Assumed
 up_to entries k = λ l. list_any (λ e. same e.literal l && nat_le e.level k) entries
 
--- the present level: the greatest there is, 0 where there is none
+-- the present decision level: the greatest level of an entry, 0 if there is none
 abbrev pub present : List Assigned → ℕ
 present [] = 0
 present (e ∷ entries) = max e.level (present entries)
 
--- what a truth value says of a literal: whether it is on the trail, and whether its negation is
+-- the truth value of a literal: true if it is on the trail, false if its negation is, free if neither is
 abbrev pub IsTruth : List Assigned → Literal → Truth → Type 0
 IsTruth entries l True = (holds entries l ≡ true) × (holds entries (negation l) ≡ false)
 IsTruth entries l False = (holds entries l ≡ false) × (holds entries (negation l) ≡ true)

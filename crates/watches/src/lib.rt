@@ -1,12 +1,12 @@
-//! Propagation of units: the trail of a search, and the law of whatever puts literals on it.
+//! Unit propagation: the trail of a search, and the trait `Propagator`.
 //!
-//! The trail has literals in the order in which they became true, each with its level and the clause that implied it. A
-//! `Propagator` finds the units among the clauses of an arena; its law is written once, in the trait. `Watched`
-//! watches two literals of each clause, `Scan` tests every clause.
-//! The layer above may rest on the contracts alone: the tables beside the entries do not show.
+//! The trail has the literals that are true, in the order in which they were assigned, each with its decision level and its reason: the
+//! number of the clause that implied it. A `Propagator` finds unit clauses among the clauses of an arena; its law is written once, in
+//! the trait. `Watched` watches two literals of each clause; `Scan` tests every clause, and is the model that tests compare with.
+//! The layer above may rest on the contracts alone, which do not show the tables of the trail and of the propagators.
 #![tactic(auto)]
 
-mod moving;
+mod moved_refs;
 mod propagator;
 mod scan;
 mod status;

@@ -1,15 +1,15 @@
-//! The plain propagator: it tests every clause until nothing changes.
+//! The plain propagator, without watches: it tests every clause until nothing changes.
 
 ghost use Rattle.std.specs.Prelude.{◌≡◌, ◌≢◌, ℕ, ◌+◌, ◌<◌, ◌≤◌, List, [], length, All, Contains, IfSome, IfNone};
 ghost use Rattle.clause_arena.specs.Clauses.{Clauses, live_of};
 ghost use Rattle.clause_arena.specs.declared.reference.Ref.{Ref};
 ghost use Rattle.watches.specs.Trails.{TrailValue};
-ghost use Rattle.watches.specs.Law.{Grows, IsQuiet, IsConflict, live_among};
-ghost use Rattle.watches.specs.Scanning.{numbers};
-ghost use Rattle.watches.specs.inner.Scanning.{IsHere};
+ghost use Rattle.watches.specs.Law.{Grows, IsFixpoint, IsConflict, live_among};
+ghost use Rattle.watches.specs.ClauseNumbers.{numbers};
+ghost use Rattle.watches.specs.inner.LiveClauses.{IsLiveWithin};
 ghost use Rattle.watches.specs.inner.ScanLaws.{here_pushed, here_elsewhere};
 
-use crate::moving::follow_all;
+use crate::moved_refs::update_refs;
 use crate::propagator::Propagator;
 use crate::status::{Status, test_clause};
 use crate::trail::{Assigned, Trail};
@@ -17,12 +17,12 @@ use clause_arena::{Arena, Ref};
 use std::alloc::{AllocError, Global};
 use std::marker::Model;
 
-/// Tests each clause once, and stops at one that is false. Where nothing comes to the trail, none is unit.
+/// Tests each clause once, pushes the units, and stops at a false clause. If it pushes nothing, no clause was unit.
 fn sweep(clauses: &[Ref], arena: &Arena, trail: &mut Trail) -> Option<u64>
-    requires { All (IsHere arena.now trail.old.vars) clauses.now }
+    requires { All (IsLiveWithin arena.now trail.old.vars) clauses.now }
     ensures trail { Grows (live_among (numbers clauses.now) (live_of arena.now)) trail.old trail.new }
     ensures conflict { IfSome result (IsConflict (live_among (numbers clauses.now) (live_of arena.now)) trail.new.entries) }
-    ensures quiet { IfNone result (length trail.new.entries ≡ length trail.old.entries → IsQuiet (live_among (numbers clauses.now) (live_of arena.now)) trail.new.entries) }
+    ensures quiet { IfNone result (length trail.new.entries ≡ length trail.old.entries → IsFixpoint (live_among (numbers clauses.now) (live_of arena.now)) trail.new.entries) }
 {
     for &at in clauses {
         match test_clause(arena.clause(at), trail) {
@@ -38,12 +38,12 @@ fn sweep(clauses: &[Ref], arena: &Arena, trail: &mut Trail) -> Option<u64>
     None
 }
 
-/// Sweeps until a clause is false, or nothing comes to the trail.
+/// Sweeps until a clause is false, or a sweep pushes nothing.
 fn sweep_all(clauses: &[Ref], arena: &Arena, trail: &mut Trail) -> Option<u64>
-    requires { All (IsHere arena.now trail.old.vars) clauses.now }
+    requires { All (IsLiveWithin arena.now trail.old.vars) clauses.now }
     ensures trail { Grows (live_among (numbers clauses.now) (live_of arena.now)) trail.old trail.new }
     ensures conflict { IfSome result (IsConflict (live_among (numbers clauses.now) (live_of arena.now)) trail.new.entries) }
-    ensures quiet { IfNone result (IsQuiet (live_among (numbers clauses.now) (live_of arena.now)) trail.new.entries) }
+    ensures quiet { IfNone result (IsFixpoint (live_among (numbers clauses.now) (live_of arena.now)) trail.new.entries) }
 {
     loop {
         let before = trail.len();
@@ -58,7 +58,7 @@ fn sweep_all(clauses: &[Ref], arena: &Arena, trail: &mut Trail) -> Option<u64>
     }
 }
 
-/// Tests every clause until nothing changes.
+/// The attached clauses, which `propagate` tests one after the other.
 #[derive(Drop)]
 pub struct Scan {
     clauses: Vec<Ref>,
@@ -84,7 +84,7 @@ impl Scan {
 impl Propagator for Scan {
     ghost attached = { λ s. numbers s };
 
-    ghost is_ready = { λ s m t. All (IsHere m t.vars) s };
+    ghost is_ready = { λ s m t. All (IsLiveWithin m t.vars) s };
 
     ghost pushed = { λ p m t u more h e f. here_pushed m t u p h e };
 
@@ -112,7 +112,7 @@ impl Propagator for Scan {
     }
 
     fn moved(&mut self, moves: &[(Ref, Ref)]) {
-        follow_all(&mut self.clauses, moves);
+        update_refs(&mut self.clauses, moves);
     }
 
     fn undo(&mut self, trail: &mut Trail, level: u32) {

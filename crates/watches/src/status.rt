@@ -1,4 +1,4 @@
-//! The test of one clause.
+//! The status of one clause under a trail.
 
 ghost use Rattle.std.specs.Prelude.{◌≡◌, All};
 ghost use Rattle.dimacs.specs.logic.Literal.{IsWithin};
@@ -8,7 +8,7 @@ use crate::trail::Trail;
 use crate::truth::Truth;
 use dimacs::Lit;
 
-/// What a clause is under a trail: false, unit with a literal, or neither.
+/// The status of a clause under a trail: false, unit with a literal, or neither.
 #[derive(Clone, Copy, Debug, PartialEq, Eq)]
 pub enum Status {
     False,
@@ -16,7 +16,7 @@ pub enum Status {
     Other,
 }
 
-/// Tests a clause under a trail.
+/// The status of a clause. A clause with a true literal is `Other`.
 pub fn test_clause(literals: &[Lit], trail: &Trail) -> Status
     requires { All (IsWithin trail.now.vars) literals.now }
     ensures { HasStatus trail.now.entries literals.now result }

@@ -1,4 +1,4 @@
-//! The trail: literals in the order in which they became true.
+//! The trail: the assigned literals, in the order in which they became true.
 
 ghost use Rattle.std.specs.Prelude.{◌≡◌, ℕ, ◌+◌, ◌-◌, ◌<◌, ◌≤◌, true, false, List, [], ◌∷◌, ◌++◌, length, All, Contains, IfOk, slice_index_or};
 ghost use Rattle.dimacs.specs.logic.Literal.{Literal, IsWithin, negation};
@@ -11,7 +11,8 @@ use dimacs::Lit;
 use std::alloc::{AllocError, Global};
 use std::marker::Model;
 
-/// A literal of the trail, with its level, and the number of the clause that implied it: none where it was decided.
+/// An entry of the trail: a literal, its decision level, and its reason, which is the number of the clause that implied it; None if it
+/// was decided.
 #[derive(Clone, Copy, Debug, PartialEq, Eq)]
 pub struct Assigned {
     pub literal: Lit,
@@ -19,9 +20,9 @@ pub struct Assigned {
     pub reason: Option<u64>,
 }
 
-/// Literals in the order in which they became true, no two of one variable. Only `new` takes memory.
+/// The literals that are true, in the order in which they became true, no two of one variable. Only `new` takes memory.
 ///
-/// `values` has the truth of each literal at its index, and `places` the place of a variable's entry.
+/// `values` has the truth of each literal, by `Lit::index`; `places` has the place of each variable's entry, by variable.
 #[derive(Drop)]
 pub struct Trail {
     vars: u32,
@@ -33,7 +34,7 @@ pub struct Trail {
 impl Model for Trail {
     ghost use Rattle.std.specs.Vec.{vec_capacity};
     ghost use Rattle.watches.specs.Trails.{TrailValue};
-    ghost use Rattle.watches.specs.inner.Tables.{IsTrail};
+    ghost use Rattle.watches.specs.inner.TrailTables.{IsTrail};
 
     ghost Value = { TrailValue };
 
@@ -56,7 +57,7 @@ impl Trail {
         })
     }
 
-    /// How many variables there is room for.
+    /// The number of variables, which are those from 1 to `vars`.
     #[inline(always)]
     pub fn vars(&self) -> u32
         ensures { result ≡ self.now.vars }
@@ -64,7 +65,7 @@ impl Trail {
         self.vars
     }
 
-    /// How many literals there are, at most one of each variable.
+    /// The number of entries, at most one of each variable.
     #[inline(always)]
     pub fn len(&self) -> usize
         ensures value { result ≡ length self.now.entries }
@@ -73,7 +74,7 @@ impl Trail {
         self.entries.len()
     }
 
-    /// The literals in the order in which they came, with levels and reasons.
+    /// The entries, in the order in which they were pushed.
     #[inline(always)]
     pub fn entries(&self) -> &[Assigned]
         ensures entries { result.now ≡ self.now.entries }
@@ -82,7 +83,7 @@ impl Trail {
         &self.entries
     }
 
-    /// Whether a literal is true or false, or neither.
+    /// Whether a literal is true, false or unassigned.
     #[inline(always)]
     pub fn value(&self, literal: Lit) -> Truth
         requires { IsWithin self.now.vars literal }
@@ -92,7 +93,7 @@ impl Trail {
         self.values[row]
     }
 
-    /// The place of the entry of a literal of the trail.
+    /// The place in `entries` of a literal that is true.
     #[inline(always)]
     pub fn place_of(&self, literal: Lit) -> usize
         requires { holds self.now.entries literal ≡ true }
@@ -103,7 +104,7 @@ impl Trail {
         place as usize
     }
 
-    /// The entry of a literal of the trail.
+    /// The entry of a literal that is true.
     #[inline(always)]
     pub fn entry_of(&self, literal: Lit) -> Assigned
         requires { holds self.now.entries literal ≡ true }
@@ -113,7 +114,7 @@ impl Trail {
         self.entries[self.place_of(literal)]
     }
 
-    /// Puts a literal that is neither true nor false at the end, at no lower level than those before it. It takes no memory.
+    /// Pushes an entry of an unassigned literal, at no lower level than those before it. It takes no memory.
     #[inline(always)]
     pub fn push(&mut self, entry: Assigned)
         requires within { IsWithin self.old.vars entry.literal }
@@ -131,7 +132,7 @@ impl Trail {
         self.values[literal.negate().index()] = Truth::False;
     }
 
-    /// The present level: the greatest there is, that of the last literal; 0 where there is none.
+    /// The present decision level: that of the last entry, which is the greatest; 0 if the trail is empty.
     #[inline(always)]
     pub fn level(&self) -> u32
         ensures present { result ≡ present self.now.entries }
@@ -145,7 +146,7 @@ impl Trail {
         }
     }
 
-    /// Gives the entry of a literal of the trail the clause of a number for its reason. It takes no memory.
+    /// Changes the reason of a literal that is true to the clause of a number. It takes no memory.
     pub fn explain(&mut self, literal: Lit, number: u64)
         requires { holds self.old.entries literal ≡ true }
         ensures vars { self.new.vars ≡ self.old.vars }
@@ -160,7 +161,7 @@ impl Trail {
         };
     }
 
-    /// Takes out exactly the literals above a level, and takes no memory.
+    /// Removes exactly the entries above a level. It takes no memory.
     pub fn cut(&mut self, level: u32)
         ensures vars { self.new.vars ≡ self.old.vars }
         ensures front { (gone : List Assigned) × (self.old.entries ≡ self.new.entries ++ gone) × All (λ e. level < e.level) gone }
@@ -171,7 +172,7 @@ impl Trail {
         }
     }
 
-    /// Takes out the last literal.
+    /// Removes the last entry.
     fn pop(&mut self)
         requires { 0 < length self.old.entries }
         ensures vars { self.new.vars ≡ self.old.vars }

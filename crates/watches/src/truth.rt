@@ -1,6 +1,6 @@
-//! What is known of a literal.
+//! Truth values.
 
-/// What a trail says of a literal.
+/// The value of a literal under a trail; `Free` is unassigned.
 #[derive(Clone, Copy, Debug, PartialEq, Eq)]
 pub enum Truth {
     Free,

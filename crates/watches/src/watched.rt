@@ -1,72 +1,72 @@
-//! Two watched literals a clause (Moskewicz, Madigan, Zhao, Zhang and Malik 2001).
+//! Propagation by two watched literals a clause (Moskewicz, Madigan, Zhao, Zhang and Malik 2001).
 //!
-//! Each attached clause owns two places that lie side by side in one store, each with the literal that it watches and the next
-//! place of its chain. The heads of the chains stand at the front of the store: one for each literal, one for the places that
-//! wait to be looked at, one for those that need no look any more. So a watch moves by three stores and nothing grows, and
-//! the clause's other watched literal is at hand: where it is true, the clause is not read.
+//! Watch lists are linked lists through one vector of watches. Each attached clause owns two watches side by side in it; a watch has its
+//! literal and the place of the next watch of its list. The heads of the lists are the first places of the vector: a watch list for each
+//! literal, the pending list of watches that are still to be visited, and the list of retired watches, which need no visit any more.
+//!
+//! Why linked lists: a watch moves to another list by three writes, so that `propagate` takes no memory. And the clause's other watched
+//! literal is in the neighbouring place, where other solvers keep a blocking literal: if it is true, the clause is not read.
 
 ghost use Rattle.std.specs.Prelude.{◌≡◌, ◌+◌, ◌*◌, ◌<◌, []};
-ghost use Rattle.watches.specs.Scanning.{numbers};
+ghost use Rattle.watches.specs.ClauseNumbers.{numbers};
 ghost use Rattle.watches.specs.inner.Ready.{IsReady};
 ghost use Rattle.watches.specs.inner.ReadyLaws.{ready_pushed, ready_explained, ready_elsewhere};
 
-mod chains;
+mod detached;
+mod list_walk;
 mod lookup;
-mod ordering;
-mod places;
+mod pending;
 mod propagation;
-mod renewal;
+mod rebuild;
 mod replacement;
-mod starts;
-mod sweeping;
+mod saved_positions;
 mod visit;
-mod wake;
-mod walk;
+mod watch;
+mod watch_choice;
+mod watch_lists;
 
-use crate::moving::follow_all;
+use crate::moved_refs::update_refs;
 use crate::propagator::Propagator;
 use crate::trail::Trail;
-use crate::watched::chains::Chains;
 use crate::watched::lookup::find_clause;
-use crate::watched::ordering::put_best_first;
-use crate::watched::places::append;
-use crate::watched::renewal::{first_two, put_heads};
+use crate::watched::rebuild::{first_two, put_heads};
+use crate::watched::watch::append;
+use crate::watched::watch_choice::put_best_first;
+use crate::watched::watch_lists::WatchLists;
 use clause_arena::{Arena, Ref};
 use std::alloc::{AllocError, Global};
 use std::marker::Model;
 
-/// Up to this variable the heads of the chains have numbers of 32 bits.
+/// The greatest number of variables, so that the places of heads fit in 32 bits.
 const MOST_VARS: u32 = 2_147_483_647;
 
-/// Behind this many places there are numbers of 32 bits for two more.
+/// The greatest length of the vector of watches at which two more still have places of 32 bits.
 const MOST_PLACES: usize = 4_294_967_294;
 
-/// Watches two literals of each clause, and looks at the clause only where one of them becomes false. The look for another literal
-/// to watch begins at the clause's place in `starts`, where its last one ended.
+/// Watches two literals of each clause, and visits the clause only when one of them becomes false. The search for another literal to
+/// watch begins at the clause's saved position, where the last search ended.
 ///
-/// A clause that is detached is only marked, in `live`; the next `propagate` takes out all that are marked in one sweep, and makes the
-/// chains anew.
+/// Detaching is lazy: it marks the clause as not live, and the next `propagate` removes all marked clauses and rebuilds the watch lists.
 pub struct Watched {
-    chains: Chains,
+    lists: WatchLists,
     live: Vec<bool>,
 }
 
-// By hand, so that whoever owns one drops it by one call, and no proof there goes through its parts.
 impl Drop for Watched {
     fn drop(self) {
-        let Watched { chains: _, live: _ } = self;
+        let Watched { lists: _, live: _ } = self;
     }
 }
 
 impl Model for Watched {
-    ghost use Rattle.watches.specs.Ready.{Watches, attached_of};
+    ghost use Rattle.watches.specs.Watches.{Watches, attached_of};
     ghost use Rattle.watches.specs.inner.Ready.{AreWatches};
 
     ghost Value = { Watches };
 
-    ghost view = { λ w. record { places = w.chains.places.items; clauses = attached_of w.chains.clauses.items w.live.items; base = w.chains.base; head = w.chains.head; stale = w.chains.stale } };
+    ghost view = { λ w. record { places = w.lists.places.items; clauses = attached_of w.lists.clauses.items w.live.items; base = w.lists.base; head = w.lists.head; stale = w.lists.stale } };
 
-    ghost invariant = { λ w. AreWatches w.chains.places.items w.chains.clauses.items w.live.items w.chains.base w.chains.stale };
+    ghost invariant = { λ w. AreWatches w.lists.places.items w.lists.clauses.items w.live.items w.lists.base w.lists.stale };
 }
 
 impl Watched {
@@ -75,10 +75,10 @@ impl Watched {
         ensures { numbers result.clauses ≡ [] }
     {
         Watched {
-            chains: Chains {
+            lists: WatchLists {
                 places: Vec::new(alloc),
                 clauses: Vec::new(alloc),
-                starts: Vec::new(alloc),
+                positions: Vec::new(alloc),
                 base: 0,
                 head: 0,
                 stale: false,
@@ -104,62 +104,62 @@ impl Propagator for Watched {
             return Err(AllocError);
         }
         let base = 2 * (vars as usize) + 2;
-        let alloc = *self.chains.places.allocator();
+        let alloc = *self.lists.places.allocator();
         let mut places = Vec::with_capacity(alloc, base)?;
         put_heads(&mut places, base);
-        self.chains.places = places;
-        self.chains.clauses.clear();
+        self.lists.places = places;
+        self.lists.clauses.clear();
         self.live.clear();
-        self.chains.starts.clear();
-        self.chains.base = base;
-        self.chains.head = 0;
-        self.chains.stale = false;
+        self.lists.positions.clear();
+        self.lists.base = base;
+        self.lists.head = 0;
+        self.lists.stale = false;
         Ok(())
     }
 
     fn attach(&mut self, arena: &mut Arena, trail: &Trail, at: Ref) -> Result<(), AllocError> {
-        if self.chains.places.len() > MOST_PLACES {
+        if self.lists.places.len() > MOST_PLACES {
             return Err(AllocError);
         }
-        self.chains.clauses.reserve(1)?;
+        self.lists.clauses.reserve(1)?;
         self.live.reserve(1)?;
-        self.chains.places.reserve(2)?;
-        self.chains.starts.reserve(1)?;
+        self.lists.places.reserve(2)?;
+        self.lists.positions.reserve(1)?;
         put_best_first(arena, trail, at);
         let pair = first_two(arena.clause(at));
-        self.chains.clauses.push_reserved(at);
+        self.lists.clauses.push_reserved(at);
         self.live.push_reserved(true);
-        self.chains.starts.push_reserved(0);
-        append(&mut self.chains.places, pair.one, pair.two);
+        self.lists.positions.push_reserved(0);
+        append(&mut self.lists.places, pair.one, pair.two);
         Ok(())
     }
 
     fn detach(&mut self, _arena: &Arena, at: Ref) {
-        if let Some(i) = find_clause(&self.chains.clauses, &self.live, at.number()) {
+        if let Some(i) = find_clause(&self.lists.clauses, &self.live, at.number()) {
             self.live[i] = false;
-            self.chains.stale = true;
+            self.lists.stale = true;
         }
     }
 
     fn release(&mut self) {
-        let alloc = *self.chains.places.allocator();
+        let alloc = *self.lists.places.allocator();
         *self = Watched::new(alloc);
     }
 
     fn moved(&mut self, moves: &[(Ref, Ref)]) {
-        follow_all(&mut self.chains.clauses, moves);
+        update_refs(&mut self.lists.clauses, moves);
     }
 
     fn undo(&mut self, trail: &mut Trail, level: u32) {
         trail.cut(level);
         let len = trail.len();
-        if len < self.chains.head {
-            self.chains.head = len;
+        if len < self.lists.head {
+            self.lists.head = len;
         }
     }
 
     fn propagate(&mut self, arena: &mut Arena, trail: &mut Trail) -> Option<u64> {
-        self.chains.renew(&mut self.live, arena, trail);
-        self.chains.propagate(arena, trail)
+        self.lists.rebuild(&mut self.live, arena, trail);
+        self.lists.propagate(arena, trail)
     }
 }

@@ -1,4 +1,4 @@
--- What the deliveries to a worker need to show, over plain values.
+-- The rules of delivery to a worker, over plain values.
 use Rattle.std.proofs.Common.{◌≡◌, ℕ, ◌<◌, List, length, Option, Some, None, refl, sym, ap, ◌∙◌, inl, arith}
 use Rattle.std.proofs.lemmas.List.{length-append}
 use Rattle.lrat_check.specs.declared.verdict.Verdict.{Verdict}
@@ -13,8 +13,8 @@ use Rattle.evidence.specs.Jobs.{name_of}
 use Rattle.evidence.specs.declared.job.JobName.{JobName}
 use Rattle.worker_core.specs.declared.candidate.Candidate.{Candidate}
 use Rattle.worker_core.specs.declared.work.Work.TheVariants.{Found}
-use Rattle.worker_core.specs.inner.Collecting.{IsPartOf, longer}
-use Rattle.worker_core.specs.Worker.{WorkerState, DeliversFetch, DeliversPart, DeliversVerdict, Collects, IsNews, IsOfCandidate, candidate_of}
+use Rattle.worker_core.specs.inner.CandidateCheck.{IsNextPartOf, longer}
+use Rattle.worker_core.specs.Worker.{WorkerState, DeliversFetch, DeliversPart, DeliversVerdict, ReceivesEvidence, IsNewVerdict, IsNextPart, candidate_of}
 
 -- ---- a fetch
 
@@ -33,36 +33,36 @@ notes w attempt offset name answer bytes noted work worker incarnation session j
 
 -- ---- a part
 
-fits : (w : WorkerState) (c : Candidate) (session : ℕ) (part : Answer) (offset : ℕ) (bytes : List ℕ) → w.verdict ≡ Nothing → w.candidate ≡ Some c → IsPartOf c session part offset bytes → IsOfCandidate w session part offset bytes c
+fits : (w : WorkerState) (c : Candidate) (session : ℕ) (part : Answer) (offset : ℕ) (bytes : List ℕ) → w.verdict ≡ Nothing → w.candidate ≡ Some c → IsNextPartOf c session part offset bytes → IsNextPart w session part offset bytes c
 fits w c session part offset bytes undecided there is = record { undecided = undecided; there = there; session_is = is.session_is; answer_is = is.answer_is; comes = is.comes }
 
-pub part_waits : (w : WorkerState) (c d : Candidate) (session : ℕ) (part : Answer) (offset : ℕ) (bytes : List ℕ) → w.verdict ≡ Nothing → w.candidate ≡ Some c → IsPartOf c session part offset bytes
+pub part_waits : (w : WorkerState) (c d : Candidate) (session : ℕ) (part : Answer) (offset : ℕ) (bytes : List ℕ) → w.verdict ≡ Nothing → w.candidate ≡ Some c → IsNextPartOf c session part offset bytes
     → d ≡ longer c bytes → ¬ (IsComplete (with_bytes c.evidence bytes)) → DeliversPart w session part offset bytes reaction.Taken (record w { candidate = Some d })
 part_waits w c d session part offset bytes undecided there is same more =
-    DeliversPart.appends c (fits w c session part offset bytes undecided there is) (Collects.waits more refl (ap (λ (k : Candidate). record w { candidate = Some k }) same))
+    DeliversPart.appends c (fits w c session part offset bytes undecided there is) (ReceivesEvidence.waits more refl (ap (λ (k : Candidate). record w { candidate = Some k }) same))
 
 pub part_holds : (w : WorkerState) (c : Candidate) (o : Option Candidate) (v : Verdict) (session : ℕ) (part : Answer) (offset : ℕ) (bytes : List ℕ) → w.verdict ≡ Nothing → w.candidate ≡ Some c
-    → IsPartOf c session part offset bytes → o ≡ None → IsComplete (with_bytes c.evidence bytes) → IsRightEvidence w.formula (answer_of c.evidence.finding) (with_bytes c.evidence bytes).bytes v
+    → IsNextPartOf c session part offset bytes → o ≡ None → IsComplete (with_bytes c.evidence bytes) → IsRightEvidence w.formula (answer_of c.evidence.finding) (with_bytes c.evidence bytes).bytes v
     → DeliversPart w session part offset bytes reaction.Verdict (record w { candidate = o; verdict = v })
 part_holds w c o v session part offset bytes undecided there is gone complete right =
-    DeliversPart.appends c (fits w c session part offset bytes undecided there is) (Collects.holds complete v right refl (ap (λ (k : Option Candidate). record w { candidate = k; verdict = v }) gone))
+    DeliversPart.appends c (fits w c session part offset bytes undecided there is) (ReceivesEvidence.holds complete v right refl (ap (λ (k : Option Candidate). record w { candidate = k; verdict = v }) gone))
 
 pub part_is_wrong : (w : WorkerState) (c : Candidate) (o : Option Candidate) (n : ℕ) (session : ℕ) (part : Answer) (offset : ℕ) (bytes : List ℕ) → w.verdict ≡ Nothing → w.candidate ≡ Some c
-    → IsPartOf c session part offset bytes → o ≡ None → n ≡ answer_number part → IsComplete (with_bytes c.evidence bytes) → IsWrongEvidence w.formula (answer_of c.evidence.finding) (with_bytes c.evidence bytes).bytes
+    → IsNextPartOf c session part offset bytes → o ≡ None → n ≡ answer_number part → IsComplete (with_bytes c.evidence bytes) → IsWrongEvidence w.formula (answer_of c.evidence.finding) (with_bytes c.evidence bytes).bytes
     → DeliversPart w session part offset bytes (reaction.Refused n) (record w { candidate = o })
 part_is_wrong w c o n session part offset bytes undecided there is gone number complete wrong =
     DeliversPart.appends c (fits w c session part offset bytes undecided there is)
-    (Collects.wrong complete wrong (ap (λ (k : ℕ). reaction.Refused k) (number ∙ ap answer_number (sym is.answer_is))) (ap (λ (k : Option Candidate). record w { candidate = k }) gone))
+    (ReceivesEvidence.wrong complete wrong (ap (λ (k : ℕ). reaction.Refused k) (number ∙ ap answer_number (sym is.answer_is))) (ap (λ (k : Option Candidate). record w { candidate = k }) gone))
 
 pub part_no_memory : (w : WorkerState) (c d : Candidate) (session : ℕ) (part : Answer) (offset : ℕ) (bytes : List ℕ) → w.verdict ≡ Nothing → w.candidate ≡ Some c
-    → IsPartOf c session part offset bytes → d ≡ c → 0 < length bytes → DeliversPart w session part offset bytes reaction.NoMemory (record w { candidate = Some d })
+    → IsNextPartOf c session part offset bytes → d ≡ c → 0 < length bytes → DeliversPart w session part offset bytes reaction.NoMemory (record w { candidate = Some d })
 part_no_memory w c d session part offset bytes undecided there is same some =
     DeliversPart.appends c (fits w c session part offset bytes undecided there is)
-    (Collects.no_memory (inl (omega (arith, some, length-append c.evidence.bytes bytes))) refl (ap (λ (k : Option Candidate). record w { candidate = k }) (ap (λ (k : Candidate). Some k) same ∙ sym there)))
+    (ReceivesEvidence.no_memory (inl (omega (arith, some, length-append c.evidence.bytes bytes))) refl (ap (λ (k : Option Candidate). record w { candidate = k }) (ap (λ (k : Candidate). Some k) same ∙ sym there)))
 
 -- ---- a verdict
 
-pub verdict_holds : (w : WorkerState) (session : ℕ) (finding : Finding) (v : Verdict) → IsNews w session → ¬ (HasWrongLength w.formula finding)
+pub verdict_holds : (w : WorkerState) (session : ℕ) (finding : Finding) (v : Verdict) → IsNewVerdict w session → ¬ (HasWrongLength w.formula finding)
     → IsComplete (candidate_of session finding).evidence → IsRightEvidence w.formula (answer_of finding) (candidate_of session finding).evidence.bytes v
     → DeliversVerdict w session finding reaction.Verdict (record w { candidate = None; verdict = v })
-verdict_holds w session finding v news fits complete right = DeliversVerdict.begins news fits (Collects.holds complete v right refl refl)
+verdict_holds w session finding v news fits complete right = DeliversVerdict.begins news fits (ReceivesEvidence.holds complete v right refl refl)

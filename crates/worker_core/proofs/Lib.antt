@@ -1,4 +1,4 @@
-pub mod FollowingLemmas
+pub mod ProofCheckerLemmas
 pub mod DeliveryLemmas
-pub mod WorkingLemmas
-pub mod ExtendingLemmas
+pub mod SearchLemmas
+pub mod AddedClausesLemmas

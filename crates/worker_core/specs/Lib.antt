@@ -1,4 +1,4 @@
-pub mod Extending
+pub mod AddedClauses
 pub mod Laws
 pub mod Worker
 pub mod inner

@@ -1,3 +1,3 @@
 -- What only private contracts, invariants and proofs name. Nothing here is to be believed.
-pub mod Collecting
+pub mod CandidateCheck
 pub mod Invariant

@@ -1,20 +1,20 @@
-//! The worker: it takes tasks and searches, sends what it found, and collects a verdict that the coordinator announced.
+//! The worker: it takes tasks and searches, sends what it found, and receives and checks a verdict that the coordinator announced.
 //!
 //! What a layer above may rest on: each call is one step of the relation `WorkerStep` of `specs/Worker`, the rules of a worker by
-//! cases on what happens; where clauses are added, of `ExtendsWorker` of `specs/Extending`; what a worker holds is right for its formula.
-//! Where a call finds no memory, nothing is changed.
+//! cases on the event; `extend` is a step of `ExtendsWorker` of `specs/AddedClauses`. The verdict of a worker is right for its formula.
+//! A call that answers `NoMemory` changes nothing.
 #![tactic(auto)]
 
+mod added_clauses;
 mod candidate;
-mod collecting;
-mod delivering;
-mod extending;
-mod follower;
+mod candidate_check;
+mod delivery;
 mod laws;
-mod polling;
+mod poll;
+mod proof_checker;
+mod search;
 mod work;
 mod worker;
-mod working;
 
 pub use candidate::Candidate;
 pub use laws::{extended_workers_hold_what_is_right, workers_keep_what_they_hold};

@@ -1,4 +1,4 @@
-//! What a worker has to do, or has to tell.
+//! A worker's work: its pending task, or its kept answer.
 
 ghost use Rattle.std.specs.Prelude.{◌≡◌};
 ghost use Rattle.worker_core.specs.Worker.{without_note};
@@ -7,22 +7,23 @@ use evidence::JobName;
 use frames::{Answer, Cube};
 use packed_text::PackedText;
 
-/// What a worker has to do, or has to tell.
+/// The work of a worker: a pending task, a kept answer, or neither.
 #[derive(Drop)]
 pub enum Work {
-    /// Nothing.
+    /// No task is pending, and no answer is kept.
     Free,
-    /// A task waits.
-    Waiting {
+    /// A task is pending.
+    Pending {
         name: JobName,
         cube: Cube,
         limit: u64,
     },
-    /// Its search met the limit.
+    /// The search met its limit.
     Limited {
         name: JobName,
     },
-    /// It found an answer, whose bytes are kept; perhaps it is to send them from an offset on.
+    /// The search found an answer, whose evidence is kept; `noted` is the offset of the last Fetch, if no poll has sent the bytes from
+    /// there yet.
     Found {
         name: JobName,
         answer: Answer,
@@ -32,7 +33,7 @@ pub enum Work {
 }
 
 impl Work {
-    /// The note is taken away.
+    /// Clears the noted offset of a Fetch, if there is one.
     pub(crate) fn forget_note(&mut self)
         ensures { self.new ≡ without_note self.old }
     {

@@ -1,4 +1,4 @@
-//! A worker, and what it can be asked.
+//! A worker: its fields, how it is made and restarted, and what it can be asked.
 
 ghost use Rattle.std.specs.Prelude.{◌≡◌, ◌≤◌, ℕ, IfOk, MatchOption, Some, None};
 ghost use Rattle.dimacs.specs.logic.Cnf.{Cnf};
@@ -8,7 +8,7 @@ ghost use Rattle.lrat_check.specs.Verdicts.{Right};
 ghost use Rattle.worker_core.specs.Worker.{found_bytes, new_worker, restarted_worker};
 
 use crate::candidate::Candidate;
-use crate::follower::Follower;
+use crate::proof_checker::ProofChecker;
 use crate::work::Work;
 use cube_split::{Opened, without_definitions};
 use dimacs::{Base, Formula};
@@ -19,22 +19,22 @@ use packed_text::PackedText;
 use std::alloc::{AllocError, Global};
 use std::marker::Model;
 
-/// A worker: its formula, what it has to do or to tell, the verdict that it collects, and the one that it holds.
+/// A worker: its formula and base, its work, the candidate that it receives, and the verdict that it holds.
 pub struct Worker {
     pub(crate) alloc: Global,
     pub(crate) formula: Formula,
-    /// How many definitions it wants, at most 64.
+    /// The number of definitions asked for, at most 64.
     pub(crate) defs: u32,
-    /// What it searches over, where that is not the formula alone.
+    /// The base that is searched, if that is not the formula alone.
     pub(crate) base: Option<Base>,
     pub(crate) number: WorkerNumber,
     pub(crate) incarnation: u64,
-    /// The last task that it took.
+    /// The name of the last task taken since the worker was made or restarted.
     pub(crate) last: Option<JobName>,
     pub(crate) work: Work,
     pub(crate) candidate: Option<Candidate>,
-    /// What checks the candidate while its bytes come. No contract sees it: it only saves a check from the front.
-    pub(crate) follower: Option<Follower>,
+    /// Checks the candidate while its bytes are received. No contract names it: it only makes the check at the last byte shorter.
+    pub(crate) checker: Option<ProofChecker>,
     pub(crate) verdict: Verdict,
 }
 
@@ -57,10 +57,10 @@ impl Model for Worker {
       verdict = w.verdict;
     } };
 
-    ghost invariant = { λ w. IsWorker w.formula w.defs (unwrap_or w.base w.formula) w.work w.candidate w.follower w.verdict };
+    ghost invariant = { λ w. IsWorker w.formula w.defs (unwrap_or w.base w.formula) w.work w.candidate w.checker w.verdict };
 }
 
-// By hand, so that a crate above drops a worker by one call, and no proof there goes through its parts.
+// Written by hand, so that a crate above drops a worker by one call, and its proofs need not go through the parts.
 impl Drop for Worker {
     fn drop(self) {
         let Worker {
@@ -73,14 +73,14 @@ impl Drop for Worker {
             last: _,
             work: _,
             candidate: _,
-            follower: _,
+            checker: _,
             verdict: _,
         } = self;
     }
 }
 
 impl Worker {
-    /// A worker that begins, under a number and an incarnation, which no other worker of that number has had.
+    /// Makes a worker without definitions. Its incarnation has to be one that no earlier worker of this number has had.
     pub fn new(
         alloc: Global,
         formula: Formula,
@@ -93,7 +93,7 @@ impl Worker {
         Worker::with_defs(alloc, formula, number, incarnation, 0)
     }
 
-    /// The same, over a base with as many definitions, 0 to 64, or fewer where no pair is left.
+    /// Makes a worker over a base with `defs` definitions, 0 to 64, or fewer if no further pair of literals can be defined.
     pub fn with_defs(
         alloc: Global,
         formula: Formula,
@@ -112,7 +112,7 @@ impl Worker {
         )
     }
 
-    /// The same of a formula whose preamble is known.
+    /// Makes a worker over a formula whose preamble (pure literals and definitions) is known.
     pub fn of(
         alloc: Global,
         opened: &Opened,
@@ -133,12 +133,12 @@ impl Worker {
             last: None,
             work: Work::Free,
             candidate: None,
-            follower: None,
+            checker: None,
             verdict: Verdict::Nothing,
         })
     }
 
-    /// It begins anew, under another incarnation, and drops what it held; the definitions stay. It takes no memory.
+    /// Restarts the worker under another incarnation. Work, candidate and verdict are dropped; the definitions stay. It takes no memory.
     pub fn restart(&mut self, incarnation: u64)
         ensures { self.new ≡ restarted_worker self.old incarnation }
     {
@@ -146,42 +146,42 @@ impl Worker {
         self.last = None;
         self.work = Work::Free;
         self.candidate = None;
-        self.follower = None;
+        self.checker = None;
         self.verdict = Verdict::Nothing;
     }
 
-    /// Its formula.
+    /// Returns the formula.
     pub fn formula(&self) -> &Formula
         ensures { result.now ≡ self.now.formula }
     {
         &self.formula
     }
 
-    /// Its number.
+    /// Returns the worker's number, from 1.
     pub fn number(&self) -> WorkerNumber
         ensures { result ≡ self.now.number }
     {
         self.number
     }
 
-    /// Its incarnation.
+    /// Returns the incarnation.
     pub fn incarnation(&self) -> u64
         ensures { result ≡ self.now.incarnation }
     {
         self.incarnation
     }
 
-    /// The bytes of what it found, as it keeps them: those that its pieces bring.
+    /// Returns the evidence of the answer that was found, which Pieces carry; `None` if no answer is kept.
     pub fn found(&self) -> Option<&PackedText>
         ensures { MatchOption result (found_bytes self.now.work ≡ None) (λ text. found_bytes self.now.work ≡ Some text.now) }
     {
         match &self.work {
             Work::Found { bytes, .. } => Some(bytes),
-            Work::Free | Work::Waiting { .. } | Work::Limited { .. } => None,
+            Work::Free | Work::Pending { .. } | Work::Limited { .. } => None,
         }
     }
 
-    /// What it holds.
+    /// Returns the verdict that is held; `Verdict::Nothing` if none is.
     pub fn verdict(&self) -> &Verdict
         ensures value { result.now ≡ self.now.verdict }
         ensures right { Right self.now.formula result.now }
@@ -189,7 +189,7 @@ impl Worker {
         &self.verdict
     }
 
-    /// What it holds, for keeps.
+    /// Returns the verdict that is held and drops the rest of the worker.
     pub fn into_verdict(self) -> Verdict
         ensures value { result ≡ self.verdict }
         ensures right { Right self.formula result }
@@ -204,7 +204,7 @@ impl Worker {
             last: _,
             work: _,
             candidate: _,
-            follower: _,
+            checker: _,
             verdict,
         } = self;
         verdict

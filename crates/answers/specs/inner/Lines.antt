@@ -5,10 +5,10 @@ use Rattle.dimacs.specs.logic.Propagation.{Assumed}
 use Rattle.dimacs.specs.text.Rows.{Fails}
 use Rattle.dimacs.specs.text.Words.{words}
 use Rattle.answers.specs.declared.fault.AnswerFault.{AnswerFault}
-use Rattle.answers.specs.declared.line.Begun.{Begun}
-use Rattle.answers.specs.declared.line.Begun.TheVariants.{Passed, Blank, Values}
+use Rattle.answers.specs.declared.open_line.Begun.{Begun}
+use Rattle.answers.specs.declared.open_line.Begun.TheVariants.{Passed, Blank, Values}
 use Rattle.answers.specs.Pieces.{LinesRead, Marking, naming_of, read_on}
-use Rattle.answers.specs.Reading.{no_memory, read_line, read_tokens}
+use Rattle.answers.specs.Parse.{no_memory, read_line, read_tokens}
 
 -- no literal is named with its negation
 abbrev pub HasNoPair : Assumed → Type 0
@@ -24,7 +24,7 @@ abbrev pub line_text : Option Begun → List ℕ → List ℕ
 line_text None token = []
 line_text (Some begun) token = begun_text begun token
 
--- values lead from one to the other and a begun token, whatever stands behind them on the line
+-- values lead from one to the other and a begun token, whatever stands after them on the line
 abbrev pub TakesValues : ℕ → Marking → List ℕ → Marking → List ℕ → Type 0
 TakesValues number old text new token =
     (rest : List ℕ) → read_tokens number (words (text ++ rest)) (naming_of old) ≡ read_tokens number (words (token ++ rest)) (naming_of new)

@@ -1,19 +1,19 @@
--- What is handed the steps of a proof.
+-- One step of a proof, and the state of the checker before and after it.
 use Rattle.std.specs.Prelude.{◌≡◌, ◌⊎◌, ℕ, ◌+◌, Bool, None, Result, Ok, Err}
 use Rattle.dimacs.specs.logic.ClauseMap.{ClauseMap}
 use Rattle.lrat_text.specs.declared.step.Step.{Step}
-use Rattle.lrat_check.specs.Checking.{check_line, no_memory}
+use Rattle.lrat_check.specs.ProofFaults.{check_line, no_memory}
 use Rattle.lrat_check.specs.State.{State}
-use Rattle.lrat_check.specs.declared.checking.CheckFault.{CheckFault}
+use Rattle.lrat_check.specs.declared.line_checker.CheckFault.{CheckFault}
 use Rattle.binary_check.specs.declared.steps.StepChecker.{StepChecker}
 
--- a step is passed by a checker, whatever follows
+-- the checker passes a step, whatever follows
 abbrev pub GoesOn : State → ℕ → Step → State → Type 0
 GoesOn old n step new =
     (new.fault ≡ None)
     × ((later : Bool → ClauseMap → ℕ → Result (Unit {0}) CheckFault) → check_line old.refuted old.live old.top n (Ok step) later ≡ later new.refuted new.live new.top)
 
--- a step is refused, whatever follows
+-- the checker refuses a step, whatever follows
 abbrev pub StopsAt : State → ℕ → Step → CheckFault → Type 0
 StopsAt old n step fault = (later : Bool → ClauseMap → ℕ → Result (Unit {0}) CheckFault) → check_line old.refuted old.live old.top n (Ok step) later ≡ Err fault
 
@@ -21,10 +21,10 @@ StopsAt old n step fault = (later : Bool → ClauseMap → ℕ → Result (Unit 
 abbrev pub MayTake : StepChecker → Type 0
 MayTake c = c.checker.fault ≡ None
 
--- a step is passed
+-- a step is passed, and the next has the next number
 abbrev pub Takes : StepChecker → Step → StepChecker → Type 0
 Takes old step new = GoesOn old.checker old.number step new.checker × (new.number ≡ old.number + 1)
 
--- a step is refused, or memory ran out
+-- a step is refused, or memory is
 abbrev pub Refuses : StepChecker → Step → StepChecker → CheckFault → Type 0
 Refuses old step new fault = (fault ≡ no_memory) ⊎ StopsAt old.checker old.number step fault

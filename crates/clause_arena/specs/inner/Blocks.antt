@@ -3,15 +3,15 @@ use Rattle.std.specs.Prelude.{◌≡◌, ℕ, ◌*◌, ◌/◌, ◌%◌, ◌^◌
 use Rattle.std.specs.List.{range_with_len}
 use Rattle.clause_arena.specs.declared.slot.Slot.{Slot}
 
--- what stands at a place: nothing where its block ends before it
+-- the slot at a place: none if its block has fewer cells
 abbrev pub slot_at : List (List (Option Slot)) → ℕ → Option Slot
 slot_at blocks q = slice_index_or (slice_index_or blocks (q / 64) []) (q % 64) None
 
--- what stands at so many places from one on
+-- the slots at `count` places from q on
 abbrev pub slots_from : List (List (Option Slot)) → ℕ → ℕ → List (Option Slot)
 slots_from blocks q count = map (slot_at blocks) (range_with_len q count)
 
--- each of the first `len` places has a block, of which there are not too many, none has more cells than places, and nothing stands at a later place
+-- each of the first `len` places has a block; there are at most 2^48 blocks, of at most 64 cells each; no later place has a slot
 pub record IsBlocks (len : ℕ) (blocks : List (List (Option Slot))) : Type 0 where
   pub covers : len ≤ 64 * length blocks
   pub few : length blocks ≤ 2 ^ 48

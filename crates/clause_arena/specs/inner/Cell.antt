@@ -1,4 +1,4 @@
--- Cells of a table of slots: how their fields give a slot or none.
+-- Cells: how the two fields of a cell give a slot or none.
 use Rattle.std.specs.Prelude.{◌≡◌, ℕ, ◌-◌, ◌^◌, Bool, true, false, Option, Some, None, cond, refl, nat_eq}
 use Rattle.std.proofs.Common.{sym}
 use Rattle.std.proofs.lemmas.Bool.{eqb-true}
@@ -20,7 +20,7 @@ abbrev pub cell_of : Option Slot → Inside
 cell_of None = record { place = free_place; len = 0 }
 cell_of (Some s) = record { place = s.place; len = s.len }
 
--- the fields of a cell are found from what it holds
+-- the fields of a cell follow from the slot in it
 pub cell_of-slot_in : (c : Inside) → IsCell c → cell_of (slot_in c) ≡ c
 cell_of-slot_in c empty = at (nat_eq c.place free_place) refl
   where

@@ -1,4 +1,4 @@
--- How the slots of clauses lie within one list of literals.
+-- How the slots of clauses lie within the list of all literals.
 use Rattle.std.specs.Prelude.{◌≡◌, ℕ, ◌+◌, ◌<◌, ◌≤◌, List, length, Some}
 use Rattle.std.specs.List.{IsDistinct}
 use Rattle.std.specs.FinMap.{get}
@@ -12,11 +12,11 @@ use Rattle.clause_arena.specs.Contents.{clause_at}
 abbrev pub IsPlaced : List Literal → Slot → Type 0
 IsPlaced literals s = s.place + s.len ≤ length literals
 
--- the slot that a reference names
+-- the slot of a reference
 abbrev pub slot_of : Ref → Slot
 slot_of at = record { place = at.place; len = at.len }
 
--- each slot lies within the literals, no word stands in the slots of two numbers, and no clause repeats a literal
+-- each slot lies within the literals, the slots of two numbers do not overlap, and no clause repeats a literal
 pub record IsArena (literals : List Literal) (index : Slots) : Type 0 where
   pub placed : (n : ℕ) (s : Slot) → get index n ≡ Some s → IsPlaced literals s
   pub distinct : (n : ℕ) (s : Slot) → get index n ≡ Some s → IsDistinct same (clause_at literals s)

@@ -1,11 +1,11 @@
--- Slots at places of a table, and under keys of a map.
+-- The two parts of a slot map: the slots of a table, and those under keys of a B-tree.
 use Rattle.std.specs.Prelude.{◌≡◌, ℕ, ◌+◌, ◌<◌, List, [], ◌∷◌, ◌++◌, length, Option, Some, None, refl}
 use Rattle.std.specs.Coded.{Coded, code_by, coded_ℕ, coded×}
 use Rattle.std.specs.FinMap.{from_entries, code}
 use Rattle.std.specs.Ordering.{nat_cmp}
 use Rattle.std.specs.BTreeMap as tree
 use Rattle.clause_arena.specs.declared.slot.Slot.{Slot}
-use Rattle.clause_arena.specs.declared.slots.Tables.{Tables}
+use Rattle.clause_arena.specs.declared.slot_map.SlotMap.{SlotMap}
 use Rattle.clause_arena.specs.Slots.{Slots}
 
 abbrev pub slot_code : Coded Slot
@@ -14,16 +14,16 @@ slot_code = code_by (ℕ × ℕ) (coded× coded_ℕ coded_ℕ) (λ s. (s.place, 
 abbrev pub slots_code : Coded Slots
 slots_code = code coded_ℕ slot_code
 
--- the slots of the numbers from n on
+-- the slots of a table whose first place has the number n
 abbrev pub near_entries : ℕ → List (Option Slot) → List (ℕ × Slot)
 near_entries n [] = []
 near_entries n (None ∷ slots) = near_entries (n + 1) slots
 near_entries n (Some s ∷ slots) = (n, s) ∷ near_entries (n + 1) slots
 
--- the slots at places and under keys
-abbrev pub slots_of : Tables → Slots
+-- the slots of both parts
+abbrev pub slots_of : SlotMap → Slots
 slots_of t = from_entries (near_entries 0 t.near ++ t.far.entries)
 
--- no number that has a place in the table is a key
-pub record IsApart (t : Tables) : Type 0 where
+-- no number of the table is a key of the B-tree
+pub record IsApart (t : SlotMap) : Type 0 where
   pub free : (q : ℕ) → q < length t.near → tree.get nat_cmp t.far q ≡ None

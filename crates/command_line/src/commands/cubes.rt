@@ -4,12 +4,12 @@ ghost use Rattle.std.specs.Prelude.{◌≡◌, ◌-◌, ◌^◌, ℕ, Option, So
 ghost use Rattle.command_line.specs.CommandLine.{IsInRange, IsVariable, Makes, NamesAnyNumber, NamesFile, NamesNothing};
 ghost use Rattle.command_line.specs.declared.request.Request.{Request};
 ghost use Rattle.command_line.specs.Program.{cubes_app};
-ghost use Rattle.word_rules.specs.Rules.{app_of_command};
+ghost use Rattle.option_table.specs.Rules.{app_of_command};
 
 use crate::commands::leaf_words::LAST_LEAF;
 use crate::commands::words::{INPUT, file_of, is_named, number_of, number_or};
 use crate::request::Request;
-use word_rules::{CommandRules, Found, Need, Word};
+use option_table::{CommandRules, Found, Need, Word};
 
 /// The greatest number of a variable.
 const LAST_VARIABLE: u64 = 2_147_483_647;

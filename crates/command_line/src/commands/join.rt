@@ -4,14 +4,14 @@ ghost use Rattle.std.specs.Prelude.{◌≡◌, IfOk, IfSome, IfNone, codes, fals
 ghost use Rattle.command_line.specs.CommandLine.{IsDry, IsInRange, Makes, NamesFiles, NamesJoined};
 ghost use Rattle.command_line.specs.declared.request.Request.{Request};
 ghost use Rattle.command_line.specs.Program.{join_app};
-ghost use Rattle.word_rules.specs.Rules.{app_of_command};
+ghost use Rattle.option_table.specs.Rules.{app_of_command};
 
 use crate::commands::leaf_words::CUBES;
 use crate::commands::run_words::{BINARY, NO_WITNESS, QUIET, STATUS, printing_of};
 use crate::commands::words::{INPUT, file_of, files_of, is_given};
 use crate::request::Request;
+use option_table::{CommandRules, Found, Word};
 use std::alloc::{AllocError, Global};
-use word_rules::{CommandRules, Found, Word};
 
 /// The words.
 static RULES: CommandRules<'static> = CommandRules {

@@ -4,7 +4,7 @@ ghost use Rattle.std.specs.Prelude.{◌-◌, ◌^◌, ℕ, Option, IfSome, IfNon
 ghost use Rattle.command_line.specs.CommandLine.{IsLeafNumber, NamesAnyNumber, NamesLeaf};
 
 use crate::commands::words::{is_named, number_of};
-use word_rules::{Found, Need, Word};
+use option_table::{Found, Need, Word};
 
 /// The greatest number of a leaf.
 pub(crate) const LAST_LEAF: u64 = 4_294_967_295;

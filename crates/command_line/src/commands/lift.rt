@@ -4,13 +4,13 @@ ghost use Rattle.std.specs.Prelude.{◌≡◌, IfSome, IfNone, codes};
 ghost use Rattle.command_line.specs.CommandLine.{IsInRange, Makes};
 ghost use Rattle.command_line.specs.declared.request.Request.{Request};
 ghost use Rattle.command_line.specs.Program.{lift_app};
-ghost use Rattle.word_rules.specs.Rules.{app_of_command};
+ghost use Rattle.option_table.specs.Rules.{app_of_command};
 
 use crate::commands::leaf_words::{CUBES, LAST_LEAF, leaf_or_none};
 use crate::commands::run_words::BINARY;
 use crate::commands::words::{INPUT, file_of, is_given};
 use crate::request::Request;
-use word_rules::{CommandRules, Found, Need, Word};
+use option_table::{CommandRules, Found, Need, Word};
 
 /// The words.
 static RULES: CommandRules<'static> = CommandRules {

@@ -4,12 +4,12 @@ ghost use Rattle.std.specs.Prelude.{◌≡◌, IfSome, IfNone, codes};
 ghost use Rattle.command_line.specs.CommandLine.{IsInRange, Makes};
 ghost use Rattle.command_line.specs.declared.request.Request.{Request};
 ghost use Rattle.command_line.specs.Program.{receipt_app};
-ghost use Rattle.word_rules.specs.Rules.{app_of_command};
+ghost use Rattle.option_table.specs.Rules.{app_of_command};
 
 use crate::commands::leaf_words::CUBES;
 use crate::commands::words::{INPUT, file_of};
 use crate::request::Request;
-use word_rules::{CommandRules, Found, Word};
+use option_table::{CommandRules, Found, Word};
 
 /// The words.
 static RULES: CommandRules<'static> = CommandRules {

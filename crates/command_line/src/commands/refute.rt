@@ -4,13 +4,13 @@ ghost use Rattle.std.specs.Prelude.{◌≡◌, IfSome, IfNone, codes};
 ghost use Rattle.command_line.specs.CommandLine.{IsInRange, Makes};
 ghost use Rattle.command_line.specs.declared.request.Request.{Request};
 ghost use Rattle.command_line.specs.Program.{refute_app};
-ghost use Rattle.word_rules.specs.Rules.{app_of_command};
+ghost use Rattle.option_table.specs.Rules.{app_of_command};
 
 use crate::commands::leaf_words::{CUBES, LAST_LEAF, LEAF, leaf_of, leaf_or_none};
 use crate::commands::run_words::{BINARY, NO_WITNESS, QUIET, printing_of};
 use crate::commands::words::{INPUT, file_of, is_given, number_of};
 use crate::request::Request;
-use word_rules::{CommandRules, Found, Need, Word};
+use option_table::{CommandRules, Found, Need, Word};
 
 /// The most lemmas that the search under a cube can be allowed, 2 ^ 47: no search meets them.
 const MOST_LEMMAS: u64 = 140_737_488_355_328;

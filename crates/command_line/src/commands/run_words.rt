@@ -7,8 +7,8 @@ ghost use Rattle.command_line.specs.declared.options.Options.{Options};
 
 use crate::commands::words::{is_named, number_of, number_or};
 use crate::options::Options;
-use crate::printing::Printing;
-use word_rules::{Found, Need, Word};
+use crate::output::Printing;
+use option_table::{Found, Need, Word};
 
 /// What help says of the status of a run.
 pub(crate) const STATUS: &str = "Status: 10 satisfiable, 20 unsatisfiable, 0 unknown, 1 an error";
@@ -122,7 +122,7 @@ pub(crate) enum Place {
     AtPort,
 }
 
-/// How deep the formula is split where no word says it. Many leaves let many workers end at the same time.
+/// How deep the formula is split if no word says it. Many leaves let many workers end at the same time.
 fn usual_depth(place: Place, workers: u64) -> u64
     ensures depth { result ≡ usual_depth place workers }
     ensures most { result ≤ 16 }
@@ -141,7 +141,7 @@ fn usual_depth(place: Place, workers: u64) -> u64
     }
 }
 
-/// The options that the words of a run name; the usual one where its command has no word for it.
+/// The options that the words of a run name; the usual one if its command has no word for it.
 pub(crate) fn options_of(given: &Found, place: Place) -> Option<Options>
     ensures found { IfSome result (NamesOptions place given.now.rows) }
     ensures none { IfNone result ((options : Options) → NamesOptions place given.now.rows options → ⊥) }

@@ -4,12 +4,12 @@ ghost use Rattle.std.specs.Prelude.{◌≡◌, ℕ, Option, IfSome, IfNone, code
 ghost use Rattle.command_line.specs.CommandLine.{IsInRange, IsSessionLimit, Makes, NamesAnyNumber};
 ghost use Rattle.command_line.specs.declared.request.Request.{Request};
 ghost use Rattle.command_line.specs.Program.{session_app};
-ghost use Rattle.word_rules.specs.Rules.{app_of_command};
+ghost use Rattle.option_table.specs.Rules.{app_of_command};
 
 use crate::commands::run_words::printing_of;
 use crate::commands::words::{file_of, is_named, number_of};
 use crate::request::Request;
-use word_rules::{CommandRules, Found, Need, Word};
+use option_table::{CommandRules, Found, Need, Word};
 
 /// The greatest limit.
 const LAST_LIMIT: u64 = 1_000_000_000;

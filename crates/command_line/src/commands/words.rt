@@ -5,8 +5,8 @@ ghost use Rattle.std.specs.Borrow.{Bor};
 ghost use Rattle.clap.specs.Words.{Text};
 ghost use Rattle.command_line.specs.CommandLine.{IsNumber, NamesFile, NamesFiles, NamesFlag, NamesNothing, NamesNumber, NamesNumberOr};
 
+use option_table::{Found, Need, Word};
 use std::alloc::{AllocError, Global};
-use word_rules::{Found, Need, Word};
 
 /// The formula.
 pub(crate) const INPUT: Word<'static> = Word::File {
@@ -24,14 +24,14 @@ pub(crate) const PORT: Word<'static> = Word::Number {
     help: "The port of 127.0.0.1, from 1 to 65535",
 };
 
-/// The file that the words name, where they name one.
+/// The file that the words name, if they name one.
 pub(crate) fn file_of<'a>(given: &Found<'a>, name: &str) -> Option<&'a str>
     ensures { NamesFile given.now.rows name.now result }
 {
     given.text(name)
 }
 
-/// The number that a text says, where it is in the range.
+/// The number that a text says, if it is in the range.
 fn number_in(text: &str, low: u64, high: u64) -> Option<u64>
     ensures some { IfSome result (IsNumber low high text.now) }
     ensures none { IfNone result ((number : ℕ) → IsNumber low high text.now number → ⊥) }
@@ -71,7 +71,7 @@ pub(crate) fn number_of<'a>(given: &Found<'a>, name: &str, low: u64, high: u64) 
     }
 }
 
-/// The number in a range that the words give to an option, or the usual one where it is left out or the command has none such.
+/// The number in a range that the words give to an option, or the usual one if it is left out or the command has none such.
 pub(crate) fn number_or<'a>(
     given: &Found<'a>,
     name: &str,
@@ -90,7 +90,7 @@ pub(crate) fn number_or<'a>(
     }
 }
 
-/// The files that the words name, all of them in their order; none where they name no file.
+/// The files that the words name, all of them in their order; none if they name no file.
 pub(crate) fn files_of<'a>(
     alloc: Global,
     given: &Found<'a>,

@@ -4,14 +4,14 @@ ghost use Rattle.std.specs.Prelude.{◌≡◌, IfSome, IfNone, codes};
 ghost use Rattle.command_line.specs.CommandLine.{IsInRange, Makes};
 ghost use Rattle.command_line.specs.declared.request.Request.{Request};
 ghost use Rattle.command_line.specs.Program.{work_app};
-ghost use Rattle.word_rules.specs.Rules.{app_of_command};
+ghost use Rattle.option_table.specs.Rules.{app_of_command};
 
 use crate::commands::run_words::{
     BINARY, DEFS, NO_WITNESS, PROOF, Place, QUIET, STATUS, options_of,
 };
 use crate::commands::words::{INPUT, PORT, file_of, number_of};
 use crate::request::Request;
-use word_rules::{CommandRules, Found, Need, Word};
+use option_table::{CommandRules, Found, Need, Word};
 
 /// The words.
 static RULES: CommandRules<'static> = CommandRules {

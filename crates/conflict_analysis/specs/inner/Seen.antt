@@ -1,10 +1,10 @@
--- Which variables were met.
+-- Sets of variables as tables of stamps.
 use Rattle.std.specs.Prelude.{ℕ, ◌==◌, Bool, false, List, map, slice_index_or}
 
--- the variables of which the stamp is the present one, by number
+-- by variable, whether its stamp is the present one
 abbrev pub stamped : List ℕ → ℕ → List Bool
 stamped stamps stamp = map (λ s. s == stamp) stamps
 
--- a variable was met
+-- whether a variable is in a set
 abbrev pub met : List Bool → ℕ → Bool
 met seen v = slice_index_or seen v false

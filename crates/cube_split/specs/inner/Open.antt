@@ -1,26 +1,26 @@
--- The clauses that a path leaves open, by tables.
+-- The clauses that a path leaves open, in tables.
 use Rattle.std.specs.Prelude.{◌≡◌, ℕ, zero, suc, ◌+◌, ◌<◌, ◌≤◌, ◌==◌, ◌&&◌, true, not, List, length, take, cond, slice_index}
 use Rattle.dimacs.specs.logic.Literal.{Literal, Clause, var_of, has}
 use Rattle.cube_split.specs.Choice.{has_variable}
 use Rattle.cube_split.specs.inner.Places.{place_at, places_of, clause_of, AreOf, AreChained}
 use Rattle.cube_split.specs.declared.places.Place.{Place}
 
--- which place is the first of its variable among some places
+-- each place is flagged if no place before it has its variable
 abbrev pub AreFlagged : Clause → List Place → Type 0
 AreFlagged C places = (k : ℕ) → k < length places → (place_at places k).first ≡ not (has_variable (take k C) (var_of (place_at places k).literal))
 
--- how many of the first n clauses are open, by a table of zeros, and hold the variable
+-- how many of the first n clauses are open (0 in the table) and have the variable
 abbrev pub open_count : ℕ → (ℕ → Clause) → List ℕ → ℕ → ℕ
 open_count zero clause closed w = 0
 open_count (suc n) clause closed w = open_count n clause closed w + cond (slice_index closed n == 0 && has_variable (clause n) w) 1 0
 
--- of the first n clauses, those that hold the literal and stood at from stand at to; the others stand as they stood
+-- of the first n clauses, those that have the literal and had the level `from` have the level `to`; the others are unchanged
 pub record AreTurned (n : ℕ) (clause : ℕ → Clause) (l : Literal) (from to : ℕ) (old new : List ℕ) : Type 0 where
   pub size : length new ≡ length old
   pub turned : (i : ℕ) → i < n → has (clause i) l ≡ true → slice_index old i ≡ from → slice_index new i ≡ to
   pub kept : (i : ℕ) → i < n → (has (clause i) l ≡ true → slice_index old i ≡ from → ⊥) → slice_index new i ≡ slice_index old i
 
--- n clauses by their places, and the table that leads to each literal's
+-- the places of n clauses, and the table of each literal's last place
 pub record AreIndexed (n : ℕ) (places : List Place) (starts latest : List ℕ) : Type 0 where
   pub long : length starts ≡ n + 1
   pub inside : (i : ℕ) → i < n → (slice_index starts i ≤ slice_index starts (i + 1)) × (slice_index starts (i + 1) ≤ length places)

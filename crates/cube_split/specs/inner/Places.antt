@@ -1,10 +1,10 @@
--- Where literals stand in clauses, as the walk over a tree looks them up.
+-- Occurrence lists: the places at which literals occur in clauses.
 use Rattle.std.specs.Prelude.{◌≡◌, ◌≢◌, ℕ, ◌+◌, ◌-◌, ◌<◌, ◌≤◌, false, not, List, [], ◌++◌, length, map, take, slice_index_or, slice_range}
 use Rattle.dimacs.specs.logic.Literal.{Literal, Pos, Clause, var_of, index_of}
 use Rattle.cube_split.specs.Choice.{has_variable}
 use Rattle.cube_split.specs.declared.places.Place.{Place}
 
--- what stands at a place
+-- the entry at a place
 abbrev pub nowhere : Place
 nowhere = record { literal = Pos 0; clause = 0; before = 0; first = false }
 
@@ -17,36 +17,36 @@ pub record AreOf (i : ℕ) (C : Clause) (places : List Place) : Type 0 where
   pub clause : (k : ℕ) → k < length places → (place_at places k).clause ≡ i
   pub first : (k : ℕ) → k < length places → (place_at places k).first ≡ not (has_variable (take k C) (var_of (place_at places k).literal))
 
--- the places of clause i of a table, and the clause that they spell
+-- the places of clause i in a table, and the clause that their literals are
 abbrev pub places_of : List Place → List ℕ → ℕ → List Place
 places_of places starts i = slice_range places (slice_index_or starts i 0) (slice_index_or starts (i + 1) 0)
 
 abbrev pub clause_of : List Place → List ℕ → ℕ → Clause
 clause_of places starts i = map (λ e. e.literal) (places_of places starts i)
 
--- behind the old places stand those of clause i
+-- `new` is `old` followed by the places of clause i
 pub record Appends (old : List Place) (i : ℕ) (C : Clause) (new : List Place) : Type 0 where
   pub more : List Place
   pub appended : new ≡ old ++ more
   pub places : AreOf i C more
 
--- of the places below n, the one where the literal stands last, from 1; 0 where it stands at none
+-- of the places below n, q is the last one of the literal, from 1; 0 if the literal has none
 pub record IsLast (places : List Place) (n : ℕ) (l : Literal) (q : ℕ) : Type 0 where
   pub below : q ≤ n
   pub stands : 0 < q → (place_at places (q - 1)).literal ≡ l
   pub none : (r : ℕ) → q ≤ r → r < n → (place_at places r).literal ≢ l
 
--- each place leads to the one before it with the same literal, and a table to the last one
+-- each place leads to the previous one of its literal, and a table to the last one of each literal
 pub record AreChained (places : List Place) (latest : List ℕ) : Type 0 where
   pub back : (p : ℕ) → p < length places → IsLast places p (place_at places p).literal (place_at places p).before
   pub table : (l : Literal) → index_of l < length latest → IsLast places (length places) l (slice_index_or latest (index_of l) 0)
 
--- the places of the first n clauses, clause behind clause
+-- the places of the first n clauses, clause after clause
 pub record ArePlaced (clauses : List Clause) (n : ℕ) (places : List Place) (starts : List ℕ) : Type 0 where
   pub long : length starts ≡ n + 1
   pub last : slice_index_or starts n 0 ≡ length places
   pub inside : (i : ℕ) → i < n → (slice_index_or starts i 0 ≤ slice_index_or starts (i + 1) 0) × (slice_index_or starts (i + 1) 0 ≤ length places)
   pub here : (i : ℕ) → i < n → AreOf i (slice_index_or clauses i []) (places_of places starts i)
-  -- each place is one of these
+  -- each place belongs to one of these clauses
   pub owned : (p : ℕ) → p < length places → (place_at places p).clause < n
   pub inside_own : (p : ℕ) → p < length places → (slice_index_or starts (place_at places p).clause 0 ≤ p) × (p < slice_index_or starts ((place_at places p).clause + 1) 0)

@@ -1,8 +1,8 @@
--- What a tally keeps.
+-- The invariant of a tally.
 use Rattle.std.specs.Prelude.{◌≡◌, ◌≢◌, ℕ, ◌<◌, ◌≤◌, List, length, slice_index}
 use Rattle.cube_split.specs.declared.tally.Tally.{Tally}
 
--- the variables that were met, each once: these alone have a number in the second table, and so a count in the first
+-- the first len entries of `met` are the variables of counted clauses, each once: only these have a clause number in `last`, and a count
 pub record AreMet (counts last met : List ℕ) (len : ℕ) : Type 0 where
   pub some : 0 < length counts
   pub rows : length last ≡ length counts
@@ -17,14 +17,14 @@ pub record AreMet (counts last met : List ℕ) (len : ℕ) : Type 0 where
 abbrev pub IsTally : Tally → Type 0
 IsTally t = AreMet t.counts.items t.last.items t.met.items t.len
 
--- a tally of so many rows in which nothing is counted
+-- a tally of so many rows in which every count is 0
 pub record IsClear (rows : ℕ) (t : Tally) : Type 0 where
   pub tally : IsTally t
   pub size : length t.counts.items ≡ rows
   pub counts : (w : ℕ) → w < rows → slice_index t.counts.items w ≡ 0
   pub last : (w : ℕ) → w < rows → slice_index t.last.items w ≡ 0
 
--- each variable that has a count above 0 is among these
+-- `variables` has each variable whose count is above 0
 pub record AreListed (counts variables : List ℕ) : Type 0 where
   pub inside : (k : ℕ) → k < length variables → (0 < slice_index variables k) × (slice_index variables k < length counts)
   pub listed : (w : ℕ) → 0 < w → w < length counts → 0 < slice_index counts w → (k : ℕ) × (k < length variables) × (slice_index variables k ≡ w)

@@ -1,10 +1,10 @@
--- How the variables lie in a binary heap. A variable stands here for its row in the tables, one below its number.
+-- How the variables lie in a binary heap. A variable is its row in the tables here: its number less 1.
 use Rattle.std.specs.Prelude.{◌≡◌, ◌≢◌, ℕ, ◌-◌, ◌/◌, ◌^◌, ◌<◌, ◌≤◌, List, length, slice_index, slice_set, vec_capacity}
 use Rattle.decide_heap.specs.Decisions.{Decisions, IsNoWorse}
 use Rattle.decide_heap.specs.Heap.{members_of}
 use Rattle.decide_heap.specs.declared.rows.Rows.{Rows}
 
--- the variables as they lie in the heap, the place of each there, its score, and how many are in
+-- the variables by place, the place of each, its score, and how many are in the heap
 pub record Tables : Type 0 where
   pub heap : List ℕ
   pub places : List ℕ
@@ -22,11 +22,11 @@ decisions_of t = record { vars = length t.scores; scores = t.scores; members = m
 abbrev pub filled : Tables → ℕ → ℕ → Tables
 filled t at var = record t { heap = slice_set t.heap at var; places = slice_set t.places var at }
 
--- the place above a place of the heap
+-- the parent of a place of the heap
 abbrev pub parent : ℕ → ℕ
 parent c = (c - 1) / 2
 
--- the heap lists each variable once, and places says where
+-- `heap` is a permutation of the variables, and `places` is its inverse
 pub record ArePaired (heap places : List ℕ) : Type 0 where
   pub long : length places ≡ length heap
   pub variable : (i : ℕ) → i < length heap → slice_index heap i < length heap
@@ -34,7 +34,7 @@ pub record ArePaired (heap places : List ℕ) : Type 0 where
   pub within : (v : ℕ) → v < length heap → slice_index places v < length heap
   pub there : (v : ℕ) → v < length heap → slice_index heap (slice_index places v) ≡ v
 
--- two places have changed their variables
+-- the entries at i and j are exchanged
 pub record AreSwapped (old new : List ℕ) (i j : ℕ) : Type 0 where
   pub first : slice_index new i ≡ slice_index old j
   pub second : slice_index new j ≡ slice_index old i
@@ -44,14 +44,14 @@ pub record AreSwapped (old new : List ℕ) (i j : ℕ) : Type 0 where
 abbrev pub IsOver : List ℕ → List ℕ → ℕ → ℕ → Type 0
 IsOver scores heap i j = IsNoWorse (slice_index scores) (slice_index heap i) (slice_index heap j)
 
--- of the first len places none is better than the one above it, where that is from or a later one
+-- the heap order, for each place below len whose parent is `from` or a later place: the parent is no worse
 pub record IsOrdered (scores heap : List ℕ) (len from : ℕ) : Type 0 where
   pub below : (c : ℕ) → 0 < c → c < len → from ≤ parent c → IsOver scores heap (parent c) c
 
 abbrev pub IsOrderedFrom : Tables → ℕ → Type 0
 IsOrderedFrom t from = IsOrdered t.scores t.heap t.len from
 
--- in order, but that the variable at one place may be better than those above it
+-- the heap order, except that the variable at one place may be better than its ancestors
 pub record IsRising (scores heap : List ℕ) (len at : ℕ) : Type 0 where
   pub others : (c : ℕ) → 0 < c → c < len → c ≢ at → IsOver scores heap (parent c) c
   pub across : (c : ℕ) → 0 < c → c < len → parent c ≡ at → 0 < at → IsOver scores heap (parent at) c
@@ -66,12 +66,12 @@ pub record AreRows (t : Tables) : Type 0 where
   pub count : t.len ≤ length t.scores
   pub paired : ArePaired t.heap t.places
 
--- all variables stand in the heap, those that are in first, and these in order
+-- consistent tables, whose first len places are in heap order
 pub record IsHeap (t : Tables) : Type 0 where
   pub rows : AreRows t
   pub ordered : IsOrderedFrom t 0
 
--- as many variables stand in the heap, perhaps at other places; all else is as it was
+-- only places of variables changed
 pub record AreMoved (old new : Tables) : Type 0 where
   pub long : length new.heap ≡ length old.heap
   pub rest : new ≡ record old { heap = new.heap; places = new.places }

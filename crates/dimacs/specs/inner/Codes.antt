@@ -1,4 +1,4 @@
--- Codes of literals and clause maps: how a proof tells such values apart.
+-- Codes of literals and clause maps, by which a proof tells such values apart.
 use Rattle.std.specs.Prelude.{◌≡◌, ℕ, zero, suc, ◌+◌, ◌*◌, ◌/◌, ◌%◌, ◌<◌, ◌==◌, Bool, true, false, refl, cond}
 use Rattle.std.proofs.Common.{◌∙◌, sym}
 use Rattle.std.proofs.Math.Nat.{add-zero, div-add-mod, le_of_suc-le-suc, mod-lt, not-suc-le-zero, zero-lt-suc}
@@ -7,7 +7,7 @@ use Rattle.std.specs.Coded.{Coded, code_by, coded×, coded_ℕ, coded_bool, code
 use Rattle.dimacs.specs.logic.Literal.{Literal, Pos, Neg, var_of, is_negative, index_of, literal_of}
 use Rattle.dimacs.specs.logic.ClauseMap.{ClauseMap}
 
--- the place of a literal gives the literal back
+-- the index of the literal of an index is that index
 pub index_of-literal_of : (n : ℕ) → index_of (literal_of n) ≡ n
 index_of-literal_of n = of_parts (n / 2) (n % 2) (mod-lt n (zero-lt-suc 1)) ∙ div-add-mod n 2
   where

@@ -1,4 +1,4 @@
--- What is left of a text while it is read.
+-- The rest of a text while it is read: its lines, and its length with the LF before it.
 use Rattle.std.specs.Prelude.{ℕ, ◌+◌, length, List, [], Option, Some, None}
 use Rattle.std.specs.Borrow.{Bor}
 use Rattle.dimacs.specs.text.Words.{lines}

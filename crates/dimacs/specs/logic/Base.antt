@@ -8,16 +8,16 @@ use Rattle.dimacs.specs.logic.Cnf.{Cnf}
 abbrev pub occurs : List Clause → Literal → Bool
 occurs clauses l = list_any (λ C. has C l) clauses
 
--- a literal is pure where it occurs and its negation does not
+-- a literal is pure if it occurs and its negation does not
 abbrev pub is_pure : Cnf → Literal → Bool
 is_pure f l = occurs f.clauses l && not (occurs f.clauses (negation l))
 
--- the numbers from first on, as many as count
+-- count numbers, rising from first
 abbrev pub numbers_from : ℕ → ℕ → List ℕ
 numbers_from first zero = []
 numbers_from first (suc count) = first ∷ numbers_from (first + 1) count
 
--- the pure literals, variables rising
+-- the pure literals, by rising variable
 abbrev pub pure_literals : Cnf → List Literal
 pure_literals f = filter (is_pure f) (flat_map (λ v. Pos v ∷ Neg v ∷ []) (numbers_from 1 f.vars))
 

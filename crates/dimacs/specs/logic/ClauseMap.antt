@@ -10,14 +10,14 @@ use Rattle.dimacs.specs.logic.Cnf.{Cnf}
 abbrev pub ClauseMap : Type 0
 ClauseMap = FinMap nat_cmp Clause
 
--- clause i at i, from 1
+-- the formula's clauses, numbered from 1
 abbrev pub map_of : Cnf → ClauseMap
 map_of f = from_entries (enumerate_from 1 f.clauses)
 
--- a clause is live under a number
+-- which clauses are live under which numbers
 abbrev pub Live : Type 1
 Live = ℕ → Clause → Type 0
 
--- the clauses of a map are live
+-- the clauses of a map are live under their numbers
 abbrev pub live_in : ClauseMap → Live
 live_in M n C = get M n ≡ Some C

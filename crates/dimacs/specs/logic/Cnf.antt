@@ -1,8 +1,9 @@
 -- Formulas and the assignments that satisfy them.
 use Rattle.std.specs.Prelude.{ℕ, ◌+◌, ◌-◌, ◌≤◌, Bool, false, max, List, [], ◌∷◌, length, slice_index_or, All}
+use Rattle.dimacs.specs.logic.Limits.{Limits, large}
 use Rattle.dimacs.specs.logic.Literal.{Clause, IsTrueIn, IsWithin, var_of}
 
--- a number of variables, and written clauses
+-- a formula: a number of variables, and a list of clauses
 pub record Cnf : Type 0 where
   pub vars : ℕ
   pub clauses : List Clause
@@ -15,17 +16,17 @@ Sat a f = All (IsTrueIn a) f.clauses
 abbrev pub assignment_of : List Bool → ℕ → Bool
 assignment_of values v = slice_index_or values (v - 1) false
 
--- the greatest variable of a clause, 0 where it has no literal
+-- the greatest variable of a clause, 0 if it has no literal
 abbrev pub greatest_of : Clause → ℕ
 greatest_of [] = 0
 greatest_of (l ∷ c) = max (var_of l) (greatest_of c)
 
--- the greatest variable of clauses, 0 where they have no literal
+-- the greatest variable of clauses, 0 if they have no literal
 abbrev pub greatest_in : List Clause → ℕ
 greatest_in [] = 0
 greatest_in (c ∷ cs) = max (greatest_of c) (greatest_in cs)
 
--- how many literals stand in clauses, repeats counted
+-- the number of literals in clauses, repeats counted
 abbrev pub literal_count : List Clause → ℕ
 literal_count [] = 0
 literal_count (c ∷ cs) = length c + literal_count cs
@@ -34,12 +35,18 @@ literal_count (c ∷ cs) = length c + literal_count cs
 abbrev pub AreWithin : ℕ → List Clause → Type 0
 AreWithin vars clauses = All (All (IsWithin vars)) clauses
 
--- a formula within the limits
+-- a formula within the large limits
 pub record IsFormula (f : Cnf) : Type 0 where
-  pub vars : f.vars ≤ 1000000
-  pub clauses : length f.clauses ≤ 4000000
-  pub literals : literal_count f.clauses ≤ 50000000
+  pub vars : f.vars ≤ large.vars
+  pub clauses : length f.clauses ≤ large.clauses
+  pub literals : literal_count f.clauses ≤ large.literals
   pub within : AreWithin f.vars f.clauses
+
+-- a formula fits into these limits, whatever variables its literals have
+pub record FitsIn (L : Limits) (f : Cnf) : Type 0 where
+  pub vars : f.vars ≤ L.vars
+  pub clauses : length f.clauses ≤ L.clauses
+  pub literals : literal_count f.clauses ≤ L.literals
 
 -- a base within the limits: it has room for a full formula, the unit of each variable, and the lines of 64 definitions
 pub record IsBase (f : Cnf) : Type 0 where

@@ -1,4 +1,4 @@
--- Small values, on which a reader can try the definitions.
+-- Small formulas and assignments, for the worked examples.
 use Rattle.std.specs.Prelude.{Bool, nat_lt, List, [], ◌∷◌, map}
 use Rattle.dimacs.specs.logic.Base.{numbers_from}
 use Rattle.dimacs.specs.logic.Literal.{Clause, Pos, Neg}

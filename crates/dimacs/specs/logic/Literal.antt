@@ -19,11 +19,11 @@ abbrev pub is_negative : Literal → Bool
 is_negative (Pos v) = false
 is_negative (Neg v) = true
 
--- a written clause: its literals in their order, perhaps with repeats
+-- a clause: a list of literals, perhaps with repeats
 abbrev pub Clause : Type 0
 Clause = List Literal
 
--- an assignment says of each variable whether it is true
+-- whether a literal is true in an assignment
 abbrev pub literal_true : (ℕ → Bool) → Literal → Bool
 literal_true a (Pos v) = a v
 literal_true a (Neg v) = not (a v)
@@ -32,7 +32,7 @@ literal_true a (Neg v) = not (a v)
 abbrev pub IsTrueIn : (ℕ → Bool) → Clause → Type 0
 IsTrueIn a C = (l : Literal) × Contains C l × (literal_true a l ≡ true)
 
--- some literal stands in the clause with its negation
+-- the clause contains a literal and its negation
 abbrev pub IsTautology : Clause → Type 0
 IsTautology C = (l : Literal) × Contains C l × Contains C (negation l)
 
@@ -47,26 +47,26 @@ same (Neg v) (Neg w) = v == w
 same (Pos v) (Neg w) = false
 same (Neg v) (Pos w) = false
 
--- whether a clause holds a literal
+-- whether a clause contains a literal
 abbrev pub has : Clause → Literal → Bool
 has C l = list_any (same l) C
 
--- the number that stands for a literal in a text: the variable, or the variable with a minus
+-- the number of a literal in a text: its variable, with a minus if it is negated
 abbrev pub number_of : Literal → ℤ
 number_of (Pos v) = pos v
 number_of (Neg zero) = pos 0
 number_of (Neg (suc n)) = negsuc n
 
--- the literal that a number other than 0 stands for
+-- the literal of a number other than 0
 abbrev pub literal_of_number : ℤ → Literal
 literal_of_number (pos n) = Pos n
 literal_of_number (negsuc n) = Neg (suc n)
 
--- the place of a literal in a table of all literals: twice its variable, and one more where it is negated
+-- the index of a literal in a table of all literals: twice its variable, plus 1 if it is negated
 abbrev pub index_of : Literal → ℕ
 index_of (Pos v) = 2 * v
 index_of (Neg v) = 2 * v + 1
 
--- the literal of a place
+-- the literal of an index
 abbrev pub literal_of : ℕ → Literal
 literal_of n = if n % 2 == 0 then Pos (n / 2) else Neg (n / 2)

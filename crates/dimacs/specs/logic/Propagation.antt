@@ -3,35 +3,35 @@ use Rattle.std.specs.Prelude.{◌≡◌, ◌≢◌, ℕ, Bool, true, false, ◌|
 use Rattle.dimacs.specs.logic.Literal.{Literal, Clause, IsTautology, negation, same, has}
 use Rattle.dimacs.specs.logic.ClauseMap.{Live}
 
--- a partial assignment: the literals that are taken to be true, by their test
+-- a partial assignment: whether a literal is assumed to be true
 abbrev pub Assumed : Type 0
 Assumed = Literal → Bool
 
--- the negations of the clause's literals
+-- the negation of each literal of the clause is assumed, and no other literal
 abbrev pub negations : Clause → Assumed
 negations C = λ k. has C (negation k)
 
--- one literal more
+-- one literal more is assumed
 abbrev pub with_literal : Assumed → Literal → Assumed
 with_literal α l = λ k. same k l || α k
 
--- the negation of each literal of the clause is assumed
+-- a false clause: the negation of each of its literals is assumed
 abbrev pub IsFalse : Assumed → Clause → Type 0
 IsFalse α C = (k : Literal) → Contains C k → α (negation k) ≡ true
 
--- l is the clause's one literal that is neither true nor false, and the others are false
+-- a unit clause: its literal l is neither true nor false, and every other literal is false
 pub record IsUnit (α : Assumed) (C : Clause) (l : Literal) : Type 0 where
   pub member : Contains C l
   pub not_true : α l ≡ false
   pub not_false : α (negation l) ≡ false
   pub others : (k : Literal) → Contains C k → k ≢ l → α (negation k) ≡ true
 
--- each hint in turn names a unit clause, whose literal joins
+-- each hint in turn names a live unit clause, whose literal is then assumed
 abbrev pub Leads : Live → Assumed → List ℕ → Assumed → Type 0
 Leads live α [] β = α ≡ β
 Leads live α (hint ∷ hints) β = (C : Clause) × (l : Literal) × live hint C × IsUnit α C l × Leads live (with_literal α l) hints β
 
--- all hints but the last lead on, and the last names a clause that is false then
+-- the hints except the last propagate, and the last names a live clause that is then false
 pub record Refutes (live : Live) (α : Assumed) (hints : List ℕ) : Type 0 where
   pub front : List ℕ
   pub last : ℕ
@@ -42,7 +42,7 @@ pub record Refutes (live : Live) (α : Assumed) (hints : List ℕ) : Type 0 wher
   pub lives : live last clause
   pub conflict : IsFalse reached clause
 
--- a lemma that follows by reverse unit propagation along its hints
+-- a lemma that has reverse unit propagation (RUP) by its hints
 pub record Rup (live : Live) (C : Clause) (hints : List ℕ) : Type 0 where
   pub no_pair : ¬ (IsTautology C)
   pub refutes : Refutes live (negations C) hints

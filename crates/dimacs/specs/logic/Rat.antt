@@ -13,23 +13,24 @@ Group = ℕ × List ℕ
 abbrev pub candidates : List Group → List ℕ
 candidates groups = map (λ g. g.0) groups
 
--- a candidate that needs no hint: a literal of it other than -p is assumed, or another variable stands in it in both signs
+-- a candidate that needs no hint: a literal of it other than -p is assumed, or it contains another variable in both signs
 abbrev pub IsBlocked : Assumed → Literal → Clause → Type 0
 IsBlocked β p D =
     ((l : Literal) × Contains D l × (l ≢ negation p) × (β l ≡ true))
     ⊎ ((l : Literal) × Contains D l × Contains D (negation l) × (var_of l ≢ var_of p))
 
--- and the negations of D's literals other than -p
+-- the negations of D's literals other than -p are assumed too
 abbrev pub with_candidate : Assumed → Literal → Clause → Assumed
 with_candidate β p D = λ k. β k || (has D (negation k) && not (same k p))
 
--- a group names a live clause that holds -p: it has no hint where the candidate is blocked, else its hints refute the candidate
+-- a group names a live clause that contains -p; it has no hint if the candidate is blocked, and else its hints refute the candidate
 abbrev pub GroupHolds : Live → Assumed → Literal → Group → Type 0
 GroupHolds live β p g =
     (D : Clause) × live g.0 D × Contains D (negation p)
     × ((IsBlocked β p D × (g.1 ≡ [])) ⊎ (¬ (IsBlocked β p D) × Refutes live (with_candidate β p D) g.1))
 
--- a lemma whose first literal is a pivot: the hints lead on, and the groups name each live clause that holds -p once and no other
+-- a lemma whose first literal p is the pivot: the hints propagate, and the groups name each live clause that contains -p, once each,
+-- and no other clause
 pub record Rat (live : Live) (C : Clause) (hints : List ℕ) (groups : List Group) : Type 0 where
   pub pivot : Literal
   pub rest : Clause

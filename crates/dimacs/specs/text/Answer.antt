@@ -15,7 +15,7 @@ true_literals v (false ∷ values) = Neg v ∷ true_literals (v + 1) values
 abbrev pub witness_items : List Bool → List (List ℕ)
 witness_items values = map (λ l. signed_decimal (number_of l)) (true_literals 1 values) ++ codes "0" ∷ []
 
--- items go on a line that has so many bytes, each behind a space, while the line has at most 78 bytes; else on a new line
+-- items after a line's first used bytes: each goes after a space if the line then has at most 78 bytes, else on a new v line
 abbrev pub filled : ℕ → List (List ℕ) → List ℕ
 filled used [] = codes "\n"
 filled used (item ∷ items) =

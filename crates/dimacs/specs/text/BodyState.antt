@@ -1,11 +1,13 @@
--- What was read of the clauses.
+-- The state of the DIMACS parser after the header.
 use Rattle.std.specs.Prelude.{ℕ, List}
 use Rattle.dimacs.specs.logic.Literal.{Clause}
 
--- the header's numbers, the clauses that have ended, the literals of the one that has not, and how many literals were read
+-- the header's numbers, the limit on literals, the clauses that have ended, the literals of the open one, and the number of
+-- literals that were read
 pub record BodyState : Type 0 where
   pub vars : ℕ
   pub count : ℕ
+  pub limit : ℕ
   pub done : List Clause
   pub open_clause : Clause
   pub total : ℕ

@@ -1,6 +1,7 @@
--- Texts of lines of tokens, of which the first line with a token is a header: how they are read, up to the first fault, and how they are spelled.
+-- Texts of lines of tokens, of which the first line with a token is the header: their parser, up to the first fault, and their grammar.
 use Rattle.std.specs.Prelude.{◌≡◌, ℕ, ◌+◌, List, [], ◌∷◌, ◌⊎◌, Result, Ok, Err}
 use Rattle.std.specs.List.{flat_map}
+use Rattle.dimacs.specs.logic.Limits.{Limits}
 use Rattle.dimacs.specs.text.Words.{words_of}
 
 infixl 10 ◌>>=◌
@@ -8,20 +9,20 @@ abbrev pub ◌>>=◌ : {A B E : Type 0} → Result A E → (A → Result B E) �
 (Ok x) >>= f = f x
 (Err e) >>= f = Err e
 
--- a format, each part by the number of its line: the fault of a text that ends without a header, what the header's tokens begin,
--- what a token behind it makes of what was read, and what was read where the text ends
+-- a format; each part takes the number of its line: the fault of a text without a header, the state after the header within limits,
+-- the state after a further token, and the value at the end of the text
 pub record Format (State Value Fault : Type 0) : Type 0 where
   pub no_header : ℕ → Fault
-  pub header : ℕ → List (List ℕ) → Result State Fault
+  pub header : Limits → ℕ → List (List ℕ) → Result State Fault
   pub token : ℕ → List ℕ → State → Result State Fault
   pub finish : ℕ → State → Result Value Fault
 
--- the tokens of a line
+-- reads the tokens of a line
 unfoldable pub read_words : {State Value Fault : Type 0} → Format State Value Fault → ℕ → List (List ℕ) → State → Result State Fault
 read_words format line [] s = Ok s
 read_words format line (word ∷ more) s = format.token line word s >>= read_words format line more
 
--- the lines behind n lines
+-- reads the lines after the first n lines
 unfoldable pub read_lines : {State Value Fault : Type 0} → Format State Value Fault → ℕ → List (List ℕ) → State → Result Value Fault
 read_lines format n [] s = format.finish n s
 read_lines format n (line ∷ more) s = read_words format (n + 1) (words_of line) s >>= read_lines format (n + 1) more
@@ -31,21 +32,21 @@ abbrev pub by_tokens {ℓ} : {A : Type ℓ} → List (List ℕ) → A → (List 
 by_tokens [] blank row = blank
 by_tokens (word ∷ more) blank row = row (word ∷ more)
 
--- a line without a token is passed over; the first other one is the header
-unfoldable pub read_text : {State Value Fault : Type 0} → Format State Value Fault → ℕ → List (List ℕ) → Result Value Fault
-read_text format n [] = Err (format.no_header n)
-read_text format n (line ∷ more) = by_tokens (words_of line) (read_text format (n + 1) more) (λ header. format.header (n + 1) header >>= read_lines format (n + 1) more)
+-- reads the lines after n lines without a token: a line without a token is skipped, and the first other line is the header
+unfoldable pub read_text : {State Value Fault : Type 0} → Format State Value Fault → Limits → ℕ → List (List ℕ) → Result Value Fault
+read_text format L n [] = Err (format.no_header n)
+read_text format L n (line ∷ more) = by_tokens (words_of line) (read_text format L (n + 1) more) (λ header. format.header L (n + 1) header >>= read_lines format (n + 1) more)
 
--- the same, as it is spelled: the first line with a token is a header, and the tokens of the lines behind it are a body
+-- the grammar: the first line with a token is a header, and the tokens of the lines after it are a body
 abbrev pub AreRows : (List (List ℕ) → Type 0) → (List (List ℕ) → Type 0) → List (List ℕ) → Type 0
 AreRows IsHeader IsBody [] = ⊥
 AreRows IsHeader IsBody (line ∷ more) = by_tokens (words_of line) (AreRows IsHeader IsBody more) (λ header. IsHeader header × IsBody (flat_map words_of more))
 
--- a fault is want of memory, or the one that is expected
+-- the fault is refused memory, or the expected one
 abbrev pub Fails : {A Fault : Type 0} → Fault → Fault → Result A Fault → Type 0
 Fails no_memory fault expected = (fault ≡ no_memory) ⊎ (expected ≡ Err fault)
 
--- a call answers what is expected, unless memory ran out
+-- a call returns what is expected, unless memory is refused
 abbrev pub Answers : {A Fault : Type 0} → Fault → Result A Fault → Result A Fault → Type 0
 Answers no_memory (Ok x) expected = expected ≡ Ok x
 Answers no_memory (Err fault) expected = Fails no_memory fault expected

@@ -7,7 +7,7 @@ use Rattle.std.specs.Str.{byte}
 abbrev pub is_white : ℕ → Bool
 is_white b = b == byte " " || b == byte "\t" || b == byte "\r" || b == byte "\n"
 
--- a line ends at an LF, or at the end of the text
+-- the lines of a text: a line ends at an LF, or at the end of the text
 abbrev pub lines : List ℕ → List (List ℕ)
 lines text = slice_split (λ b. b == byte "\n") text
 
@@ -15,7 +15,7 @@ abbrev pub is_some_byte : List ℕ → Bool
 is_some_byte [] = false
 is_some_byte (b ∷ bs) = true
 
--- the longest runs of bytes that are no white space
+-- the maximal runs of bytes that are no white space
 unfoldable pub words : List ℕ → List (List ℕ)
 words line = filter is_some_byte (slice_split is_white line)
 
@@ -24,5 +24,6 @@ abbrev pub is_comment : List ℕ → Bool
 is_comment [] = false
 is_comment (b ∷ bs) = b == byte "c"
 
+-- the tokens of a line; a comment has none
 abbrev pub words_of : List ℕ → List (List ℕ)
 words_of line = if is_comment line then [] else words line

@@ -1,11 +1,11 @@
--- How the bytes lie that a reader keeps.
+-- The invariant of a reader.
 use Rattle.std.specs.Prelude.{◌≢◌, ℕ, ◌≤◌, List, Option, Some, None, vec_capacity}
 use Rattle.std.specs.Global.{Vec}
 use Rattle.frames.specs.declared.fault.FrameFault.{FrameFault}
 use Rattle.frames.specs.declared.fault.FrameFault.TheVariants.{NoMemory}
 use Rattle.frames.specs.Stream.{Ends, Open}
 
--- a rest that is open, or a fault of the stream
+-- an open rest, or a fault of the stream
 abbrev pub IsProgress : Option FrameFault → List ℕ → Type 0
 IsProgress None rest = Ends rest Open
 IsProgress (Some fault) rest = fault ≢ NoMemory

@@ -1,18 +1,18 @@
--- What a token of a cube does to the cubes that were read so far.
+-- What a token of a cube does to the cubes read so far.
 use Rattle.std.specs.Prelude.{ℕ, not, nat_le, List, [], ◌∷◌, length, Result, Ok, if◌then◌else◌}
 use Rattle.dimacs.specs.logic.Literal.{Literal, var_of}
 use Rattle.icnf.specs.declared.fault.IcnfFault.{IcnfFault}
 use Rattle.icnf.specs.declared.fault.Kind.TheVariants.{AboveLimit, RepeatedVariable, NotATree, CubeTooLong}
 use Rattle.icnf.specs.declared.place.Place.{Place}
 use Rattle.icnf.specs.declared.walk.Stage.TheVariants.{Inside}
-use Rattle.icnf.specs.Reading.{fault}
+use Rattle.icnf.specs.Parser.{fault}
 use Rattle.icnf.specs.Walk.{WalkState, names, fits, advanced, ended_cube}
 
--- a cube begins
+-- begins a cube
 unfoldable pub begin_cube : ℕ → WalkState → Result WalkState IcnfFault
 begin_cube line w = if nat_le 65536 (length w.cubes) then fault AboveLimit line else Ok (record w { stage = Inside })
 
--- a cube's end
+-- reads a cube's end
 abbrev pub end_behind : ℕ → List Place → WalkState → Result WalkState IcnfFault
 end_behind line [] w = Ok (ended_cube w)
 end_behind line (p ∷ forced) w = fault NotATree line
@@ -20,7 +20,7 @@ end_behind line (p ∷ forced) w = fault NotATree line
 unfoldable pub end_cube : ℕ → WalkState → Result WalkState IcnfFault
 end_cube line w = end_behind line w.forced w
 
--- a literal in a cube
+-- reads a literal in a cube
 unfoldable pub read_literal : ℕ → Literal → WalkState → Result WalkState IcnfFault
 read_literal line l w =
     if names w.path (var_of l) then fault RepeatedVariable line

@@ -1,15 +1,15 @@
--- How spans lie in one list of literals.
+-- The layout of spans in one list of literals.
 use Rattle.std.specs.Prelude.{ℕ, ◌+◌, ◌*◌, ◌≤◌, List, length, All}
 use Rattle.dimacs.specs.logic.Literal.{Literal}
 use Rattle.icnf.specs.declared.span.Span.{Span}
 
--- a span within so many literals, and of at most 64 of them
+-- a span of at most 64 literals, within a list of len literals
 pub record IsSpan (len : ℕ) (s : Span) : Type 0 where
   pub rise : s.from ≤ s.to
   pub inside : s.to ≤ len
   pub short : s.to ≤ s.from + 64
 
--- how the cubes lie: each within the literals, and no more literals than the limits on cubes ask for
+-- the cubes' spans: each within the literals, at most 65,536, and at most 128 literals for each of them
 pub record AreSpans (literals : List Literal) (spans : List Span) : Type 0 where
   pub inside : All (IsSpan (length literals)) spans
   pub count : length spans ≤ 65536

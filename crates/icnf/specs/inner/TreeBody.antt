@@ -1,5 +1,6 @@
--- What a token does where clauses are compared and not kept.
+-- The iCNF parser that compares clauses with a formula's and does not store them.
 use Rattle.std.specs.Prelude.{ℕ, ◌==◌, ◌&&◌, Bool, nat_lt, nat_le, length, List, ℤ, nat_abs, Option, Some, None, Result, Ok, Err, [], if◌then◌else◌}
+use Rattle.dimacs.specs.logic.Limits.{Limits}
 use Rattle.dimacs.specs.logic.Literal.{Clause, literal_of_number}
 use Rattle.dimacs.specs.text.Rows.{Format, ◌>>=◌}
 use Rattle.icnf.specs.declared.cubes_fault.CubesFault.{CubesFault}
@@ -10,43 +11,43 @@ use Rattle.icnf.specs.declared.tree_body.TreeBody.{TreeBody}
 use Rattle.icnf.specs.declared.walk.Stage.{Stage}
 use Rattle.icnf.specs.declared.walk.Stage.TheVariants.{Clauses, Outside, Inside, Complete}
 use Rattle.icnf.specs.Leaves.{Cube}
-use Rattle.icnf.specs.Reading.{fault, read_header, Token, Mark, Number, token}
+use Rattle.icnf.specs.Parser.{fault, read_header, Token, Mark, Number, token}
 use Rattle.icnf.specs.Walk.{WalkState}
-use Rattle.icnf.specs.inner.Comparing.{none_compared, with_literal, with_end}
+use Rattle.icnf.specs.inner.Comparison.{none_compared, with_literal, with_end}
 use Rattle.icnf.specs.inner.Cubes.{begin_cube, end_cube, read_literal}
 
--- nothing read yet
-abbrev pub none_read : TreeBody
-none_read = record { clauses = none_compared; walk = record { stage = Clauses; cubes = []; path = []; forced = [] } }
+-- no token of the body has been read
+abbrev pub none_read : Limits → TreeBody
+none_read L = record { limits = L; clauses = none_compared; walk = record { stage = Clauses; cubes = []; path = []; forced = [] } }
 
--- the walk goes on
+-- the walk's step, within the body
 abbrev pub walks : Result WalkState IcnfFault → TreeBody → Result TreeBody IcnfFault
 walks r s = r >>= λ w. Ok (record s { walk = w })
 
--- the word a
+-- reads the word a
 abbrev pub take_mark : ℕ → Stage → TreeBody → Result TreeBody IcnfFault
 take_mark line Clauses s = if s.clauses.at == 0 then walks (begin_cube line s.walk) s else fault BadToken line
 take_mark line Outside s = walks (begin_cube line s.walk) s
 take_mark line Inside s = fault BadToken line
 take_mark line Complete s = fault NotATree line
 
--- a number in a clause
+-- reads a number in a clause
 unfoldable pub take_in_clause : List Clause → ℕ → ℤ → TreeBody → Result TreeBody IcnfFault
 take_in_clause clauses line z s =
-    if nat_le 4000000 s.clauses.count then fault AboveLimit line
+    if nat_le s.limits.clauses s.clauses.count then fault AboveLimit line
     else (if nat_abs z == 0 then Ok (record s { clauses = with_end clauses s.clauses })
-    else (if nat_lt 1000000 (nat_abs z) then fault AboveLimit line
-    else (if nat_le 50000000 s.clauses.total then fault AboveLimit line
+    else (if nat_lt s.limits.vars (nat_abs z) then fault AboveLimit line
+    else (if nat_le s.limits.literals s.clauses.total then fault AboveLimit line
     else Ok (record s { clauses = with_literal clauses (literal_of_number z) s.clauses }))))
 
--- a number in a cube
+-- reads a number in a cube
 unfoldable pub take_in_cube : ℕ → ℤ → TreeBody → Result TreeBody IcnfFault
 take_in_cube line z s =
     if nat_abs z == 0 then walks (end_cube line s.walk) s
     else (if nat_lt s.clauses.greatest (nat_abs z) then fault VariableAboveClauses line
     else walks (read_literal line (literal_of_number z) s.walk) s)
 
--- a number
+-- reads a number
 abbrev pub take_number : List Clause → ℕ → ℤ → Stage → TreeBody → Result TreeBody IcnfFault
 take_number clauses line z Clauses s = take_in_clause clauses line z s
 take_number clauses line z Outside s = fault ClauseBehindCube line
@@ -61,7 +62,7 @@ take_found clauses line (Some (Number z)) s = take_number clauses line z s.walk.
 unfoldable pub take_token : List Clause → ℕ → List ℕ → TreeBody → Result TreeBody IcnfFault
 take_token clauses line word s = take_found clauses line (token word) s
 
--- the end of a text of that many lines: whether its clauses are the formula's, and its cubes
+-- at the end of a text of n lines: whether its clauses are the formula's, and its cubes
 abbrev pub end_at : List Clause → ℕ → Stage → TreeBody → Result (Bool × List Cube) IcnfFault
 end_at clauses n Clauses s = if s.clauses.at == 0 then fault NotATree n else fault ClauseNotEnded n
 end_at clauses n Outside s = fault NotATree n
@@ -71,16 +72,16 @@ end_at clauses n Complete s = Ok (s.clauses.agrees && (s.clauses.count == length
 unfoldable pub finish : List Clause → ℕ → TreeBody → Result (Bool × List Cube) IcnfFault
 finish clauses n s = end_at clauses n s.walk.stage s
 
--- iCNF, where the clauses are compared with these
+-- iCNF, whose clauses are compared with these
 abbrev pub format : List Clause → Format TreeBody (Bool × List Cube) IcnfFault
 format clauses = record {
   no_header = λ n. record { kind = NoHeader; line = n };
-  header = λ line words. read_header line words >>= λ h. Ok none_read;
+  header = λ L line words. read_header line words >>= λ h. Ok (none_read L);
   token = take_token clauses;
   finish = finish clauses;
 }
 
--- what is told of a text that was read to its end
+-- what is returned for a text that was read to its end
 abbrev pub told_of : Result (Bool × List Cube) IcnfFault → Result (List Cube) CubesFault
 told_of (Ok (same, leaves)) = if same then Ok leaves else Err OtherFormula
 told_of (Err fault) = Err (Faulty fault)

@@ -1,4 +1,4 @@
--- What the places and cubes are while a tree is walked.
+-- The invariant of the path and the cubes while a tree is read.
 use Rattle.std.specs.Prelude.{◌≡◌, ◌<◌, Bool, true, false, List, [], ◌∷◌, ◌++◌, length}
 use Rattle.dimacs.specs.logic.Literal.{negation, var_of}
 use Rattle.icnf.specs.declared.place.Place.{Place}
@@ -6,17 +6,17 @@ use Rattle.icnf.specs.declared.walk.Stage.{Stage}
 use Rattle.icnf.specs.declared.walk.Stage.TheVariants.{Clauses, Outside, Inside, Complete}
 use Rattle.icnf.specs.Leaves.{Cube, IsFree, Leaves}
 
--- what was read before a path goes on behind a place: nothing where its other branch is missing, else the leaves of that branch
+-- what was read before a path goes on below a decision: nothing if its other branch is missing, else the leaves of that branch
 abbrev pub BeforePlace : Bool → Cube → List Cube → (List Cube → Type 0) → Type 0
 BeforePlace true other cubes later = later cubes
 BeforePlace false other cubes later = (first rest : List Cube) × (cubes ≡ first ++ rest) × Leaves other first × later rest
 
--- the cubes are those of the branches that were left behind on a path
+-- the cubes are the leaves of the branches to the left of a path
 abbrev pub Begun : Cube → List Place → List Cube → Type 0
 Begun front [] cubes = cubes ≡ []
 Begun front (p ∷ path) cubes = IsFree front (var_of p.literal) × BeforePlace p.is_open (front ++ negation p.literal ∷ []) cubes (Begun (front ++ p.literal ∷ []) path)
 
--- what the cubes are, by where the text stands
+-- what the cubes are, by the position in the text
 abbrev pub IsWalked : Stage → List Place → List Cube → Type 0
 IsWalked Clauses path cubes = Begun [] path cubes
 IsWalked Outside path cubes = Begun [] path cubes

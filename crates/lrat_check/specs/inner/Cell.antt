@@ -1,4 +1,4 @@
--- Cells of a table of slots: how their fields give a slot or none.
+-- The cells of a table of slots, by their fields: a slot, or none.
 use Rattle.std.specs.Prelude.{◌≡◌, ℕ, ◌-◌, ◌^◌, Bool, true, false, Option, Some, None, cond, refl, nat_eq}
 use Rattle.std.proofs.Common.{sym}
 use Rattle.std.proofs.lemmas.Bool.{eqb-true}

@@ -1,14 +1,14 @@
--- A log's state by its parts, and lines that are handed on to it.
+-- The state of a checker of logs by its parts, and the checker as what takes lines, in the terms of `TakesLines` of lrat_text.
 use Rattle.std.specs.Prelude.{ℕ, List}
 use Rattle.lrat_text.specs.declared.step.Step.{Step}
 use Rattle.lrat_check.specs.Logs.{KeepsFormula, LogState, RefusesLogLine}
-use Rattle.lrat_check.specs.inner.Checking.{step_refusal}
-use Rattle.lrat_check.specs.declared.checking.CheckFault.{CheckFault}
+use Rattle.lrat_check.specs.inner.LineOutcomes.{step_refusal}
+use Rattle.lrat_check.specs.declared.line_checker.CheckFault.{CheckFault}
 use Rattle.lrat_check.specs.declared.log.LogClauses.{LogClauses}
 use Rattle.lrat_check.specs.declared.log.LogFault.{LogFault}
 use Rattle.lrat_check.specs.declared.log.LogFault.TheVariants.{OfStep, NotRup, DeletesBase}
 
--- the state before the line of this number, where this step was read last
+-- the state before the line of this number, if this step was read last
 abbrev pub state_of : LogClauses → ℕ → Step → LogState
 state_of log line step = record { base = log.base; live = log.clauses; top = log.top; line = line; step = step; cut = log.cut }
 
@@ -18,9 +18,9 @@ log_refusal (OfStep fault) line = step_refusal fault line
 log_refusal NotRup line = record { number = 15; line = line; text = 0 }
 log_refusal DeletesBase line = record { number = 16; line = line; text = 0 }
 
--- ---- lines that are handed to a checker of logs
+-- ---- a checker of logs takes lines
 abbrev pub MayTake : LogState → Type 0
 MayTake s = Unit {0}
 
-abbrev pub Refuses : LogState → List ℕ → LogState → CheckFault → Type 0
-Refuses old line new fault = RefusesLogLine old line fault × KeepsFormula old new
+abbrev pub RefusesAndKeeps : LogState → List ℕ → LogState → CheckFault → Type 0
+RefusesAndKeeps old line new fault = RefusesLogLine old line fault × KeepsFormula old new

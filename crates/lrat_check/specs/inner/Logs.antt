@@ -1,9 +1,9 @@
--- The numbers of the faults of a log's step, and what a faulty deletion took out.
+-- The numbers of the faults of a log's step, and what a refused deletion deleted.
 use Rattle.std.specs.Prelude.{◌≡◌, ℕ, ◌≤◌, List, Option, Some, None, Result, Ok, Err, length, take}
 use Rattle.dimacs.specs.logic.ClauseMap.{ClauseMap}
-use Rattle.lrat_check.specs.Faults.{removed}
-use Rattle.lrat_check.specs.Logs.{own_deletion_fault}
-use Rattle.lrat_check.specs.Numbers.{step_fault_number}
+use Rattle.lrat_check.specs.StepFaults.{removed}
+use Rattle.lrat_check.specs.Logs.{log_deletion_fault}
+use Rattle.lrat_check.specs.FaultNumbers.{step_fault_number}
 use Rattle.lrat_check.specs.declared.log.LogFault.{LogFault}
 use Rattle.lrat_check.specs.declared.log.LogFault.TheVariants.{OfStep, NotRup, DeletesBase}
 
@@ -12,13 +12,13 @@ log_fault_number (OfStep fault) = step_fault_number fault
 log_fault_number NotRup = 15
 log_fault_number DeletesBase = 16
 
--- the number of the fault that an answer tells
+-- the number of an answer's fault, if it is one
 abbrev pub number_in : {A : Type 0} → Result A LogFault → Option ℕ
 number_in (Ok x) = None
 number_in (Err fault) = Some (log_fault_number fault)
 
--- so many of the numbers, from the left, had no fault behind a base of b clauses, and are out
+-- the first cut numbers have no fault over a base of b clauses, and are deleted
 pub record IsCutAt (b : ℕ) (old : ClauseMap) (ids : List ℕ) (cut : ℕ) (new : ClauseMap) : Type 0 where
   pub within : cut ≤ length ids
-  pub none : own_deletion_fault b old (take cut ids) ≡ None
+  pub none : log_deletion_fault b old (take cut ids) ≡ None
   pub left : new ≡ removed old (take cut ids)

@@ -3,16 +3,16 @@ use Rattle.std.specs.Prelude.{◌≡◌, ℕ, ◌≤◌, ◌≢◌, ◌⊎◌, �
 use Rattle.dimacs.specs.logic.Literal.{index_of}
 use Rattle.dimacs.specs.logic.Propagation.{Assumed}
 
--- the literals whose mark is one of two
+-- the literals whose stamp is one of two
 abbrev pub assumed_by : List ℕ → ℕ → ℕ → Assumed
 assumed_by marks base current = λ l. (slice_index marks (index_of l) == base) || (slice_index marks (index_of l) == current)
 
--- each mark is as it was, or is now current and was not base
+-- each stamp is as it was, or it is current now and was not base
 abbrev pub OnlyMarks : ℕ → ℕ → List ℕ → List ℕ → Type 0
 OnlyMarks base current old new =
     (i : ℕ) → (slice_index new i ≡ slice_index old i) ⊎ ((slice_index new i ≡ current) × (slice_index old i ≢ base))
 
--- no mark is the number
+-- no literal has the stamp n
 abbrev pub IsUnused : ℕ → List ℕ → Type 0
 IsUnused n marks = (i : ℕ) → slice_index marks i ≢ n
 

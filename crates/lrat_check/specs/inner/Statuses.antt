@@ -1,11 +1,11 @@
--- What the code's statuses say.
+-- The statuses of the code as those of the definitions.
 use Rattle.std.specs.Prelude.{if◌then◌else◌}
 use Rattle.dimacs.specs.logic.Literal.{Literal, same}
 use Rattle.lrat_check.specs.declared.propagation.Status.{Status as Answer}
 use Rattle.lrat_check.specs.declared.propagation.Status.TheVariants.{Satisfied as IsSatisfied, Falsified as IsFalsified, Unit as IsUnit, Undecided as IsUndecided}
-use Rattle.lrat_check.specs.Faults.{Status, Satisfied, Falsified, Unit, Undecided}
+use Rattle.lrat_check.specs.StepFaults.{Status, Satisfied, Falsified, Unit, Undecided}
 
--- the status that an answer tells
+-- the status that a value of the code stands for
 abbrev pub status_in : Answer → Status
 status_in IsSatisfied = Satisfied
 status_in IsFalsified = Falsified

@@ -1,5 +1,5 @@
--- Clauses whose literals lie one after the other in one list, by slots: of a table by number, and of one of numbers that are
--- far from the others, with a map that finds their places.
+-- Clauses whose literals lie one after the other in one list, found by slots: those of a table by number, and those of a list with a map
+-- from numbers to its places.
 use Rattle.std.specs.Prelude.{◌≡◌, ℕ, ◌+◌, ◌<◌, ◌≤◌, List, [], ◌∷◌, ◌++◌, length, take, drop, Option, Some, None, option_map, slice_index, slice_index_or}
 use Rattle.std.specs.FinMap.{from_entries}
 use Rattle.std.specs.List.{enumerate_from}
@@ -16,25 +16,25 @@ use Rattle.lrat_check.specs.declared.slot_tables.SlotTables.{SlotTables}
 abbrev pub clause_at : List Literal → Slot → Clause
 clause_at literals s = take s.len (drop s.place literals)
 
--- the clauses of the slots of a table from a place on, with the numbers of their places
+-- the clauses of a table's slots, with the numbers of their places; the first place is n
 abbrev pub entries_of : List Literal → (ℕ → ℕ) → ℕ → List (Option Slot) → List (ℕ × Clause)
 entries_of literals number n [] = []
 entries_of literals number n (None ∷ slots) = entries_of literals number (n + 1) slots
 entries_of literals number n (Some s ∷ slots) = (number n, clause_at literals s) ∷ entries_of literals number (n + 1) slots
 
--- the clauses of numbers that are their own places
+-- the clauses of the table by number, where each number is its place
 abbrev pub near_entries : List Literal → List (Option Slot) → List (ℕ × Clause)
 near_entries literals near = entries_of literals (λ n. n) 0 near
 
--- the clauses of numbers that are far from the others
+-- the clauses of numbers far from the others
 abbrev pub far_entries : List Literal → Far → List (ℕ × Clause)
 far_entries literals far = entries_of literals (λ p. slice_index far.numbers.items p) 0 far.slots.items
 
--- where the slot of a far number stands
+-- the place of a far number's slot
 abbrev pub place_of : Far → ℕ → Option ℕ
 place_of far q = tree.get nat_cmp far.places q
 
--- literals, the slots of numbers that are their own places, and those of numbers that are far from the others
+-- literals, the slots of the table by number, and those of far numbers
 pub record Tables : Type 0 where
   pub literals : List Literal
   pub near : List (Option Slot)
@@ -50,7 +50,7 @@ tables_of t = tables t.literals.items t.near t.far
 abbrev pub live_of : Tables → ClauseMap
 live_of t = from_entries (near_entries t.literals t.near ++ far_entries t.literals t.far)
 
--- what a store holds: literals, and the live clauses that stand in them
+-- a store: literals, and the live clauses that stand in them
 pub record Stored : Type 0 where
   pub literals : List Literal
   pub live : ClauseMap
@@ -71,22 +71,22 @@ IsPlaced literals s = s.place + s.len ≤ length literals
 abbrev pub ArePlaced : List Literal → List (Option Slot) → Type 0
 ArePlaced literals slots = (p : ℕ) (s : Slot) → slice_index_or slots p None ≡ Some s → IsPlaced literals s
 
--- every slot of some literals is one of others, with the same literals
+-- each slot within the old literals is one within the new ones, with the same clause
 abbrev pub Keeps : List Literal → List Literal → Type 0
 Keeps old new = (s : Slot) → IsPlaced old s → IsPlaced new s × (clause_at new s ≡ clause_at old s)
 
--- at each place of two tables stand the same literals, of literals of their own
+-- at each place two tables have the same clause, each in literals of its own
 abbrev pub SameClauses : List Literal → List (Option Slot) → List Literal → List (Option Slot) → Type 0
 SameClauses literals slots literals' slots' =
     (p : ℕ) → option_map (clause_at literals') (slice_index_or slots' p None) ≡ option_map (clause_at literals) (slice_index_or slots p None)
 
--- a table whose clauses were copied to other literals
+-- the second table has the clauses of the first, copied to other literals
 pub record AreCopied (literals : List Literal) (slots : List (Option Slot)) (literals' : List Literal) (slots' : List (Option Slot)) : Type 0 where
   pub len : length slots' ≡ length slots
   pub clauses : SameClauses literals slots literals' slots'
   pub placed : ArePlaced literals' slots'
 
--- each slot lies within the literals; the map finds the far numbers' places, which are none of those of the table by number
+-- each slot lies within the literals, and the map gives exactly the places of the far numbers, which are not below the table's length
 pub record IsStore (t : Tables) : Type 0 where
   pub near_placed : ArePlaced t.literals t.near
   pub far_placed : ArePlaced t.literals t.far.slots.items
@@ -94,7 +94,7 @@ pub record IsStore (t : Tables) : Type 0 where
   pub found : (q p : ℕ) → place_of t.far q ≡ Some p → (slice_index t.far.numbers.items p ≡ q) × (p < length t.far.slots.items) × (length t.near ≤ q)
   pub kept : (p : ℕ) (s : Slot) → slice_index_or t.far.slots.items p None ≡ Some s → place_of t.far (slice_index t.far.numbers.items p) ≡ Some p
 
--- at each place stands what stands there in a list: no slot, and then the slots of the clauses that begin at some places so far, numbered from 1
+-- the cells are those of a list: no slot at 0, and then the slots of the first count clauses that begin at these places, numbered from 1
 pub record IsFilledTo (literals : List Literal) (places : List ℕ) (count : ℕ) (near : List (Option Slot)) : Type 0 where
   pub slots : List (Option Slot)
   pub many : length slots ≡ count + 1
@@ -102,7 +102,7 @@ pub record IsFilledTo (literals : List Literal) (places : List ℕ) (count : ℕ
   pub placed : ArePlaced literals slots
   pub same : (q : ℕ) → slice_index_or near q None ≡ slice_index_or slots q None
 
--- the same, of all places
+-- the same, of all clauses
 pub record IsFilled (literals : List Literal) (places : List ℕ) (near : List (Option Slot)) : Type 0 where
   pub slots : List (Option Slot)
   pub entries : near_entries literals slots ≡ numbered_entries (parts literals places)

@@ -1,8 +1,8 @@
--- One piece of a proof, and what is reported of a text.
+-- How a check takes a piece of a proof, and the report of the text of a proof.
 use Rattle.std.specs.Prelude.{◌≡◌, ◌↔◌, ◌⊎◌, ◌++◌, ℕ, Bool, true, false, List, [], None}
 use Rattle.dimacs.specs.logic.Cnf.{Cnf}
-use Rattle.dimacs.specs.text.Reading.{parse}
-use Rattle.dimacs.specs.text.Spelling.{Spells}
+use Rattle.dimacs.specs.text.Parser.{parse}
+use Rattle.dimacs.specs.text.Grammar.{Spells}
 use Rattle.lrat_text.specs.Proof.{Accepts}
 use Rattle.lrat_check.specs.Stream as text
 use Rattle.binary_check.specs.Stream as binary
@@ -11,13 +11,14 @@ use Rattle.node_main.specs.declared.commands.check.stage.Stage.{Stage}
 use Rattle.node_main.specs.declared.commands.check.stage.Stage.TheVariants.{Awaiting, Text, Binary}
 use Rattle.reports.specs.declared.report.Report.{Report}
 
--- a check has begun in one of the forms, and has taken no byte
+-- `IsBegun F form stage`: a check against the formula F has begun in this form, binary if `form` is true, and has taken no byte
 abbrev pub IsBegun : Cnf → Bool → Stage → Type 0
 IsBegun F form (Awaiting G) = ⊥
 IsBegun F form (Text p) = (form ≡ false) × text.HasTaken F p []
 IsBegun F form (Binary p) = (form ≡ true) × binary.HasTaken F p []
 
--- a piece leads from one stage to another, in the same form
+-- `IsFed old piece new`: a piece of the proof leads from one stage to another of the same form: if the check had taken some bytes before,
+-- it has taken these bytes and the piece after
 abbrev pub IsFed : Stage → List ℕ → Stage → Type 0
 IsFed (Awaiting F) piece new = new ≡ Awaiting F
 IsFed (Text p) piece (Text q) = (F : Cnf) (bytes : List ℕ) → text.HasTaken F p bytes → text.HasTaken F q (bytes ++ piece)
@@ -27,7 +28,7 @@ IsFed (Text p) piece (Binary q) = ⊥
 IsFed (Binary p) piece (Awaiting F) = ⊥
 IsFed (Binary p) piece (Text q) = ⊥
 
--- what is reported of an input and the text of a proof
+-- the report of `check` for an input and the text of a proof
 pub record IsTextReport (input proof : List ℕ) (report : Report) : Type 0 where
   pub verified : (report.status ≡ 0) ↔ ((F : Cnf) × Spells input F × Accepts F proof)
   pub status : (report.status ≡ 0) ⊎ (report.status ≡ 1)

@@ -1,9 +1,9 @@
-//! `check`: whether a proof is one of a formula.
+//! `check`: tells whether a proof refutes a formula.
 
 ghost use Rattle.std.specs.Prelude.{◌≡◌, ◌↔◌, ◌⊎◌, IfOk, None};
 ghost use Rattle.dimacs.specs.logic.Cnf.{Cnf};
-ghost use Rattle.dimacs.specs.text.Reading.{parse};
-ghost use Rattle.dimacs.specs.text.Spelling.{Spells};
+ghost use Rattle.dimacs.specs.text.Parser.{parse};
+ghost use Rattle.dimacs.specs.text.Grammar.{Spells};
 ghost use Rattle.lrat_text.specs.Proof.{Accepts};
 ghost use Rattle.node_main.specs.Reports.{check_text};
 ghost use Rattle.node_main.specs.Truth.{SpellsUnsatisfiable};
@@ -20,7 +20,7 @@ pub use proof_check::ProofCheck;
 use reports::Report;
 use std::alloc::{AllocError, Global};
 
-/// Checks a text of a proof.
+/// Checks the text of a proof against the formula of an input, and reports the answer. An error is want of memory.
 fn check_text(alloc: Global, input: &[u8], proof: &[u8]) -> Result<Report, AllocError>
     ensures { IfOk result (IsTextReport input.now proof.now) }
 {
@@ -30,12 +30,12 @@ fn check_text(alloc: Global, input: &[u8], proof: &[u8]) -> Result<Report, Alloc
     }
 }
 
-/// Reads a formula and checks the text of a proof of it. The error stands for the report `c no memory`, status 1.
+/// Reads a formula, checks the text of a proof of it, and reports the answer. The error stands for the report `c no memory`, status 1.
 pub fn run_check(alloc: Global, input: &[u8], proof: &[u8]) -> Result<Report, AllocError>
-    // Exactly where the input spells a formula and the proof is accepted against it.
+    // Status 0 if and only if the input spells a formula and the proof is accepted against it.
     ensures verified { IfOk result (λ r. (r.status ≡ 0) ↔ ((F : Cnf) × Spells input.now F × Accepts F proof.now)) }
     ensures status { IfOk result (λ r. (r.status ≡ 0) ⊎ (r.status ≡ 1)) }
-    // So the formula that the input spells is unsatisfiable.
+    // So with status 0 the formula that the input spells is unsatisfiable.
     ensures truth { IfOk result (λ r. r.status ≡ 0 → SpellsUnsatisfiable input.now) }
     // Which lines are printed, and so which fault, in which line.
     ensures text { IfOk result (λ r. r.stdout.items ≡ check_text (parse input.now) proof.now) }

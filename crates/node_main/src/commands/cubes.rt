@@ -1,17 +1,17 @@
-//! `cubes`: a formula with the cubes into which it is split.
+//! `cubes`: prints the cubes into which a formula is split.
 
 ghost use Rattle.std.specs.Prelude.{◌≡◌, ◌≤◌, ◌↔◌, ◌⊎◌, IfOk, None};
 ghost use Rattle.dimacs.specs.logic.Cnf.{Cnf};
-ghost use Rattle.dimacs.specs.text.Spelling.{Spells};
-ghost use Rattle.dimacs.specs.text.Reading.{parse};
-ghost use Rattle.node_main.specs.Cubing.{ShowsCubes, PrintsCubes};
+ghost use Rattle.dimacs.specs.text.Grammar.{Spells};
+ghost use Rattle.dimacs.specs.text.Parser.{parse};
+ghost use Rattle.node_main.specs.CubesText.{ShowsCubes, PrintsCubes};
 
 use cube_split::tree;
 use dimacs::{Formula, Kind};
 use reports::{Report, faulty_input};
 use std::alloc::{AllocError, Global};
 
-/// The report of the cubes of a formula.
+/// The report of the cubes into which a formula is split to this depth, from 0 to 16. An error is want of memory.
 fn listed(alloc: Global, formula: &Formula, depth: u32) -> Result<Report, AllocError>
     requires { depth ≤ 16 }
     ensures text { IfOk result (λ r. ShowsCubes formula.now depth r.stdout.items) }
@@ -24,10 +24,11 @@ fn listed(alloc: Global, formula: &Formula, depth: u32) -> Result<Report, AllocE
     Ok(report)
 }
 
-/// Reads a formula and splits it into cubes, as deep as this. The error stands for the report `c no memory`, status 1.
+/// Reads a formula, splits it by the split rule to this depth, from 0 to 16, and reports its clauses and the cubes as an iCNF text. The
+/// error stands for the report `c no memory`, status 1.
 pub fn run_cubes(alloc: Global, input: &[u8], depth: u32) -> Result<Report, AllocError>
     requires { depth ≤ 16 }
-    // Exactly where the input spells a formula.
+    // Status 0 if and only if the input spells a formula.
     ensures spelled { IfOk result (λ r. (r.status ≡ 0) ↔ ((F : Cnf) × Spells input.now F)) }
     ensures status { IfOk result (λ r. (r.status ≡ 0) ⊎ (r.status ≡ 1)) }
     // The formula's clauses and the cubes of its tree, or the fault of the input.

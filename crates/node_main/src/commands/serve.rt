@@ -1,24 +1,24 @@
-//! `serve`: a formula is decided by a coordinator, whose workers are elsewhere.
+//! `serve` in rounds: runs a coordinator, which decides a formula with workers of other processes.
 
 ghost use Rattle.std.specs.Prelude.{ℕ, List, ◌≤◌, ◌+◌, ◌*◌, Option, IfOk, option_map};
 ghost use Rattle.command_line.specs.Options.{AreOptions};
 ghost use Rattle.runs.specs.Accounts.{OnceEach};
-ghost use Rattle.node_main.specs.Running.{WasRun};
-ghost use Rattle.node_main.specs.Solving.{Solves};
-ghost use Rattle.node_main.specs.Starting.{IsStart, Starts};
+ghost use Rattle.node_main.specs.RunCalls.{WasRun};
+ghost use Rattle.node_main.specs.SolveReports.{Solves};
+ghost use Rattle.node_main.specs.RunStart.{IsStart, Starts};
 ghost use Rattle.node_main.specs.Truth.{IsTrueReport};
 
 use crate::plans::coordinator_plan;
-use crate::reporting::decided;
-use crate::starting::{Start, begin};
+use crate::start::{Start, begin};
+use crate::verdict_report::decided;
 use command_line::Options;
 use links::Links;
 use lrat_check::accepted_proofs_are_sound;
 use reports::Report;
 use std::alloc::{AllocError, Global};
 
-/// Reads a formula and runs a coordinator over the links of its workers, with the formula split as for `solve`. It goes on after the
-/// verdict, until every link is closed. The error stands for the report `c no memory`, status 1.
+/// Reads a formula, splits it as `run_solve` does, runs a coordinator over the links of its workers, and reports the verdict. The run goes
+/// on after the verdict, until every link is closed. The error stands for the report `c no memory`, status 1.
 pub fn run_serve<L: Links>(
     alloc: Global,
     input: &[u8],
@@ -40,7 +40,7 @@ pub fn run_serve<L: Links>(
     }
 }
 
-/// The same of what the run begins with, so that what is refused can be told before a worker is linked.
+/// Runs a coordinator as `run_serve` does, from a start on: so the caller can report a refused input before a worker is linked.
 pub fn run_serve_from<L: Links>(
     alloc: Global,
     start: Start,

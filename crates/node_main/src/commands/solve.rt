@@ -1,16 +1,16 @@
-//! `solve`: a formula is decided by a coordinator and its workers, in one process.
+//! `solve`: runs a coordinator and its workers in one process, which decide a formula.
 
 ghost use Rattle.std.specs.Prelude.{ℕ, List, ◌≤◌, ◌+◌, ◌*◌, IfOk, option_map};
-ghost use Rattle.dimacs.specs.text.Reading.{parse, GivesFormula};
+ghost use Rattle.dimacs.specs.text.Parser.{parse, GivesFormula};
 ghost use Rattle.command_line.specs.Options.{AreOptions};
 ghost use Rattle.runs.specs.Accounts.{OnceEach};
-ghost use Rattle.node_main.specs.Running.{WasRun};
-ghost use Rattle.node_main.specs.Solving.{Solves};
+ghost use Rattle.node_main.specs.RunCalls.{WasRun};
+ghost use Rattle.node_main.specs.SolveReports.{Solves};
 ghost use Rattle.node_main.specs.Truth.{IsTrueReport};
 
 use crate::plans::coordinator_plan;
-use crate::reporting::decided;
-use crate::starting::{Start, begin};
+use crate::start::{Start, begin};
+use crate::verdict_report::decided;
 use command_line::Options;
 use dimacs::{DimacsFault, Formula};
 use links::Links;
@@ -18,8 +18,8 @@ use lrat_check::accepted_proofs_are_sound;
 use reports::Report;
 use std::alloc::{AllocError, Global};
 
-/// Reads a formula and runs a coordinator and its workers over links between them, with the formula split by the cubes of an iCNF
-/// text or by the split rule. The error stands for the report `c no memory`, status 1.
+/// Reads a formula, splits it by the cubes of an iCNF text or by the split rule, runs a coordinator and its workers over links between
+/// them, and reports the verdict. The error stands for the report `c no memory`, status 1.
 pub fn run_solve<L: Links>(
     alloc: Global,
     input: &[u8],
@@ -38,7 +38,7 @@ pub fn run_solve<L: Links>(
     run_solve_of(alloc, dimacs::read(alloc, input), cubes, options, links)
 }
 
-/// The same of an input that was read, or has a fault, whichever way it came.
+/// Decides a formula as `run_solve` does, for an input that was read already, or has a fault.
 pub fn run_solve_of<L: Links>(
     alloc: Global,
     found: Result<Formula, DimacsFault>,

@@ -1,16 +1,16 @@
-//! `work`: one worker, whose coordinator is elsewhere.
+//! `work`: runs one worker, whose coordinator is in another process.
 
 ghost use Rattle.std.specs.Prelude.{ℕ, List, ◌≤◌, ◌+◌, IfOk};
-ghost use Rattle.dimacs.specs.text.Reading.{parse, GivesFormula};
+ghost use Rattle.dimacs.specs.text.Parser.{parse, GivesFormula};
 ghost use Rattle.command_line.specs.Options.{AreOptions};
 ghost use Rattle.runs.specs.Accounts.{OnceEach};
-ghost use Rattle.node_main.specs.Running.{WasRun};
-ghost use Rattle.node_main.specs.Solving.{Works};
+ghost use Rattle.node_main.specs.RunCalls.{WasRun};
+ghost use Rattle.node_main.specs.SolveReports.{Works};
 ghost use Rattle.node_main.specs.Truth.{IsTrueReport};
 
 use crate::plans::worker_plan;
-use crate::reporting::decided;
-use crate::starting::refused_input;
+use crate::start::refused_input;
+use crate::verdict_report::decided;
 use command_line::Options;
 use dimacs::{DimacsFault, Formula, Kind};
 use links::Links;
@@ -18,8 +18,8 @@ use lrat_check::accepted_proofs_are_sound;
 use reports::Report;
 use std::alloc::{AllocError, Global};
 
-/// Reads a formula and runs a worker over its link, until it holds a verdict. The error stands for the report `c no memory`,
-/// status 1.
+/// Reads a formula, runs a worker over its link until it holds a verdict, and reports the verdict. The error stands for the report `c no
+/// memory`, status 1.
 pub fn run_work<L: Links>(
     alloc: Global,
     input: &[u8],
@@ -37,7 +37,7 @@ pub fn run_work<L: Links>(
     run_work_of(alloc, dimacs::read(alloc, input), options, links)
 }
 
-/// The same of an input that was read, or has a fault, whichever way it came.
+/// Runs a worker as `run_work` does, for an input that was read already, or has a fault.
 pub fn run_work_of<L: Links>(
     alloc: Global,
     found: Result<Formula, DimacsFault>,

@@ -1,18 +1,18 @@
--- What stands of a joined text, as the code holds it.
+-- The invariant of a joiner.
 use Rattle.std.specs.Prelude.{◌≡◌, ℕ, ◌+◌, ◌<◌, ◌≤◌, ◌^◌, List, [], ◌∷◌, length, All}
 use Rattle.dimacs.specs.logic.Literal.{IsWithin}
 use Rattle.proof_join.specs.Fronts.{Branch, Front}
 
--- the last finished subtree is the left one beside a subtree at this depth
+-- the top of the stack is the left sibling of a subtree at this depth
 abbrev pub HasLeft : ℕ → List Branch → Type 0
 HasLeft depth [] = ⊥
 HasLeft depth (b ∷ finished) = (b.depth ≡ depth) × (0 < depth)
 
--- a clause within the limits, under a number up to this one
+-- the clause is within the limits, and its number is from 1 to top
 abbrev pub IsUpTo : ℕ → Branch → Type 0
 IsUpTo top b = (1 ≤ b.id) × (b.id ≤ top) × All (IsWithin 2000000) b.clause
 
--- what keeps every number within its limit
+-- numbers are at most the number of clauses and bytes, so that they stay below 2^48
 pub record IsOrderly (f : Front) : Type 0 where
   pub base : f.base < 2 ^ 40
   pub up : f.base ≤ f.standing.top

@@ -1,4 +1,4 @@
-//! What a fault means, where it is, and what to do.
+//! Tells what a fault of a file means, where it is, and what to do.
 
 use crate::explain::paths::{Paths, faulty};
 use crate::explain::sentence::{name_of, tell, tell_of};
@@ -8,10 +8,10 @@ use std::alloc::Global;
 use std::rt::Runtime;
 use std::str::from_utf8;
 
-/// So many bytes of a line are told.
+/// How many bytes of a line are shown at most.
 const WIDTH: usize = 60;
 
-/// Tells a line, if it is a text and not empty; a long one is cut.
+/// Tells a line of the file, cut after 60 bytes, if it is not empty and has only printable ASCII characters.
 fn tell_line<R: Runtime>(rt: &R, line: &[u8]) {
     let is_cut = line.len() > WIDTH;
     let text = &line[..WIDTH.min(line.len())];
@@ -28,7 +28,7 @@ fn tell_line<R: Runtime>(rt: &R, line: &[u8]) {
     let _ = eprintln!(rt; "c The line is: {text}");
 }
 
-/// Whether a token is a number.
+/// Whether a token is a decimal number without a leading zero; it may have a minus sign.
 fn is_number(token: &str) -> bool {
     let digits = match token.strip_prefix('-') {
         Some(digits) => digits,
@@ -38,7 +38,7 @@ fn is_number(token: &str) -> bool {
     are_digits && (token == "0" || !(digits.is_empty() || digits.starts_with('0')))
 }
 
-/// Tells which token of a line is no number, where that is the fault; an `a` may begin a line.
+/// Tells the first token of a line that is no number, if there is one. A line may begin with `a `, which is passed over.
 fn tell_token<R: Runtime>(rt: &R, line: &[u8]) {
     let Ok(text) = from_utf8(line) else {
         return;
@@ -56,7 +56,7 @@ fn tell_token<R: Runtime>(rt: &R, line: &[u8]) {
     }
 }
 
-/// Whether a fault of a file is that a token is no number.
+/// Whether a fault of a file of this kind is that a token is no number.
 fn is_of_token(subject: Subject, found: &Fault) -> bool {
     match subject {
         Subject::Input | Subject::Cubes | Subject::Events => found.number == 3,
@@ -64,7 +64,7 @@ fn is_of_token(subject: Subject, found: &Fault) -> bool {
     }
 }
 
-/// As what a file is read that is joined: as an answer if it begins as one.
+/// Answers as what a file is read: a joined one as an answer if its first byte begins an answer's line, any other as `subject`.
 fn joined_subject(file: File, subject: Subject, head: &[u8]) -> Subject {
     match (file, head.first()) {
         (File::Joined(_), Some(b'c' | b's' | b'v')) => Subject::Answer,
@@ -72,12 +72,12 @@ fn joined_subject(file: File, subject: Subject, head: &[u8]) -> Subject {
     }
 }
 
-/// Whether what a file is can be why it has this fault; of a fault of memory or of limits it is not.
+/// Whether a fault may come of a file of another kind: its number is at most 3, or it is at one of the first two lines or steps.
 fn is_early(found: &Fault) -> bool {
     found.number <= 3 || found.at <= 2
 }
 
-/// The line by which it is told what a file is: a fault of a greater number is none of its form.
+/// Answers the line by which the kind of the file is found; none for a fault that has nothing to do with its form.
 fn telling_line<'a>(view: &'a View, found: &Fault) -> &'a [u8] {
     match found.unit {
         Unit::Line if found.number > 2 => &[],
@@ -85,7 +85,7 @@ fn telling_line<'a>(view: &'a View, found: &Fault) -> &'a [u8] {
     }
 }
 
-/// Tells what a fault means, where it is, and what to do.
+/// Tells what a fault means, where it is, and what to do. If the command has no such file, or the file no such fault, nothing is told.
 pub(crate) fn explain_fault<R: Runtime + AllocGlobal>(rt: &R, paths: &Paths, found: &Fault) {
     let Some((path, subject)) = faulty(paths, found.file) else {
         return;
@@ -109,7 +109,7 @@ pub(crate) fn explain_fault<R: Runtime + AllocGlobal>(rt: &R, paths: &Paths, fou
     }
 }
 
-/// Tells where a fault is, and what it means.
+/// Tells in which line or step of a file a fault is, and what it means.
 fn tell_place<R: Runtime>(rt: &R, path: &str, found: &Fault, sentence: &str) {
     let name = name_of(path);
     let at = found.at;

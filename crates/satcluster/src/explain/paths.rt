@@ -7,17 +7,24 @@ use node_main::Request;
 /// The files of a request, and as what they are read.
 #[derive(Clone, Copy)]
 pub(crate) struct Paths<'a> {
+    /// The path of the formula, or of the events of a session.
     pub(crate) input: &'a str,
+    /// As what `input` is read.
     pub(crate) input_as: Subject,
+    /// The path of the cubes.
     pub(crate) cubes: Option<&'a str>,
+    /// The path of the third file that is read: a proof, a log or an answer.
     pub(crate) read: Option<&'a str>,
+    /// As what `read` is read.
     pub(crate) read_as: Subject,
+    /// The path of the file that is written.
     pub(crate) written: Option<&'a str>,
+    /// The names of the files that are joined, or of the receipts.
     pub(crate) joined: &'a [&'a str],
 }
 
 impl<'a> Paths<'a> {
-    /// Those of a command that reads a formula, perhaps cubes, and perhaps writes a file.
+    /// The files of a command that reads a formula, perhaps cubes, and perhaps writes a file.
     fn of(input: &'a str, cubes: Option<&'a str>, written: Option<&'a str>) -> Paths<'a> {
         Paths {
             input,
@@ -30,6 +37,7 @@ impl<'a> Paths<'a> {
         }
     }
 
+    /// These files, and the third file that the command reads besides.
     fn reading(self, read: &'a str, read_as: Subject) -> Paths<'a> {
         let Paths {
             input,
@@ -52,7 +60,7 @@ impl<'a> Paths<'a> {
     }
 }
 
-/// The files of a session.
+/// The files of `check --session`: the events of a session, and its proof, which is checked.
 fn session_paths<'a>(events: &'a str, proof: &'a str) -> Paths<'a> {
     Paths {
         input: events,
@@ -65,7 +73,7 @@ fn session_paths<'a>(events: &'a str, proof: &'a str) -> Paths<'a> {
     }
 }
 
-/// The files of a session that is answered.
+/// The files of `session`: the events of a session, and its proof, which is written.
 fn answered_paths<'a>(events: &'a str, proof: Option<&'a str>) -> Paths<'a> {
     Paths {
         input: events,
@@ -78,6 +86,7 @@ fn answered_paths<'a>(events: &'a str, proof: Option<&'a str>) -> Paths<'a> {
     }
 }
 
+/// Answers the files of a request, and as what they are read.
 pub(crate) fn paths_of<'a>(request: &'a Request<'_>) -> Paths<'a> {
     match *request {
         Request::Session { input, proof, .. } => answered_paths(input, proof),
@@ -177,7 +186,7 @@ pub(crate) fn paths_of<'a>(request: &'a Request<'_>) -> Paths<'a> {
     }
 }
 
-/// The file that has a fault, and as what it is read.
+/// Answers the path of the file that has a fault, and as what it is read; `None` if the request has no such file.
 pub(crate) fn faulty<'a>(paths: &Paths<'a>, file: File) -> Option<(&'a str, Subject)> {
     match file {
         File::Input => Some((paths.input, paths.input_as)),
@@ -187,7 +196,7 @@ pub(crate) fn faulty<'a>(paths: &Paths<'a>, file: File) -> Option<(&'a str, Subj
     }
 }
 
-/// The name of one of the files that are joined; none where standard input lists them.
+/// Answers the name of the joined file of this number, from 1; an empty name if standard input lists the names or there are not so many.
 pub(crate) fn joined_name<'a>(paths: &Paths<'a>, number: u64) -> &'a str {
     let place = (number as usize).saturating_sub(1);
     match paths.joined.get(place) {

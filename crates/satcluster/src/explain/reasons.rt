@@ -1,4 +1,4 @@
-//! Why a file cannot be read, or cannot be written.
+//! Tells why a file cannot be read, or cannot be written.
 
 use crate::explain::paths::Paths;
 use crate::explain::sentence::tell_of;
@@ -10,7 +10,7 @@ use std::fs::{File as OpenedFile, OpenFile};
 use std::io::ErrorKind;
 use std::rt::Runtime;
 
-/// Why a file cannot be read. What is no regular file is not opened again: that might wait for ever.
+/// Answers why a file cannot be read. What is no regular file is not opened again, since that might wait for ever.
 fn why_unread<R: Runtime>(rt: &R, path: &str) -> Reason {
     if is_dash(path) {
         return Reason::Passing;
@@ -29,14 +29,14 @@ fn why_unread<R: Runtime>(rt: &R, path: &str) -> Reason {
     }
 }
 
-/// Tells why a file cannot be read.
+/// Tells why a file cannot be read, if a path is given.
 pub(crate) fn tell_unread<R: Runtime>(rt: &R, path: Option<&str>) {
     if let Some(path) = path {
         tell_of(rt, why_unread(rt, path).told(), path);
     }
 }
 
-/// The folder of a file.
+/// Answers the path of the folder of a file.
 fn folder_of(path: &str) -> &str {
     match path.rsplit_once('/') {
         Some(("", _)) => "/",
@@ -45,7 +45,7 @@ fn folder_of(path: &str) -> &str {
     }
 }
 
-/// Whether a file that is written is one of those that are read.
+/// Whether the file that is written is one of those that are read.
 fn is_read<R: Runtime>(rt: &R, paths: &Paths, written: &str) -> bool {
     is_same_file(rt, written, paths.input)
         || is_some_same(rt, paths.cubes, written)
@@ -56,6 +56,7 @@ fn is_read<R: Runtime>(rt: &R, paths: &Paths, written: &str) -> bool {
             .any(|name| is_same_file(rt, name, written))
 }
 
+/// Whether a path is given and leads to the file that is written.
 fn is_some_same<R: Runtime>(rt: &R, path: Option<&str>, written: &str) -> bool {
     match path {
         Some(path) => is_same_file(rt, path, written),
@@ -63,7 +64,7 @@ fn is_some_same<R: Runtime>(rt: &R, path: Option<&str>, written: &str) -> bool {
     }
 }
 
-/// Why a file cannot be written.
+/// Answers why a file cannot be written.
 fn why_unwritten<R: Runtime>(rt: &R, paths: &Paths, written: &str) -> Reason {
     if is_read(rt, paths, written) {
         return Reason::Read;
@@ -78,6 +79,7 @@ fn why_unwritten<R: Runtime>(rt: &R, paths: &Paths, written: &str) -> Reason {
     }
 }
 
+/// Tells why the file of a request cannot be written, if the request writes one.
 pub(crate) fn tell_unwritten<R: Runtime>(rt: &R, paths: &Paths) {
     if let Some(written) = paths.written {
         tell_of(rt, why_unwritten(rt, paths, written).told(), written);

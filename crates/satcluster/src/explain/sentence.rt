@@ -1,15 +1,17 @@
-//! Sentences with the name of a file, or a word, in the place of a mark.
+//! Tells sentences in which a mark, such as `FILE`, is replaced by the name of a file or by a word.
 
 use explanations::{Told, in_command, shown};
 use std::fmt;
 use std::fmt::{Display, Formatter};
 use std::rt::Runtime;
 
-/// A text with a name in the place of each mark.
+/// A text in which a name replaces each mark, of which there are two at most.
 #[derive(Drop)]
 struct Filled<'a> {
     text: &'a str,
+    /// The mark, such as `FILE` or `WORD`.
     mark: &'static str,
+    /// What replaces the mark.
     name: &'a str,
 }
 
@@ -30,19 +32,19 @@ impl Display for Filled<'_> {
     }
 }
 
-/// Tells a sentence, with a name in the place of each mark.
+/// Prints a sentence on standard error, in which a name replaces each mark. A write that fails is ignored.
 pub(crate) fn tell<R: Runtime>(rt: &R, text: &str, mark: &'static str, name: &str) {
     let filled = Filled { text, mark, name };
     let _ = eprintln!(rt; "c {filled}");
 }
 
-/// Tells what is said of a file.
+/// Tells what a fault or a refusal means and what to do, both of the file at a path.
 pub(crate) fn tell_of<R: Runtime>(rt: &R, told: Told, path: &str) {
     tell(rt, told.sentence, "FILE", name_of(path));
     tell(rt, told.remedy, "FILE", in_command(path));
 }
 
-/// A path as it is told.
+/// Answers how a path is named in a sentence.
 pub(crate) fn name_of(path: &str) -> &str {
     match path {
         "-" => "standard input",

@@ -1,4 +1,4 @@
-//! What is seen of a file that is opened anew.
+//! The first bytes and one line of a file, which is opened once more.
 
 use crate::files::{no_memory, open};
 use crate::standard_input::is_dash;
@@ -8,14 +8,16 @@ use std::alloc::{AllocError, Global};
 use std::fs;
 use std::rt::Runtime;
 
-/// So many bytes of a file are looked at.
+/// How many bytes are kept at most, of the first ones and of the line.
 const HEAD: usize = 4_096;
 
-/// What was seen of a file: its first bytes, and the beginning of a line.
+/// What was seen of a file: its first bytes, and the beginning of one line.
 pub(crate) struct View {
+    /// The first bytes, at most 4,096.
     pub(crate) head: Vec<u8>,
+    /// The bytes of the line, at most 4,096, without its LF.
     pub(crate) line: Vec<u8>,
-    /// How many lines end before it.
+    /// How many lines are still to end before the line begins.
     before: u64,
 }
 
@@ -30,7 +32,7 @@ impl Drop for View {
 }
 
 impl View {
-    /// Nothing was seen yet of a file, of which this line is looked for, from 1.
+    /// A view of a file that has seen no byte, in which the line of this number (from 1) is looked for.
     fn new(alloc: Global, number: u64) -> View {
         View {
             head: Vec::new(alloc),
@@ -39,13 +41,13 @@ impl View {
         }
     }
 
-    /// Takes the first bytes.
+    /// Keeps the first bytes of the file, which are those of its first piece.
     fn begin(&mut self, piece: &[u8]) -> Result<(), AllocError> {
         let len = piece.len().min(HEAD);
         self.head.extend_from_slice(&piece[..len])
     }
 
-    /// Takes the next bytes: whether the line has ended.
+    /// Takes the next piece of the file, and answers whether the line has ended.
     fn take(&mut self, piece: &[u8]) -> Result<bool, AllocError> {
         for byte in piece {
             if *byte == b'\n' {
@@ -72,7 +74,7 @@ fn is_plain<R: Runtime>(rt: &R, path: &str) -> bool {
     }
 }
 
-/// Looks at a file, as far as the line; at its first bytes alone if steps are counted.
+/// Reads a file up to the end of the line that is looked for; if the fault is that of a step, its first piece alone.
 fn look_into<R: Runtime + AllocGlobal>(
     rt: &R,
     path: &str,
@@ -97,7 +99,7 @@ fn look_into<R: Runtime + AllocGlobal>(
     Ok(())
 }
 
-/// What is seen of a file that can be read again; else nothing.
+/// Answers the view of a file that has this fault; an empty one if the file cannot be read again.
 pub(crate) fn view_of<R: Runtime + AllocGlobal>(rt: &R, path: &str, found: &Fault) -> View {
     let number = match found.unit {
         Unit::Line => found.at,

@@ -1,4 +1,4 @@
-//! Which word of a command line is refused.
+//! Tells which word of a command line is refused.
 //!
 //! The parser is asked: the first words with `--help` after them are answered by help if none of them is refused. So no rule of the
 //! words stands twice.
@@ -10,7 +10,8 @@ use node_main::{UsageFault, command};
 use std::alloc::AllocError;
 use std::rt::Runtime;
 
-/// The help that the first words are answered, if none of them is refused.
+/// Answers the help that the parser gives to the first `count` words and `--help`; `None` if one of them is refused. It errs if memory runs
+/// out.
 fn help_of<R: Runtime + AllocGlobal>(
     rt: &R,
     words: &[&str],
@@ -28,7 +29,7 @@ fn help_of<R: Runtime + AllocGlobal>(
     }
 }
 
-/// Whether none of the first words is refused. The value of the last one may come after it.
+/// Whether none of the first `count` words is refused, by themselves or with the next one, which may be the value of the last.
 fn are_taken<R: Runtime + AllocGlobal>(
     rt: &R,
     words: &[&str],
@@ -40,7 +41,8 @@ fn are_taken<R: Runtime + AllocGlobal>(
     Ok(count < words.len() && help_of(rt, words, count + 1)?.is_some())
 }
 
-/// How many words are taken before one is refused: by halves, since there may be many, and each question reads them all.
+/// Answers how many words are taken before one is refused. It is found by halves, since there may be many words, and each question reads
+/// them all.
 fn taken<R: Runtime + AllocGlobal>(rt: &R, words: &[&str]) -> Result<usize, AllocError> {
     let mut low = 0usize;
     let mut high = words.len();
@@ -58,7 +60,7 @@ fn taken<R: Runtime + AllocGlobal>(rt: &R, words: &[&str]) -> Result<usize, Allo
     Ok(low)
 }
 
-/// The line of a help that begins with this word.
+/// Answers the line of a help that begins with this word, after spaces; `None` if there is none.
 fn line_of<'a>(help: &'a str, word: &str) -> Option<&'a str> {
     for line in help.lines() {
         let text = line.trim_start();
@@ -71,7 +73,8 @@ fn line_of<'a>(help: &'a str, word: &str) -> Option<&'a str> {
     None
 }
 
-/// Why a word is refused at its place, if its command has this help.
+/// Answers why a word is refused: the program's name has the index 0, and the command 1. `line` is the line on the word in the command's
+/// help.
 fn reason_of(place: usize, word: &str, line: Option<&str>) -> Reason {
     if place == 1 {
         Reason::OtherCommand
@@ -89,13 +92,13 @@ fn reason_of(place: usize, word: &str, line: Option<&str>) -> Reason {
 /// Lines of a help that show what is right.
 #[derive(Clone, Copy)]
 struct Right<'a> {
-    /// That of a word.
+    /// The line on the word that is refused.
     word: Option<&'a str>,
-    /// How the command is called.
+    /// The line that shows how the command is called.
     usage: Option<&'a str>,
 }
 
-/// Nothing of a help.
+/// No line of a help.
 const NOTHING: Right<'static> = Right {
     word: None,
     usage: None,
@@ -108,7 +111,7 @@ fn tell_line<R: Runtime>(rt: &R, line: Option<&str>) {
     }
 }
 
-/// Tells a reason, and what is right.
+/// Tells why words are refused, the lines of a help that show what is right, and what to do.
 fn tell_reason<R: Runtime>(rt: &R, reason: Reason, word: &str, right: Right<'_>) {
     let told = reason.told();
     tell(rt, told.sentence, "WORD", shown(word, "that stands there"));
@@ -117,7 +120,7 @@ fn tell_reason<R: Runtime>(rt: &R, reason: Reason, word: &str, right: Right<'_>)
     tell(rt, told.remedy, "WORD", "WORD");
 }
 
-/// Why words are refused of which none is by itself.
+/// Answers why words are refused of which none is refused by itself.
 fn reason_of_none(words: &[&str]) -> Reason {
     if words.len() < 2 {
         Reason::NoCommand
@@ -126,7 +129,7 @@ fn reason_of_none(words: &[&str]) -> Reason {
     }
 }
 
-/// Tells which word is refused, or that none is, by itself.
+/// Tells which word is refused, or that none is by itself. It errs if memory runs out.
 fn tell_refused<R: Runtime + AllocGlobal>(rt: &R, words: &[&str]) -> Result<(), AllocError> {
     let place = taken(rt, words)?;
     let front = if place == 1 { 1 } else { 2 };
@@ -147,7 +150,7 @@ fn tell_refused<R: Runtime + AllocGlobal>(rt: &R, words: &[&str]) -> Result<(), 
     Ok(())
 }
 
-/// Tells why words are refused.
+/// Tells why words are refused: one of them by itself, or what they name together.
 pub(crate) fn explain_words<R: Runtime + AllocGlobal>(rt: &R, words: &[&str]) {
     match command(rt.alloc(), words) {
         Ok(request) => {

@@ -1,4 +1,4 @@
--- What the code does with a line.
+-- What the code does with a line of a session's proof.
 use Rattle.std.specs.Prelude.{◌≡◌, ◌⊎◌, ℕ, ◌<◌, Option, Some, None, Ok, Err}
 use Rattle.lrat_text.specs.Faults.{fault_number}
 use Rattle.lrat_text.specs.declared.fault.TextFault.{TextFault}
@@ -16,27 +16,28 @@ use Rattle.sessions.specs.declared.known.Came.TheVariants as came
 use Rattle.sessions.specs.declared.known.Known.{Known}
 use Rattle.sessions.specs.declared.tally.Tally.{Tally}
 
+-- the tally before the first answer
 abbrev pub no_answers : Tally
 no_answers = record { satisfied = 0; failed = 0; unknown = 0 }
 
--- the fault's number, and that of a fault of the text
+-- the number of a line's fault, and the number of the fault of its text (0 if the fault is not in the text)
 abbrev pub numbers_of : LineFault → ℕ × ℕ
 numbers_of (Text fault) = (1, fault_number fault)
 numbers_of (OfLine number) = (number, 0)
 numbers_of NoMemory = (14, 0)
 
--- the fault of a line that is not read
+-- the fault of a line whose line of LRAT text has this fault
 abbrev pub fault_of_text : TextFault → LineFault
 fault_of_text NoText = NoMemory
 fault_of_text fault = Text fault
 
--- what a status answers
+-- the answer that a status gives; None if a model or a core is to come
 abbrev pub told : Status → Option Answer
 told status.Satisfiable = None
 told status.Unsatisfiable = None
 told status.Unknown = Some Unknown
 
--- what a line answers that is right
+-- the answer that a line without fault gives, if it gives one
 abbrev pub answer_of : Line → Option Answer
 answer_of (Gives id C) = None
 answer_of (Asks A) = None
@@ -47,19 +48,21 @@ answer_of (Shows model) = Some (Satisfied model)
 answer_of (Fails core hints) = Some (Failed core)
 answer_of Silent = None
 
+-- the answer that a line gives, if it has no fault and gives one
 abbrev pub answer_in : Read → Option Answer
 answer_in (Ok line) = answer_of line
 answer_in (Err fault) = None
 
--- what is taken has this fault
+-- outcome of a line, fault: the outcome is this fault, or memory was refused
 abbrev pub Refused : Taken → LineFault → Type 0
 Refused taken f = (f ≡ NoMemory) ⊎ (taken ≡ Faulty (numbers_of f).0 (numbers_of f).1)
 
--- the line has this fault
+-- state before, line as read, fault: the line has this fault in this state, or memory was refused
 abbrev pub Stays : Known → Read → LineFault → Type 0
 Stays old read f = Refused (take_read (state_of old) read) f
 
--- the line is done; or it awaits an event, and then all will be as the definitions say
+-- what the line waits for, line as read, states before and after: the line is done; or it awaits the event in `awaited`, and after this
+-- event the state is `reached_clause` or `reached_query`
 abbrev pub Comes : Came → Read → Known → Known → Type 0
 Comes came.Goes read old new = (take_read (state_of old) read ≡ Goes (answer_in read) (state_of new)) × (new.tally ≡ counted old.tally (listed (answer_in read)))
 Comes came.Clause read old new = (take_read (state_of old) read ≡ Awaits (Given new.awaited.items) (reached_clause new)) × (new.tally ≡ old.tally) × (new.numbers.last < new.id)

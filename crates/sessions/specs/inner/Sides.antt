@@ -1,7 +1,7 @@
--- How far a session's proof has come, and what its text answers from there on.
+-- What the calls of a proof's side do.
 use Rattle.std.specs.Prelude.{◌≡◌, ◌⊎◌, ℕ, ◌+◌, Bool, true, false, List, [], ◌∷◌, ◌++◌, Option, if◌then◌else◌}
 use Rattle.dimacs.specs.logic.Literal.{Literal}
-use Rattle.lrat_check.specs.declared.checking.CheckFault.{CheckFault}
+use Rattle.lrat_check.specs.declared.line_checker.CheckFault.{CheckFault}
 use Rattle.sessions.specs.Answers.{Event, Given, Asked, Answer, counted}
 use Rattle.sessions.specs.Lines.{line_in}
 use Rattle.sessions.specs.Texts.{begun, behind, going_on, listed, take_read, text_from}
@@ -17,25 +17,26 @@ use Rattle.sessions.specs.declared.proof_side.Phase.{Phase}
 use Rattle.sessions.specs.declared.proof_side.Phase.TheVariants as phase
 use Rattle.sessions.specs.declared.proof_side.ProofSide.{ProofSide}
 
+-- line number (from 1), number of the fault, number of the fault of the line's text: the fault of the proof
 abbrev pub fault_at : ℕ → ℕ → ℕ → CheckFault
 fault_at line number text = record { number = number; line = line; text = text }
 
 -- ---- a line
--- an event that is awaited, and does not come any more, is a fault
+-- whether the events have ended, line number (from 1), phase: the phase that waits for an event; fault 18 if the events have ended
 abbrev pub awaiting : Bool → ℕ → Phase → Phase
 awaiting none line p = if none then phase.Stopped (fault_at line 18 0) else p
 
--- the next line is wanted, or its number has no room
+-- proof's sides before and after: the next line is wanted; or memory was refused, also if the line's number is above 64 bits
 abbrev pub MovesOn : ProofSide → ProofSide → Type 0
 MovesOn old new = IsBroken new ⊎ (new ≡ record old { phase = phase.Reading; line = old.line + 1 })
 
--- behind a line of which this came
+-- what a line waits for, proof's sides before and after: the next line is wanted, or the event is awaited
 abbrev pub Moves : Came → ProofSide → ProofSide → Type 0
 Moves came.Goes old new = MovesOn old new
 Moves came.Clause old new = new ≡ record old { phase = awaiting old.no_event old.line phase.Clause }
 Moves came.Query old new = new ≡ record old { phase = awaiting old.no_event old.line phase.Query }
 
--- the line that was begun is taken
+-- proof's sides before and after: the line in `begun` is taken, and the proof answers the same from here on
 pub record TakesLine (old new : ProofSide) : Type 0 where
   pub answer : Option Answer
   pub tally : new.lines.known.tally ≡ counted old.lines.known.tally (listed answer)
@@ -46,21 +47,22 @@ pub record TakesLine (old new : ProofSide) : Type 0 where
   pub is : (D : List Event) (pieces : List (List ℕ)) → Ends old.no_event D
       → going_on (take_read (state_of old.lines.known) (line_in old.begun.items)) old.line D (λ t G. text_from t (old.line + 1) G pieces) ≡ behind (listed answer) (later new D pieces)
 
+-- proof's sides before and after: the line in `begun` is taken, or memory was refused
 abbrev pub EndsLine : ProofSide → ProofSide → Type 0
 EndsLine old new = IsBroken new ⊎ TakesLine old new
 
 -- ---- events
--- the event of these literals
+-- what a line of events says, its literals, event: the line has this event
 abbrev pub IsEvent : Sent → List Literal → Event → Type 0
 IsEvent sent.Nothing lits e = ⊥
 IsEvent sent.Clause lits e = e ≡ Given lits
 IsEvent sent.Query lits e = e ≡ Asked lits
 
--- the clause that was awaited is given
+-- proof's sides before and after: the awaited clause is added, and the next line is wanted; or memory was refused
 abbrev pub Gives : ProofSide → ProofSide → Type 0
 Gives old new = IsBroken new ⊎ ((L : ProofLines) × (state_of L.known ≡ reached_clause old.lines.known) × (L.known.tally ≡ old.lines.known.tally) × (new ≡ record old { lines = L; phase = phase.Reading; line = old.line + 1 }))
 
--- nothing has come
+-- the proof's side has taken no byte and no event
 pub record IsFirst (x : ProofSide) : Type 0 where
   pub state : state_of x.lines.known ≡ begun
   pub tally : x.lines.known.tally ≡ no_answers
@@ -70,7 +72,8 @@ pub record IsFirst (x : ProofSide) : Type 0 where
   pub no_event : x.no_event ≡ false
   pub no_byte : x.no_byte ≡ false
 
--- behind these events the text answers the same as before, where what they leave follows
+-- proof's sides before and after, events `front`: the old side answers of `front` and then any events what the new side answers of these
+-- events alone
 pub record Turns (old new : ProofSide) (front : List Event) : Type 0 where
   pub tally : new.lines.known.tally ≡ old.lines.known.tally
   pub high : IsHigh new.phase new.lines.known
@@ -80,15 +83,15 @@ pub record Turns (old new : ProofSide) (front : List Event) : Type 0 where
   pub rests : IsResting old.phase → IsResting new.phase
   pub is : (D : List Event) (pieces : List (List ℕ)) → Ends new.no_event D → later old (front ++ D) pieces ≡ later new D pieces
 
--- an event is heard
+-- proof's side before, event, proof's side after: the event is taken, or memory was refused
 abbrev pub Hears : ProofSide → Event → ProofSide → Type 0
 Hears old e new = IsBroken new ⊎ (Turns old new (e ∷ []) × (new.no_event ≡ old.no_event))
 
--- no event comes any more
+-- proof's sides before and after: the events are ended
 abbrev pub EndsEvents : ProofSide → ProofSide → Type 0
 EndsEvents old new = Turns old new [] × (new.no_event ≡ true)
 
--- no byte comes any more, so that what is begun is the last piece
+-- proof's sides before and after: the proof is ended, and the bytes after its last LF are its last piece
 pub record EndsProof (old new : ProofSide) : Type 0 where
   pub tally : new.lines.known.tally ≡ old.lines.known.tally
   pub high : IsHigh new.phase new.lines.known

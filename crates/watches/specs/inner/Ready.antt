@@ -1,20 +1,20 @@
--- What holds of the watches between two calls.
+-- The invariant of `Watched` between two calls.
 use Rattle.std.specs.Prelude.{◌≡◌, ℕ, ◌+◌, ◌*◌, ◌%◌, ◌^◌, ◌<◌, ◌≤◌, Bool, true, false, List, length, slice_index_or, All}
 use Rattle.clause_arena.specs.declared.reference.Ref.{Ref}
 use Rattle.clause_arena.specs.Clauses.{Clauses}
 use Rattle.watches.specs.Trails.{TrailValue}
-use Rattle.watches.specs.inner.Scanning.{IsHere}
-use Rattle.watches.specs.declared.watched.places.Place.{Place}
-use Rattle.watches.specs.inner.Watching.{AreWatching, no_clause}
-use Rattle.watches.specs.Ready.{Watches, attached_of}
+use Rattle.watches.specs.inner.LiveClauses.{IsLiveWithin}
+use Rattle.watches.specs.declared.watched.watch.Watch.{Watch}
+use Rattle.watches.specs.inner.WatchInvariants.{AreWatching, no_clause}
+use Rattle.watches.specs.Watches.{Watches, attached_of}
 
 -- no two clauses have one number
 abbrev pub AreNamed : List Ref → Type 0
 AreNamed clauses = (i j : ℕ) → i < length clauses → j < length clauses → (slice_index_or clauses i no_clause).number ≡ (slice_index_or clauses j no_clause).number → i ≡ j
 
--- a mark and two places for each clause behind the heads, all of them with numbers of 32 bits; a clause that is marked as detached
--- stays until the chains are made anew
-pub record AreWatches (places : List Place) (clauses : List Ref) (live : List Bool) (base : ℕ) (stale : Bool) : Type 0 where
+-- after the heads two watches for each clause, all places of 32 bits, and a mark for each clause; a clause that is marked as detached
+-- stays until the lists are rebuilt
+pub record AreWatches (places : List Watch) (clauses : List Ref) (live : List Bool) (base : ℕ) (stale : Bool) : Type 0 where
   pub whole : length places ≡ base + 2 * length clauses
   pub few : length places ≤ 2 ^ 32
   pub even : base % 2 ≡ 0
@@ -22,8 +22,8 @@ pub record AreWatches (places : List Place) (clauses : List Ref) (live : List Bo
   pub named : AreNamed (attached_of clauses live)
   pub none_gone : stale ≡ false → All (λ b. b ≡ true) live
 
--- the clauses stand in the arena, there are heads for all literals, and the chains are right where they need not be made anew
+-- the clauses are live in the arena, each literal has a head, and the lists keep their invariant unless they are stale
 pub record IsReady (w : Watches) (m : Clauses) (t : TrailValue) : Type 0 where
   pub wide : 2 * t.vars + 2 ≤ w.base
-  pub here : All (IsHere m t.vars) w.clauses
+  pub here : All (IsLiveWithin m t.vars) w.clauses
   pub watching : w.stale ≡ false → AreWatching w m t

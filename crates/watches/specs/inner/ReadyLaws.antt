@@ -1,4 +1,4 @@
--- Why what is kept of all watches lasts where literals come to the trail's end, entries have other reasons, or other clauses change.
+-- The invariant of watch lists is kept if entries are pushed, reasons change, or clauses change that are not attached.
 use Rattle.std.specs.Prelude.{◌≡◌, ℕ, ◌/◌, ◌-◌, ◌<◌, ◌≤◌, ◌||◌, Bool, true, false, List, ◌++◌, length, refl}
 use Rattle.std.specs.List.{All, Contains}
 use Rattle.std.specs.FinMap.{get}
@@ -9,15 +9,15 @@ use Rattle.std.proofs.lemmas.List.Folds.{list_any-append}
 use Rattle.dimacs.specs.logic.Literal.{Literal, IsWithin}
 use Rattle.clause_arena.specs.Clauses.{Clauses}
 use Rattle.watches.specs.declared.trail.Assigned.{Assigned}
-use Rattle.watches.specs.Law.{AreAlike}
+use Rattle.watches.specs.Law.{SameUpToReasons}
 use Rattle.watches.specs.Trails.{TrailValue, up_to}
-use Rattle.watches.specs.Scanning.{numbers}
-use Rattle.watches.specs.inner.Scanning.{IsHere}
-use Rattle.watches.specs.inner.AlikeLaws.{up_to_alike, literal_alike, level_alike, length_alike}
+use Rattle.watches.specs.ClauseNumbers.{numbers}
+use Rattle.watches.specs.inner.LiveClauses.{IsLiveWithin}
+use Rattle.watches.specs.inner.ReasonLaws.{up_to_alike, literal_alike, level_alike, length_alike}
 use Rattle.watches.specs.inner.ScanLaws.{has_number, here_pushed, here_elsewhere}
-use Rattle.watches.specs.inner.Chains.{literal_at, twin}
-use Rattle.watches.specs.inner.Watching.{no_clause, IsGuarded, IsWatching}
-use Rattle.watches.specs.Ready.{Watches}
+use Rattle.watches.specs.inner.WatchLists.{literal_at, twin}
+use Rattle.watches.specs.inner.WatchInvariants.{no_clause, IsGuarded, IsWatching}
+use Rattle.watches.specs.Watches.{Watches}
 use Rattle.watches.specs.inner.Ready.{IsReady}
 
 pub or_left : (a b : Bool) → a ≡ true → (a || b) ≡ true
@@ -32,23 +32,23 @@ guarded_pushed es more head w b l g i d h e =
     let s = get_or_append_left es more d i (omega arith) in
     subst (λ (x : Assigned). up_to (es ++ more) x.level b ≡ true) (sym s) (up_to_front es more _ b (g i d h (ap (λ (x : Assigned). x.literal) (sym s) ∙ e)))
 
-pub guarded_alike : (es fs : List Assigned) (head : ℕ) (w b : Literal) → AreAlike es fs → head ≤ length es → IsGuarded es head w b → IsGuarded fs head w b
+pub guarded_alike : (es fs : List Assigned) (head : ℕ) (w b : Literal) → SameUpToReasons es fs → head ≤ length es → IsGuarded es head w b → IsGuarded fs head w b
 guarded_alike es fs head w b a l g i d h e =
     let below : i < length es = omega arith in
     up_to_alike es fs a _ b ∙ ap (λ k. up_to es k b) (level_alike es fs a i d below) ∙ g i d h (sym (literal_alike es fs a i d below) ∙ e)
 
 module _ (W : Watches) (m : Clauses) (t : TrailValue) (paths : ℕ → List ℕ) (w : IsWatching W m t paths) where
-  -- literals came to the trail's end
+  -- entries are pushed
   pub pushed : (u : TrailValue) (more : List Assigned) → u.vars ≡ t.vars → u.entries ≡ t.entries ++ more → IsWatching W m u paths
   pushed u more v e = record {
-    chains = w.chains;
+    lists = w.lists;
     wide = omega (arith, w.wide);
     even = w.even;
     low = w.low;
     paired = w.paired;
     partly = w.partly;
     named = w.named;
-    here = subst (λ n. All (IsHere m n) W.clauses) (sym v) w.here;
+    here = subst (λ n. All (IsLiveWithin m n) W.clauses) (sym v) w.here;
     front = w.front;
     apart = w.apart;
     home = λ l p b h. w.home l p (subst (λ n. IsWithin n l) v b) h;
@@ -63,17 +63,17 @@ module _ (W : Watches) (m : Clauses) (t : TrailValue) (paths : ℕ → List ℕ)
     handled = omega (arith, w.handled, ap length e, length-append t.entries more);
   }
 
-  -- entries have other reasons
-  pub explained : (u : TrailValue) → u.vars ≡ t.vars → AreAlike t.entries u.entries → IsWatching W m u paths
+  -- reasons change
+  pub explained : (u : TrailValue) → u.vars ≡ t.vars → SameUpToReasons t.entries u.entries → IsWatching W m u paths
   explained u v a = record {
-    chains = w.chains;
+    lists = w.lists;
     wide = omega (arith, w.wide);
     even = w.even;
     low = w.low;
     paired = w.paired;
     partly = w.partly;
     named = w.named;
-    here = subst (λ n. All (IsHere m n) W.clauses) (sym v) w.here;
+    here = subst (λ n. All (IsLiveWithin m n) W.clauses) (sym v) w.here;
     front = w.front;
     apart = w.apart;
     home = λ l p b h. w.home l p (subst (λ n. IsWithin n l) v b) h;
@@ -88,10 +88,10 @@ module _ (W : Watches) (m : Clauses) (t : TrailValue) (paths : ℕ → List ℕ)
     handled = omega (arith, w.handled, length_alike t.entries u.entries a);
   }
 
-  -- other clauses changed
+  -- clauses change that are not attached
   pub elsewhere : (k : Clauses) → ((n : ℕ) → Contains (numbers W.clauses) n → get k n ≡ get m n) → IsWatching W k t paths
   elsewhere k e = record {
-    chains = w.chains;
+    lists = w.lists;
     wide = w.wide;
     even = w.even;
     low = w.low;
@@ -119,7 +119,7 @@ ready_pushed w m t u more r v e = record {
   watching = λ s. let x = r.watching s in (x.0, pushed w m t x.0 x.1 u more v e);
 }
 
-pub ready_explained : (w : Watches) (m : Clauses) (t u : TrailValue) → IsReady w m t → u.vars ≡ t.vars → AreAlike t.entries u.entries → IsReady w m u
+pub ready_explained : (w : Watches) (m : Clauses) (t u : TrailValue) → IsReady w m t → u.vars ≡ t.vars → SameUpToReasons t.entries u.entries → IsReady w m u
 ready_explained w m t u r v a = record {
   wide = omega (arith, r.wide);
   here = here_pushed m t u w.clauses r.here v;

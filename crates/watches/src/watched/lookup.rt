@@ -1,13 +1,13 @@
-//! Where a clause stands among the attached ones.
+//! The row of an attached clause, by its number.
 
 ghost use Rattle.std.specs.Prelude.{◌≡◌, ℕ, ◌+◌, ◌-◌, ◌<◌, ◌≤◌, true, false, Contains, length, slice_index_or, IfSome, IfNone};
-ghost use Rattle.watches.specs.Scanning.{numbers};
-ghost use Rattle.watches.specs.inner.Watching.{no_clause};
-ghost use Rattle.watches.specs.Ready.{attached_of};
+ghost use Rattle.watches.specs.ClauseNumbers.{numbers};
+ghost use Rattle.watches.specs.inner.WatchInvariants.{no_clause};
+ghost use Rattle.watches.specs.Watches.{attached_of};
 
 use clause_arena::Ref;
 
-/// Where a number stands, or would stand, among numbers that rise.
+/// Binary search: the first row whose clause has no lower number, if the numbers are sorted.
 fn place_of(clauses: &[Ref], number: u64) -> usize
     ensures { result ≤ length clauses.now }
 {
@@ -24,8 +24,8 @@ fn place_of(clauses: &[Ref], number: u64) -> usize
     low
 }
 
-/// Where the clause of a number stands that is not marked as detached. The numbers mostly rise, so that halving finds it; else each
-/// clause is looked at.
+/// The row of the clause of a number that is not marked as detached. Clauses are mostly attached in the order of their numbers, so that
+/// binary search finds the row; if it does not, all rows are tried.
 pub(crate) fn find_clause(clauses: &[Ref], live: &[bool], number: u64) -> Option<usize>
     requires { length live.now ≡ length clauses.now }
     ensures some { IfSome result (λ i. (i < length clauses.now) × ((slice_index_or clauses.now i no_clause).number ≡ number) × (slice_index_or live.now i false ≡ true)) }

@@ -1,21 +1,21 @@
-//! The trail, worked through.
+//! The propagation loop over the trail.
 
 ghost use Rattle.std.specs.Prelude.{◌≡◌, ◌+◌, ◌*◌, ◌^◌, ◌<◌, ◌≤◌, length, slice_index_or, IfSome, IfNone};
 ghost use Rattle.clause_arena.specs.Clauses.{live_of};
-ghost use Rattle.watches.specs.Law.{IsConflict, IsQuiet, live_among};
-ghost use Rattle.watches.specs.Scanning.{numbers};
+ghost use Rattle.watches.specs.Law.{IsConflict, IsFixpoint, live_among};
+ghost use Rattle.watches.specs.ClauseNumbers.{numbers};
 ghost use Rattle.watches.specs.declared.trail.Assigned.{Assigned};
-ghost use Rattle.watches.specs.inner.Watching.{watches_of, past_head, AreWatching, IsRelinked};
-ghost use Rattle.watches.specs.inner.Walking.{HasPropagated};
+ghost use Rattle.watches.specs.inner.WatchInvariants.{watches_of, past_head, AreWatching, IsRelinked};
+ghost use Rattle.watches.specs.inner.ListWalk.{HasPropagated};
 
 use crate::trail::{Assigned, Trail};
-use crate::watched::chains::Chains;
-use crate::watched::walk::recall;
+use crate::watched::list_walk::recall;
+use crate::watched::watch_lists::WatchLists;
 use clause_arena::Arena;
 
-impl Chains {
-    /// Looks at the clauses that wait, and walks along the chain of each literal that the trail makes false, from the head on. Answers
-    /// the number of a clause that is false.
+impl WatchLists {
+    /// Visits the pending watches, and the watch list of each literal that the trail made false, from `head` on. Returns the number of a
+    /// false clause.
     pub(crate) fn propagate(&mut self, arena: &mut Arena, trail: &mut Trail) -> Option<u64>
         requires ready { AreWatching (watches_of self.old) arena.old trail.old }
         requires whole { length self.old.places.items ≡ self.old.base + 2 * length self.old.clauses.items }
@@ -23,10 +23,10 @@ impl Chains {
         ensures ready { AreWatching (watches_of self.new) arena.new trail.new }
         ensures propagated { HasPropagated (watches_of self.old) (watches_of self.new) arena.old arena.new trail.old trail.new }
         ensures conflict { IfSome result (IsConflict (live_among (numbers self.new.clauses.items) (live_of arena.new)) trail.new.entries) }
-        ensures quiet { IfNone result (IsQuiet (live_among (numbers self.new.clauses.items) (live_of arena.new)) trail.new.entries) }
+        ensures quiet { IfNone result (IsFixpoint (live_among (numbers self.new.clauses.items) (live_of arena.new)) trail.new.entries) }
     {
         'entries: loop {
-            match self.wake_all(arena, trail) {
+            match self.walk_pending(arena, trail) {
                 Some(number) => return Some(number),
                 None => {}
             }
@@ -35,9 +35,10 @@ impl Chains {
                 return None;
             }
             let entry = trail.entries()[self.head];
-            // What an entry below the present level implies comes at a greater level than its own.
+            // Implied literals are pushed at the present level. They do not guard watches of an entry of a lower level, so these
+            // watches are made pending.
             if entry.level < trail.level() {
-                self.delay(arena, trail, entry);
+                self.make_pending(arena, trail, entry);
             } else {
                 match self.walk(arena, trail, entry) {
                     Some(number) => return Some(number),
@@ -48,9 +49,9 @@ impl Chains {
         }
     }
 
-    /// Lets the places wait that are in the chain of the literal that the trail's entry at the head makes false: what they imply comes
-    /// at a greater level than the entry's.
-    fn delay(&mut self, arena: &Arena, trail: &Trail, entry: Assigned)
+    /// Moves the watch list of the literal that an entry made false to the pending list. The entry's level is lower than the level of
+    /// what its clauses imply, so that a backtrack may keep the entry and undo what was implied.
+    fn make_pending(&mut self, arena: &Arena, trail: &Trail, entry: Assigned)
         requires ready { AreWatching (watches_of self.old) arena.now trail.now }
         requires head_in { self.old.head < length trail.now.entries }
         requires entry_is { (d : Assigned) → slice_index_or trail.now.entries self.old.head d ≡ entry }
@@ -60,7 +61,7 @@ impl Chains {
     {
         recall(trail);
         let first = entry.literal.negate().index();
-        'chain: loop {
+        'watch_list: loop {
             let here = self.next_place(first);
             if here == 0 {
                 return;

@@ -1,12 +1,12 @@
-//! Another literal to watch.
+//! The search for another literal to watch.
 
 ghost use Rattle.std.specs.Prelude.{◌≡◌, ℕ, ◌<◌, ◌≤◌, All, length};
 ghost use Rattle.dimacs.specs.logic.Literal.{IsWithin};
-ghost use Rattle.watches.specs.inner.Watching.{FindsWatch};
+ghost use Rattle.watches.specs.inner.WatchInvariants.{FindsWatch};
 
 use crate::trail::Trail;
 use crate::truth::Truth;
-use crate::watched::starts::start_of;
+use crate::watched::saved_positions::saved_position;
 use dimacs::Lit;
 
 /// A literal to watch in place of another, with its place in the clause.
@@ -16,8 +16,8 @@ pub(crate) struct Replacement {
     pub(crate) literal: Lit,
 }
 
-/// The place of a literal that is not false, behind the first two, with that literal. The look begins at a place, and ends with the
-/// literals before it.
+/// A literal after the first two that is not false, with its place. The search begins at place `from` and wraps around to the third
+/// literal.
 #[inline(always)]
 pub(crate) fn find_watch(literals: &[Lit], trail: &Trail, from: usize) -> Option<Replacement>
     requires { All (IsWithin trail.now.vars) literals.now }
@@ -42,19 +42,19 @@ pub(crate) fn find_watch(literals: &[Lit], trail: &Trail, from: usize) -> Option
     None
 }
 
-/// The same, with the look begun where the clause's last one ended. A clause of two literals is its watches: nothing of it is looked at.
+/// The same, from the clause's saved position. A clause of two literals has no other literal to watch.
 #[inline(always)]
 pub(crate) fn find_next_watch(
     literals: &[Lit],
     trail: &Trail,
-    starts: &[u32],
+    positions: &[u32],
     owner: usize,
 ) -> Option<Replacement>
     requires { All (IsWithin trail.now.vars) literals.now }
     ensures { FindsWatch trail.now.entries literals.now result }
 {
     let from = if literals.len() > 2 {
-        start_of(starts, owner)
+        saved_position(positions, owner)
     } else {
         2
     };

@@ -1,6 +1,6 @@
-//! What a visit does.
+//! The outcome of a visit.
 
-/// What a visit does with a place: it stays in its chain, it goes to another, or its clause is false.
+/// The outcome of a visit of a watch: it stays in its list, it moved to another, or its clause, of this number, is false.
 #[derive(Clone, Copy, Debug, PartialEq, Eq)]
 pub(crate) enum Visit {
     Stays,

@@ -1,6 +1,6 @@
 use Rattle.lrat_check.proofs.Passing.{given_ok, given_complete}
-use Rattle.binary_check.specs.Accepting.{AcceptsBinary}
-use Rattle.binary_check.specs.Checking.{check_binary_of}
+use Rattle.binary_check.specs.BinaryProof.{AcceptsBinary}
+use Rattle.binary_check.specs.FirstFault.{check_binary_of}
 use Rattle.binary_check.proofs.CheckedLemmas.{checked_accepted, accepted_checked}
 use Rattle.binary_check.proofs.stream.check_binary.Goals as goal
 

@@ -1,6 +1,6 @@
 use Rattle.std.proofs.Common.{◌∙◌, ◌≡◌, ◌++◌, ap, sym, arith, None, get_or, length, map, []}
 use Rattle.std.proofs.lemmas.List.{get_or_past}
-use Rattle.clause_arena.specs.inner.Packing.{ref_of}
+use Rattle.clause_arena.specs.inner.Relocation.{ref_of}
 use Rattle.clause_arena.specs.inner.Slots.{near_entries}
 use Rattle.clause_arena.proofs.BlocksLemmas.{none_stands, none_listed}
 use Rattle.clause_arena.proofs.blocks.list_block.Goals as goal

@@ -1,5 +1,5 @@
 use Rattle.std.proofs.Common.{◌≡◌, ◌+◌, ◌++◌, map, drop}
-use Rattle.clause_arena.specs.inner.Packing.{ref_of}
+use Rattle.clause_arena.specs.inner.Relocation.{ref_of}
 use Rattle.clause_arena.specs.inner.Slots.{near_entries}
 use Rattle.clause_arena.proofs.blocks.list_cells.Given as goal
 

@@ -3,7 +3,7 @@ use Rattle.cluster.proofs.NothingLemmas.{happens_nothing}
 use Rattle.cluster.proofs.ScheduleLemmas.{Keeping, runs_sound, runs_formulas, happens_formulas}
 use Rattle.cluster.proofs.laws.verdicts_agree.Goals as goal
 
--- what the machines' laws say
+-- the laws of the machines
 keeping : goal.After-extended_coordinators_are_sound → Keeping
 keeping c = record {
   worker = λ old event given new step right. c.workers_keep_what_they_hold.ensures.right old event given new step right;

@@ -2,7 +2,7 @@ use Rattle.std.proofs.Common.{◌≡◌, ◌+◌, List, [], ◌∷◌, ◌++◌,
 use Rattle.dimacs.specs.logic.Cnf.{Cnf}
 use Rattle.cube_split.specs.Pairs.{IsBaseWith}
 use Rattle.worker_core.specs.Worker.{WorkerState}
-use Rattle.closed_schedules.specs.ClosedSchedule.{first_worker}
+use Rattle.honest_cluster.specs.ClosedSchedule.{first_worker}
 use Rattle.cluster.specs.inner.Members.{new_workers}
 use Rattle.cluster.proofs.MemberLemmas.{new_workers_more, same_base, same_worker}
 use Rattle.cluster.proofs.members.workers_of.Goals as goal

@@ -7,7 +7,7 @@ use Rattle.cluster.specs.declared.event.OpenEvent.{OpenEvent}
 use Rattle.cluster.specs.declared.node.Node.{Node}
 use Rattle.cluster.proofs.open.happen.Goals as goal
 
--- a node that is there reacts, and is put back in its place
+-- an existing node reacts, and is put back in its place
 happens_there : (old : List Node) (event : OpenEvent) (answer : Reaction) (n m : Node) (place : ℕ) → place ≡ node_of event → place < length old → n ≡ get_or old place n
     → Reacts event n answer m → Happens old event answer (slice_set old place m)
 happens_there old event answer n m place same inside here reacts =

@@ -1,10 +1,10 @@
 use Rattle.std.proofs.Common.{ℕ, List, []}
-use Rattle.commands.specs.Checking.{Checks}
+use Rattle.commands.specs.Check.{Checks}
 use Rattle.commands.specs.Known.{Of}
 use Rattle.commands.proofs.OfLemmas.{of_map, of_opened}
-use Rattle.dimacs.specs.text.Reading.{GivesFormula, parse}
+use Rattle.dimacs.specs.text.Parser.{GivesFormula, parse}
 use Rattle.node_main.specs.ProofChecks.{HasTaken}
-use Rattle.commands.specs.inner.Feeding.{Extends}
+use Rattle.commands.specs.inner.Feed.{Extends}
 use Rattle.commands.proofs.check.check_files.Goals as goal
 
 pub returns-in-Ok-clause-report : goal.returns-in-Ok-clause-report

@@ -1,9 +1,9 @@
 use Rattle.std.specs.Borrow.{Bor}
 use Rattle.std.proofs.Common.{ℕ, List, Option, map}
 use Rattle.std.proofs.lemmas.Result.{IfOk-weaker}
-use Rattle.commands.specs.Beginning.{OfQuietTree}
+use Rattle.commands.specs.FormulaTree.{OfQuietTree}
 use Rattle.commands.specs.Names.{OfNames}
-use Rattle.commands.specs.Covering.{TellsCover}
+use Rattle.commands.specs.Cover.{TellsCover}
 use Rattle.commands.specs.Known.{Of}
 use Rattle.commands.proofs.CoverLemmas.{of_quiet_refused, of_quiet_tree}
 use Rattle.commands.proofs.cover.cover_files.Goals as goal

@@ -1,9 +1,9 @@
 use Rattle.std.specs.Global.{Vec}
 use Rattle.std.proofs.Common.{ℕ, List, map}
 use Rattle.std.proofs.lemmas.Result.{IfOk-weaker}
-use Rattle.commands.specs.Covering.{EndsCover, TellsCover}
+use Rattle.commands.specs.Cover.{EndsCover, TellsCover}
 use Rattle.commands.specs.Names.{Gone, none_gone}
-use Rattle.commands.specs.inner.Covering.{IsGone}
+use Rattle.commands.specs.inner.Cover.{IsGone}
 use Rattle.commands.proofs.cover.cover_names.Goals as goal
 use Rattle.dimacs.specs.logic.Cnf.{Cnf}
 use Rattle.icnf.specs.Leaves.{Cube}

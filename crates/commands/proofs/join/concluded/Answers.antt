@@ -1,9 +1,9 @@
 use Rattle.std.proofs.Common.{[], List, ℕ, Option, Result, Err, sym, subst}
 use Rattle.std.specs.Prelude.{IfOk}
 use Rattle.commands.specs.Names.{AreTaken, OfNames, none_gone}
-use Rattle.commands.specs.Joining.{Joins, OneStops, Stops, Takes}
-use Rattle.commands.specs.inner.Joining.{Goes, HasPart, IsAt}
-use Rattle.commands.specs.declared.parts.Part.{Part}
+use Rattle.commands.specs.Join.{Joins, OneStops, Stops, Takes}
+use Rattle.commands.specs.inner.Join.{Goes, HasPart, IsAt}
+use Rattle.commands.specs.declared.part_file.Part.{Part}
 use Rattle.commands.proofs.JoinLemmas.{of_names_ok}
 use Rattle.commands.proofs.join.concluded.Goals as goal
 use Rattle.reports.specs.declared.refusal.Refusal.{Refusal}

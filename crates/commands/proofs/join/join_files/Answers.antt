@@ -4,12 +4,12 @@ use Rattle.std.proofs.lemmas.Result.{IfOk-weaker, on_ok_weaker}
 use Rattle.dimacs.specs.logic.Cnf.{Cnf}
 use Rattle.icnf.specs.Leaves.{Cube}
 use Rattle.commands.specs.Known.{Of}
-use Rattle.commands.specs.Beginning.{OfQuietTree}
+use Rattle.commands.specs.FormulaTree.{OfQuietTree}
 use Rattle.commands.specs.Names.{AreTaken, Gone, OfListed, OfNames, lists, names_of, none_gone}
-use Rattle.commands.specs.Joining.{IsStored, Joins, OneStops, Stops, Takes}
+use Rattle.commands.specs.Join.{IsStored, Joins, OneStops, Stops, Takes}
 use Rattle.commands.specs.declared.drafts.Target.{Target}
-use Rattle.commands.specs.declared.joining.JoinOptions.{JoinOptions}
-use Rattle.commands.specs.inner.Joining.{Goes, HasPart, IsAt, IsListed, IsListing, IsSettled}
+use Rattle.commands.specs.declared.join_run.JoinOptions.{JoinOptions}
+use Rattle.commands.specs.inner.Join.{Goes, HasPart, IsAt, IsListed, IsListing, IsSettled}
 use Rattle.reports.specs.declared.refusal.Refusal.{Refusal}
 use Rattle.reports.specs.declared.report.Report.{Report}
 use Rattle.commands.proofs.JoinLemmas.{of_hushed, of_quiet_tree}

@@ -1,9 +1,9 @@
 use Rattle.std.proofs.Common.{[], inl, Option, subst}
 use Rattle.std.specs.Prelude.{◌⊎◌}
 use Rattle.std.proofs.lemmas.Result.{IfOk-weaker}
-use Rattle.commands.specs.Joining.{Joins, Misses, OneStops, Refutes, Stops, Takes}
+use Rattle.commands.specs.Join.{Joins, Misses, OneStops, Refutes, Stops, Takes}
 use Rattle.commands.specs.Names.{AreTaken, none_gone}
-use Rattle.commands.specs.inner.Joining.{Goes, HasPart, IsAt}
+use Rattle.commands.specs.inner.Join.{Goes, HasPart, IsAt}
 use Rattle.commands.proofs.join.reported.Goals as goal
 use Rattle.reports.specs.declared.report.Report.{Report}
 

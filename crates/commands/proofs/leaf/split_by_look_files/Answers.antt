@@ -4,7 +4,7 @@ use Rattle.commands.specs.Known.{Of}
 use Rattle.commands.specs.Trees.{OfTree}
 use Rattle.commands.proofs.TreeLemmas.{of_refused, of_tree}
 use Rattle.commands.proofs.leaf.split_by_look_files.Goals as goal
-use Rattle.leaves.specs.Looking.{PrintsCut}
+use Rattle.leaves.specs.LookaheadSplit.{PrintsCut}
 use Rattle.reports.specs.declared.report.Report.{Report}
 
 pub returns-in-With-clause-report : goal.returns-in-With-clause-report

@@ -5,8 +5,8 @@ use Rattle.commands.specs.Known.{Of}
 use Rattle.commands.specs.Written.{Keeps}
 use Rattle.commands.proofs.LiftLemmas.{text_lifts}
 use Rattle.commands.proofs.lift.lift_block.Goals as goal
-use Rattle.leaves.specs.Closing.{BeginsFor, block_of}
-use Rattle.leaves.specs.declared.closing.LiftAll.{LiftAll}
+use Rattle.leaves.specs.BlockLift.{BeginsBlockOf, block_of}
+use Rattle.leaves.specs.declared.block_lift.BlockLift.{BlockLift}
 
 pub returns-in-Some-clause-lifts : goal.returns-in-Some-clause-lifts
 returns-in-Some-clause-lifts g c =
@@ -15,6 +15,6 @@ returns-in-Some-clause-lifts g c =
     let new = c.lift_text.new.disk in
     let s = c.args.split in
     let cubes = block_of s.tree c.args.first c.args.last in
-    let P : Option LiftAll → Type 0 = BeginsFor s.formula (c.args.first - 1) cubes in
+    let P : Option BlockLift → Type 0 = BeginsBlockOf s.formula (c.args.first - 1) cubes in
     text_lifts g.D.Disk.holds old (Keeps g.D.Drafts.kept old new log.binary log.path.now) (new ≡ old) c.args.files.now.proof.now
     s.formula (c.args.first - 1) cubes c.in-Some.lift c.lift_text.result (subst P c.in-Some.is c.in_ok-begun.ensures.begins) c.lift_text.ensures.lifts

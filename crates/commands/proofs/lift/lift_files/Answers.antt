@@ -1,7 +1,7 @@
 use Rattle.std.proofs.Common.{◌≡◌, ℕ, List, Option}
 use Rattle.std.proofs.lemmas.Result.{IfOk-weaker}
 use Rattle.commands.specs.Known.{Of}
-use Rattle.commands.specs.Lifting.{LiftsTree}
+use Rattle.commands.specs.Lift.{LiftsTree}
 use Rattle.commands.specs.Trees.{OfTree}
 use Rattle.commands.specs.Written.{Keeps}
 use Rattle.commands.proofs.TreeLemmas.{of_refused, of_tree}

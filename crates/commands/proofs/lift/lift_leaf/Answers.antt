@@ -1,16 +1,16 @@
 use Rattle.std.proofs.Common.{◌≡◌, Option, subst}
 use Rattle.std.proofs.lemmas.Result.{IfOk-weaker}
 use Rattle.commands.specs.Known.{Of}
-use Rattle.commands.specs.Lifting.{LiftsAt}
+use Rattle.commands.specs.Lift.{LiftsAt}
 use Rattle.commands.specs.Written.{Keeps}
 use Rattle.commands.specs.declared.lift.LeafLift.{LeafLift}
-use Rattle.commands.specs.inner.Lifting.{EndsLeaf, leaf_moves}
-use Rattle.commands.specs.inner.Pouring.{IsPoured}
+use Rattle.commands.specs.inner.Lift.{EndsLeaf, leaf_moves}
+use Rattle.commands.specs.inner.Filter.{IsFiltered}
 use Rattle.commands.proofs.LiftLemmas.{at_lifts}
 use Rattle.commands.proofs.OfLemmas.{of_map}
 use Rattle.commands.proofs.lift.lift_leaf.Goals as goal
-use Rattle.either_form.specs.Lifting.{Begins}
-use Rattle.either_form.specs.declared.lift.FormLift.{FormLift}
+use Rattle.text_or_binary.specs.FormLift.{BeginsFormCube}
+use Rattle.text_or_binary.specs.declared.form_lift.FormLift.{FormLift}
 use Rattle.leaves.specs.Leaf.{leaf_at}
 
 pub returns-in-Some-clause-lifts : goal.returns-in-Some-clause-lifts
@@ -18,16 +18,16 @@ returns-in-Some-clause-lifts g c =
     let log = c.args.files.now.log in
     let kept = g.D.Drafts.kept in
     let old = c.args.disk.now in
-    let new = c.pour_proof.new.disk in
+    let new = c.lift_proof.new.disk in
     let F = c.args.split.formula in
     let q = leaf_at c.args.split.tree c.args.leaf in
     let l = c.in-Some.lift in
-    let P : Option FormLift → Type 0 = Begins F q in
+    let P : Option FormLift → Type 0 = BeginsFormCube F q in
     let start = subst P c.in-Some.is c.in_ok-begun.ensures.begins in
     let taker : LeafLift = record { lift = l; leaf = c.args.leaf } in
-    IfOk-weaker c.pour_proof.result
-    (λ r. Of (g.D.Disk.holds old c.args.files.now.proof.now) (λ proof. IsPoured leaf_moves EndsLeaf kept old new log.binary log.path.now taker proof r))
+    IfOk-weaker c.lift_proof.result
+    (λ r. Of (g.D.Disk.holds old c.args.files.now.proof.now) (λ proof. IsFiltered leaf_moves EndsLeaf kept old new log.binary log.path.now taker proof r))
     (λ r. Of (g.D.Disk.holds old c.args.files.now.proof.now) (λ proof. LiftsAt (Keeps kept old new log.binary log.path.now) (new ≡ old) F q c.args.leaf proof r))
-    (λ r h. of_map (λ proof. IsPoured leaf_moves EndsLeaf kept old new log.binary log.path.now taker proof r)
+    (λ r h. of_map (λ proof. IsFiltered leaf_moves EndsLeaf kept old new log.binary log.path.now taker proof r)
     (λ proof. LiftsAt (Keeps kept old new log.binary log.path.now) (new ≡ old) F q c.args.leaf proof r) _
-    (λ proof poured. at_lifts kept old new log.binary log.path.now F q l c.args.leaf proof r start poured) h) c.pour_proof.ensures.poured
+    (λ proof poured. at_lifts kept old new log.binary log.path.now F q l c.args.leaf proof r start poured) h) c.lift_proof.ensures.poured

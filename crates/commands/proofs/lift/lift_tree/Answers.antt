@@ -2,12 +2,12 @@ use Rattle.std.proofs.Common.{◌≡◌, ◌-◌, ℕ, List, sym, subst}
 use Rattle.std.specs.Prelude.{IfOk}
 use Rattle.std.proofs.lemmas.Result.{IfOk-weaker}
 use Rattle.commands.specs.Known.{Of}
-use Rattle.commands.specs.Lifting.{LiftsAt, LiftsBlock, LiftsEach, LiftsTree}
+use Rattle.commands.specs.Lift.{LiftsAt, LiftsBlock, LiftsEach, LiftsTree}
 use Rattle.commands.specs.Written.{Keeps}
 use Rattle.commands.specs.declared.lift.Lifted.{Lifted}
 use Rattle.commands.proofs.LiftLemmas.{of_block_left, of_each_left, of_leaf_left}
 use Rattle.commands.proofs.lift.lift_tree.Goals as goal
-use Rattle.leaves.specs.Closing.{block_of}
+use Rattle.leaves.specs.BlockLift.{block_of}
 use Rattle.leaves.specs.Leaf.{leaf_at}
 
 pub returns-in-Leaf-clause-dropped : goal.returns-in-Leaf-clause-dropped

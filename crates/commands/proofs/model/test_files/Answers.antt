@@ -1,13 +1,13 @@
 use Rattle.std.proofs.Common.{ℕ, List, [], Result, Ok, Err, inr, subst}
 use Rattle.std.proofs.lemmas.Result.{IfOk-weaker}
 use Rattle.commands.specs.Known.{Of}
-use Rattle.commands.specs.Testing.{TellsAnswer, TestsAnswer}
-use Rattle.commands.specs.inner.Testing.{IsTesting}
+use Rattle.commands.specs.Model.{TellsAnswer, TestsAnswer}
+use Rattle.commands.specs.inner.Model.{IsTesting}
 use Rattle.commands.proofs.ModelLemmas.{input_refused}
 use Rattle.commands.proofs.OfLemmas.{of_ok, of_opened}
 use Rattle.commands.proofs.model.test_files.Goals as goal
 use Rattle.dimacs.specs.logic.Cnf.{Cnf}
-use Rattle.dimacs.specs.text.Reading.{GivesFormula, parse}
+use Rattle.dimacs.specs.text.Parser.{GivesFormula, parse}
 use Rattle.dimacs.specs.declared.fault.DimacsFault.{DimacsFault}
 
 pub returns-in-Ok-clause-report : goal.returns-in-Ok-clause-report

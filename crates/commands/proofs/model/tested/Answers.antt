@@ -1,7 +1,7 @@
 use Rattle.std.proofs.Common.{ℕ, List, []}
-use Rattle.commands.specs.Testing.{Tests}
-use Rattle.commands.specs.inner.Feeding.{Extends}
-use Rattle.commands.specs.inner.Testing.{IsTesting}
+use Rattle.commands.specs.Model.{Tests}
+use Rattle.commands.specs.inner.Feed.{Extends}
+use Rattle.commands.specs.inner.Model.{IsTesting}
 use Rattle.commands.proofs.OfLemmas.{of_ok, of_opened}
 use Rattle.commands.proofs.model.tested.Goals as goal
 use Rattle.dimacs.specs.logic.Cnf.{Cnf}

@@ -1,6 +1,6 @@
 use Rattle.std.proofs.Common.{inl, inr}
 use Rattle.std.proofs.lemmas.Result.{IfOk-weaker}
-use Rattle.commands.specs.Testing.{TellsAnswer, cannot_read_answer_text}
+use Rattle.commands.specs.Model.{TellsAnswer, cannot_read_answer_text}
 use Rattle.commands.proofs.model.told.Goals as goal
 use Rattle.leaves.specs.Leaf.{Prints}
 

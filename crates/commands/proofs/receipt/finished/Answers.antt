@@ -2,16 +2,16 @@ use Rattle.std.proofs.Common.{◌≡◌, ◌∙◌, List, ℕ, Err, ap}
 use Rattle.std.proofs.lemmas.Result.{IfOk-weaker}
 use Rattle.commands.specs.declared.receipt.Received.{Received}
 use Rattle.commands.specs.inner.Receipts.{ComesTo}
-use Rattle.receipts.specs.Receiving.{IsReceiptOf}
-use Rattle.receipts.specs.Telling.{told_of}
-use Rattle.receipts.specs.declared.fault.ReceiveFault.TheVariants.{Log, ClosesNothing}
+use Rattle.receipts.specs.LogReceipt.{IsReceiptOf}
+use Rattle.receipts.specs.Contents.{contents_of}
+use Rattle.receipts.specs.declared.fault.BuildFault.TheVariants.{Log, ClosesNothing}
 use Rattle.commands.proofs.ReceiptLemmas.{refused_is}
 use Rattle.commands.proofs.receipt.finished.Goals as goal
 
 pub returns-in-Ok-clause-comes : goal.returns-in-Ok-clause-comes
 returns-in-Ok-clause-comes c = λ log h.
     let s = c.args.split.now in
-    IfOk-weaker c.told.result (λ (x : Received). (bytes : List ℕ) → IsReceiptOf s.formula s.tree bytes (told_of c.in-Ok.receipt) → ComesTo s.formula s.tree bytes x) (ComesTo s.formula s.tree log)
+    IfOk-weaker c.told.result (λ (x : Received). (bytes : List ℕ) → IsReceiptOf s.formula s.tree bytes (contents_of c.in-Ok.receipt) → ComesTo s.formula s.tree bytes x) (ComesTo s.formula s.tree log)
     (λ x tells. tells log (c.in-Ok.ensures.receipt s.formula s.tree log h)) c.told.ensures.tells
 
 pub returns-in_ok-report-in-Err-clause-comes : goal.returns-in_ok-report-in-Err-clause-comes

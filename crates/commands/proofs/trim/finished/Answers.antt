@@ -1,6 +1,6 @@
 use Rattle.std.proofs.Common.{subst}
 use Rattle.commands.specs.declared.trim.TrimText.{TrimText}
-use Rattle.commands.specs.inner.Trimming.{IsTrimming}
+use Rattle.commands.specs.inner.Trim.{IsTrimming}
 use Rattle.commands.proofs.TrimLemmas.{faulty_told}
 use Rattle.commands.proofs.trim.finished.Goals as goal
 

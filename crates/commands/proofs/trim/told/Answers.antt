@@ -1,12 +1,12 @@
 use Rattle.std.proofs.Common.{ℕ, List, Result, Ok, inr, subst}
 use Rattle.std.proofs.lemmas.Result.{IfOk-weaker}
 use Rattle.commands.specs.Known.{Of}
-use Rattle.commands.specs.Trimming.{TellsTrimming, Trims}
+use Rattle.commands.specs.Trim.{TellsTrimming, Trims}
 use Rattle.commands.proofs.OfLemmas.{of_map, of_ok, of_opened}
 use Rattle.commands.proofs.TrimLemmas.{input_refused}
 use Rattle.commands.proofs.trim.told.Goals as goal
 use Rattle.dimacs.specs.logic.Cnf.{Cnf}
-use Rattle.dimacs.specs.text.Reading.{GivesFormula, parse}
+use Rattle.dimacs.specs.text.Parser.{GivesFormula, parse}
 use Rattle.dimacs.specs.declared.fault.DimacsFault.{DimacsFault}
 
 pub returns-in-Ok-clause-tells : goal.returns-in-Ok-clause-tells

@@ -1,7 +1,7 @@
 use Rattle.std.proofs.Common.{ℕ, List, []}
-use Rattle.commands.specs.Trimming.{TellsTrimming}
-use Rattle.commands.specs.inner.Feeding.{Extends}
-use Rattle.commands.specs.inner.Trimming.{IsTrimming}
+use Rattle.commands.specs.Trim.{TellsTrimming}
+use Rattle.commands.specs.inner.Feed.{Extends}
+use Rattle.commands.specs.inner.Trim.{IsTrimming}
 use Rattle.commands.proofs.OfLemmas.{of_ok, of_opened}
 use Rattle.commands.proofs.trim.trimmed.Goals as goal
 use Rattle.dimacs.specs.logic.Cnf.{Cnf}

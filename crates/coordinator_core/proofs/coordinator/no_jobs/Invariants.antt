@@ -2,6 +2,6 @@ use Rattle.std.proofs.Common.{◌≡◌, None}
 use Rattle.std.specs.Prelude.{replicate}
 use Rattle.coordinator_core.proofs.coordinator.no_jobs.Given as goal
 
--- so many so far
+-- the slots so far
 abbrev pub invariant-loop : goal.invariant-loop
 invariant-loop l = l.jobs.items ≡ replicate l.counter None

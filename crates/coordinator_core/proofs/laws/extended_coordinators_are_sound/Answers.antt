@@ -1,4 +1,4 @@
-use Rattle.coordinator_core.proofs.ExtendingLemmas.{extended_sound}
+use Rattle.coordinator_core.proofs.AddedClausesLemmas.{extended_sound}
 use Rattle.coordinator_core.proofs.laws.extended_coordinators_are_sound.Goals as goal
 
 pub returns-clause-sound : goal.returns-clause-sound

@@ -1,6 +1,6 @@
 use Rattle.std.proofs.Common.{[], sym, subst}
 use Rattle.clause_arena.specs.Clauses.{live_of}
-use Rattle.conflict_analysis.specs.Built.{AreBuilt, AreInside}
+use Rattle.conflict_analysis.specs.BuiltTrails.{AreBuilt, AreInside}
 use Rattle.crate_tests.proofs.SmallConflict.{small_built}
 use Rattle.crate_tests.proofs.conflict_analysis_lemmas.closed_by_assumption.Goals as goal
 

@@ -3,7 +3,7 @@ use Rattle.std.specs.FinMap.{get, insert, empty, get-empty}
 use Rattle.std.specs.Ordering.{nat_cmp}
 use Rattle.clause_arena.specs.Clauses.{Clauses, live_of}
 use Rattle.dimacs.specs.logic.Literal.{Neg, same}
-use Rattle.conflict_analysis.specs.Built.{AreInside}
+use Rattle.conflict_analysis.specs.BuiltTrails.{AreInside}
 use Rattle.crate_tests.proofs.SmallConflict.{first, second, pair_distinct, small_fresh, small_first, small_second, small_inside}
 use Rattle.crate_tests.proofs.conflict_analysis_lemmas.two_clauses.Goals as goal
 use Rattle.crate_tests.proofs.conflict_analysis_lemmas.two_clauses.Goals.{In_ok-add, In_ok-add-2}

@@ -1,6 +1,6 @@
 use Rattle.std.proofs.Common.{arith}
-use Rattle.cube_solve.proofs.AssumingLemmas.{assuming_all}
-use Rattle.cube_solve.proofs.HoldingLemmas.{held_all}
+use Rattle.cube_solve.proofs.AssumptionLemmas.{assuming_all}
+use Rattle.cube_solve.proofs.HeldLemmas.{held_all}
 use Rattle.cube_solve.proofs.decision.pick.Goals as goal
 
 pub returns-then-level-assumed-clause-next : goal.returns-then-level-assumed-clause-next

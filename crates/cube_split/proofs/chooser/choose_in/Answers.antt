@@ -1,6 +1,6 @@
 use Rattle.std.proofs.Common.{ℕ, ◌+◌, ◌++◌, ◌||◌, ◌&&◌, List, false, not, subst}
 use Rattle.dimacs.specs.logic.Literal.{Literal, has}
-use Rattle.cube_split.specs.Choosing.{held_by}
+use Rattle.cube_split.specs.ChoiceWithDefinitions.{held_by}
 use Rattle.cube_split.specs.inner.Marks.{AreMarked}
 use Rattle.cube_split.proofs.ChoiceLemmas.{marked_both}
 use Rattle.cube_split.proofs.HeldLemmas.{all_unmarked, plain_choice}

@@ -1,6 +1,6 @@
 use Rattle.std.proofs.Common.{arith, ◌≡◌, ◌+◌, ◌*◌, ◌<◌, ◌++◌, ◌∙◌, true, false, length, take, get_or, ap, sym}
 use Rattle.dimacs.specs.logic.Literal.{Pos, has, index_of}
-use Rattle.cube_split.specs.Choosing.{held_by}
+use Rattle.cube_split.specs.ChoiceWithDefinitions.{held_by}
 use Rattle.cube_split.proofs.HeldLemmas.{held_marked, held_other}
 use Rattle.cube_split.proofs.definitions.mark_held.Goals as goal
 use Rattle.cube_split.proofs.definitions.mark_held.Goals.{then-marks-index, else-marks-index}

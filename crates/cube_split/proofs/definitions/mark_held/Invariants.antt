@@ -1,6 +1,6 @@
 use Rattle.std.proofs.Common.{◌≡◌, ◌+◌, ◌++◌, List, take}
 use Rattle.dimacs.specs.logic.Literal.{Literal, has}
-use Rattle.cube_split.specs.Choosing.{held_by}
+use Rattle.cube_split.specs.ChoiceWithDefinitions.{held_by}
 use Rattle.cube_split.specs.inner.Marks.{AreMarked}
 use Rattle.cube_split.proofs.definitions.mark_held.Given as goal
 

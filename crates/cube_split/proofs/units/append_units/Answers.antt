@@ -3,7 +3,7 @@ use Rattle.std.proofs.lemmas.List.{append-nil, take_all, length-take-le}
 use Rattle.std.proofs.lemmas.List.Elements.{All-cons, All-nil}
 use Rattle.dimacs.specs.logic.Cnf.{Cnf, literal_count}
 use Rattle.dimacs.specs.logic.Literal.{Clause, IsWithin}
-use Rattle.cube_split.specs.Splitting.{with_units}
+use Rattle.cube_split.specs.SplitTree.{with_units}
 use Rattle.cube_split.proofs.UnitLemmas.{units_len, units_count, units_more}
 use Rattle.cube_split.proofs.units.append_units.Goals as goal
 

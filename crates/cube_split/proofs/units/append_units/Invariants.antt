@@ -1,5 +1,5 @@
 use Rattle.std.proofs.Common.{◌≡◌, take}
-use Rattle.cube_split.specs.Splitting.{with_units}
+use Rattle.cube_split.specs.SplitTree.{with_units}
 use Rattle.cube_split.proofs.units.append_units.Given as goal
 
 -- the units so far

@@ -1,7 +1,7 @@
 use Rattle.std.proofs.Common.{Bool, take}
 use Rattle.dimacs.specs.logic.Literal.{Literal}
 use Rattle.cube_split.specs.inner.Marks.{AreMarked}
-use Rattle.cube_split.specs.inner.Walking.{IsClosedBy}
+use Rattle.cube_split.specs.inner.WalkInvariant.{IsClosedBy}
 use Rattle.cube_split.proofs.walk.closed_by_units.Given as goal
 
 -- the clauses so far have their levels

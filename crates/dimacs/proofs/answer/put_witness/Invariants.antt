@@ -1,6 +1,6 @@
 use Rattle.std.proofs.Common.{◌≡◌, ◌≤◌, ◌+◌, ◌++◌, drop}
 use Rattle.dimacs.specs.text.Answer.{filled, witness_lines}
-use Rattle.dimacs.specs.text.Spelling.{Begins}
+use Rattle.dimacs.specs.text.Grammar.{Begins}
 use Rattle.dimacs.proofs.AnswerLemmas.{items_from}
 use Rattle.dimacs.proofs.answer.put_witness.Given as goal
 

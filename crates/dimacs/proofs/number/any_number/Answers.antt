@@ -9,7 +9,7 @@ pub returns-clause-value : goal.returns-clause-value
 returns-clause-value c =
     let some : 0 < length c.args.text.now = grind (arith, nat_tests) in
     let first : get_or c.args.text.now 0 45 ≡ 45 = search rules in
-    c.behind_minus.ensures.value _ c.leading_natural-size-2.ensures.value ∙ sym (ap (option_map capped) (minus_number c.args.text.now _ some first refl))
+    c.after_minus.ensures.value _ c.leading_natural-size-2.ensures.value ∙ sym (ap (option_map capped) (minus_number c.args.text.now _ some first refl))
 
 pub returns-clause-rest : goal.returns-clause-rest
 returns-clause-rest c =

@@ -1,4 +1,4 @@
-use Rattle.evidence.proofs.KeepingLemmas.{stays_right, stays_once}
+use Rattle.evidence.proofs.KeptVerdictLemmas.{stays_right, stays_once}
 use Rattle.evidence.proofs.laws.what_is_kept_is_right.Goals as goal
 
 pub returns-clause-right : goal.returns-clause-right

@@ -1,6 +1,6 @@
 use Rattle.std.proofs.Common.{◌≡◌, refl, false, ◌∙◌, sym}
 use Rattle.frames.specs.Cubes.{takes}
-use Rattle.frames.proofs.CubeReading.{no_literal, not_taken}
+use Rattle.frames.proofs.CubeBytes.{no_literal, not_taken}
 use Rattle.frames.proofs.fields.cube_of.Goals as goal
 
 pub returns-in_default-clause-spelled : goal.returns-in_default-clause-spelled

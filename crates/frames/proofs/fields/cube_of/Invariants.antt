@@ -1,7 +1,7 @@
 use Rattle.std.proofs.Common.{◌≡◌, ◌%◌, ◌++◌, length}
 use Rattle.std.specs.List.{flat_map}
 use Rattle.frames.specs.Cubes.{IsCube}
-use Rattle.frames.specs.Spelling.{literal_bytes}
+use Rattle.frames.specs.WireFormat.{literal_bytes}
 use Rattle.frames.proofs.fields.cube_of.Given as goal
 
 -- the cube so far, and the bytes that are left

@@ -1,6 +1,6 @@
 use Rattle.std.proofs.Common.{◌∙◌, ap, arith, length, take, min, ◌++◌, List, ℕ}
-use Rattle.frames.specs.inner.Filling.{lacks}
-use Rattle.frames.proofs.FillingLemmas.{fills, step_within, lacks_fit, open_within}
+use Rattle.frames.specs.inner.Buffer.{missing}
+use Rattle.frames.proofs.BufferLemmas.{fills, step_within, lacks_fit, open_within}
 use Rattle.frames.proofs.reader.fill.Goals as goal
 
 pub top_up-head-requires : goal.top_up-head-requires
@@ -19,5 +19,5 @@ returns-clause-fills c =
     let back = c.split_at.ensures.back in
     fills c.args.buffer.now.items c.args.piece.now b1 c.top_up-payload.new.buffer.items c.top_up-head.result c.top_up-payload.result
     c.requires.open c.top_up-head.ensures.count c.top_up-head.ensures.now
-    (c.top_up-payload.ensures.count ∙ ap (λ (x : List ℕ). min (lacks b1) (length x)) back)
+    (c.top_up-payload.ensures.count ∙ ap (λ (x : List ℕ). min (missing b1) (length x)) back)
     (c.top_up-payload.ensures.now ∙ ap (λ (x : List ℕ). b1 ++ take c.top_up-payload.result x) back)

@@ -24,7 +24,7 @@ returns-in_err-feed-clause-memory c none =
     stops_before c.args.pieces.now c.loop-piece.piece-index c.loop-piece.reader c.args.frames.now.items c.loop-piece.frames.items c.feed.new.frames.items c.loop-piece.invariant.new
     c.loop-piece-test.true c.loop-piece.invariant.frames kept.1 c.loop-piece.invariant.well c.loop-piece.invariant.taken
 
--- where there is no room for a reader nothing was read
+-- if memory for a reader was refused, nothing was read
 pub returns-in_err-reader-clause-stream : goal.returns-in_err-reader-clause-stream
 returns-in_err-reader-clause-stream c = ([], sym (append-nil c.args.frames.now.items), search rules)
 

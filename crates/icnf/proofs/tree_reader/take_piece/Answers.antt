@@ -1,7 +1,7 @@
 use Rattle.std.proofs.Common.{◌++◌, subst}
-use Rattle.lrat_text.specs.Taking.{Stops}
-use Rattle.lrat_text.specs.declared.lines.PieceFault.TheVariants.{Line}
-use Rattle.icnf.specs.inner.Lines.{Takes, Refuses}
+use Rattle.lrat_text.specs.LineSink.{PieceStops}
+use Rattle.lrat_text.specs.declared.line_splitter.PieceFault.TheVariants.{Line}
+use Rattle.icnf.specs.inner.Lines.{TakesLine, RefusesLine}
 use Rattle.icnf.proofs.PieceLemmas.{hands_lead, stops_refuse}
 use Rattle.icnf.proofs.tree_reader.take_piece.Goals as goal
 
@@ -11,4 +11,4 @@ returns-in-Ok c = hands_lead c.args.lines.now c.feed.new.taker (c.args.begun.now
 pub returns-in-Err-Line : goal.returns-in-Err-Line
 returns-in-Err-Line c =
     stops_refuse c.args.lines.now c.feed.new.taker (c.args.begun.now ++ c.args.piece.now) (Line c.in-Err-Line.fault)
-    (subst (Stops Takes Refuses c.args.lines.now (c.args.begun.now ++ c.args.piece.now) c.feed.new.taker) c.in-Err-Line.field-0-is c.in-Err-Line.ensures.taken)
+    (subst (PieceStops TakesLine RefusesLine c.args.lines.now (c.args.begun.now ++ c.args.piece.now) c.feed.new.taker) c.in-Err-Line.field-0-is c.in-Err-Line.ensures.taken)

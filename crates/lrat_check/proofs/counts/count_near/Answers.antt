@@ -1,7 +1,7 @@
 use Rattle.std.proofs.Common.{◌≡◌, ◌+◌, ◌*◌, ◌≤◌, ◌∙◌, Some, None, sym, ap, arith, slice_index, slice_index_or, take}
 use Rattle.std.proofs.lemmas.List.{length-take}
 use Rattle.dimacs.specs.logic.Literal.{index_of}
-use Rattle.lrat_check.specs.inner.Table.{held, one_if_has}
+use Rattle.lrat_check.specs.inner.LiteralTable.{held, one_if_has}
 use Rattle.lrat_check.proofs.Held.{held-bound, held-more}
 use Rattle.lrat_check.proofs.counts.count_near.Goals.{After-get, in-Some, in_default}
 use Rattle.lrat_check.proofs.counts.count_near.Goals as goal

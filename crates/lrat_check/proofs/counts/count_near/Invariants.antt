@@ -1,5 +1,5 @@
 use Rattle.std.proofs.Common.{◌≡◌, ◌+◌, slice_index, take}
-use Rattle.lrat_check.specs.inner.Table.{held}
+use Rattle.lrat_check.specs.inner.LiteralTable.{held}
 use Rattle.dimacs.specs.logic.Literal.{Literal, index_of}
 use Rattle.lrat_check.proofs.counts.count_near.Given as goal
 

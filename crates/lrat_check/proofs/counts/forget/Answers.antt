@@ -1,7 +1,7 @@
 use Rattle.std.proofs.Common.{◌+◌, ◌-◌, ◌<◌, ◌≤◌, ◌^◌, ◌∙◌, sym, ap, subst, length, slice_index, set, take, arith, rules}
 use Rattle.dimacs.specs.logic.Literal.{Literal, index_of}
 use Rattle.dimacs.proofs.Members.{Contains-has}
-use Rattle.lrat_check.specs.inner.Table.{AreRaised}
+use Rattle.lrat_check.specs.inner.LiteralTable.{AreRaised}
 use Rattle.lrat_check.proofs.Counting.{place_below, lowered_first, raised_again}
 use Rattle.lrat_check.proofs.counts.forget.Goals.{then-counts-place-ge-MET, else-counts-place-ge-MET}
 use Rattle.lrat_check.proofs.counts.forget.Goals as goal

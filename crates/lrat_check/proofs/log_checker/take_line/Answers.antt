@@ -1,6 +1,6 @@
 use Rattle.std.proofs.Common.{◌∙◌, refl, ap, subst, ◌≡◌, None}
-use Rattle.lrat_check.specs.Faults
-use Rattle.lrat_check.specs.Faults.{live_after}
+use Rattle.lrat_check.specs.StepFaults
+use Rattle.lrat_check.specs.StepFaults.{live_after}
 use Rattle.lrat_check.specs.Logs.{ids_of, log_step_fault}
 use Rattle.lrat_text.specs.declared.step.Step.{Step}
 use Rattle.lrat_check.specs.inner.LogStates.{state_of}
@@ -17,7 +17,7 @@ returns-in-Ok-take-clause-took c =
       spells = c.in-Ok.ensures.found;
       follows = log_from_none log.base log.clauses log.top step (subst (λ (s : Step). log_step_fault log.base log.clauses log.top s ≡ None) c.as_ref.ensures c.in-Ok-take.ensures.took);
       live = c.in-Ok-take.ensures.clauses ∙ ap (live_after log.clauses) c.as_ref.ensures ∙ live_same log.clauses step;
-      top = c.in-Ok-take.ensures.top ∙ ap (Faults.top_after log.top) c.as_ref.ensures ∙ top_same log.top step;
+      top = c.in-Ok-take.ensures.top ∙ ap (StepFaults.top_after log.top) c.as_ref.ensures ∙ top_same log.top step;
       base = c.take.ensures.base;
       line = refl;
       cut = c.in-Ok-take.ensures.whole;

@@ -1,5 +1,5 @@
 use Rattle.std.proofs.Common.{◌≡◌, ◌⊎◌, sym, subst}
-use Rattle.lrat_check.specs.Checking.{no_memory}
+use Rattle.lrat_check.specs.ProofFaults.{no_memory}
 use Rattle.lrat_check.specs.Stream.{Within, Failed}
 use Rattle.lrat_check.specs.inner.Stream.{LeadsTo}
 use Rattle.lrat_check.proofs.Streams.{hands_lead, stops_lead}

@@ -1,4 +1,4 @@
-use Rattle.lrat_text.specs.Writing.{line_text}
+use Rattle.lrat_text.specs.WrittenLine.{line_text}
 use Rattle.lrat_text.proofs.LineLemmas.{written_spells, written_one_line}
 use Rattle.lrat_text.proofs.SpellingLemmas.{spelled_found}
 use Rattle.lrat_text.proofs.laws.putting_is_spelling.Goals as goal

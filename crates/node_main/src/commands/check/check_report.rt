@@ -1,7 +1,7 @@
-//! What is reported of a check.
+//! The report of a check: that the proof is accepted, or the fault of the proof or of the input.
 
 ghost use Rattle.std.specs.Prelude.{◌≡◌, ◌≢◌, Ok, Err, None, IfOk, OnOk, is_ok, if◌then◌else◌};
-ghost use Rattle.lrat_check.specs.Checking.{no_memory};
+ghost use Rattle.lrat_check.specs.ProofFaults.{no_memory};
 ghost use Rattle.node_main.specs.Reports.{answer_text, binary_answer_text};
 ghost use Rattle.reports.specs.Faults.{input_fault_text};
 
@@ -10,7 +10,7 @@ use lrat_check::CheckFault;
 use reports::{Report, faulty_input, put_fault, put_step_fault};
 use std::alloc::{AllocError, Global};
 
-/// The report of a text that is not accepted.
+/// The report of the text of a proof that has this fault, status 1. An error is want of memory.
 fn refused_text(alloc: Global, fault: CheckFault) -> Result<Report, AllocError>
     ensures text { IfOk result (λ r. r.stdout.items ≡ answer_text (Err fault)) }
     ensures status { IfOk result (λ r. r.status ≡ 1) }
@@ -21,7 +21,7 @@ fn refused_text(alloc: Global, fault: CheckFault) -> Result<Report, AllocError>
     Ok(report)
 }
 
-/// The report of what checking a text answered.
+/// The report of a check of a text with this answer: status 0 at `Ok`, 1 at a fault. An error is want of memory, here or in the check.
 pub(crate) fn answered(alloc: Global, answer: Result<(), CheckFault>) -> Result<Report, AllocError>
     ensures text { IfOk result (λ r. r.stdout.items ≡ answer_text answer) }
     ensures status { IfOk result (λ r. r.status ≡ (if is_ok answer then 0 else 1)) }
@@ -35,7 +35,7 @@ pub(crate) fn answered(alloc: Global, answer: Result<(), CheckFault>) -> Result<
     }
 }
 
-/// The report of a proof in binary form that is not accepted.
+/// The report of a proof in binary form that has this fault, status 1. An error is want of memory.
 fn refused_binary(alloc: Global, fault: CheckFault) -> Result<Report, AllocError>
     ensures text { IfOk result (λ r. r.stdout.items ≡ binary_answer_text (Err fault)) }
     ensures status { IfOk result (λ r. r.status ≡ 1) }
@@ -46,7 +46,8 @@ fn refused_binary(alloc: Global, fault: CheckFault) -> Result<Report, AllocError
     Ok(report)
 }
 
-/// The report of what checking a proof in binary form answered.
+/// The report of a check of a proof in binary form with this answer: status 0 at `Ok`, 1 at a fault. An error is want of memory, here or in
+/// the check.
 pub(crate) fn answered_binary(
     alloc: Global,
     answer: Result<(), CheckFault>,
@@ -63,7 +64,7 @@ pub(crate) fn answered_binary(
     }
 }
 
-/// The report of an input that was not read.
+/// The report of an input that has this fault, status 1. An error is want of memory, here or as this fault.
 pub(crate) fn unread(alloc: Global, fault: DimacsFault) -> Result<Report, AllocError>
     ensures text { IfOk result (λ r. r.stdout.items ≡ input_fault_text fault) }
     ensures status { IfOk result (λ r. r.status ≡ 1) }

@@ -1,7 +1,7 @@
-//! A check of a proof that comes in pieces.
+//! A check of a proof that comes in pieces, in either form.
 
 ghost use Rattle.std.specs.Prelude.{◌≡◌, ◌++◌, [], ℕ, List, true, IfOk};
-ghost use Rattle.dimacs.specs.text.Reading.{GivesFormula, parse};
+ghost use Rattle.dimacs.specs.text.Parser.{GivesFormula, parse};
 ghost use Rattle.node_main.specs.ProofChecks.{HasTaken, IsCheckReport, KeepsNoLine, has_fault};
 ghost use Rattle.node_main.specs.Truth.{SpellsUnsatisfiable};
 
@@ -15,7 +15,7 @@ use std::alloc::{AllocError, Global};
 use std::marker::Model;
 use std::mem;
 
-/// Takes the next piece of a proof of an input that was read, or not.
+/// The state after the next piece of a proof. A fault of the input stays, and want of memory becomes a fault.
 fn taken(
     alloc: Global,
     state: Result<Stage, DimacsFault>,
@@ -28,13 +28,13 @@ fn taken(
         Ok(stage) => stage,
         Err(fault) => return Err(fault),
     };
-    match stage.taking(alloc, piece) {
+    match stage.with_piece(alloc, piece) {
         Ok(stage) => Ok(stage),
         Err(error) => Err(DimacsFault::from(error)),
     }
 }
 
-/// What is reported where no further byte comes.
+/// The report of the check in this state if no more bytes come. An error is want of memory.
 fn report_of(alloc: Global, state: &Result<Stage, DimacsFault>) -> Result<Report, AllocError>
     ensures { (input proof : List ℕ) → HasTaken input state.now proof → IfOk result (IsCheckReport input proof) }
 {
@@ -44,11 +44,13 @@ fn report_of(alloc: Global, state: &Result<Stage, DimacsFault>) -> Result<Report
     }
 }
 
-/// A check of a proof that comes in pieces: of a text, or, where the first byte is `a` or `d`, of the binary form. Each fault, of the
-/// input, of the proof or of memory, is kept for `finish`.
+/// A check of a proof that comes in pieces: a text, or the binary form if the first byte is `a` or `d`. Each fault, of the input, of the
+/// proof or of memory, is kept for `finish`.
 #[derive(Drop)]
 pub struct ProofCheck {
+    /// The allocator of the check.
     alloc: Global,
+    /// How far the proof was checked, or the fault of the input or of memory.
     state: Result<Stage, DimacsFault>,
 }
 
@@ -67,7 +69,7 @@ impl Model for ProofCheck {
 }
 
 impl ProofCheck {
-    /// Reads the input, and has taken no byte of the proof.
+    /// A check against the formula of this input; no byte of the proof is taken yet.
     pub fn new(alloc: Global, input: &[u8]) -> ProofCheck
         ensures taken { HasTaken input.now result [] }
         ensures kept { KeepsNoLine result }
@@ -75,7 +77,7 @@ impl ProofCheck {
         ProofCheck::of(alloc, read(alloc, input))
     }
 
-    /// The same of an input that was read, or has a fault, whichever way it came.
+    /// A check against an input that was read already, or has a fault; no byte of the proof is taken yet.
     pub fn of(alloc: Global, found: Result<Formula, DimacsFault>) -> ProofCheck
         ensures taken { (input : List ℕ) → GivesFormula found (parse input) → HasTaken input result [] }
         ensures kept { KeepsNoLine result }
@@ -96,8 +98,8 @@ impl ProofCheck {
         self.state = taken(self.alloc, state, piece);
     }
 
-    /// Whether there is a fault, of the input, of the proof or of memory. Then no further byte of the proof changes what `finish` answers, so
-    /// whoever feeds need not go on.
+    /// Tells whether there is a fault, of the input, of the proof or of memory. Then no more bytes change what `finish` answers, so none
+    /// have to be fed.
     pub fn is_settled(&self) -> bool
         ensures fault { result ≡ has_fault self.now }
         ensures stays { result ≡ true → (input proof more : List ℕ) → HasTaken input self.now proof → HasTaken input self.now (proof ++ more) }
@@ -108,7 +110,7 @@ impl ProofCheck {
         }
     }
 
-    /// The report, where no further byte comes. The error stands for the report `c no memory`, status 1.
+    /// The report of the check if no more bytes come. The error stands for the report `c no memory`, status 1.
     pub fn finish(&self) -> Result<Report, AllocError>
         ensures report { (input proof : List ℕ) → HasTaken input self.now proof → IfOk result (IsCheckReport input proof) }
         // So with status 0 the formula that the input spells is unsatisfiable.

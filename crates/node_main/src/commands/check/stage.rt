@@ -1,7 +1,7 @@
-//! How far a proof has come, in the form that its first byte tells.
+//! The stage of a check: no byte of the proof was taken, or the checker of the proof's form, text or binary, is at work.
 
 ghost use Rattle.std.specs.Prelude.{◌≡◌, ◌++◌, ℕ, true, List, Ok, IfOk};
-ghost use Rattle.dimacs.specs.text.Reading.{parse};
+ghost use Rattle.dimacs.specs.text.Parser.{parse};
 ghost use Rattle.dimacs.specs.logic.Cnf.{Cnf};
 ghost use Rattle.node_main.specs.Forms.{is_letter};
 ghost use Rattle.node_main.specs.ProofChecks.{IsCheckReport, IsShort, Reaches, has_met};
@@ -14,32 +14,32 @@ use lrat_check::{CheckFault, StreamChecker};
 use reports::Report;
 use std::alloc::{AllocError, Global};
 
-/// What is answered of a proof without a byte: it is a text, and no line adds the empty clause.
+/// The fault of a proof without a byte, which counts as a text: no line adds the empty clause.
 const NOTHING: CheckFault = CheckFault {
     number: 13,
     line: 1,
     text: 0,
 };
 
-/// What has come of a proof.
+/// How far a proof was checked.
 #[derive(Drop)]
 pub(crate) enum Stage {
-    /// No byte, so that its form is not known.
+    /// No byte was taken, so the form of the proof is not known.
     Awaiting(Formula),
-    /// A text.
+    /// The proof is a text.
     Text(StreamChecker),
-    /// Its binary form.
+    /// The proof is in binary form.
     Binary(BinaryChecker),
 }
 
-/// Whether a proof that begins with this byte is in binary form.
+/// Tells whether a proof that begins with this byte is in binary form.
 fn is_letter(byte: u8) -> bool
     ensures { result ≡ is_letter byte }
 {
     byte == b'a' || byte == b'd'
 }
 
-/// Begins to check a proof that begins with this byte.
+/// The checker of a proof of this formula that begins with the byte `first`; the checker has taken no byte. An error is want of memory.
 fn begun(alloc: Global, formula: Formula, first: u8) -> Result<Stage, AllocError>
     ensures { IfOk result (λ stage. IsBegun formula (is_letter first) stage) }
 {
@@ -50,7 +50,7 @@ fn begun(alloc: Global, formula: Formula, first: u8) -> Result<Stage, AllocError
     }
 }
 
-/// Takes a piece. A fault is answered again at the end.
+/// Feeds a piece of the proof to the checker, if there is one. A fault is not answered here, since the checker keeps it for `finish`.
 fn fed(stage: Stage, piece: &[u8]) -> Stage
     ensures fed { IsFed stage piece.now result }
     ensures short { IsShort result }
@@ -69,8 +69,8 @@ fn fed(stage: Stage, piece: &[u8]) -> Stage
 }
 
 impl Stage {
-    /// Takes the next piece of a proof. The first byte tells its form.
-    pub(crate) fn taking(self, alloc: Global, piece: &[u8]) -> Result<Stage, AllocError>
+    /// Takes the next piece of a proof; the first byte tells the form. An error is want of memory.
+    pub(crate) fn with_piece(self, alloc: Global, piece: &[u8]) -> Result<Stage, AllocError>
         ensures reaches { (F : Cnf) (proof : List ℕ) → Reaches F self proof → IfOk result (λ stage. Reaches F stage (proof ++ piece.now)) }
         ensures short { IfOk result IsShort }
     {
@@ -83,7 +83,7 @@ impl Stage {
         }
     }
 
-    /// Whether a fault was met, of the proof or of memory.
+    /// Tells whether the checker has met a fault, of the proof or of memory; then no more bytes change the answer.
     pub(crate) fn is_settled(&self) -> bool
         ensures fault { result ≡ has_met self.now }
         ensures stays { result ≡ true → (F : Cnf) (proof more : List ℕ) → Reaches F self.now proof → Reaches F self.now (proof ++ more) }
@@ -95,7 +95,7 @@ impl Stage {
         }
     }
 
-    /// What is reported where no further byte comes.
+    /// The report of the check if no more bytes come. An error is want of memory.
     pub(crate) fn report(&self, alloc: Global) -> Result<Report, AllocError>
         ensures { (input proof : List ℕ) (F : Cnf) → parse input ≡ Ok F → Reaches F self.now proof → IfOk result (IsCheckReport input proof) }
     {

@@ -1,4 +1,4 @@
-use Rattle.node_main.proofs.SplittingLemmas.{within_formula}
+use Rattle.node_main.proofs.SplitLemmas.{within_formula}
 use Rattle.program_tests.proofs.drill.cluster_of.Goals as goal
 
 pub new-requires-clause-inside : goal.new-requires-clause-inside

@@ -3,7 +3,7 @@ use Rattle.std.proofs.lemmas.List.{take_all, take_more, get_or-map, length-map}
 use Rattle.std.specs.Global.{Vec}
 use Rattle.icnf.specs.Leaves.{Cube}
 use Rattle.lrat_text.specs.Log.{Closes}
-use Rattle.proof_join.specs.Joining.{AllClose}
+use Rattle.proof_join.specs.JoinedProof.{AllClose}
 use Rattle.proof_join.proofs.LeafLemmas.{closed_more}
 use Rattle.program_tests.proofs.proof_join_fragments.all_close.Goals as goal
 

@@ -1,5 +1,5 @@
 use Rattle.std.proofs.Common.{map, take}
-use Rattle.proof_join.specs.Joining.{AllClose}
+use Rattle.proof_join.specs.JoinedProof.{AllClose}
 use Rattle.program_tests.proofs.proof_join_fragments.all_close.Given as goal
 
 -- the leaves so far are closed

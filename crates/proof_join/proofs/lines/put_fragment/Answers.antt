@@ -5,9 +5,9 @@ use Rattle.std.proofs.lemmas.Result.{err_from_is_err_and}
 use Rattle.lrat_text.specs.Grammar.{SpellsStep}
 use Rattle.lrat_text.specs.Lines.{IsCut}
 use Rattle.lrat_text.specs.Log.{top_after}
-use Rattle.lrat_text.specs.Writing.{line_of}
+use Rattle.lrat_text.specs.WrittenLine.{line_of}
 use Rattle.lrat_text.specs.declared.step.Step.{Step}
-use Rattle.proof_join.specs.Numbering.{behind, renumbered}
+use Rattle.proof_join.specs.RenumberedSteps.{behind, renumbered}
 use Rattle.lrat_text.specs.Runs.{text_of, top_of}
 use Rattle.proof_join.specs.Steps.{steps_in}
 use Rattle.proof_join.specs.inner.Steps.{IsLow, AreLow, last_of}

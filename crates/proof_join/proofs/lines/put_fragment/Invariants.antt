@@ -1,7 +1,7 @@
 use Rattle.std.proofs.Common.{◌≡◌, ◌+◌, ◌-◌, ◌≤◌, ◌<◌, ◌^◌, ◌++◌, map, length}
 use Rattle.lrat_text.specs.Grammar.{LineSpells}
 use Rattle.lrat_text.specs.Runs.{text_of, top_of}
-use Rattle.proof_join.specs.Numbering.{behind, renumbered}
+use Rattle.proof_join.specs.RenumberedSteps.{behind, renumbered}
 use Rattle.proof_join.specs.Steps.{steps_in}
 use Rattle.proof_join.specs.inner.Steps.{AreLow, last_of}
 use Rattle.proof_join.proofs.StepLemmas.{LastIs}

@@ -1,7 +1,7 @@
 use Rattle.std.proofs.Common.{◌+◌, ◌-◌, ◌∙◌, All, List, ℕ, map, arith, sym, subst}
 use Rattle.lrat_text.specs.Grammar.{IsStep, IsClauseNumber}
 use Rattle.lrat_text.specs.declared.step.Step.TheVariants.{Add, Delete}
-use Rattle.proof_join.specs.Numbering.{behind}
+use Rattle.proof_join.specs.RenumberedSteps.{behind}
 use Rattle.proof_join.specs.inner.Steps.{IsLow}
 use Rattle.proof_join.proofs.StepLemmas.{low_addition, low_deletion}
 use Rattle.proof_join.proofs.lines.put_renumbered.Goals as goal

@@ -8,7 +8,7 @@ use Rattle.lrat_text.specs.Runs.{text_of}
 use Rattle.cube_split.specs.Definitions.{base_with}
 use Rattle.cube_split.specs.declared.pair.Pair.{Pair}
 use Rattle.proof_join.specs.Definitions.{all_steps, preamble_steps}
-use Rattle.proof_join.specs.Joining.{unit_steps}
+use Rattle.proof_join.specs.JoinedProof.{unit_steps}
 use Rattle.proof_join.specs.inner.Steps.{Writes}
 use Rattle.proof_join.proofs.AppendLemmas.{base_count, preamble_whole}
 use Rattle.proof_join.proofs.SubtreeLemmas.{writes_more}

@@ -1,9 +1,9 @@
 use Rattle.std.proofs.Common.{◌≡◌, ℕ, ◌+◌, ◌++◌, ◌∙◌, List, [], ◌∷◌, length, take, drop, arith, ap}
 use Rattle.std.proofs.lemmas.Result.{err_from_is_err_and}
 use Rattle.dimacs.specs.logic.Rat.{Group}
-use Rattle.lrat_text.specs.Writing.{line_of}
+use Rattle.lrat_text.specs.WrittenLine.{line_of}
 use Rattle.lrat_text.specs.declared.step.Step.TheVariants.{Add}
-use Rattle.proof_join.specs.Joining.{unit_steps}
+use Rattle.proof_join.specs.JoinedProof.{unit_steps}
 use Rattle.lrat_text.specs.Runs.{text_of, top_of}
 use Rattle.proof_join.proofs.SubtreeLemmas.{writes_more}
 use Rattle.proof_join.proofs.WholeLemmas.{unit_more, units_front}

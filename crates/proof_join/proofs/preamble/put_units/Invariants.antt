@@ -1,5 +1,5 @@
 use Rattle.std.proofs.Common.{◌≡◌, ◌+◌, ◌^◌, ◌<◌, ◌++◌, take, length}
-use Rattle.proof_join.specs.Joining.{unit_steps}
+use Rattle.proof_join.specs.JoinedProof.{unit_steps}
 use Rattle.lrat_text.specs.Runs.{text_of}
 use Rattle.proof_join.proofs.preamble.put_units.Given as goal
 

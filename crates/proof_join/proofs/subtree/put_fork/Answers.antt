@@ -3,7 +3,7 @@ use Rattle.std.proofs.lemmas.List.Elements.{All-nil}
 use Rattle.dimacs.specs.logic.Literal.{Clause, IsWithin}
 use Rattle.dimacs.specs.logic.Rat.{Group}
 use Rattle.lrat_text.specs.Grammar.{IsGroup}
-use Rattle.proof_join.specs.Joining.{resolvent}
+use Rattle.proof_join.specs.JoinedProof.{resolvent}
 use Rattle.proof_join.proofs.SubtreeLemmas.{two_numbers}
 use Rattle.proof_join.proofs.TreeLemmas.{resolvent_small}
 use Rattle.proof_join.proofs.subtree.put_fork.Goals as goal

@@ -1,6 +1,6 @@
 use Rattle.std.proofs.Common.{◌≡◌, ◌∙◌, [], All, ap, sym, subst, arith}
 use Rattle.dimacs.specs.logic.Literal.{IsWithin}
-use Rattle.proof_join.specs.Numbering.{last_clause}
+use Rattle.proof_join.specs.RenumberedSteps.{last_clause}
 use Rattle.proof_join.specs.Steps.{steps_in}
 use Rattle.proof_join.specs.inner.Steps.{clause_of}
 use Rattle.proof_join.proofs.SubtreeLemmas.{ends_clause, ends_small}

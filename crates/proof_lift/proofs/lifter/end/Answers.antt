@@ -3,7 +3,7 @@ use Rattle.std.proofs.Common.{◌+◌, [], inl, inr, refl, sym, subst, true, fal
 use Rattle.std.specs.Bool.{MatchBool}
 use Rattle.std.proofs.lemmas.List.{append-nil}
 use Rattle.lrat_text.specs.Runs.{text_of}
-use Rattle.proof_lift.specs.inner.Closing.{IsClosed, NothingCloses}
+use Rattle.proof_lift.specs.inner.EmptyLemma.{IsClosed, NothingCloses}
 use Rattle.proof_lift.proofs.StreamLemmas.{some_begun, none_begun, end_is, closed_by, nothing_ends, other_fault}
 use Rattle.proof_lift.proofs.lifter.end.Goals as goal
 

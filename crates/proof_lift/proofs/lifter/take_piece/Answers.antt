@@ -1,7 +1,7 @@
 use Rattle.proof_lift.specs.View.{held_of}
 use Rattle.std.proofs.Common.{◌≡◌, ◌⊎◌, ℕ, List, sym, subst}
-use Rattle.lrat_check.specs.Checking.{no_memory}
-use Rattle.lrat_check.specs.declared.checking.CheckFault.{CheckFault}
+use Rattle.lrat_check.specs.ProofFaults.{no_memory}
+use Rattle.lrat_check.specs.declared.line_checker.CheckFault.{CheckFault}
 use Rattle.lrat_check.specs.Refusals.{piece_refusal}
 use Rattle.proof_lift.specs.Stream.{Within, Failed}
 use Rattle.proof_lift.specs.inner.Stream.{LeadsTo, Appends}

@@ -1,6 +1,6 @@
 use Rattle.std.proofs.Common.{◌≡◌, ◌+◌, take, false}
 use Rattle.dimacs.specs.logic.Propagation.{negations}
-use Rattle.lrat_check.specs.Faults.{is_tautology}
+use Rattle.lrat_check.specs.StepFaults.{is_tautology}
 use Rattle.proof_lift.specs.inner.Tables.{marked, AllBelow}
 use Rattle.proof_lift.proofs.marks.assume_negations.Given as goal
 

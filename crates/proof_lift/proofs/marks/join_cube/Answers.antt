@@ -1,7 +1,7 @@
 use Rattle.std.proofs.Common.{◌≡◌, ℕ, ◌<◌, ◌+◌, ◌∙◌, List, [], ◌∷◌, ◌++◌, ap, sym, subst, set, true, false, length, arith, drop}
 use Rattle.dimacs.specs.logic.Literal.{Literal, index_of, negation}
 use Rattle.dimacs.specs.logic.Propagation.{negations}
-use Rattle.proof_lift.specs.Trimming.{union}
+use Rattle.proof_lift.specs.TrimmedLemma.{union}
 use Rattle.proof_lift.specs.inner.Tables.{marked, AllBelow}
 use Rattle.proof_lift.proofs.MarkLemmas.{below_set, union_in, union_out, joined_assumed, literal_below}
 use Rattle.proof_lift.proofs.marks.join_cube.Goals as goal

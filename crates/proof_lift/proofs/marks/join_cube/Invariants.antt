@@ -1,6 +1,6 @@
 use Rattle.std.proofs.Common.{◌≡◌, ◌+◌, drop}
 use Rattle.dimacs.specs.logic.Propagation.{negations}
-use Rattle.proof_lift.specs.Trimming.{union}
+use Rattle.proof_lift.specs.TrimmedLemma.{union}
 use Rattle.proof_lift.specs.inner.Tables.{marked, AllBelow}
 use Rattle.proof_lift.proofs.marks.join_cube.Given as goal
 

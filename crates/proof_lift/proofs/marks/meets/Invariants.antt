@@ -1,7 +1,7 @@
 use Rattle.std.proofs.Common.{◌≡◌, drop}
 use Rattle.dimacs.specs.logic.Literal.{Clause}
 use Rattle.dimacs.specs.logic.Propagation.{negations}
-use Rattle.proof_lift.specs.Lifting.{is_met}
+use Rattle.proof_lift.specs.LiftedText.{is_met}
 use Rattle.proof_lift.specs.inner.Tables.{marked}
 use Rattle.proof_lift.proofs.marks.meets.Given as goal
 

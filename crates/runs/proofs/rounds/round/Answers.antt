@@ -9,24 +9,24 @@ use Rattle.runs.proofs.rounds.round.Goals as goal
 
 pub loop-i-preserved : goal.loop-i-preserved
 loop-i-preserved g c =
-    let at : c.loop-i.i < length c.loop-i.lines = search rules in
+    let at : c.loop-i.i < length c.loop-i.connections = search rules in
     record {
       goes_on = search rules;
-      lines = search rules;
+      connections = search rules;
       calls = one_more 0 0 _ _ _ _ _ c.loop-i.invariant.calls c.turn.ensures.calls;
-      some = some_turn g.P.Peer.least _ _ _ _ _ _ c.loop-i.lines c.loop-i.i c.turn.new.self c.index-lines-i.result at c.loop-i.invariant.calls.rises c.turn.ensures.calls.rises
+      some = some_turn g.P.Peer.least _ _ _ _ _ _ c.loop-i.connections c.loop-i.i c.turn.new.self c.index-connections-i.result at c.loop-i.invariant.calls.rises c.turn.ensures.calls.rises
           c.in_ok-turn.ensures.turned c.loop-i.invariant.some;
-      served = λ base served. comes_on g.P.Peer.HANDS_OUT g.P.Peer.least base _ _ c.loop-i.coordinator c.turn.new.coordinator c.loop-i.lines c.loop-i.i c.turn.new.self
-          c.index-lines-i.result at c.turn.ensures.calls.rises c.in_ok-turn.ensures.turned g.met.P.Peer.earned (c.loop-i.invariant.served base served);
-      refusals = turned g.L.Links.refusal_count g.L.Links.refused_at c.args.links.now c.loop-i.links c.turn.new.links c.args.lines.now c.loop-i.lines c.loop-i.i _
-          c.turn.new.self c.index-lines-i.result c.new-worker.ensures at c.turn.ensures.refusals c.loop-i.invariant.refusals;
+      served = λ base served. comes_on g.P.Peer.HANDS_OUT g.P.Peer.least base _ _ c.loop-i.coordinator c.turn.new.coordinator c.loop-i.connections c.loop-i.i c.turn.new.self
+          c.index-connections-i.result at c.turn.ensures.calls.rises c.in_ok-turn.ensures.turned g.met.P.Peer.earned (c.loop-i.invariant.served base served);
+      refusals = turned g.L.Links.refusal_count g.L.Links.refused_at c.args.links.now c.loop-i.links c.turn.new.links c.args.connections.now c.loop-i.connections c.loop-i.i _
+          c.turn.new.self c.index-connections-i.result c.new-worker.ensures at c.turn.ensures.refusals c.loop-i.invariant.refusals;
     }
 
 pub returns-in_err-turn-clause-refusals : goal.returns-in_err-turn-clause-refusals
 returns-in_err-turn-clause-refusals g c =
-    let at : c.loop-i.i < length c.loop-i.lines = search rules in
-    turned g.L.Links.refusal_count g.L.Links.refused_at c.args.links.now c.loop-i.links c.turn.new.links c.args.lines.now c.loop-i.lines c.loop-i.i _
-    c.turn.new.self c.index-lines-i.result c.new-worker.ensures at c.turn.ensures.refusals c.loop-i.invariant.refusals
+    let at : c.loop-i.i < length c.loop-i.connections = search rules in
+    turned g.L.Links.refusal_count g.L.Links.refused_at c.args.links.now c.loop-i.links c.turn.new.links c.args.connections.now c.loop-i.connections c.loop-i.i _
+    c.turn.new.self c.index-connections-i.result c.new-worker.ensures at c.turn.ensures.refusals c.loop-i.invariant.refusals
 
 pub returns-in_err-turn-clause-calls : goal.returns-in_err-turn-clause-calls
 returns-in_err-turn-clause-calls g c =
@@ -52,7 +52,7 @@ returns-then-is_over g c =
 pub returns : goal.returns
 returns g c =
     let so_far = c.loop-i.invariant in
-    let none = none_behind c.loop-i.lines c.loop-i.i (omega (arith, so_far.lines, c.loop-i-test.false)) in
+    let none = none_behind c.loop-i.connections c.loop-i.i (omega (arith, so_far.connections, c.loop-i-test.false)) in
     record {
       goes_on = so_far.goes_on;
       calls = within 0 0 _ c.loop-i.i _ _ _ so_far.calls (omega arith) c.loop-i.auto.i-end;

@@ -1,7 +1,7 @@
 use Rattle.std.proofs.Common.{rules}
 use Rattle.std.proofs.lemmas.Bool.Decides.{same_from_decides}
 use Rattle.std.proofs.lemmas.Slice.Eq.{slice_eq-Decides}
-use Rattle.icnf.specs.Comparing.{is_clause}
+use Rattle.icnf.specs.Comparison.{is_clause}
 use Rattle.sessions.proofs.EventLemmas.{is_clause-Decides}
 use Rattle.sessions.proofs.proof_side.is_same.Goals as goal
 

@@ -4,9 +4,9 @@ use Rattle.std.proofs.lemmas.List.Elements.{All-contains}
 use Rattle.std.proofs.lemmas.List.{get_or_default}
 use Rattle.dimacs.specs.logic.Literal.{IsWithin}
 use Rattle.dimacs.specs.logic.Propagation.{IsFalse, IsUnit}
-use Rattle.watches.specs.Law.{IsCalm}
+use Rattle.watches.specs.Law.{NeitherFalseNorUnit}
 use Rattle.watches.specs.Trails.{holds}
-use Rattle.watches.proofs.Swept.{none, among, standing, lives, calm, swept_calm, swept_push, swept_all}
+use Rattle.watches.proofs.ScanLemmas.{none, among, standing, lives, calm, swept_calm, swept_push, swept_all}
 use Rattle.watches.proofs.scan.sweep.Goals.{in-Unit, in-Other}
 use Rattle.watches.proofs.scan.sweep.Goals as goal
 
@@ -55,7 +55,7 @@ loop-at-preserved c =
           }) w.push.ensures.vars w.push.ensures.entries)
       | in-Other w ↦ rw w.trail-is (swept_calm c.args.clauses.now c.args.arena.now c.args.trail.now c.loop-at.trail c.loop-at.at-index (get_or c.args.clauses.now c.loop-at.at-index none) c.loop-at.invariant
           (λ d. get_or_default c.args.clauses.now c.loop-at.at-index d none c.loop-at-test.true)
-          (calm c.args.arena.now c.loop-at.trail.entries (get_or c.args.clauses.now c.loop-at.at-index none) st.0 st.1 (subst (λ xs. IsCalm (holds c.loop-at.trail.entries) xs) e w.in-Other.ensures)))
+          (calm c.args.arena.now c.loop-at.trail.entries (get_or c.args.clauses.now c.loop-at.at-index none) st.0 st.1 (subst (λ xs. NeitherFalseNorUnit (holds c.loop-at.trail.entries) xs) e w.in-Other.ensures)))
     ]
 
 pub returns-clause-quiet : goal.returns-clause-quiet

@@ -1,4 +1,4 @@
-use Rattle.watches.proofs.Swept.{Swept}
+use Rattle.watches.proofs.ScanLemmas.{Swept}
 use Rattle.watches.proofs.scan.sweep.Given as goal
 
 abbrev pub invariant-loop-at : goal.invariant-loop-at

@@ -1,6 +1,6 @@
 use Rattle.std.proofs.Common.{arith}
 use Rattle.watches.specs.inner.ScanLaws.{here_pushed}
-use Rattle.watches.proofs.Swept.{among, Grows-trans}
+use Rattle.watches.proofs.ScanLemmas.{among, Grows-trans}
 use Rattle.watches.proofs.scan.sweep_all.Goals as goal
 
 pub sweep-requires : goal.sweep-requires

@@ -1,6 +1,6 @@
 use Rattle.std.proofs.Common.{◌-◌, length}
 use Rattle.watches.specs.Law.{Grows}
-use Rattle.watches.proofs.Swept.{among}
+use Rattle.watches.proofs.ScanLemmas.{among}
 use Rattle.watches.proofs.scan.sweep_all.Given as goal
 
 abbrev pub invariant-loop-number : goal.invariant-loop-number

@@ -1,4 +1,4 @@
-use Rattle.watches.proofs.Tested.{Tested}
+use Rattle.watches.proofs.TestedLiterals.{Tested}
 use Rattle.watches.proofs.status.test_clause.Given as goal
 
 abbrev pub invariant-loop-literal : goal.invariant-loop-literal

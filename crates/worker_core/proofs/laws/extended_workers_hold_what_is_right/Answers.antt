@@ -1,4 +1,4 @@
-use Rattle.worker_core.proofs.ExtendingLemmas.{extended_right}
+use Rattle.worker_core.proofs.AddedClausesLemmas.{extended_right}
 use Rattle.worker_core.proofs.laws.extended_workers_hold_what_is_right.Goals as goal
 
 pub returns-clause-right : goal.returns-clause-right

@@ -1,6 +1,6 @@
 use Rattle.std.proofs.Common.{IfOk, subst, sym}
 use Rattle.answers.specs.Pieces.{HasRead}
-use Rattle.answers.specs.Reading.{answer_of}
+use Rattle.answers.specs.Parse.{answer_of}
 use Rattle.answers.specs.Reports.{Checking, IsReport}
 use Rattle.answers.proofs.ReportLemmas.{if_report}
 use Rattle.answers.proofs.check.ModelCheck.finish.Goals as goal

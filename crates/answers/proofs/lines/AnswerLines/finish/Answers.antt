@@ -2,7 +2,7 @@ use Rattle.std.proofs.Common.{[], Err, ap, subst, ◌∙◌}
 use Rattle.std.proofs.lemmas.Result.{err_from_is_err_and}
 use Rattle.dimacs.specs.text.Rows.{Fails}
 use Rattle.answers.specs.Pieces.{GivesNamed, LinesRead, read_on}
-use Rattle.answers.specs.Reading.{no_memory}
+use Rattle.answers.specs.Parse.{no_memory}
 use Rattle.answers.proofs.PieceLemmas.{given_err, text_ends, text_refused}
 use Rattle.answers.proofs.lines.AnswerLines.finish.Goals as goal
 

@@ -1,6 +1,6 @@
 use Rattle.std.proofs.Common.{◌≡◌, ◌∙◌, [], sym, ap}
 use Rattle.std.specs.Result.{result_err}
-use Rattle.binary_check.specs.Checking.{behind_steps}
+use Rattle.binary_check.specs.FirstFault.{behind_steps}
 use Rattle.binary_check.specs.Stream.{Within, check_more, progress_of}
 use Rattle.binary_check.proofs.StreamLemmas.{ends, not_memory}
 use Rattle.binary_check.proofs.stream.BinaryChecker.finish.Goals as goal

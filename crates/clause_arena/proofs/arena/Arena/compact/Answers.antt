@@ -6,12 +6,12 @@ use Rattle.clause_arena.specs.Slots.{Slots}
 use Rattle.clause_arena.specs.Contents.{contents}
 use Rattle.clause_arena.specs.inner.Contents.{slot_of, IsPlaced, IsArena}
 use Rattle.clause_arena.specs.Compaction.{IsCompacted}
-use Rattle.clause_arena.specs.inner.Packing.{refs_of, gathered, moves_from, moved_by}
+use Rattle.clause_arena.specs.inner.Relocation.{refs_of, relocated, moves_from, moved_by}
 use Rattle.clause_arena.proofs.CompactionLemmas.{arena-compacted, compacted, refs_placed, moves_live, moves_placed, lent}
 use Rattle.clause_arena.proofs.arena.Arena.compact.Goals as goal
 
-pub gather-requires : goal.gather-requires
-gather-requires c =
+pub relocate_all-requires : goal.relocate_all-requires
+relocate_all-requires c =
     let refs = c.deref-2.ensures.value ∙ c.in_ok-list.ensures.listed ∙ ap (λ xs. xs ++ refs_of c.self.inside.index) c.new-refs.ensures.items in
     let P : List Ref → Type 0 = λ xs. (i : ℕ) (d : Ref) → i < length xs → IsPlaced c.deref.result.now (slot_of (get_or xs i d)) in
     subst P (sym refs)
@@ -35,7 +35,7 @@ move_all-requires-clause-room c =
     let before : c.len-before.result ≡ length c.args.moved.now.items = omega arith in
     let is = lent c.deref-in-Ok.result.now c.args.moved.now.items (moves_from 0 (refs_of c.self.inside.index)) c.len-before.result before
     (c.deref-in-Ok.ensures.value ∙ c.in-Ok.ensures.moves ∙ ap (λ xs. c.args.moved.now.items ++ moves_from 0 xs) refs) in
-    let literals = c.in-Ok.ensures.literals ∙ ap (λ ws. gathered ws c.deref-2.result.now) c.deref.ensures.value ∙ ap (gathered c.self.inside.literals.items) refs in
+    let literals = c.in-Ok.ensures.literals ∙ ap (λ ws. relocated ws c.deref-2.result.now) c.deref.ensures.value ∙ ap (relocated c.self.inside.literals.items) refs in
     let P : List (Ref × Ref) → Type 0 = λ xs. (i : ℕ) (d : Ref × Ref) → i < length xs → (get_or xs i d).1.place < 4294967295 in
     subst P (sym is) (λ i d lt. omega (arith, moves_placed c.self.inside.literals.items c.self.inside.index c.self.invariant i d lt, ap length literals, c.in-Ok.fresh.ok.0, c.in-Ok.ensures.few))
 
@@ -45,10 +45,10 @@ invariant_of-self-in-Ok c =
     let before : c.len-before.result ≡ length c.args.moved.now.items = omega arith in
     let is = lent c.deref-in-Ok.result.now c.args.moved.now.items (moves_from 0 (refs_of c.self.inside.index)) c.len-before.result before
     (c.deref-in-Ok.ensures.value ∙ c.in-Ok.ensures.moves ∙ ap (λ xs. c.args.moved.now.items ++ moves_from 0 xs) refs) in
-    let literals = c.in-Ok.ensures.literals ∙ ap (λ ws. gathered ws c.deref-2.result.now) c.deref.ensures.value ∙ ap (gathered c.self.inside.literals.items) refs in
+    let literals = c.in-Ok.ensures.literals ∙ ap (λ ws. relocated ws c.deref-2.result.now) c.deref.ensures.value ∙ ap (relocated c.self.inside.literals.items) refs in
     let index = c.move_all.ensures ∙ ap (λ (m : Slots). moved_by m (take (length c.deref-in-Ok.result.now - c.len-before.result) (drop c.len-before.result c.deref-in-Ok.result.now))) c.list.ensures.same ∙ ap (moved_by c.self.inside.index) is in
     subst (λ ws. IsArena ws c.move_all.new.self) (sym literals)
-    (subst (λ m. IsArena (gathered c.self.inside.literals.items (refs_of c.self.inside.index)) m) (sym index)
+    (subst (λ m. IsArena (relocated c.self.inside.literals.items (refs_of c.self.inside.index)) m) (sym index)
     (arena-compacted c.self.inside.literals.items c.self.inside.index c.self.invariant))
 
 pub returns-in-Ok-clause-ok : goal.returns-in-Ok-clause-ok
@@ -57,9 +57,9 @@ returns-in-Ok-clause-ok c =
     let before : c.len-before.result ≡ length c.args.moved.now.items = omega arith in
     let told = c.in-Ok.ensures.moves ∙ ap (λ xs. c.args.moved.now.items ++ moves_from 0 xs) refs in
     let is = lent c.deref-in-Ok.result.now c.args.moved.now.items (moves_from 0 (refs_of c.self.inside.index)) c.len-before.result before (c.deref-in-Ok.ensures.value ∙ told) in
-    let literals = c.in-Ok.ensures.literals ∙ ap (λ ws. gathered ws c.deref-2.result.now) c.deref.ensures.value ∙ ap (gathered c.self.inside.literals.items) refs in
+    let literals = c.in-Ok.ensures.literals ∙ ap (λ ws. relocated ws c.deref-2.result.now) c.deref.ensures.value ∙ ap (relocated c.self.inside.literals.items) refs in
     let index = c.move_all.ensures ∙ ap (λ (m : Slots). moved_by m (take (length c.deref-in-Ok.result.now - c.len-before.result) (drop c.len-before.result c.deref-in-Ok.result.now))) c.list.ensures.same ∙ ap (moved_by c.self.inside.index) is in
-    let new = ap (λ ws. contents ws c.move_all.new.self) literals ∙ ap (contents (gathered c.self.inside.literals.items (refs_of c.self.inside.index))) index in (
+    let new = ap (λ ws. contents ws c.move_all.new.self) literals ∙ ap (contents (relocated c.self.inside.literals.items (refs_of c.self.inside.index))) index in (
       moves_from 0 (refs_of c.self.inside.index),
       told,
       subst (λ (m : Clauses). IsCompacted m (contents c.in-Ok.fresh.items c.move_all.new.self) (moves_from 0 (refs_of c.self.inside.index))) c.self.view_is

@@ -1,6 +1,6 @@
 use Rattle.std.proofs.Common.{◌-◌, ◌*◌, ◌<◌, ◌≤◌, ◌^◌, ◌%◌, ◌++◌, ◌∙◌, ℕ, refl, ap, sym, subst, arith, None, map, length, get_or, set, length-set}
 use Rattle.std.proofs.lemmas.List.{length-map}
-use Rattle.clause_arena.specs.inner.Packing.{ref_of}
+use Rattle.clause_arena.specs.inner.Relocation.{ref_of}
 use Rattle.clause_arena.specs.inner.Slots.{near_entries}
 use Rattle.clause_arena.specs.inner.Blocks.{slots_from, IsBlocks}
 use Rattle.clause_arena.proofs.BlocksLemmas.{cell_at, block_short, held_kept, held_blocks, same_slots_from, next_listed, all_listed}

@@ -1,5 +1,5 @@
 use Rattle.std.proofs.Common.{◌≡◌, ◌+◌, ◌-◌, ◌*◌, ◌++◌, ℕ, length, map}
-use Rattle.clause_arena.specs.inner.Packing.{ref_of}
+use Rattle.clause_arena.specs.inner.Relocation.{ref_of}
 use Rattle.clause_arena.specs.inner.Slots.{near_entries}
 use Rattle.clause_arena.specs.inner.Blocks.{slot_at, slots_from, IsBlocks}
 use Rattle.clause_arena.proofs.blocks.Blocks.list.Given as goal

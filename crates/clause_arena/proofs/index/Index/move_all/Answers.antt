@@ -1,7 +1,7 @@
 use Rattle.std.proofs.Common.{get_or}
 use Rattle.clause_arena.specs.declared.reference.Ref.{Ref}
 use Rattle.clause_arena.specs.inner.Contents.{slot_of}
-use Rattle.clause_arena.proofs.PackingLemmas.{moved_step, live_step}
+use Rattle.clause_arena.proofs.RelocationLemmas.{moved_step, live_step}
 use Rattle.clause_arena.proofs.index.Index.move_all.Goals as goal
 
 none : Ref

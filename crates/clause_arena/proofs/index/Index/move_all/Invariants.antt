@@ -1,6 +1,6 @@
 use Rattle.std.proofs.Common.{◌≡◌, ℕ, drop, IsSome}
 use Rattle.std.specs.FinMap.{get}
-use Rattle.clause_arena.specs.inner.Packing.{moved_by}
+use Rattle.clause_arena.specs.inner.Relocation.{moved_by}
 use Rattle.clause_arena.proofs.index.Index.move_all.Given as goal
 
 abbrev pub invariant-loop-to : goal.invariant-loop-to

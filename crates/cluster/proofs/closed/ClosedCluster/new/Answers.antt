@@ -1,4 +1,4 @@
-use Rattle.coordinator_core.proofs.BeginLemmas.{plain_inside}
+use Rattle.coordinator_core.proofs.NewCoordinatorLemmas.{plain_inside}
 use Rattle.cluster.proofs.ClosedLemmas.{plain_closed}
 use Rattle.cluster.proofs.closed.ClosedCluster.new.Goals as goal
 

@@ -1,5 +1,5 @@
 use Rattle.std.proofs.Common.{arith, subst}
-use Rattle.closed_schedules.specs.ClosedSchedule.{RunsClosed}
+use Rattle.honest_cluster.specs.ClosedSchedule.{RunsClosed}
 use Rattle.cluster.specs.Closed.{IsReached}
 use Rattle.cluster.specs.Members.{state_of}
 use Rattle.cluster.proofs.ClosedLemmas.{run_ends, later_reached, reached_right, reached_joined}

@@ -1,6 +1,6 @@
 use Rattle.std.proofs.Common.{◌≡◌, rules, subst}
 use Rattle.std.specs.Option.{option_copied}
-use Rattle.closed_schedules.specs.ClosedSchedule.{verdict_at}
+use Rattle.honest_cluster.specs.ClosedSchedule.{verdict_at}
 use Rattle.cluster.specs.Closed.{IsReached}
 use Rattle.cluster.proofs.ClosedLemmas.{reached_right, shown_right}
 use Rattle.cluster.proofs.closed.ClosedCluster.verdict.Goals as goal

@@ -1,6 +1,6 @@
 use Rattle.std.proofs.Common.{arith, rules, refl}
 use Rattle.std.proofs.lemmas.Option.{slice_get_read}
-use Rattle.closed_schedules.specs.ClosedSchedule.{HappensDeliver}
+use Rattle.honest_cluster.specs.ClosedSchedule.{HappensDeliver}
 use Rattle.cluster.proofs.schedule.Schedule.deliver.Goals as goal
 
 pub returns : goal.returns

@@ -1,6 +1,6 @@
 use Rattle.std.proofs.Common.{◌≡◌, List, [], ◌∷◌, ◌++◌, rules, refl, ap, ◌∙◌}
 use Rattle.frames.specs.declared.frame.Frame.{Frame}
-use Rattle.closed_schedules.specs.ClosedSchedule.{HappensPoll}
+use Rattle.honest_cluster.specs.ClosedSchedule.{HappensPoll}
 use Rattle.cluster.specs.Members.{closed_of}
 use Rattle.cluster.proofs.MemberLemmas.{may_be_polled, poll_rests}
 use Rattle.cluster.proofs.schedule.Schedule.poll.Goals as goal

@@ -1,6 +1,6 @@
 use Rattle.std.proofs.Common.{◌≡◌, ℕ, List, [], ◌∷◌, ◌++◌, Contains, rules, refl, subst, ap, inl, inr}
 use Rattle.std.proofs.lemmas.Bool.Decides.{nat_tests}
-use Rattle.closed_schedules.specs.ClosedSchedule.{ClosedState, HappensRestart}
+use Rattle.honest_cluster.specs.ClosedSchedule.{ClosedState, HappensRestart}
 use Rattle.cluster.specs.Members.{closed_of}
 use Rattle.cluster.proofs.MemberLemmas.{is_used, is_unused}
 use Rattle.cluster.proofs.schedule.Schedule.restart.Goals as goal
@@ -8,8 +8,8 @@ use Rattle.cluster.proofs.schedule.Schedule.restart.Goals.{then-not-has-via-then
 
 pub returns-then-not-has : goal.returns-then-not-has
 returns-then-not-has c = elim c.then-not-has.branch [
-  | then-not-has-via-then-not-has w ↦ HappensRestart.strays (inl (search (rules, nat_tests))) (refl, refl)
-  | then-not-has-via-else-not-has+then-contains w ↦ HappensRestart.strays
+  | then-not-has-via-then-not-has w ↦ HappensRestart.is_ignored (inl (search (rules, nat_tests))) (refl, refl)
+  | then-not-has-via-else-not-has+then-contains w ↦ HappensRestart.is_ignored
       (inr (subst (λ (ns : List ℕ). Contains ns c.args.number) w.deref.ensures.value (is_used w.deref.result.now c.args.number w.if-contains.ensures.cases))) (refl, refl)
 ]
 

@@ -1,6 +1,6 @@
 use Rattle.std.proofs.Common.{◌+◌, sym, ◌∙◌, ap, subst}
 use Rattle.commands.specs.declared.event_source.EventSource.{EventSource}
-use Rattle.commands.specs.inner.Events.{IsWaiting, counted}
+use Rattle.commands.specs.inner.EventSource.{IsWaiting, counted}
 use Rattle.sessions.specs.Rows.{Held}
 use Rattle.commands.proofs.EventLemmas.{fault_by, hears_end, hears_fault, hears_line, line_waits, line_within, row_from}
 use Rattle.commands.proofs.event_source.EventSource.next.Goals as goal

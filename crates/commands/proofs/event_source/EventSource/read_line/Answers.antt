@@ -1,6 +1,6 @@
 use Rattle.std.proofs.Common.{sym, ap, subst, List, ℕ, Option}
 use Rattle.commands.specs.declared.event_source.EventSource.{EventSource}
-use Rattle.commands.specs.inner.Events.{TakesLine}
+use Rattle.commands.specs.inner.EventSource.{TakesLine}
 use Rattle.commands.proofs.LineLemmas.{takes_line}
 use Rattle.commands.proofs.event_source.EventSource.read_line.Goals as goal
 

@@ -2,7 +2,7 @@ use Rattle.std.proofs.Common.{ℕ, arith, sym, subst}
 use Rattle.std.specs.List.{All}
 use Rattle.std.proofs.lemmas.List.Elements.{All-get_or}
 use Rattle.dimacs.specs.logic.Literal.{IsWithin}
-use Rattle.conflict_analysis.proofs.Finding.{found_lives}
+use Rattle.conflict_analysis.proofs.FoundClauseLemmas.{found_lives}
 use Rattle.conflict_analysis.proofs.minimiser.Minimiser.+follows.Goals as goal
 use Rattle.conflict_analysis.proofs.minimiser.Minimiser.+follows.Goals.{After-literal-item}
 
@@ -16,8 +16,8 @@ within t c =
     (subst (All (IsWithin vars)) (sym (c.clause-literal-items.ensures.literals s.0 s.1))
     (c.requires.inside c.args.number s.0 (found_lives c.args.arena.now c.in-Some.at c.args.number s.0 f.0 s.1))))
 
-pub standing-requires-clause-within : goal.standing-requires-clause-within
-standing-requires-clause-within t c = within t ((goal.at.standing-requires-clause-within t c).After-literal-item)
+pub removability-requires-clause-within : goal.removability-requires-clause-within
+removability-requires-clause-within t c = within t ((goal.at.removability-requires-clause-within t c).After-literal-item)
 
 pub note-requires : goal.note-requires
 note-requires t c =

@@ -1,4 +1,4 @@
-use Rattle.conflict_analysis.specs.inner.Minimising.{HasRoom}
+use Rattle.conflict_analysis.specs.inner.Minimiser.{HasRoom}
 use Rattle.conflict_analysis.proofs.minimiser.Minimiser.+follows.Given as goal
 
 abbrev pub decreases-follows : goal.decreases-follows

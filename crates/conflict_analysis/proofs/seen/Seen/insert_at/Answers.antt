@@ -1,5 +1,5 @@
 use Rattle.std.proofs.Common.{true, ap, ◌∙◌, set}
-use Rattle.conflict_analysis.proofs.Stamps.{stamped_set}
+use Rattle.conflict_analysis.proofs.StampLemmas.{stamped_set}
 use Rattle.conflict_analysis.proofs.seen.Seen.insert_at.Goals as goal
 
 pub returns : goal.returns

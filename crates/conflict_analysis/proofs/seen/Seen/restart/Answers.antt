@@ -1,4 +1,4 @@
-use Rattle.conflict_analysis.proofs.Stamps.{fresh_stamp}
+use Rattle.conflict_analysis.proofs.StampLemmas.{fresh_stamp}
 use Rattle.conflict_analysis.proofs.seen.Seen.restart.Goals as goal
 use Rattle.conflict_analysis.proofs.seen.Seen.restart.Goals.{then-self, else-self}
 

@@ -4,13 +4,13 @@ use Rattle.std.proofs.lemmas.Option.{slice_get_within}
 use Rattle.lrat_text.specs.Log.{Closes}
 use Rattle.cube_split.specs.Definitions.{base_with}
 use Rattle.coordinator_core.specs.inner.Fronts.{IsFrontOfTree, IsJoined}
-use Rattle.coordinator_core.specs.declared.desks.LeafState.TheVariants.{Closed}
+use Rattle.coordinator_core.specs.declared.job_state.LeafState.TheVariants.{Closed}
 use Rattle.coordinator_core.proofs.FrontLemmas.{joined_base}
-use Rattle.coordinator_core.proofs.KeptLemmas.{pairs_inside}
+use Rattle.coordinator_core.proofs.InvariantLemmas.{pairs_inside}
 use Rattle.coordinator_core.proofs.coordinator.Coordinator.advance.Goals as goal
 
-pub begun_or-front-requires-clause-pairs : goal.begun_or-front-requires-clause-pairs
-begun_or-front-requires-clause-pairs c = pairs_inside _ c.self.invariant.2
+pub front_or_new-front-requires-clause-pairs : goal.front_or_new-front-requires-clause-pairs
+front_or_new-front-requires-clause-pairs c = pairs_inside _ c.self.invariant.2
 
 pub join_next-requires-clause-inside : goal.join_next-requires-clause-inside
 join_next-requires-clause-inside c =
@@ -28,7 +28,7 @@ join_next-requires-clause-closes c =
       c.self.inside.formula,
       c.self.inside.preamble.pairs,
       subst (λ (ts : List (List ℕ)). Closes (base_with c.self.inside.formula c.self.inside.preamble.pairs) (get_or c.self.inside.tree c.place_of-place.result []) (get_or ts c.place_of-place.result [])) (sym c.fragments.ensures) (c.self.invariant.2.closing c.place_of-place.result closed_there),
-      joined_base c.self.inside.formula c.self.inside.preamble.pairs c.self.inside.tree c.self.inside.leaves.states c.fragments.result.now c.begun_or-front.result (c.begun_or-front.ensures.front c.self.inside.tree c.self.inside.leaves.states c.fragments.result.now joined),
+      joined_base c.self.inside.formula c.self.inside.preamble.pairs c.self.inside.tree c.self.inside.leaves.states c.fragments.result.now c.front_or_new-front.result (c.front_or_new-front.ensures.front c.self.inside.tree c.self.inside.leaves.states c.fragments.result.now joined),
     )
 
 pub invariant_of-self : goal.invariant_of-self
@@ -42,5 +42,5 @@ invariant_of-self c =
       c.self.invariant.2,
       c.self.invariant.3,
       subst (λ (ts : List (List ℕ)). IsFrontOfTree c.self.inside.formula c.self.inside.preamble.pairs c.self.inside.tree c.self.inside.leaves.states ts c.in-Ok.joining) c.fragments.ensures
-          (c.in-Ok.ensures c.self.inside.formula c.self.inside.preamble.pairs c.self.inside.leaves.states closed_there (c.begun_or-front.ensures.front c.self.inside.tree c.self.inside.leaves.states c.fragments.result.now joined)),
+          (c.in-Ok.ensures c.self.inside.formula c.self.inside.preamble.pairs c.self.inside.leaves.states closed_there (c.front_or_new-front.ensures.front c.self.inside.tree c.self.inside.leaves.states c.fragments.result.now joined)),
     )

@@ -1,4 +1,4 @@
-use Rattle.coordinator_core.proofs.KeptLemmas.{pairs_inside, task_leaf}
+use Rattle.coordinator_core.proofs.InvariantLemmas.{pairs_inside, task_leaf}
 use Rattle.coordinator_core.proofs.coordinator.Coordinator.choice.Goals as goal
 
 pub cube-requires : goal.cube-requires

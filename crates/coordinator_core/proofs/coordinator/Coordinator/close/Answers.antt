@@ -1,10 +1,10 @@
 use Rattle.std.proofs.Common.{◌^◌, ◌≤◌, ◌∙◌, length, refl, sym, ap, subst, arith}
 use Rattle.std.proofs.lemmas.Bool.{false≢true}
-use Rattle.coordinator_core.specs.inner.Calls.{refilled}
+use Rattle.coordinator_core.specs.inner.PrivateCalls.{job_with_bytes}
 use Rattle.coordinator_core.specs.Invariant.{IsCoordinator}
-use Rattle.coordinator_core.proofs.ClosingLemmas.{IsShut, taken_at, desk_is, job_fair, goes_on, all_there, joined_is, too_long_is, ends_closed, ends_joined, ends_too_long, some_joined, given_back, refused, text_back, leaf_back}
-use Rattle.coordinator_core.proofs.KeptLemmas.{leaf_within, leaf_unclosed, pairs_inside}
-use Rattle.coordinator_core.specs.declared.desks.LeafState.TheVariants.{Closed}
+use Rattle.coordinator_core.proofs.FragmentLemmas.{IsShut, taken_at, desk_is, job_fair, goes_on, all_there, joined_is, too_long_is, ends_closed, ends_joined, ends_too_long, some_joined, given_back, refused, text_back, leaf_back}
+use Rattle.coordinator_core.proofs.InvariantLemmas.{leaf_within, leaf_unclosed, pairs_inside}
+use Rattle.coordinator_core.specs.declared.job_state.LeafState.TheVariants.{Closed}
 use Rattle.coordinator_core.proofs.FrontLemmas.{rows_set, held_joined, none_joined}
 use Rattle.coordinator_core.proofs.coordinator.Coordinator.close.Goals as goal
 
@@ -32,14 +32,14 @@ returns-then-not-are_closed c =
     record { taken = t; text_is = c.take_bytes-bytes.ensures.bytes; rows_are = c.close-before.ensures.now; none = c.take.ensures.after } in
     ends_closed _ _ _ _ _ _ _ _ h (λ all. false≢true (sym c.if-not-are_closed.true ∙ c.are_closed.ensures.1 all))
 
-pub begun_or-front-requires-clause-pairs : goal.begun_or-front-requires-clause-pairs
-begun_or-front-requires-clause-pairs c = pairs_inside _ c.self.invariant.2
+pub front_or_new-front-requires-clause-pairs : goal.front_or_new-front-requires-clause-pairs
+front_or_new-front-requires-clause-pairs c = pairs_inside _ c.self.invariant.2
 
 pub join_rest-requires-clause-front : goal.join_rest-requires-clause-front
 join_rest-requires-clause-front c =
     let t = taken_at _ c.args.self.now c.args.worker c.number.result _ _ _ c.self.view_is c.number.ensures.value c.self.invariant.2 c.requires.closes c.index_mut.ensures.value c.take.ensures.value c.in-Some.is in (
       c.close-before.new.self.states,
-      c.begun_or-front.ensures.front c.self.inside.tree c.close-before.new.self.states c.fragments.result.now
+      c.front_or_new-front.ensures.front c.self.inside.tree c.close-before.new.self.states c.fragments.result.now
           (held_joined _ _ _ c.self.inside.leaves c.close-before.new.self c.self.inside.front c.in-Some.job.leaf Closed c.take_bytes-bytes.result c.take-held.result c.fragments.result.now c.close-before.ensures.now (leaf_unclosed _ _ _ (job_fair _ _ _ _ _ t))
           c.take-held.ensures.value c.fragments.ensures c.self.invariant.4),
     )
@@ -94,7 +94,7 @@ invariant_of-self-2 c =
     let h : IsShut _ c.args.self.now c.args.worker c.number.result c.in-Some.job c.take_bytes-bytes.result c.close-before.new.self c.take.new.self =
     record { taken = t; text_is = c.take_bytes-bytes.ensures.bytes; rows_are = c.close-before.ensures.now; none = c.take.ensures.after } in
     let back = given_back _ _ _ _ _ c.give_bytes.new.self _ c.close-before.result _ c.give_back.new.self _ h c.close-before.ensures.before c.give_back.ensures.now
-    (c.give_bytes.ensures ∙ ap (refilled c.take_bytes-bytes.new.self) (c.give_back.ensures.fragment ∙ text_back _ _ _ _ _ _ _ _ h) ∙ c.take_bytes-bytes.ensures.back) in
+    (c.give_bytes.ensures ∙ ap (job_with_bytes c.take_bytes-bytes.new.self) (c.give_back.ensures.fragment ∙ text_back _ _ _ _ _ _ _ _ h) ∙ c.take_bytes-bytes.ensures.back) in
     (c.self.invariant.0, c.self.invariant.1, subst IsCoordinator (sym back) c.self.invariant.2, c.self.invariant.3, none_joined _ _ _ _ _ _ c.take-held.ensures.after)
 
 pub returns-in-Ok : goal.returns-in-Ok
@@ -119,5 +119,5 @@ returns c =
     let h : IsShut _ c.args.self.now c.args.worker c.number.result c.in-Some.job c.take_bytes-bytes.result c.close-before.new.self c.take.new.self =
     record { taken = t; text_is = c.take_bytes-bytes.ensures.bytes; rows_are = c.close-before.ensures.now; none = c.take.ensures.after } in
     let back = given_back _ _ _ _ _ c.give_bytes.new.self _ c.close-before.result _ c.give_back.new.self _ h c.close-before.ensures.before c.give_back.ensures.now
-    (c.give_bytes.ensures ∙ ap (refilled c.take_bytes-bytes.new.self) (c.give_back.ensures.fragment ∙ text_back _ _ _ _ _ _ _ _ h) ∙ c.take_bytes-bytes.ensures.back) in
+    (c.give_bytes.ensures ∙ ap (job_with_bytes c.take_bytes-bytes.new.self) (c.give_back.ensures.fragment ∙ text_back _ _ _ _ _ _ _ _ h) ∙ c.take_bytes-bytes.ensures.back) in
     refused _ _ _ _ c.self.view_is back

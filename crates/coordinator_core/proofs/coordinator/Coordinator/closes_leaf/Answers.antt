@@ -1,6 +1,6 @@
 use Rattle.std.proofs.Common.{◌∙◌}
-use Rattle.coordinator_core.proofs.GatherLemmas.{closes_here, closes_there, unrefused}
-use Rattle.coordinator_core.proofs.KeptLemmas.{task_leaf}
+use Rattle.coordinator_core.proofs.JobEvidenceLemmas.{closes_here, closes_there, unrefused}
+use Rattle.coordinator_core.proofs.InvariantLemmas.{task_leaf}
 use Rattle.coordinator_core.proofs.coordinator.Coordinator.closes_leaf.Goals as goal
 
 pub cube-requires : goal.cube-requires

@@ -1,6 +1,6 @@
 use Rattle.std.proofs.Common.{refl, ◌∙◌}
 use Rattle.coordinator_core.specs.Coordinator.{DeliversIdle}
-use Rattle.coordinator_core.proofs.GatherLemmas.{lost_reopens}
+use Rattle.coordinator_core.proofs.JobEvidenceLemmas.{lost_reopens}
 use Rattle.coordinator_core.proofs.coordinator.Coordinator.deliver_idle.Goals as goal
 
 pub returns : goal.returns

@@ -1,5 +1,5 @@
 use Rattle.std.proofs.Common.{sym, ◌∙◌}
-use Rattle.coordinator_core.proofs.GatherLemmas.{refixed}
+use Rattle.coordinator_core.proofs.JobEvidenceLemmas.{refixed}
 use Rattle.coordinator_core.proofs.coordinator.Coordinator.fix.Goals as goal
 
 pub put_job-requires-clause-job : goal.put_job-requires-clause-job

@@ -1,5 +1,5 @@
-use Rattle.coordinator_core.proofs.KeptLemmas.{lost_leaf, lost_is}
-use Rattle.coordinator_core.specs.declared.desks.LeafState.TheVariants.{Open}
+use Rattle.coordinator_core.proofs.InvariantLemmas.{lost_leaf, lost_is}
+use Rattle.coordinator_core.specs.declared.job_state.LeafState.TheVariants.{Open}
 use Rattle.coordinator_core.proofs.FrontLemmas.{rows_state}
 use Rattle.coordinator_core.proofs.coordinator.Coordinator.lost.Goals as goal
 

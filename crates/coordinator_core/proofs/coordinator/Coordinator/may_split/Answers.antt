@@ -1,4 +1,4 @@
-use Rattle.coordinator_core.proofs.KeptLemmas.{task_leaf}
+use Rattle.coordinator_core.proofs.InvariantLemmas.{task_leaf}
 use Rattle.coordinator_core.proofs.coordinator.Coordinator.may_split.Goals as goal
 
 pub cube-requires : goal.cube-requires

@@ -2,7 +2,7 @@ use Rattle.std.proofs.Common.{◌≡◌}
 use Rattle.std.proofs.lemmas.Result.{IfOk-weaker}
 use Rattle.cube_split.specs.Pairs.{AreOf, Definitions}
 use Rattle.coordinator_core.specs.Coordinator.{CoordinatorState, new_coordinator}
-use Rattle.coordinator_core.proofs.BeginLemmas.{beginning, begins_plain, plain_inside}
+use Rattle.coordinator_core.proofs.NewCoordinatorLemmas.{beginning, begins_plain, plain_inside}
 use Rattle.coordinator_core.proofs.coordinator.Coordinator.new.Goals as goal
 
 pub with_defs-requires-clause-inside : goal.with_defs-requires-clause-inside

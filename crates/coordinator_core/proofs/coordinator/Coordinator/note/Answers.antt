@@ -1,4 +1,4 @@
-use Rattle.coordinator_core.proofs.KeptLemmas.{note_is}
+use Rattle.coordinator_core.proofs.InvariantLemmas.{note_is}
 use Rattle.coordinator_core.proofs.coordinator.Coordinator.note.Goals as goal
 
 pub invariant_of-self : goal.invariant_of-self

@@ -4,14 +4,14 @@ use Rattle.std.proofs.lemmas.Bool.{lt-ltb}
 use Rattle.frames.specs.declared.frame.Frame.{Frame}
 use Rattle.frames.specs.declared.frame.Frame.TheVariants.{Task}
 use Rattle.coordinator_core.specs.Coordinator.{CoordinatorState, cube_at, is_open, leaf_poll}
-use Rattle.coordinator_core.specs.inner.Tables.{LeafRows}
-use Rattle.coordinator_core.specs.Tables.{next_of}
+use Rattle.coordinator_core.specs.inner.LeafTable.{LeafRows}
+use Rattle.coordinator_core.specs.NextJob.{next_of}
 use Rattle.coordinator_core.proofs.PollLemmas.{given_is, next_after}
-use Rattle.coordinator_core.specs.declared.desks.LeafState.TheVariants.{GivenTo}
+use Rattle.coordinator_core.specs.declared.job_state.LeafState.TheVariants.{GivenTo}
 use Rattle.coordinator_core.proofs.FrontLemmas.{rows_given}
 use Rattle.coordinator_core.proofs.coordinator.Coordinator.poll_leaf.Goals as goal
 
--- a leaf is given, and its task told, while there is one and a number for the job
+-- a leaf is given and its Task sent, if a leaf is open and job numbers are left
 is_leaf_given : (c s : CoordinatorState) (w n leaf number next : ℕ) (left : Bool) (o : Option ℕ) (rows : LeafRows) (task : Frame) → c ≡ s → n ≡ w → c.next ≡ number → left ≡ true → o ≡ Some leaf
     → rows ≡ record { states = slice_set c.leaves leaf (GivenTo w); fragments = c.fragments } → next ≡ number + 1 → task ≡ Task s.session number s.limit (cube_at s leaf)
     → (task ≡ (leaf_poll s w left o).frame) × (record c { leaves = rows.states; fragments = rows.fragments; jobs = slice_set c.jobs (n - 1) (Some (record { number = number; leaf = leaf; fixed = None })); next = next } ≡ (leaf_poll s w left o).after)

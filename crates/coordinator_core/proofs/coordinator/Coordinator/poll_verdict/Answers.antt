@@ -8,26 +8,26 @@ use Rattle.evidence.specs.Evidence.{answer_in, bytes_in, finding_in}
 use Rattle.coordinator_core.specs.Coordinator.{CoordinatorState, verdict_poll, want_at}
 use Rattle.coordinator_core.specs.Invariant.{IsCoordinator}
 use Rattle.coordinator_core.proofs.PollLemmas.{held_bytes, wanted_here}
-use Rattle.coordinator_core.proofs.KeptLemmas.{unnoted_is}
+use Rattle.coordinator_core.proofs.InvariantLemmas.{unnoted_is}
 use Rattle.coordinator_core.proofs.coordinator.Coordinator.poll_verdict.Goals as goal
 
--- a worker's note is what it wants
+-- a worker's noted offset, as the code reads it
 note_here : (c s : CoordinatorState) (worker n : ℕ) (o : Option ℕ) → c ≡ s → n ≡ worker → 1 ≤ n → worker ≤ length s.jobs → IsCoordinator c → o ≡ get_or c.wants (n - 1) o → want_at s worker ≡ o
 note_here c s worker zero o same number from_1 known is here = absurd (omega (arith, from_1))
 note_here c s worker (suc k) o same number from_1 known is here =
-    let desk : suc k - 1 ≡ k = omega arith in
+    let slot : suc k - 1 ≡ k = omega arith in
     let jobs : length c.jobs ≡ length s.jobs = ap (λ (d : CoordinatorState). length d.jobs) same in
     let inside : suc k - 1 < length c.wants = omega (arith, jobs, known, number, is.tables.each_want) in
-    let read : o ≡ slice_index_or c.wants k None = get_or_read c.wants _ o inside here None ∙ ap (λ (i : ℕ). slice_index_or c.wants i None) desk in
+    let read : o ≡ slice_index_or c.wants k None = get_or_read c.wants _ o inside here None ∙ ap (λ (i : ℕ). slice_index_or c.wants i None) slot in
     rw (← same, ← number) (sym read)
 
--- who wants no bytes is told what the verdict is
+-- without a noted offset the worker gets Verdict
 is_told : (c s : CoordinatorState) (worker : ℕ) (o : Option ℕ) (finding : Finding) → c ≡ s → o ≡ None → finding ≡ finding_in c.verdict
     → (VerdictFrame c.session finding ≡ (verdict_poll s worker o).frame) × (s ≡ (verdict_poll s worker o).after)
 is_told c s worker None finding same none is = (rw (is, same) refl, refl)
 is_told c s worker (Some offset) finding same none is = absurd (cc)
 
--- who wants bytes is told them, and its note is gone
+-- with a noted offset the worker gets Part, and the offset is cleared
 is_given : (c s : CoordinatorState) (worker n offset : ℕ) (o : Option ℕ) (answer : Answer) (bytes : List ℕ) → c ≡ s → n ≡ worker → o ≡ Some offset
     → answer ≡ answer_in c.verdict → bytes ≡ take chunk (drop offset (bytes_in c.verdict))
     → (Part c.session answer offset bytes ≡ (verdict_poll s worker o).frame) × (record c { wants = slice_set c.wants (n - 1) None } ≡ (verdict_poll s worker o).after)

@@ -1,4 +1,4 @@
-use Rattle.coordinator_core.proofs.KeptLemmas.{put_is}
+use Rattle.coordinator_core.proofs.InvariantLemmas.{put_is}
 use Rattle.coordinator_core.proofs.coordinator.Coordinator.put_job.Goals as goal
 
 pub invariant_of-self : goal.invariant_of-self

@@ -1,6 +1,6 @@
 use Rattle.std.proofs.Common.{◌-◌, sym, subst, ◌∙◌}
 use Rattle.coordinator_core.specs.Invariant.{IsJobAt}
-use Rattle.coordinator_core.proofs.GatherLemmas.{put_back}
+use Rattle.coordinator_core.proofs.JobEvidenceLemmas.{put_back}
 use Rattle.coordinator_core.proofs.coordinator.Coordinator.share.Goals as goal
 
 pub put_job-requires-clause-job : goal.put_job-requires-clause-job

@@ -1,5 +1,5 @@
 use Rattle.std.proofs.Common.{◌-◌}
-use Rattle.coordinator_core.proofs.KeptLemmas.{lost_leaf, task_leaf}
+use Rattle.coordinator_core.proofs.InvariantLemmas.{lost_leaf, task_leaf}
 use Rattle.coordinator_core.proofs.SplitStates.{IsTorn, jobs_low, leaf_free, torn_keeps}
 use Rattle.coordinator_core.proofs.FrontLemmas.{rows_split}
 use Rattle.coordinator_core.proofs.coordinator.Coordinator.split.Goals as goal

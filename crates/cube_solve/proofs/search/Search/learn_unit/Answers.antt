@@ -3,11 +3,11 @@ use Rattle.std.specs.List.{All}
 use Rattle.dimacs.specs.logic.Literal.{Literal, Clause, IsWithin, var_of}
 use Rattle.dimacs.specs.logic.Propagation.{Rup}
 use Rattle.clause_arena.specs.Clauses.{live_of}
-use Rattle.lrat_text.specs.Writing.{line_of}
+use Rattle.lrat_text.specs.WrittenLine.{line_of}
 use Rattle.lrat_text.specs.declared.step.Step.TheVariants.{Add}
-use Rattle.cube_solve.specs.inner.Units.{IsAlone, IsNoted}
+use Rattle.cube_solve.specs.inner.UnitClauses.{IsUnitOf, IsNoted}
 use Rattle.cube_solve.proofs.LogLemmas.{lemma_limits}
-use Rattle.cube_solve.proofs.UnitLemmas.{noted_added, one_within, unit_is_new}
+use Rattle.cube_solve.proofs.UnitClauseLemmas.{noted_added, one_within, unit_is_new}
 use Rattle.cube_solve.proofs.search.Search.learn_unit.Goals as goal
 
 pub write-requires : goal.write-requires
@@ -22,9 +22,9 @@ pub returns-clause-noted : goal.returns-clause-noted
 returns-clause-noted g c =
     let s = c.args.self.now in
     let l = c.args.literal in
-    noted_added (live_of s.state.arena) (live_of c.fix.new.self.arena) c.args.id (l ∷ []) s.units.numbers.items c.note.new.self.numbers.items c.note.ensures.kept
-    (subst (λ (C : Clause). (k : Literal) → IsAlone C k → IsNoted c.note.new.self.numbers.items (var_of k)) (c.deref-2.ensures.value ∙ (c.requires.fixing).lits) c.note.ensures.noted)
-    c.in_ok-fix.ensures.added c.requires.noted
+    noted_added (live_of s.state.arena) (live_of c.add_root_unit.new.self.arena) c.args.id (l ∷ []) s.units.numbers.items c.note.new.self.numbers.items c.note.ensures.kept
+    (subst (λ (C : Clause). (k : Literal) → IsUnitOf C k → IsNoted c.note.new.self.numbers.items (var_of k)) (c.deref-2.ensures.value ∙ (c.requires.fixing).lits) c.note.ensures.noted)
+    c.in_ok-add_root_unit.ensures.added c.requires.noted
 
 pub returns-clause-learns : goal.returns-clause-learns
 returns-clause-learns g c =
@@ -44,5 +44,5 @@ returns-clause-learns g c =
         text = c.in_ok-write.ensures ∙ ap (λ (C : Clause). s.log ++ line_of c.args.id (Add c.args.id C hints [])) f.lits;
       };
       is_new = unit_is_new live s.state.trail.entries s.units.numbers.items l c.requires.noted f.unnoted ((c.requires.steady).state).quiet c.requires.above;
-      added = c.in_ok-fix.ensures.added;
+      added = c.in_ok-add_root_unit.ensures.added;
     }

@@ -1,9 +1,9 @@
 use Rattle.std.proofs.Common.{◌+◌, length, subst, sym}
 use Rattle.dimacs.specs.logic.ClauseMap.{live_in, map_of}
 use Rattle.clause_arena.specs.Clauses.{live_of}
-use Rattle.cube_solve.specs.inner.Forgetting.{AreLemmas}
-use Rattle.cube_solve.proofs.ForgettingLemmas.{lemmas_none}
-use Rattle.cube_solve.proofs.UnitLemmas.{noted_among}
+use Rattle.cube_solve.specs.inner.Reduction.{AreLemmas}
+use Rattle.cube_solve.proofs.ReductionLemmas.{lemmas_none}
+use Rattle.cube_solve.proofs.UnitClauseLemmas.{noted_among}
 use Rattle.cube_solve.proofs.SearchLemmas.{search_begins}
 use Rattle.cube_solve.proofs.search.Search.new.Goals as goal
 

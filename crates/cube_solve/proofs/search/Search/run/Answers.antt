@@ -1,10 +1,10 @@
 use Rattle.std.proofs.Common.{◌+◌, length, arith}
 use Rattle.clause_arena.specs.Clauses.{live_of}
 use Rattle.cube_solve.specs.Outcome.{allowed}
-use Rattle.cube_solve.proofs.ForgettingLemmas.{lemmas_same}
+use Rattle.cube_solve.proofs.ReductionLemmas.{lemmas_same}
 use Rattle.cube_solve.proofs.OutcomeLemmas.{ends_in_model, ends_refuted, ends_at_limit}
 use Rattle.cube_solve.proofs.SearchLemmas.{closed, limited, satisfied, model_read, search_same, below_next, next_number, closes_assumption, closes_clause, false_assumption}
-use Rattle.cube_solve.proofs.UnitLemmas.{noted_same}
+use Rattle.cube_solve.proofs.UnitClauseLemmas.{noted_same}
 use Rattle.cube_solve.proofs.search.Search.run.Goals as goal
 
 pub returns-in-Model : goal.returns-in-Model
@@ -43,7 +43,7 @@ returns-in-Assumption g c =
     let s = search_same B c.turns.learnt old.state.arena new.arena old.state.trail new.trail old.log (c.turns.invariant.searching).learnt c.descend.ensures.clauses c.descend.ensures.vars in
     let e = c.in_ok-text-in-Assumption.ensures in
     let id = c.len.result + 1 + c.turns.learnt in
-    let number = next_number B c.len.result c.turns.learnt c.vars-vars.ensures.valid c.len.ensures (let w = c.turns.invariant.within in let l = c.min-most.ensures in omega arith) in
+    let number = next_number B c.len.result c.turns.learnt c.vars.ensures.valid c.len.ensures (let w = c.turns.invariant.within in let l = c.min-most.ensures in omega arith) in
     ends_refuted B q c.args.limit c.in_ok-text-in-Assumption.text
     (closed B new.trail.vars c.turns.learnt id (live_of new.arena) e.0 old.log c.in_ok-text-in-Assumption.text (let n = c.len.ensures in omega arith) number s.learnt e.1 q (allowed c.args.limit)
     (let w = c.turns.invariant.within in let l = c.min-most.ensures in omega arith)
@@ -64,7 +64,7 @@ returns-then-level-self g c =
     let s = search_same B c.turns.learnt old.state.arena new.arena old.state.trail new.trail old.log (c.turns.invariant.searching).learnt c.descend.ensures.clauses c.descend.ensures.vars in
     let e = c.in_ok-text-in-Clause.ensures in
     let id = c.len.result + 1 + c.turns.learnt in
-    let number = next_number B c.len.result c.turns.learnt c.vars-vars.ensures.valid c.len.ensures (let w = c.turns.invariant.within in let l = c.min-most.ensures in omega arith) in
+    let number = next_number B c.len.result c.turns.learnt c.vars.ensures.valid c.len.ensures (let w = c.turns.invariant.within in let l = c.min-most.ensures in omega arith) in
     ends_refuted B q c.args.limit c.in_ok-text-in-Clause.text
     (closed B new.trail.vars c.turns.learnt id (live_of new.arena) e.0 old.log c.in_ok-text-in-Clause.text (let n = c.len.ensures in omega arith) number s.learnt e.1 q (allowed c.args.limit)
     (let w = c.turns.invariant.within in let l = c.min-most.ensures in omega arith)
@@ -79,11 +79,11 @@ returns-then-learnt-most g c =
     let s = search_same B c.turns.learnt old.state.arena new.arena old.state.trail new.trail old.log (c.turns.invariant.searching).learnt c.descend.ensures.clauses c.descend.ensures.vars in
     ends_at_limit B q c.args.limit c.into_packed.result
     (rw c.into_packed.ensures
-    (limited B q (allowed c.args.limit) c.turns.learnt c.in-Clause.number _ new.arena new.trail new.assumed old.log s c.descend.ensures.assuming (c.descend.ensures.steady).state c.entries-entries.ensures.valid
+    (limited B q (allowed c.args.limit) c.turns.learnt c.in-Clause.number _ new.arena new.trail new.assumed old.log s c.descend.ensures.assuming (c.descend.ensures.steady).state c.entries.ensures.valid
     c.in-Clause.ensures.found (let p = c.level.ensures.present in let t = c.if-level-self.false in omega arith) (let e = c.if-learnt-most.true in let l = c.min-most.ensures in omega arith)))
 
-pub turn-requires-clause-searching : goal.turn-requires-clause-searching
-turn-requires-clause-searching g c =
+pub handle_conflict-requires-clause-searching : goal.handle_conflict-requires-clause-searching
+handle_conflict-requires-clause-searching g c =
     let B = c.args.base.now in
     let old = c.turns.self in
     let new = c.descend.new.self in
@@ -97,7 +97,7 @@ turn-requires-clause-searching g c =
 
 pub turns-preserved : goal.turns-preserved
 turns-preserved g c =
-    let t = c.in_ok-turn-in-Clause.ensures in
+    let t = c.in_ok-handle_conflict-in-Clause.ensures in
     record {
       searching = t.searching;
       assuming = t.assuming c.args.cube.now c.descend.ensures.assuming;

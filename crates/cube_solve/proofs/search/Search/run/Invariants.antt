@@ -1,6 +1,6 @@
 use Rattle.std.proofs.Common.{◌-◌, ◌≤◌}
 use Rattle.cube_solve.specs.inner.State.{IsAssuming}
-use Rattle.cube_solve.specs.inner.Steady.{IsSearching}
+use Rattle.cube_solve.specs.inner.SearchInvariants.{IsSearching}
 use Rattle.cube_solve.proofs.search.Search.run.Given as goal
 
 abbrev pub invariant-turns : goal.invariant-turns

@@ -4,26 +4,26 @@ use Rattle.std.proofs.lemmas.List.Elements.{All-contains, Contains-get_or}
 use Rattle.dimacs.specs.logic.Literal.{Clause, IsWithin}
 use Rattle.clause_arena.specs.Clauses.{live_of}
 use Rattle.cube_solve.specs.Session.{IsSolution, vars_of}
-use Rattle.cube_solve.specs.inner.Levels.{AreTwins}
-use Rattle.cube_solve.specs.inner.Sessions.{ArePicked, Fails, IsSought}
+use Rattle.cube_solve.specs.inner.Twins.{AreTwins}
+use Rattle.cube_solve.specs.inner.Queries.{ArePicked, RefutesQuery, IsQueryResult}
 use Rattle.cube_solve.proofs.SessionLemmas.{core_fails, solution}
-use Rattle.cube_solve.proofs.TellingLemmas.{failure, linked_search, tells_on}
+use Rattle.cube_solve.proofs.SessionLogLemmas.{failure, linked_search, tells_on}
 use Rattle.cube_solve.proofs.session.Session.ask.Goals as goal
 
-pub seek-requires-clause-assuming : goal.seek-requires-clause-assuming
-seek-requires-clause-assuming g c = c.begin.ensures.assuming c.deref.result.now
+pub search_query-requires-clause-assuming : goal.search_query-requires-clause-assuming
+search_query-requires-clause-assuming g c = c.begin.ensures.assuming c.deref.result.now
 
 pub returns-in-Model-clause-answer : goal.returns-in-Model-clause-answer
 returns-in-Model-clause-answer g c = λ F h.
     let A = c.args.query.now in
     let k = c.in_ok-kept in
     let e = c.in_ok-sought.ensures in
-    let s = c.seek.new.self.search in
+    let s = c.search_query.new.self.search in
     let t = s.state.trail in
     let q = c.deref.result.now in
     let r = c.in_ok-values-in-Model in
     let v : t.vars ≡ vars_of c.args.self.now = e.vars ∙ c.begin.ensures.vars ∙ k.ensures.vars in
-    let f = subst (IsSought s.state.arena t q) c.in-Model.is e.sought in
+    let f = subst (IsQueryResult s.state.arena t q) c.in-Model.is e.sought in
     subst (λ n. IsSolution n F A r.values) v
     (solution F A q _ s.state.arena t s.lemmas.items r.values (e.given F (c.begin.ensures.given F (k.ensures.given F h))) ((e.ready).steady).state f.0 f.1 f.2
     (subst (λ (C : Clause). AreTwins A C) (sym c.deref.ensures.value) (k.ensures.marks).twins) (subst (λ n. All (IsWithin n) A) (sym v) c.requires.within) r.ensures.len r.ensures.values)
@@ -33,29 +33,29 @@ returns-in-Failed-clause-answer g c = λ F h.
     let A = c.args.query.now in
     let k = c.in_ok-kept in
     let e = c.in_ok-sought.ensures in
-    let s = c.seek.new.self.search in
+    let s = c.search_query.new.self.search in
     let t = s.state.trail in
     let q = c.deref.result.now in
     let lemma = c.in-Failed.lemma in
     let core = c.in_ok-core-in-Failed in
-    let f = subst (IsSought s.state.arena t q) c.in-Failed.is e.sought in
+    let f = subst (IsQueryResult s.state.arena t q) c.in-Failed.is e.sought in
     core_fails F A k.kept.items (live_of s.state.arena) t.vars s.lemmas.items lemma core.core.items (e.given F (c.begin.ensures.given F (k.ensures.given F h)))
-    (subst (λ (C : Clause). Fails (live_of s.state.arena) t.vars C lemma) c.deref.ensures.value f)
+    (subst (λ (C : Clause). RefutesQuery (live_of s.state.arena) t.vars C lemma) c.deref.ensures.value f)
     (subst (λ (C : Clause). ArePicked C lemma.lits.items core.core.items) c.deref-in-Failed.ensures.value (subst (λ (C : Clause). ArePicked c.deref-in-Failed.result.now C core.core.items) c.deref-in-Failed-2.ensures.value core.ensures.picked))
     (k.ensures.marks).twins (k.ensures.marks).part (k.ensures.marks).distinct
 
 pub returns-in-Model-clause-tells : goal.returns-in-Model-clause-tells
 returns-in-Model-clause-tells g c =
-    tells_on c.args.self.now c.begin.new.self c.seek.new.self (tells_on c.args.self.now c.without_repeats.new.self c.begin.new.self c.in_ok-kept.ensures.tells c.begin.ensures.tells) c.in_ok-sought.ensures.tells
+    tells_on c.args.self.now c.begin.new.self c.search_query.new.self (tells_on c.args.self.now c.without_repeats.new.self c.begin.new.self c.in_ok-kept.ensures.tells c.begin.ensures.tells) c.in_ok-sought.ensures.tells
 
 pub returns-clause-tells : goal.returns-clause-tells
 returns-clause-tells g c =
-    tells_on c.args.self.now c.begin.new.self c.seek.new.self (tells_on c.args.self.now c.without_repeats.new.self c.begin.new.self c.in_ok-kept.ensures.tells c.begin.ensures.tells) c.in_ok-sought.ensures.tells
+    tells_on c.args.self.now c.begin.new.self c.search_query.new.self (tells_on c.args.self.now c.without_repeats.new.self c.begin.new.self c.in_ok-kept.ensures.tells c.begin.ensures.tells) c.in_ok-sought.ensures.tells
 
 pub returns-in-Failed-clause-tells : goal.returns-in-Failed-clause-tells
 returns-in-Failed-clause-tells g c =
-    tells_on c.args.self.now c.seek.new.self c.core_of.new.self
-    (tells_on c.args.self.now c.begin.new.self c.seek.new.self (tells_on c.args.self.now c.without_repeats.new.self c.begin.new.self c.in_ok-kept.ensures.tells c.begin.ensures.tells) c.in_ok-sought.ensures.tells)
+    tells_on c.args.self.now c.search_query.new.self c.core_of.new.self
+    (tells_on c.args.self.now c.begin.new.self c.search_query.new.self (tells_on c.args.self.now c.without_repeats.new.self c.begin.new.self c.in_ok-kept.ensures.tells c.begin.ensures.tells) c.in_ok-sought.ensures.tells)
     c.in_ok-core-in-Failed.ensures.tells
 
 pub returns-in-Model-clause-over : goal.returns-in-Model-clause-over
@@ -63,24 +63,24 @@ returns-in-Model-clause-over g c = c.in_ok-values-in-Model.ensures.len ∙ c.in_
 
 pub returns-in-Failed-clause-over : goal.returns-in-Failed-clause-over
 returns-in-Failed-clause-over g c =
-    let s = c.seek.new.self.search in
+    let s = c.search_query.new.self.search in
     let k = c.in_ok-kept in
     let core = c.in_ok-core-in-Failed in
     let p = subst (λ (C : Clause). ArePicked C c.in-Failed.lemma.lits.items core.core.items) c.deref-in-Failed.ensures.value (subst (λ (C : Clause). ArePicked c.deref-in-Failed.result.now C core.core.items) c.deref-in-Failed-2.ensures.value core.ensures.picked) in (
       (λ i d b. All-contains (IsWithin (vars_of c.args.self.now)) k.kept.items _ k.ensures.within (p.within _ (Contains-get_or core.core.items i d b))),
-      (subst (IsSought s.state.arena s.state.trail c.deref.result.now) c.in-Failed.is c.in_ok-sought.ensures.sought).numbers,
+      (subst (IsQueryResult s.state.arena s.state.trail c.deref.result.now) c.in-Failed.is c.in_ok-sought.ensures.sought).numbers,
     )
 
 pub returns-in-Failed-clause-failed : goal.returns-in-Failed-clause-failed
 returns-in-Failed-clause-failed g c = λ given M h.
     let e = c.in_ok-sought.ensures in
-    let s = c.seek.new.self.search in
+    let s = c.search_query.new.self.search in
     let t = s.state.trail in
     let q = c.deref.result.now in
     let lemma = c.in-Failed.lemma in
     let core = c.in_ok-core-in-Failed in
-    let f = subst (IsSought s.state.arena t q) c.in-Failed.is e.sought in
+    let f = subst (IsQueryResult s.state.arena t q) c.in-Failed.is e.sought in
     failure (live_of s.state.arena) t.vars c.in_ok-kept.kept.items lemma core.core.items
-    (subst (λ (C : Clause). Fails (live_of s.state.arena) t.vars C lemma) c.deref.ensures.value f)
+    (subst (λ (C : Clause). RefutesQuery (live_of s.state.arena) t.vars C lemma) c.deref.ensures.value f)
     (subst (λ (C : Clause). ArePicked C lemma.lits.items core.core.items) c.deref-in-Failed.ensures.value (subst (λ (C : Clause). ArePicked c.deref-in-Failed.result.now C core.core.items) c.deref-in-Failed-2.ensures.value core.ensures.picked))
-    M (linked_search c.seek.new.self c.core_of.new.self core.ensures.search given M h)
+    M (linked_search c.search_query.new.self c.core_of.new.self core.ensures.search given M h)

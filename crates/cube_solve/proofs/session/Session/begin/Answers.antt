@@ -1,6 +1,6 @@
-use Rattle.cube_solve.proofs.TellingLemmas.{tells_same}
+use Rattle.cube_solve.proofs.SessionLogLemmas.{tells_same}
 use Rattle.std.proofs.Common.{refl, sym, subst}
-use Rattle.cube_solve.specs.inner.Sessions.{AreStamped}
+use Rattle.cube_solve.specs.inner.Queries.{AreStamped}
 use Rattle.cube_solve.proofs.SessionLemmas.{has_same, ready_same, same_arena}
 use Rattle.cube_solve.proofs.session.Session.begin.Goals as goal
 

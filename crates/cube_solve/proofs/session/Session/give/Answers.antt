@@ -1,39 +1,39 @@
-use Rattle.cube_solve.proofs.TellingLemmas.{known_given}
+use Rattle.cube_solve.proofs.SessionLogLemmas.{known_given}
 use Rattle.std.proofs.Common.{ℕ, ◌≤◌, [], ◌∷◌, ◌++◌, sym, ◌∙◌, subst}
 use Rattle.std.specs.List.{All, IsDistinct}
 use Rattle.dimacs.specs.logic.Literal.{Clause, IsWithin, same}
 use Rattle.clause_arena.specs.Clauses.{live_of}
-use Rattle.cube_solve.specs.inner.Learning.{AreBelow}
-use Rattle.cube_solve.specs.inner.Levels.{AreTwins}
-use Rattle.cube_solve.specs.inner.Sessions.{AreStamped, HasClauses}
+use Rattle.cube_solve.specs.inner.LearntLog.{AreBelow}
+use Rattle.cube_solve.specs.inner.Twins.{AreTwins}
+use Rattle.cube_solve.specs.inner.Queries.{AreStamped, HasClauses}
 use Rattle.cube_solve.proofs.ClauseLemmas.{bound_same}
 use Rattle.cube_solve.proofs.SearchLemmas.{below_more}
 use Rattle.cube_solve.proofs.SessionLemmas.{has_given, lemmas_stay}
 use Rattle.cube_solve.proofs.session.Session.give.Goals as goal
 
-pub take_in-requires-clause-distinct : goal.take_in-requires-clause-distinct
-take_in-requires-clause-distinct g c = subst (λ (C : Clause). IsDistinct same C) (sym c.deref.ensures.value) (c.in_ok-mark.ensures.marks).distinct
+pub add_given-requires-clause-distinct : goal.add_given-requires-clause-distinct
+add_given-requires-clause-distinct g c = subst (λ (C : Clause). IsDistinct same C) (sym c.deref.ensures.value) (c.in_ok-mark.ensures.marks).distinct
 
-pub take_in-requires-clause-within : goal.take_in-requires-clause-within
-take_in-requires-clause-within g c =
+pub add_given-requires-clause-within : goal.add_given-requires-clause-within
+add_given-requires-clause-within g c =
     subst (λ (C : Clause). All (IsWithin c.args.self.now.search.state.trail.vars) C) (sym c.deref.ensures.value)
     (bound_same (IsWithin c.args.self.now.search.state.trail.vars) c.args.clause.now c.mark.new.kept.items (c.in_ok-mark.ensures.marks).twins c.requires.within)
 
-pub take_in-requires-clause-numbers : goal.take_in-requires-clause-numbers
-take_in-requires-clause-numbers g c = subst (λ (n : ℕ). AreBelow n (live_of c.args.self.now.search.state.arena)) (sym c.in_ok-id.ensures.next) (c.requires.ready).below
+pub add_given-requires-clause-numbers : goal.add_given-requires-clause-numbers
+add_given-requires-clause-numbers g c = subst (λ (n : ℕ). AreBelow n (live_of c.args.self.now.search.state.arena)) (sym c.in_ok-id.ensures.next) (c.requires.ready).below
 
 pub returns-clause-ready : goal.returns-clause-ready
 returns-clause-ready g c =
     let s = c.args.self.now in
-    let e = c.in_ok-take_in.ensures in
+    let e = c.in_ok-add_given.ensures in
     let old = live_of s.search.state.arena in
-    let new = live_of c.take_in.new.self.state.arena in
+    let new = live_of c.add_given.new.self.state.arena in
     let id = c.in_ok-id.id in
     let below : AreBelow id old = subst (λ (n : ℕ). AreBelow n old) (sym c.in_ok-id.ensures.next) (c.requires.ready).below in
     record {
       steady = e.steady;
       below = below_more id old new c.deref.result.now c.in_ok-id.ensures.number below e.added;
-      lemmas = lemmas_stay old new id c.deref.result.now s.search.lemmas.items c.take_in.new.self.lemmas.items e.lemmas e.added (c.requires.ready).lemmas;
+      lemmas = lemmas_stay old new id c.deref.result.now s.search.lemmas.items c.add_given.new.self.lemmas.items e.lemmas e.added (c.requires.ready).lemmas;
       noted = e.noted;
       few = subst (λ v. v ≤ 2000000) (sym e.vars) (c.requires.ready).few;
       bounded = c.in_ok-id.ensures.bounded;
@@ -43,9 +43,9 @@ returns-clause-ready g c =
 pub returns-clause-given : goal.returns-clause-given
 returns-clause-given g c = λ F h.
     let s = c.args.self.now in
-    let e = c.in_ok-take_in.ensures in
+    let e = c.in_ok-add_given.ensures in
     let old = live_of s.search.state.arena in
-    let new = live_of c.take_in.new.self.state.arena in
+    let new = live_of c.add_given.new.self.state.arena in
     let id = c.in_ok-id.id in
     let below : AreBelow id old = subst (λ (n : ℕ). AreBelow n old) (sym c.in_ok-id.ensures.next) (c.requires.ready).below in
     subst (HasClauses (F ++ c.args.clause.now ∷ []) new) (sym e.lemmas)
@@ -55,7 +55,7 @@ returns-clause-given g c = λ F h.
 pub returns-clause-known : goal.returns-clause-known
 returns-clause-known g c =
     let s = c.args.self.now in
-    let e = c.in_ok-take_in.ensures in
-    known_given s (record s { search = c.take_in.new.self; top = c.in_ok-id.id; marks = c.mark.new.self }) c.args.clause.now c.deref.result.now c.in_ok-id.ensures.next
+    let e = c.in_ok-add_given.ensures in
+    known_given s (record s { search = c.add_given.new.self; top = c.in_ok-id.id; marks = c.mark.new.self }) c.args.clause.now c.deref.result.now c.in_ok-id.ensures.next
     (c.requires.ready).below (c.requires.ready).lemmas e.lemmas
     (subst (λ (C : Clause). AreTwins c.args.clause.now C) (sym c.deref.ensures.value) (c.in_ok-mark.ensures.marks).twins) e.added

@@ -1,5 +1,5 @@
 use Rattle.std.proofs.Common.{◌≡◌, ap}
-use Rattle.cube_solve.proofs.GrowingLemmas.{grown_given, grown_known, grown_ready, parts_below}
+use Rattle.cube_solve.proofs.CopiedClauseLemmas.{grown_given, grown_known, grown_ready, parts_below}
 use Rattle.cube_solve.proofs.session.Session.grown.Goals as goal
 
 pub search_of-requires-clause-below : goal.search_of-requires-clause-below

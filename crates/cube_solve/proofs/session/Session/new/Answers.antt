@@ -2,9 +2,9 @@ use Rattle.std.specs.List.{Contains}
 use Rattle.dimacs.proofs.Members.{Contains-nil}
 use Rattle.std.proofs.Common.{ℕ, ◌≤◌, List, sym, ◌∙◌, subst, arith}
 use Rattle.clause_arena.specs.Clauses.{live_of}
-use Rattle.cube_solve.specs.inner.Forgetting.{AreLemmas}
-use Rattle.cube_solve.specs.inner.Sessions.{AreStamped, HasClauses}
-use Rattle.cube_solve.proofs.ForgettingLemmas.{lemmas_none}
+use Rattle.cube_solve.specs.inner.Reduction.{AreLemmas}
+use Rattle.cube_solve.specs.inner.Queries.{AreStamped, HasClauses}
+use Rattle.cube_solve.proofs.ReductionLemmas.{lemmas_none}
 use Rattle.cube_solve.proofs.SessionLemmas.{has_base}
 use Rattle.cube_solve.proofs.session.Session.new.Goals as goal
 

@@ -2,11 +2,11 @@ use Rattle.std.proofs.Common.{◌≡◌, inr, sym, ◌∙◌, ap, subst}
 use Rattle.std.specs.List.{Contains}
 use Rattle.std.proofs.lemmas.List.Elements.{All-contains}
 use Rattle.clause_arena.specs.Clauses.{live_of}
-use Rattle.conflict_analysis.proofs.Entries.{one_entry}
+use Rattle.conflict_analysis.proofs.EntryLemmas.{one_entry}
 use Rattle.dimacs.specs.logic.Literal.{IsWithin, negation, var_of}
 use Rattle.dimacs.proofs.LiteralLemmas.{IsWithin-negation, negation-negation}
 use Rattle.watches.specs.declared.trail.Assigned.{Assigned}
-use Rattle.cube_solve.proofs.AssumingLemmas.{assuming_below}
+use Rattle.cube_solve.proofs.AssumptionLemmas.{assuming_below}
 use Rattle.cube_solve.proofs.LogLemmas.{hints_numbers}
 use Rattle.cube_solve.proofs.SearchLemmas.{closes_assumption, decision_in_cube, false_beside}
 use Rattle.cube_solve.proofs.SessionLemmas.{pair_fails}
@@ -17,7 +17,7 @@ close_cube-requires-clause-closing g c = (
   c.requires.is_false,
   λ d.
       let es = c.args.self.now.search.state.trail.entries in
-      let v = c.entries-entries.ensures.valid in
+      let v = c.entries.ensures.valid in
       let x = c.entry_of-entry in
       let one : d.0 ≡ x.result = one_entry es d.0 x.result v.apart d.1 x.ensures.member (ap var_of (d.2 ∙ sym (x.ensures.literal ∙ c.negate.ensures))) in
       let a = sym d.3 ∙ ap (λ (e : Assigned). e.reason) one in
@@ -41,7 +41,7 @@ returns-in_ok-lemma-in-None g c = λ q h i.
     let s = c.args.self.now.search.state in
     let es = s.trail.entries in
     let l = c.args.literal in
-    let v = c.entries-entries.ensures.valid in
+    let v = c.entries.ensures.valid in
     let x = c.entry_of-entry in
     let built = (((c.requires.ready).steady).state).built in
     let within : IsWithin s.trail.vars l =

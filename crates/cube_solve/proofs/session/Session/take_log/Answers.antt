@@ -1,5 +1,5 @@
 use Rattle.cube_solve.proofs.SessionLemmas.{given_logged, ready_logged}
-use Rattle.cube_solve.proofs.TellingLemmas.{known_logged}
+use Rattle.cube_solve.proofs.SessionLogLemmas.{known_logged}
 use Rattle.cube_solve.proofs.session.Session.take_log.Goals as goal
 
 pub returns-clause-ready : goal.returns-clause-ready

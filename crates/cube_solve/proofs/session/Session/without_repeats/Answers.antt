@@ -1,7 +1,7 @@
-use Rattle.cube_solve.proofs.TellingLemmas.{tells_same}
+use Rattle.cube_solve.proofs.SessionLogLemmas.{tells_same}
 use Rattle.cube_solve.proofs.SessionLemmas.{same_arena}
 use Rattle.std.proofs.Common.{refl, subst}
-use Rattle.cube_solve.specs.inner.Sessions.{AreStamped}
+use Rattle.cube_solve.specs.inner.Queries.{AreStamped}
 use Rattle.dimacs.specs.logic.Literal.{IsWithin}
 use Rattle.cube_solve.proofs.ClauseLemmas.{bound_same}
 use Rattle.cube_solve.proofs.SessionLemmas.{ready_marked}

@@ -2,45 +2,45 @@ use Rattle.std.proofs.Common.{ℕ, [], ◌∷◌, sym, subst, ap, ◌∙◌}
 use Rattle.std.specs.Prelude.{max, min}
 use Rattle.std.specs.List.{Contains}
 use Rattle.dimacs.specs.logic.Literal.{Literal}
-use Rattle.cube_solve.specs.inner.Order.{IsOrderBut}
+use Rattle.cube_solve.specs.inner.DecisionOrder.{IsOrderBut}
 use Rattle.cube_solve.specs.inner.State.{IsAssuming}
-use Rattle.cube_solve.proofs.AssumingLemmas.{assuming_assumed, assuming_decided}
+use Rattle.cube_solve.proofs.AssumptionLemmas.{assuming_assumed, assuming_decided}
 use Rattle.cube_solve.proofs.ClauseLemmas.{same_trans}
-use Rattle.cube_solve.proofs.HoldingLemmas.{held_grows}
-use Rattle.cube_solve.proofs.OrderLemmas.{order_grows, order_decided}
+use Rattle.cube_solve.proofs.HeldLemmas.{held_grows}
+use Rattle.cube_solve.proofs.DecisionOrderLemmas.{order_grows, order_decided}
 use Rattle.cube_solve.proofs.state.State.descend.Goals as goal
 
 pub pick-requires-clause-assumed : goal.pick-requires-clause-assumed
-pick-requires-clause-assumed g c = c.settle.ensures.assuming c.args.cube.now c.descending.invariant.assuming
+pick-requires-clause-assumed g c = c.propagate_all.ensures.assuming c.args.cube.now c.descending.invariant.assuming
 
 pub pick-requires-clause-held : goal.pick-requires-clause-held
 pick-requires-clause-held g c =
-    let m = c.settle.ensures.grows in
-    held_grows c.descending.held c.args.cube.now c.descending.self.trail.entries c.settle.new.self.trail.entries m.0 m.1 c.descending.invariant.held
+    let m = c.propagate_all.ensures.grows in
+    held_grows c.descending.held c.args.cube.now c.descending.self.trail.entries c.propagate_all.new.self.trail.entries m.0 m.1 c.descending.invariant.held
 
 pub returns-in-Some-clause-assuming : goal.returns-in-Some-clause-assuming
-returns-in-Some-clause-assuming g c = c.settle.ensures.assuming c.args.cube.now c.descending.invariant.assuming
+returns-in-Some-clause-assuming g c = c.propagate_all.ensures.assuming c.args.cube.now c.descending.invariant.assuming
 
 pub returns-in-Some-clause-clauses : goal.returns-in-Some-clause-clauses
-returns-in-Some-clause-clauses g c = same_trans c.args.self.now.arena c.descending.self.arena c.settle.new.self.arena c.descending.invariant.clauses c.settle.ensures.clauses
+returns-in-Some-clause-clauses g c = same_trans c.args.self.now.arena c.descending.self.arena c.propagate_all.new.self.arena c.descending.invariant.clauses c.propagate_all.ensures.clauses
 
 pub returns-in-Fails-clause-assuming : goal.returns-in-Fails-clause-assuming
-returns-in-Fails-clause-assuming g c = c.settle.ensures.assuming c.args.cube.now c.descending.invariant.assuming
+returns-in-Fails-clause-assuming g c = c.propagate_all.ensures.assuming c.args.cube.now c.descending.invariant.assuming
 
 pub returns-in-Fails-clause-clauses : goal.returns-in-Fails-clause-clauses
-returns-in-Fails-clause-clauses g c = same_trans c.args.self.now.arena c.descending.self.arena c.settle.new.self.arena c.descending.invariant.clauses c.settle.ensures.clauses
+returns-in-Fails-clause-clauses g c = same_trans c.args.self.now.arena c.descending.self.arena c.propagate_all.new.self.arena c.descending.invariant.clauses c.propagate_all.ensures.clauses
 
 pub returns-in-Done-clause-assuming : goal.returns-in-Done-clause-assuming
-returns-in-Done-clause-assuming g c = c.settle.ensures.assuming c.args.cube.now c.descending.invariant.assuming
+returns-in-Done-clause-assuming g c = c.propagate_all.ensures.assuming c.args.cube.now c.descending.invariant.assuming
 
 pub returns-in-Done-clause-clauses : goal.returns-in-Done-clause-clauses
-returns-in-Done-clause-clauses g c = same_trans c.args.self.now.arena c.descending.self.arena c.settle.new.self.arena c.descending.invariant.clauses c.settle.ensures.clauses
+returns-in-Done-clause-clauses g c = same_trans c.args.self.now.arena c.descending.self.arena c.propagate_all.new.self.arena c.descending.invariant.clauses c.propagate_all.ensures.clauses
 
 pub descending-preserved-in-Assume : goal.descending-preserved-in-Assume
 descending-preserved-in-Assume g c =
     let e = c.open_level.ensures.entry in
-    let s = c.settle.new.self in
-    let a = c.settle.ensures.assuming c.args.cube.now c.descending.invariant.assuming in
+    let s = c.propagate_all.new.self in
+    let a = c.propagate_all.ensures.assuming c.args.cube.now c.descending.invariant.assuming in
     record {
       steady = record {
         ready = c.open_level.ensures.ready;
@@ -49,16 +49,16 @@ descending-preserved-in-Assume g c =
       };
       assuming = subst (IsAssuming c.args.cube.now c.open_level.new.trail.entries) (sym (c.max-self.ensures ∙ ap (max s.assumed) c.level.ensures.present))
           (assuming_assumed c.args.cube.now s.trail.entries c.open_level.new.trail.entries e.0 s.assumed e.1 (subst (Contains c.args.cube.now) (sym e.2) c.in-Assume.ensures.next.0) e.3 a);
-      clauses = same_trans c.args.self.now.arena c.descending.self.arena s.arena c.descending.invariant.clauses c.settle.ensures.clauses;
-      vars = c.open_level.ensures.vars ∙ c.settle.ensures.vars ∙ c.descending.invariant.vars;
+      clauses = same_trans c.args.self.now.arena c.descending.self.arena s.arena c.descending.invariant.clauses c.propagate_all.ensures.clauses;
+      vars = c.open_level.ensures.vars ∙ c.propagate_all.ensures.vars ∙ c.descending.invariant.vars;
       held = held_grows c.pick.new.held c.args.cube.now s.trail.entries c.open_level.new.trail.entries (e.0 ∷ []) e.1 c.pick.ensures.held;
     }
 
 pub descending-preserved : goal.descending-preserved
 descending-preserved g c =
     let e = c.open_level-in-Decide.ensures.entry in
-    let s = c.settle.new.self in
-    let a = c.settle.ensures.assuming c.args.cube.now c.descending.invariant.assuming in
+    let s = c.propagate_all.new.self in
+    let a = c.propagate_all.ensures.assuming c.args.cube.now c.descending.invariant.assuming in
     record {
       steady = record {
         ready = c.open_level-in-Decide.ensures.ready;
@@ -68,7 +68,7 @@ descending-preserved g c =
       };
       assuming = subst (IsAssuming c.args.cube.now c.open_level-in-Decide.new.trail.entries) (sym (c.min-self.ensures ∙ ap (λ (n : ℕ). min n s.assumed) c.level-level.ensures.present))
           (assuming_decided c.args.cube.now s.trail.entries c.open_level-in-Decide.new.trail.entries e.0 s.assumed e.1 c.in-Decide.ensures.next.0 e.3 a);
-      clauses = same_trans c.args.self.now.arena c.descending.self.arena s.arena c.descending.invariant.clauses c.settle.ensures.clauses;
-      vars = c.open_level-in-Decide.ensures.vars ∙ c.settle.ensures.vars ∙ c.descending.invariant.vars;
+      clauses = same_trans c.args.self.now.arena c.descending.self.arena s.arena c.descending.invariant.clauses c.propagate_all.ensures.clauses;
+      vars = c.open_level-in-Decide.ensures.vars ∙ c.propagate_all.ensures.vars ∙ c.descending.invariant.vars;
       held = held_grows c.pick.new.held c.args.cube.now s.trail.entries c.open_level-in-Decide.new.trail.entries (e.0 ∷ []) e.1 c.pick.ensures.held;
     }

@@ -1,6 +1,6 @@
 use Rattle.std.proofs.Common.{ap}
 use Rattle.watches.specs.Trails.{TrailValue}
-use Rattle.cube_solve.proofs.AssumingLemmas.{assuming_begins}
+use Rattle.cube_solve.proofs.AssumptionLemmas.{assuming_begins}
 use Rattle.cube_solve.proofs.state.State.new.Goals as goal
 
 pub returns-clause-assuming : goal.returns-clause-assuming

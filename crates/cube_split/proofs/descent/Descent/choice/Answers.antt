@@ -1,4 +1,4 @@
-use Rattle.cube_split.specs.inner.Walking.{from_start, widened}
+use Rattle.cube_split.specs.inner.WalkInvariant.{from_start, widened}
 use Rattle.cube_split.proofs.DescentLemmas.{defined_at, plain_at}
 use Rattle.cube_split.proofs.descent.Descent.choice.Goals as goal
 

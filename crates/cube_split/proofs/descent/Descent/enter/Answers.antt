@@ -1,5 +1,5 @@
 use Rattle.std.proofs.Common.{arith, refl, ◌∷◌, ◌++◌, [], length-append}
-use Rattle.cube_split.specs.inner.Walking.{from_start, widened}
+use Rattle.cube_split.specs.inner.WalkInvariant.{from_start, widened}
 use Rattle.cube_split.proofs.DescentLemmas.{IsOf, formed_at, goes_alone, goes_on}
 use Rattle.cube_split.proofs.descent.Descent.enter.Goals as goal
 

@@ -1,6 +1,6 @@
 use Rattle.std.proofs.Common.{arith, ◌∷◌, ◌++◌, []}
 use Rattle.dimacs.specs.logic.Literal.{var_of}
-use Rattle.cube_split.specs.inner.Walking.{from_start, widened}
+use Rattle.cube_split.specs.inner.WalkInvariant.{from_start, widened}
 use Rattle.cube_split.proofs.ChosenLemmas.{chosen_within}
 use Rattle.cube_split.proofs.DescentLemmas.{HasLeft, IsOf, behind_pair, formed_at, free_at, goes_back, left_alone, left_pair}
 use Rattle.cube_split.proofs.TrailLemmas.{variable_free}

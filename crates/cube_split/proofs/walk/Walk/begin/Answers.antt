@@ -3,7 +3,7 @@ use Rattle.std.specs.Vec.{with_items}
 use Rattle.std.proofs.lemmas.List.{with_items_is}
 use Rattle.dimacs.specs.logic.Literal.{has}
 use Rattle.cube_split.specs.inner.Marks.{AreMarked}
-use Rattle.cube_split.specs.inner.Walking.{from_start}
+use Rattle.cube_split.specs.inner.WalkInvariant.{from_start}
 use Rattle.cube_split.specs.declared.pair.Pair.{Pair}
 use Rattle.cube_split.proofs.WalkLemmas.{begins}
 use Rattle.cube_split.proofs.walk.Walk.begin.Goals as goal

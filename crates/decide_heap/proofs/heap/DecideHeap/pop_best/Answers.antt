@@ -9,5 +9,5 @@ returns-then-self-eq0-clause-empty c = rw (← c.self.view_is) (λ v above. none
 pub returns-clause-best : goal.returns-clause-best
 returns-clause-best c =
     let t = tables_of c.self.inside.rows in
-    let is : c.new.result ≡ get_or t.heap 0 0 + 1 = c.new.ensures ∙ ap (λ n. n + 1) c.take_first-best.ensures.first in
+    let is : c.new.result ≡ get_or t.heap 0 0 + 1 = c.new.ensures ∙ ap (λ n. n + 1) c.pop_first-best.ensures.first in
     rw (← c.self.view_is) (first_of_heap t c.new.result c.self.invariant (omega (arith, c.if-self-eq0.false)) is)

@@ -21,15 +21,17 @@ returns-then-number-self c = λ word e.
     let vars = ap (λ (s : BodyState). s.vars) c.self.view_is in
     rw c.at-then-number-self.ensures (inr (token_above c.args.line word c.args.self.now c.in-Some.number (sym e ∙ c.in-Some.is) (leb-false _ _ (sym c.is_full.ensures ∙ c.if-is_full.false)) (omega arith) (omega (arith, vars))))
 
-pub returns-then-literals-ge50000000 : goal.returns-then-literals-ge50000000
-returns-then-literals-ge50000000 c = λ word e.
+pub returns-then-literals-self : goal.returns-then-literals-self
+returns-then-literals-self c = λ word e.
     let vars = ap (λ (s : BodyState). s.vars) c.self.view_is in
     let total = ap (λ (s : BodyState). s.total) c.self.view_is in
-    rw c.at-then-literals-ge50000000.ensures (inr (token_many c.args.line word c.args.self.now c.in-Some.number (sym e ∙ c.in-Some.is) (leb-false _ _ (sym c.is_full.ensures ∙ c.if-is_full.false)) (omega arith) (omega (arith, vars)) (omega (arith, vars, c.self.invariant.0)) (omega (arith, total))))
+    let limit = ap (λ (s : BodyState). s.limit) c.self.view_is in
+    rw c.at-then-literals-self.ensures (inr (token_many c.args.line word c.args.self.now c.in-Some.number (sym e ∙ c.in-Some.is) (leb-false _ _ (sym c.is_full.ensures ∙ c.if-is_full.false)) (omega arith) (omega (arith, vars)) (omega (arith, vars, c.self.invariant.0)) (omega (arith, total, limit))))
 
 pub returns : goal.returns
 returns c = λ word e.
     let vars = ap (λ (s : BodyState). s.vars) c.self.view_is in
     let total = ap (λ (s : BodyState). s.total) c.self.view_is in
-    token_push c.args.line word c.args.self.now c.in-Some.number (sym e ∙ c.in-Some.is) c.literal.result (leb-false _ _ (sym c.is_full.ensures ∙ c.if-is_full.false)) (omega arith) (omega (arith, vars)) (omega (arith, vars, c.self.invariant.0)) (omega (arith, total)) c.literal.ensures
+    let limit = ap (λ (s : BodyState). s.limit) c.self.view_is in
+    token_push c.args.line word c.args.self.now c.in-Some.number (sym e ∙ c.in-Some.is) c.literal.result (leb-false _ _ (sym c.is_full.ensures ∙ c.if-is_full.false)) (omega arith) (omega (arith, vars)) (omega (arith, vars, c.self.invariant.0)) (omega (arith, total, limit)) c.literal.ensures
     ∙ ap Ok (sym c.in_ok-push.ensures)

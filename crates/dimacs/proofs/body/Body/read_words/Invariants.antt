@@ -1,6 +1,6 @@
 use Rattle.std.proofs.Common.{◌≡◌, length}
 use Rattle.dimacs.specs.text.Words.{words}
-use Rattle.dimacs.specs.text.Reading.{format}
+use Rattle.dimacs.specs.text.Parser.{format}
 use Rattle.dimacs.specs.text.Rows.{read_words}
 use Rattle.dimacs.proofs.body.Body.read_words.Given as goal
 

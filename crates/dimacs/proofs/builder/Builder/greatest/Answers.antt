@@ -1,5 +1,5 @@
 use Rattle.std.proofs.Common.{ap, max, ◌∙◌}
-use Rattle.dimacs.specs.layout.Building.{Building}
+use Rattle.dimacs.specs.layout.BuilderState.{BuilderState}
 use Rattle.dimacs.specs.logic.Cnf.{greatest_of, greatest_in}
 use Rattle.dimacs.specs.logic.Literal.{IsWithin}
 use Rattle.dimacs.proofs.BuilderLemmas.{greatest_is}
@@ -10,7 +10,7 @@ pub returns-clause-value : goal.returns-clause-value
 returns-clause-value c =
     let b = c.self.inside in
     greatest_is b.literals.items b.places.items b.greatest c.self.invariant
-    ∙ ap (λ (s : Building). max (greatest_in s.done) (greatest_of s.open_clause)) c.self.view_is
+    ∙ ap (λ (s : BuilderState). max (greatest_in s.done) (greatest_of s.open_clause)) c.self.view_is
 
 pub returns-clause-within : goal.returns-clause-within
 returns-clause-within c =

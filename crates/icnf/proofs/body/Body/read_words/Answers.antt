@@ -1,7 +1,7 @@
 use Rattle.std.proofs.Common.{◌∙◌, sym}
 use Rattle.std.proofs.lemmas.Result.{err_from_is_err_and}
 use Rattle.dimacs.specs.text.Words.{words}
-use Rattle.icnf.specs.Reading.{format, no_memory}
+use Rattle.icnf.specs.Parser.{format, no_memory}
 use Rattle.dimacs.proofs.RowLemmas.{words_more, words_end, words_fails}
 use Rattle.icnf.proofs.body.Body.read_words.Goals as goal
 

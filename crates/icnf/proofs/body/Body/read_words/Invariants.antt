@@ -1,6 +1,6 @@
 use Rattle.std.proofs.Common.{◌≡◌, length}
 use Rattle.dimacs.specs.text.Words.{words}
-use Rattle.icnf.specs.Reading.{format}
+use Rattle.icnf.specs.Parser.{format}
 use Rattle.dimacs.specs.text.Rows.{read_words}
 use Rattle.icnf.proofs.body.Body.read_words.Given as goal
 

@@ -2,7 +2,7 @@ use Rattle.std.proofs.Common.{◌∙◌, sym}
 use Rattle.std.proofs.lemmas.Result.{err_from_is_err_and}
 use Rattle.dimacs.specs.text.Words.{words}
 use Rattle.dimacs.proofs.RowLemmas.{words_more, words_end, words_fails}
-use Rattle.icnf.specs.Reading.{no_memory}
+use Rattle.icnf.specs.Parser.{no_memory}
 use Rattle.icnf.specs.inner.TreeBody.{format}
 use Rattle.icnf.proofs.tree_body.TreeBody.read_words.Goals as goal
 

@@ -1,5 +1,5 @@
 use Rattle.std.proofs.Common.{refl, sym}
-use Rattle.leaves.specs.declared.join.Reading.TheVariants.{Begun, Refused}
+use Rattle.leaves.specs.declared.join.FileState.TheVariants.{Begun, Refused}
 use Rattle.leaves.proofs.JoinLemmas.{holds_read, kind_as, no_length, no_piece, not_nothing, opened_as, read_as, refused_more_bytes, some_length}
 use Rattle.leaves.proofs.join.Join.feed.Goals as goal
 

@@ -1,4 +1,4 @@
-use Rattle.leaves.specs.declared.join.Reading.TheVariants.{Begun}
+use Rattle.leaves.specs.declared.join.FileState.TheVariants.{Begun}
 use Rattle.leaves.proofs.JoinLemmas.{opens_answer, opens_log, read_as}
 use Rattle.leaves.proofs.join.Join.open.Goals as goal
 

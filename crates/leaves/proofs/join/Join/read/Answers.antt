@@ -1,6 +1,6 @@
 use Rattle.std.proofs.Common.{◌++◌, refl, sym}
 use Rattle.leaves.proofs.LineLemmas.{on_ok}
-use Rattle.leaves.specs.declared.join.Reading.TheVariants.{Log}
+use Rattle.leaves.specs.declared.join.FileState.TheVariants.{Log}
 use Rattle.leaves.proofs.JoinLemmas.{log_feeds, read_as, stops_kind, stops_standing}
 use Rattle.leaves.proofs.join.Join.read.Goals as goal
 

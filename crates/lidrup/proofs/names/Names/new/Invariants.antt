@@ -1,6 +1,6 @@
 use Rattle.std.proofs.Common.{◌≡◌, ℕ, None}
 use Rattle.std.specs.Prelude.{vec_len}
-use Rattle.lidrup.specs.Naming.{name_in_maps}
+use Rattle.lidrup.specs.NameMaps.{name_in_maps}
 use Rattle.lidrup.proofs.names.Names.new.Given as goal
 
 abbrev pub invariant-loop-i : goal.invariant-loop-i

@@ -1,4 +1,4 @@
-use Rattle.links.proofs.ObservedLemmas.{same_everywhere}
+use Rattle.links.proofs.CountLemmas.{same_everywhere}
 use Rattle.links.proofs.counted.Counted.new.Goals as goal
 
 pub returns-clause-refused : goal.returns-clause-refused

@@ -1,6 +1,6 @@
 use Rattle.std.proofs.Common.{List, subst}
 use Rattle.dimacs.specs.logic.Literal.{Literal}
-use Rattle.lrat_check.specs.inner.Table.{FitsTable}
+use Rattle.lrat_check.specs.inner.LiteralTable.{FitsTable}
 use Rattle.lrat_check.proofs.live.LiveClauses.of_parts.Goals as goal
 
 pub invariant_of-result : goal.invariant_of-result

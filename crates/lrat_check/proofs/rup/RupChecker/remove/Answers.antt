@@ -1,7 +1,7 @@
 use Rattle.std.proofs.Common.{sym, subst}
 use Rattle.std.specs.Vec.{vec_len}
 use Rattle.dimacs.specs.logic.ClauseMap.{ClauseMap}
-use Rattle.lrat_check.specs.inner.Table.{AllFit}
+use Rattle.lrat_check.specs.inner.LiteralTable.{AllFit}
 use Rattle.lrat_check.proofs.Tables.{AllFit-remove}
 use Rattle.lrat_check.proofs.rup.RupChecker.remove.Goals as goal
 

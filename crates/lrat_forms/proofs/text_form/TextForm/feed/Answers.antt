@@ -1,7 +1,7 @@
 use Rattle.std.proofs.Common.{◌≡◌, ◌∷◌, [], ◌++◌, List, ℕ, sym, ap, subst, ◌∙◌}
 use Rattle.lrat_forms.specs.Pieces.{Gives, given_at}
 use Rattle.lrat_forms.specs.declared.text_form.Stage.{Stage}
-use Rattle.lrat_forms.specs.inner.Reading.{ReadsAt}
+use Rattle.lrat_forms.specs.inner.BinaryPiece.{ReadsAt}
 use Rattle.lrat_forms.proofs.FormLemmas.{Fed, fed, fed_none, first_is, nothing_first}
 use Rattle.lrat_forms.proofs.text_form.TextForm.feed.Goals as goal
 

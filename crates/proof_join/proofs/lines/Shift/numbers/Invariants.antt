@@ -1,5 +1,5 @@
 use Rattle.std.proofs.Common.{◌≡◌, map, take}
-use Rattle.proof_join.specs.Numbering.{behind}
+use Rattle.proof_join.specs.RenumberedSteps.{behind}
 use Rattle.proof_join.proofs.lines.Shift.numbers.Given as goal
 
 abbrev pub invariant-loop-number : goal.invariant-loop-number

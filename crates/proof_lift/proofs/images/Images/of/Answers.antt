@@ -1,5 +1,5 @@
 use Rattle.std.proofs.Common.{◌+◌, ap}
-use Rattle.proof_lift.proofs.StandLemmas.{all_stand}
+use Rattle.proof_lift.proofs.ImageLemmas.{all_stand}
 use Rattle.proof_lift.proofs.images.Images.of.Goals as goal
 
 pub returns-clause-stands : goal.returns-clause-stands

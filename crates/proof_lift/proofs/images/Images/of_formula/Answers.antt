@@ -1,6 +1,6 @@
 use Rattle.proof_lift.specs.View.{lemmas_of}
 use Rattle.std.proofs.Common.{◌<◌, subst}
-use Rattle.proof_lift.proofs.StandLemmas.{formula_stands}
+use Rattle.proof_lift.proofs.ImageLemmas.{formula_stands}
 use Rattle.proof_lift.proofs.images.Images.of_formula.Goals as goal
 
 pub returns : goal.returns

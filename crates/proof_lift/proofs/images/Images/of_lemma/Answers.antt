@@ -1,5 +1,5 @@
 use Rattle.std.proofs.Common.{◌∙◌}
-use Rattle.proof_lift.proofs.StandLemmas.{lemma_behind}
+use Rattle.proof_lift.proofs.ImageLemmas.{lemma_behind}
 use Rattle.proof_lift.proofs.images.Images.of_lemma.Goals as goal
 
 pub returns : goal.returns

@@ -1,5 +1,5 @@
 use Rattle.std.proofs.Common.{None, arith}
-use Rattle.proof_lift.proofs.StandLemmas.{lemma_changed}
+use Rattle.proof_lift.proofs.ImageLemmas.{lemma_changed}
 use Rattle.proof_lift.proofs.images.Images.remove.Goals as goal
 
 pub returns-else-number-len-clause-after : goal.returns-else-number-len-clause-after

@@ -3,13 +3,13 @@ use Rattle.std.specs.FinMap.{get, get-insert}
 use Rattle.std.specs.Cmp.{nat_cmp_total}
 use Rattle.dimacs.specs.logic.ClauseMap.{ClauseMap}
 use Rattle.receipts.specs.Coverage.{absurdity}
-use Rattle.receipts.proofs.CoversLemmas.{none_agree}
+use Rattle.receipts.proofs.CoverageStepLemmas.{none_agree}
 use Rattle.receipts.proofs.coverage.Coverage.of.Goals as goal
 
 pub invariant_of-result : goal.invariant_of-result
 invariant_of-result c = record {
   none = c.new-2.ensures;
-  absurd = ap (λ (M : ClauseMap). get M 1) c.in_ok-put.ensures.ok ∙ get-insert nat_cmp_total c.in_ok-pairs.pairs 1 [] 1;
+  absurd = ap (λ (M : ClauseMap). get M 1) c.in_ok-put.ensures.ok ∙ get-insert nat_cmp_total c.in_ok-tautology_checker.tautology_checker 1 [] 1;
 }
 
 pub returns : goal.returns

@@ -3,13 +3,13 @@ use Rattle.dimacs.specs.logic.Rat.{Group}
 use Rattle.lrat_text.specs.declared.step.Step.TheVariants.{Add}
 use Rattle.receipts.specs.Coverage.{absurdity}
 use Rattle.receipts.proofs.CoverageLemmas.{line_for}
-use Rattle.receipts.proofs.CoversLemmas.{TakesLine, many_line, many_settle, put_covers, put_told, put_within}
+use Rattle.receipts.proofs.CoverageStepLemmas.{TakesLine, many_line, many_settle, put_covers, put_told, put_within}
 use Rattle.receipts.proofs.coverage.Coverage.put.Goals as goal
 
 pub returns-in-Err-clause-many : goal.returns-in-Err-clause-many
 returns-in-Err-clause-many c = λ e cubes clauses h.
     many_line cubes clauses c.args.clause.now c.args.self.now h c.begin.new.self c.args.self.now.groups
-    (c.begin.ensures absurdity cubes h.logs h.written h.between) c.requires.small c.args.self.now.none (c.in-Err.ensures.long (c.refused.ensures e))
+    (c.begin.ensures absurdity cubes h.logs h.written h.between) c.requires.small c.args.self.now.none (c.in-Err.ensures.long (c.cover_fault.ensures e))
 
 pub returns-in-Err-settle-clause-many : goal.returns-in-Err-settle-clause-many
 returns-in-Err-settle-clause-many c = λ e cubes clauses h.
@@ -17,7 +17,7 @@ returns-in-Err-settle-clause-many c = λ e cubes clauses h.
     subst (λ (gs : List Group). TakesLine c.begin.new.self c.line.new.self (Add 2 c.args.clause.now (1 ∷ []) gs) c.in-Ok.ensures.line.0) c.args.self.now.none c.in-Ok.ensures.line.2 in
     many_settle cubes clauses c.args.clause.now c.args.self.now h c.line.new.self _
     (put_within cubes clauses c.args.clause.now c.requires.no_pair c.args.self.now h c.begin.new.self c.line.new.self c.in-Ok.ensures.line.0 c.begin.ensures takes)
-    (c.in-Err-settle.ensures.long (c.refused-in-Err-settle.ensures e))
+    (c.in-Err-settle.ensures.long (c.cover_fault-in-Err-settle.ensures e))
 
 pub returns-clause-covers : goal.returns-clause-covers
 returns-clause-covers c = λ cubes clauses h.

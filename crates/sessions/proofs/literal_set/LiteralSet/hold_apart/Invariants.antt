@@ -1,6 +1,6 @@
 use Rattle.std.proofs.Common.{◌≡◌, take, false}
 use Rattle.dimacs.specs.logic.Literal.{has}
-use Rattle.lrat_check.specs.Faults.{is_tautology}
+use Rattle.lrat_check.specs.StepFaults.{is_tautology}
 use Rattle.sessions.specs.inner.Sets.{set_in}
 use Rattle.sessions.proofs.literal_set.LiteralSet.hold_apart.Given as goal
 

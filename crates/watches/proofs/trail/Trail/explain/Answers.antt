@@ -2,7 +2,7 @@ use Rattle.std.proofs.Common.{◌≡◌, ℕ, ◌<◌, List, length, get_or, set
 use Rattle.dimacs.specs.logic.Literal.{Literal}
 use Rattle.watches.specs.declared.trail.Assigned.{Assigned}
 use Rattle.watches.specs.Law.{IsExplained}
-use Rattle.watches.specs.inner.AlikeLaws.{explained_alike}
+use Rattle.watches.specs.inner.ReasonLaws.{explained_alike}
 use Rattle.watches.specs.Trails.{TrailValue}
 use Rattle.watches.proofs.ExplainLemmas.{explained_at, trail_alike}
 use Rattle.watches.proofs.trail.Trail.explain.Goals as goal

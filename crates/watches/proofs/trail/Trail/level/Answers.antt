@@ -1,7 +1,7 @@
 use Rattle.std.proofs.Common.{List, ◌≡◌, ◌≤◌, ◌<◌, ◌-◌, ap, sym, subst, arith, length, get_or, ◌∙◌}
 use Rattle.std.proofs.lemmas.Option.{get_or_from_slice_get}
 use Rattle.watches.specs.declared.trail.Assigned.{Assigned}
-use Rattle.watches.proofs.Present.{level_some, level_none}
+use Rattle.watches.proofs.LevelLemmas.{level_some, level_none}
 use Rattle.std.specs.List.{slice_get}
 use Rattle.watches.specs.Trails.{present}
 use Rattle.watches.proofs.trail.Trail.level.Goals as goal

@@ -3,7 +3,7 @@ use Rattle.std.proofs.lemmas.List.{get_or-replicate}
 use Rattle.dimacs.specs.logic.Literal.{index_of}
 use Rattle.dimacs.proofs.LiteralLemmas.{index_below}
 use Rattle.watches.specs.declared.truth.Truth.TheVariants.{Free}
-use Rattle.watches.specs.inner.Tables.{truth_of}
+use Rattle.watches.specs.inner.TrailTables.{truth_of}
 use Rattle.watches.proofs.TrailLemmas.{distinct_nil}
 use Rattle.watches.proofs.trail.Trail.new.Goals as goal
 

@@ -3,7 +3,7 @@ use Rattle.std.specs.Option.{option_to_list}
 use Rattle.std.proofs.lemmas.List.{length-set}
 use Rattle.dimacs.specs.logic.Literal.{IsWithin, negation, index_of}
 use Rattle.watches.specs.declared.truth.Truth.TheVariants.{Free}
-use Rattle.watches.specs.inner.Tables.{truth_of}
+use Rattle.watches.specs.inner.TrailTables.{truth_of}
 use Rattle.watches.proofs.TrailLemmas.{agrees_pop, apart_pop, rising_front, found_front, all_front, all_last}
 use Rattle.watches.proofs.trail.Trail.pop.Goals as goal
 

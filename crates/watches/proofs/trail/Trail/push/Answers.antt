@@ -6,7 +6,7 @@ use Rattle.dimacs.specs.logic.Literal.{IsWithin, negation, var_of, index_of}
 use Rattle.watches.specs.declared.trail.Assigned.{Assigned}
 use Rattle.watches.specs.declared.truth.Truth.TheVariants.{Free, True, False}
 use Rattle.watches.specs.Trails.{holds}
-use Rattle.watches.specs.inner.Tables.{truth_of}
+use Rattle.watches.specs.inner.TrailTables.{truth_of}
 use Rattle.watches.proofs.TrailLemmas.{room, agrees_push, apart_push, rising_push, found_push}
 use Rattle.watches.proofs.trail.Trail.push.Goals as goal
 

@@ -4,7 +4,7 @@ use Rattle.dimacs.specs.logic.Literal.{IsWithin, index_of}
 use Rattle.dimacs.proofs.LiteralLemmas.{index_below}
 use Rattle.watches.specs.declared.truth.Truth.TheVariants.{Free}
 use Rattle.watches.specs.Trails.{IsTruth}
-use Rattle.watches.specs.inner.Tables.{truth_of}
+use Rattle.watches.specs.inner.TrailTables.{truth_of}
 use Rattle.watches.proofs.TrailLemmas.{reads}
 use Rattle.watches.proofs.trail.Trail.value.Goals as goal
 

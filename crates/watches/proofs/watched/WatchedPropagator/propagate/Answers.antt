@@ -3,40 +3,40 @@ use Rattle.std.specs.List.{All}
 use Rattle.std.specs.Option.{IfSome, IfNone}
 use Rattle.clause_arena.specs.declared.reference.Ref.{Ref}
 use Rattle.clause_arena.specs.Clauses.{live_of}
-use Rattle.watches.specs.Law.{Grows, IsConflict, IsQuiet, live_among}
-use Rattle.watches.specs.Scanning.{numbers}
-use Rattle.watches.specs.inner.Scanning.{IsHere}
-use Rattle.watches.specs.inner.Watching.{watches_of, AreWatching}
-use Rattle.watches.specs.Ready.{Watches, attached_of}
+use Rattle.watches.specs.Law.{Grows, IsConflict, IsFixpoint, live_among}
+use Rattle.watches.specs.ClauseNumbers.{numbers}
+use Rattle.watches.specs.inner.LiveClauses.{IsLiveWithin}
+use Rattle.watches.specs.inner.WatchInvariants.{watches_of, AreWatching}
+use Rattle.watches.specs.Watches.{Watches, attached_of}
 use Rattle.watches.specs.inner.Ready.{AreNamed}
 use Rattle.watches.proofs.DetachLemmas.{all_attached}
 use Rattle.watches.proofs.watched.WatchedPropagator.propagate.Goals as goal
 
 -- what the clauses are, and are called
-clauses_then : (c : goal.After-propagate) → c.propagate.new.self.clauses.items ≡ c.renew.new.self.clauses.items
+clauses_then : (c : goal.After-propagate) → c.propagate.new.self.clauses.items ≡ c.rebuild.new.self.clauses.items
 clauses_then c = ap (λ (W : Watches). W.clauses) c.propagate.ensures.propagated.rest
 
-was : (c : goal.After-propagate) → attached_of c.self.inside.chains.clauses.items c.self.inside.live.items ≡ c.args.self.now.clauses
+was : (c : goal.After-propagate) → attached_of c.self.inside.lists.clauses.items c.self.inside.live.items ≡ c.args.self.now.clauses
 was c = ap (λ (W : Watches). W.clauses) c.self.view_is
 
-all : (c : goal.After-propagate) → attached_of c.propagate.new.self.clauses.items c.renew.new.live.items ≡ c.propagate.new.self.clauses.items
-all c = all_attached c.propagate.new.self.clauses.items c.renew.new.live.items (c.renew.ensures.marked ∙ ap length (sym (clauses_then c))) c.renew.ensures.live
+all : (c : goal.After-propagate) → attached_of c.propagate.new.self.clauses.items c.rebuild.new.live.items ≡ c.propagate.new.self.clauses.items
+all c = all_attached c.propagate.new.self.clauses.items c.rebuild.new.live.items (c.rebuild.ensures.marked ∙ ap length (sym (clauses_then c))) c.rebuild.ensures.live
 
-attached : (c : goal.After-propagate) → numbers c.renew.new.self.clauses.items ≡ numbers c.args.self.now.clauses
-attached c = ap numbers (c.renew.ensures.clauses ∙ was c)
+attached : (c : goal.After-propagate) → numbers c.rebuild.new.self.clauses.items ≡ numbers c.args.self.now.clauses
+attached c = ap numbers (c.rebuild.ensures.clauses ∙ was c)
 
-pub renew-requires-clause-here : goal.renew-requires-clause-here
-renew-requires-clause-here c = subst (All (IsHere c.args.arena.now c.args.trail.now.vars)) (sym (ap (λ (W : Watches). W.clauses) c.self.view_is)) c.requires.here
+pub rebuild-requires-clause-here : goal.rebuild-requires-clause-here
+rebuild-requires-clause-here c = subst (All (IsLiveWithin c.args.arena.now c.args.trail.now.vars)) (sym (ap (λ (W : Watches). W.clauses) c.self.view_is)) c.requires.here
 
 pub propagate-requires-clause-few : goal.propagate-requires-clause-few
-propagate-requires-clause-few c = omega (arith, c.renew.ensures.no_more, c.self.invariant.few)
+propagate-requires-clause-few c = omega (arith, c.rebuild.ensures.no_more, c.self.invariant.few)
 
 pub invariant_of-self : goal.invariant_of-self
 invariant_of-self c =
     let h = c.self.invariant in
-    let r = c.renew.ensures in
+    let r = c.rebuild.ensures in
     let p = c.propagate.ensures.propagated in
-    let base : c.self.inside.chains.base ≡ c.propagate.new.self.base = sym (ap (λ (W : Watches). W.base) p.rest ∙ r.base) in
+    let base : c.self.inside.lists.base ≡ c.propagate.new.self.base = sym (ap (λ (W : Watches). W.base) p.rest ∙ r.base) in
     record {
       whole = omega (arith, p.long, ap length (clauses_then c), base, r.base, r.whole);
       few = omega (arith, p.long, r.no_more, h.few);
@@ -73,4 +73,4 @@ returns-clause-conflict c =
 pub returns-clause-quiet : goal.returns-clause-quiet
 returns-clause-quiet c =
     let new = c.propagate.new in
-    subst (λ (ns : List ℕ). IfNone c.propagate.result (IsQuiet (live_among ns (live_of new.arena)) new.trail.entries)) (ap numbers (clauses_then c) ∙ attached c) c.propagate.ensures.quiet
+    subst (λ (ns : List ℕ). IfNone c.propagate.result (IsFixpoint (live_among ns (live_of new.arena)) new.trail.entries)) (ap numbers (clauses_then c) ∙ attached c) c.propagate.ensures.quiet

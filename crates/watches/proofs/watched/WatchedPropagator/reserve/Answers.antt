@@ -1,9 +1,9 @@
 use Rattle.std.proofs.Common.{◌≡◌, ℕ, ◌+◌, ◌*◌, List, [], length, sym, ap, subst, arith}
 use Rattle.std.specs.List.{All}
 use Rattle.clause_arena.specs.declared.reference.Ref.{Ref}
-use Rattle.watches.specs.inner.Scanning.{IsHere}
-use Rattle.watches.specs.inner.Watching.{AreWatching, fresh_watches}
-use Rattle.watches.specs.Ready.{attached_of}
+use Rattle.watches.specs.inner.LiveClauses.{IsLiveWithin}
+use Rattle.watches.specs.inner.WatchInvariants.{AreWatching, fresh_watches}
+use Rattle.watches.specs.Watches.{attached_of}
 use Rattle.watches.proofs.ReadyLemmas.{nothing_watched}
 use Rattle.watches.proofs.watched.WatchedPropagator.reserve.Goals as goal
 
@@ -14,7 +14,7 @@ returns-clause-ready c = λ m t e v.
     let empty = nothing_watched c.put_heads.new.places.items base m t (omega arith) (omega arith) c.put_heads.ensures.long c.put_heads.ensures.ended in
     record {
       wide = omega arith;
-      here = subst (All (IsHere m t.vars)) none (λ i d l. absurd (omega arith));
+      here = subst (All (IsLiveWithin m t.vars)) none (λ i d l. absurd (omega arith));
       watching = λ _. subst (λ (cs : List Ref). AreWatching (fresh_watches c.put_heads.new.places.items cs base 0) m t) none
           (subst (λ (n : ℕ). AreWatching (fresh_watches c.put_heads.new.places.items [] base n) m t) (ap length e) ((λ _. []), empty));
     }

@@ -1,5 +1,5 @@
 use Rattle.std.proofs.Common.{◌≤◌, length, sym, ap, subst, arith}
-use Rattle.watches.specs.Ready.{Watches, attached_of}
+use Rattle.watches.specs.Watches.{Watches, attached_of}
 use Rattle.watches.specs.inner.Ready.{IsReady}
 use Rattle.watches.proofs.ReadyLemmas.{ready_cut}
 use Rattle.watches.proofs.watched.WatchedPropagator.undo.Goals as goal
@@ -7,7 +7,7 @@ use Rattle.watches.proofs.watched.WatchedPropagator.undo.Goals as goal
 pub returns-then-len-self-clause-ready : goal.returns-then-len-self-clause-ready
 returns-then-len-self-clause-ready c = λ m r.
     let i = c.self.inside in
-    let w : Watches = record { places = i.chains.places.items; clauses = attached_of i.chains.clauses.items i.live.items; base = i.chains.base; head = i.chains.head; stale = i.chains.stale } in
+    let w : Watches = record { places = i.lists.places.items; clauses = attached_of i.lists.clauses.items i.live.items; base = i.lists.base; head = i.lists.head; stale = i.lists.stale } in
     let f = c.cut.ensures.front in
     ready_cut w c.len-len.result m c.args.trail.now c.cut.new.self f.0 c.args.level (subst (λ (x : Watches). IsReady x m c.args.trail.now) (sym c.self.view_is) r) c.cut.ensures.vars f.1 c.cut.ensures.kept f.2
     (omega (arith, c.if-len-self.true)) (omega (arith, c.len-len.ensures.value))

@@ -1,5 +1,5 @@
 use Rattle.std.proofs.Common.{◌≡◌, ℕ, ◌<◌, true, false, get_or}
-use Rattle.watches.specs.inner.Watching.{no_clause}
+use Rattle.watches.specs.inner.WatchInvariants.{no_clause}
 use Rattle.watches.proofs.watched.lookup.find_clause.Given as goal
 
 abbrev pub invariant-loop-i : goal.invariant-loop-i

@@ -1,5 +1,0 @@
-mod Places
-mod Polls
-mod Runs
-mod SeatLemmas
-mod SweepLemmas

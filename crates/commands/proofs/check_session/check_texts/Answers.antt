@@ -1,0 +1,18 @@
+use Rattle.commands.specs.inner.Texts.{IsRead, left}
+use Rattle.commands.proofs.TextLemmas.{no_report_read, of_read_ok, read_begun}
+use Rattle.sessions.specs.Reports.{ChecksSession}
+use Rattle.commands.proofs.check_session.check_texts.Goals as goal
+
+pub returns-in-Ok-clause-report : goal.returns-in-Ok-clause-report
+returns-in-Ok-clause-report g c =
+    let e = left g.E.Read.remaining c.args.events in
+    let p = left g.P.Read.remaining c.args.proof in
+    let first = read_begun e p c.in-Ok.check c.in-Ok.ensures.taken c.in-Ok.ensures.events c.in-Ok.ensures.proof in
+    of_read_ok ChecksSession c.check_report.result e p _ _ c.feed.new.check (c.in_ok-feed-in-Ok.ensures.read e p first) c.check_report.ensures.texts
+
+pub returns-in-Ok-clause-refused : goal.returns-in-Ok-clause-refused
+returns-in-Ok-clause-refused g c =
+    let e = left g.E.Read.remaining c.args.events in
+    let p = left g.P.Read.remaining c.args.proof in
+    let first = read_begun e p c.in-Ok.check c.in-Ok.ensures.taken c.in-Ok.ensures.events c.in-Ok.ensures.proof in
+    no_report_read _ c.feed.new.check _ _ e p _ _ (c.in_ok-feed-in-Ok.ensures.read e p first) c.in_ok-feed-in-Ok.ensures.settled c.check_report.ensures.refusal

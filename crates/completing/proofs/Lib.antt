@@ -1,8 +1,0 @@
-pub mod LawLemmas
-pub mod LineLemmas
-pub mod ListLemmas
-pub mod NodeLemmas
-pub mod PartLemmas
-pub mod SpellingLemmas
-pub mod TokenLemmas
-pub mod TreeLemmas

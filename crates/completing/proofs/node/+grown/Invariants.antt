@@ -1,5 +1,0 @@
-use Rattle.std.proofs.Common.{length}
-use Rattle.completing.proofs.node.+grown.Given as goal
-
-abbrev pub decreases-grown : goal.decreases-grown
-decreases-grown l = length l.cube.now

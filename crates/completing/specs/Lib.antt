@@ -1,4 +1,0 @@
-pub mod Completing
-pub mod Parting
-pub mod Reading
-pub mod inner

@@ -1,0 +1,34 @@
+use Rattle.std.proofs.Common.{◌≡◌, ◌==◌, ◌∙◌, sym, ap, subst, get_or, List}
+use Rattle.watches.specs.declared.trail.Assigned.{Assigned}
+use Rattle.conflict_analysis.specs.inner.Seen.{met}
+use Rattle.conflict_analysis.proofs.PassedEntryLemmas.{passed, passes_unmet, passes_present, passes_lower}
+use Rattle.conflict_analysis.proofs.first_uip.TrailWalk.step_past.Goals as goal
+
+pub returns-then-not-has-clause-walk : goal.returns-then-not-has-clause-walk
+returns-then-not-has-clause-walk c =
+    let w = c.args.self.now in
+    let es = c.args.trail.now.entries in
+    let e = c.index-entries-i.result in
+    let is = subst (λ (xs : List Assigned). e ≡ get_or xs c.args.i e) c.entries.ensures.entries c.index-entries-i.is in
+    let unmet = ap (met w.seen) (sym c.var.ensures) ∙ sym c.has.ensures ∙ c.if-not-has.true in
+    passed c.args.trail.now _ w c.args.i w.pending w.rest w.notes c.requires.walk (passes_unmet es c.args.i c.requires.within e is (met w.seen) w.pending w.rest (c.requires.walk).counted unmet)
+
+pub returns-then-self-clause-walk : goal.returns-then-self-clause-walk
+returns-then-self-clause-walk c =
+    let w = c.args.self.now in
+    let es = c.args.trail.now.entries in
+    let e = c.index-entries-i.result in
+    let is = subst (λ (xs : List Assigned). e ≡ get_or xs c.args.i e) c.entries.ensures.entries c.index-entries-i.is in
+    let seen = ap (met w.seen) (sym c.var.ensures) ∙ sym c.has.ensures ∙ c.if-not-has.false in
+    let level = ap (λ p. e.level == p) (sym (c.requires.walk).level) ∙ c.if-self.true in
+    passed c.args.trail.now _ w c.args.i _ w.rest (e.level == w.present) c.requires.walk (passes_present es c.args.i c.requires.within e is (met w.seen) w.pending w.rest (c.requires.walk).counted seen level)
+
+pub returns-else-self-clause-walk : goal.returns-else-self-clause-walk
+returns-else-self-clause-walk c =
+    let w = c.args.self.now in
+    let es = c.args.trail.now.entries in
+    let e = c.index-entries-i.result in
+    let is = subst (λ (xs : List Assigned). e ≡ get_or xs c.args.i e) c.entries.ensures.entries c.index-entries-i.is in
+    let seen = ap (met w.seen) (sym c.var.ensures) ∙ sym c.has.ensures ∙ c.if-not-has.false in
+    let level = ap (λ p. e.level == p) (sym (c.requires.walk).level) ∙ c.if-self.false in
+    passed c.args.trail.now _ w c.args.i w.pending _ (e.level == w.present) c.requires.walk (passes_lower es c.args.i c.requires.within e is (met w.seen) w.pending w.rest (c.requires.walk).counted seen level)

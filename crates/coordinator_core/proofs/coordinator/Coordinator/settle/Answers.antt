@@ -1,7 +1,0 @@
-use Rattle.std.proofs.Common.{refl}
-use Rattle.coordinator_core.specs.Coordinator.{Gathers}
-use Rattle.coordinator_core.proofs.GatherLemmas.{same_job}
-use Rattle.coordinator_core.proofs.coordinator.Coordinator.settle.Goals as goal
-
-pub returns-in-None : goal.returns-in-None
-returns-in-None c = λ j x is. Gathers.waits (c.in-None.ensures j x is) refl (same_job c.args.self.now c.args.worker j x is)

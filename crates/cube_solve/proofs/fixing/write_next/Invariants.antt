@@ -1,5 +1,0 @@
-use Rattle.std.proofs.Common.{vec_len}
-use Rattle.cube_solve.proofs.fixing.write_next.Given as goal
-
-abbrev pub decreases-loop-literal : goal.decreases-loop-literal
-decreases-loop-literal l = vec_len l.wanted

@@ -1,8 +1,0 @@
-use Rattle.std.proofs.Common.{ℕ, ◌<◌, [], get_or}
-use Rattle.dimacs.specs.logic.Literal.{Literal, var_of}
-use Rattle.cube_solve.specs.inner.Units.{IsAlone, IsNoted}
-use Rattle.cube_solve.proofs.units.Units.new.Given as goal
-
--- those of the clauses so far are noted
-abbrev pub invariant-loop-i : goal.invariant-loop-i
-invariant-loop-i l = (k : ℕ) (x : Literal) → k < l.i → IsAlone (get_or l.base.clauses k []) x → IsNoted l.units.numbers.items (var_of x)

@@ -1,0 +1,44 @@
+//! The entry points: solving a base under a cube.
+
+ghost use Rattle.std.specs.Prelude.{◌≡◌, [], map, nat_eq, All, IfOk};
+ghost use Rattle.std.specs.List.{IsDistinct};
+ghost use Rattle.dimacs.specs.logic.Literal.{IsWithin, var_of};
+ghost use Rattle.cube_solve.specs.Outcome.{IsRightOutcome};
+
+use crate::outcome::Outcome;
+use crate::search::Search;
+use dimacs::{Base, Lit};
+use std::alloc::{AllocError, Global};
+use watches::{Propagator, Watched};
+
+/// As [`solve`], with the caller's propagator, which has no clause yet.
+pub fn solve_by<P: Propagator>(
+    alloc: Global,
+    propagator: &mut P,
+    base: &Base,
+    cube: &[Lit],
+    limit: u64,
+) -> Result<Outcome, AllocError>
+    requires none { P.attached propagator.old ≡ [] }
+    requires distinct { IsDistinct nat_eq (map var_of cube.now) }
+    requires within { All (IsWithin base.now.vars) cube.now }
+    ensures { IfOk result (IsRightOutcome base.now cube.now limit) }
+{
+    let search = Search::new(alloc, propagator, base)?;
+    search.run(base, cube, limit)
+}
+
+/// Searches for an assignment that satisfies the base and the cube.
+///
+/// A model has one truth value for each variable. A refutation is a fragment that closes the cube: a log of at most `limit` lemmas, and
+/// then the lemma that closes. At the conflict that would need one lemma more, the search ends with its log. A limit above 2^47 counts
+/// as 2^47. Each lemma except the closing one has no clause as a subset that was live when it was learnt. Over at most six variables, a
+/// limit above three to the power of their number is never reached.
+pub fn solve(alloc: Global, base: &Base, cube: &[Lit], limit: u64) -> Result<Outcome, AllocError>
+    requires distinct { IsDistinct nat_eq (map var_of cube.now) }
+    requires within { All (IsWithin base.now.vars) cube.now }
+    ensures { IfOk result (IsRightOutcome base.now cube.now limit) }
+{
+    let mut watched = Watched::new(alloc);
+    solve_by(alloc, &mut watched, base, cube, limit)
+}

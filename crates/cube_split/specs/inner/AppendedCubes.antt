@@ -1,0 +1,13 @@
+-- Leaves of a subtree by the split rule, appended to others.
+use Rattle.std.specs.Prelude.{◌≡◌, ℕ, List, ◌++◌}
+use Rattle.dimacs.specs.logic.Cnf.{Cnf}
+use Rattle.icnf.specs.Leaves.{Cube}
+use Rattle.cube_split.specs.Definitions.{Opening}
+use Rattle.cube_split.specs.ChoiceWithDefinitions.{Chooses}
+use Rattle.cube_split.specs.SplitTree.{IsSplitBy}
+
+-- `after` is `before` followed by the leaves below a path
+pub record AppendsChosen (F : Cnf) (opening : Opening) (levels : ℕ) (path : Cube) (before after : List Cube) : Type 0 where
+  pub cubes : List Cube
+  pub appended : after ≡ before ++ cubes
+  pub below : IsSplitBy (Chooses F opening) levels path cubes

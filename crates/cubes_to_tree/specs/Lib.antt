@@ -1,0 +1,4 @@
+pub mod Completion
+pub mod Divergence
+pub mod CubeList
+pub mod inner

@@ -1,6 +1,0 @@
-use Rattle.std.proofs.Common.{map}
-use Rattle.lrat_forms.specs.Forms.{text_form}
-use Rattle.either_form.proofs.join.FormJoin.forget.Goals as goal
-
-pub returns-clause-holds : goal.returns-clause-holds
-returns-clause-holds c = λ F cubes files bytes written h. record { text = h.text; given = h.given; holds = c.forget.ensures.holds F cubes (map text_form files) h.text written h.holds }

@@ -1,4 +1,0 @@
-use Rattle.either_form.proofs.join.FormJoin.is_binary.Goals as goal
-
-pub returns : goal.returns
-returns c = λ F cubes files bytes written h uncut. c.is_binary.ensures bytes h.text h.given uncut

@@ -1,0 +1,5 @@
+mod Places
+mod Polls
+mod Runs
+mod RegistrationLemmas
+mod TimeoutLemmas

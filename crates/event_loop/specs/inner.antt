@@ -1,0 +1,7 @@
+-- What only private contracts, invariants and proofs name. Nothing here is to be believed.
+pub mod Deliveries
+pub mod Handshakes
+pub mod Connections
+pub mod Timeouts
+pub mod Rounds
+pub mod Registrations

@@ -1,0 +1,128 @@
+//! Registration of queued workers: no worker is registered at two connections.
+
+ghost use Rattle.std.specs.Prelude.{◌≡◌, ◌≢◌, ◌≤◌, ◌<◌, ◌+◌, ◌*◌, ◌⊎◌, ℕ, None, Ok, OnOk, Some, false, true, length};
+ghost use Rattle.std.specs.List.{list_any};
+ghost use Rattle.event_loop.specs.Accounts.{one_if_open, open_at};
+ghost use Rattle.event_loop.specs.inner.Connections.{AreFresh, IsFresh};
+ghost use Rattle.event_loop.specs.inner.Registrations.{AreApart, NobodyMayRegister, may_register, queued_in, registered_in, is_registered};
+
+use crate::connection::Connection;
+use crate::dispatcher::{Dispatcher, registered, settle};
+use crate::receiver::register;
+use crate::sender::At;
+use frames::WorkerNumber;
+use links::Arrivals;
+use std::alloc::AllocError;
+
+/// Tells whether this worker is registered at the connection of a slot.
+fn is_registered(connection: &Option<Connection>, worker: WorkerNumber) -> bool
+    ensures { result ≡ is_registered worker connection.now }
+{
+    match registered(connection) {
+        Some(other) => other.number() == worker.number(),
+        None => false,
+    }
+}
+
+/// Tells whether this worker is registered at the connection of any slot.
+fn has(slots: &[Option<Connection>], worker: WorkerNumber) -> bool
+    ensures { result ≡ list_any (is_registered worker) slots.now }
+{
+    slots
+        .iter()
+        .any(|connection| is_registered(connection, worker))
+}
+
+/// The worker that is queued at the connection of a slot; `None` if there is no connection or no worker is queued at it.
+fn queued(connection: &Option<Connection>) -> Option<WorkerNumber>
+    ensures { result ≡ queued_in connection.now }
+{
+    match connection {
+        Some(connection) => connection.queued(),
+        None => None,
+    }
+}
+
+/// Tells whether a worker is queued at the connection of the slot `place`, and is registered at none.
+fn may_register(slots: &[Option<Connection>], place: u8) -> bool
+    requires { place < length slots.now }
+    ensures { result ≡ may_register slots.now place }
+{
+    match queued(&slots[place as usize]) {
+        Some(worker) => !has(slots, worker),
+        None => false,
+    }
+}
+
+/// Registers the worker that is queued at the connection of a slot, if it may register, and closes the connection if it is broken. An error
+/// is want of memory.
+fn register_one<A: Arrivals>(
+    links: &mut A,
+    dispatcher: &mut Dispatcher,
+    at: At,
+    may_register: bool,
+    connection: &mut Option<Connection>,
+) -> Result<(), AllocError>
+    ensures formula { dispatcher.new.coordinator.formula ≡ dispatcher.old.coordinator.formula }
+    ensures most { A.call_count links.new ≤ A.call_count links.old + 4038 }
+    ensures rises { A.call_count links.old ≤ A.call_count links.new }
+    ensures arrivals { A.arrival_count links.new ≡ A.arrival_count links.old }
+    ensures over { A.has_ended links.new ≡ A.has_ended links.old }
+    ensures begun { (p : ℕ) → A.link_count links.new p ≡ A.link_count links.old p }
+    ensures here { A.refusal_count links.new at.place + one_if_open connection.new ≤ A.refusal_count links.old at.place + one_if_open connection.old }
+    ensures elsewhere { (p : ℕ) → p ≢ at.place → A.refusal_count links.new p ≤ A.refusal_count links.old p }
+    ensures fresh { IsFresh connection.old → (dispatcher.new.coordinator.verdict ≡ dispatcher.old.coordinator.verdict) × IsFresh connection.new }
+    ensures barred { may_register ≡ false → (connection.new ≡ connection.old) × (dispatcher.new ≡ dispatcher.old) × (result ≡ Ok tt) }
+    ensures owner { (worker : ℕ) → registered_in connection.new ≡ Some worker → (registered_in connection.old ≡ Some worker) ⊎ (queued_in connection.old ≡ Some worker) }
+    ensures waits { OnOk result (may_register ≡ true → queued_in connection.new ≡ None) }
+{
+    if !may_register {
+        return Ok(());
+    }
+    let turn = match connection {
+        None => return Ok(()),
+        Some(connection) => register(
+            links,
+            &mut dispatcher.coordinator,
+            &dispatcher.patience,
+            at,
+            connection,
+        ),
+    };
+    settle(links, dispatcher, at.place, connection, turn)
+}
+
+/// Registers, in the slots 0 to 254 in order, each queued worker that is registered at no connection. An error is want of memory.
+pub(crate) fn register_all<A: Arrivals>(
+    links: &mut A,
+    dispatcher: &mut Dispatcher,
+    tick: u64,
+    slots: &mut [Option<Connection>],
+) -> Result<(), AllocError>
+    ensures formula { dispatcher.new.coordinator.formula ≡ dispatcher.old.coordinator.formula }
+    ensures fresh { AreFresh slots.old → dispatcher.new.coordinator.verdict ≡ dispatcher.old.coordinator.verdict }
+    ensures most { A.call_count links.new ≤ A.call_count links.old + 4038 * 255 }
+    ensures rises { A.call_count links.old ≤ A.call_count links.new }
+    ensures arrivals { A.arrival_count links.new ≡ A.arrival_count links.old }
+    ensures over { A.has_ended links.new ≡ A.has_ended links.old }
+    ensures begun { (p : ℕ) → A.link_count links.new p ≡ A.link_count links.old p }
+    ensures each { (p : ℕ) → A.refusal_count links.new p + open_at slots.new p ≤ A.refusal_count links.old p + open_at slots.old p }
+    ensures apart { AreApart slots.old → AreApart slots.new }
+    ensures registered { OnOk result (NobodyMayRegister slots.new 255) }
+{
+    for place in 0..u8::MAX {
+        if slots.len() <= place as usize {
+            return Ok(());
+        }
+        let may_register = may_register(slots, place);
+        let at = At { place, tick };
+        register_one(
+            links,
+            dispatcher,
+            at,
+            may_register,
+            &mut slots[place as usize],
+        )?;
+    }
+    Ok(())
+}

@@ -1,0 +1,9 @@
+use Rattle.std.proofs.Common.{refl, ap}
+use Rattle.std.specs.Int.{w32, w64, to_be_bytes}
+use Rattle.frames.proofs.PutsLemmas.{Puts-first, Puts-then}
+use Rattle.frames.proofs.encoder.put_idle.Goals as goal
+
+pub returns : goal.returns
+returns c =
+    let p = Puts-first _ (to_be_bytes w32 c.args.worker) (ap (to_be_bytes w32) c.number.ensures.value) c.put_u32-at.ensures in
+    Puts-then _ _ (to_be_bytes w64 c.args.incarnation) p refl c.put_u64.ensures

@@ -1,0 +1,10 @@
+use Rattle.std.proofs.Common.{refl, ap}
+use Rattle.std.specs.Int.{w32, w64, to_be_bytes}
+use Rattle.frames.proofs.PutsLemmas.{Puts-first, Puts-then}
+use Rattle.frames.proofs.encoder.put_want.Goals as goal
+
+pub returns : goal.returns
+returns c =
+    let p = Puts-first _ (to_be_bytes w64 c.args.session) refl c.put_u64-at.ensures in
+    let q = Puts-then _ _ (to_be_bytes w32 c.args.worker) p (ap (to_be_bytes w32) c.number.ensures.value) c.put_u32-at.ensures in
+    Puts-then _ _ (to_be_bytes w32 c.args.offset) q refl c.put_u32.ensures

@@ -1,7 +1,0 @@
-use Rattle.std.proofs.Common.{◌≡◌, ◌||◌, map, take}
-use Rattle.std.specs.List.{filter}
-use Rattle.dimacs.specs.logic.Literal.{negation, has}
-use Rattle.gathering.proofs.forks.resolve.Given as goal
-
-abbrev pub invariant-loop-l : goal.invariant-loop-l
-invariant-loop-l l = l.clause.items ≡ filter (λ k. has l.left k || has l.right k) (map negation (take l.l-index l.path))

@@ -1,0 +1,16 @@
+pub mod History
+pub mod Prefixes
+pub mod Places
+pub mod HistoryLemmas
+pub mod WorkerLemmas
+pub mod WorkLemmas
+pub mod WorkerSlots
+pub mod CoordinatorLemmas
+pub mod PollLemmas
+pub mod EventLemmas
+pub mod CompletionLemmas
+pub mod Moments
+pub mod StuckLemmas
+pub mod VerdictLemmas
+pub mod ExampleLemmas
+pub mod ClosedRuns

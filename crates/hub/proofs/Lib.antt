@@ -1,3 +1,0 @@
-pub mod HubLemmas
-mod KnownLemmas
-mod UnreadLemmas

@@ -1,5 +1,0 @@
-use Rattle.std.proofs.Common.{◌≡◌, map, is_some}
-use Rattle.hub.proofs.ends.note_all.Given as goal
-
-abbrev pub invariant-loop-event : goal.invariant-loop-event
-invariant-loop-event g l = map (λ e. is_some e) l.ends ≡ map (λ e. is_some e) l.fn.ends

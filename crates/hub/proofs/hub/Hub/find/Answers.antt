@@ -1,6 +1,0 @@
-use Rattle.std.proofs.Common.{refl}
-use Rattle.hub.specs.inner.Finding.{Finds}
-use Rattle.hub.proofs.hub.Hub.find.Goals as goal
-
-pub returns-in-Some-clause-finds : goal.returns-in-Some-clause-finds
-returns-in-Some-clause-finds g c = Finds.next c.in-Some.place c.in-Some.count refl c.in-Some.ensures.taken

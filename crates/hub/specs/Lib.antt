@@ -1,3 +1,0 @@
-pub mod Unread
-pub mod Hub
-pub mod inner

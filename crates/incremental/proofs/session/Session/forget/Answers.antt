@@ -1,6 +1,0 @@
-use Rattle.std.proofs.Common.{refl}
-use Rattle.incremental.proofs.StandingLemmas.{forgotten}
-use Rattle.incremental.proofs.session.Session.forget.Goals as goal
-
-pub returns-clause-stands : goal.returns-clause-stands
-returns-clause-stands g c = λ E told text h. forgotten E told text c.args.self.now (record c.args.self.now { out = c.clear.new.self }) refl c.clear.ensures.items h

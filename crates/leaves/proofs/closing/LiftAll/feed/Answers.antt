@@ -1,4 +1,0 @@
-use Rattle.leaves.proofs.closing.LiftAll.feed.Goals as goal
-
-pub returns : goal.returns
-returns c = λ F place cubes bytes written h. record { from = h.from; holds = h.holds; stands = c.feed.ensures F bytes written h.stands }

@@ -1,0 +1,98 @@
+//! A cursor in the splitting tree: it goes from node to node by undoing and propagating literals.
+
+ghost use Rattle.std.specs.Prelude.{◌≤◌, length};
+
+use crate::counting_propagator::CountingPropagator;
+use crate::lookahead::{Choice, Lookahead};
+use dimacs::{Formula, Lit, Var};
+use std::alloc::{AllocError, Global};
+
+/// A literal of the path, and the length of the trail before it.
+#[derive(Clone, Copy)]
+struct Step {
+    literal: Lit,
+    from: usize,
+}
+
+/// A cursor at a node: the literals of the node's path are propagated.
+pub(crate) struct TreeWalk {
+    lookahead: Lookahead,
+    path: Vec<Step>,
+    is_refuted: bool,
+}
+
+impl Drop for TreeWalk {
+    fn drop(self) {
+        let TreeWalk {
+            lookahead: _,
+            path: _,
+            is_refuted: _,
+        } = self;
+    }
+}
+
+impl TreeWalk {
+    /// A cursor at the root: the unit clauses are propagated.
+    pub(crate) fn begin(alloc: Global, formula: &Formula) -> Result<TreeWalk, AllocError> {
+        let mut propagator = CountingPropagator::new(alloc, formula)?;
+        let is_refuted = !propagator.propagate_units();
+        propagator.count_all();
+        Ok(TreeWalk {
+            lookahead: Lookahead::new(alloc, propagator)?,
+            path: Vec::new(alloc),
+            is_refuted,
+        })
+    }
+
+    /// Whether propagating the unit clauses has met a conflict.
+    pub(crate) fn is_refuted(&self) -> bool {
+        self.is_refuted
+    }
+
+    /// The length of the longest common prefix of the path and a cube.
+    fn common(&self, cube: &[Lit]) -> usize
+        ensures { result ≤ length cube.now }
+    {
+        for (i, &literal) in cube.iter().enumerate() {
+            match self.path.get(i) {
+                Some(step) if step.literal == literal => {}
+                _ => return i,
+            }
+        }
+        cube.len()
+    }
+
+    /// Goes back to the node whose path has `len` literals.
+    fn back(&mut self, len: usize) {
+        if let Some(step) = self.path.get(len) {
+            self.lookahead.propagator.leave(step.from);
+        }
+        self.path.truncate(len);
+    }
+
+    /// Goes to the node of a cube; false if that meets a conflict.
+    pub(crate) fn go_to(&mut self, cube: &[Lit]) -> Result<bool, AllocError> {
+        let common = self.common(cube);
+        self.back(common);
+        for &literal in &cube[common..] {
+            let from = self.lookahead.propagator.len();
+            self.path.push(Step { literal, from })?;
+            if !self.lookahead.propagator.enter(literal.index() as u32) {
+                return Ok(false);
+            }
+        }
+        Ok(true)
+    }
+
+    /// What to do with the node (`Lookahead::choose`).
+    pub(crate) fn choose(&mut self) -> Result<Choice, AllocError> {
+        self.lookahead.choose()
+    }
+
+    /// Whether propagating a literal at the node meets a conflict.
+    pub(crate) fn is_failed_literal(&mut self, literal: Lit) -> bool {
+        self.lookahead
+            .propagator
+            .is_failed_literal(literal.index() as u32)
+    }
+}

@@ -1,0 +1,40 @@
+-- One piece of a proof in binary form.
+use Rattle.std.specs.Prelude.{◌≡◌, ℕ, List, ◌++◌, if◌then◌else◌}
+use Rattle.lrat_binary.specs.Parser.{ReaderState, read}
+use Rattle.lrat_forms.specs.Forms.{is_letter, reading_text}
+use Rattle.lrat_forms.specs.Pieces.{text_behind}
+use Rattle.lrat_forms.specs.declared.line_writer.LineWriter.{LineWriter}
+use Rattle.lrat_forms.specs.declared.text_form.Stage.{Stage}
+use Rattle.lrat_forms.specs.declared.text_form.Stage.TheVariants.{Awaiting, Text, Binary, Faulty, OutOfMemory}
+
+-- whatever bytes follow the piece: their text with the piece's is the text that was appended, and then the text of those bytes in the new
+-- stage
+abbrev pub Appends : ReaderState → LineWriter → List ℕ → Stage → ReaderState → LineWriter → Type 0
+Appends begun old piece stage next new =
+    (text : List ℕ) × (new.out.items ≡ old.out.items ++ text)
+    × ((more : List ℕ) → reading_text old.top (read begun (piece ++ more)) ≡ text ++ text_behind stage next new.top more)
+
+abbrev pub ReadsOn : ReaderState → LineWriter → List ℕ → Stage → ReaderState → LineWriter → Type 0
+ReadsOn begun old piece Awaiting next new = ⊥
+ReadsOn begun old piece Text next new = ⊥
+ReadsOn begun old piece Binary next new = Appends begun old piece Binary next new
+ReadsOn begun old piece Faulty next new = Appends begun old piece Faulty next new
+ReadsOn begun old piece OutOfMemory next new = Unit {0}
+
+-- the stage after a byte has come
+abbrev pub stage_at : Stage → ℕ → Stage
+stage_at Awaiting b = if is_letter b then Binary else Text
+stage_at Text b = Text
+stage_at Binary b = Binary
+stage_at Faulty b = Faulty
+stage_at OutOfMemory b = OutOfMemory
+
+abbrev pub IsSame : Stage → ReaderState → LineWriter → Stage → ReaderState → LineWriter → Type 0
+IsSame stage begun old result next new = (result ≡ stage) × (next ≡ begun) × (new ≡ old)
+
+abbrev pub ReadsAt : Stage → ReaderState → LineWriter → List ℕ → Stage → ReaderState → LineWriter → Type 0
+ReadsAt Awaiting begun old piece result next new = IsSame Awaiting begun old result next new
+ReadsAt Text begun old piece result next new = IsSame Text begun old result next new
+ReadsAt Binary begun old piece result next new = ReadsOn begun old piece result next new
+ReadsAt Faulty begun old piece result next new = IsSame Faulty begun old result next new
+ReadsAt OutOfMemory begun old piece result next new = IsSame OutOfMemory begun old result next new

@@ -1,0 +1,68 @@
+//! Writing a line for each step that a reader delivers.
+
+ghost use Rattle.std.specs.Prelude.{◌≡◌, []};
+ghost use Rattle.lrat_text.specs.Grammar.{IsClauseNumber};
+ghost use Rattle.lrat_text.specs.Log.{top_after};
+ghost use Rattle.lrat_text.specs.Steps.{step_of};
+
+use crate::limits::is_within;
+use lrat_binary::TakesSteps;
+use lrat_text::{StepRef, put_ref};
+use std::alloc::AllocError;
+
+/// The consumer of steps that writes a line for each.
+pub(crate) struct LineWriter {
+    /// The number of the last addition, or 1 before the first. The line of a deletion begins with it.
+    pub(crate) top: u64,
+    pub(crate) out: Vec<u8>,
+    ghost numbered: { IsClauseNumber top },
+}
+
+impl Drop for LineWriter {
+    fn drop(self) {
+        let LineWriter { top: _, out: _ } = self;
+    }
+}
+
+/// The number of the last addition after a step.
+fn top_behind(step: StepRef<'_>, top: u64) -> u64
+    ensures { result ≡ top_after top (step_of step.entry) }
+{
+    match step {
+        StepRef::Add { id, .. } => id,
+        StepRef::Delete { .. } => top,
+    }
+}
+
+impl LineWriter {
+    /// Drops the lines written so far.
+    pub(crate) fn begin(&mut self)
+        ensures out { self.new.out.items ≡ [] }
+        ensures top { self.new.top ≡ self.old.top }
+    {
+        self.out.clear();
+    }
+}
+
+impl TakesSteps for LineWriter {
+    ghost use Rattle.lrat_forms.specs.inner.WrittenLines.{MayTake, Refuses, Writes};
+
+    type Fault = AllocError;
+
+    ghost may_take = { MayTake };
+
+    ghost takes = { Writes };
+
+    ghost refuses = { Refuses };
+
+    /// A reader delivers only steps within the limits, but no contract says so. The test is cheap beside the writing of the line. A step
+    /// beyond the limits is refused as for want of memory.
+    fn take_step(&mut self, step: StepRef<'_>) -> Result<(), AllocError> {
+        if !is_within(step) {
+            return Err(AllocError);
+        }
+        put_ref(step, self.top, &mut self.out)?;
+        self.top = top_behind(step, self.top);
+        Ok(())
+    }
+}

@@ -1,4 +1,0 @@
-use Rattle.node_main.proofs.commands.attending.run_attend.Goals as goal
-
-pub returns-in-Ok-clause-truth : goal.returns-in-Ok-clause-truth
-returns-in-Ok-clause-truth g c = c.attend.ensures.truth c.args.input.now _ (c.in-Ok.ensures.starts c.args.input.now c.read.ensures.exact)

@@ -1,5 +1,0 @@
-use Rattle.node_main.proofs.SplittingLemmas.{within_formula}
-use Rattle.node_main.proofs.commands.drilling.drill_formula.Goals as goal
-
-pub new-requires-clause-inside : goal.new-requires-clause-inside
-new-requires-clause-inside c = within_formula c.args.formula.now c.in_ok-tree.tree c.vars.ensures.valid c.in_ok-tree.ensures.within

@@ -1,0 +1,4 @@
+pub mod Found
+pub mod Refusals
+pub mod Rules
+pub mod inner

@@ -1,6 +1,0 @@
-use Rattle.std.proofs.Common.{take}
-use Rattle.lrat_check.specs.inner.Table.{FitsTable}
-use Rattle.proof_lift.proofs.table.places_for.Given as goal
-
-abbrev pub invariant-loop-l : goal.invariant-loop-l
-invariant-loop-l l = FitsTable l.places (take l.l-index l.lits)

@@ -1,0 +1,8 @@
+use Rattle.std.proofs.Common.{◌++◌, codes, take}
+use Rattle.std.specs.List.{flat_map}
+use Rattle.dimacs.specs.text.Grammar.{clause_line, header_text}
+use Rattle.sha2.specs.Hashers.{Holds256}
+use Rattle.receipts.proofs.formula_hash.digest_of_formula.Given as goal
+
+abbrev pub invariant-loop-i : goal.invariant-loop-i
+invariant-loop-i l = Holds256 l.hasher ((header_text l.formula ++ codes "\n") ++ flat_map clause_line (take l.i l.formula.clauses))

@@ -1,8 +1,0 @@
-use Rattle.std.proofs.Common.{◌++◌, codes, take}
-use Rattle.std.specs.List.{flat_map}
-use Rattle.dimacs.specs.text.Spelling.{clause_line, header_text}
-use Rattle.sha2.specs.Hashers.{Holds256}
-use Rattle.receipts.proofs.hashing.digest_of_formula.Given as goal
-
-abbrev pub invariant-loop-i : goal.invariant-loop-i
-invariant-loop-i l = Holds256 l.hasher ((header_text l.formula ++ codes "\n") ++ flat_map clause_line (take l.i l.formula.clauses))

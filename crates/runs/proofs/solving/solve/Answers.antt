@@ -1,9 +1,0 @@
-use Rattle.std.proofs.Common.{ℕ, subst}
-use Rattle.cube_split.specs.Pairs.{IsBaseWith}
-use Rattle.dimacs.specs.logic.Cnf.{Cnf}
-use Rattle.runs.proofs.solving.solve.Goals as goal
-
-pub solve_of-requires-clause-inside : goal.solve_of-requires-clause-inside
-solve_of-requires-clause-inside g c = λ B base.
-    let is = c.in_ok-opened.ensures in
-    c.requires.inside B (subst (λ (F : Cnf). IsBaseWith F c.args.plan.now.defs B) is.formula (subst (λ (n : ℕ). IsBaseWith c.in_ok-opened.opened.formula n B) is.wanted base))

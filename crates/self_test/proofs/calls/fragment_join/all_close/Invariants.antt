@@ -1,0 +1,7 @@
+use Rattle.std.proofs.Common.{map, take}
+use Rattle.proof_join.specs.JoinedProof.{AllClose}
+use Rattle.self_test.proofs.calls.fragment_join.all_close.Given as goal
+
+-- the leaves so far are closed
+abbrev pub invariant-loop-leaf : goal.invariant-loop-leaf
+invariant-loop-leaf l = AllClose l.base (take l.leaf l.tree) (take l.leaf (map (λ v. v.items) l.fragments))

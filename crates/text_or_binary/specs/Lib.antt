@@ -1,0 +1,3 @@
+pub mod FormJoin
+pub mod FormLift
+pub mod FormTrim

@@ -1,7 +1,0 @@
-use Rattle.std.proofs.Common.{map, take}
-use Rattle.proof_join.specs.Joining.{AllClose}
-use Rattle.trials.proofs.calls.joining.all_close.Given as goal
-
--- the leaves so far are closed
-abbrev pub invariant-loop-leaf : goal.invariant-loop-leaf
-invariant-loop-leaf l = AllClose l.base (take l.leaf l.tree) (take l.leaf (map (λ v. v.items) l.fragments))

@@ -1,5 +1,0 @@
-use Rattle.std.proofs.Common.{◌≤◌, ◌≡◌, length}
-use Rattle.trials.proofs.drawn.peer.Peer.fetch.Given as goal
-
-abbrev pub invariant-loop-place : goal.invariant-loop-place
-invariant-loop-place l = (l.count ≤ l.place) × (length l.room ≡ l.place-end)

@@ -1,6 +1,0 @@
-use Rattle.std.specs.Prelude.{All}
-use Rattle.lrat_text.specs.Grammar.{IsGroup}
-use Rattle.trimming.proofs.rewriting.keep_groups.Given as goal
-
-abbrev pub invariant-loop-i : goal.invariant-loop-i
-invariant-loop-i l = All IsGroup l.out

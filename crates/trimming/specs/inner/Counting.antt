@@ -1,7 +1,0 @@
--- Lemmas of a text, told by two of its bytes.
-use Rattle.std.specs.Prelude.{ℕ, ◌-◌, ◌==◌, List}
-use Rattle.std.specs.List.{count_by}
-
--- a line has one LF, and one letter d if and only if it deletes
-abbrev pub lemmas_in : List ℕ → ℕ
-lemmas_in text = count_by (λ b. b == 10) text - count_by (λ b. b == 100) text

@@ -1,7 +1,0 @@
--- What a propagator needs of a clause.
-use Rattle.std.specs.Prelude.{ℕ, List, map}
-use Rattle.clause_arena.specs.declared.reference.Ref.{Ref}
-
--- the numbers of clauses
-abbrev pub numbers : List Ref → List ℕ
-numbers clauses = map (λ at. at.number) clauses

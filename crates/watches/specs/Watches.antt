@@ -1,0 +1,20 @@
+-- The value of the propagator `Watched`.
+use Rattle.std.specs.Prelude.{ℕ, Bool, true, false, List, [], ◌∷◌}
+use Rattle.clause_arena.specs.declared.reference.Ref.{Ref}
+use Rattle.watches.specs.declared.watched.watch.Watch.{Watch}
+
+-- the watches; the attached clauses, which own two each; how many of the first places are heads of lists; how many entries of the trail
+-- were propagated; whether the lists still have watches of a detached clause
+pub record Watches : Type 0 where
+  pub places : List Watch
+  pub clauses : List Ref
+  pub base : ℕ
+  pub head : ℕ
+  pub stale : Bool
+
+-- the clauses that are not marked as detached
+abbrev pub attached_of : List Ref → List Bool → List Ref
+attached_of [] live = []
+attached_of (at ∷ clauses) [] = []
+attached_of (at ∷ clauses) (true ∷ live) = at ∷ attached_of clauses live
+attached_of (at ∷ clauses) (false ∷ live) = attached_of clauses live

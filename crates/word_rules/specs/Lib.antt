@@ -1,4 +1,0 @@
-pub mod Found
-pub mod Parsing
-pub mod Rules
-pub mod inner

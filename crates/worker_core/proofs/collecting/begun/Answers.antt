@@ -1,8 +1,0 @@
-use Rattle.std.proofs.Common.{◌∙◌, sym, subst}
-use Rattle.std.proofs.lemmas.List.{nil_from_length}
-use Rattle.worker_core.specs.inner.Invariant.{IsBehind}
-use Rattle.worker_core.proofs.collecting.begun.Goals as goal
-
-pub returns-then-eq : goal.returns-then-eq
-returns-then-eq c =
-    subst (IsBehind c.args.formula.now c.in_ok-new.field-0) (sym (nil_from_length c.args.candidate.now.evidence.bytes (sym c.len.ensures ∙ c.if-len-eq0.true))) c.in_ok-new.ensures

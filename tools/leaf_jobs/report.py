@@ -1,0 +1,347 @@
+"""The report of a run, `report.html`: one file that loads no other.
+
+The splitting tree is drawn from the root down; all leaves have the same width. Neighbours that
+would be narrower than a pixel or two are drawn as one, in the colour of the longest of them, so
+that 5,000 leaves are as readable as 16.
+"""
+import bisect
+import collections
+import html
+import math
+import os
+import time
+from pathlib import Path
+from typing import Dict, List, Optional, Tuple
+
+from leaf_jobs.figures import State, megabytes, size, spent, state_of, told
+from leaf_jobs.files import Cube
+from leaf_jobs.leaf import CLOSED, LIMIT, Plan, Record, Records
+from leaf_jobs.run import ALL_COVERED, NOT_COVERED, Run
+from leaf_jobs.screen import Screen
+
+WIDTH = 1160  # of each picture, in pixels
+NARROW = 1.5  # what is narrower than this is drawn with its neighbours
+ROWS = 400  # of the table
+EVERY = 3  # seconds after which the report is renewed at the earliest
+SHARE = 0.02  # of the time, at most, that the script spends on renewing it
+RAMP = ((255, 246, 205), (253, 200, 105), (240, 125, 60), (190, 50, 80), (75, 20, 95))
+OPEN, COVERED, FORK = "#d9d9df", "#cfe3f3", "#f4f4f7"  # of what has no time
+THIN, RED = ' stroke="#fff" stroke-width=".6"', ' stroke="#c00" stroke-dasharray="2"'  # edges
+
+STYLE = """
+body{font:15px/1.5 system-ui,sans-serif;color:#222;max-width:1160px;margin:2em auto;padding:0 1em}
+h1{font-size:1.5em;margin:0}h2{font-size:1.1em;margin:2em 0 .3em}p{margin:.3em 0;color:#555}
+svg{display:block;max-width:100%;height:auto}svg text{font:11px system-ui,sans-serif;fill:#333}
+dl{display:flex;flex-wrap:wrap;gap:.6em 2.2em;margin:1em 0}dt{font-size:.8em;color:#666}
+dd{margin:0;font-size:1.15em;font-weight:600}
+table{border-collapse:collapse;width:100%;font-size:.85em;font-variant-numeric:tabular-nums}
+th,td{padding:.15em .7em;text-align:right;border-bottom:1px solid #eee;white-space:nowrap}
+th{color:#666;font-weight:600}.cube{text-align:left}
+td.cube{white-space:normal;overflow-wrap:anywhere}
+"""
+
+
+class Scale:
+    """Colours for times, by their logarithm: from the shortest to the longest."""
+
+    def __init__(self, times: List[float]) -> None:
+        self.least, self.most = min(times, default=0.001), max(times, default=0.001)
+
+    def place(self, seconds: float) -> float:
+        """From 0 for the shortest to 1 for the longest."""
+        if self.most <= self.least:
+            return 0.0
+        return math.log(seconds / self.least) / math.log(self.most / self.least)
+
+    def colour(self, seconds: float) -> str:
+        at = min(0.9999, max(0.0, self.place(seconds))) * (len(RAMP) - 1)
+        low, high = RAMP[int(at)], RAMP[int(at) + 1]
+        return "#%02x%02x%02x" % tuple(round(a + (b - a) * (at % 1)) for a, b in zip(low, high))
+
+    def ink(self, seconds: Optional[float]) -> str:
+        """A colour to write with on that of `seconds`."""
+        return "#fff" if seconds and self.place(seconds) > 0.6 else "#333"
+
+
+def picture(height: float, parts: List[str], label: str) -> str:
+    size = 'viewBox="0 0 %d %d" width="%d" height="%d"' % (WIDTH, height, WIDTH, height)
+    return '<svg %s role="img" aria-label="%s">%s</svg>' % (size, label, "".join(parts))
+
+
+def box(x: float, y: float, wide: float, high: float, colour: str, title: str,
+        more: str = "") -> str:
+    size = 'x="%.2f" y="%.2f" width="%.2f" height="%.2f"' % (x, y, wide, high)
+    title = "<title>%s</title>" % html.escape(title)
+    return '<rect %s fill="%s"%s>%s</rect>' % (size, colour, more, title)
+
+
+def text(x: float, y: float, words: str, anchor: str = "middle", ink: str = "#333") -> str:
+    return '<text x="%.1f" y="%.1f" text-anchor="%s" style="fill:%s">%s</text>' % (
+        x, y, anchor, ink, html.escape(words))
+
+
+class Tree:
+    """The splitting tree as boxes: each branch under its fork, a leaf down to the floor."""
+
+    def __init__(self, state: State, last: Dict[Cube, Record], scale: Scale) -> None:
+        self.cubes, self.covered, self.last, self.scale = state.cubes, state.covered, last, scale
+        self.depth = max(map(len, self.cubes))
+        self.high = max(7, min(22, 440 // (self.depth + 1)))
+        self.wide = WIDTH / len(self.cubes)
+        self.floor = (self.depth + 2) * self.high
+        self.own = state.own.issuperset
+        self.longest = [spent(last[cube]) if cube in state.own and cube in last else None
+                        for cube in self.cubes]
+
+    def draw(self) -> str:
+        parts, stack = [], [(0, 0, len(self.cubes))]
+        while stack:
+            depth, low, high = stack.pop()
+            path, wide = self.cubes[low][:depth], (high - low) * self.wide
+            leaf = len(self.cubes[low]) == depth
+            if leaf or wide < NARROW:
+                parts += self.leaves(depth, low, high)
+                continue
+            parts += self.fork(path, low, wide)
+            middle = self.other_branch(depth, low, high)
+            stack += [(depth + 1, low, middle), (depth + 1, middle, high)]
+        return picture(self.floor + 2, parts, "the splitting tree")
+
+    def other_branch(self, depth: int, low: int, high: int) -> int:
+        """The place of the first leaf below the fork's second branch."""
+        first = self.cubes[low][depth]
+        is_other = [self.cubes[place][depth] != first for place in range(low, high)]
+        return low + bisect.bisect_left(is_other, True)
+
+    def fork(self, path: Cube, low: int, wide: float) -> List[str]:
+        job = self.last.get(path)  # it was a leaf once, and was cut in two
+        seconds: Optional[float] = None
+        title = "%s, %d leaves below" % (self.told(path), round(wide / self.wide))
+        if job:
+            seconds = spent(job)
+            how = "cut in two" if job.outcome == LIMIT else "as one leaf " + job.outcome
+            title += ", %s after %s" % (how, told(seconds))
+        colour = self.scale.colour(seconds) if seconds else FORK
+        x, y = low * self.wide, len(path) * self.high
+        parts = [box(x, y, wide, self.high, colour, title, THIN)]
+        return parts + self.label(path, x, y, wide, self.scale.ink(seconds))
+
+    def label(self, path: Cube, x: float, y: float, wide: float, ink: str) -> List[str]:
+        """The literal of a branch, if there is room for it."""
+        if wide < 30 or self.high < 12:
+            return []
+        words = str(path[-1]) if path else "formula"
+        return [text(x + wide / 2, y + self.high / 2 + 4, words, ink=ink)]
+
+    def leaves(self, depth: int, low: int, high: int) -> List[str]:
+        """A leaf, or several that are too narrow to be told apart."""
+        seconds = max(filter(None, self.longest[low:high]), default=None)
+        colour, words = self.kind(self.cubes[low:high])
+        if seconds:
+            colour, words = self.scale.colour(seconds), told(seconds)
+        x, y, wide = low * self.wide, depth * self.high, (high - low) * self.wide
+        lead, ink = "leaves %d to %d, at most" % (low + 1, high), self.scale.ink(seconds)
+        if high - low == 1:
+            lead = self.told(self.cubes[low])
+        title = "%s: %s" % (lead, words)
+        parts = [box(x, y, wide, self.floor - y, colour, title, THIN if wide > 3 else "")]
+        if high - low == 1:
+            parts += self.label(self.cubes[low], x, y, wide, ink)
+        if wide > 7 * len(words):
+            parts.append(text(x + wide / 2, self.floor - 6, words, ink=ink))
+        return parts
+
+    def kind(self, cubes: List[Cube]) -> Tuple[str, str]:
+        """The colour and word of leaves that have no time."""
+        if self.covered.issuperset(cubes):
+            return COVERED, "by another's log"
+        return (FORK, "closed by logs") if self.own(cubes) else (OPEN, "open")
+
+    @staticmethod
+    def told(path: Cube) -> str:
+        return " ".join(map(str, path)) or "the whole formula"
+
+
+def curve(times: List[float], scale: Scale) -> str:
+    """The leaves from the longest to the shortest; each line up is ten times as long."""
+    high, left, times = 200, 54, sorted(times, reverse=True)
+    least, most = math.floor(math.log10(scale.least)), math.ceil(math.log10(scale.most))
+    powers = range(least, max(least + 1, most) + 1)
+    level = lambda seconds: 8 + high * (powers[-1] - math.log10(seconds)) / (len(powers) - 1)
+    wide, parts = (WIDTH - left) / len(times), []
+    for power in powers:
+        y = level(10.0 ** power)
+        parts.append('<path d="M%d %.1fH%d" stroke="#ddd"/>' % (left, y, WIDTH))
+        parts.append(text(left - 6, y + 4, "%g s" % 10.0 ** power, "end"))
+    step = max(1, math.ceil(NARROW / wide))
+    for first in range(0, len(times), step):
+        seconds, count = times[first], min(step, len(times) - first)
+        title = "%s, number %d of %d" % (told(seconds), first + 1, len(times))
+        gap = 0.8 if wide > 4 else 0
+        y, colour = level(seconds), scale.colour(seconds)
+        parts.append(box(left + first * wide, y, count * wide - gap, high + 8 - y, colour, title))
+    return picture(high + 14, parts, "the leaves by time")
+
+
+def lanes_of(records: List[Record]) -> Tuple[List[int], List[Tuple[str, int]]]:
+    """For each job the lane in which it is drawn: the first of its host that is free by then."""
+    free: Dict[str, List[float]] = collections.defaultdict(list)
+    lanes: List[Tuple[str, int]] = []
+    for record in records:
+        ends = free[record.host]
+        idle = (lane for lane, end in enumerate(ends) if end < record.begin + 0.01)
+        lane = next(idle, len(ends))
+        ends[lane:lane + 1] = [record.end]
+        lanes.append((record.host, lane))
+    order = {lane: place for place, lane in enumerate(sorted(set(lanes)))}
+    return [order[lane] for lane in lanes], sorted(order)
+
+
+def breaks_of(records: List[Record]) -> Tuple[List[Tuple[float, float]], float]:
+    """The times at which nothing ran, between two starts, as pairs of begin and length."""
+    breaks, end = [], records[0].begin
+    for record in records:
+        if record.begin > end + 2:
+            breaks.append((end, record.begin - end))
+        end = max(end, record.end)
+    return breaks, end
+
+
+def workers(records: List[Record], scale: Scale) -> str:
+    """What ran where and when; times at which nothing ran are left out."""
+    places, lanes = lanes_of(records)
+    breaks, end = breaks_of(records)
+    pause = lambda moment: sum(length for begin, length in breaks if begin < moment)
+    at = lambda moment: moment - records[0].begin - pause(moment)
+    left, high = 120, max(3, min(18, 600 // len(lanes)))
+    per_second = (WIDTH - left) / max(0.001, at(end))
+    parts = []
+    for record, place in zip(records, places):
+        others = " and %d behind" % len(record.behind) if record.behind else ""
+        leaves, seconds = Tree.told(record.cube) + others, told(spent(record))
+        title = "%s, %s, %s" % (leaves, seconds, record.outcome)
+        x, wide = left + at(record.begin) * per_second, (record.end - record.begin) * per_second
+        more = RED if record.outcome != CLOSED and wide > 3 else ""
+        colour, wide = scale.colour(spent(record)), max(0.4, wide - 0.4)
+        parts.append(box(x, place * high, wide, high - 1, colour, title, more))
+    for place, (host, lane) in enumerate(lanes):
+        if high > 9:
+            name = "%s %d" % (host[:14], lane + 1)
+            parts.append(text(left - 8, place * high + high / 2 + 3, name, "end"))
+    floor = len(lanes) * high
+    for begin, _ in breaks:
+        x = left + at(begin) * per_second
+        line = '<path d="M%.1f 0V%d" stroke="#06c" stroke-dasharray="4 3"/>'
+        parts.append(line % (x, floor))
+    for tenth in range(0, 11, 2):
+        anchor, x = "end" if tenth == 10 else "middle", left + tenth / 10 * (WIDTH - left)
+        parts.append(text(x, floor + 15, told(at(end) * tenth / 10), anchor))
+    return picture(floor + 22, parts, "the workers' lanes")
+
+
+def closed(state: State, cube: Cube) -> str:
+    """By what a leaf is closed."""
+    if cube in state.covered:
+        return "by another's log"
+    return "by its log" if cube in state.own else "open"
+
+
+def table(state: State, last: Dict[Cube, Record]) -> str:
+    """The leaves that took longest, each with its last job."""
+    late = lambda row: -spent(last[row[1]]) if row[1] in last else 1
+    rows = sorted(enumerate(state.cubes, 1), key=late)
+    lines = ["<tr><th>leaf<th>closed<th>time<th>memory<th>log<th>began<th>host<th>its job"
+             "<th class=cube>cube"]
+    for place, cube in rows[:ROWS]:
+        job = last.get(cube)
+        cells = [closed(state, cube)] + [""] * 6
+        if job:
+            began = time.strftime("%d %b %H:%M:%S", time.localtime(job.begin))
+            cells[1:] = [told(spent(job)), megabytes(job.memory), size(job.bytes), began, job.host,
+                         job.outcome]
+        row = "".join("<td>" + html.escape(cell) for cell in [str(place)] + cells)
+        lines.append("<tr>%s<td class=cube>%s" % (row, html.escape(Tree.told(cube))))
+    return "<table>%s</table>" % "\n".join(lines)
+
+
+NONE = 1  # the status of a run that was ended before it had an answer
+ANSWERS = {20: "s UNSATISFIABLE", 10: "s SATISFIABLE", 0: "s UNKNOWN", ALL_COVERED: "s COVERED",
+           NOT_COVERED: "s NOT COVERED", NONE: "ended without answer", None: "under way"}
+RENEWED = '<meta http-equiv="refresh" content="5">'
+TREE = """<h2>The splitting tree</h2><p>From the whole formula down to the leaves: the lighter, the
+sooner closed (%s); the darker, the later (%s). Blue leaves are closed by another's log, grey ones
+are open.</p>"""
+CURVE = "<h2>Leaves by time</h2><p>The longest first; each line up is ten times as long.</p>"
+LANES = """<h2>Workers</h2><p>Which job ran when. Dashed lines are times at which nothing ran; a red
+edge is a job that closed nothing.</p>"""
+
+
+def page(name: str, how: str, state: State, status: Optional[int]) -> str:
+    last = state.last()
+    times = {cube: spent(record) for cube, record in last.items()}
+    shown = [times[cube] for cube in state.cubes if cube in state.own and cube in times]
+    scale, title = Scale(list(times.values())), html.escape(os.path.basename(name))
+    body = ["<h1>%s: %s</h1><p>%s</p>" % (title, ANSWERS[status], html.escape(how))]
+    figures = "".join("<div><dt>%s<dd>%s</div>" % figure for figure in state.facts())
+    body.append("<dl>%s</dl>" % figures)
+    if times:
+        body.append(TREE % (told(scale.least), told(scale.most)))
+        body.append(Tree(state, last, scale).draw())
+    if shown:
+        body += [CURVE, curve(shown, scale)]
+    if state.records:
+        body += [LANES, workers(state.records, scale)]
+    more = ", the %d longest" % ROWS if len(state.cubes) > ROWS else ""
+    body.append("<h2>The leaves%s</h2>%s" % (more, table(state, last)))
+    head = '<meta charset="utf-8"><title>%s</title><style>%s</style>' % (title, STYLE)
+    head += RENEWED if status is None else ""
+    return '<!DOCTYPE html><html lang="en">%s\n%s</html>\n' % (head, "\n".join(body))
+
+
+def how_of(plan: Plan, cuts: int) -> str:
+    """By what the formula was split and its leaves were searched."""
+    how = "satcluster refute"
+    if plan.solver:
+        how = " && ".join(" ".join(command) for command in plan.solver)
+    how += ", limit %d lemmas" % plan.limit if plan.limit else ""
+    how += ", limit %d seconds" % plan.seconds if plan.seconds else ""
+    how += "; the tree was made by " + plan.split if plan.split else ""
+    return how + (", and %d of its leaves were cut in two" % cuts if cuts else "")
+
+
+class Report:
+    """The file of the report, written again and again."""
+
+    def __init__(self, run: Run) -> None:
+        self.run, self.records = run, Records(run.folder)
+
+    def write(self, status: Optional[int]) -> Path:
+        """Writes it and answers its path. It is not synced, since it can be written again."""
+        run, now = self.run, time.strftime("; %d %B %Y, %H:%M:%S")
+        state = state_of(run, self.records.all(), status in (20, ALL_COVERED))
+        text = page(run.plan.input, how_of(run.plan, run.number - 1) + now, state, status)
+        part, path = run.folder.at("scratch", "report.html"), run.folder.at("report.html")
+        part.write_text(text, encoding="utf-8", errors="replace")
+        part.replace(path)
+        return path
+
+
+class Live:
+    """Renews the report while leaves run, in a small share of the time. It is written from the
+    first closed leaf on, since before that the folder may be one of another formula."""
+
+    def __init__(self, run: Run, screen: Screen) -> None:
+        self.report, self.screen, self.next = Report(run), screen, 0.0
+
+    def renew(self) -> None:
+        begin = time.monotonic()
+        if begin < self.next or not self.report.run.closed:
+            return
+        try:
+            self.report.write(None)
+        except Exception as why:  # the answer does not depend on the report
+            self.screen.say("c no report: %r" % why)
+            self.next = float("inf")
+            return
+        end = time.monotonic()
+        self.next = end + max(EVERY, (end - begin) / SHARE)
