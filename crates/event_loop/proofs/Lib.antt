@@ -1,5 +1,6 @@
 mod Places
 mod Polls
 mod Runs
+mod AccountLemmas
 mod RegistrationLemmas
 mod TimeoutLemmas

@@ -108,16 +108,3 @@ each_then old mid new before between after first second p =
     let x = first p in
     let y = second p in
     omega (arith, x, y)
-
--- what holds at one place and at all others
-pub all_places : (old mid new : ℕ → ℕ) (i : ℕ) → new i ≤ mid i + 0 → ((p : ℕ) → p ≢ i → new p ≤ mid p) → ((p : ℕ) → mid p ≤ old p) → (p : ℕ) → new p ≤ old p
-all_places old mid new i here elsewhere so_far p = elim (eqb_tells p i) [
-  | inl same ↦
-      let turn = subst (λ q. new q ≤ mid q + 0) (sym same.1) here in
-      let far = so_far p in
-      omega (arith, turn, far)
-  | inr differs ↦
-      let turn = elsewhere p differs.1 in
-      let far = so_far p in
-      omega (arith, turn, far)
-]

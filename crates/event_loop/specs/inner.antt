@@ -1,4 +1,5 @@
 -- What only private contracts, invariants and proofs name. Nothing here is to be believed.
+pub mod Accounts
 pub mod Deliveries
 pub mod Handshakes
 pub mod Connections

@@ -3,6 +3,7 @@
 
 ghost use Rattle.std.specs.Prelude.{◌≡◌, ◌≢◌, ◌≤◌, ◌+◌, ℕ, [], Err, None, Some, IsSome, OnOk, slice_set};
 ghost use Rattle.event_loop.specs.Accounts.{one_if_open, open_at};
+ghost use Rattle.event_loop.specs.inner.Accounts.{Refuses, Spends};
 ghost use Rattle.event_loop.specs.inner.Deliveries.{BytesHandled, IsElsewhere, BytesHandledAt};
 ghost use Rattle.event_loop.specs.inner.Connections.{AreFresh, one_if_closed};
 ghost use Rattle.event_loop.specs.inner.Registrations.{AreApart, IsLost, connection_at, registered_in, registered_worker};
@@ -49,10 +50,7 @@ pub(crate) fn close<A: Arrivals>(
 )
     ensures formula { dispatcher.new.coordinator.formula ≡ dispatcher.old.coordinator.formula }
     ensures verdict { dispatcher.new.coordinator.verdict ≡ dispatcher.old.coordinator.verdict }
-    ensures calls { A.call_count links.new ≡ A.call_count links.old }
-    ensures arrivals { A.arrival_count links.new ≡ A.arrival_count links.old }
-    ensures over { A.has_ended links.new ≡ A.has_ended links.old }
-    ensures begun { (p : ℕ) → A.link_count links.new p ≡ A.link_count links.old p }
+    ensures spends { Spends A.Arrivals 0 links.old links.new }
     ensures refusals { (p : ℕ) → A.refusal_count links.new p ≡ A.refusal_count links.old p }
     ensures closed { connection.new ≡ None }
     ensures lost { IsLost (registered_in connection.old) dispatcher.old.coordinator dispatcher.new.coordinator }
@@ -74,10 +72,7 @@ pub(crate) fn settle<A: Arrivals>(
 ) -> Result<(), AllocError>
     ensures formula { dispatcher.new.coordinator.formula ≡ dispatcher.old.coordinator.formula }
     ensures verdict { dispatcher.new.coordinator.verdict ≡ dispatcher.old.coordinator.verdict }
-    ensures calls { A.call_count links.new ≡ A.call_count links.old }
-    ensures arrivals { A.arrival_count links.new ≡ A.arrival_count links.old }
-    ensures over { A.has_ended links.new ≡ A.has_ended links.old }
-    ensures begun { (p : ℕ) → A.link_count links.new p ≡ A.link_count links.old p }
+    ensures spends { Spends A.Arrivals 0 links.old links.new }
     ensures refusals { (p : ℕ) → A.refusal_count links.new p ≡ A.refusal_count links.old p }
     ensures closed { turn ≡ Err Closed → connection.new ≡ None }
     ensures lost { turn ≡ Err Closed → IsLost (registered_in connection.old) dispatcher.old.coordinator dispatcher.new.coordinator }
@@ -104,13 +99,8 @@ fn take<A: Arrivals>(
     bytes: &[u8],
 ) -> Result<(), Broken>
     ensures formula { dispatcher.new.coordinator.formula ≡ dispatcher.old.coordinator.formula }
-    ensures most { A.call_count links.new ≤ A.call_count links.old + 4037 }
-    ensures rises { A.call_count links.old ≤ A.call_count links.new }
-    ensures arrivals { A.arrival_count links.new ≡ A.arrival_count links.old }
-    ensures over { A.has_ended links.new ≡ A.has_ended links.old }
-    ensures begun { (p : ℕ) → A.link_count links.new p ≡ A.link_count links.old p }
-    ensures here { A.refusal_count links.new at.place ≤ A.refusal_count links.old at.place + one_if_closed result }
-    ensures elsewhere { (p : ℕ) → p ≢ at.place → A.refusal_count links.new p ≤ A.refusal_count links.old p }
+    ensures spends { Spends A.Arrivals 4037 links.old links.new }
+    ensures refusals { Refuses A.Arrivals at.place (one_if_closed result) 0 links.old links.new }
     ensures handled { OnOk result (IsSome (registered_worker connection.old) → BytesHandled bytes.now connection.old connection.new dispatcher.old.coordinator dispatcher.new.coordinator) }
     ensures owner { registered_worker connection.new ≡ registered_worker connection.old }
 {
@@ -139,13 +129,8 @@ fn receive<A: Arrivals>(
     bytes: &[u8],
 ) -> Result<(), AllocError>
     ensures formula { dispatcher.new.coordinator.formula ≡ dispatcher.old.coordinator.formula }
-    ensures most { A.call_count links.new ≤ A.call_count links.old + 4037 }
-    ensures rises { A.call_count links.old ≤ A.call_count links.new }
-    ensures arrivals { A.arrival_count links.new ≡ A.arrival_count links.old }
-    ensures over { A.has_ended links.new ≡ A.has_ended links.old }
-    ensures begun { (p : ℕ) → A.link_count links.new p ≡ A.link_count links.old p }
-    ensures here { A.refusal_count links.new at.place + one_if_open connection.new ≤ A.refusal_count links.old at.place + one_if_open connection.old }
-    ensures elsewhere { (p : ℕ) → p ≢ at.place → A.refusal_count links.new p ≤ A.refusal_count links.old p }
+    ensures spends { Spends A.Arrivals 4037 links.old links.new }
+    ensures refusals { Refuses A.Arrivals at.place (one_if_open connection.old) (one_if_open connection.new) links.old links.new }
     ensures owner { (worker : ℕ) → registered_in connection.new ≡ Some worker → registered_in connection.old ≡ Some worker }
     ensures handled { OnOk result (BytesHandledAt bytes.now connection.old connection.new dispatcher.old.coordinator dispatcher.new.coordinator) }
 {
@@ -169,11 +154,7 @@ pub(crate) fn receive_at<A: Arrivals>(
     bytes: &[u8],
 ) -> Result<(), AllocError>
     ensures formula { dispatcher.new.coordinator.formula ≡ dispatcher.old.coordinator.formula }
-    ensures most { A.call_count links.new ≤ A.call_count links.old + 4037 }
-    ensures rises { A.call_count links.old ≤ A.call_count links.new }
-    ensures arrivals { A.arrival_count links.new ≡ A.arrival_count links.old }
-    ensures over { A.has_ended links.new ≡ A.has_ended links.old }
-    ensures begun { (p : ℕ) → A.link_count links.new p ≡ A.link_count links.old p }
+    ensures spends { Spends A.Arrivals 4037 links.old links.new }
     ensures each { (p : ℕ) → A.refusal_count links.new p + open_at slots.new p ≤ A.refusal_count links.old p + open_at slots.old p }
     ensures handled { OnOk result (BytesHandledAt bytes.now (connection_at slots.old at.place) (connection_at slots.new at.place) dispatcher.old.coordinator dispatcher.new.coordinator) }
     ensures elsewhere { IsElsewhere at.place slots.old slots.new }

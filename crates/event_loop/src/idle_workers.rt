@@ -1,8 +1,9 @@
 //! Polls for idle workers: the coordinator may have a task for them by now.
 
-ghost use Rattle.std.specs.Prelude.{◌≡◌, ◌≢◌, ◌≤◌, ◌+◌, ℕ, None, Some, IfOk, IsSome, IsSomeAnd, MatchBool, OnOk};
+ghost use Rattle.std.specs.Prelude.{◌≡◌, ◌≤◌, ◌+◌, ℕ, None, Some, IfOk, IsSome, IsSomeAnd, MatchBool, OnOk};
 ghost use Rattle.std.specs.List.{list_any};
 ghost use Rattle.event_loop.specs.Accounts.{one_if_open, open_at};
+ghost use Rattle.event_loop.specs.inner.Accounts.{Refuses, Spends};
 ghost use Rattle.event_loop.specs.inner.Deliveries.{IdleHaveNothing, HasNothing};
 ghost use Rattle.event_loop.specs.inner.Timeouts.{is_idle};
 ghost use Rattle.event_loop.specs.inner.Registrations.{AreApart, idle_in, registered_in};
@@ -41,13 +42,8 @@ fn poll_one<A: Arrivals>(
 ) -> Result<(), AllocError>
     ensures formula { dispatcher.new.coordinator.formula ≡ dispatcher.old.coordinator.formula }
     ensures verdict { dispatcher.new.coordinator.verdict ≡ dispatcher.old.coordinator.verdict }
-    ensures most { A.call_count links.new ≤ A.call_count links.old + 1 }
-    ensures rises { A.call_count links.old ≤ A.call_count links.new }
-    ensures arrivals { A.arrival_count links.new ≡ A.arrival_count links.old }
-    ensures over { A.has_ended links.new ≡ A.has_ended links.old }
-    ensures begun { (p : ℕ) → A.link_count links.new p ≡ A.link_count links.old p }
-    ensures here { A.refusal_count links.new at.place + one_if_open connection.new ≤ A.refusal_count links.old at.place + one_if_open connection.old }
-    ensures elsewhere { (p : ℕ) → p ≢ at.place → A.refusal_count links.new p ≤ A.refusal_count links.old p }
+    ensures spends { Spends A.Arrivals 1 links.old links.new }
+    ensures refusals { Refuses A.Arrivals at.place (one_if_open connection.old) (one_if_open connection.new) links.old links.new }
     ensures owner { (worker : ℕ) → registered_in connection.new ≡ Some worker → registered_in connection.old ≡ Some worker }
     ensures idle { OnOk result ((worker : ℕ) → idle_in connection.new ≡ Some worker → HasNothing dispatcher.new.coordinator worker) }
 {
@@ -74,13 +70,8 @@ fn poll_if_idle<A: Arrivals>(
 ) -> Result<bool, AllocError>
     ensures formula { dispatcher.new.coordinator.formula ≡ dispatcher.old.coordinator.formula }
     ensures verdict { dispatcher.new.coordinator.verdict ≡ dispatcher.old.coordinator.verdict }
-    ensures most { A.call_count links.new ≤ A.call_count links.old + 1 }
-    ensures rises { A.call_count links.old ≤ A.call_count links.new }
-    ensures arrivals { A.arrival_count links.new ≡ A.arrival_count links.old }
-    ensures over { A.has_ended links.new ≡ A.has_ended links.old }
-    ensures begun { (p : ℕ) → A.link_count links.new p ≡ A.link_count links.old p }
-    ensures here { A.refusal_count links.new at.place + one_if_open connection.new ≤ A.refusal_count links.old at.place + one_if_open connection.old }
-    ensures elsewhere { (p : ℕ) → p ≢ at.place → A.refusal_count links.new p ≤ A.refusal_count links.old p }
+    ensures spends { Spends A.Arrivals 1 links.old links.new }
+    ensures refusals { Refuses A.Arrivals at.place (one_if_open connection.old) (one_if_open connection.new) links.old links.new }
     ensures owner { (worker : ℕ) → registered_in connection.new ≡ Some worker → registered_in connection.old ≡ Some worker }
     ensures idle { IfOk result (λ stays. MatchBool stays (IsSomeAnd (idle_in connection.new) (HasNothing dispatcher.new.coordinator)) (idle_in connection.new ≡ None)) }
 {
@@ -101,11 +92,7 @@ pub(crate) fn poll_idle<A: Arrivals>(
 ) -> Result<(), AllocError>
     ensures formula { dispatcher.new.coordinator.formula ≡ dispatcher.old.coordinator.formula }
     ensures verdict { dispatcher.new.coordinator.verdict ≡ dispatcher.old.coordinator.verdict }
-    ensures most { A.call_count links.new ≤ A.call_count links.old + 255 }
-    ensures rises { A.call_count links.old ≤ A.call_count links.new }
-    ensures arrivals { A.arrival_count links.new ≡ A.arrival_count links.old }
-    ensures over { A.has_ended links.new ≡ A.has_ended links.old }
-    ensures begun { (p : ℕ) → A.link_count links.new p ≡ A.link_count links.old p }
+    ensures spends { Spends A.Arrivals 255 links.old links.new }
     ensures each { (p : ℕ) → A.refusal_count links.new p + open_at slots.new p ≤ A.refusal_count links.old p + open_at slots.old p }
     ensures told { OnOk result (IdleHaveNothing slots.new dispatcher.new.coordinator) }
     ensures apart { AreApart slots.old → AreApart slots.new }

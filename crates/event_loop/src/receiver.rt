@@ -1,8 +1,9 @@
 //! Frames that come from workers: the handshake of a connection, the registration of its worker, and the delivery to the coordinator.
 
-ghost use Rattle.std.specs.Prelude.{◌≡◌, ◌≢◌, ◌≤◌, ◌+◌, ◌⊎◌, ◌∷◌, ℕ, [], Ok, None, Some, IsSome, OnOk, true};
+ghost use Rattle.std.specs.Prelude.{◌≡◌, ◌⊎◌, ◌∷◌, ℕ, [], Ok, None, Some, IsSome, OnOk, true};
 ghost use Rattle.frames.specs.declared.frame.Frame.TheVariants.{Idle};
 ghost use Rattle.event_loop.specs.declared.connection.State.TheVariants.{Handshake};
+ghost use Rattle.event_loop.specs.inner.Accounts.{Refuses, Spends};
 ghost use Rattle.event_loop.specs.inner.Deliveries.{AreDelivered, FrameHandled, IsNextDelivered, StaysLinked, is_own, sender_of};
 ghost use Rattle.event_loop.specs.inner.Handshakes.{HandshakeStep};
 ghost use Rattle.event_loop.specs.inner.Connections.{one_if_closed};
@@ -78,13 +79,8 @@ fn handle_frame<A: Arrivals>(
     frame: &Frame,
 ) -> Result<(), Broken>
     ensures formula { coordinator.new.formula ≡ coordinator.old.formula }
-    ensures most { A.call_count links.new ≤ A.call_count links.old + 1 }
-    ensures rises { A.call_count links.old ≤ A.call_count links.new }
-    ensures arrivals { A.arrival_count links.new ≡ A.arrival_count links.old }
-    ensures over { A.has_ended links.new ≡ A.has_ended links.old }
-    ensures begun { (p : ℕ) → A.link_count links.new p ≡ A.link_count links.old p }
-    ensures here { A.refusal_count links.new at.place ≤ A.refusal_count links.old at.place + one_if_closed result }
-    ensures elsewhere { (p : ℕ) → p ≢ at.place → A.refusal_count links.new p ≤ A.refusal_count links.old p }
+    ensures spends { Spends A.Arrivals 1 links.old links.new }
+    ensures refusals { Refuses A.Arrivals at.place (one_if_closed result) 0 links.old links.new }
     ensures link { StaysLinked connection.old connection.new }
     ensures delivered { OnOk result (IsNextDelivered (registered_worker connection.old) frame.now coordinator.old coordinator.new) }
 {
@@ -104,13 +100,8 @@ pub(crate) fn handle_frames<A: Arrivals>(
     connection: &mut Connection,
 ) -> Result<(), Broken>
     ensures formula { coordinator.new.formula ≡ coordinator.old.formula }
-    ensures most { A.call_count links.new ≤ A.call_count links.old + 4037 }
-    ensures rises { A.call_count links.old ≤ A.call_count links.new }
-    ensures arrivals { A.arrival_count links.new ≡ A.arrival_count links.old }
-    ensures over { A.has_ended links.new ≡ A.has_ended links.old }
-    ensures begun { (p : ℕ) → A.link_count links.new p ≡ A.link_count links.old p }
-    ensures here { A.refusal_count links.new at.place ≤ A.refusal_count links.old at.place + one_if_closed result }
-    ensures elsewhere { (p : ℕ) → p ≢ at.place → A.refusal_count links.new p ≤ A.refusal_count links.old p }
+    ensures spends { Spends A.Arrivals 4037 links.old links.new }
+    ensures refusals { Refuses A.Arrivals at.place (one_if_closed result) 0 links.old links.new }
     ensures owner { registered_worker connection.new ≡ registered_worker connection.old }
     ensures reader { connection.new.reader ≡ connection.old.reader }
     ensures none_waits { OnOk result (connection.new.waiting.items ≡ []) }
@@ -156,13 +147,8 @@ pub(crate) fn register<A: Arrivals>(
 ) -> Result<(), Broken>
     ensures formula { coordinator.new.formula ≡ coordinator.old.formula }
     ensures none { queued_worker connection.old ≡ None → (coordinator.new ≡ coordinator.old) × (connection.new ≡ connection.old) × (result ≡ Ok tt) }
-    ensures most { A.call_count links.new ≤ A.call_count links.old + 4038 }
-    ensures rises { A.call_count links.old ≤ A.call_count links.new }
-    ensures arrivals { A.arrival_count links.new ≡ A.arrival_count links.old }
-    ensures over { A.has_ended links.new ≡ A.has_ended links.old }
-    ensures begun { (p : ℕ) → A.link_count links.new p ≡ A.link_count links.old p }
-    ensures here { A.refusal_count links.new at.place ≤ A.refusal_count links.old at.place + one_if_closed result }
-    ensures elsewhere { (p : ℕ) → p ≢ at.place → A.refusal_count links.new p ≤ A.refusal_count links.old p }
+    ensures spends { Spends A.Arrivals 4038 links.old links.new }
+    ensures refusals { Refuses A.Arrivals at.place (one_if_closed result) 0 links.old links.new }
     ensures owner { (worker : ℕ) → queued_worker connection.old ≡ Some worker → registered_worker connection.new ≡ Some worker }
     ensures waits { OnOk result (queued_worker connection.new ≡ None) }
     ensures none_waits { OnOk result (IsSome (queued_worker connection.old) → connection.new.waiting.items ≡ []) }

@@ -1,8 +1,9 @@
 //! Registration of queued workers: no worker is registered at two connections.
 
-ghost use Rattle.std.specs.Prelude.{◌≡◌, ◌≢◌, ◌≤◌, ◌<◌, ◌+◌, ◌*◌, ◌⊎◌, ℕ, None, Ok, OnOk, Some, false, true, length};
+ghost use Rattle.std.specs.Prelude.{◌≡◌, ◌≤◌, ◌<◌, ◌+◌, ◌*◌, ◌⊎◌, ℕ, None, Ok, OnOk, Some, false, true, length};
 ghost use Rattle.std.specs.List.{list_any};
 ghost use Rattle.event_loop.specs.Accounts.{one_if_open, open_at};
+ghost use Rattle.event_loop.specs.inner.Accounts.{Refuses, Spends};
 ghost use Rattle.event_loop.specs.inner.Connections.{AreFresh, IsFresh};
 ghost use Rattle.event_loop.specs.inner.Registrations.{AreApart, NobodyMayRegister, may_register, queued_in, registered_in, is_registered};
 
@@ -64,13 +65,8 @@ fn register_one<A: Arrivals>(
     connection: &mut Option<Connection>,
 ) -> Result<(), AllocError>
     ensures formula { dispatcher.new.coordinator.formula ≡ dispatcher.old.coordinator.formula }
-    ensures most { A.call_count links.new ≤ A.call_count links.old + 4038 }
-    ensures rises { A.call_count links.old ≤ A.call_count links.new }
-    ensures arrivals { A.arrival_count links.new ≡ A.arrival_count links.old }
-    ensures over { A.has_ended links.new ≡ A.has_ended links.old }
-    ensures begun { (p : ℕ) → A.link_count links.new p ≡ A.link_count links.old p }
-    ensures here { A.refusal_count links.new at.place + one_if_open connection.new ≤ A.refusal_count links.old at.place + one_if_open connection.old }
-    ensures elsewhere { (p : ℕ) → p ≢ at.place → A.refusal_count links.new p ≤ A.refusal_count links.old p }
+    ensures spends { Spends A.Arrivals 4038 links.old links.new }
+    ensures refusals { Refuses A.Arrivals at.place (one_if_open connection.old) (one_if_open connection.new) links.old links.new }
     ensures fresh { IsFresh connection.old → (dispatcher.new.coordinator.verdict ≡ dispatcher.old.coordinator.verdict) × IsFresh connection.new }
     ensures barred { may_register ≡ false → (connection.new ≡ connection.old) × (dispatcher.new ≡ dispatcher.old) × (result ≡ Ok tt) }
     ensures owner { (worker : ℕ) → registered_in connection.new ≡ Some worker → (registered_in connection.old ≡ Some worker) ⊎ (queued_in connection.old ≡ Some worker) }
@@ -101,11 +97,7 @@ pub(crate) fn register_all<A: Arrivals>(
 ) -> Result<(), AllocError>
     ensures formula { dispatcher.new.coordinator.formula ≡ dispatcher.old.coordinator.formula }
     ensures fresh { AreFresh slots.old → dispatcher.new.coordinator.verdict ≡ dispatcher.old.coordinator.verdict }
-    ensures most { A.call_count links.new ≤ A.call_count links.old + 4038 * 255 }
-    ensures rises { A.call_count links.old ≤ A.call_count links.new }
-    ensures arrivals { A.arrival_count links.new ≡ A.arrival_count links.old }
-    ensures over { A.has_ended links.new ≡ A.has_ended links.old }
-    ensures begun { (p : ℕ) → A.link_count links.new p ≡ A.link_count links.old p }
+    ensures spends { Spends A.Arrivals (4038 * 255) links.old links.new }
     ensures each { (p : ℕ) → A.refusal_count links.new p + open_at slots.new p ≤ A.refusal_count links.old p + open_at slots.old p }
     ensures apart { AreApart slots.old → AreApart slots.new }
     ensures registered { OnOk result (NobodyMayRegister slots.new 255) }

@@ -11,6 +11,7 @@ ghost use Rattle.links.specs.Arrivals as arrivals;
 ghost use Rattle.event_loop.specs.Accounts.{EachCloses, RoseBy, open_of};
 ghost use Rattle.event_loop.specs.Run.{formula_of, verdict_of};
 ghost use Rattle.event_loop.specs.Ending.{has_link, is_deserted};
+ghost use Rattle.event_loop.specs.inner.Accounts.{Spends};
 ghost use Rattle.event_loop.specs.inner.Rounds.{is_over};
 ghost use Rattle.event_loop.specs.inner.Deliveries.{IdleHaveNothing, EventHandled, FirstEventHandled, NextEventHandled, IsElsewhere, BytesHandledAt};
 ghost use Rattle.event_loop.specs.inner.Connections.{AreFresh};
@@ -145,11 +146,7 @@ impl Run {
         bytes: &[u8],
     ) -> Result<(), AllocError>
         ensures formula { formula_of self.new ≡ formula_of self.old }
-        ensures most { A.call_count links.new ≤ A.call_count links.old + 4037 }
-        ensures rises { A.call_count links.old ≤ A.call_count links.new }
-        ensures arrivals { A.arrival_count links.new ≡ A.arrival_count links.old }
-        ensures over { A.has_ended links.new ≡ A.has_ended links.old }
-        ensures begun { (p : ℕ) → A.link_count links.new p ≡ A.link_count links.old p }
+        ensures spends { Spends A.Arrivals 4037 links.old links.new }
         ensures each { (p : ℕ) → A.refusal_count links.new p + open_of self.new p ≤ A.refusal_count links.old p + open_of self.old p }
         ensures first { self.old.slots.items ≡ [] → (verdict_of self.new ≡ verdict_of self.old) × (self.new.slots.items ≡ []) }
         ensures apart { AreApart self.old.slots.items → AreApart self.new.slots.items }
@@ -173,11 +170,7 @@ impl Run {
     ) -> Result<(), AllocError>
         requires { IsWithin event (length room.now) }
         ensures formula { formula_of self.new ≡ formula_of self.old }
-        ensures most { A.call_count links.new ≤ A.call_count links.old + 4037 }
-        ensures rises { A.call_count links.old ≤ A.call_count links.new }
-        ensures arrivals { A.arrival_count links.new ≡ A.arrival_count links.old }
-        ensures over { A.has_ended links.new ≡ A.has_ended links.old }
-        ensures begun { (p : ℕ) → A.link_count links.new p ≡ A.link_count links.old p }
+        ensures spends { Spends A.Arrivals 4037 links.old links.new }
         ensures each { (p : ℕ) → A.refusal_count links.new p + open_of self.new p ≤ A.refusal_count links.old p + open_of self.old p + begun_at event p }
         ensures first { self.old.slots.items ≡ [] → (verdict_of self.new ≡ verdict_of self.old) × AreFresh self.new.slots.items }
         ensures apart { AreApart self.old.slots.items → AreApart self.new.slots.items }
@@ -248,11 +241,7 @@ impl Run {
     fn handle_tick<A: Arrivals>(&mut self, links: &mut A, before: u64) -> Result<(), AllocError>
         ensures formula { formula_of self.new ≡ formula_of self.old }
         ensures verdict { verdict_of self.new ≡ verdict_of self.old }
-        ensures most { A.call_count links.new ≤ A.call_count links.old }
-        ensures rises { A.call_count links.old ≤ A.call_count links.new }
-        ensures arrivals { A.arrival_count links.new ≡ A.arrival_count links.old }
-        ensures over { A.has_ended links.new ≡ A.has_ended links.old }
-        ensures begun { (p : ℕ) → A.link_count links.new p ≡ A.link_count links.old p }
+        ensures spends { Spends A.Arrivals 0 links.old links.new }
         ensures each { (p : ℕ) → A.refusal_count links.new p + open_of self.new p ≤ A.refusal_count links.old p + open_of self.old p }
         ensures fresh { AreFresh self.old.slots.items → AreFresh self.new.slots.items }
         ensures apart { AreApart self.old.slots.items → AreApart self.new.slots.items }
@@ -271,11 +260,7 @@ impl Run {
     /// coordinator for idle ones. An error is want of memory.
     fn handle_waiting<A: Arrivals>(&mut self, links: &mut A, before: u64) -> Result<(), AllocError>
         ensures formula { formula_of self.new ≡ formula_of self.old }
-        ensures most { A.call_count links.new ≤ A.call_count links.old + 1029945 }
-        ensures rises { A.call_count links.old ≤ A.call_count links.new }
-        ensures arrivals { A.arrival_count links.new ≡ A.arrival_count links.old }
-        ensures over { A.has_ended links.new ≡ A.has_ended links.old }
-        ensures begun { (p : ℕ) → A.link_count links.new p ≡ A.link_count links.old p }
+        ensures spends { Spends A.Arrivals 1029945 links.old links.new }
         ensures each { (p : ℕ) → A.refusal_count links.new p + open_of self.new p ≤ A.refusal_count links.old p + open_of self.old p }
         ensures fresh { AreFresh self.old.slots.items → verdict_of self.new ≡ verdict_of self.old }
         ensures apart { AreApart self.old.slots.items → AreApart self.new.slots.items }

@@ -4,6 +4,7 @@ ghost use Rattle.std.specs.Prelude.{◌≡◌, ◌≢◌, ◌<◌, ◌≤◌, �
 ghost use Rattle.coordinator_core.specs.Coordinator.{coordinator_poll};
 ghost use Rattle.frames.specs.declared.frame.Frame.TheVariants.{Rest};
 ghost use Rattle.links.specs.Counts.{one_more};
+ghost use Rattle.event_loop.specs.inner.Accounts.{Refuses, Spends};
 ghost use Rattle.event_loop.specs.inner.Deliveries.{HasNothing, PolledFor, StaysLinked};
 ghost use Rattle.event_loop.specs.inner.Connections.{one_if_closed};
 ghost use Rattle.event_loop.specs.inner.Registrations.{idle_worker, registered_worker};
@@ -159,13 +160,8 @@ fn send<A: Arrivals>(
 ) -> Result<(), Broken>
     ensures connection { connection.new ≡ record connection.old { pending_replies = connection.new.pending_replies } }
     ensures calls { A.call_count links.new ≡ one_more (A.call_count links.old) }
-    ensures most { A.call_count links.new ≤ A.call_count links.old + 1 }
-    ensures rises { A.call_count links.old ≤ A.call_count links.new }
-    ensures arrivals { A.arrival_count links.new ≡ A.arrival_count links.old }
-    ensures over { A.has_ended links.new ≡ A.has_ended links.old }
-    ensures begun { (p : ℕ) → A.link_count links.new p ≡ A.link_count links.old p }
-    ensures here { A.refusal_count links.new place ≤ A.refusal_count links.old place + one_if_closed result }
-    ensures elsewhere { (p : ℕ) → p ≢ place → A.refusal_count links.new p ≤ A.refusal_count links.old p }
+    ensures spends { Spends A.Arrivals 1 links.old links.new }
+    ensures refusals { Refuses A.Arrivals place (one_if_closed result) 0 links.old links.new }
 {
     let mut room = [0u8; LONGEST];
     let (frames, end) = write(frame, connection.announced(), &mut room);
@@ -203,13 +199,8 @@ fn send_unless_pending<A: Arrivals>(
     // The frame is sent if and only if no reply is pending.
     ensures pending { 0 < connection.old.pending_replies → A.call_count links.new ≡ A.call_count links.old }
     ensures told { connection.old.pending_replies ≡ 0 → A.call_count links.new ≡ one_more (A.call_count links.old) }
-    ensures most { A.call_count links.new ≤ A.call_count links.old + 1 }
-    ensures rises { A.call_count links.old ≤ A.call_count links.new }
-    ensures arrivals { A.arrival_count links.new ≡ A.arrival_count links.old }
-    ensures over { A.has_ended links.new ≡ A.has_ended links.old }
-    ensures begun { (p : ℕ) → A.link_count links.new p ≡ A.link_count links.old p }
-    ensures here { A.refusal_count links.new at.place ≤ A.refusal_count links.old at.place + one_if_closed result }
-    ensures elsewhere { (p : ℕ) → p ≢ at.place → A.refusal_count links.new p ≤ A.refusal_count links.old p }
+    ensures spends { Spends A.Arrivals 1 links.old links.new }
+    ensures refusals { Refuses A.Arrivals at.place (one_if_closed result) 0 links.old links.new }
     ensures link { IsSome (registered_worker connection.old) → StaysLinked connection.old connection.new }
     ensures idle { idle_worker connection.new ≡ None }
 {
@@ -232,13 +223,8 @@ pub(crate) fn poll_and_send<A: Arrivals>(
 ) -> Result<(), Broken>
     ensures formula { coordinator.new.formula ≡ coordinator.old.formula }
     ensures verdict { coordinator.new.verdict ≡ coordinator.old.verdict }
-    ensures most { A.call_count links.new ≤ A.call_count links.old + 1 }
-    ensures rises { A.call_count links.old ≤ A.call_count links.new }
-    ensures arrivals { A.arrival_count links.new ≡ A.arrival_count links.old }
-    ensures over { A.has_ended links.new ≡ A.has_ended links.old }
-    ensures begun { (p : ℕ) → A.link_count links.new p ≡ A.link_count links.old p }
-    ensures here { A.refusal_count links.new at.place ≤ A.refusal_count links.old at.place + one_if_closed result }
-    ensures elsewhere { (p : ℕ) → p ≢ at.place → A.refusal_count links.new p ≤ A.refusal_count links.old p }
+    ensures spends { Spends A.Arrivals 1 links.old links.new }
+    ensures refusals { Refuses A.Arrivals at.place (one_if_closed result) 0 links.old links.new }
     ensures link { StaysLinked connection.old connection.new }
     ensures asked { OnOk result (PolledFor (registered_worker connection.old) coordinator.old coordinator.new) }
     ensures pending { 0 < connection.old.pending_replies → A.call_count links.new ≡ A.call_count links.old }

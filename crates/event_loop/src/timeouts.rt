@@ -1,7 +1,8 @@
 //! Timeouts: connections whose timeout is over are closed, and so are inactive connections while the verdict is handed out.
 
-ghost use Rattle.std.specs.Prelude.{◌≡◌, ◌≢◌, ◌≤◌, ◌+◌, ℕ, None, Ok, Some, OnOk, false, true};
+ghost use Rattle.std.specs.Prelude.{◌≡◌, ◌≤◌, ◌+◌, ℕ, None, Ok, Some, OnOk, false, true};
 ghost use Rattle.event_loop.specs.Accounts.{one_if_open, open_at};
+ghost use Rattle.event_loop.specs.inner.Accounts.{Refuses, Spends};
 ghost use Rattle.event_loop.specs.inner.Connections.{AreFresh, IsFresh};
 ghost use Rattle.event_loop.specs.inner.Timeouts.{OverdueClosed, is_overdue_in};
 ghost use Rattle.event_loop.specs.inner.Registrations.{AreApart, IsLost, registered_in};
@@ -42,13 +43,8 @@ fn close_overdue<A: Arrivals>(
 ) -> Result<(), AllocError>
     ensures formula { dispatcher.new.coordinator.formula ≡ dispatcher.old.coordinator.formula }
     ensures verdict { dispatcher.new.coordinator.verdict ≡ dispatcher.old.coordinator.verdict }
-    ensures most { A.call_count links.new ≤ A.call_count links.old + 0 }
-    ensures rises { A.call_count links.old ≤ A.call_count links.new }
-    ensures arrivals { A.arrival_count links.new ≡ A.arrival_count links.old }
-    ensures over { A.has_ended links.new ≡ A.has_ended links.old }
-    ensures begun { (p : ℕ) → A.link_count links.new p ≡ A.link_count links.old p }
-    ensures here { A.refusal_count links.new at.place + one_if_open connection.new ≤ A.refusal_count links.old at.place + one_if_open connection.old }
-    ensures elsewhere { (p : ℕ) → p ≢ at.place → A.refusal_count links.new p ≤ A.refusal_count links.old p }
+    ensures spends { Spends A.Arrivals 0 links.old links.new }
+    ensures refusals { Refuses A.Arrivals at.place (one_if_open connection.old) (one_if_open connection.new) links.old links.new }
     ensures fresh { IsFresh connection.old → IsFresh connection.new }
     ensures ended { is_overdue_in connection.old at.tick is_other_idle ≡ true → (connection.new ≡ None) × IsLost (registered_in connection.old) dispatcher.old.coordinator dispatcher.new.coordinator }
     ensures stays { is_overdue_in connection.old at.tick is_other_idle ≡ false → (connection.new ≡ connection.old) × (dispatcher.new ≡ dispatcher.old) × (result ≡ Ok tt) }
@@ -74,11 +70,7 @@ pub(crate) fn close_all_overdue<A: Arrivals>(
 ) -> Result<(), AllocError>
     ensures formula { dispatcher.new.coordinator.formula ≡ dispatcher.old.coordinator.formula }
     ensures verdict { dispatcher.new.coordinator.verdict ≡ dispatcher.old.coordinator.verdict }
-    ensures most { A.call_count links.new ≤ A.call_count links.old + 0 }
-    ensures rises { A.call_count links.old ≤ A.call_count links.new }
-    ensures arrivals { A.arrival_count links.new ≡ A.arrival_count links.old }
-    ensures over { A.has_ended links.new ≡ A.has_ended links.old }
-    ensures begun { (p : ℕ) → A.link_count links.new p ≡ A.link_count links.old p }
+    ensures spends { Spends A.Arrivals 0 links.old links.new }
     ensures each { (p : ℕ) → A.refusal_count links.new p + open_at slots.new p ≤ A.refusal_count links.old p + open_at slots.old p }
     ensures fresh { AreFresh slots.old → AreFresh slots.new }
     ensures apart { AreApart slots.old → AreApart slots.new }
@@ -111,13 +103,8 @@ fn close_if_inactive<A: Arrivals>(
 )
     ensures formula { dispatcher.new.coordinator.formula ≡ dispatcher.old.coordinator.formula }
     ensures verdict { dispatcher.new.coordinator.verdict ≡ dispatcher.old.coordinator.verdict }
-    ensures most { A.call_count links.new ≤ A.call_count links.old + 0 }
-    ensures rises { A.call_count links.old ≤ A.call_count links.new }
-    ensures arrivals { A.arrival_count links.new ≡ A.arrival_count links.old }
-    ensures over { A.has_ended links.new ≡ A.has_ended links.old }
-    ensures begun { (p : ℕ) → A.link_count links.new p ≡ A.link_count links.old p }
-    ensures here { A.refusal_count links.new at.place + one_if_open connection.new ≤ A.refusal_count links.old at.place + one_if_open connection.old }
-    ensures elsewhere { (p : ℕ) → p ≢ at.place → A.refusal_count links.new p ≤ A.refusal_count links.old p }
+    ensures spends { Spends A.Arrivals 0 links.old links.new }
+    ensures refusals { Refuses A.Arrivals at.place (one_if_open connection.old) (one_if_open connection.new) links.old links.new }
     ensures owner { (worker : ℕ) → registered_in connection.new ≡ Some worker → registered_in connection.old ≡ Some worker }
 {
     let is_active = match connection {
@@ -140,11 +127,7 @@ pub(crate) fn close_inactive<A: Arrivals>(
 )
     ensures formula { dispatcher.new.coordinator.formula ≡ dispatcher.old.coordinator.formula }
     ensures verdict { dispatcher.new.coordinator.verdict ≡ dispatcher.old.coordinator.verdict }
-    ensures most { A.call_count links.new ≤ A.call_count links.old + 0 }
-    ensures rises { A.call_count links.old ≤ A.call_count links.new }
-    ensures arrivals { A.arrival_count links.new ≡ A.arrival_count links.old }
-    ensures over { A.has_ended links.new ≡ A.has_ended links.old }
-    ensures begun { (p : ℕ) → A.link_count links.new p ≡ A.link_count links.old p }
+    ensures spends { Spends A.Arrivals 0 links.old links.new }
     ensures each { (p : ℕ) → A.refusal_count links.new p + open_at slots.new p ≤ A.refusal_count links.old p + open_at slots.old p }
     ensures apart { AreApart slots.old → AreApart slots.new }
 {

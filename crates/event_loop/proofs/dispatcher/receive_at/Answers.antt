@@ -9,7 +9,7 @@ use Rattle.event_loop.proofs.dispatcher.receive_at.Goals as goal
 pub returns-clause-each : goal.returns-clause-each
 returns-clause-each g c =
     let at : c.args.at.place < length c.args.slots.now = search rules in
-    turned_once _ _ c.args.slots.now c.args.at.place c.receive.new.connection c.index-slots-at.result at c.receive.ensures.here c.receive.ensures.elsewhere
+    turned_once _ _ c.args.slots.now c.args.at.place c.receive.new.connection c.index-slots-at.result at c.receive.ensures.refusals.here c.receive.ensures.refusals.elsewhere
 
 pub returns-clause-apart : goal.returns-clause-apart
 returns-clause-apart g c = λ apart.

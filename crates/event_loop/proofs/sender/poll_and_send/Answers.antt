@@ -1,12 +1,13 @@
-use Rattle.std.proofs.Common.{◌≡◌, ◌∙◌, ℕ, Option, None, Some, ap, le_refl, refl, subst, sym}
+use Rattle.std.proofs.Common.{◌≡◌, ◌∙◌, ℕ, Option, None, Some, ap, arith, refl, subst, sym}
 use Rattle.std.specs.Prelude.{is_some}
 use Rattle.coordinator_core.specs.Coordinator.{coordinator_poll}
 use Rattle.frames.specs.declared.frame.Frame.TheVariants.{Rest}
 use Rattle.event_loop.specs.declared.connection.Connection.{Connection}
 use Rattle.event_loop.specs.inner.Deliveries.{PolledFor}
 use Rattle.event_loop.specs.inner.Registrations.{idle_worker, registered_worker}
+use Rattle.event_loop.proofs.AccountLemmas.{refuses_none, spends_none}
 use Rattle.event_loop.proofs.Polls.{asked_on, has_nothing, nobody_is_idle}
-use Rattle.event_loop.proofs.Runs.{at_least, on_ok_any}
+use Rattle.event_loop.proofs.Runs.{on_ok_any}
 use Rattle.event_loop.proofs.RegistrationLemmas.{nobody_idle, nobody_waits, same_worker, registered_as}
 use Rattle.event_loop.proofs.sender.poll_and_send.Goals as goal
 
@@ -15,13 +16,8 @@ returns-in_default g c =
     let nobody : registered_worker c.args.connection.now ≡ None = sym c.registered.ensures ∙ c.in_default.is in record {
       formula = refl;
       verdict = refl;
-      most = at_least _ _;
-      rises = le_refl _;
-      arrivals = refl;
-      over = refl;
-      begun = λ p. refl;
-      here = at_least _ _;
-      elsewhere = λ p other. le_refl _;
+      spends = spends_none _ _ _;
+      refusals = refuses_none _ _ _ _ _ (omega arith);
       link = record { owner = refl; waiting = refl; reader = refl };
       asked = subst (λ (k : Option ℕ). PolledFor k c.args.coordinator.now c.args.coordinator.now) (sym nobody) refl;
       pending = λ has_pending. refl;
@@ -33,13 +29,8 @@ pub returns-in-Err : goal.returns-in-Err
 returns-in-Err g c = record {
   formula = c.poll.ensures.formula;
   verdict = c.poll.ensures.verdict;
-  most = at_least _ _;
-  rises = le_refl _;
-  arrivals = refl;
-  over = refl;
-  begun = λ p. refl;
-  here = at_least _ _;
-  elsewhere = λ p other. le_refl _;
+  spends = spends_none _ _ _;
+  refusals = refuses_none _ _ _ _ _ (omega arith);
   link = record { owner = refl; waiting = refl; reader = refl };
   asked = tt;
   pending = λ has_pending. refl;
@@ -52,13 +43,8 @@ returns-in-Ok-Some g c =
     let is_owner : registered_worker c.args.connection.now ≡ Some c.in-Some.worker = sym c.registered.ensures ∙ c.in-Some.is in record {
       formula = c.poll.ensures.formula;
       verdict = c.poll.ensures.verdict;
-      most = c.send_unless_pending.ensures.most;
-      rises = c.send_unless_pending.ensures.rises;
-      arrivals = c.send_unless_pending.ensures.arrivals;
-      over = c.send_unless_pending.ensures.over;
-      begun = c.send_unless_pending.ensures.begun;
-      here = c.send_unless_pending.ensures.here;
-      elsewhere = c.send_unless_pending.ensures.elsewhere;
+      spends = c.send_unless_pending.ensures.spends;
+      refusals = c.send_unless_pending.ensures.refusals;
       link = c.send_unless_pending.ensures.link (ap is_some is_owner);
       asked = asked_on c.send_unless_pending.result _ c.in-Some.worker c.args.coordinator.now c.poll.new.coordinator is_owner c.in-Ok-Some.ensures.after;
       pending = c.send_unless_pending.ensures.pending;
@@ -73,13 +59,8 @@ returns-in-Ok-None g c =
     let rest = rw c.in-Ok-None.field-0-is at c.in-Ok-None.ensures.frame in record {
       formula = c.poll.ensures.formula;
       verdict = c.poll.ensures.verdict;
-      most = at_least _ _;
-      rises = le_refl _;
-      arrivals = refl;
-      over = refl;
-      begun = λ p. refl;
-      here = at_least _ _;
-      elsewhere = λ p other. le_refl _;
+      spends = spends_none _ _ _;
+      refusals = refuses_none _ _ _ _ _ (omega arith);
       link = record {
         owner = ap registered_worker c.set_idle.ensures ∙ (is_named ∙ sym is_owner);
         waiting = ap (λ (l : Connection). l.waiting.items) c.set_idle.ensures;

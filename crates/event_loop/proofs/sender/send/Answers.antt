@@ -1,27 +1,18 @@
-use Rattle.std.proofs.Common.{arith, le_refl}
-use Rattle.event_loop.proofs.Runs.{one_at_most, rises_one}
+use Rattle.std.proofs.Common.{arith}
+use Rattle.event_loop.proofs.AccountLemmas.{refuses_one, spends_one}
 use Rattle.event_loop.proofs.sender.send.Goals as goal
 
-pub returns-in-Ok-clause-most : goal.returns-in-Ok-clause-most
-returns-in-Ok-clause-most g c = one_at_most _ _ c.send_to.ensures.calls
+pub returns-in-Ok-clause-spends : goal.returns-in-Ok-clause-spends
+returns-in-Ok-clause-spends g c = spends_one g.A.Arrivals _ _ c.send_to.ensures.calls c.send_to.ensures.arrivals c.send_to.ensures.ended c.send_to.ensures.links
 
-pub returns-in-Ok-clause-rises : goal.returns-in-Ok-clause-rises
-returns-in-Ok-clause-rises g c = rises_one _ _ _ c.send_to.ensures.calls (le_refl _)
+pub returns-in-Ok-clause-refusals : goal.returns-in-Ok-clause-refusals
+returns-in-Ok-clause-refusals g c = record {
+  here = omega (arith, c.in-Ok.ensures.refusal);
+  elsewhere = λ p other. let same = c.send_to.ensures.elsewhere p other in omega (arith, same);
+}
 
-pub returns-in-Ok-clause-here : goal.returns-in-Ok-clause-here
-returns-in-Ok-clause-here g c = omega (arith, c.in-Ok.ensures.refusal)
+pub returns-in-Err-clause-spends : goal.returns-in-Err-clause-spends
+returns-in-Err-clause-spends g c = spends_one g.A.Arrivals _ _ c.send_to.ensures.calls c.send_to.ensures.arrivals c.send_to.ensures.ended c.send_to.ensures.links
 
-pub returns-in-Ok-clause-elsewhere : goal.returns-in-Ok-clause-elsewhere
-returns-in-Ok-clause-elsewhere g c = λ p other. let same = c.send_to.ensures.elsewhere p other in omega (arith, same)
-
-pub returns-in-Err-clause-most : goal.returns-in-Err-clause-most
-returns-in-Err-clause-most g c = one_at_most _ _ c.send_to.ensures.calls
-
-pub returns-in-Err-clause-rises : goal.returns-in-Err-clause-rises
-returns-in-Err-clause-rises g c = rises_one _ _ _ c.send_to.ensures.calls (le_refl _)
-
-pub returns-in-Err-clause-here : goal.returns-in-Err-clause-here
-returns-in-Err-clause-here g c = one_at_most _ _ c.in-Err.ensures.refusal
-
-pub returns-in-Err-clause-elsewhere : goal.returns-in-Err-clause-elsewhere
-returns-in-Err-clause-elsewhere g c = λ p other. let same = c.send_to.ensures.elsewhere p other in omega (arith, same)
+pub returns-in-Err-clause-refusals : goal.returns-in-Err-clause-refusals
+returns-in-Err-clause-refusals g c = refuses_one g.A.Arrivals _ _ _ c.in-Err.ensures.refusal c.send_to.ensures.elsewhere

@@ -1,8 +1,7 @@
-use Rattle.std.proofs.Common.{◌∙◌, ap, arith, le_refl, refl, subst, sym}
-use Rattle.event_loop.specs.Accounts.{one_if_open}
+use Rattle.std.proofs.Common.{◌∙◌, ap, le_refl, refl, subst, sym}
 use Rattle.event_loop.specs.inner.Connections.{IsFresh}
 use Rattle.event_loop.specs.inner.Registrations.{registered_in}
-use Rattle.event_loop.proofs.Runs.{at_least}
+use Rattle.event_loop.proofs.AccountLemmas.{refuses_closed, refuses_none, spends_none}
 use Rattle.event_loop.proofs.RegistrationLemmas.{nobody_waits, not_both}
 use Rattle.event_loop.proofs.timeouts.close_overdue.Goals as goal
 
@@ -10,13 +9,8 @@ pub returns-then-not-is_overdue : goal.returns-then-not-is_overdue
 returns-then-not-is_overdue g c = record {
   formula = refl;
   verdict = refl;
-  most = at_least _ _;
-  rises = le_refl _;
-  arrivals = refl;
-  over = refl;
-  begun = λ p. refl;
-  here = le_refl _;
-  elsewhere = λ p other. le_refl _;
+  spends = spends_none _ _ _;
+  refusals = refuses_none _ _ _ _ _ (le_refl _);
   fresh = λ fresh. fresh;
   ended = λ late. absurd (not_both _ late (sym c.is_overdue.ensures ∙ c.if-not-is_overdue.true));
   stays = λ timely. (refl, refl, refl);
@@ -28,18 +22,8 @@ returns-in-Some g c =
     let gone = c.close.ensures.closed in record {
       formula = c.close.ensures.formula;
       verdict = c.close.ensures.verdict;
-      most = omega (arith, c.close.ensures.calls);
-      rises = omega (arith, c.close.ensures.calls);
-      arrivals = c.close.ensures.arrivals;
-      over = c.close.ensures.over;
-      begun = c.close.ensures.begun;
-      here =
-          let closed = ap one_if_open gone in
-          let refusals = c.close.ensures.refusals c.args.at.place in
-          omega (arith, closed, refusals);
-      elsewhere = λ p other.
-          let refusals = c.close.ensures.refusals p in
-          omega (arith, refusals);
+      spends = c.close.ensures.spends;
+      refusals = refuses_closed g.A.Arrivals _ _ _ _ _ c.close.ensures.refusals gone;
       fresh = λ fresh. subst IsFresh (sym gone) tt;
       ended = λ late. (gone, c.close.ensures.lost);
       stays = λ timely. absurd (not_both _ (sym c.is_overdue.ensures ∙ c.if-not-is_overdue.false) timely);
@@ -51,18 +35,8 @@ returns-in-None g c =
     let gone = c.close.ensures.closed in record {
       formula = c.close.ensures.formula;
       verdict = c.close.ensures.verdict;
-      most = omega (arith, c.close.ensures.calls);
-      rises = omega (arith, c.close.ensures.calls);
-      arrivals = c.close.ensures.arrivals;
-      over = c.close.ensures.over;
-      begun = c.close.ensures.begun;
-      here =
-          let closed = ap one_if_open gone in
-          let refusals = c.close.ensures.refusals c.args.at.place in
-          omega (arith, closed, refusals);
-      elsewhere = λ p other.
-          let refusals = c.close.ensures.refusals p in
-          omega (arith, refusals);
+      spends = c.close.ensures.spends;
+      refusals = refuses_closed g.A.Arrivals _ _ _ _ _ c.close.ensures.refusals gone;
       fresh = λ fresh. subst IsFresh (sym gone) tt;
       ended = λ late. (gone, c.close.ensures.lost);
       stays = λ timely. absurd (not_both _ (sym c.is_overdue.ensures ∙ c.if-not-is_overdue.false) timely);

@@ -1,4 +1,4 @@
-use Rattle.std.proofs.Common.{◌≡◌, List, [], Option, OnOk, ap, arith, le_refl, refl, subst, sym}
+use Rattle.std.proofs.Common.{◌≡◌, List, [], Option, OnOk, ap, arith, refl, subst, sym}
 use Rattle.std.proofs.lemmas.Result.{on_ok_weaker}
 use Rattle.links.specs.Arrivals.{begun_at}
 use Rattle.links.specs.declared.arrivals.Event.{Event}
@@ -6,6 +6,7 @@ use Rattle.coordinator_core.specs.Coordinator.{CoordinatorState}
 use Rattle.event_loop.specs.declared.connection.Connection.{Connection}
 use Rattle.event_loop.specs.inner.Deliveries.{EventHandled}
 use Rattle.event_loop.specs.inner.Connections.{AreFresh}
+use Rattle.event_loop.proofs.AccountLemmas.{spends_none}
 use Rattle.event_loop.proofs.Runs.{at_least, on_ok_any}
 use Rattle.event_loop.proofs.run.Run.handle_event.Goals as goal
 
@@ -16,11 +17,7 @@ fresh_none slots none = subst AreFresh (sym none) tt
 pub returns-in-Linked : goal.returns-in-Linked
 returns-in-Linked g c = record {
   formula = c.begin.ensures.formula;
-  most = at_least _ _;
-  rises = le_refl _;
-  arrivals = refl;
-  over = refl;
-  begun = λ p. refl;
+  spends = spends_none _ _ _;
   each = λ p.
       let begun = ap (λ event. begun_at event p) c.in-Linked.is in
       let opens = c.begin.ensures.opens p in
@@ -33,11 +30,7 @@ returns-in-Linked g c = record {
 pub returns-in-Bytes : goal.returns-in-Bytes
 returns-in-Bytes g c = record {
   formula = c.take.ensures.formula;
-  most = c.take.ensures.most;
-  rises = c.take.ensures.rises;
-  arrivals = c.take.ensures.arrivals;
-  over = c.take.ensures.over;
-  begun = c.take.ensures.begun;
+  spends = c.take.ensures.spends;
   each = λ p.
       let each = c.take.ensures.each p in
       omega (arith, each);
@@ -55,11 +48,7 @@ returns-in-Bytes g c = record {
 pub returns-in-Quiet : goal.returns-in-Quiet
 returns-in-Quiet g c = record {
   formula = ap (λ (k : CoordinatorState). k.formula) c.join_ahead.ensures;
-  most = at_least _ _;
-  rises = le_refl _;
-  arrivals = refl;
-  over = refl;
-  begun = λ p. refl;
+  spends = spends_none _ _ _;
   each = λ p. at_least _ _;
   first = λ none. (ap (λ (k : CoordinatorState). k.verdict) c.join_ahead.ensures, fresh_none _ none);
   apart = λ apart. apart;
@@ -70,11 +59,7 @@ returns-in-Quiet g c = record {
 pub returns-in-Over : goal.returns-in-Over
 returns-in-Over g c = record {
   formula = refl;
-  most = at_least _ _;
-  rises = le_refl _;
-  arrivals = refl;
-  over = refl;
-  begun = λ p. refl;
+  spends = spends_none _ _ _;
   each = λ p. at_least _ _;
   first = λ none. (refl, fresh_none _ none);
   apart = λ apart. apart;

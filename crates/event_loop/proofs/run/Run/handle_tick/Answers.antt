@@ -7,6 +7,7 @@ use Rattle.event_loop.specs.declared.run.Run.{Run}
 use Rattle.event_loop.specs.inner.Connections.{AreFresh}
 use Rattle.event_loop.specs.inner.Timeouts.{linked_by}
 use Rattle.event_loop.specs.inner.Registrations.{AreApart}
+use Rattle.event_loop.proofs.AccountLemmas.{spends_on, spends_uncounted}
 use Rattle.event_loop.proofs.Places.{each_lent}
 use Rattle.event_loop.proofs.run.Run.handle_tick.Goals as goal
 
@@ -17,11 +18,7 @@ returns-in_err-close_all_overdue g c =
     let began = c.deref_mut.ensures.value in record {
       formula = c.close_all_overdue.ensures.formula;
       verdict = c.close_all_overdue.ensures.verdict;
-      most = omega (arith, c.close_all_overdue.ensures.most);
-      rises = c.close_all_overdue.ensures.rises;
-      arrivals = c.close_all_overdue.ensures.arrivals;
-      over = c.close_all_overdue.ensures.over;
-      begun = c.close_all_overdue.ensures.begun;
+      spends = c.close_all_overdue.ensures.spends;
       each = each_lent _ _ _ _ _ _ began cleared c.close_all_overdue.ensures.each;
       fresh = λ fresh. subst AreFresh (sym cleared) (c.close_all_overdue.ensures.fresh (subst AreFresh (sym began) fresh));
       apart = λ apart. subst AreApart (sym cleared) (c.close_all_overdue.ensures.apart (subst AreApart (sym began) apart));
@@ -35,11 +32,9 @@ returns g c =
     let began = c.deref_mut.ensures.value in record {
       formula = ap formula_of c.note_link.ensures ∙ c.close_all_overdue.ensures.formula;
       verdict = ap verdict_of c.note_link.ensures ∙ c.close_all_overdue.ensures.verdict;
-      most = omega (arith, c.show.ensures.calls, c.close_all_overdue.ensures.most);
-      rises = omega (arith, c.show.ensures.calls, c.close_all_overdue.ensures.rises);
-      arrivals = c.show.ensures.arrivals ∙ c.close_all_overdue.ensures.arrivals;
-      over = c.show.ensures.ended ∙ c.close_all_overdue.ensures.over;
-      begun = λ p. c.show.ensures.links p ∙ c.close_all_overdue.ensures.begun p;
+      spends =
+          let shown = spends_uncounted g.A.Arrivals 0 _ _ c.show.ensures.calls c.show.ensures.arrivals c.show.ensures.ended c.show.ensures.links in
+          spends_on _ _ _ _ _ _ _ c.close_all_overdue.ensures.spends shown (omega arith);
       each = λ p.
           let shown = c.show.ensures.refusals p in
           let cleared = each_lent _ _ _ _ _ _ began left c.close_all_overdue.ensures.each p in

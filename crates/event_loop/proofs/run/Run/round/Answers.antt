@@ -24,12 +24,12 @@ pub returns-in_err-handle_waiting : goal.returns-in_err-handle_waiting
 returns-in_err-handle_waiting g c =
     let p = err_from_is_err_and c.from_residual-in_err-handle_waiting.result c.from_residual-in_err-handle_waiting.ensures.1 in record {
       formula = c.handle_waiting.ensures.formula ∙ c.in_ok-goes_on.ensures.formula;
-      one = rose_on _ _ _ _ c.in_ok-goes_on.ensures.one c.handle_waiting.ensures.rises;
-      most = omega (arith, c.in_ok-goes_on.ensures.most, c.handle_waiting.ensures.most);
-      rises = omega (arith, c.in_ok-goes_on.ensures.rises, c.handle_waiting.ensures.rises);
-      arrivals = omega (arith, c.in_ok-goes_on.ensures.arrivals, c.handle_waiting.ensures.arrivals);
+      one = rose_on _ _ _ _ c.in_ok-goes_on.ensures.one c.handle_waiting.ensures.spends.rises;
+      most = omega (arith, c.in_ok-goes_on.ensures.most, c.handle_waiting.ensures.spends.most);
+      rises = omega (arith, c.in_ok-goes_on.ensures.rises, c.handle_waiting.ensures.spends.rises);
+      arrivals = omega (arith, c.in_ok-goes_on.ensures.arrivals, c.handle_waiting.ensures.spends.arrivals);
       arrived = rw p.1 tt;
-      each = closes_then _ _ _ _ _ _ _ _ _ c.in_ok-goes_on.ensures.each c.handle_waiting.ensures.begun c.handle_waiting.ensures.each;
+      each = closes_then _ _ _ _ _ _ _ _ _ c.in_ok-goes_on.ensures.each c.handle_waiting.ensures.spends.begun c.handle_waiting.ensures.each;
       first = λ none.
           let handled = c.in_ok-goes_on.ensures.first none in
           c.handle_waiting.ensures.fresh handled.1 ∙ handled.0;
@@ -42,17 +42,17 @@ returns-in_err-handle_waiting g c =
 pub returns : goal.returns
 returns g c = record {
   formula = c.handle_waiting.ensures.formula ∙ c.in_ok-goes_on.ensures.formula;
-  one = rose_on _ _ _ _ c.in_ok-goes_on.ensures.one c.handle_waiting.ensures.rises;
-  most = omega (arith, c.in_ok-goes_on.ensures.most, c.handle_waiting.ensures.most);
-  rises = omega (arith, c.in_ok-goes_on.ensures.rises, c.handle_waiting.ensures.rises);
-  arrivals = omega (arith, c.in_ok-goes_on.ensures.arrivals, c.handle_waiting.ensures.arrivals);
-  arrived = λ goes_on. c.handle_waiting.ensures.arrivals ∙ c.in_ok-goes_on.ensures.arrived goes_on;
-  each = closes_then _ _ _ _ _ _ _ _ _ c.in_ok-goes_on.ensures.each c.handle_waiting.ensures.begun c.handle_waiting.ensures.each;
+  one = rose_on _ _ _ _ c.in_ok-goes_on.ensures.one c.handle_waiting.ensures.spends.rises;
+  most = omega (arith, c.in_ok-goes_on.ensures.most, c.handle_waiting.ensures.spends.most);
+  rises = omega (arith, c.in_ok-goes_on.ensures.rises, c.handle_waiting.ensures.spends.rises);
+  arrivals = omega (arith, c.in_ok-goes_on.ensures.arrivals, c.handle_waiting.ensures.spends.arrivals);
+  arrived = λ goes_on. c.handle_waiting.ensures.spends.arrivals ∙ c.in_ok-goes_on.ensures.arrived goes_on;
+  each = closes_then _ _ _ _ _ _ _ _ _ c.in_ok-goes_on.ensures.each c.handle_waiting.ensures.spends.begun c.handle_waiting.ensures.each;
   first = λ none.
       let handled = c.in_ok-goes_on.ensures.first none in
       c.handle_waiting.ensures.fresh handled.1 ∙ handled.0;
   apart = λ apart. c.handle_waiting.ensures.apart (c.in_ok-goes_on.ensures.apart apart);
   told = c.in_ok-handle_waiting.ensures.told;
-  over = λ ends. c.handle_waiting.ensures.over ∙ c.in_ok-goes_on.ensures.over ends;
+  over = λ ends. c.handle_waiting.ensures.spends.over ∙ c.in_ok-goes_on.ensures.over ends;
   handled = (c.receive_next.new.self, c.in_ok-goes_on.ensures.handled);
 }
